@@ -1,0 +1,75 @@
+-- One read after another, and one write after another.
+use Rattle.std.proofs.Common.{◌≡◌, ℕ, ◌+◌, ◌-◌, ◌<◌, ◌≤◌, List, [], ◌++◌, length, take, drop, sym, ◌∙◌, ap, arith, subst, Result, Ok, Err, IfOk}
+use Rattle.std.proofs.lemmas.List.{length-take, length-drop, drop-drop, drop_at, take_at, append-nil, append_assoc, take-take, take_all, length-take-le, drop-append-le, take-append-drop}
+use Rattle.std.proofs.Math.Seq.{take-add}
+use Rattle.std.proofs.Math.ListN.{drop_of_length-le}
+use borrow.Rule.Slice.PartMut.{put_mid, mid_of}
+use Rattle.cap_octet.specs.Device.{Takes, TakesSome, TakesFull, Reads}
+use Rattle.cap_octet.specs.declared.device.DeviceFault.{DeviceFault}
+
+-- what is behind the first c bytes of the buffer after the first c came
+behind : (u b : List ℕ) (c : ℕ) → c ≤ length u → drop c (take c u ++ drop c b) ≡ drop c b
+behind u b c h = drop_at (take c u) (drop c b) c (length-take c u ∙ omega arith)
+
+front : (u b : List ℕ) (c : ℕ) → c ≤ length u → take c (take c u ++ drop c b) ≡ take c u
+front u b c h = take_at (take c u) (drop c b) c (length-take c u ∙ omega arith)
+
+pub joined : (u b : List ℕ) (c k n : ℕ) → c ≤ length u → length (drop c b) ≤ k
+    → put_mid c k (take c u ++ drop c b) (take n (drop c u) ++ drop n (mid_of c k (take c u ++ drop c b))) ≡ take (c + n) u ++ drop (c + n) b
+joined u b c k n h l =
+    rw (front u b c h, behind u b c h, drop_of_length-le (drop c b) l, take_all k (drop c b) l, drop-drop n c b, take-add c n u)
+    (grind (arith, append_assoc, append-nil))
+
+pub Takes-again : (u b u1 b1 : List ℕ) (c k n : ℕ) (u2 p : List ℕ) → Takes u b c u1 b1 → TakesSome u1 (mid_of c k b1) n u2 p
+    → c + k ≡ length b → c ≤ length b → Takes u b (c + n) u2 (put_mid c k b1 p)
+Takes-again u b u1 b1 c k n u2 p first next e h =
+    let l : length (drop c b) ≤ k = simp length-drop (omega arith) in
+    record {
+      there = let r : n ≤ length u1 = next.taken.there in let q : length u1 ≡ length u - c = ap length first.rest ∙ length-drop c u in omega (arith, first.there);
+      bytes = rw (next.taken.bytes, first.rest, first.bytes) (joined u b c k n first.there l);
+      rest = next.taken.rest ∙ ap (λ (x : List ℕ). drop n x) first.rest ∙ drop-drop n c u;
+    }
+
+-- the end of a full read: the buffer is full, or nothing came
+pub Takes-nothing : (u b u1 b1 : List ℕ) (c k n : ℕ) (u2 p : List ℕ) → Takes u b c u1 b1 → TakesSome u1 (mid_of c k b1) n u2 p
+    → c + k ≡ length b → 0 < k → n ≡ 0 → length b1 ≡ length b → TakesFull u b c u2 (put_mid c k b1 p)
+Takes-nothing u b u1 b1 c k n u2 p first next e pos zero same =
+    let again : Takes u b (c + n) u2 (put_mid c k b1 p) = Takes-again u b u1 b1 c k n u2 p first next e (omega arith) in
+    let c0 : c + n ≡ c = omega arith in
+    let mid : length (mid_of c k b1) ≡ k = length-take k (drop c b1) ∙ (simp length-drop (omega arith)) in
+    let ended : u1 ≡ [] = next.at_end zero (omega arith) in
+    let q : length u1 ≡ length u - c = ap length first.rest ∙ length-drop c u in
+    let q0 : length u1 ≡ 0 = ap length ended in
+    record {
+      taken = let P : ℕ → Type 0 = λ m. Takes u b m u2 (put_mid c k b1 p) in subst P c0 again;
+      full = omega (arith, first.there);
+    }
+
+-- one write after another
+pub written-again : (w b w1 w2 : List ℕ) (c n k : ℕ) → w1 ≡ w ++ take c b → w2 ≡ w1 ++ take n (take k (drop c b)) → n ≤ k → w2 ≡ w ++ take (c + n) b
+written-again w b w1 w2 c n k first next le =
+    next ∙ (rw (first, take-take n k (drop c b) le, take-add c n b) (simp append_assoc))
+
+-- a read into the front of a buffer is a read into the buffer
+pub TakesSome-front : (u b : List ℕ) (most n : ℕ) (u' p : List ℕ) → most ≤ length b → (0 < length b → 0 < most) → n ≤ length (take most b)
+    → TakesSome u (take most b) n u' p → TakesSome u b n u' (p ++ drop most b)
+TakesSome-front u b most n u' p within some few came =
+    let size : length (take most b) ≡ most = length-take-le most b within in
+    record {
+      taken = record {
+        there = came.taken.there;
+        bytes =
+            ap (λ (x : List ℕ). x ++ drop most b) came.taken.bytes
+            ∙ append_assoc (take n u) (drop n (take most b)) (drop most b)
+            ∙ ap (λ (x : List ℕ). take n u ++ x)
+            (sym (drop-append-le n (take most b) (drop most b) (omega (arith, size))) ∙ ap (λ (x : List ℕ). drop n x) (take-append-drop most b));
+        rest = came.taken.rest;
+      };
+      at_end = λ none room. came.at_end none (let more : 0 < most = some room in omega (arith, size));
+    }
+
+pub Reads-front : (u b : List ℕ) (most : ℕ) (result : Result ℕ DeviceFault) (u' p : List ℕ) → most ≤ length b → (0 < length b → 0 < most)
+    → IfOk result (λ n. n ≤ length (take most b)) → Reads u (take most b) result u' p → Reads u b result u' (p ++ drop most b)
+Reads-front u b most (Ok n) u' p within some few came = TakesSome-front u b most n u' p within some few came
+Reads-front u b most (Err fault) u' p within some few came =
+    (came.0, ap (λ (x : List ℕ). x ++ drop most b) came.1 ∙ take-append-drop most b)

@@ -1,0 +1,13 @@
+-- Checks are tables: each row is a test and the fault that is told where the test is not met.
+use Rattle.std.specs.Prelude.{Bool, List, [], ◌∷◌, Option, Some, None, Result, Ok, Err, if◌then◌else◌}
+use Rattle.cap_octet.specs.declared.fault.Fault.{Fault}
+
+-- the fault of the first row that is not met
+abbrev pub first_failing : List (Bool × Fault) → Option Fault
+first_failing [] = None
+first_failing (row ∷ rows) = if row.0 then first_failing rows else Some row.1
+
+-- the value, unless a check failed
+abbrev pub checked : {X : Type 0} → Option Fault → X → Result X Fault
+checked None value = Ok value
+checked (Some fault) value = Err fault

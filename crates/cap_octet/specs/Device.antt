@@ -1,0 +1,56 @@
+-- What the calls of a device do to its bytes and to the counts that contracts see.
+use Rattle.std.specs.Prelude.{◌≡◌, ℕ, ◌<◌, ◌≤◌, List, [], ◌++◌, length, take, drop, Result, Ok, Err, min}
+use Rattle.cap_octet.specs.declared.device.DeviceFault.{DeviceFault}
+use Rattle.cap_octet.specs.declared.device.Stopped.{Stopped}
+
+-- how many bytes came: none in a call that failed
+abbrev pub count_of : {E : Type 0} → Result ℕ E → ℕ
+count_of (Ok n) = n
+count_of (Err fault) = 0
+
+-- how many failures of the device a call tells: one or none
+abbrev pub failures_of : {X E : Type 0} → Result X E → ℕ
+failures_of (Ok value) = 0
+failures_of (Err fault) = 1
+
+-- The first n unread bytes went to the front of the buffer.
+pub record Takes (unread buf : List ℕ) (n : ℕ) (unread' buf' : List ℕ) : Type 0 where
+  pub there : n ≤ length unread
+  pub bytes : buf' ≡ take n unread ++ drop n buf
+  pub rest : unread' ≡ drop n unread
+
+-- one read that answered n: a buffer with room gets nothing only at the end
+pub record TakesSome (unread buf : List ℕ) (n : ℕ) (unread' buf' : List ℕ) : Type 0 where
+  pub taken : Takes unread buf n unread' buf'
+  pub at_end : n ≡ 0 → 0 < length buf → unread ≡ []
+
+-- one read; where it failed nothing moved
+abbrev pub Reads : List ℕ → List ℕ → Result ℕ DeviceFault → List ℕ → List ℕ → Type 0
+Reads unread buf (Ok n) unread' buf' = TakesSome unread buf n unread' buf'
+Reads unread buf (Err fault) unread' buf' = (unread' ≡ unread) × (buf' ≡ buf)
+
+-- reads until the buffer is full or the end is met
+pub record TakesFull (unread buf : List ℕ) (n : ℕ) (unread' buf' : List ℕ) : Type 0 where
+  pub taken : Takes unread buf n unread' buf'
+  pub full : n ≡ min (length buf) (length unread)
+
+-- Where the device failed, it had given the first k bytes, fewer than the buffer has room for.
+pub record TakesFront (unread buf unread' : List ℕ) : Type 0 where
+  pub k : ℕ
+  pub short : k < length buf
+  pub there : k ≤ length unread
+  pub rest : unread' ≡ drop k unread
+
+abbrev pub Fills : List ℕ → List ℕ → Result ℕ DeviceFault → List ℕ → List ℕ → Type 0
+Fills unread buf (Ok n) unread' buf' = TakesFull unread buf n unread' buf'
+Fills unread buf (Err fault) unread' buf' = TakesFront unread buf unread'
+
+-- one write: the first n bytes are appended to what was written, or nothing is
+abbrev pub Writes : List ℕ → List ℕ → Result ℕ DeviceFault → List ℕ → Type 0
+Writes written buf (Ok n) written' = written' ≡ written ++ take n buf
+Writes written buf (Err fault) written' = written' ≡ written
+
+-- all bytes are appended to what was written, or the beginning of them that the error tells
+abbrev pub WritesAll : List ℕ → List ℕ → Result (Unit {0}) Stopped → List ℕ → Type 0
+WritesAll written buf (Ok _) written' = written' ≡ written ++ buf
+WritesAll written buf (Err stopped) written' = written' ≡ written ++ take stopped.written buf

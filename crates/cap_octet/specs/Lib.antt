@@ -1,0 +1,5 @@
+pub mod Checks
+pub mod Device
+pub mod Fault
+pub mod Number
+pub mod Packet

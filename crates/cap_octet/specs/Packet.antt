@@ -1,0 +1,14 @@
+-- A packet by its values, without the places in memory where they lie.
+use Rattle.std.specs.Prelude.{ℕ, List}
+use Rattle.cap_octet.specs.declared.packet.Packet.{Packet}
+
+pub record Captured : Type 0 where
+  pub link : ℕ
+  pub snap : ℕ
+  pub name : List ℕ
+  pub time : ℕ
+  pub orig : ℕ
+  pub bytes : List ℕ
+
+abbrev pub captured : Packet → Captured
+captured p = record { link = p.link; snap = p.snap; name = p.name.now; time = p.time; orig = p.orig; bytes = p.bytes.now }

@@ -1,0 +1,96 @@
+//! Devices: what a contract sees of bytes that come and go.
+ghost use Rattle.std.specs.Prelude.{◌≡◌, ℕ, ◌+◌, ◌^◌, ◌<◌, ◌≤◌, Bool, IsTrue, List, length, IfOk, IfErr};
+ghost use Rattle.cap_octet.specs.Device.{Reads, Fills, Writes, WritesAll, count_of, failures_of};
+
+/// The device failed in this call.
+#[derive(Clone, Copy, Debug, PartialEq, Eq)]
+pub struct DeviceFault;
+
+/// A writer stopped after the first `written` bytes of what it was given.
+#[derive(Clone, Copy, Debug, PartialEq, Eq)]
+pub struct Stopped {
+    pub written: usize,
+}
+
+/// A device that gives bytes, fewer than 2^63 in all.
+pub trait Input {
+    /// Whether contracts know the bytes that come.
+    ghost tells: { Bool };
+
+    /// The bytes that reads will give from here on. It means something only where the device `tells`.
+    ghost unread: { Self → List ℕ };
+
+    /// How many bytes it has given.
+    ghost given: { Self → ℕ };
+
+    /// How often it failed. Contracts alone see this, and it has no greatest value.
+    ghost failures: { Self → ℕ };
+
+    /// Reads into the front of the buffer and answers how many bytes came. None for a buffer that isn't empty
+    /// means the end. An error is a failure of the device in this call: it gave nothing and left the buffer.
+    fn read(&mut self, buf: &mut [u8]) -> Result<usize, DeviceFault>
+        ensures within { IfOk result (λ n. n ≤ length buf.old) }
+        ensures counted { given self.new ≡ given self.old + count_of result }
+        ensures bounded { given self.new < 2 ^ 63 }
+        ensures failed { failures self.new ≡ failures self.old + failures_of result }
+        ensures told { IsTrue tells → Reads (unread self.old) buf.old result (unread self.new) buf.new };
+}
+
+/// A device that takes bytes.
+pub trait Output {
+    /// Whether contracts know the bytes that were taken.
+    ghost tells: { Bool };
+
+    /// The bytes that were written, in order. It means something only where the device `tells`.
+    ghost written: { Self → List ℕ };
+
+    /// How often it failed. Contracts alone see this, and it has no greatest value.
+    ghost failures: { Self → ℕ };
+
+    /// Writes a front of the bytes, at least one where there is one, and answers how many. An error is a failure of
+    /// the device in this call: it took nothing.
+    fn write(&mut self, buf: &[u8]) -> Result<usize, DeviceFault>
+        ensures within { IfOk result (λ n. n ≤ length buf.now) }
+        ensures some { IfOk result (λ n. 0 < length buf.now → 0 < n) }
+        ensures failed { failures self.new ≡ failures self.old + failures_of result }
+        ensures told { IsTrue tells → Writes (written self.old) buf.now result (written self.new) };
+}
+
+/// Fills the buffer from its front and answers how many bytes came: fewer than it has room for only at the end.
+/// An error is a failure of the device in this call.
+pub fn read_full<I: Input>(input: &mut I, buf: &mut [u8]) -> Result<usize, DeviceFault>
+    ensures within { IfOk result (λ n. n ≤ length buf.old) }
+    ensures counted { IfOk result (λ n. I.given input.new ≡ I.given input.old + n) }
+    ensures grown { I.given input.old ≤ I.given input.new }
+    ensures bounded { IfOk result (λ n. 0 < n → I.given input.new < 2 ^ 63) }
+    ensures stopped { IfErr result (λ _. I.given input.new < 2 ^ 63) }
+    ensures failed { I.failures input.new ≡ I.failures input.old + failures_of result }
+    ensures told { IsTrue I.tells → Fills (I.unread input.old) buf.old result (I.unread input.new) buf.new }
+{
+    let mut count = 0;
+    while count < buf.len() {
+        let n = input.read(&mut buf[count..])?;
+        if n == 0 {
+            break;
+        }
+        count += n;
+    }
+    Ok(count)
+}
+
+/// Writes all of the bytes. An error is a failure of the device in this call, and tells how many bytes, fewer than
+/// all, were written before it.
+pub fn write_all<O: Output>(output: &mut O, buf: &[u8]) -> Result<(), Stopped>
+    ensures front { IfErr result (λ stopped. stopped.written < length buf.now) }
+    ensures failed { O.failures output.new ≡ O.failures output.old + failures_of result }
+    ensures told { IsTrue O.tells → WritesAll (O.written output.old) buf.now result (O.written output.new) }
+{
+    let mut count = 0;
+    while count < buf.len() {
+        let Ok(n) = output.write(&buf[count..]) else {
+            return Err(Stopped { written: count });
+        };
+        count += n;
+    }
+    Ok(())
+}

@@ -1,0 +1,121 @@
+//! Devices over memory, which tell their bytes.
+ghost use Rattle.std.specs.Prelude.{◌≡◌, ℕ, ◌+◌, ◌≤◌, ◌<◌, ◌^◌, IsTrue, List, [], length, take, drop, true, IfOk, OnErr, IsOk};
+ghost use Rattle.cap_octet.specs.Device.{Reads, Writes, count_of, failures_of};
+
+use crate::device::{DeviceFault, Input, Output};
+use crate::failures::FailureCount;
+
+/// Gives the bytes of a slice, and never fails.
+#[derive(Drop)]
+pub struct MemInput<'a> {
+    rest: &'a [u8],
+    given: usize,
+    ghost bounded: { given + length rest.now < 2 ^ 63 },
+}
+
+impl<'a> MemInput<'a> {
+    /// An input of exactly these bytes.
+    pub fn new(bytes: &'a [u8]) -> Self
+        ensures unread { ⟦<MemInput<'a> as Input>⟧.unread result ≡ bytes.entry.now }
+        ensures given { ⟦<MemInput<'a> as Input>⟧.given result ≡ 0 }
+    {
+        MemInput {
+            rest: bytes,
+            given: 0,
+        }
+    }
+
+    /// How many bytes were given.
+    pub fn given(&self) -> usize
+        ensures { result ≡ ⟦<MemInput<'a> as Input>⟧.given self.now }
+    {
+        self.given
+    }
+}
+
+impl Input for MemInput<'_> {
+    ghost tells = { true };
+
+    ghost unread = { λ s. s.rest.now };
+
+    ghost given = { λ s. s.given };
+
+    ghost failures = { λ _. 0 };
+
+    /// Never fails.
+    fn read(&mut self, buf: &mut [u8]) -> Result<usize, DeviceFault>
+        ensures within { IfOk result (λ n. n ≤ length buf.old) }
+        ensures counted { self.new.given ≡ self.old.given + count_of result }
+        ensures bounded { self.new.given < 2 ^ 63 }
+        ensures failed { 0 ≡ 0 + failures_of result }
+        ensures told { IsTrue true → Reads self.old.rest.now buf.old result self.new.rest.now buf.new }
+        ensures never_fails { IsOk result }
+    {
+        let count = self.rest.len().min(buf.len());
+        let (front, rest) = self.rest.split_at(count);
+        buf[..count].copy_from_slice(front);
+        self.rest = rest;
+        self.given += count;
+        Ok(count)
+    }
+}
+
+/// Writes into a slice that it was lent, and fails only where that is full.
+#[derive(Drop)]
+pub struct MemOutput<'a> {
+    bytes: &'a mut [u8],
+    len: usize,
+    failures: FailureCount,
+    ghost inside: { len ≤ length bytes.now },
+}
+
+impl<'a> MemOutput<'a> {
+    /// An output with nothing written and room for as many bytes as the slice has.
+    pub fn new(bytes: &'a mut [u8]) -> Self
+        ensures written { ⟦<MemOutput<'a> as Output>⟧.written result ≡ [] }
+        ensures failures { ⟦<MemOutput<'a> as Output>⟧.failures result ≡ 0 }
+        ensures room { length result.bytes.now ≡ length bytes.entry.now }
+    {
+        MemOutput {
+            bytes,
+            len: 0,
+            failures: FailureCount::new(),
+        }
+    }
+
+    /// What was written.
+    pub fn written(&self) -> &[u8]
+        ensures { result.now ≡ ⟦<MemOutput<'a> as Output>⟧.written self.now }
+    {
+        &self.bytes[..self.len]
+    }
+}
+
+impl Output for MemOutput<'_> {
+    ghost tells = { true };
+
+    ghost written = { λ s. take s.len s.bytes.now };
+
+    ghost failures = { λ s. s.failures.count };
+
+    /// Fails only where the slice is full.
+    fn write(&mut self, buf: &[u8]) -> Result<usize, DeviceFault>
+        ensures within { IfOk result (λ n. n ≤ length buf.now) }
+        ensures some { IfOk result (λ n. 0 < length buf.now → 0 < n) }
+        ensures failed { self.new.failures.count ≡ self.old.failures.count + failures_of result }
+        ensures told { IsTrue true → Writes (take self.old.len self.old.bytes.now) buf.now result (take self.new.len self.new.bytes.now) }
+        ensures full { OnErr result (self.old.len ≡ length self.old.bytes.now) }
+        ensures room { length self.new.bytes.now ≡ length self.old.bytes.now }
+    {
+        let room = self.bytes.len() - self.len;
+        let count = buf.len().min(room);
+        if count == 0 && !buf.is_empty() {
+            self.failures.add_one();
+            return Err(DeviceFault);
+        }
+        let end = self.len + count;
+        self.bytes[self.len..end].copy_from_slice(&buf[..count]);
+        self.len = end;
+        Ok(count)
+    }
+}

@@ -1,0 +1,104 @@
+//! Devices over std's readers and writers, of which only counts are known.
+ghost use Rattle.std.specs.Prelude.{◌≡◌, ℕ, ◌<◌, ◌^◌, false, []};
+
+use crate::device::{DeviceFault, Input, Output};
+use crate::failures::FailureCount;
+use std::io::{Read, Write};
+
+/// Fewer bytes than this are read from one input.
+const MOST_GIVEN: u64 = 0x8000_0000_0000_0000;
+
+/// Over a reader, as a file or standard input. A read that would reach 2^63 bytes in all is a failure.
+#[derive(Drop)]
+pub struct StdInput<R> {
+    reader: R,
+    given: u64,
+    failures: FailureCount,
+    ghost bounded: { given < 2 ^ 63 },
+}
+
+impl<R: Read> StdInput<R> {
+    /// An input that has given nothing yet.
+    pub fn new(reader: R) -> Self
+        ensures given { ⟦<StdInput<R> as Input>⟧.given result ≡ 0 }
+        ensures failures { ⟦<StdInput<R> as Input>⟧.failures result ≡ 0 }
+    {
+        StdInput {
+            reader,
+            given: 0,
+            failures: FailureCount::new(),
+        }
+    }
+}
+
+impl<R: Read> Input for StdInput<R> {
+    ghost tells = { false };
+
+    ghost unread = { λ _. [] };
+
+    ghost given = { λ s. s.given };
+
+    ghost failures = { λ s. s.failures.count };
+
+    fn read(&mut self, buf: &mut [u8]) -> Result<usize, DeviceFault> {
+        match self.reader.read(buf) {
+            Ok(count) if (count as u64) < MOST_GIVEN - self.given => {
+                self.given += count as u64;
+                Ok(count)
+            }
+            _ => {
+                self.failures.add_one();
+                Err(DeviceFault)
+            }
+        }
+    }
+}
+
+/// Over a writer, as a file or standard output. A write that takes nothing of some bytes is a failure.
+#[derive(Drop)]
+pub struct StdOutput<W> {
+    writer: W,
+    failures: FailureCount,
+}
+
+impl<W: Write> StdOutput<W> {
+    /// An output to which nothing was written yet.
+    pub fn new(writer: W) -> Self
+        ensures writer { result.writer ≡ writer }
+        ensures failures { ⟦<StdOutput<W> as Output>⟧.failures result ≡ 0 }
+    {
+        StdOutput {
+            writer,
+            failures: FailureCount::new(),
+        }
+    }
+
+    /// The writer, as to flush it.
+    pub fn into_inner(self) -> W
+        ensures { result ≡ self.writer }
+    {
+        let StdOutput {
+            writer,
+            failures: _,
+        } = self;
+        writer
+    }
+}
+
+impl<W: Write> Output for StdOutput<W> {
+    ghost tells = { false };
+
+    ghost written = { λ _. [] };
+
+    ghost failures = { λ s. s.failures.count };
+
+    fn write(&mut self, buf: &[u8]) -> Result<usize, DeviceFault> {
+        match self.writer.write(buf) {
+            Ok(count) if 0 < count || buf.is_empty() => Ok(count),
+            _ => {
+                self.failures.add_one();
+                Err(DeviceFault)
+            }
+        }
+    }
+}

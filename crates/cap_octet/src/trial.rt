@@ -1,0 +1,135 @@
+//! Devices for tests: over memory, a few bytes a call, failing where they are told to, counting what was asked.
+ghost use Rattle.std.specs.Prelude.{◌≡◌, ℕ, ◌+◌, ◌-◌, ◌≤◌, ◌<◌, ◌^◌, IsTrue, List, [], length, Some, None, true, IfOk, OnErr, OnOk, min};
+ghost use Rattle.cap_octet.specs.Device.{Reads, Writes, count_of, failures_of};
+
+use crate::device::{DeviceFault, Input, Output};
+use crate::failures::FailureCount;
+use crate::memory::{MemInput, MemOutput};
+
+/// Gives the bytes of a slice, at most `piece` a read, and fails at its read number `at`, counted from 1.
+#[derive(Drop)]
+pub struct TrialInput<'a> {
+    inner: MemInput<'a>,
+    piece: usize,
+    at: Option<u64>,
+    reads: u64,
+    failures: FailureCount,
+    ghost moves: { 0 < piece },
+}
+
+impl<'a> TrialInput<'a> {
+    /// An input of exactly these bytes. `piece` is at least 1.
+    pub fn new(bytes: &'a [u8], piece: usize, at: Option<u64>) -> Self
+        requires { 0 < piece }
+        ensures unread { ⟦<TrialInput<'a> as Input>⟧.unread result ≡ bytes.entry.now }
+        ensures given { ⟦<TrialInput<'a> as Input>⟧.given result ≡ 0 }
+        ensures failures { ⟦<TrialInput<'a> as Input>⟧.failures result ≡ 0 }
+        ensures settings { (result.piece ≡ piece) × (result.at ≡ at) × (result.reads ≡ 0) }
+    {
+        TrialInput {
+            inner: MemInput::new(bytes),
+            piece,
+            at,
+            reads: 0,
+            failures: FailureCount::new(),
+        }
+    }
+
+    /// How many reads were made. The count stays at its greatest value.
+    pub fn reads(&self) -> u64
+        ensures { result ≡ self.now.reads }
+    {
+        self.reads
+    }
+
+    /// How many bytes were given.
+    pub fn given(&self) -> usize
+        ensures { result ≡ ⟦<TrialInput<'a> as Input>⟧.given self.now }
+    {
+        self.inner.given()
+    }
+}
+
+impl Input for TrialInput<'_> {
+    ghost tells = { true };
+
+    ghost unread = { λ s. ⟦<MemInput<'static> as Input>⟧.unread s.inner };
+
+    ghost given = { λ s. ⟦<MemInput<'static> as Input>⟧.given s.inner };
+
+    ghost failures = { λ s. s.failures.count };
+
+    /// Fails at its read number `at` alone.
+    fn read(&mut self, buf: &mut [u8]) -> Result<usize, DeviceFault>
+        ensures within { IfOk result (λ n. n ≤ length buf.old) }
+        ensures counted { ⟦<MemInput<'static> as Input>⟧.given self.new.inner ≡ ⟦<MemInput<'static> as Input>⟧.given self.old.inner + count_of result }
+        ensures bounded { ⟦<MemInput<'static> as Input>⟧.given self.new.inner < 2 ^ 63 }
+        ensures failed { self.new.failures.count ≡ self.old.failures.count + failures_of result }
+        ensures told { IsTrue true → Reads (⟦<MemInput<'static> as Input>⟧.unread self.old.inner) buf.old result (⟦<MemInput<'static> as Input>⟧.unread self.new.inner) buf.new }
+        ensures piece { IfOk result (λ n. n ≤ self.old.piece) }
+        ensures fails { OnErr result (self.old.at ≡ Some self.new.reads) }
+        ensures settings { (self.new.piece ≡ self.old.piece) × (self.new.at ≡ self.old.at) }
+        ensures reads { self.new.reads ≡ min (self.old.reads + 1) (2 ^ 64 - 1) }
+    {
+        self.reads = self.reads.saturating_add(1);
+        if self.at == Some(self.reads) {
+            self.failures.add_one();
+            return Err(DeviceFault);
+        }
+        let most = buf.len().min(self.piece);
+        self.inner.read(&mut buf[..most])
+    }
+}
+
+/// Writes into a slice that it was lent, at most `piece` bytes a write, and fails only where that is full.
+#[derive(Drop)]
+pub struct TrialOutput<'a> {
+    inner: MemOutput<'a>,
+    piece: usize,
+    ghost moves: { 0 < piece },
+}
+
+impl<'a> TrialOutput<'a> {
+    /// An output with nothing written and room for as many bytes as the slice has. `piece` is at least 1.
+    pub fn new(bytes: &'a mut [u8], piece: usize) -> Self
+        requires { 0 < piece }
+        ensures written { ⟦<TrialOutput<'a> as Output>⟧.written result ≡ [] }
+        ensures failures { ⟦<TrialOutput<'a> as Output>⟧.failures result ≡ 0 }
+        ensures settings { result.piece ≡ piece }
+        ensures room { length result.inner.bytes.now ≡ length bytes.entry.now }
+    {
+        TrialOutput {
+            inner: MemOutput::new(bytes),
+            piece,
+        }
+    }
+
+    /// What was written.
+    pub fn written(&self) -> &[u8]
+        ensures { result.now ≡ ⟦<TrialOutput<'a> as Output>⟧.written self.now }
+    {
+        self.inner.written()
+    }
+}
+
+impl Output for TrialOutput<'_> {
+    ghost tells = { true };
+
+    ghost written = { λ s. ⟦<MemOutput<'static> as Output>⟧.written s.inner };
+
+    ghost failures = { λ s. ⟦<MemOutput<'static> as Output>⟧.failures s.inner };
+
+    /// Fails only where the slice is full.
+    fn write(&mut self, buf: &[u8]) -> Result<usize, DeviceFault>
+        ensures within { IfOk result (λ n. n ≤ length buf.now) }
+        ensures some { IfOk result (λ n. 0 < length buf.now → 0 < n) }
+        ensures failed { ⟦<MemOutput<'static> as Output>⟧.failures self.new.inner ≡ ⟦<MemOutput<'static> as Output>⟧.failures self.old.inner + failures_of result }
+        ensures told { IsTrue true → Writes (⟦<MemOutput<'static> as Output>⟧.written self.old.inner) buf.now result (⟦<MemOutput<'static> as Output>⟧.written self.new.inner) }
+        ensures piece { IfOk result (λ n. n ≤ self.old.piece) }
+        ensures full { OnErr result (self.old.inner.len ≡ length self.old.inner.bytes.now) }
+        ensures settings { (self.new.piece ≡ self.old.piece) × (length self.new.inner.bytes.now ≡ length self.old.inner.bytes.now) }
+    {
+        let most = buf.len().min(self.piece);
+        self.inner.write(&buf[..most])
+    }
+}
