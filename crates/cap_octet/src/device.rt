@@ -85,12 +85,12 @@ pub fn write_all<O: Output>(output: &mut O, buf: &[u8]) -> Result<(), Stopped>
     ensures failed { O.failures output.new ≡ O.failures output.old + failures_of result }
     ensures told { IsTrue O.tells → WritesAll (O.written output.old) buf.now result (O.written output.new) }
 {
-    let mut count = 0;
-    while count < buf.len() {
-        let Ok(n) = output.write(&buf[count..]) else {
-            return Err(Stopped { written: count });
+    let mut written = 0;
+    while written < buf.len() {
+        let Ok(n) = output.write(&buf[written..]) else {
+            return Err(Stopped { written });
         };
-        count += n;
+        written += n;
     }
     Ok(())
 }
