@@ -1,0 +1,76 @@
+//! What is asked for.
+ghost use Rattle.std.specs.Prelude.{◌≡◌};
+ghost use Rattle.std.specs.List.{list_all};
+ghost use Rattle.cap_tools.specs.Command.{is_proper, is_range, has_proper_ranges};
+ghost use Rattle.cap_tools.specs.Selected.{is_named, is_kept};
+
+use cap_octet::Format;
+use std::alloc::{Allocator, Global};
+
+/// How many ranges an edit has at most.
+const MOST_RANGES: usize = 512;
+
+/// A command, over the allocator of its lists.
+#[derive(Drop)]
+pub enum Command<A: Allocator = Global> {
+    Edit(Edit<A>),
+}
+
+/// Deletes the packets whose numbers, counted from 1, are in the ranges, or keeps them alone (editcap(1)).
+#[derive(Drop)]
+pub struct Edit<A: Allocator = Global> {
+    /// The first and the last number of each range.
+    pub ranges: Vec<(u64, u64), A>,
+    /// Whether the named packets alone are kept.
+    pub keep: bool,
+    /// The format that is written.
+    pub format: Format,
+}
+
+impl<A: Allocator> Command<A> {
+    /// Whether the command may be run on so many inputs: an edit has one input, and at most 512 ranges, each from
+    /// 1 on, in order and below 2^63.
+    pub fn is_proper(&self, inputs: usize) -> bool
+        ensures { result ≡ is_proper self.now inputs }
+    {
+        match self {
+            Command::Edit(edit) => inputs == 1 && edit.has_proper_ranges(),
+        }
+    }
+}
+
+/// Whether the numbers are those of a range.
+fn is_range(first: u64, last: u64) -> bool
+    ensures { result ≡ is_range first last }
+{
+    1 <= first && first <= last && last < 1 << 63
+}
+
+fn are_ranges(ranges: &[(u64, u64)]) -> bool
+    ensures { result ≡ list_all (λ range. is_range range.0 range.1) ranges.now }
+{
+    ranges.iter().all(|range| is_range(range.0, range.1))
+}
+
+impl<A: Allocator> Edit<A> {
+    fn has_proper_ranges(&self) -> bool
+        ensures { result ≡ has_proper_ranges self.now.ranges.items }
+    {
+        self.ranges.len() <= MOST_RANGES && are_ranges(&self.ranges)
+    }
+
+    fn names(&self, number: u64) -> bool
+        ensures { result ≡ is_named self.now.ranges.items number }
+    {
+        self.ranges
+            .iter()
+            .any(|range| range.0 <= number && number <= range.1)
+    }
+
+    /// Whether the packet with this number stays.
+    pub fn keeps(&self, number: u64) -> bool
+        ensures { result ≡ is_kept self.now.ranges.items self.now.keep number }
+    {
+        self.names(number) == self.keep
+    }
+}
