@@ -1,2 +1,3 @@
 pub mod Command
 pub mod Selected
+pub mod Messages

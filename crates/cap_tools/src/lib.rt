@@ -2,5 +2,6 @@
 #![tactic(auto)]
 
 pub mod command;
+pub mod message;
 
 pub use command::{Command, Edit};
