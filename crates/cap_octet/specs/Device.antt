@@ -54,3 +54,12 @@ Writes written buf (Err fault) written' = written' ≡ written
 abbrev pub WritesAll : List ℕ → List ℕ → Result (Unit {0}) Stopped → List ℕ → Type 0
 WritesAll written buf (Ok _) written' = written' ≡ written ++ buf
 WritesAll written buf (Err stopped) written' = written' ≡ written ++ take stopped.written buf
+
+-- a beginning of the bytes is appended to what was written, not the whole
+abbrev pub Stops : List ℕ → List ℕ → List ℕ → Type 0
+Stops written bytes written' = (n : ℕ) × (n < length bytes) × (written' ≡ written ++ take n bytes)
+
+-- all bytes are appended to what was written; or a beginning of them, not the whole, where the device failed
+abbrev pub AppendsOrStops : {E : Type 0} → Result (Unit {0}) E → List ℕ → List ℕ → List ℕ → Type 0
+AppendsOrStops (Ok done) written bytes written' = written' ≡ written ++ bytes
+AppendsOrStops (Err fault) written bytes written' = Stops written bytes written'

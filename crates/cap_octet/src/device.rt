@@ -1,6 +1,7 @@
 //! Devices: what a contract sees of bytes that come and go.
 ghost use Rattle.std.specs.Prelude.{◌≡◌, ℕ, ◌+◌, ◌^◌, ◌<◌, ◌≤◌, Bool, IsTrue, List, length, IfOk, IfErr};
-ghost use Rattle.cap_octet.specs.Device.{Reads, Fills, Writes, WritesAll, count_of, failures_of};
+ghost use Rattle.std.specs.List.{flat_map};
+ghost use Rattle.cap_octet.specs.Device.{AppendsOrStops, Reads, Fills, Writes, WritesAll, count_of, failures_of};
 
 /// The device failed in this call.
 #[derive(Clone, Copy, Debug, PartialEq, Eq)]
@@ -91,6 +92,20 @@ pub fn write_all<O: Output>(output: &mut O, buf: &[u8]) -> Result<(), Stopped>
             return Err(Stopped { written });
         };
         written += n;
+    }
+    Ok(())
+}
+
+/// Writes parts one after another. An error is a failure of the device in this call, after a beginning of the parts
+/// that isn't the whole.
+pub fn write_parts<O: Output>(output: &mut O, parts: &[&[u8]]) -> Result<(), DeviceFault>
+    ensures told { IsTrue O.tells → AppendsOrStops result (O.written output.old) (flat_map (λ part. part.now) parts.now) (O.written output.new) }
+    ensures failed { O.failures output.new ≡ O.failures output.old + failures_of result }
+{
+    for part in parts {
+        let Ok(()) = write_all(output, part) else {
+            return Err(DeviceFault);
+        };
     }
     Ok(())
 }

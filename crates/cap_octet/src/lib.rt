@@ -15,7 +15,7 @@ pub mod stream;
 mod tests;
 pub mod trial;
 
-pub use device::{DeviceFault, Input, Output, Stopped, read_full, write_all};
+pub use device::{DeviceFault, Input, Output, Stopped, read_full, write_all, write_parts};
 pub use fault::Fault;
 pub use format::Format;
 pub use memory::{MemInput, MemOutput};

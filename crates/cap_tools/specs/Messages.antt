@@ -1,5 +1,5 @@
 -- What is told of how a command ended.
-use Rattle.std.specs.Prelude.{◌≡◌, ℕ, ◌<◌, List, [], ◌∷◌, ◌++◌, length, take, Result, Ok, Err, codes}
+use Rattle.std.specs.Prelude.{ℕ, List, [], ◌∷◌, ◌++◌, codes}
 use Rattle.std.specs.Fmt.{decimal}
 use Rattle.cap_octet.specs.declared.fault.Fault.{Fault}
 use Rattle.cap_octet.specs.Fault.{fault_text}
@@ -19,8 +19,3 @@ write_failed_message name = codes "capkit: " ++ name ++ codes ": write failed" +
 -- want of memory without a packet or block in hand
 abbrev pub no_memory_message : List ℕ
 no_memory_message = codes "capkit: no memory" ++ line_feed
-
--- A message is written whole; or it is lost, in whole or past a beginning, where its device failed.
-abbrev pub Tells : {E : Type 0} → Result (Unit {0}) E → List ℕ → List ℕ → List ℕ → Type 0
-Tells (Ok done) old message new = new ≡ old ++ message
-Tells (Err fault) old message new = (n : ℕ) × (n < length message) × (new ≡ old ++ take n message)

@@ -1,24 +1,10 @@
 //! What is told of how a command ended, a line each.
 ghost use Rattle.std.specs.Prelude.{◌≡◌, ◌+◌, ◌++◌, IsTrue, codes};
-ghost use Rattle.std.specs.List.{flat_map};
-ghost use Rattle.cap_octet.specs.Device.{failures_of};
-ghost use Rattle.cap_tools.specs.Messages.{Tells, fault_message, write_failed_message, no_memory_message, line_feed};
+ghost use Rattle.cap_octet.specs.Device.{AppendsOrStops, failures_of};
+ghost use Rattle.cap_tools.specs.Messages.{fault_message, write_failed_message, no_memory_message, line_feed};
 
-use cap_octet::{DeviceFault, Fault, Output, write_all};
+use cap_octet::{DeviceFault, Fault, Output, write_parts};
 use itoa::Buffer;
-
-/// Writes parts one after another. A failure of the device leaves a beginning of them.
-fn write_parts<O: Output>(output: &mut O, parts: &[&[u8]]) -> Result<(), DeviceFault>
-    ensures told { IsTrue O.tells → Tells result (O.written output.old) (flat_map (λ part. part.now) parts.now) (O.written output.new) }
-    ensures failed { O.failures output.new ≡ O.failures output.old + failures_of result }
-{
-    for part in parts {
-        let Ok(()) = write_all(output, part) else {
-            return Err(DeviceFault);
-        };
-    }
-    Ok(())
-}
 
 /// Writes the parts of a fault's message, whose offset is in digits.
 fn write_fault<'a, O: Output>(
@@ -27,7 +13,7 @@ fn write_fault<'a, O: Output>(
     offset: &'a [u8],
     text: &'a [u8],
 ) -> Result<(), DeviceFault>
-    ensures told { IsTrue O.tells → Tells result (O.written output.old)
+    ensures told { IsTrue O.tells → AppendsOrStops result (O.written output.old)
         (codes "capkit: " ++ name.now ++ codes ": offset " ++ offset.now ++ codes ": " ++ text.now ++ line_feed) (O.written output.new) }
     ensures failed { O.failures output.new ≡ O.failures output.old + failures_of result }
 {
@@ -42,7 +28,7 @@ pub fn tell_fault<O: Output>(
     offset: u64,
     fault: Fault,
 ) -> Result<(), DeviceFault>
-    ensures told { IsTrue O.tells → Tells result (O.written output.old) (fault_message name.now offset fault) (O.written output.new) }
+    ensures told { IsTrue O.tells → AppendsOrStops result (O.written output.old) (fault_message name.now offset fault) (O.written output.new) }
     ensures failed { O.failures output.new ≡ O.failures output.old + failures_of result }
 {
     let mut digits = Buffer::new();
@@ -52,7 +38,7 @@ pub fn tell_fault<O: Output>(
 
 /// Tells that the device of the output of this name failed.
 pub fn tell_write_failed<O: Output>(output: &mut O, name: &str) -> Result<(), DeviceFault>
-    ensures told { IsTrue O.tells → Tells result (O.written output.old) (write_failed_message name.now) (O.written output.new) }
+    ensures told { IsTrue O.tells → AppendsOrStops result (O.written output.old) (write_failed_message name.now) (O.written output.new) }
     ensures failed { O.failures output.new ≡ O.failures output.old + failures_of result }
 {
     let parts: [&[u8]; 3] = [b"capkit: ", name.as_bytes(), b": write failed\n"];
@@ -61,7 +47,7 @@ pub fn tell_write_failed<O: Output>(output: &mut O, name: &str) -> Result<(), De
 
 /// Tells that there was no memory, where no packet or block was in hand.
 pub fn tell_no_memory<O: Output>(output: &mut O) -> Result<(), DeviceFault>
-    ensures told { IsTrue O.tells → Tells result (O.written output.old) no_memory_message (O.written output.new) }
+    ensures told { IsTrue O.tells → AppendsOrStops result (O.written output.old) no_memory_message (O.written output.new) }
     ensures failed { O.failures output.new ≡ O.failures output.old + failures_of result }
 {
     write_parts(output, &[b"capkit: no memory\n"])

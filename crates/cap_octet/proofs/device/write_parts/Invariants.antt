@@ -1,6 +1,6 @@
 use Rattle.std.proofs.Common.{◌≡◌, ◌++◌, take, IsTrue}
 use Rattle.std.specs.List.{flat_map}
-use Rattle.cap_tools.proofs.message.write_parts.Given as goal
+use Rattle.cap_octet.proofs.device.write_parts.Given as goal
 
 abbrev pub invariant-loop-part : goal.invariant-loop-part
 invariant-loop-part g l =

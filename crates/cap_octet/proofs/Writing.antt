@@ -1,0 +1,29 @@
+-- Bytes that are written part by part, and where that stops.
+use Rattle.std.proofs.Common.{◌≡◌, ℕ, ◌+◌, ◌<◌, List, ◌++◌, length, take, drop, get_or, Err, ap, sym, ◌∙◌, arith, length-append}
+use Rattle.std.proofs.Math.Seq.{take-append-add}
+use Rattle.std.specs.List.{flat_map}
+use Rattle.std.proofs.lemmas.Grind.{flat_map-append}
+use Rattle.std.proofs.lemmas.List.{append_assoc, take-append-le, take-append-drop, drop_more}
+use Rattle.cap_octet.specs.declared.device.Stopped.{Stopped}
+use Rattle.cap_octet.specs.Device.{Stops, WritesAll}
+
+-- a part that stopped behind others, and that more would have followed
+pub stops-part : (old mid new done part more : List ℕ) (stopped : Stopped) → mid ≡ old ++ done
+    → stopped.written < length part → WritesAll mid part (Err stopped) new → Stops old (done ++ (part ++ more)) new
+stops-part old mid new done part more stopped first less second = (
+  length done + stopped.written,
+  omega (arith, less, length-append done (part ++ more), length-append part more),
+  second
+      ∙ ap (λ (x : List ℕ). x ++ take stopped.written part) first
+      ∙ append_assoc old done (take stopped.written part)
+      ∙ ap (λ (x : List ℕ). old ++ (done ++ x)) (sym (take-append-le stopped.written part more (omega (arith, less))))
+      ∙ ap (λ (x : List ℕ). old ++ x) (sym (take-append-add done (part ++ more) stopped.written)),
+)
+
+-- the parts before, at and behind a place
+pub parts_at : {X : Type 0} (f : X → List ℕ) (parts : List X) (i : ℕ) (d : X) → i < length parts
+    → flat_map f parts ≡ flat_map f (take i parts) ++ (f (get_or parts i d) ++ flat_map f (drop (i + 1) parts))
+parts_at f parts i d within =
+    ap (flat_map f) (sym (take-append-drop i parts))
+    ∙ flat_map-append f (take i parts) (drop i parts)
+    ∙ ap (λ l. flat_map f (take i parts) ++ flat_map f l) (drop_more parts i d within)
