@@ -1,3 +1,5 @@
 pub mod Command
-pub mod Selected
+pub mod Edited
+pub mod Editing
 pub mod Messages
+pub mod Selected

@@ -2,6 +2,8 @@
 #![tactic(auto)]
 
 pub mod command;
-pub mod message;
+pub mod edit;
+mod message;
+pub mod progress;
 
 pub use command::{Command, Edit};

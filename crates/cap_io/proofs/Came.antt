@@ -1,0 +1,151 @@
+-- What came of a unit, from read to read.
+use Rattle.std.proofs.Common.{◌≡◌, ℕ, Bool, IsTrue, IfOk, IfErr, ◌+◌, ◌<◌, ◌≤◌, ◌⊎◌, inl, inr, List, [], ◌∷◌, ◌++◌, length, take, drop, Option, Some, None, is_some, true, false, Result, Ok, Err, refl, sym, ap, ap₂, ◌∙◌, arith, length-drop}
+use Rattle.std.proofs.lemmas.List.{length-append, length-take-le, take-append-drop, take_at, drop_at, drop-drop, append_assoc, append-nil}
+use Rattle.std.proofs.Math.ListN.{drop_of_length-le}
+use Rattle.cap_octet.specs.Device.{TakesFull}
+use Rattle.cap_octet.specs.Checks.{checked, first_failing}
+use Rattle.cap_octet.specs.declared.fault.Fault.{Fault}
+use Rattle.cap_octet.specs.declared.fault.Fault.TheVariants.{NotACaptureFile, Truncated, ReadFailed, NoMemory}
+use Rattle.cap_octet.proofs.Checks.{checked_ok, checked_err}
+use Rattle.cap_pcap.specs.declared.head.Head.{Head}
+use Rattle.cap_pcap.specs.declared.head.RecordHead.{RecordHead}
+use Rattle.cap_pcap.specs.Header.{form_in, head_fault, head_in, IsHeader}
+use Rattle.cap_pcap.specs.Record.{captured_len, record_size, field_checks, record_head_in, record_fault, time_in, orig_in, IsRecord}
+use Rattle.cap_pcap.proofs.Headers.{form_in-append, head_fault-append, head_fault-no_magic, head_fault-short}
+use Rattle.cap_pcap.proofs.Records.{field_checks-append, record_head_in-append, captured_len-append, record_fault-fields, record_fault-short, IsRecord-came}
+use Rattle.cap_io.specs.declared.source.Held.{Held}
+use Rattle.cap_io.specs.Capture.{Declared, Nothing, PcapFile, Front, Whole, Stops, front_of}
+use Rattle.cap_io.specs.Reading.{most_in_unit, most_taken, IsTaken, IsReason, Refuses, RestMissing, HeaderCame, RecordCame}
+use Rattle.cap_io.proofs.Fronts.{front_of-no_header, front_of-no_record, most_taken-header, most_taken-record, most_taken-front}
+
+-- bytes that came, and some more behind them
+Taken-behind : (declared : Declared) (unread unread1 unread2 front : List ℕ) (count : ℕ) → unread ≡ front ++ unread1 → count ≤ length unread1 → unread2 ≡ drop count unread1
+    → length front + count ≤ most_taken (front_of declared unread) → IsTaken declared unread unread2
+Taken-behind declared unread unread1 unread2 front count splits there rest within = record {
+  count = length front + count;
+  within = within;
+  there = rw splits (simp length-append (omega arith));
+  rest = rest ∙ ap (drop count) (sym (drop_at front unread1 (length front) refl) ∙ ap (drop (length front)) (sym splits)) ∙ drop-drop count (length front) unread;
+}
+
+-- a read that filled the buffer
+pub filled : (unread buf unread' buf' : List ℕ) (n : ℕ) → TakesFull unread buf n unread' buf' → length buf ≤ n → unread ≡ buf' ++ unread'
+filled unread buf unread' buf' n came full =
+    sym (take-append-drop n unread)
+    ∙ ap₂ (λ (x y : List ℕ). x ++ y) (sym (came.taken.bytes ∙ (rw (drop_of_length-le buf full) (append-nil (take n unread))))) (sym came.taken.rest)
+
+-- ---- the file header
+
+pub no_magic : (unread unread' magic : List ℕ) → unread ≡ magic ++ unread' → length magic ≡ 4 → form_in magic ≡ None → Refuses Nothing unread unread' NotACaptureFile
+no_magic unread unread' magic splits size none =
+    let whole : form_in unread ≡ None = ap form_in splits ∙ form_in-append magic unread' (omega arith) ∙ none in
+    record {
+      why = inl (front_of-no_header unread NotACaptureFile (head_fault-no_magic unread whole));
+      taken = Taken-behind Nothing unread unread' unread' magic 0 splits (omega arith) refl (most_taken-header unread (length magic + 0) (omega arith));
+    }
+
+pub rest_of_header : (unread unread1 unread2 magic : List ℕ) (fault : Fault) (whole : ℕ) → whole ≡ 24 → unread ≡ magic ++ unread1 → length magic ≡ 4 → is_some (form_in magic) ≡ true
+    → RestMissing 4 whole unread1 unread2 fault → Refuses Nothing unread unread2 fault
+rest_of_header unread unread1 unread2 magic fault whole is splits size some missing =
+    let form : is_some (form_in unread) ≡ true = ap is_some (ap form_in splits ∙ form_in-append magic unread1 (omega arith)) ∙ some in
+    let long : length unread ≡ length magic + length unread1 = ap length splits ∙ length-append magic unread1 in
+    record {
+      why = elim missing.why [
+        | inl short ↦ inl (rw short.0 (front_of-no_header unread Truncated (head_fault-short unread form (omega arith) (omega (arith, short.1)))))
+        | inr failed ↦ inr (inl failed)
+      ];
+      taken = Taken-behind Nothing unread unread1 unread2 magic missing.count splits missing.there missing.rest (most_taken-header unread (length magic + missing.count) (omega (arith, missing.within)));
+    }
+
+-- the 24 bytes are there
+pub header_answer : (unread unread1 unread2 magic bytes : List ℕ) → unread ≡ magic ++ unread1 → length magic ≡ 4 → length bytes ≡ 24 → take 4 bytes ≡ magic → unread1 ≡ drop 4 bytes ++ unread2
+    → unread ≡ bytes ++ unread2
+header_answer unread unread1 unread2 magic bytes splits size whole front rest =
+    splits ∙ (rw (rest, ← front) (sym (append_assoc (take 4 bytes) (drop 4 bytes) unread2) ∙ ap (λ (l : List ℕ). l ++ unread2) (take-append-drop 4 bytes)))
+
+header_says : (unread unread2 bytes : List ℕ) (head : Head) → unread ≡ bytes ++ unread2 → length bytes ≡ 24 → Ok head ≡ checked (head_fault bytes) (head_in bytes) → HeaderCame unread head unread2
+header_says unread unread2 bytes head splits size is =
+    let both = checked_ok (head_fault bytes) (head_in bytes) head (sym is) in
+    record { bytes = bytes; header = record { passes = both.0; whole = size; says = sym both.1 }; splits = splits }
+
+header_wrong : (unread unread2 bytes : List ℕ) (fault : Fault) → unread ≡ bytes ++ unread2 → length bytes ≡ 24 → Err fault ≡ checked (head_fault bytes) (head_in bytes) → Refuses Nothing unread unread2 fault
+header_wrong unread unread2 bytes fault splits size is =
+    let fails : head_fault bytes ≡ Some fault = checked_err (head_fault bytes) (head_in bytes) fault (sym is) in
+    let whole : head_fault unread ≡ Some fault = ap head_fault splits ∙ head_fault-append bytes unread2 (omega arith) ∙ fails in
+    record {
+      why = inl (front_of-no_header unread fault whole);
+      taken = Taken-behind Nothing unread unread2 unread2 bytes 0 splits (omega arith) refl (most_taken-header unread (length bytes + 0) (omega arith));
+    }
+
+pub header_came : (told : Bool) (unread unread2 bytes : List ℕ) (answer : Result Head Fault) → (IsTrue told → unread ≡ bytes ++ unread2) → length bytes ≡ 24 → answer ≡ checked (head_fault bytes) (head_in bytes)
+    → IfOk answer (λ head. IsTrue told → HeaderCame unread head unread2)
+header_came told unread unread2 bytes (Ok head) splits size is = λ t. header_says unread unread2 bytes head (splits t) size is
+header_came told unread unread2 bytes (Err fault) splits size is = tt
+
+pub header_refused : (told : Bool) (unread unread2 bytes : List ℕ) (answer : Result Head Fault) → (IsTrue told → unread ≡ bytes ++ unread2) → length bytes ≡ 24 → answer ≡ checked (head_fault bytes) (head_in bytes)
+    → IfErr answer (λ fault. IsTrue told → Refuses Nothing unread unread2 fault)
+header_refused told unread unread2 bytes (Ok head) splits size is = tt
+header_refused told unread unread2 bytes (Err fault) splits size is = λ t. header_wrong unread unread2 bytes fault (splits t) size is
+
+-- ---- a record
+
+pub record FieldsCame (head : Head) (front : List ℕ) (found : RecordHead) : Type 0 where
+  pub none : first_failing (field_checks head front) ≡ None
+  pub says : found ≡ record_head_in head front
+
+pub fields_came : (head : Head) (front : List ℕ) (answer : Result RecordHead Fault) (found : RecordHead) → answer ≡ checked (first_failing (field_checks head front)) (record_head_in head front) → answer ≡ Ok found
+    → FieldsCame head front found
+fields_came head front answer found is ok =
+    let both = checked_ok (first_failing (field_checks head front)) (record_head_in head front) found (sym is ∙ ok) in
+    record { none = both.0; says = sym both.1 }
+
+pub fields_refused : (head : Head) (unread unread1 front : List ℕ) (answer : Result RecordHead Fault) (fault : Fault) → unread ≡ front ++ unread1 → length front ≡ 16
+    → answer ≡ checked (first_failing (field_checks head front)) (record_head_in head front) → answer ≡ Err fault → Refuses (PcapFile head) unread unread1 fault
+fields_refused head unread unread1 front answer fault splits size is err =
+    let fails = checked_err (first_failing (field_checks head front)) (record_head_in head front) fault (sym is ∙ err) in
+    let whole : first_failing (field_checks head unread) ≡ Some fault = ap (λ (t : List ℕ). first_failing (field_checks head t)) splits ∙ ap first_failing (field_checks-append head front unread1 (omega arith)) ∙ fails in
+    let long : length unread ≡ length front + length unread1 = ap length splits ∙ length-append front unread1 in
+    record {
+      why = inl (front_of-no_record head unread fault (omega arith) (record_fault-fields head unread fault (omega arith) whole));
+      taken = Taken-behind (PcapFile head) unread unread1 unread1 front 0 splits (omega arith) refl (most_taken-front head unread (length front + 0) (omega arith));
+    }
+
+pub no_room : (head : Head) (unread unread1 front : List ℕ) → unread ≡ front ++ unread1 → length front ≡ 16 → Refuses (PcapFile head) unread unread1 NoMemory
+no_room head unread unread1 front splits size = record {
+  why = inr (inr refl);
+  taken = Taken-behind (PcapFile head) unread unread1 unread1 front 0 splits (omega arith) refl (most_taken-front head unread (length front + 0) (omega arith));
+}
+
+pub data_missing : (head : Head) (unread unread1 unread2 front : List ℕ) (found : RecordHead) (fault : Fault) (size : ℕ) → size ≡ 16 + found.captured → unread ≡ front ++ unread1 → length front ≡ 16 → FieldsCame head front found
+    → 16 + found.captured ≤ most_in_unit → RestMissing 16 size unread1 unread2 fault → Refuses (PcapFile head) unread unread2 fault
+data_missing head unread unread1 unread2 front found fault size is splits few fields small missing =
+    let long : length unread ≡ length front + length unread1 = ap length splits ∙ length-append front unread1 in
+    let said : found.captured ≡ captured_len head front = ap (λ (h : RecordHead). h.captured) fields.says in
+    let captured : captured_len head unread ≡ captured_len head front = ap (captured_len head) splits ∙ captured_len-append head front unread1 (omega arith) in
+    let none : first_failing (field_checks head unread) ≡ None = ap (λ (t : List ℕ). first_failing (field_checks head t)) splits ∙ ap first_failing (field_checks-append head front unread1 (omega arith)) ∙ fields.none in
+    record {
+      why = elim missing.why [
+        | inl short ↦ inl (rw short.0 (front_of-no_record head unread Truncated (omega arith) (record_fault-short head unread (omega arith) none (omega (arith, short.1)))))
+        | inr failed ↦ inr (inl failed)
+      ];
+      taken = Taken-behind (PcapFile head) unread unread1 unread2 front missing.count splits missing.there missing.rest
+          (most_taken-record head unread (length front + missing.count) (omega (arith, missing.within)) (omega (arith, missing.within)));
+    }
+
+pub record_came : (head : Head) (unread unread1 unread2 front unit buffer : List ℕ) (found : RecordHead) (size : ℕ) → unread ≡ front ++ unread1 → length front ≡ 16 → FieldsCame head front found
+    → size ≡ 16 + found.captured → length unit ≡ size → take 16 unit ≡ front → unread1 ≡ drop 16 unit ++ unread2 → take size buffer ≡ unit
+    → RecordCame head unread buffer (record { size = size; time = found.time; orig = found.orig }) unread2
+record_came head unread unread1 unread2 front unit buffer found size splits few fields e whole same rest there =
+    let said : found.captured ≡ captured_len head front = ap (λ (h : RecordHead). h.captured) fields.says in
+    let joined : front ++ drop 16 unit ≡ unit = ap (λ (l : List ℕ). l ++ drop 16 unit) (sym same) ∙ take-append-drop 16 unit in
+    let says : record_head_in head unit ≡ found = ap (record_head_in head) (sym joined) ∙ record_head_in-append head front (drop 16 unit) (omega arith) ∙ sym fields.says in
+    record {
+      there = rw there (IsRecord-came head unit (omega arith) (rw same fields.none) (rw same (omega arith)));
+      time = rw there (ap (λ (h : RecordHead). h.time) says);
+      orig = rw there (ap (λ (h : RecordHead). h.orig) says);
+      splits = rw there (splits ∙ ap (λ (l : List ℕ). front ++ l) rest ∙ sym (append_assoc front (drop 16 unit) unread2) ∙ ap (λ (l : List ℕ). l ++ unread2) joined);
+    }
+
+pub none_if_not : {X : Type 0} (o : Option X) → is_some o ≡ false → o ≡ None
+none_if_not None e = refl
+none_if_not (Some x) e = (cc)

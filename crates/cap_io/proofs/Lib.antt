@@ -1,0 +1,6 @@
+pub mod Fronts
+pub mod Came
+pub mod Passing
+pub mod Units
+pub mod Items
+pub mod Standing

@@ -1,0 +1,170 @@
+-- Where a source stands in its text, from one call to the next.
+use Rattle.std.proofs.Common.{◌≡◌, ℕ, ◌+◌, ◌⊎◌, inl, inr, Bool, true, false, List, [], ◌∷◌, ◌++◌, length, Option, None, Some, refl, sym, ◌∙◌, ap, arith, subst, add-zero, zero-add, Result, Ok, Err}
+use Rattle.std.proofs.lemmas.List.{append_assoc, append-nil, length-append}
+use Rattle.cap_octet.specs.declared.fault.Fault.{Fault}
+use Rattle.cap_octet.specs.declared.fault.Fault.TheVariants.{ReadFailed, NoMemory}
+use Rattle.cap_io.specs.Capture.{Declared, Nothing, Placed, placed_at, AreUnits, no_unit, Items, items, items_from, after_packets, no_items, ending_by, FaultAt, End, front_of, Stops}
+use Rattle.cap_io.specs.Source.{SourceView, Phase, Reading, Ended, Failed, source_at, Passes, FindsPacket, FindsEnd, FindsFault, Advances, Finds}
+use Rattle.cap_io.specs.Standing.{pending, HasPacket, IsOver, IsAt, IsCutShort}
+use Rattle.cap_io.proofs.Items.{AreUnits-append, items_from-units, items_from-stops}
+use Rattle.cap_io.proofs.Units.{one_unit}
+
+ended_twice : Reading ≡ Ended → ⊥
+ended_twice e = (cc)
+
+failed_twice : (fault : Fault) → Reading ≡ Failed fault → ⊥
+failed_twice fault e = (cc)
+
+-- nothing is read yet
+pub IsAt-start : (text : List ℕ) (given failures : ℕ) → IsAt text [] [] false (source_at text given failures)
+IsAt-start text given failures = record {
+  whole = refl;
+  units = no_unit;
+  place = refl;
+  waits = λ e. absurd (cc);
+  ended = λ e. absurd (ended_twice e);
+  sound = λ fault e. failed_twice fault e;
+}
+
+-- the packet in hand, at its place
+pub waiting_packet : (s : SourceView) → HasPacket s → Placed
+waiting_packet s has = record { offset = s.offset; packet = has.packet }
+
+-- the packet in hand is decided
+pub IsAt-decided : (text done : List ℕ) (packets : List Placed) (s : SourceView) (at : IsAt text done packets true s)
+    → (s.offset ≡ length done) × IsAt text (done ++ s.block) (packets ++ record { offset = s.offset; packet = (at.waits refl).packet } ∷ []) false s
+IsAt-decided text done packets s at =
+    let has = at.waits refl in
+    let offset : s.offset ≡ length done = omega (arith, at.place, length-append done s.block) in
+    let unit : AreUnits s.declared (length done) s.block (placed_at (length done) (has.packet ∷ [])) s.declared = one_unit has.unit in (
+      offset,
+      record {
+        whole = at.whole ∙ sym (append_assoc done s.block s.unread);
+        units = rw offset (AreUnits-append at.units (rw zero-add unit));
+        place = at.place ∙ ap length (sym (append-nil (done ++ s.block)));
+        waits = λ e. absurd (cc);
+        ended = λ e. absurd (ended_twice (sym has.phase ∙ e));
+        sound = at.sound;
+      },
+    )
+
+-- what an advance of a source that met no fault finds
+pub Advances-sound : (text done : List ℕ) (packets : List Placed) (s s' : SourceView) (r : Result Bool Fault)
+    → IsAt text done packets false s → Advances s.phase s r s' → Finds s r s'
+Advances-sound text done packets s s' r at advances = by_phase s.phase refl advances
+  where
+    stays : s.phase ≡ Ended → (r ≡ Ok false) × (s' ≡ s) → Finds s r s'
+    stays e same =
+        let over = at.ended e in
+        rw (same.0, same.1) (record {
+          passes = record { passed = []; splits = over.unread; units = no_unit; offset = rw over.block (simp (add-zero)) };
+          ends = over.ends;
+          unread = over.unread;
+          block = over.block;
+          packet = over.packet;
+          phase = e;
+        })
+
+    by_phase : (phase : Phase) → s.phase ≡ phase → Advances phase s r s' → Finds s r s'
+    by_phase Reading e advances = advances
+    by_phase Ended e advances = stays e advances
+    by_phase (Failed fault) e advances = absurd (at.sound fault e)
+
+-- the bytes that a source passed are done
+passed-units : (text done : List ℕ) (packets : List Placed) (s s' : SourceView) (rest : List ℕ) → IsAt text done packets false s → (passes : Passes s s' rest)
+    → AreUnits Nothing 0 (done ++ passes.passed) packets s'.declared
+passed-units text done packets s s' rest at passes =
+    let place : s.offset + length s.block ≡ length done = at.place ∙ ap length (append-nil done) in
+    let units : AreUnits Nothing 0 (done ++ passes.passed) (packets ++ []) s'.declared =
+    AreUnits-append at.units (rw (zero-add, ← place) passes.units) in
+    rw (append-nil packets) at units
+
+passed-place : (text done : List ℕ) (packets : List Placed) (s s' : SourceView) (rest : List ℕ) → IsAt text done packets false s → (passes : Passes s s' rest)
+    → s'.offset ≡ length (done ++ passes.passed)
+passed-place text done packets s s' rest at passes =
+    let place : s.offset + length s.block ≡ length done = at.place ∙ ap length (append-nil done) in
+    passes.offset ∙ ap (λ n. n + length passes.passed) place ∙ sym (length-append done passes.passed)
+
+passed-whole : (text done : List ℕ) (packets : List Placed) (s s' : SourceView) (rest : List ℕ) → IsAt text done packets false s → (passes : Passes s s' rest)
+    → text ≡ (done ++ passes.passed) ++ rest
+passed-whole text done packets s s' rest at passes =
+    at.whole ∙ ap (λ (x : List ℕ). done ++ x) passes.splits ∙ sym (append_assoc done passes.passed rest)
+
+-- the next packet is in hand
+pub IsAt-found : (text done : List ℕ) (packets : List Placed) (s s' : SourceView) → IsAt text done packets false s → (finds : FindsPacket s s')
+    → IsAt text (done ++ finds.passes.passed) packets true s'
+IsAt-found text done packets s s' at finds = record {
+  whole = passed-whole text done packets s s' (s'.block ++ s'.unread) at finds.passes;
+  units = passed-units text done packets s s' (s'.block ++ s'.unread) at finds.passes;
+  place =
+      ap (λ n. n + length s'.block) (passed-place text done packets s s' (s'.block ++ s'.unread) at finds.passes)
+      ∙ sym (length-append (done ++ finds.passes.passed) s'.block);
+  waits = λ e. record { packet = finds.packet; held = finds.held; unit = finds.unit; phase = finds.phase };
+  ended = λ e. absurd (ended_twice (sym finds.phase ∙ e));
+  sound = λ fault e. failed_twice fault (sym finds.phase ∙ e);
+}
+
+-- the clean end is met: all bytes are done
+pub IsAt-closed : (text done : List ℕ) (packets : List Placed) (s s' : SourceView) → IsAt text done packets false s → (finds : FindsEnd s s')
+    → IsAt text (done ++ finds.passes.passed) packets false s'
+IsAt-closed text done packets s s' at finds = record {
+  whole = passed-whole text done packets s s' [] at finds.passes ∙ ap (λ (x : List ℕ). (done ++ finds.passes.passed) ++ x) (sym finds.unread);
+  units = passed-units text done packets s s' [] at finds.passes;
+  place =
+      rw finds.block (add-zero s'.offset ∙ passed-place text done packets s s' [] at finds.passes ∙ ap length (sym (append-nil (done ++ finds.passes.passed))));
+  waits = λ e. absurd (cc);
+  ended = λ e. record { ends = finds.ends; unread = finds.unread; block = finds.block; packet = finds.packet };
+  sound = λ fault e. absurd (let q : Ended ≡ Failed fault = sym finds.phase ∙ e in cc);
+}
+
+-- ---- what the items of the whole text are
+
+-- where no unit follows whole ones
+pub items-stops : (done rest : List ℕ) (packets : List Placed) (declared : Declared) (why : Option Fault) → AreUnits Nothing 0 done packets declared
+    → front_of declared rest ≡ Stops why → items (done ++ rest) ≡ record { packets = packets; declared = declared; ending = ending_by why (length done) }
+items-stops done rest packets declared why units stops =
+    items_from-units units rest
+    ∙ ap (after_packets packets) (items_from-stops declared (0 + length done) rest why stops)
+    ∙ rw (append-nil packets, zero-add) refl
+
+-- whole units, and then more
+pub items-begin : (done rest : List ℕ) (packets : List Placed) (declared : Declared) → AreUnits Nothing 0 done packets declared
+    → items (done ++ rest) ≡ after_packets packets (items_from declared (length done) rest)
+items-begin done rest packets declared units = items_from-units units rest ∙ rw zero-add refl
+
+pub IsAt-end : (text done : List ℕ) (packets : List Placed) (s s' : SourceView) → IsAt text done packets false s → FindsEnd s s'
+    → items text ≡ record { packets = packets; declared = s'.declared; ending = End }
+IsAt-end text done packets s s' at finds =
+    rw (passed-whole text done packets s s' [] at finds.passes)
+    (items-stops (done ++ finds.passes.passed) [] packets s'.declared None (passed-units text done packets s s' [] at finds.passes) finds.ends)
+
+-- the first packets of the whole text are those that are done, and the one that waits
+pub IsAt-items : (text done : List ℕ) (packets : List Placed) (s : SourceView) (at : IsAt text done packets true s)
+    → items text ≡ after_packets (packets ++ record { offset = s.offset; packet = (at.waits refl).packet } ∷ []) (items_from s.declared (length (done ++ s.block)) s.unread)
+IsAt-items text done packets s at =
+    let decided = IsAt-decided text done packets s at in
+    rw decided.1.whole (items-begin (done ++ s.block) s.unread (packets ++ record { offset = s.offset; packet = (at.waits refl).packet } ∷ []) s.declared decided.1.units)
+
+-- why there was no unit: the text has a fault there; or it is cut short by a failed read or want of memory
+pub record FaultyText (text : List ℕ) (packets : List Placed) (s' : SourceView) (fault : Fault) : Type 0 where
+  pub items : items text ≡ record { packets = packets; declared = s'.declared; ending = FaultAt fault s'.offset }
+
+pub record CutText (text : List ℕ) (packets : List Placed) (s' : SourceView) (fault : Fault) : Type 0 where
+  pub why : (fault ≡ ReadFailed) ⊎ (fault ≡ NoMemory)
+  pub cut : IsCutShort text fault (record { packets = packets; declared = s'.declared; ending = FaultAt fault s'.offset })
+
+pub IsAt-fault : (text done : List ℕ) (packets : List Placed) (s s' : SourceView) (fault : Fault) → IsAt text done packets false s → FindsFault s s' fault
+    → FaultyText text packets s' fault ⊎ CutText text packets s' fault
+IsAt-fault text done packets s s' fault at finds =
+    let passes = finds.broken.passes in
+    let rest = finds.broken.rest in
+    let units = passed-units text done packets s s' rest at passes in
+    let whole = passed-whole text done packets s s' rest at passes in
+    let offset = passed-place text done packets s s' rest at passes in
+    elim finds.broken.why [
+      | inl stops ↦ inl (record { items = rw (offset, whole) (items-stops (done ++ passes.passed) rest packets s'.declared (Some fault) units stops) })
+      | inr other ↦ inr (record {
+        why = other;
+        cut = record { done = done ++ passes.passed; rest = rest; joined = whole; units = units; ending = ap (FaultAt fault) offset };
+      })
+    ]

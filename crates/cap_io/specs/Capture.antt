@@ -1,0 +1,124 @@
+-- A capture file: the units that it is made of, how a text is cut into them, and the packets that they hold.
+use Rattle.std.specs.Prelude.{◌≡◌, ℕ, zero, suc, ◌+◌, List, [], ◌∷◌, ◌++◌, length, take, drop, Option, None, Some}
+use Rattle.cap_octet.specs.Packet.{Captured}
+use Rattle.cap_octet.specs.declared.fault.Fault.{Fault}
+use Rattle.cap_pcap.specs.Header.{IsHeader, head_fault, head_in}
+use Rattle.cap_pcap.specs.Record.{IsRecord, record_fault, record_size, packet_in}
+use Rattle.cap_pcap.specs.declared.head.Head.{Head}
+use Rattle.cap_pcap.specs.declared.head.Resolution.{Resolution}
+use Rattle.cap_pcap.specs.declared.head.Resolution.TheVariants.{Microseconds, Nanoseconds}
+use Rattle.cap_io.specs.declared.source.Kind.{Kind}
+use Rattle.cap_io.specs.declared.source.Kind.TheVariants.{Pcap, NsecPcap}
+
+-- ---- units
+
+-- what the units so far declare of those behind them
+pub data Declared : Type 0 where
+  Nothing : Declared
+  PcapFile : (head : Head) → Declared
+
+-- These bytes are one unit and hold these packets, given what was declared before it and what is after it.
+pub data IsUnit : Declared → List ℕ → List Captured → Declared → Type 0 where
+  a_pcap_header : (bytes : List ℕ) (head : Head) → IsHeader bytes head → IsUnit Nothing bytes [] (PcapFile head)
+  a_pcap_record : (head : Head) (bytes : List ℕ) → IsRecord head bytes → IsUnit (PcapFile head) bytes (packet_in head bytes ∷ []) (PcapFile head)
+
+-- a packet, and the offset of its unit
+pub record Placed : Type 0 where
+  pub offset : ℕ
+  pub packet : Captured
+
+abbrev pub placed_at : ℕ → List Captured → List Placed
+placed_at offset [] = []
+placed_at offset (p ∷ ps) = record { offset = offset; packet = p } ∷ placed_at offset ps
+
+-- These bytes, the first of them at this offset, are whole units, one after another, and hold these packets.
+pub data AreUnits : Declared → ℕ → List ℕ → List Placed → Declared → Type 0 where
+  no_unit : {d : Declared} {at : ℕ} → AreUnits d at [] [] d
+  unit_then : {b c d : Declared} {at : ℕ} {u more : List ℕ} {qs : List Captured} {ps : List Placed}
+      → IsUnit b u qs c → AreUnits c (at + length u) more ps d → AreUnits b at (u ++ more) (placed_at at qs ++ ps) d
+
+-- A text is these units and then a rest that begins with no further one.
+pub record IsCut (text done rest : List ℕ) (packets : List Placed) (declared : Declared) : Type 0 where
+  pub joined : text ≡ done ++ rest
+  pub units : AreUnits Nothing 0 done packets declared
+  pub last : (u more : List ℕ) (qs : List Captured) (d : Declared) → IsUnit declared u qs d → rest ≡ u ++ more → ⊥
+
+-- ---- what a text begins with
+
+-- a unit of so many bytes, its packets, and what is declared after it; or no unit, by the end or by a fault
+pub data Front : Type 0 where
+  Whole : (size : ℕ) → (packets : List Captured) → (declared : Declared) → Front
+  Stops : (why : Option Fault) → Front
+
+abbrev pub front_of_header : Option Fault → List ℕ → Front
+front_of_header None text = Whole 24 [] (PcapFile (head_in text))
+front_of_header (Some fault) text = Stops (Some fault)
+
+abbrev pub front_of_record : Option Fault → Head → List ℕ → Front
+front_of_record None head text =
+    Whole (record_size head text) (packet_in head (take (record_size head text) text) ∷ []) (PcapFile head)
+front_of_record (Some fault) head text = Stops (Some fault)
+
+-- An empty rest is an end only behind a unit.
+abbrev pub front_of : Declared → List ℕ → Front
+front_of Nothing text = front_of_header (head_fault text) text
+front_of (PcapFile head) [] = Stops None
+front_of (PcapFile head) (b ∷ bytes) = front_of_record (record_fault head (b ∷ bytes)) head (b ∷ bytes)
+
+-- ---- items
+
+-- the clean end, or the fault of the first check that fails and the offset of the unit in whose place it stands
+pub data Ending : Type 0 where
+  End : Ending
+  FaultAt : (fault : Fault) → (offset : ℕ) → Ending
+
+-- what a text holds: packets, what its units declare, and how it ends
+pub record Items : Type 0 where
+  pub packets : List Placed
+  pub declared : Declared
+  pub ending : Ending
+
+abbrev pub ending_by : Option Fault → ℕ → Ending
+ending_by None offset = End
+ending_by (Some fault) offset = FaultAt fault offset
+
+abbrev pub no_items : Declared → Option Fault → ℕ → Items
+no_items declared why offset = record { packets = []; declared = declared; ending = ending_by why offset }
+
+abbrev pub after_packets : List Placed → Items → Items
+after_packets ps items = record { packets = ps ++ items.packets; declared = items.declared; ending = items.ending }
+
+-- the items of a text with this in front, given those behind a unit
+abbrev pub items_with : Front → Declared → ℕ → (ℕ → Declared → Items) → Items
+items_with (Stops why) declared offset behind = no_items declared why offset
+items_with (Whole size packets after) declared offset behind = after_packets (placed_at offset packets) (behind size after)
+
+-- from a place on, with at most so many units
+unfoldable pub items_within : ℕ → Declared → ℕ → List ℕ → Items
+items_within zero declared offset text = no_items declared None offset
+items_within (suc most) declared offset text =
+    items_with (front_of declared text) declared offset
+    (λ size after. items_within most after (offset + size) (drop size text))
+
+-- from a place on; each unit has a byte at least
+unfoldable pub items_from : Declared → ℕ → List ℕ → Items
+items_from declared offset text = items_within (length text + 1) declared offset text
+
+-- what a whole text holds
+abbrev pub items : List ℕ → Items
+items text = items_from Nothing 0 text
+
+-- ---- what is declared
+
+abbrev pub kind_by : Resolution → Kind
+kind_by Microseconds = Pcap
+kind_by Nanoseconds = NsecPcap
+
+abbrev pub kind_of : Declared → Option Kind
+kind_of Nothing = None
+kind_of (PcapFile head) = Some (kind_by head.resolution)
+
+-- the first link type
+abbrev pub first_link_of : Declared → Option ℕ
+first_link_of Nothing = None
+first_link_of (PcapFile head) = Some head.link

@@ -1,0 +1,6 @@
+pub mod Capture
+pub mod Reading
+pub mod Source
+pub mod Text
+pub mod Sink
+pub mod Standing

@@ -1,0 +1,210 @@
+-- What a contract sees of a source, and what its calls do.
+use Rattle.std.specs.Prelude.{◌≡◌, ℕ, ◌+◌, ◌^◌, ◌<◌, ◌≤◌, Bool, true, false, List, [], ◌∷◌, ◌++◌, length, take, drop, Option, None, Some, Result, Ok, Err}
+use Rattle.cap_octet.specs.Packet.{Captured}
+use Rattle.cap_octet.specs.declared.fault.Fault.{Fault}
+use Rattle.cap_pcap.specs.declared.head.Head.{Head}
+use Rattle.cap_io.specs.declared.source.Held.{Held}
+use Rattle.cap_io.specs.declared.source.Savefile.{Savefile}
+use Rattle.cap_io.specs.declared.source.Savefile.TheVariants as savefile
+use Rattle.cap_io.specs.declared.source.Stage.{Stage}
+use Rattle.cap_io.specs.declared.source.Stage.TheVariants as stage
+use Rattle.cap_io.specs.Capture.{Declared, Nothing, PcapFile, IsUnit, AreUnits, Front, Stops, front_of}
+use Rattle.cap_io.specs.Reading.{most_in_unit, failures_told, IsReason, IsTaken, IsHeld}
+
+-- ---- the view
+
+-- how far a source is: it goes on, or it met the clean end or a fault
+pub data Phase : Type 0 where
+  Reading : Phase
+  Ended : Phase
+  Failed : (fault : Fault) → Phase
+
+pub record SourceView : Type 0 where
+  pub phase : Phase
+  -- what the units that were read declare
+  pub declared : Declared
+  -- the packet in hand, and the bytes of its unit, none where no packet is in hand
+  pub packet : Option Captured
+  pub block : List ℕ
+  -- where the unit in hand begins, else where the next one does
+  pub offset : ℕ
+  -- the bytes that the device has left, and counts of the bytes that it gave and of its failures
+  pub unread : List ℕ
+  pub given : ℕ
+  pub failures : ℕ
+
+-- a source of which nothing is read yet
+abbrev pub source_at : List ℕ → ℕ → ℕ → SourceView
+source_at unread given failures = record {
+  phase = Reading;
+  declared = Nothing;
+  packet = None;
+  block = [];
+  offset = 0;
+  unread = unread;
+  given = given;
+  failures = failures;
+}
+
+-- ---- the view of the fields
+
+abbrev pub phase_at : Stage → Phase
+phase_at stage.Between = Reading
+phase_at (stage.InHand held) = Reading
+phase_at stage.Ended = Ended
+phase_at (stage.Failed fault) = Failed fault
+
+abbrev pub declared_by : Savefile → Declared
+declared_by savefile.Unknown = Nothing
+declared_by (savefile.Pcap head) = PcapFile head
+
+abbrev pub block_at : Stage → List ℕ → List ℕ
+block_at stage.Between buffer = []
+block_at (stage.InHand held) buffer = take held.size buffer
+block_at stage.Ended buffer = []
+block_at (stage.Failed fault) buffer = []
+
+abbrev pub packet_held : Declared → Held → List ℕ → Option Captured
+packet_held Nothing held block = None
+packet_held (PcapFile head) held block = Some (record {
+  link = head.link;
+  snap = head.snap;
+  name = [];
+  time = held.time;
+  orig = held.orig;
+  bytes = drop 16 block;
+})
+
+abbrev pub packet_at : Stage → Declared → List ℕ → Option Captured
+packet_at stage.Between declared buffer = None
+packet_at (stage.InHand held) declared buffer = packet_held declared held (take held.size buffer)
+packet_at stage.Ended declared buffer = None
+packet_at (stage.Failed fault) declared buffer = None
+
+abbrev pub view_of : Stage → Savefile → List ℕ → ℕ → List ℕ → ℕ → ℕ → SourceView
+view_of stage savefile buffer offset unread given failures = record {
+  phase = phase_at stage;
+  declared = declared_by savefile;
+  packet = packet_at stage (declared_by savefile) buffer;
+  block = block_at stage buffer;
+  offset = offset;
+  unread = unread;
+  given = given;
+  failures = failures;
+}
+
+abbrev pub HoldsIfAny : Stage → List ℕ → Type 0
+HoldsIfAny stage.Between buffer = Unit {0}
+HoldsIfAny (stage.InHand held) buffer = IsHeld held buffer
+HoldsIfAny stage.Ended buffer = Unit {0}
+HoldsIfAny (stage.Failed fault) buffer = Unit {0}
+
+-- what holds of each source's fields
+pub record IsSound (stage : Stage) (offset : ℕ) (buffer : List ℕ) (given : ℕ) : Type 0 where
+  pub fits : offset + length (block_at stage buffer) < 2 ^ 63
+  pub counted : offset + length (block_at stage buffer) ≤ given
+  pub held : HoldsIfAny stage buffer
+
+-- ---- what an advance does
+
+-- The source leaves the unit in hand and goes over these bytes, which are whole units without packets, to `rest`.
+pub record Passes (old new : SourceView) (rest : List ℕ) : Type 0 where
+  pub passed : List ℕ
+  pub splits : old.unread ≡ passed ++ rest
+  pub units : AreUnits old.declared (old.offset + length old.block) passed [] new.declared
+  pub offset : new.offset ≡ old.offset + length old.block + length passed
+
+-- the next packet is in hand
+pub record FindsPacket (old new : SourceView) : Type 0 where
+  pub passes : Passes old new (new.block ++ new.unread)
+  pub packet : Captured
+  pub held : new.packet ≡ Some packet
+  pub unit : IsUnit new.declared new.block (packet ∷ []) new.declared
+  pub phase : new.phase ≡ Reading
+
+-- there is no further packet
+pub record FindsEnd (old new : SourceView) : Type 0 where
+  pub passes : Passes old new []
+  pub ends : front_of new.declared [] ≡ Stops None
+  pub unread : new.unread ≡ []
+  pub block : new.block ≡ []
+  pub packet : new.packet ≡ None
+  pub phase : new.phase ≡ Ended
+
+-- no unit follows
+pub record IsBroken (old new : SourceView) (fault : Fault) : Type 0 where
+  pub rest : List ℕ
+  pub passes : Passes old new rest
+  pub why : IsReason new.declared rest fault
+  pub taken : IsTaken new.declared rest new.unread
+  pub block : new.block ≡ []
+  pub packet : new.packet ≡ None
+
+pub record FindsFault (old new : SourceView) (fault : Fault) : Type 0 where
+  pub broken : IsBroken old new fault
+  pub phase : new.phase ≡ Failed fault
+
+abbrev pub Finds : SourceView → Result Bool Fault → SourceView → Type 0
+Finds old (Ok true) new = FindsPacket old new
+Finds old (Ok false) new = FindsEnd old new
+Finds old (Err fault) new = FindsFault old new fault
+
+abbrev pub Continues : SourceView → Result Bool Fault → SourceView → Type 0
+Continues old (Ok true) new = FindsPacket old new
+Continues old (Ok false) new = FindsEnd old new
+Continues old (Err fault) new = IsBroken old new fault
+
+-- a source at its end or after a fault answers that again, and stays
+abbrev pub Advances : Phase → SourceView → Result Bool Fault → SourceView → Type 0
+Advances Reading old r new = Finds old r new
+Advances Ended old r new = (r ≡ Ok false) × (new ≡ old)
+Advances (Failed fault) old r new = (r ≡ Err fault) × (new ≡ old)
+
+-- what holds of any device
+pub record KeepsBounds (old : SourceView) (r : Result Bool Fault) (new : SourceView) : Type 0 where
+  pub given : old.given ≤ new.given
+  -- a failed read is told exactly where the device failed in this call
+  pub failures : new.failures ≡ old.failures + failures_told r
+  -- at most one unit is held
+  pub block : length new.block ≤ most_in_unit
+  pub progress : r ≡ Ok true → old.given < new.given
+  pub bounded : r ≡ Ok true → new.given < 2 ^ 63
+
+abbrev pub Steps : Phase → SourceView → Result Bool Fault → SourceView → Type 0
+Steps Reading old r new = KeepsBounds old r new
+Steps Ended old r new = (r ≡ Ok false) × (new ≡ old)
+Steps (Failed fault) old r new = (r ≡ Err fault) × (new ≡ old)
+
+-- ---- the parts of an advance
+
+-- the unit in hand is left
+abbrev pub left : SourceView → SourceView
+left s = record {
+  phase = s.phase;
+  declared = s.declared;
+  packet = None;
+  block = [];
+  offset = s.offset + length s.block;
+  unread = s.unread;
+  given = s.given;
+  failures = s.failures;
+}
+
+-- the file header was read, here or before
+pub record Opens (old : SourceView) (head : Head) (new : SourceView) : Type 0 where
+  pub passes : Passes old new new.unread
+  pub declared : new.declared ≡ PcapFile head
+
+-- there is no file header
+pub record OpenBreaks (old : SourceView) (fault : Fault) (new : SourceView) : Type 0 where
+  pub why : IsReason old.declared old.unread fault
+  pub taken : IsTaken old.declared old.unread new.unread
+  pub declared : new.declared ≡ old.declared
+  pub offset : new.offset ≡ old.offset
+
+pub record OpenBounds (old : SourceView) (r : Result Head Fault) (new : SourceView) : Type 0 where
+  pub given : old.given ≤ new.given
+  pub failures : new.failures ≡ old.failures + failures_told r
+  pub phase : new.phase ≡ Reading
+  pub block : new.block ≡ []
+  pub packet : new.packet ≡ None

@@ -1,0 +1,221 @@
+//! Packets of a capture, one at a time.
+use crate::reading::{read_header, read_unit};
+use cap_octet::{Fault, Input, Packet};
+use cap_pcap::{Head, Resolution};
+use std::alloc::Allocator;
+use std::marker::Model;
+
+/// What a capture is, by its first bytes.
+#[derive(Clone, Copy, Debug, PartialEq, Eq)]
+pub enum Kind {
+    /// A pcap savefile with microseconds.
+    Pcap,
+    /// A pcap savefile with nanoseconds.
+    NsecPcap,
+}
+
+/// What the units that were read declare of those behind them.
+#[derive(Clone, Copy, Debug, PartialEq, Eq)]
+pub(crate) enum Savefile {
+    /// Nothing was read.
+    Unknown,
+    Pcap(Head),
+}
+
+/// The packet in hand: the size of its unit, in bytes, and what its head says.
+#[derive(Clone, Copy, Debug, PartialEq, Eq)]
+pub(crate) struct Held {
+    pub(crate) size: usize,
+    pub(crate) time: u64,
+    pub(crate) orig: u32,
+}
+
+/// How far a source is.
+#[derive(Clone, Copy, Debug, PartialEq, Eq)]
+pub(crate) enum Stage {
+    /// The next unit was not read yet.
+    Between,
+    InHand(Held),
+    /// The clean end was met.
+    Ended,
+    Failed(Fault),
+}
+
+/// Reads the packets of a capture from a device, through one block of memory.
+#[derive(Drop)]
+pub struct Source<I: Input, A: Allocator> {
+    input: I,
+    buffer: Vec<u8, A>,
+    savefile: Savefile,
+    stage: Stage,
+    offset: u64,
+}
+
+impl<I: Input, A: Allocator> Model for Source<I, A> {
+    ghost use Rattle.cap_io.specs.Source.{SourceView, view_of, IsSound};
+
+    ghost Value = { SourceView };
+
+    ghost view = { λ s. view_of s.stage s.savefile s.buffer.items s.offset (I.unread s.input) (I.given s.input) (I.failures s.input) };
+
+    ghost invariant = { λ s. IsSound s.stage s.offset s.buffer.items (I.given s.input) };
+}
+
+impl<I: Input, A: Allocator> Source<I, A> {
+    ghost use Rattle.std.specs.Prelude.{◌≡◌, ◌+◌, ◌≤◌, IsTrue, OnOk, IfOk, IfErr, []};
+    ghost use Rattle.std.specs.Option.{option_map};
+    ghost use Rattle.cap_octet.specs.Packet.{captured};
+    ghost use Rattle.cap_io.specs.Capture.{kind_of, first_link_of};
+    ghost use Rattle.cap_io.specs.Reading.{failures_told};
+    ghost use Rattle.cap_io.specs.Source.{Reading, Advances, Continues, KeepsBounds, Opens, OpenBreaks, OpenBounds, Steps, left, source_at};
+
+    /// A source of which nothing is read yet. It takes no memory.
+    pub fn new(alloc: A, input: I) -> Self
+        ensures { result ≡ source_at (I.unread input) (I.given input) (I.failures input) }
+    {
+        Source {
+            input,
+            buffer: Vec::new(alloc),
+            savefile: Savefile::Unknown,
+            stage: Stage::Between,
+            offset: 0,
+        }
+    }
+
+    /// Reads on to the next packet, which `head` lends; `false` at the clean end, then and ever after. A fault is that
+    /// of the first check which the unit at `offset` fails; `ReadFailed` where the device failed in this call;
+    /// `NoMemory` where the block could not grow. After a fault it answers that again, and reads nothing.
+    pub fn advance(&mut self) -> Result<bool, Fault>
+        ensures told { IsTrue I.tells → Advances self.old.phase self.old result self.new }
+        ensures bounds { Steps self.old.phase self.old result self.new }
+    {
+        match self.stage {
+            Stage::Ended => Ok(false),
+            Stage::Failed(fault) => Err(fault),
+            Stage::Between | Stage::InHand(_) => {
+                let answer = self.go_on();
+                if let Err(fault) = answer {
+                    self.stage = Stage::Failed(fault);
+                }
+                answer
+            }
+        }
+    }
+
+    /// The packet in hand, lent from the block.
+    pub fn head(&self) -> Option<Packet<'_>>
+        ensures { option_map captured result ≡ self.now.packet }
+    {
+        match (self.savefile, self.stage) {
+            (Savefile::Pcap(head), Stage::InHand(held)) => Some(Packet {
+                link: head.link,
+                snap: head.snap,
+                name: &[],
+                time: held.time,
+                orig: held.orig,
+                bytes: &self.buffer[16..held.size],
+            }),
+            _ => None,
+        }
+    }
+
+    /// Where the unit in hand begins, in bytes from the start of the file; after a fault, where the unit that has it
+    /// begins; at a clean end, the number of bytes.
+    pub fn offset(&self) -> u64
+        ensures { result ≡ self.now.offset }
+    {
+        self.offset
+    }
+
+    /// What the capture is, once its first unit was read.
+    pub fn kind(&self) -> Option<Kind>
+        ensures { result ≡ kind_of self.now.declared }
+    {
+        match self.savefile {
+            Savefile::Unknown => None,
+            Savefile::Pcap(head) => Some(match head.resolution {
+                Resolution::Microseconds => Kind::Pcap,
+                Resolution::Nanoseconds => Kind::NsecPcap,
+            }),
+        }
+    }
+
+    /// The first link type that the units read so far declare.
+    pub fn first_link(&self) -> Option<u16>
+        ensures { result ≡ first_link_of self.now.declared }
+    {
+        match self.savefile {
+            Savefile::Unknown => None,
+            Savefile::Pcap(head) => Some(head.link),
+        }
+    }
+
+    /// The device, as it stands. It takes no memory.
+    pub fn into_input(self) -> I
+    where
+        A: Drop,
+        ensures failures { I.failures result ≡ self.failures }
+        ensures given { I.given result ≡ self.given }
+        ensures unread { I.unread result ≡ self.unread }
+    {
+        let Source {
+            input,
+            buffer: _,
+            savefile: _,
+            stage: _,
+            offset: _,
+        } = self;
+        input
+    }
+
+    /// Leaves the unit in hand and reads the next one with a packet.
+    fn go_on(&mut self) -> Result<bool, Fault>
+        requires { self.old.phase ≡ Reading }
+        ensures told { IsTrue I.tells → Continues self.old result self.new }
+        ensures bounds { KeepsBounds self.old result self.new }
+        ensures err { IfErr result (λ _. self.new.block ≡ []) }
+    {
+        self.leave();
+        let head = self.open()?;
+        match read_unit(&mut self.input, &head, &mut self.buffer)? {
+            Some(held) => {
+                self.stage = Stage::InHand(held);
+                Ok(true)
+            }
+            None => {
+                self.stage = Stage::Ended;
+                Ok(false)
+            }
+        }
+    }
+
+    /// Leaves the unit in hand, if there is one.
+    fn leave(&mut self)
+        requires { self.old.phase ≡ Reading }
+        ensures { self.new ≡ left self.old }
+    {
+        if let Stage::InHand(held) = self.stage {
+            self.offset += held.size as u64;
+        }
+        self.stage = Stage::Between;
+    }
+
+    /// What the file header says, which is read here where it was not read yet.
+    fn open(&mut self) -> Result<Head, Fault>
+        requires phase { self.old.phase ≡ Reading }
+        requires block { self.old.block ≡ [] }
+        ensures ok { IfOk result (λ head. IsTrue I.tells → Opens self.old head self.new) }
+        ensures err { IfErr result (λ fault. IsTrue I.tells → OpenBreaks self.old fault self.new) }
+        ensures bounds { OpenBounds self.old result self.new }
+    {
+        match self.savefile {
+            Savefile::Pcap(head) => Ok(head),
+            Savefile::Unknown => {
+                let head = read_header(&mut self.input)?;
+                self.savefile = Savefile::Pcap(head);
+                self.offset += 24;
+                Ok(head)
+            }
+        }
+    }
+}

@@ -1,0 +1,55 @@
+-- The file header of a pcap savefile: its checks, in order, and what it says (draft-ietf-opsawg-pcap, "File Header").
+use Rattle.std.specs.Prelude.{◌≡◌, ℕ, ◌==◌, ◌&&◌, if◌then◌else◌, Bool, List, [], ◌∷◌, length, nat_lt, nat_le, Option, Some, None, is_some, unwrap_or}
+use Rattle.cap_octet.specs.Checks.{first_failing}
+use Rattle.cap_octet.specs.Number.{u16_in, u32_in}
+use Rattle.cap_octet.specs.declared.fault.Fault.{Fault}
+use Rattle.cap_octet.specs.declared.fault.Fault.TheVariants.{NotACaptureFile, Truncated, BadVersion, BadLinkTypeField}
+use Rattle.cap_octet.specs.declared.number.Order.{Order}
+use Rattle.cap_octet.specs.declared.number.Order.TheVariants.{Little, Big}
+use Rattle.cap_pcap.specs.declared.head.Head.{Head}
+use Rattle.cap_pcap.specs.declared.head.Resolution.{Resolution}
+use Rattle.cap_pcap.specs.declared.head.Resolution.TheVariants.{Microseconds, Nanoseconds}
+
+-- the number that the first four bytes are
+abbrev pub magic : Resolution → ℕ
+magic Microseconds = 0xa1b2c3d4
+magic Nanoseconds = 0xa1b23c4d
+
+-- the byte order in which the first four bytes read as a magic number, and the resolution which that one tells
+abbrev pub form_in : List ℕ → Option (Order × Resolution)
+form_in text =
+    if u32_in Little text 0 == magic Microseconds then Some (Little, Microseconds)
+    else (if u32_in Little text 0 == magic Nanoseconds then Some (Little, Nanoseconds)
+    else (if u32_in Big text 0 == magic Microseconds then Some (Big, Microseconds)
+    else (if u32_in Big text 0 == magic Nanoseconds then Some (Big, Nanoseconds)
+    else None)))
+
+-- the same where there is one; the first check fails where there is none
+abbrev pub form_of : List ℕ → Order × Resolution
+form_of text = unwrap_or (form_in text) (Little, Microseconds)
+
+-- the checks of a file header, in order, on a text that begins with it
+abbrev pub head_checks : List ℕ → List (Bool × Fault)
+head_checks text =
+    let order = (form_of text).0 in
+    (nat_le 4 (length text) && is_some (form_in text), NotACaptureFile)
+    ∷ (nat_le 24 (length text), Truncated)
+    ∷ (u16_in order text 4 == 2 && u16_in order text 6 == 4, BadVersion)
+    ∷ (nat_lt (u32_in order text 20) 65536, BadLinkTypeField)
+    ∷ []
+
+-- why a text doesn't begin with a file header
+abbrev pub head_fault : List ℕ → Option Fault
+head_fault text = first_failing (head_checks text)
+
+-- what a file header says
+abbrev pub head_in : List ℕ → Head
+head_in text =
+    let form = form_of text in
+    record { order = form.0; resolution = form.1; snap = u32_in form.0 text 16; link = u32_in form.0 text 20 }
+
+-- These bytes are a file header, which passes every check and says this.
+pub record IsHeader (bytes : List ℕ) (head : Head) : Type 0 where
+  pub passes : head_fault bytes ≡ None
+  pub whole : length bytes ≡ 24
+  pub says : head ≡ head_in bytes

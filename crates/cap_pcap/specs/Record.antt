@@ -1,0 +1,83 @@
+-- A record of a pcap savefile: its checks, in order, and its packet (draft-ietf-opsawg-pcap, "Packet Record").
+use Rattle.std.specs.Prelude.{◌≡◌, ℕ, ◌+◌, ◌*◌, Bool, List, [], ◌∷◌, ◌++◌, length, drop, take, nat_lt, nat_le, Option, None}
+use Rattle.cap_octet.specs.Checks.{first_failing}
+use Rattle.cap_octet.specs.Number.{u32_in}
+use Rattle.cap_octet.specs.Packet.{Captured}
+use Rattle.cap_octet.specs.declared.fault.Fault.{Fault}
+use Rattle.cap_octet.specs.declared.fault.Fault.TheVariants.{Truncated, TooLong, TimeOutOfRange}
+use Rattle.cap_pcap.specs.declared.head.Head.{Head}
+use Rattle.cap_pcap.specs.declared.head.RecordHead.{RecordHead}
+use Rattle.cap_pcap.specs.declared.head.Resolution.{Resolution}
+use Rattle.cap_pcap.specs.declared.head.Resolution.TheVariants.{Microseconds, Nanoseconds}
+
+-- how many captured bytes a record may have
+abbrev pub most_captured : ℕ
+most_captured = 262144
+
+-- how many parts of a second make a whole one, and how many nanoseconds one part is
+abbrev pub parts_of_second : Resolution → ℕ
+parts_of_second Microseconds = 1000000
+parts_of_second Nanoseconds = 1000000000
+
+abbrev pub nanoseconds_of_part : Resolution → ℕ
+nanoseconds_of_part Microseconds = 1000
+nanoseconds_of_part Nanoseconds = 1
+
+abbrev pub captured_len : Head → List ℕ → ℕ
+captured_len head text = u32_in head.order text 8
+
+-- how many bytes the record is that a text begins with
+abbrev pub record_size : Head → List ℕ → ℕ
+record_size head text = 16 + captured_len head text
+
+-- the checks of the fields in front of a record's data
+abbrev pub field_checks : Head → List ℕ → List (Bool × Fault)
+field_checks head text =
+    (nat_le (captured_len head text) most_captured, TooLong)
+    ∷ (nat_lt (u32_in head.order text 4) (parts_of_second head.resolution), TimeOutOfRange)
+    ∷ []
+
+-- the checks of a record, in order, on a text that begins with it
+abbrev pub record_checks : Head → List ℕ → List (Bool × Fault)
+record_checks head text =
+    (nat_le 16 (length text), Truncated)
+    ∷ field_checks head text
+    ++ (nat_le (record_size head text) (length text), Truncated)
+    ∷ []
+
+-- why a text doesn't begin with a record
+abbrev pub record_fault : Head → List ℕ → Option Fault
+record_fault head text = first_failing (record_checks head text)
+
+-- nanoseconds since 1970
+abbrev pub time_in : Head → List ℕ → ℕ
+time_in head text =
+    u32_in head.order text 0 * 1000000000 + u32_in head.order text 4 * nanoseconds_of_part head.resolution
+
+-- the original length
+abbrev pub orig_in : Head → List ℕ → ℕ
+orig_in head text = u32_in head.order text 12
+
+-- what the 16 bytes in front of a record's data say
+abbrev pub record_head_in : Head → List ℕ → RecordHead
+record_head_in head text = record {
+  time = time_in head text;
+  captured = captured_len head text;
+  orig = orig_in head text;
+}
+
+-- These bytes are one record, which passes every check.
+pub record IsRecord (head : Head) (bytes : List ℕ) : Type 0 where
+  pub passes : record_fault head bytes ≡ None
+  pub whole : length bytes ≡ record_size head bytes
+
+-- the packet in a record
+abbrev pub packet_in : Head → List ℕ → Captured
+packet_in head bytes = record {
+  link = head.link;
+  snap = head.snap;
+  name = [];
+  time = time_in head bytes;
+  orig = orig_in head bytes;
+  bytes = drop 16 bytes;
+}

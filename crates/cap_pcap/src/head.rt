@@ -1,0 +1,135 @@
+//! What the heads of a savefile and of its records say.
+ghost use Rattle.std.specs.Prelude.{◌≡◌, ◌≤◌, ◌<◌, ◌^◌, length, IfOk};
+ghost use Rattle.cap_octet.specs.Checks.{checked, first_failing};
+ghost use Rattle.cap_pcap.specs.Header.{form_in, head_fault, head_in};
+ghost use Rattle.cap_pcap.specs.Record.{field_checks, most_captured, nanoseconds_of_part, parts_of_second, record_head_in};
+
+use cap_octet::{Fault, Order, u16_at, u32_at};
+
+/// The magic number of a savefile with microseconds.
+const MICROSECOND_MAGIC: u32 = 0xa1b2_c3d4;
+
+/// The magic number of a savefile with nanoseconds.
+const NANOSECOND_MAGIC: u32 = 0xa1b2_3c4d;
+
+/// The greatest number of captured bytes in a record.
+const MOST_CAPTURED: u32 = 262_144;
+
+/// Nanoseconds in a second.
+const SECOND: u64 = 1_000_000_000;
+
+/// The parts of a second in which a savefile counts.
+#[derive(Clone, Copy, Debug, PartialEq, Eq)]
+pub enum Resolution {
+    Microseconds,
+    Nanoseconds,
+}
+
+/// What a file header says of all packets behind it.
+#[derive(Clone, Copy, Debug, PartialEq, Eq)]
+pub struct Head {
+    /// The byte order of all numbers in the file.
+    pub order: Order,
+    pub resolution: Resolution,
+    /// The snap length, in bytes.
+    pub snap: u32,
+    /// The link type (tcpdump.org's list of LINKTYPE_ values).
+    pub link: u16,
+}
+
+/// What a record says of its packet.
+#[derive(Clone, Copy, Debug, PartialEq, Eq)]
+pub struct RecordHead {
+    /// Nanoseconds since 1970-01-01 00:00:00 UTC.
+    pub time: u64,
+    /// The captured length, in bytes.
+    pub captured: u32,
+    /// The original length, in bytes.
+    pub orig: u32,
+}
+
+impl Resolution {
+    /// How many parts make a second.
+    fn parts(self) -> u32
+        ensures { result ≡ parts_of_second self }
+    {
+        match self {
+            Resolution::Microseconds => 1_000_000,
+            Resolution::Nanoseconds => 1_000_000_000,
+        }
+    }
+
+    /// How many nanoseconds a part is.
+    fn nanoseconds(self) -> u64
+        ensures { result ≡ nanoseconds_of_part self }
+    {
+        match self {
+            Resolution::Microseconds => 1_000,
+            Resolution::Nanoseconds => 1,
+        }
+    }
+}
+
+/// The byte order and the resolution that the first four bytes of a savefile tell, `None` where they are no magic
+/// number in either order. The caller knows four bytes to be there.
+pub fn read_magic(bytes: &[u8]) -> Option<(Order, Resolution)>
+    requires { 4 ≤ length bytes.now }
+    ensures { result ≡ form_in bytes.now }
+{
+    match u32_at(Order::Little, bytes, 0) {
+        MICROSECOND_MAGIC => return Some((Order::Little, Resolution::Microseconds)),
+        NANOSECOND_MAGIC => return Some((Order::Little, Resolution::Nanoseconds)),
+        _ => {}
+    }
+    match u32_at(Order::Big, bytes, 0) {
+        MICROSECOND_MAGIC => Some((Order::Big, Resolution::Microseconds)),
+        NANOSECOND_MAGIC => Some((Order::Big, Resolution::Nanoseconds)),
+        _ => None,
+    }
+}
+
+/// Reads a file header, or tells the first check that it fails: no magic number, another version than 2.4, a link
+/// type field above 65,535.
+pub fn read_head(bytes: &[u8; 24]) -> Result<Head, Fault>
+    ensures { result ≡ checked (head_fault bytes.now) (head_in bytes.now) }
+{
+    let Some((order, resolution)) = read_magic(bytes) else {
+        return Err(Fault::NotACaptureFile);
+    };
+    if u16_at(order, bytes, 4) != 2 || u16_at(order, bytes, 6) != 4 {
+        return Err(Fault::BadVersion);
+    }
+    let link = u32_at(order, bytes, 20);
+    if link > 0xffff {
+        return Err(Fault::BadLinkTypeField);
+    }
+    Ok(Head {
+        order,
+        resolution,
+        snap: u32_at(order, bytes, 16),
+        link: link as u16,
+    })
+}
+
+/// Reads what stands before a record's data, or tells the first check that its fields fail: more than 262,144
+/// captured bytes, a part of a second that is a whole one or more.
+pub fn read_record(head: &Head, bytes: &[u8; 16]) -> Result<RecordHead, Fault>
+    ensures answer { result ≡ checked (first_failing (field_checks head.now bytes.now)) (record_head_in head.now bytes.now) }
+    ensures in_range { IfOk result (λ found. found.time < 2 ^ 63) }
+    ensures short { IfOk result (λ found. found.captured ≤ most_captured) }
+{
+    let captured = u32_at(head.order, bytes, 8);
+    if captured > MOST_CAPTURED {
+        return Err(Fault::TooLong);
+    }
+    let part = u32_at(head.order, bytes, 4);
+    if part >= head.resolution.parts() {
+        return Err(Fault::TimeOutOfRange);
+    }
+    let seconds = u64::from(u32_at(head.order, bytes, 0));
+    Ok(RecordHead {
+        time: seconds * SECOND + u64::from(part) * head.resolution.nanoseconds(),
+        captured,
+        orig: u32_at(head.order, bytes, 12),
+    })
+}
