@@ -4,3 +4,4 @@ pub mod Passing
 pub mod Units
 pub mod Items
 pub mod Standing
+pub mod Texts

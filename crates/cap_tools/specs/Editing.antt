@@ -2,11 +2,11 @@
 use Rattle.std.specs.Prelude.{◌≡◌, ◌⊎◌, ℕ, ◌+◌, ◌*◌, ◌-◌, ◌^◌, ◌<◌, ◌≤◌, Bool, true, false, List, [], ◌++◌, length, take, Option, None, Some, Result, Ok}
 use Rattle.cap_octet.specs.Packet.{Captured}
 use Rattle.cap_octet.specs.declared.fault.Fault.{Fault}
-use Rattle.cap_octet.specs.declared.fault.Fault.TheVariants.{ReadFailed, NoMemory}
+use Rattle.cap_octet.specs.declared.fault.Fault.TheVariants.{ReadFailed, NoMemory, WriteFailed}
 use Rattle.cap_octet.specs.declared.format.Format.{Format}
 use Rattle.cap_io.specs.Capture.{Placed, Items, Ending, End, FaultAt, items}
 use Rattle.cap_io.specs.Source.{SourceView}
-use Rattle.cap_io.specs.Sink.{SinkView, HasPackets, Puts}
+use Rattle.cap_io.specs.Sink.{SinkView, HasPackets, Puts, PutWrites}
 use Rattle.cap_io.specs.Standing.{IsAt, IsCutShort}
 use Rattle.cap_tools.specs.declared.progress.Progress.{Progress}
 use Rattle.cap_tools.specs.declared.progress.Progress.TheVariants.{More, Finished, Broken, OutputFailed}
@@ -58,9 +58,14 @@ pub record IsDecided (text done before : List ℕ) (e : EditView) (sink : SinkVi
 -- ---- what a step leaves
 
 -- a packet is put, where there is one
-abbrev pub PutsSome : Bool → Option Captured → SinkView → Result (Unit {0}) Fault → SinkView → Type 0
-PutsSome tells None old r new = (r ≡ Ok tt) × (new ≡ old)
-PutsSome tells (Some p) old r new = Puts tells old.state old p r new
+abbrev pub PutsSome : Option Captured → SinkView → Result (Unit {0}) Fault → SinkView → Type 0
+PutsSome None old r new = (r ≡ Ok tt) × (new ≡ old)
+PutsSome (Some p) old r new = Puts old.state old p r new × PutWrites old.state old p r new
+
+-- where a packet isn't put: the output's device failed, or the packet is refused
+abbrev pub unwritten : Fault → Progress
+unwritten WriteFailed = OutputFailed
+unwritten fault = Broken fault
 
 -- it goes on, and finished these bytes
 pub record GoesOn (text done before : List ℕ) (old new : EditView) (sink' : SinkView) : Type 0 where

