@@ -1,5 +1,5 @@
 -- The steps of an edit.
-use Rattle.std.proofs.Common.{◌≡◌, ℕ, ◌+◌, ◌<◌, ◌≤◌, ◌⊎◌, inl, inr, Bool, true, false, if◌then◌else◌, List, [], ◌∷◌, ◌++◌, length, take, Option, None, Some, Result, Ok, Err, refl, sym, ◌∙◌, ap, arith, subst}
+use Rattle.std.proofs.Common.{◌≡◌, ℕ, ◌+◌, ◌<◌, ◌≤◌, ◌⊎◌, inl, inr, Bool, true, false, if◌then◌else◌, List, [], ◌∷◌, ◌++◌, length, take, Option, None, Some, Result, Ok, Err, refl, sym, ◌∙◌, ap, arith, subst, add-zero}
 use Rattle.std.proofs.Math.Seq.{take-append-add}
 use Rattle.std.proofs.lemmas.List.{append_assoc, append-nil, length-append, take-append-le, map-append}
 use Rattle.cap_octet.specs.Device.{Stops}
@@ -15,8 +15,10 @@ use Rattle.cap_io.specs.Standing.{IsAt, HasPacket}
 use Rattle.cap_io.specs.Text.{text, added, packets_text, refused}
 use Rattle.cap_io.proofs.Texts.{text-more, refused-write_failed, put-answers, put-writes, put-taken, HasPackets-put, finish-none, finish-none-writes, finish-some}
 use Rattle.cap_io.proofs.Standing.{IsAt-found, IsAt-decided, IsAt-items, IsAt-end, IsAt-fault, Advances-sound, FaultyText, CutText}
+use Rattle.cap_tools.specs.declared.progress.End.TheVariants as progress
+use Rattle.cap_tools.specs.declared.progress.End as progress_end
 use Rattle.cap_tools.specs.Edited.{packets_of, Listed, behind, taken, written_of, EditOptions, kept_of, edited, edit_output}
-use Rattle.cap_tools.specs.Editing.{EditView, PutsSome, AreTaken, IsDecided, GoesOn, Comes, EndsByFault, EndsByCut, StopsWriting, StepLeaves, unwritten}
+use Rattle.cap_tools.specs.Editing.{EditView, PutsSome, AreTaken, IsDecided, GoesOn, Comes, EndsByFault, EndsByCut, StopsWriting, EndLeaves, unwritten, IsUnderWay}
 use Rattle.cap_tools.specs.Selected.{is_kept, selected}
 use Rattle.cap_tools.proofs.Selecting.{selected-append, AreTaken-push, taken-refused, taken-all, taken-next}
 
@@ -87,10 +89,19 @@ push-output true before sink sink' options kept x o held has offers =
     }
 push-output false before sink sink' options kept x o held has offers = rw (offers, append-nil kept) has
 
+-- the device doesn't fail
+offers-quiet : (b : Bool) (before : List ℕ) (sink sink' : SinkView) (kept : List Placed) (x : Placed) (o : Option Captured) → o ≡ Some x.packet
+    → HasPackets before sink (packets_of kept) → Offers b o sink sink' → sink'.failures ≡ sink.failures
+offers-quiet true before sink sink' kept x o held has offers =
+    let puts = puts-held x.packet o sink (Ok tt) sink' held offers in
+    let after : PutsAfter (packets_of kept) sink x.packet (Ok tt) sink' = put-answers before (packets_of kept) sink x.packet (Ok tt) sink' has puts.0 in
+    after.failures ∙ add-zero sink.failures
+offers-quiet false before sink sink' kept x o held has offers = ap (λ (v : SinkView). v.failures) offers
+
 pub answered : (text done before : List ℕ) (old new : EditView) (sink sink' : SinkView) → IsDecided text done before old sink → old.waiting ≡ true
     → Offers (is_kept old.options.ranges old.options.keep (old.decided + 1)) old.source.packet sink sink'
     → new ≡ record { options = old.options; source = old.source; decided = old.decided + 1; waiting = false }
-    → GoesOn text done before old new sink'
+    → GoesOn text done before old new sink sink'
 answered text done before old new sink sink' d waits offers is =
     let at = at_waiting text done before old sink d waits in
     let has = at.waits refl in
@@ -111,6 +122,8 @@ answered text done before old new sink sink' d waits offers is =
         format = out.format;
       };
       at_most_one = omega arith;
+      input = refl;
+      output = offers-quiet (is_kept old.options.ranges old.options.keep (old.decided + 1)) before sink sink' (kept_of old.options d.packets) x old.source.packet has.held d.output offers;
     })
 
 -- ---- the packet in hand isn't put
@@ -232,15 +245,24 @@ stopped-packet file done before e sink sink' d waits chosen offers =
 
 pub unwritten-packet : (file done before : List ℕ) (e : EditView) (sink sink' : SinkView) (fault : Fault) → IsDecided file done before e sink → e.waiting ≡ true
     → is_kept e.options.ranges e.options.keep (e.decided + 1) ≡ true → PutsSome e.source.packet sink (Err fault) sink'
-    → StepLeaves file done before e sink (unwritten fault) e sink'
+    → EndLeaves file before e sink (unwritten fault) e sink'
 unwritten-packet file done before e sink sink' WriteFailed d waits chosen offers = stopped-packet file done before e sink sink' d waits chosen offers
 unwritten-packet file done before e sink sink' fault d waits chosen offers = inl (refused-packet file done before e sink sink' fault d waits chosen offers (λ same. (cc)))
 
 -- ---- the next packet is in hand
 
+bounds-found : (file done : List ℕ) (packets : List Placed) (s s' : SourceView) → IsAt file done packets false s → Steps s.phase s (Ok true) s' → KeepsBounds s (Ok true) s'
+bounds-found file done packets s s' at steps = by_phase s.phase refl steps
+  where
+    by_phase : (phase : Phase) → s.phase ≡ phase → Steps phase s (Ok true) s' → KeepsBounds s (Ok true) s'
+    by_phase Reading e steps = steps
+    by_phase Ended e steps = absurd (let same = steps.0 in cc)
+    by_phase (Failed other) e steps = absurd (at.sound other e)
+
 pub fetched : (file done before : List ℕ) (old new : EditView) (sink : SinkView) (s' : SourceView) → IsDecided file done before old sink → old.waiting ≡ false
-    → FindsPacket old.source s' → new ≡ record { options = old.options; source = s'; decided = old.decided; waiting = true } → GoesOn file done before old new sink
-fetched file done before old new sink s' d waits finds is =
+    → FindsPacket old.source s' → Steps old.source.phase old.source (Ok true) s' → new ≡ record { options = old.options; source = s'; decided = old.decided; waiting = true } → GoesOn file done before old new sink sink
+fetched file done before old new sink s' d waits finds steps is =
+    let bounds = bounds-found file done d.packets old.source s' (at_reading file done before old sink d waits) steps in
     rw is (record {
       finished = finds.passes.passed;
       decided = record {
@@ -252,6 +274,8 @@ fetched file done before old new sink s' d waits finds is =
         format = d.format;
       };
       at_most_one = omega arith;
+      input = bounds.failures ∙ add-zero old.source.failures;
+      output = refl;
     })
 
 -- what an advance finds
@@ -374,3 +398,35 @@ broken file done before e e' sink s' fault d waits finds steps is =
         ];
       })
     ])
+
+-- ---- many steps
+
+pub goes-on : (file before : List ℕ) (first e e' : EditView) (start sink sink' : SinkView) (way : IsUnderWay file before first e start sink) → GoesOn file way.done before e e' sink sink' → e'.options ≡ e.options
+    → IsUnderWay file before first e' start sink'
+goes-on file before first e e' start sink sink' way goes same = record {
+  done = way.done ++ goes.finished;
+  decided = goes.decided;
+  options = same ∙ way.options;
+  input = goes.input ∙ way.input;
+  output = goes.output ∙ way.output;
+}
+
+pub ends-run : (file before : List ℕ) (first e e' : EditView) (start sink sink' : SinkView) (end : progress_end.End) → IsUnderWay file before first e start sink → EndLeaves file before e sink end e' sink'
+    → EndLeaves file before first start end e' sink'
+ends-run file before first e e' start sink sink' progress.Clean way leaves = leaves
+ends-run file before first e e' start sink sink' (progress.Broken fault) way leaves =
+    elim leaves [
+      inl faulty ↦ inl faulty
+      | inr cut ↦ inr (record {
+        held = cut.held;
+        cut = cut.cut;
+        comes = cut.comes;
+        why = elim cut.why [ inl failed ↦ inl (failed.0, let less : e.source.failures < e'.source.failures = failed.1 in omega (arith, way.input)) | inr full ↦ inr full ];
+      })
+    ]
+ends-run file before first e e' start sink sink' progress.OutputFailed way leaves = record {
+  failures = leaves.failures ∙ ap (λ n. n + 1) way.output;
+  count = leaves.count;
+  within = leaves.within;
+  written = leaves.written;
+}

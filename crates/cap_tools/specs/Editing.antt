@@ -4,12 +4,15 @@ use Rattle.cap_octet.specs.Packet.{Captured}
 use Rattle.cap_octet.specs.declared.fault.Fault.{Fault}
 use Rattle.cap_octet.specs.declared.fault.Fault.TheVariants.{ReadFailed, NoMemory, WriteFailed}
 use Rattle.cap_octet.specs.declared.format.Format.{Format}
-use Rattle.cap_io.specs.Capture.{Placed, Items, Ending, End, FaultAt, items}
+use Rattle.cap_io.specs.Capture.{Placed, Items, Ending, FaultAt, items}
+use Rattle.cap_io.specs.Capture as capture
 use Rattle.cap_io.specs.Source.{SourceView}
 use Rattle.cap_io.specs.Sink.{SinkView, HasPackets, Puts, PutWrites}
 use Rattle.cap_io.specs.Standing.{IsAt, IsCutShort}
 use Rattle.cap_tools.specs.declared.progress.Progress.{Progress}
-use Rattle.cap_tools.specs.declared.progress.Progress.TheVariants.{More, Finished, Broken, OutputFailed}
+use Rattle.cap_tools.specs.declared.progress.Progress.TheVariants.{More, Done}
+use Rattle.cap_tools.specs.declared.progress.End.{End}
+use Rattle.cap_tools.specs.declared.progress.End.TheVariants.{Clean, Broken, OutputFailed}
 use Rattle.cap_tools.specs.Edited.{packets_of, behind, taken, EditOptions, kept_of, edited, edit_output}
 
 -- ---- the view
@@ -63,15 +66,18 @@ PutsSome None old r new = (r ≡ Ok tt) × (new ≡ old)
 PutsSome (Some p) old r new = Puts old.state old p r new × PutWrites old.state old p r new
 
 -- where a packet isn't put: the output's device failed, or the packet is refused
-abbrev pub unwritten : Fault → Progress
+abbrev pub unwritten : Fault → End
 unwritten WriteFailed = OutputFailed
 unwritten fault = Broken fault
 
 -- it goes on, and finished these bytes
-pub record GoesOn (text done before : List ℕ) (old new : EditView) (sink' : SinkView) : Type 0 where
+pub record GoesOn (text done before : List ℕ) (old new : EditView) (sink sink' : SinkView) : Type 0 where
   pub finished : List ℕ
   pub decided : IsDecided text (done ++ finished) before new sink'
   pub at_most_one : new.decided ≤ old.decided + 1
+  -- no device failed
+  pub input : new.source.failures ≡ old.source.failures
+  pub output : sink'.failures ≡ sink.failures
 
 -- the output is all that the edit writes of a capture with these items, and they end so
 pub record Comes (held : Items) (before : List ℕ) (options : EditOptions) (sink' : SinkView) (ending : Ending) : Type 0 where
@@ -96,11 +102,30 @@ pub record StopsWriting (text before : List ℕ) (options : EditOptions) (sink s
   pub within : count < length (edit_output options (items text))
   pub written : sink'.written ≡ before ++ take count (edit_output options (items text))
 
+-- what an end leaves
+abbrev pub EndLeaves : List ℕ → List ℕ → EditView → SinkView → End → EditView → SinkView → Type 0
+EndLeaves text before e sink Clean e' sink' = Comes (items text) before e'.options sink' capture.End
+EndLeaves text before e sink (Broken fault) e' sink' = EndsByFault text before e' sink' fault ⊎ EndsByCut text before e e' sink' fault
+EndLeaves text before e sink OutputFailed e' sink' = StopsWriting text before e'.options sink sink'
+
 abbrev pub StepLeaves : List ℕ → List ℕ → List ℕ → EditView → SinkView → Progress → EditView → SinkView → Type 0
-StepLeaves text done before e sink More e' sink' = GoesOn text done before e e' sink'
-StepLeaves text done before e sink Finished e' sink' = Comes (items text) before e'.options sink' End
-StepLeaves text done before e sink (Broken fault) e' sink' = EndsByFault text before e' sink' fault ⊎ EndsByCut text before e e' sink' fault
-StepLeaves text done before e sink OutputFailed e' sink' = StopsWriting text before e'.options sink sink'
+StepLeaves text done before e sink More e' sink' = GoesOn text done before e e' sink sink'
+StepLeaves text done before e sink (Done end) e' sink' = EndLeaves text before e sink end e' sink'
 
 abbrev pub StepGives : EditView → SinkView → Progress → EditView → SinkView → Type 0
 StepGives e sink r e' sink' = (text done before : List ℕ) → IsDecided text done before e sink → StepLeaves text done before e sink r e' sink'
+
+-- ---- many steps
+
+-- an edit that has gone on from its first view, without a failure
+pub record IsUnderWay (text before : List ℕ) (first e : EditView) (start sink : SinkView) : Type 0 where
+  pub done : List ℕ
+  pub decided : IsDecided text done before e sink
+  pub options : e.options ≡ first.options
+  pub input : e.source.failures ≡ first.source.failures
+  pub output : sink.failures ≡ start.failures
+
+-- what the steps to the end leave
+abbrev pub RunGives : EditView → SinkView → End → EditView → SinkView → Type 0
+RunGives first start end last sink = (text before : List ℕ) → IsDecided text [] before first start
+    → (last.options ≡ first.options) × EndLeaves text before first start end last sink

@@ -3,7 +3,7 @@ ghost use Rattle.std.specs.Prelude.{◌≡◌, ◌<◌, IsTrue, true, false};
 ghost use Rattle.cap_tools.specs.Editing.{PutsSome, unwritten};
 
 use crate::command::Edit;
-use crate::progress::Progress;
+use crate::progress::{End, Progress};
 use cap_io::{Sink, Source};
 use cap_octet::{Fault, Input, Output};
 use std::alloc::Allocator;
@@ -45,12 +45,12 @@ fn put_head<I: Input, O: Output, A: Allocator>(
 }
 
 /// Where a packet was not put: the output's device failed, or the packet is refused.
-fn unwritten(fault: Fault) -> Progress
+fn unwritten(fault: Fault) -> End
     ensures { result ≡ unwritten fault }
 {
     match fault {
-        Fault::WriteFailed => Progress::OutputFailed,
-        _ => Progress::Broken(fault),
+        Fault::WriteFailed => End::OutputFailed,
+        _ => End::Broken(fault),
     }
 }
 
@@ -94,7 +94,7 @@ impl<I: Input, A: Allocator> Editing<I, A> {
         if self.edit.keeps(number) {
             match put_head(&self.source, sink) {
                 Ok(()) => {}
-                Err(fault) => return unwritten(fault),
+                Err(fault) => return Progress::Done(unwritten(fault)),
             }
         }
         self.decided = number;
@@ -115,10 +115,10 @@ impl<I: Input, A: Allocator> Editing<I, A> {
                 Progress::More
             }
             Ok(false) => match sink.finish(self.source.first_link()) {
-                Ok(()) => Progress::Finished,
-                Err(_) => Progress::OutputFailed,
+                Ok(()) => Progress::Done(End::Clean),
+                Err(_) => Progress::Done(End::OutputFailed),
             },
-            Err(fault) => Progress::Broken(fault),
+            Err(fault) => Progress::Done(End::Broken(fault)),
         }
     }
 

@@ -1,16 +1,21 @@
-//! What a step of a command leaves to do.
+//! How far a command is.
 
 use cap_octet::Fault;
 
-/// How far a command is after a step.
+/// How a command ended.
 #[derive(Clone, Copy, Debug, PartialEq, Eq)]
-pub enum Progress {
-    /// There is more to do.
-    More,
+pub enum End {
     /// The inputs ended cleanly, and all is written.
-    Finished,
+    Clean,
     /// The input in hand ends by this fault at its offset, or its packet in hand is refused.
     Broken(Fault),
-    /// The output's device failed in this step.
+    /// The output's device failed.
     OutputFailed,
+}
+
+/// What a step of a command leaves to do.
+#[derive(Clone, Copy, Debug, PartialEq, Eq)]
+pub enum Progress {
+    More,
+    Done(End),
 }

@@ -2,7 +2,7 @@ use Rattle.std.proofs.Common.{◌≡◌, true, false, refl, sym, ◌∙◌, ap, 
 use Rattle.cap_octet.specs.declared.fault.Fault.{Fault}
 use Rattle.cap_io.specs.Source.{Advances, Steps}
 use Rattle.cap_io.specs.Sink.{Finishes, FinishWrites}
-use Rattle.cap_tools.specs.Editing.{EditView, StepLeaves}
+use Rattle.cap_tools.specs.Editing.{EditView}
 use Rattle.cap_tools.proofs.Edits.{fetched, fetch-finds, ended, ended-stops, broken}
 use Rattle.cap_tools.proofs.edit.Editing.fetch.Goals as goal
 use Rattle.cap_tools.proofs.edit.Editing.fetch.Goals.{in-Ok, in-Err-finish}
@@ -10,9 +10,11 @@ use Rattle.cap_tools.proofs.edit.Editing.fetch.Goals.{in-Ok, in-Err-finish}
 pub returns-in-Ok-true-clause-told : goal.returns-in-Ok-true-clause-told
 returns-in-Ok-true-clause-told g c = λ ti to file done before d.
     let Q : EditView → Type 0 = λ v. Advances v.source.phase v.source (Ok true) c.advance.new.self in
+    let S : EditView → Type 0 = λ v. Steps v.source.phase v.source (Ok true) c.advance.new.self in
     fetched file done before c.args.self.now _ c.args.sink.now c.advance.new.self d c.requires
       (fetch-finds file done before c.args.self.now c.args.sink.now c.advance.new.self (Ok true) d c.requires
         (subst Q c.self.view_is (rw c.in-Ok-true.field-0-test at (c.in-Ok-true.ensures.told ti))))
+      (subst S c.self.view_is (rw c.in-Ok-true.field-0-test at c.in-Ok-true.ensures.bounds))
       (ap (λ (v : EditView). record { options = v.options; source = c.advance.new.self; decided = v.decided; waiting = true }) c.self.view_is)
 
 pub returns-after-finish-clause-told : goal.returns-after-finish-clause-told
