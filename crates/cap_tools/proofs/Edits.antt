@@ -1,20 +1,20 @@
 -- The steps of an edit.
-use Rattle.std.proofs.Common.{◌≡◌, ℕ, ◌+◌, ◌<◌, ◌≤◌, ◌⊎◌, inl, inr, Bool, true, false, if◌then◌else◌, List, [], ◌∷◌, ◌++◌, length, take, Option, None, Some, Result, Ok, Err, refl, sym, ◌∙◌, ap, arith, subst, add-zero}
+use Rattle.std.proofs.Common.{◌≡◌, ℕ, ◌+◌, ◌<◌, ◌⊎◌, inl, inr, Bool, true, false, if◌then◌else◌, List, [], ◌∷◌, ◌++◌, length, take, Option, None, Some, Result, Ok, Err, refl, sym, ◌∙◌, ap, arith, subst, add-zero}
 use Rattle.std.proofs.Math.Seq.{take-append-add}
 use Rattle.std.proofs.lemmas.List.{append_assoc, append-nil, length-append, take-append-le, map-append}
 use Rattle.cap_octet.specs.Device.{Stops}
 use Rattle.cap_octet.specs.Packet.{Captured}
 use Rattle.cap_octet.specs.declared.fault.Fault.{Fault}
-use Rattle.cap_octet.specs.declared.fault.Fault.TheVariants.{ReadFailed, WriteFailed}
+use Rattle.cap_octet.specs.declared.fault.Fault.TheVariants.{WriteFailed}
 use Rattle.cap_octet.specs.declared.format.Format.{Format}
 use Rattle.cap_pcap.specs.Written.{heading}
-use Rattle.cap_io.specs.Capture.{Placed, Ending, End, FaultAt, Items, items, items_from, after_packets, first_link_of}
+use Rattle.cap_io.specs.Capture.{Placed, Ending, End, FaultAt, Items, items, items_from, first_link_of}
 use Rattle.cap_io.specs.Source.{SourceView, Phase, Reading, Ended, Failed, FindsPacket, FindsEnd, FindsFault, Advances, Finds, KeepsBounds, Steps}
 use Rattle.cap_io.specs.Sink.{SinkView, HasPackets, Puts, PutWrites, PutsAfter, WritesPacket, IsAnswer, Finishes, FinishWrites, FinishesEmpty, link_or_ethernet}
 use Rattle.cap_io.specs.Standing.{IsAt, HasPacket}
 use Rattle.cap_io.specs.Text.{text, added, packets_text, refused}
 use Rattle.cap_io.proofs.Texts.{text-more, refused-write_failed, put-answers, put-writes, put-taken, HasPackets-put, finish-none, finish-none-writes, finish-some}
-use Rattle.cap_io.proofs.Standing.{IsAt-found, IsAt-decided, IsAt-items, IsAt-end, IsAt-fault, Advances-sound, FaultyText, CutText}
+use Rattle.cap_io.proofs.Standing.{IsAt-found, IsAt-decided, IsAt-items, IsAt-end, IsAt-fault, Advances-sound}
 use Rattle.cap_tools.specs.declared.progress.End.TheVariants as progress
 use Rattle.cap_tools.specs.declared.progress.End as progress_end
 use Rattle.cap_tools.specs.Edited.{packets_of, Listed, behind, taken, written_of, EditOptions, kept_of, edited, edit_output}
@@ -109,8 +109,8 @@ answered text done before old new sink sink' d waits offers is =
     let number : length d.packets + 1 ≡ old.decided + 1 = omega (arith, d.count) in
     let push = kept-push old.options d.packets x (old.decided + 1) number in
     let out : HasOutput before sink' old.options (kept_of old.options (d.packets ++ x ∷ [])) =
-      rw push (push-output (is_kept old.options.ranges old.options.keep (old.decided + 1)) before sink sink' old.options (kept_of old.options d.packets) x old.source.packet has.held
-        (record { output = d.output; taken = d.taken; format = d.format }) offers) in
+    rw push (push-output (is_kept old.options.ranges old.options.keep (old.decided + 1)) before sink sink' old.options (kept_of old.options d.packets) x old.source.packet has.held
+    (record { output = d.output; taken = d.taken; format = d.format }) offers) in
     rw is (record {
       finished = old.source.block;
       decided = record {
@@ -131,13 +131,13 @@ answered text done before old new sink sink' d waits offers is =
 -- what an edit comes to, where the packet in hand is kept
 edited-waiting : (text done before : List ℕ) (e : EditView) (sink : SinkView) (d : IsDecided text done before e sink) (waits : e.waiting ≡ true) → is_chosen e.options (e.decided + 1) ≡ true
     → edited e.options (items text)
-      ≡ taken e.options.format [] (kept_of e.options d.packets ++ in_hand e.source ((at_waiting text done before e sink d waits).waits refl) ∷ selected (is_chosen e.options) (e.decided + 1 + 1) (later e done).packets) (later e done).ending
+    ≡ taken e.options.format [] (kept_of e.options d.packets ++ in_hand e.source ((at_waiting text done before e sink d waits).waits refl) ∷ selected (is_chosen e.options) (e.decided + 1 + 1) (later e done).packets) (later e done).ending
 edited-waiting text done before e sink d waits chosen =
     let at = at_waiting text done before e sink d waits in
     let x : Placed = in_hand e.source (at.waits refl) in
     ap (edited e.options) (IsAt-items text done d.packets e.source at)
     ∙ ap (λ (l : List Placed). taken e.options.format [] l (later e done).ending)
-      (kept-next e.options d.packets x (later e done).packets (e.decided + 1) (omega (arith, d.count)) chosen)
+    (kept-next e.options d.packets x (later e done).packets (e.decided + 1) (omega (arith, d.count)) chosen)
 
 written-fault : (format : Format) (link : Option ℕ) (ps : List Captured) (fault : Fault) (offset : ℕ) → written_of format link ps (FaultAt fault offset) ≡ text format ps
 written-fault format link [] fault offset = refl
@@ -169,18 +169,18 @@ refused-packet file done before e sink sink' fault d waits chosen offers other =
     let is : refused sink.format (packets_of kept) has.packet ≡ Some fault = refusal-is (refused sink.format (packets_of kept) has.packet) fault after.answer other in
     let why : refused e.options.format (packets_of kept) has.packet ≡ Some fault = ap (λ (f : Format). refused f (packets_of kept) has.packet) (sym d.format) ∙ is in
     let all : edited e.options (items file) ≡ record { packets = packets_of kept; ending = FaultAt fault e.source.offset } =
-      edited-waiting file done before e sink d waits chosen
-      ∙ taken-refused e.options.format kept x (selected (is_chosen e.options) (e.decided + 1 + 1) (later e done).packets) (later e done).ending fault d.taken why in
+    edited-waiting file done before e sink d waits chosen
+    ∙ taken-refused e.options.format kept x (selected (is_chosen e.options) (e.decided + 1 + 1) (later e done).packets) (later e done).ending fault d.taken why in
     record {
       ends = ap (λ (l : Listed). l.ending) all;
       written =
           stays-written (refused sink.format (packets_of kept) has.packet) fault (added sink.format (packets_of kept) has.packet) sink.written sink'.written is
-            (put-writes before (packets_of kept) sink has.packet (Err fault) sink' d.output puts.1)
+          (put-writes before (packets_of kept) sink has.packet (Err fault) sink' d.output puts.1)
           ∙ d.output.written
           ∙ ap (λ (f : Format). before ++ text f (packets_of kept)) d.format
           ∙ ap (λ (l : List ℕ). before ++ l)
-            (sym (ap (λ (l : Listed). written_of e.options.format (first_link_of (items file).declared) l.packets l.ending) all
-              ∙ written-fault e.options.format (first_link_of (items file).declared) (packets_of kept) fault e.source.offset));
+          (sym (ap (λ (l : Listed). written_of e.options.format (first_link_of (items file).declared) l.packets l.ending) all
+          ∙ written-fault e.options.format (first_link_of (items file).declared) (packets_of kept) fault e.source.offset));
     }
 
 -- the device fails
@@ -204,11 +204,11 @@ stops-longer before front bytes more whole written written' is so_far stops =
       length front + n,
       rw is (omega (arith, less, length-append front (bytes ++ more), length-append bytes more)),
       stops.2
-      ∙ ap (λ (l : List ℕ). l ++ take n bytes) so_far
-      ∙ append_assoc before front (take n bytes)
-      ∙ ap (λ (l : List ℕ). before ++ (front ++ l)) (sym (take-append-le n bytes more (omega (arith, less))))
-      ∙ ap (λ (l : List ℕ). before ++ l) (sym (take-append-add front (bytes ++ more) n))
-      ∙ ap (λ (l : List ℕ). before ++ take (length front + n) l) (sym is),
+          ∙ ap (λ (l : List ℕ). l ++ take n bytes) so_far
+          ∙ append_assoc before front (take n bytes)
+          ∙ ap (λ (l : List ℕ). before ++ (front ++ l)) (sym (take-append-le n bytes more (omega (arith, less))))
+          ∙ ap (λ (l : List ℕ). before ++ l) (sym (take-append-add front (bytes ++ more) n))
+          ∙ ap (λ (l : List ℕ). before ++ take (length front + n) l) (sym is),
     )
 
 pub stopped-packet : (file done before : List ℕ) (e : EditView) (sink sink' : SinkView) → IsDecided file done before e sink → e.waiting ≡ true
@@ -226,21 +226,21 @@ stopped-packet file done before e sink sink' d waits chosen offers =
     let more : List Placed = selected (is_chosen e.options) (e.decided + 1 + 1) (later e done).packets in
     let tail : Listed = taken e.options.format (packets_of kept ++ has.packet ∷ []) more (later e done).ending in
     let all : edited e.options (items file) ≡ behind (packets_of kept ++ has.packet ∷ []) tail =
-      edited-waiting file done before e sink d waits chosen ∙ taken-next e.options.format kept x more (later e done).ending d.taken why in
+    edited-waiting file done before e sink d waits chosen ∙ taken-next e.options.format kept x more (later e done).ending d.taken why in
     let link : Option ℕ = first_link_of (items file).declared in
     let whole : edit_output e.options (items file)
-      ≡ text e.options.format (packets_of kept) ++ (added e.options.format (packets_of kept) has.packet ++ packets_text e.options.format (packets_of kept ++ has.packet ∷ []) tail.packets) =
-      ap (λ (l : Listed). written_of e.options.format link l.packets l.ending) all
-      ∙ ap (λ (l : List Captured). written_of e.options.format link l tail.ending) (append_assoc (packets_of kept) (has.packet ∷ []) tail.packets)
-      ∙ written-some e.options.format link (packets_of kept) has.packet tail.packets tail.ending
-      ∙ text-more e.options.format (packets_of kept) has.packet tail.packets in
+    ≡ text e.options.format (packets_of kept) ++ (added e.options.format (packets_of kept) has.packet ++ packets_text e.options.format (packets_of kept ++ has.packet ∷ []) tail.packets) =
+    ap (λ (l : Listed). written_of e.options.format link l.packets l.ending) all
+    ∙ ap (λ (l : List Captured). written_of e.options.format link l tail.ending) (append_assoc (packets_of kept) (has.packet ∷ []) tail.packets)
+    ∙ written-some e.options.format link (packets_of kept) has.packet tail.packets tail.ending
+    ∙ text-more e.options.format (packets_of kept) has.packet tail.packets in
     let stops : Stops sink.written (added sink.format (packets_of kept) has.packet) sink'.written =
-      stopped-within (refused sink.format (packets_of kept) has.packet) (added sink.format (packets_of kept) has.packet) sink.written sink'.written none
-        (put-writes before (packets_of kept) sink has.packet (Err WriteFailed) sink' d.output puts.1) in
+    stopped-within (refused sink.format (packets_of kept) has.packet) (added sink.format (packets_of kept) has.packet) sink.written sink'.written none
+    (put-writes before (packets_of kept) sink has.packet (Err WriteFailed) sink' d.output puts.1) in
     let P : Format → Type 0 = λ f. Stops sink.written (added f (packets_of kept) has.packet) sink'.written in
     let found = stops-longer before (text e.options.format (packets_of kept)) (added e.options.format (packets_of kept) has.packet)
-      (packets_text e.options.format (packets_of kept ++ has.packet ∷ []) tail.packets) (edit_output e.options (items file)) sink.written sink'.written
-      whole (d.output.written ∙ ap (λ (f : Format). before ++ text f (packets_of kept)) d.format) (subst P d.format stops) in
+    (packets_text e.options.format (packets_of kept ++ has.packet ∷ []) tail.packets) (edit_output e.options (items file)) sink.written sink'.written
+    whole (d.output.written ∙ ap (λ (f : Format). before ++ text f (packets_of kept)) d.format) (subst P d.format stops) in
     record { failures = after.failures; count = found.0; within = found.1; written = found.2 }
 
 pub unwritten-packet : (file done before : List ℕ) (e : EditView) (sink sink' : SinkView) (fault : Fault) → IsDecided file done before e sink → e.waiting ≡ true
@@ -311,10 +311,10 @@ pub ended : (file done before : List ℕ) (e : EditView) (options : EditOptions)
     → Comes (items file) before options sink' End
 ended file done before e options sink sink' s' d waits same finds finishes writes =
     let held : items file ≡ record { packets = d.packets; declared = s'.declared; ending = End } =
-      IsAt-end file done d.packets e.source s' (at_reading file done before e sink d waits) finds in
+    IsAt-end file done d.packets e.source s' (at_reading file done before e sink d waits) finds in
     let ps : List Captured = packets_of (kept_of e.options d.packets) in
     let all : edited e.options (items file) ≡ record { packets = ps; ending = End } =
-      edited-all e.options (items file) d.packets End (ap (λ (i : Items). i.packets) held) (ap (λ (i : Items). i.ending) held) d.taken in
+    edited-all e.options (items file) d.packets End (ap (λ (i : Items). i.packets) held) (ap (λ (i : Items). i.ending) held) d.taken in
     rw same (record {
       ends = ap (λ (l : Listed). l.ending) all;
       written =
@@ -341,15 +341,15 @@ pub ended-stops : (file done before : List ℕ) (e : EditView) (options : EditOp
     → StopsWriting file before options sink sink'
 ended-stops file done before e options sink sink' s' fault d waits same finds finishes writes =
     let held : items file ≡ record { packets = d.packets; declared = s'.declared; ending = End } =
-      IsAt-end file done d.packets e.source s' (at_reading file done before e sink d waits) finds in
+    IsAt-end file done d.packets e.source s' (at_reading file done before e sink d waits) finds in
     let ps : List Captured = packets_of (kept_of e.options d.packets) in
     let all : edited e.options (items file) ≡ record { packets = ps; ending = End } =
-      edited-all e.options (items file) d.packets End (ap (λ (i : Items). i.packets) held) (ap (λ (i : Items). i.ending) held) d.taken in
+    edited-all e.options (items file) d.packets End (ap (λ (i : Items). i.packets) held) (ap (λ (i : Items). i.ending) held) d.taken in
     let stops = heading-stops before ps sink sink' (first_link_of s'.declared) fault d.output finishes writes in
     let whole : edit_output e.options (items file) ≡ written_of sink.format (first_link_of s'.declared) ps End =
-      output-all e.options (items file) ps End all
-      ∙ ap (λ (i : Items). written_of e.options.format (first_link_of i.declared) ps End) held
-      ∙ ap (λ (f : Format). written_of f (first_link_of s'.declared) ps End) (sym d.format) in
+    output-all e.options (items file) ps End all
+    ∙ ap (λ (i : Items). written_of e.options.format (first_link_of i.declared) ps End) held
+    ∙ ap (λ (f : Format). written_of f (first_link_of s'.declared) ps End) (sym d.format) in
     let P : List ℕ → Type 0 = λ l. (n : ℕ) × (n < length l) × (sink'.written ≡ before ++ take n l) in
     let found = subst P (sym whole) stops.1 in
     rw same (record { failures = stops.0; count = found.0; within = found.1; written = found.2 })
@@ -376,7 +376,7 @@ broken-comes before options sink packets held fault offset same ends has are for
           has.written
           ∙ ap (λ (f : Format). before ++ text f ps) format
           ∙ ap (λ (l : List ℕ). before ++ l)
-            (sym (output-all options held ps (FaultAt fault offset) all ∙ written-fault options.format (first_link_of held.declared) ps fault offset));
+          (sym (output-all options held ps (FaultAt fault offset) all ∙ written-fault options.format (first_link_of held.declared) ps fault offset));
     }
 
 pub broken : (file done before : List ℕ) (e e' : EditView) (sink : SinkView) (s' : SourceView) (fault : Fault) → IsDecided file done before e sink → e.waiting ≡ false
@@ -386,14 +386,14 @@ broken file done before e e' sink s' fault d waits finds steps is =
     let at = at_reading file done before e sink d waits in
     let bounds = bounds-sound file done d.packets e.source s' fault at steps in
     rw is (elim (IsAt-fault file done d.packets e.source s' fault at finds) [
-      inl faulty ↦ inl (broken-comes before e.options sink d.packets (items file) fault s'.offset
-        (ap (λ (i : Items). i.packets) faulty.items) (ap (λ (i : Items). i.ending) faulty.items) d.output d.taken d.format)
+      | inl faulty ↦ inl (broken-comes before e.options sink d.packets (items file) fault s'.offset
+          (ap (λ (i : Items). i.packets) faulty.items) (ap (λ (i : Items). i.ending) faulty.items) d.output d.taken d.format)
       | inr cut ↦ inr (record {
         held = record { packets = d.packets; declared = s'.declared; ending = FaultAt fault s'.offset };
         cut = cut.cut;
         comes = broken-comes before e.options sink d.packets (record { packets = d.packets; declared = s'.declared; ending = FaultAt fault s'.offset }) fault s'.offset refl refl d.output d.taken d.format;
         why = elim cut.why [
-          inl failed ↦ inl (failed, let counted : s'.failures ≡ e.source.failures + 1 = rw failed at bounds.failures in omega arith)
+          | inl failed ↦ inl (failed, let counted : s'.failures ≡ e.source.failures + 1 = rw failed at bounds.failures in omega arith)
           | inr full ↦ inr full
         ];
       })
@@ -416,7 +416,7 @@ pub ends-run : (file before : List ℕ) (first e e' : EditView) (start sink sink
 ends-run file before first e e' start sink sink' progress.Clean way leaves = leaves
 ends-run file before first e e' start sink sink' (progress.Broken fault) way leaves =
     elim leaves [
-      inl faulty ↦ inl faulty
+      | inl faulty ↦ inl faulty
       | inr cut ↦ inr (record {
         held = cut.held;
         cut = cut.cut;

@@ -1,4 +1,4 @@
-use Rattle.std.proofs.Common.{◌≡◌, ◌+◌, true, false, refl, sym, ◌∙◌, ap, subst, Ok, Err, inl}
+use Rattle.std.proofs.Common.{◌+◌, false, refl, sym, ◌∙◌, ap, subst, Ok, Err}
 use Rattle.cap_tools.specs.Selected.{is_kept}
 use Rattle.cap_tools.specs.Editing.{EditView, PutsSome}
 use Rattle.cap_tools.proofs.Edits.{answered, unwritten-packet}
@@ -16,10 +16,10 @@ pub returns-clause-told : goal.returns-clause-told
 returns-clause-told g c = λ ti to file done before d.
     let number = ap (λ (v : EditView). is_kept v.options.ranges v.options.keep (v.decided + 1)) (sym c.self.view_is) ∙ sym c.keeps.ensures in
     answered file done before c.args.self.now _ c.args.sink.now _ d c.requires
-      (elim c.if-keeps.branch [
-        then-keeps+in-Ok w ↦
+    (elim c.if-keeps.branch [
+      | then-keeps+in-Ok w ↦
           let Q : EditView → Type 0 = λ v. PutsSome v.source.packet c.args.sink.now (Ok tt) w.put_head.new.sink in
           rw (number ∙ w.if-keeps.true, w.sink-is) (subst Q c.self.view_is (w.in-Ok.ensures to))
-        | else-keeps w ↦ rw (number ∙ w.if-keeps.false, w.sink-is) refl
-      ])
-      (ap (λ (v : EditView). record { options = v.options; source = v.source; decided = v.decided + 1; waiting = false }) c.self.view_is)
+      | else-keeps w ↦ rw (number ∙ w.if-keeps.false, w.sink-is) refl
+    ])
+    (ap (λ (v : EditView). record { options = v.options; source = v.source; decided = v.decided + 1; waiting = false }) c.self.view_is)

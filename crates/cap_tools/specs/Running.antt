@@ -1,0 +1,93 @@
+-- What a run of a command leaves: the output, the messages and the status.
+use Rattle.std.specs.Prelude.{◌≡◌, ◌⊎◌, ℕ, ◌+◌, ◌<◌, Bool, IsTrue, List, [], ◌++◌, length, take, Result, String, string_bytes, slice_get}
+use Rattle.std.specs.Option.{option_map_or}
+use Rattle.cap_octet.specs.Device.{AppendsOrStops, failures_of}
+use Rattle.cap_octet.specs.declared.device.DeviceFault.{DeviceFault}
+use Rattle.cap_octet.specs.declared.fault.Fault.{Fault}
+use Rattle.cap_octet.specs.declared.fault.Fault.TheVariants.{ReadFailed, NoMemory}
+use Rattle.cap_io.specs.Capture.{Items, items}
+use Rattle.cap_io.specs.Standing.{IsCutShort}
+use Rattle.cap_tools.specs.declared.command.Command.{Command}
+use Rattle.cap_tools.specs.declared.command.Command.TheVariants as command
+use Rattle.cap_tools.specs.declared.progress.End.{End}
+use Rattle.cap_tools.specs.declared.progress.End.TheVariants.{Clean, Broken, OutputFailed}
+use Rattle.cap_tools.specs.Edited.{EditOptions, options_of, Outcome, edit_output, edit_outcome}
+use Rattle.cap_tools.specs.Messages.{fault_message, write_failed_message, no_memory_message}
+
+-- ---- what is told
+
+-- how a command ended, by the names of the input in hand and of the output; a fault stands at the input's offset
+abbrev pub end_message : List ℕ → List ℕ → End → ℕ → List ℕ
+end_message input output Clean offset = []
+end_message input output (Broken fault) offset = fault_message input offset fault
+end_message input output OutputFailed offset = write_failed_message output
+
+abbrev pub end_status : End → ℕ
+end_status Clean = 0
+end_status (Broken fault) = 1
+end_status OutputFailed = 1
+
+-- an output's bytes, where it tells them, and how often it failed
+pub record OutputView : Type 0 where
+  pub written : List ℕ
+  pub failures : ℕ
+
+-- A message is written whole; or it is lost, in whole or past a beginning, where its device failed.
+pub record IsTold (tells : Bool) (old : OutputView) (message : List ℕ) (new : OutputView) : Type 0 where
+  pub answer : Result (Unit {0}) DeviceFault
+  pub told : IsTrue tells → AppendsOrStops answer old.written message new.written
+  pub counted : new.failures ≡ old.failures + failures_of answer
+
+-- ---- the ways in which a run ends
+
+-- the output, the message and the status are those of the outcome
+pub record Leaves (outcome : Outcome) (out out' : OutputView) (message : List ℕ) (status : ℕ) : Type 0 where
+  pub output : out'.written ≡ out.written ++ outcome.output
+  pub messages : message ≡ outcome.messages
+  pub answered : status ≡ outcome.status
+
+-- The input's device failed in this run, or there was no memory for a unit: then all is as if the input ended by
+-- this fault where that unit begins.
+pub record IsCut (options : EditOptions) (name text : List ℕ) (failures failures' : ℕ) (out out' : OutputView) (message : List ℕ) (status : ℕ) : Type 0 where
+  pub fault : Fault
+  pub held : Items
+  pub cut : IsCutShort text fault held
+  pub why : ((fault ≡ ReadFailed) × (failures < failures')) ⊎ (fault ≡ NoMemory)
+  pub leaves : Leaves (edit_outcome options name held) out out' message status
+
+-- The output's device failed in this run, after a beginning of the output, not the whole.
+pub record OutputFails (options : EditOptions) (name text : List ℕ) (out out' : OutputView) (message : List ℕ) (status : ℕ) : Type 0 where
+  pub failures : out'.failures ≡ out.failures + 1
+  pub count : ℕ
+  pub within : count < length (edit_output options (items text))
+  pub written : out'.written ≡ out.written ++ take count (edit_output options (items text))
+  pub told : message ≡ write_failed_message name
+  pub answered : status ≡ 1
+
+-- There was no memory to begin with, and nothing is written.
+pub record IsNotBegun (out out' : OutputView) (message : List ℕ) (status : ℕ) : Type 0 where
+  pub output : out' ≡ out
+  pub told : message ≡ no_memory_message
+  pub answered : status ≡ 1
+
+-- The input, whose bytes are this text, goes into the output.
+abbrev pub EditLeaves : EditOptions → List ℕ → List ℕ → List ℕ → ℕ × ℕ → OutputView → OutputView → List ℕ → ℕ → Type 0
+EditLeaves options input output text failures out out' message status =
+    Leaves (edit_outcome options input (items text)) out out' message status
+    ⊎ IsCut options input text failures.0 failures.1 out out' message status
+    ⊎ OutputFails options output text out out' message status
+    ⊎ IsNotBegun out out' message status
+
+-- what a run leaves, of which `tells` is whether the messages' device tells its bytes
+pub record Runs (options : EditOptions) (input output text : List ℕ) (failures : ℕ × ℕ) (out : OutputView × OutputView) (tells : Bool) (err : OutputView × OutputView) (status : ℕ) : Type 0 where
+  pub message : List ℕ
+  pub leaves : EditLeaves options input output text failures out.0 out.1 message status
+  pub told : IsTold tells err.0 message err.1
+
+-- ---- the parts of a call
+
+abbrev pub edit_options : {Z : Type 0} → Command Z → EditOptions
+edit_options (command.Edit edit) = options_of edit
+
+abbrev pub name_at : {Z : Type 0} → List (String Z) → ℕ → List ℕ
+name_at names i = option_map_or string_bytes (slice_get names i) []
