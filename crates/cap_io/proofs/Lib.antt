@@ -5,3 +5,4 @@ pub mod Units
 pub mod Items
 pub mod Standing
 pub mod Texts
+pub mod Cuts

@@ -88,12 +88,12 @@ pub HasPackets-put : (before : List ℕ) (ps : List Captured) (old : SinkView) (
 HasPackets-put before ps old p new has puts writes =
     let after = put-answers before ps old p (Ok tt) new has puts in
     let bytes : new.written ≡ old.written ++ added old.format ps p =
-      written-ok (refused old.format ps p) (added old.format ps p) old.written new.written (put-writes before ps old p (Ok tt) new has writes) in
+    written-ok (refused old.format ps p) (added old.format ps p) old.written new.written (put-writes before ps old p (Ok tt) new has writes) in
     record {
       written =
           bytes
           ∙ rw (has.written, after.format)
-            (append_assoc before (text old.format ps) (added old.format ps p) ∙ ap (λ (t : List ℕ). before ++ t) (sym (text-push old.format ps p)));
+          (append_assoc before (text old.format ps) (added old.format ps p) ∙ ap (λ (t : List ℕ). before ++ t) (sym (text-push old.format ps p)));
       put = record { state = after.state };
     }
 

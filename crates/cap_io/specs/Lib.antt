@@ -4,3 +4,4 @@ pub mod Source
 pub mod Text
 pub mod Sink
 pub mod Standing
+pub mod Laws

@@ -1,0 +1,124 @@
+-- Each text has one cut into units.
+use Rattle.std.proofs.Common.{◌≡◌, ℕ, zero, suc, ◌+◌, ◌<◌, ◌≤◌, List, [], ◌∷◌, ◌++◌, length, take, drop, Option, None, Some, refl, sym, ◌∙◌, ap, ap₂, arith, zero-add}
+use Rattle.std.proofs.lemmas.List.{append_assoc, append-nil, length-drop, take_at, drop_at, take-append-drop}
+use Rattle.cap_octet.specs.Packet.{Captured}
+use Rattle.cap_octet.specs.declared.fault.Fault.{Fault}
+use Rattle.cap_io.specs.Capture.{Declared, Nothing, IsUnit, Placed, placed_at, AreUnits, no_unit, unit_then, IsCut, Front, Whole, Stops, front_of, Items, items, items_from, after_packets, no_items, ending_by}
+use Rattle.cap_io.specs.Laws.{Cut, IsSameCut, TellsItems, EachHasCut, EachHasOneCut, CutTellsItems}
+use Rattle.cap_io.proofs.Items.{items_from-units, items_from-stops}
+use Rattle.cap_io.proofs.Units.{front_of-unit, front_of-is}
+
+-- nothing of a rest is a unit where it stops
+pub no_unit_in : (declared : Declared) (rest : List ℕ) (why : Option Fault) → front_of declared rest ≡ Stops why → (u more : List ℕ) (qs : List Captured) (d : Declared) → IsUnit declared u qs d → rest ≡ u ++ more → ⊥
+no_unit_in declared rest why stops u more qs d one splits =
+    let e : Stops why ≡ Whole (length u) qs d = sym stops ∙ ap (front_of declared) splits ∙ front_of-unit one more in cc
+
+-- a rest without a unit stops
+pub stops_for : (declared : Declared) (rest : List ℕ) (front : Front) → front_of declared rest ≡ front → ((u more : List ℕ) (qs : List Captured) (d : Declared) → IsUnit declared u qs d → rest ≡ u ++ more → ⊥)
+    → (why : Option Fault) × (front_of declared rest ≡ Stops why)
+stops_for declared rest (Stops why) is last = (why, is)
+stops_for declared rest (Whole size packets after) is last =
+    let f = front_of-is declared rest size packets after is in
+    absurd (last (take size rest) (drop size rest) packets after f.unit (sym (take-append-drop size rest)))
+
+-- ---- one
+
+record Same {X : Type 0} (one other behind behind' : List ℕ) (ps qs : List X) (c d : Declared) : Type 0 where
+  bytes : one ≡ other
+  rest : behind ≡ behind'
+  packets : ps ≡ qs
+  declared : c ≡ d
+
+-- Two units in front of one text are the same.
+same_unit : {b c d : Declared} {u v : List ℕ} {ps qs : List Captured} → IsUnit b u ps c → IsUnit b v qs d → (x y : List ℕ) → u ++ x ≡ v ++ y → Same u v x y ps qs c d
+same_unit {b = b} {c = c} {d = d} {u = u} {v = v} {ps = ps} {qs = qs} one other x y same =
+    let e : Whole (length u) ps c ≡ Whole (length v) qs d = sym (front_of-unit one x) ∙ ap (front_of b) same ∙ front_of-unit other y in
+    let size : length u ≡ length v = cc in
+    record {
+      bytes = sym (take_at u x (length u) refl) ∙ ap₂ take size same ∙ take_at v y (length v) refl;
+      rest = sym (drop_at u x (length u) refl) ∙ ap₂ drop size same ∙ drop_at v y (length v) refl;
+      packets = cc;
+      declared = cc;
+    }
+
+abbrev Last : Declared → List ℕ → Type 0
+Last declared rest = (u more : List ℕ) (qs : List Captured) (d : Declared) → IsUnit declared u qs d → rest ≡ u ++ more → ⊥
+
+same_units : {b c d : Declared} {at : ℕ} {us vs : List ℕ} {ps qs : List Placed} → AreUnits b at us ps c → AreUnits b at vs qs d → (x y : List ℕ) → us ++ x ≡ vs ++ y → Last c x → Last d y → Same us vs x y ps qs c d
+same_units no_unit no_unit x y same last_x last_y = record { bytes = refl; rest = same; packets = refl; declared = refl }
+same_units no_unit (unit_then {u = v} {more = more} one units) x y same last_x last_y =
+    absurd (last_x v (more ++ y) _ _ one (same ∙ append_assoc v more y))
+same_units (unit_then {u = u} {more = more} one units) no_unit x y same last_x last_y =
+    absurd (last_y u (more ++ x) _ _ one (sym same ∙ append_assoc u more x))
+same_units {at = at} (unit_then {c = c} {u = u} {more = more} {qs = qs} {ps = ps} one units) (unit_then {c = c'} {u = v} {more = more'} {qs = rs} {ps = ps'} other units') x y same last_x last_y =
+    let front : Same u v (more ++ x) (more' ++ y) qs rs c c' = same_unit one other (more ++ x) (more' ++ y) (sym (append_assoc u more x) ∙ same ∙ append_assoc v more' y) in
+    let later = same_units units (rw (front.declared, front.bytes) units') x y front.rest last_x last_y in
+    record {
+      bytes = ap₂ (λ (a b : List ℕ). a ++ b) front.bytes later.bytes;
+      rest = later.rest;
+      packets = ap₂ (λ (a : List Captured) (b : List Placed). placed_at at a ++ b) front.packets later.packets;
+      declared = later.declared;
+    }
+
+pub one_cut : EachHasOneCut
+one_cut text one other =
+    let same = same_units one.cut.units other.cut.units one.rest other.rest (sym one.cut.joined ∙ other.cut.joined) one.cut.last other.cut.last in
+    record { done = same.bytes; rest = same.rest; packets = same.packets; declared = same.declared }
+
+-- ---- what a cut tells
+
+pub cut_tells : CutTellsItems
+cut_tells text c =
+    let stop = stops_for c.declared c.rest (front_of c.declared c.rest) refl c.cut.last in
+    record {
+      why = stop.0;
+      stops = stop.1;
+      items = ap items c.cut.joined ∙ items_from-units c.cut.units c.rest
+          ∙ ap (after_packets c.packets) (items_from-stops c.declared (0 + length c.done) c.rest stop.0 stop.1)
+          ∙ ap₂ (λ (l : List Placed) (n : ℕ). record { packets = l; declared = c.declared; ending = ending_by stop.0 n }) (append-nil c.packets) (zero-add (length c.done));
+    }
+
+-- ---- some
+
+record Units (declared : Declared) (at : ℕ) (text : List ℕ) : Type 0 where
+  done : List ℕ
+  rest : List ℕ
+  packets : List Placed
+  after : Declared
+  joined : text ≡ done ++ rest
+  units : AreUnits declared at done packets after
+  last : Last after rest
+
+-- given the units behind the first
+units_by : (most : ℕ) (declared : Declared) (at : ℕ) (text : List ℕ) (front : Front) → front_of declared text ≡ front → length text ≤ most
+    → ((after : Declared) (at' : ℕ) (more : List ℕ) → length more < most → Units after at' more) → Units declared at text
+units_by most declared at text (Stops why) is enough behind = record {
+  done = [];
+  rest = text;
+  packets = [];
+  after = declared;
+  joined = refl;
+  units = no_unit;
+  last = no_unit_in declared text why is;
+}
+units_by most declared at text (Whole size packets after) is enough behind =
+    let f = front_of-is declared text size packets after is in
+    let more = behind after (at + length (take size text)) (drop size text) (simp length-drop (omega (arith, f.some, f.there))) in
+    record {
+      done = take size text ++ more.done;
+      rest = more.rest;
+      packets = placed_at at packets ++ more.packets;
+      after = more.after;
+      joined = sym (take-append-drop size text) ∙ ap (λ (l : List ℕ). take size text ++ l) more.joined ∙ sym (append_assoc (take size text) more.done more.rest);
+      units = unit_then f.unit more.units;
+      last = more.last;
+    }
+
+units_within : (most : ℕ) (declared : Declared) (at : ℕ) (text : List ℕ) → length text < most → Units declared at text
+units_within zero declared at text enough = absurd (omega arith)
+units_within (suc most) declared at text enough = units_by most declared at text (front_of declared text) refl (omega arith) (units_within most)
+
+pub has_cut : EachHasCut
+has_cut text =
+    let all = units_within (length text + 1) Nothing 0 text (omega arith) in
+    record { done = all.done; rest = all.rest; packets = all.packets; declared = all.after; cut = record { joined = all.joined; units = all.units; last = all.last } }

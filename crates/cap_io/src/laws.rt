@@ -1,0 +1,9 @@
+//! Laws of the definitions: each is the contract of a function that does nothing.
+ghost use Rattle.cap_io.specs.Laws.{EachHasCut, EachHasOneCut, CutTellsItems};
+
+/// Each text is cut into units in one way, and the cut tells its items.
+pub fn one_cut()
+    ensures some { EachHasCut }
+    ensures one { EachHasOneCut }
+    ensures items { CutTellsItems }
+{}
