@@ -1,0 +1,7 @@
+mod Enters
+pub mod Getters
+mod Numbers
+mod Parses
+mod RangeWords
+mod Saying
+mod WrittenRanges

@@ -1,0 +1,22 @@
+use Rattle.std.proofs.Common.{◌≡◌, ◌∙◌, ◌++◌, ◌∷◌, [], ap, refl, map, Some, length, string_bytes, String}
+use Rattle.std.proofs.lemmas.Bool.{and_from, eq-eqb}
+use Rattle.capkit.specs.Range.{range_of}
+use Rattle.capkit.proofs.line.edit_line.Goals as goal
+
+one_input : (c : goal.In_ok-from_str-2) → c.push.new.self.items ≡ c.in_ok-from_str.field-0 ∷ []
+one_input c = c.in_ok-push.ensures.items ∙ ap (λ names. names ++ c.in_ok-from_str.field-0 ∷ []) c.new-inputs.ensures.items
+
+pub returns-clause-line : goal.returns-clause-line
+returns-clause-line c = record {
+  edit = _;
+  command = refl;
+  ranges = c.in_ok-ranges.ensures.ranges ∙ ap (map range_of) c.texts.ensures;
+  keep = c.flag.ensures;
+  format = refl;
+  inputs = ap (map string_bytes) (one_input c) ∙ ap (λ name. name ∷ []) (c.in_ok-from_str.ensures.ok ∙ c.text-input.ensures);
+  output = ap Some (c.in_ok-from_str-2.ensures.ok ∙ c.text-output.ensures);
+  code = refl;
+}
+
+pub returns-clause-proper : goal.returns-clause-proper
+returns-clause-proper c = and_from _ _ (eq-eqb _ 1 (ap length (one_input c))) c.in_ok-ranges.ensures.proper

@@ -1,0 +1,15 @@
+-- Names of inputs and outputs.
+use Rattle.std.specs.Prelude.{◌&&◌, ◌||◌, ℕ, Bool, false, not, List, nat_lt, codes, count_by, Option}
+use Rattle.std.specs.List.{list_any}
+use Rattle.std.specs.Option.{option_map_or}
+use Rattle.std.specs.Str.{bytes_eq}
+
+-- the name is that of a standard stream, `-`
+abbrev pub is_standard : List ℕ → Bool
+is_standard name = bytes_eq name (codes "-")
+
+-- the output, unless it is standard output, is an input too; or standard input is two inputs
+abbrev pub uses_name_twice : List (List ℕ) → Option (List ℕ) → Bool
+uses_name_twice inputs output =
+    option_map_or (λ name. not (is_standard name) && list_any (λ input. bytes_eq input name) inputs) output false
+    || nat_lt 1 (count_by is_standard inputs)

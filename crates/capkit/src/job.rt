@@ -1,0 +1,139 @@
+//! A command over files and standard streams.
+ghost use Rattle.std.specs.Prelude.{◌≡◌};
+
+use crate::line::Line;
+use crate::names::STANDARD;
+use crate::streams::{Created, Opened, Watched};
+use crate::{FAULT, tell};
+use cap_octet::{StdInput, StdOutput};
+use cap_tools::Command;
+use std::alloc::{AllocError, AllocFailed};
+use std::io::{BufReader, BufWriter, Write};
+use std::{fmt, io};
+
+/// The bytes of the buffer before each input and the output.
+const BUFFER: usize = 65_536;
+
+type Source = StdInput<BufReader<Opened>>;
+
+type Target = Watched<BufWriter<Created>>;
+
+/// Why a command was not run to its end.
+#[derive(Drop)]
+enum Stop<'a> {
+    /// The input of this name can't be opened.
+    CannotOpen(&'a str),
+    /// The output of this name can't be created.
+    CannotCreate(&'a str),
+    /// What the command wrote can't be written to the output of this name.
+    WriteFailed(&'a str),
+    NoMemory,
+}
+
+impl fmt::Display for Stop<'_> {
+    fn fmt<W: fmt::Write>(&self, f: &mut fmt::Formatter<W>) -> fmt::Result {
+        match self {
+            Stop::CannotOpen(name) => write!(f, "{name}: cannot open"),
+            Stop::CannotCreate(name) => write!(f, "{name}: cannot create"),
+            Stop::WriteFailed(name) => write!(f, "{name}: write failed"),
+            Stop::NoMemory => write!(f, "no memory"),
+        }
+    }
+}
+
+impl From<AllocError> for Stop<'_> {
+    fn from(_error: AllocError) -> Self {
+        Stop::NoMemory
+    }
+}
+
+impl From<io::Error> for Stop<'_> {
+    fn from(_error: io::Error) -> Self {
+        Stop::NoMemory
+    }
+}
+
+impl<T: Drop> From<AllocFailed<T>> for Stop<'_> {
+    fn from(_error: AllocFailed<T>) -> Self {
+        Stop::NoMemory
+    }
+}
+
+/// Opens the inputs in order.
+fn open<'a>(rt: &HostRuntime, names: &'a [String]) -> Result<Vec<Source>, Stop<'a>> {
+    let mut inputs = Vec::new(rt.alloc());
+    for name in names {
+        let name = name.as_str();
+        let Ok(opened) = Opened::open(rt, name) else {
+            return Err(Stop::CannotOpen(name));
+        };
+        let reader = BufReader::with_capacity(rt.alloc(), BUFFER, opened)?;
+        inputs.push(StdInput::new(reader))?;
+    }
+    Ok(inputs)
+}
+
+/// Creates the output.
+fn create<'a>(rt: &HostRuntime, name: &'a str) -> Result<Target, Stop<'a>> {
+    let Ok(created) = Created::create(rt, name) else {
+        return Err(Stop::CannotCreate(name));
+    };
+    let writer = BufWriter::with_capacity(rt.alloc(), BUFFER, created)?;
+    Ok(Watched::new(writer))
+}
+
+/// Runs the command over its inputs and the output of that name. What the command told of the output is not told again.
+fn run_over<'a>(
+    rt: &HostRuntime,
+    command: Command,
+    mut names: Vec<String>,
+    inputs: Vec<Source>,
+    output: &'a str,
+) -> Result<u8, Stop<'a>> {
+    let target = create(rt, output)?;
+    names.push(String::from_str(rt.alloc(), output)?)?;
+    let messages = BufWriter::new(rt.alloc(), rt.stderr())?;
+    let (status, target, messages) = cap_tools::run(
+        rt.alloc(),
+        command,
+        names,
+        inputs,
+        StdOutput::new(target),
+        StdOutput::new(messages),
+    );
+    let _ = messages.into_inner().flush();
+    let mut target = target.into_inner();
+    if target.flush().is_err() && !target.has_failed() {
+        return Err(Stop::WriteFailed(output));
+    }
+    Ok(status)
+}
+
+/// Tells the stop, and answers its status.
+fn stopped(rt: &HostRuntime, stop: Stop<'_>) -> u8
+    ensures { result ≡ 1 }
+{
+    tell(rt, stop);
+    FAULT
+}
+
+/// Runs the command of the line over the files and streams that its names stand for, and answers its status.
+///
+/// The inputs are opened in order, then the output is created, then the command runs.
+pub fn run(rt: &HostRuntime, line: Line) -> u8 {
+    let Line {
+        command,
+        inputs: names,
+        output,
+        code: _,
+    } = line;
+    let output = output.as_ref().map_or(STANDARD, |name| name.as_str());
+    let inputs = match open(rt, names.as_slice()) {
+        Ok(inputs) => inputs,
+        Err(stop) => return stopped(rt, stop),
+    };
+    match run_over(rt, command, names, inputs, output) {
+        Ok(status) => status,
+        Err(stop) => stopped(rt, stop),
+    }
+}

@@ -1,0 +1,10 @@
+-- The piece up to the first line feed is the first line.
+use Rattle.std.proofs.Common.{◌∙◌, ap, ◌∷◌}
+use Rattle.flt_bpf.specs.Reading.{pieces_after}
+use Rattle.flt_bpf.specs.Listing.{LINE_FEED}
+use Rattle.flt_bpf.proofs.LineByLine.{line_more}
+use Rattle.flt_bpf.proofs.reading.first_line.Goals as goal
+
+pub returns-in-Some : goal.returns-in-Some
+returns-in-Some c =
+    line_more c.args.text.now c.cut_at-cut.result.piece.now c.in-Some.rest.now (c.cut_at-cut.ensures.pieces ∙ ap (λ r. c.cut_at-cut.result.piece.now ∷ pieces_after LINE_FEED r) c.in-Some.is)

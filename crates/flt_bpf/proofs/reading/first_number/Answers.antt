@@ -1,0 +1,10 @@
+-- The piece up to the first blank is the first number.
+use Rattle.std.proofs.Common.{◌∙◌, ap, sym, ◌∷◌}
+use Rattle.flt_bpf.specs.Reading.{pieces_after}
+use Rattle.flt_bpf.specs.Listing.{BLANK}
+use Rattle.flt_bpf.proofs.Lines.{number_first}
+use Rattle.flt_bpf.proofs.reading.first_number.Goals as goal
+
+pub returns-clause-first : goal.returns-clause-first
+returns-clause-first c =
+    number_first c.args.line.now c.cut_at-cut.result.piece.now c.in_ok-cut.field-0.now c.after_blanks-rest.result.now c.in_ok-number.number (c.cut_at-cut.ensures.pieces ∙ ap (λ r. c.cut_at-cut.result.piece.now ∷ pieces_after BLANK r) c.in_ok-cut.was) (sym c.number.ensures ∙ c.in_ok-number.was) c.after_blanks-rest.ensures

@@ -1,0 +1,10 @@
+-- A line with a blank is not one number.
+use Rattle.std.proofs.Common.{◌∙◌, ap, sym, ◌∷◌}
+use Rattle.flt_bpf.specs.Reading.{pieces_after}
+use Rattle.flt_bpf.specs.Listing.{BLANK}
+use Rattle.flt_bpf.proofs.Lines.{blank_not_only}
+use Rattle.flt_bpf.proofs.reading.only_number.Goals as goal
+
+pub returns-in-Some : goal.returns-in-Some
+returns-in-Some c =
+    sym (blank_not_only c.args.line.now c.cut_at-cut.result.piece.now c.in-Some.field-0.now (c.cut_at-cut.ensures.pieces ∙ ap (λ r. c.cut_at-cut.result.piece.now ∷ pieces_after BLANK r) c.in-Some.is))

@@ -1,0 +1,28 @@
+-- Line by line the listing is written, and where the output fails a front of it was.
+use Rattle.std.proofs.Common.{length, ◌∙◌, arith, rules}
+use Rattle.std.proofs.lemmas.Fmt.{length-decimal-le}
+use Rattle.flt_bpf.proofs.Assembling.{line_bytes, stopped_front, stopped_told, more_told, more_size}
+use Rattle.flt_bpf.proofs.writing.write_insns.Goals as goal
+
+pub put_number-start-requires-clause-room : goal.put_number-start-requires-clause-room
+put_number-start-requires-clause-room g c =
+    let count = length-decimal-le 10 (length c.args.insns.now) (omega arith) (omega arith) (omega arith) in
+    omega arith
+
+pub returns-in-Err-clause-front : goal.returns-in-Err-clause-front
+returns-in-Err-clause-front g c =
+    stopped_front c.args.insns.now c.loop-insn.insn-index _ c.loop-insn.written c.in-Err.stopped.written _ c.loop-insn-test.true (line_bytes c.put_insn-start.new.line c.put_insn-start.result c.put_insn-start.array_long ∙ c.put_insn-start.ensures.written) c.in-Err.ensures.front c.loop-insn.invariant.size
+
+pub returns-in-Err-clause-told : goal.returns-in-Err-clause-told
+returns-in-Err-clause-told g c =
+    λ tells. stopped_told _ _ _ c.args.insns.now c.loop-insn.insn-index _ c.loop-insn.written c.in-Err.stopped.written _ c.loop-insn-test.true (line_bytes c.put_insn-start.new.line c.put_insn-start.result c.put_insn-start.array_long ∙ c.put_insn-start.ensures.written) c.in-Err.ensures.front c.loop-insn.invariant.size (c.loop-insn.invariant.told tells) (c.in-Err.ensures.told tells)
+
+pub loop-insn-preserved : goal.loop-insn-preserved
+loop-insn-preserved g c =
+    let bytes = line_bytes c.put_insn-start.new.line c.put_insn-start.result c.put_insn-start.array_long ∙ c.put_insn-start.ensures.written in
+    record {
+      bounded = omega arith;
+      size = more_size c.args.insns.now c.loop-insn.insn-index _ c.loop-insn.written c.put_insn-start.result c.put_insn-start.new.line c.loop-insn-test.true c.put_insn-start.array_long bytes c.loop-insn.invariant.size;
+      failed = search rules;
+      told = λ tells. more_told _ _ _ c.args.insns.now c.loop-insn.insn-index _ _ c.loop-insn-test.true bytes (c.loop-insn.invariant.told tells) (c.in_default.ensures.told tells);
+    }

@@ -1,0 +1,11 @@
+-- The definitions that contracts cite.
+pub mod Check
+pub mod Content
+pub mod Flow
+pub mod Instructions
+pub mod Listing
+pub mod Machine
+pub mod Message
+pub mod Reading
+pub mod Refusal
+pub mod Valid

@@ -1,0 +1,47 @@
+-- What messages say of a refused program and of a refused text.
+use Rattle.std.specs.Prelude.{ℕ, Bool, true, false, if◌then◌else◌, List, [], ◌++◌, Option, Some, None, codes, decimal}
+use Rattle.flt_bpf.specs.declared.fault.CheckFault.{CheckFault}
+use Rattle.flt_bpf.specs.declared.fault.CheckFault.TheVariants.{Empty, TooLong, UnknownCode, JumpOut, NoSuchWord, DivisionByZero, ShiftTooFar, NoReturn}
+use Rattle.flt_bpf.specs.declared.fault.ListingFault.{ListingFault}
+use Rattle.flt_bpf.specs.declared.fault.ListingFault.TheVariants as listing
+
+-- what a broken rule is called
+abbrev pub check_text : CheckFault → List ℕ
+check_text Empty = codes "empty"
+check_text TooLong = codes "too long"
+check_text UnknownCode = codes "unknown code"
+check_text JumpOut = codes "jump out"
+check_text NoSuchWord = codes "no such word"
+check_text DivisionByZero = codes "division by zero"
+check_text ShiftTooFar = codes "shift too far"
+check_text NoReturn = codes "no return at the end"
+
+-- whether a rule is broken by one instruction, whose index is told
+abbrev pub has_index : CheckFault → Bool
+has_index Empty = false
+has_index TooLong = false
+has_index NoReturn = false
+has_index _ = true
+
+-- the message on a broken rule and the index of the instruction that breaks it
+abbrev pub check_message : CheckFault → ℕ → List ℕ
+check_message fault index = check_text fault ++ (if has_index fault then codes " at " ++ decimal index else [])
+
+-- what a text that was not read is called
+abbrev pub listing_text : ListingFault → List ℕ
+listing_text (listing.NotListing line) = codes "not a listing"
+listing_text listing.Memory = codes "no memory"
+
+-- the number of the first wrong line
+abbrev pub wrong_line : ListingFault → Option ℕ
+wrong_line (listing.NotListing line) = Some line
+wrong_line listing.Memory = None
+
+-- the number of a line, where there is one
+abbrev pub at_line : Option ℕ → List ℕ
+at_line None = []
+at_line (Some line) = codes " at line " ++ decimal line
+
+-- the message on a text that was not read
+abbrev pub listing_message : ListingFault → List ℕ
+listing_message fault = listing_text fault ++ at_line (wrong_line fault)

@@ -1,0 +1,101 @@
+-- What the reader of listings computes, line by line.
+use Rattle.std.specs.Prelude.{◌≡◌, ℕ, zero, suc, ◌+◌, ◌-◌, ◌*◌, ◌^◌, ◌≤◌, nat_lt, nat_le, ◌==◌, ◌&&◌, if◌then◌else◌, List, [], ◌∷◌, length, Option, Some, None, Result, Ok, Err}
+use Rattle.std.specs.List.{slice_split}
+use Rattle.std.specs.Borrow.{Bor}
+use Rattle.flt_bpf.specs.declared.insn.Insn.{Insn}
+use Rattle.flt_bpf.specs.declared.fault.ListingFault.{ListingFault}
+use Rattle.flt_bpf.specs.declared.fault.ListingFault.TheVariants.{NotListing, Memory}
+use Rattle.flt_bpf.specs.Listing.{BLANK, MOST_BYTES, lines_of}
+use Rattle.flt_bpf.specs.Valid.{MOST_INSTRUCTIONS}
+
+-- the pieces of a text behind the first
+abbrev pub pieces_after : ℕ → Option (Bor (List ℕ)) → List (List ℕ)
+pieces_after stop None = []
+pieces_after stop (Some rest) = slice_split (λ b. b == stop) rest.now
+
+-- the number that digits write behind those that write v
+abbrev pub digits_from : ℕ → List ℕ → Option ℕ
+digits_from v [] = Some v
+digits_from v (b ∷ bs) = if nat_le 48 b && nat_le b 57 then digits_from (10 * v + (b - 48)) bs else None
+
+-- the number that 1 to 10 digits write
+abbrev pub numeral : List ℕ → Option ℕ
+numeral [] = None
+numeral (b ∷ bs) = if nat_lt 10 (length (b ∷ bs)) then None else digits_from 0 (b ∷ bs)
+
+-- a number before others
+abbrev pub after : Option ℕ → Option (List ℕ) → Option (List ℕ)
+after None others = None
+after (Some n) None = None
+after (Some n) (Some ns) = Some (n ∷ ns)
+
+-- the numbers of the pieces between blanks, of which all but the last may be empty
+abbrev pub later_numbers : List (List ℕ) → Option (List ℕ)
+later_numbers [] = None
+later_numbers (w ∷ []) = after (numeral w) (Some [])
+later_numbers ([] ∷ v ∷ ws) = later_numbers (v ∷ ws)
+later_numbers ((b ∷ bs) ∷ v ∷ ws) = after (numeral (b ∷ bs)) (later_numbers (v ∷ ws))
+
+-- the same where the first may not be empty either
+abbrev pub numbers_of : List (List ℕ) → Option (List ℕ)
+numbers_of [] = None
+numbers_of (w ∷ []) = after (numeral w) (Some [])
+numbers_of (w ∷ v ∷ ws) = after (numeral w) (later_numbers (v ∷ ws))
+
+-- the numbers of a line
+abbrev pub line_numbers : List ℕ → Option (List ℕ)
+line_numbers line = numbers_of (slice_split (λ b. b == BLANK) line)
+
+-- a list with one number
+abbrev pub only_of : Option (List ℕ) → Option ℕ
+only_of (Some (n ∷ [])) = Some n
+only_of _ = None
+
+-- at most one number, or none at all
+abbrev pub HasAtMostOne : Option (List ℕ) → Type 0
+HasAtMostOne None = Unit {0}
+HasAtMostOne (Some ns) = length ns ≤ 1
+
+-- an instruction whose fields are in range
+abbrev pub insn_from : ℕ → ℕ → ℕ → ℕ → Option Insn
+insn_from code jt jf k =
+    if nat_lt code (2 ^ 16) && (nat_lt jt (2 ^ 8) && (nat_lt jf (2 ^ 8) && nat_lt k (2 ^ 32)))
+    then Some (record { code = code; jt = jt; jf = jf; k = k }) else None
+
+-- the instruction that four numbers make
+abbrev pub insn_of : Option (List ℕ) → Option Insn
+insn_of (Some (code ∷ jt ∷ jf ∷ k ∷ [])) = insn_from code jt jf k
+insn_of _ = None
+
+-- an instruction before others
+abbrev pub onto : Insn → Result (List Insn) ℕ → Result (List Insn) ℕ
+onto i (Ok is) = Ok (i ∷ is)
+onto i (Err line) = Err line
+
+abbrev pub read_insn : Option Insn → Result (List Insn) ℕ → ℕ → Result (List Insn) ℕ
+read_insn None others at = Err at
+read_insn (Some i) others at = onto i others
+
+-- so many instructions from lines, the first of which has the number `at`; else the number of the first wrong line
+abbrev pub read_insns : ℕ → List (List ℕ) → ℕ → Result (List Insn) ℕ
+read_insns zero [] at = Ok []
+read_insns zero (line ∷ lines) at = Err at
+read_insns (suc n) [] at = Err at
+read_insns (suc n) (line ∷ lines) at = read_insn (insn_of (line_numbers line)) (read_insns n lines (at + 1)) at
+
+abbrev pub read_from : Option (List ℕ) → List (List ℕ) → Result (List Insn) ℕ
+read_from (Some (n ∷ [])) lines = if nat_lt MOST_INSTRUCTIONS n then Err 1 else read_insns n lines 2
+read_from _ lines = Err 1
+
+abbrev pub read_lines : List (List ℕ) → Result (List Insn) ℕ
+read_lines [] = Err 1
+read_lines (first ∷ lines) = read_from (line_numbers first) lines
+
+-- the instructions of a listing, or the number of the line at which a text is refused
+abbrev pub read : List ℕ → Result (List Insn) ℕ
+read text = if nat_lt MOST_BYTES (length text) then Err 1 else read_lines (lines_of text)
+
+-- what reading ended with: memory may be refused whatever the text is
+abbrev pub IsFaultOf : ListingFault → Result (List Insn) ℕ → Type 0
+IsFaultOf (NotListing line) r = r ≡ Err line
+IsFaultOf Memory r = Unit {0}

@@ -1,0 +1,23 @@
+//! The packet-filter machine: its instructions, the check of a program, its runs, and listings of programs.
+//!
+//! The machine is of the kind of S. McCanne and V. Jacobson, "The BSD Packet Filter" (1993): two registers, 16 words of
+//! memory, loads from the packet, arithmetic and forward jumps. A [`Program`] passed [`check`], so a [`run`] of it needs no
+//! test of its own and ends after at most as many instructions as the program has.
+#![tactic(auto)]
+
+pub mod fault;
+pub mod insn;
+pub mod laws;
+pub mod machine;
+pub mod operation;
+pub mod program;
+pub mod reading;
+#[cfg(test)]
+mod tests;
+pub mod writing;
+
+pub use fault::{CheckFault, ListingFault};
+pub use insn::Insn;
+pub use program::{Program, check, run};
+pub use reading::read_listing;
+pub use writing::write_listing;

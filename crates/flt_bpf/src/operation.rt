@@ -1,0 +1,159 @@
+//! What the codes of instructions stand for.
+
+ghost use Rattle.std.specs.Prelude.{◌≡◌};
+ghost use Rattle.flt_bpf.specs.Instructions.{operation_of};
+
+/// A register of 32 bits.
+#[derive(Clone, Copy, PartialEq, Eq, Debug)]
+pub enum Register {
+    /// A, which arithmetic and tests work on.
+    Accumulator,
+    /// X, which places in the packet may count from.
+    Index,
+}
+
+/// How many bytes of the packet a load takes: 4, 2 or 1.
+#[derive(Clone, Copy, PartialEq, Eq, Debug)]
+pub enum Width {
+    Word,
+    HalfWord,
+    Byte,
+}
+
+/// What a register is loaded with, where it isn't bytes of the packet.
+#[derive(Clone, Copy, PartialEq, Eq, Debug)]
+pub enum Source {
+    /// The number k.
+    Immediate,
+    /// The word M[k].
+    Memory,
+    /// The original length of the packet.
+    Length,
+}
+
+/// What arithmetic does with A and an operand, modulo 2^32.
+#[derive(Clone, Copy, PartialEq, Eq, Debug)]
+pub enum Operator {
+    Add,
+    Subtract,
+    Multiply,
+    Divide,
+    Or,
+    And,
+    ShiftLeft,
+    ShiftRight,
+}
+
+/// What a conditional jump asks of A and an operand.
+#[derive(Clone, Copy, PartialEq, Eq, Debug)]
+pub enum Test {
+    Equal,
+    Greater,
+    AtLeast,
+    /// Some bit is set in both.
+    AnyBit,
+}
+
+/// The second operand of arithmetic and of a test.
+#[derive(Clone, Copy, PartialEq, Eq, Debug)]
+pub enum Operand {
+    /// The number k.
+    Constant,
+    /// X.
+    IndexRegister,
+}
+
+/// What an instruction does.
+#[derive(Clone, Copy, PartialEq, Eq, Debug)]
+pub enum Operation {
+    /// A = bytes of the packet at k.
+    LoadAbsolute(Width),
+    /// A = bytes of the packet at X + k modulo 2^32.
+    LoadIndirect(Width),
+    /// A register = k, M[k] or the original length.
+    Load(Register, Source),
+    /// X = four times the lower half of the byte at k, which is the length of an IPv4 header that begins there.
+    LoadHeaderLength,
+    /// M[k] = a register.
+    Store(Register),
+    /// A = A and an operand, computed.
+    Compute(Operator, Operand),
+    /// A = 0 - A.
+    Negate,
+    /// Pass over k instructions.
+    Jump,
+    /// Pass over jt instructions where the test holds, else over jf.
+    JumpIf(Test, Operand),
+    /// The answer is k.
+    ReturnConstant,
+    /// The answer is A.
+    ReturnAccumulator,
+    /// X = A.
+    CopyToIndex,
+    /// A = X.
+    CopyToAccumulator,
+}
+
+/// What a code stands for, or none where it stands for nothing.
+// Where this is inlined, the compiler makes one jump of this match and of the one on its result.
+#[inline(always)]
+#[tactic(auto, unfolding(crate::specs::Instructions::operation_of))]
+pub fn decode(code: u16) -> Option<Operation>
+    ensures { result ≡ operation_of code }
+{
+    use Operand::{Constant, IndexRegister};
+    use Operation::*;
+    use Operator::*;
+    use Register::{Accumulator, Index};
+    use Source::{Immediate, Length, Memory};
+    use Test::{AnyBit, AtLeast, Equal, Greater};
+    use Width::{Byte, HalfWord, Word};
+    Some(match code {
+        32 => LoadAbsolute(Word),
+        40 => LoadAbsolute(HalfWord),
+        48 => LoadAbsolute(Byte),
+        64 => LoadIndirect(Word),
+        72 => LoadIndirect(HalfWord),
+        80 => LoadIndirect(Byte),
+        0 => Load(Accumulator, Immediate),
+        96 => Load(Accumulator, Memory),
+        128 => Load(Accumulator, Length),
+        1 => Load(Index, Immediate),
+        97 => Load(Index, Memory),
+        129 => Load(Index, Length),
+        177 => LoadHeaderLength,
+        2 => Store(Accumulator),
+        3 => Store(Index),
+        4 => Compute(Add, Constant),
+        20 => Compute(Subtract, Constant),
+        36 => Compute(Multiply, Constant),
+        52 => Compute(Divide, Constant),
+        68 => Compute(Or, Constant),
+        84 => Compute(And, Constant),
+        100 => Compute(ShiftLeft, Constant),
+        116 => Compute(ShiftRight, Constant),
+        12 => Compute(Add, IndexRegister),
+        28 => Compute(Subtract, IndexRegister),
+        44 => Compute(Multiply, IndexRegister),
+        60 => Compute(Divide, IndexRegister),
+        76 => Compute(Or, IndexRegister),
+        92 => Compute(And, IndexRegister),
+        108 => Compute(ShiftLeft, IndexRegister),
+        124 => Compute(ShiftRight, IndexRegister),
+        132 => Negate,
+        5 => Jump,
+        21 => JumpIf(Equal, Constant),
+        37 => JumpIf(Greater, Constant),
+        53 => JumpIf(AtLeast, Constant),
+        69 => JumpIf(AnyBit, Constant),
+        29 => JumpIf(Equal, IndexRegister),
+        45 => JumpIf(Greater, IndexRegister),
+        61 => JumpIf(AtLeast, IndexRegister),
+        77 => JumpIf(AnyBit, IndexRegister),
+        6 => ReturnConstant,
+        22 => ReturnAccumulator,
+        7 => CopyToIndex,
+        135 => CopyToAccumulator,
+        _ => return None,
+    })
+}

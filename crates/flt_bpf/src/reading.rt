@@ -1,0 +1,221 @@
+//! Listings, read.
+
+ghost use Rattle.std.specs.Prelude.{◌≡◌, ℕ, ◌+◌, ◌<◌, ◌≤◌, ◌==◌, List, ◌∷◌, length, Option, Some, Ok, IfOk, IfErr, IfSome, IfNone as OnNone, MatchResult};
+ghost use Rattle.std.specs.List.{slice_split};
+ghost use Rattle.flt_bpf.specs.Listing.{lines_of, IsListing};
+ghost use Rattle.flt_bpf.specs.Refusal.{IsReasonFor};
+ghost use Rattle.flt_bpf.specs.Reading.{pieces_after, numeral, after, later_numbers, line_numbers, only_of, HasAtMostOne, insn_from, insn_of, read_insns, read, IsFaultOf};
+
+use crate::fault::ListingFault;
+use crate::insn::Insn;
+use crate::program::MOST_INSTRUCTIONS;
+use std::alloc::Allocator;
+
+/// How many bytes a listing may have.
+pub const MOST_BYTES: usize = 1_048_576;
+
+/// What stands between the numbers of a line.
+pub(crate) const BLANK: u8 = b' ';
+
+/// What ends a line.
+pub(crate) const LINE_FEED: u8 = b'\n';
+
+// A text up to the first of some byte, and what stands behind that byte, where there is one.
+#[derive(Clone, Copy)]
+struct Cut<'a> {
+    piece: &'a [u8],
+    rest: Option<&'a [u8]>,
+}
+
+// A text, cut at the first such byte.
+fn cut_at(text: &[u8], stop: u8) -> Cut<'_>
+    ensures pieces { slice_split (λ b. b == stop) text.now ≡ result.piece.now ∷ pieces_after stop result.rest }
+    ensures whole { OnNone result.rest (result.piece.now ≡ text.now) }
+{
+    for (at, byte) in text.iter().enumerate() {
+        if *byte == stop {
+            return Cut {
+                piece: &text[..at],
+                rest: Some(&text[at + 1..]),
+            };
+        }
+    }
+    Cut {
+        piece: text,
+        rest: None,
+    }
+}
+
+// The number that 1 to 10 digits write.
+fn number(digits: &[u8]) -> Option<u64>
+    ensures { result ≡ numeral digits.now }
+{
+    if digits.is_empty() || digits.len() > 10 {
+        return None;
+    }
+    let mut value = 0u64;
+    for digit in digits {
+        if !digit.is_ascii_digit() {
+            return None;
+        }
+        value = 10 * value + u64::from(*digit - b'0');
+    }
+    Some(value)
+}
+
+// A number, and what stands behind it and the blanks after it.
+#[derive(Clone, Copy)]
+struct Numbered<'a> {
+    number: u64,
+    rest: &'a [u8],
+}
+
+// What stands behind the blanks at the beginning of a text.
+fn after_blanks(text: &[u8]) -> &[u8]
+    ensures { later_numbers (slice_split (λ b. b == BLANK) text.now) ≡ line_numbers result.now }
+{
+    for (at, byte) in text.iter().enumerate() {
+        if *byte != BLANK {
+            return &text[at..];
+        }
+    }
+    &text[text.len()..]
+}
+
+// The number at the beginning of a line, where blanks stand behind it.
+fn first_number(line: &[u8]) -> Option<Numbered<'_>>
+    ensures first { IfSome result (λ first. line_numbers line.now ≡ after (Some first.number) (line_numbers first.rest.now)) }
+    ensures last { OnNone result (HasAtMostOne (line_numbers line.now)) }
+{
+    let cut = cut_at(line, BLANK);
+    let number = number(cut.piece)?;
+    let rest = after_blanks(cut.rest?);
+    Some(Numbered { number, rest })
+}
+
+// The number that a line is.
+fn only_number(line: &[u8]) -> Option<u64>
+    ensures { result ≡ only_of (line_numbers line.now) }
+{
+    let cut = cut_at(line, BLANK);
+    match cut.rest {
+        None => number(cut.piece),
+        Some(_) => None,
+    }
+}
+
+// The instruction with these fields, where each is in its range.
+fn insn_with(code: u64, jt: u64, jf: u64, k: u64) -> Option<Insn>
+    ensures { result ≡ insn_from code jt jf k }
+{
+    if code < 1 << 16 && jt < 1 << 8 && jf < 1 << 8 && k < 1 << 32 {
+        Some(Insn {
+            code: code as u16,
+            jt: jt as u8,
+            jf: jf as u8,
+            k: k as u32,
+        })
+    } else {
+        None
+    }
+}
+
+// The instruction on a line.
+fn insn_on(line: &[u8]) -> Option<Insn>
+    ensures { result ≡ insn_of (line_numbers line.now) }
+{
+    let code = first_number(line)?;
+    let jt = first_number(code.rest)?;
+    let jf = first_number(jt.rest)?;
+    match only_number(jf.rest) {
+        Some(k) => insn_with(code.number, jt.number, jf.number, k),
+        None => None,
+    }
+}
+
+// The first line of a text, and what stands behind it.
+#[derive(Clone, Copy)]
+struct FirstLine<'a> {
+    line: &'a [u8],
+    rest: &'a [u8],
+}
+
+// The first line of a text that isn't empty.
+fn first_line(text: &[u8]) -> FirstLine<'_>
+    requires { 0 < length text.now }
+    ensures { lines_of text.now ≡ result.line.now ∷ lines_of result.rest.now }
+{
+    let cut = cut_at(text, LINE_FEED);
+    match cut.rest {
+        Some(rest) => FirstLine {
+            line: cut.piece,
+            rest,
+        },
+        None => FirstLine {
+            line: cut.piece,
+            rest: &text[text.len()..],
+        },
+    }
+}
+
+// So many instructions, one on each line of a text, behind the first line of a listing.
+fn insns_on<A: Allocator + Drop>(
+    alloc: A,
+    count: usize,
+    text: &[u8],
+) -> Result<Vec<Insn, A>, ListingFault>
+    requires { count ≤ 32768 }
+    ensures { MatchResult result
+        (λ insns. read_insns count (lines_of text.now) 2 ≡ Ok insns.items)
+        (λ fault. IsFaultOf fault (read_insns count (lines_of text.now) 2)) }
+{
+    let mut insns = Vec::new(alloc);
+    let mut rest = text;
+    for at in 0..count {
+        if rest.is_empty() {
+            return Err(ListingFault::NotListing(at + 2));
+        }
+        let first = first_line(rest);
+        match insn_on(first.line) {
+            None => return Err(ListingFault::NotListing(at + 2)),
+            Some(insn) => match insns.push(insn) {
+                Ok(()) => rest = first.rest,
+                Err(_) => return Err(ListingFault::Memory),
+            },
+        }
+    }
+    if rest.is_empty() {
+        Ok(insns)
+    } else {
+        Err(ListingFault::NotListing(count + 2))
+    }
+}
+
+// The instructions of a listing, or the number of the line at which a text is refused.
+fn insns_of<A: Allocator + Drop>(alloc: A, text: &[u8]) -> Result<Vec<Insn, A>, ListingFault>
+    ensures { MatchResult result (λ insns. read text.now ≡ Ok insns.items) (λ fault. IsFaultOf fault (read text.now)) }
+{
+    if text.len() > MOST_BYTES || text.is_empty() {
+        return Err(ListingFault::NotListing(1));
+    }
+    let first = first_line(text);
+    match only_number(first.line) {
+        Some(count) if count <= MOST_INSTRUCTIONS as u64 => {
+            insns_on(alloc, count as usize, first.rest)
+        }
+        _ => Err(ListingFault::NotListing(1)),
+    }
+}
+
+/// The instructions of a listing. The reader also takes several blanks between numbers, leading zeros up to 10 digits a
+/// number, and a last line without a line feed. An error is `NotListing` with the first wrong line, which is line 1 of a
+/// text over 1,048,576 bytes, or want of memory.
+pub fn read_listing<A: Allocator + Drop>(
+    alloc: A,
+    text: &[u8],
+) -> Result<Vec<Insn, A>, ListingFault>
+    ensures listing { IfOk result (λ insns. IsListing text.now insns.items) }
+    ensures refused { IfErr result (IsReasonFor text.now) }
+{
+    insns_of(alloc, text)
+}

@@ -1,0 +1,72 @@
+//! Listings, written.
+
+ghost use Rattle.std.specs.Prelude.{◌≡◌, ℕ, ◌+◌, ◌<◌, ◌≤◌, List, [], ◌∷◌, ◌++◌, length, drop, decimal, IsTrue, IfErr};
+ghost use Rattle.cap_octet.specs.Device.{WritesAll, failures_of};
+ghost use Rattle.flt_bpf.specs.Listing.{insn_line, listing};
+
+use crate::insn::Insn;
+use crate::program::Program;
+use crate::reading::{BLANK, LINE_FEED};
+use cap_octet::{Output, Stopped, write_all};
+use std::alloc::Allocator;
+
+/// How many bytes a line has at most: numbers of 5, 3, 3 and 10 digits, and a byte behind each.
+const MOST_LINE: usize = 25;
+
+/// Writes the listing of a program, and takes no memory. An error is a failure of the output in this call, and tells how
+/// many bytes, fewer than all, were written before it.
+pub fn write_listing<A: Allocator, O: Output>(
+    program: &Program<A>,
+    output: &mut O,
+) -> Result<(), Stopped>
+    ensures front { IfErr result (λ stopped. stopped.written < length (listing program.now.insns)) }
+    ensures failed { O.failures output.new ≡ O.failures output.old + failures_of result }
+    ensures told { IsTrue O.tells → WritesAll (O.written output.old) (listing program.now.insns) result (O.written output.new) }
+{
+    write_insns(program.insns(), output)
+}
+
+// The same of instructions that are few enough.
+fn write_insns<O: Output>(insns: &[Insn], output: &mut O) -> Result<(), Stopped>
+    requires { length insns.now ≤ 32768 }
+    ensures front { IfErr result (λ stopped. stopped.written < length (listing insns.now)) }
+    ensures failed { O.failures output.new ≡ O.failures output.old + failures_of result }
+    ensures told { IsTrue O.tells → WritesAll (O.written output.old) (listing insns.now) result (O.written output.new) }
+{
+    let mut line = [0; MOST_LINE];
+    let start = put_number(&mut line, MOST_LINE, insns.len() as u64, LINE_FEED);
+    write_all(output, &line[start..])?;
+    let mut written = MOST_LINE - start;
+    for insn in insns {
+        let start = put_insn(&mut line, insn);
+        if let Err(stopped) = write_all(output, &line[start..]) {
+            return Err(Stopped {
+                written: written + stopped.written,
+            });
+        }
+        written += MOST_LINE - start;
+    }
+    Ok(())
+}
+
+// Puts the line of an instruction at the end of the bytes, and answers where it starts.
+fn put_insn(line: &mut [u8; MOST_LINE], insn: &Insn) -> usize
+    ensures inside { result ≤ 25 }
+    ensures written { drop result line.new ≡ insn_line insn.now ++ LINE_FEED ∷ [] }
+{
+    let k = put_number(line, MOST_LINE, u64::from(insn.k), LINE_FEED);
+    let jf = put_number(line, k, u64::from(insn.jf), BLANK);
+    let jt = put_number(line, jf, u64::from(insn.jt), BLANK);
+    put_number(line, jt, u64::from(insn.code), BLANK)
+}
+
+// Puts a number and a byte in front of what stands at `end`, and answers where the number starts.
+fn put_number(line: &mut [u8; MOST_LINE], end: usize, number: u64, behind: u8) -> usize
+    requires room { length (decimal number) + 1 ≤ end }
+    requires inside { end ≤ 25 }
+    ensures start { result + length (decimal number) + 1 ≡ end }
+    ensures written { drop result line.new ≡ decimal number ++ behind ∷ drop end line.old }
+{
+    line[end - 1] = behind;
+    itoa::write_digits(number, line, end - 1)
+}

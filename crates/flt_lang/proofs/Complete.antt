@@ -1,0 +1,269 @@
+-- What the grammar reads, the machine reads.
+use Rattle.std.proofs.Common.{◌≡◌, ◌≢◌, ℕ, ◌+◌, ◌<◌, ◌≤◌, List, [], ◌∷◌, refl, sym, ap, ◌∙◌, subst, ◌⊎◌, inl, inr, ⊎_elim, arith, Option, Some, None, true, false, nat_le, lit≤}
+use Rattle.flt_words.specs.declared.token.Protocol.{Protocol}
+use Rattle.flt_words.specs.declared.token.Operator.{Operator}
+use Rattle.flt_words.specs.declared.token.Operator.TheVariants.{Subtract, Divide}
+use Rattle.flt_words.specs.declared.token.Comparison.{Comparison}
+use Rattle.flt_words.specs.declared.token.Join.{Join}
+use Rattle.flt_words.specs.declared.token.Cast.{Cast}
+use Rattle.flt_words.specs.declared.token.TokenKind.{TokenKind}
+use Rattle.flt_words.specs.declared.token.TokenKind.TheVariants as token
+use Rattle.flt_lang.specs.declared.value.NetMask.TheVariants as mask
+use Rattle.flt_lang.specs.declared.value.Value.{Value}
+use Rattle.flt_lang.specs.declared.value.Value.TheVariants as value
+use Rattle.flt_lang.specs.declared.node.Node.{Node}
+use Rattle.flt_lang.specs.declared.node.Node.TheVariants as node
+use Rattle.flt_lang.specs.declared.reading.frame.Frame.{Frame}
+use Rattle.flt_lang.specs.declared.reading.frame.Frame.TheVariants as frame
+use Rattle.flt_lang.specs.declared.reading.frame.Operand.{Operand}
+use Rattle.flt_lang.specs.declared.reading.frame.Operand.TheVariants as operand
+use Rattle.flt_lang.specs.Tree.{NumberTree, literal, TruthTree, bare, Expression}
+use Rattle.flt_lang.specs.Values.{ReadsMask, no_mask, prefix, dotted_mask, ReadsValue, number, dotted, ip6, ip6_prefix, mac, range}
+use Rattle.flt_lang.specs.Grammar.{level, is_accessor, is_check, has_casts, Number, of_literal, of_len, enclosed, of_load, of_sized_load, minus, single, chain, Truth, of_check, of_cast, of_protocol_cast, of_sized, of_valued, of_bare, relation, denial, enclosed_truth, term, terms, Reads, no_tokens, all_tokens}
+use Rattle.flt_lang.specs.Machine.{◌>>=◌, number_onto, truth_onto, expr_onto, looseness, room, reach_of, reach, as_number, as_truth, fill, run, all_run, enclosed_operand, prefix_len, next_of, go_on, IsLoose}
+use Rattle.flt_lang.proofs.Settling.{le_true, le_false, settle_stays}
+use Rattle.flt_lang.proofs.ValuesBack.{level_small}
+use Rattle.flt_lang.proofs.Valued.{valued_runs}
+use Rattle.flt_lang.proofs.Bare.{value_runs, IsNoMask, no_mask_at, plain_runs}
+
+-- a frame as tight as a division has no room for one
+tight_room : (f : Frame) (fs : List Frame) → looseness f ≤ 1 → room (f ∷ fs) < 1
+tight_room frame.Negate fs h = omega arith
+tight_room (frame.Apply o) fs h = omega arith
+tight_room (frame.Compare c) fs h = absurd (omega arith)
+tight_room frame.Not fs h = absurd (omega arith)
+tight_room (frame.Join j) fs h = absurd (omega arith)
+tight_room frame.Open fs h = absurd (omega arith)
+tight_room (frame.Load p) fs h = absurd (omega arith)
+
+-- behind a frame that the next token makes take its operand, no value goes on
+no_prefix : (x : Operand) (ts : List TokenKind) (f : Frame) (fs : List Frame) (d : List Node) → looseness f ≤ reach ts → go_on ts (f ∷ fs) x d ≡ next_of ts (f ∷ fs) x d
+no_prefix (operand.Plain n) (token.Operator Divide ∷ token.Number m ∷ ts) f fs d h = rw (le_false 1 (room (f ∷ fs)) (tight_room f fs h)) refl
+no_prefix _ _ f fs d h = refl
+
+-- a frame that binds as tightly as the next token takes the operand
+take_frame : (f : Frame) (fs : List Frame) (x y : Operand) (d e : List Node) (ts : List TokenKind) → looseness f ≤ reach ts → fill f x d ≡ Some (y, e) → prefix_len y ts ≡ None → run ts 0 (f ∷ fs) (Some x) d ≡ run ts 0 fs (Some y) e
+take_frame f fs x y d e [] h filled other = rw (le_true (looseness f) 8 h, filled)
+take_frame f fs x y d e (t ∷ ts) h filled other =
+    ap (λ r. r >>= λ r. run ts r.0 r.1.0 r.1.1 r.1.2) (no_prefix x (t ∷ ts) f fs d h) ∙ rw (le_true (looseness f) (reach_of t) h, filled, other) refl
+
+-- frames with room for an operand as loose as m are looser; no token is as loose as a denial
+loose : (m : ℕ) (fs : List Frame) → 1 ≤ m → m ≢ 6 → m ≤ room fs → IsLoose m fs
+loose m [] some other h = tt
+loose m (frame.Negate ∷ fs) some other h = absurd (omega arith)
+loose m (frame.Apply p ∷ fs) some other h = omega arith
+loose m (frame.Compare c ∷ fs) some other h = omega arith
+loose m (frame.Not ∷ fs) some other h = omega arith
+loose m (frame.Join j ∷ fs) some other h = omega arith
+loose m (frame.Open ∷ fs) some other h = omega arith
+loose m (frame.Load p ∷ fs) some other h = omega arith
+
+operator_step : (o : Operator) (ts : List TokenKind) (fs : List Frame) (x : Operand) (d e : List Node) → level o + 1 ≤ room fs → as_number x d ≡ Some e → prefix_len x (token.Operator o ∷ ts) ≡ None → run (token.Operator o ∷ ts) 0 fs (Some x) d ≡ run ts 0 (frame.Apply o ∷ fs) None e
+operator_step o ts fs x d e h is_num other =
+    let is_loose = loose (level o + 1) fs (omega arith) (λ e. absurd (omega (arith, level_small o))) h in
+    rw (other, settle_stays (level o + 1) fs x d is_loose, le_true (level o + 1) (room fs) h, is_num)
+
+-- only an operator makes a value go on
+abbrev IsNoOperator : TokenKind → Type 0
+IsNoOperator (token.Operator o) = ⊥
+IsNoOperator _ = Unit {0}
+
+no_prefix_at : (t : TokenKind) (ts : List TokenKind) (x : Operand) → IsNoOperator t → prefix_len x (t ∷ ts) ≡ None
+no_prefix_at (token.Operator o) ts (operand.Plain n) h = absurd h
+no_prefix_at _ ts (operand.Plain n) h = refl
+no_prefix_at t ts _ h = refl
+
+comparison_step : (c : Comparison) (ts : List TokenKind) (fs : List Frame) (x : Operand) (d e : List Node) → 6 ≤ room fs → as_number x d ≡ Some e → run (token.Comparison c ∷ ts) 0 fs (Some x) d ≡ run ts 0 (frame.Compare c ∷ fs) None e
+comparison_step c ts fs x d e h is_num =
+    rw (no_prefix_at (token.Comparison c) ts x tt, settle_stays 5 fs x d (loose 5 fs (lit≤ tt) (λ e. absurd (omega arith)) (omega arith)), le_true 5 (room fs) (omega arith), is_num)
+
+join_step : (j : Join) (ts : List TokenKind) (fs : List Frame) (x : Operand) (d e : List Node) → 7 ≤ room fs → as_truth x d ≡ Some e → run (token.Join j ∷ ts) 0 fs (Some x) d ≡ run ts 0 (frame.Join j ∷ fs) None e
+join_step j ts fs x d e h truth =
+    rw (no_prefix_at (token.Join j) ts x tt, settle_stays 7 fs x d (loose 7 fs (lit≤ tt) (λ e. absurd (omega arith)) h), le_true 7 (room fs) h, truth)
+
+-- the machine comes from the tokens ts with nothing read to rest with an operand that is the number, or the truth
+record ReadsNumber (ts : List TokenKind) (fs : List Frame) (d : List Node) (e : List Node) (rest : List TokenKind) : Type 0 where
+  operand : Operand
+  nodes : List Node
+  runs : run ts 0 fs None d ≡ run rest 0 fs (Some operand) nodes
+  is_number : as_number operand nodes ≡ Some e
+
+record ReadsTruth (ts : List TokenKind) (fs : List Frame) (d : List Node) (e : List Node) (rest : List TokenKind) : Type 0 where
+  operand : Operand
+  nodes : List Node
+  runs : run ts 0 fs None d ≡ run rest 0 fs (Some operand) nodes
+  is_truth : as_truth operand nodes ≡ Some e
+
+close_step : (ts : List TokenKind) (fs : List Frame) (x : Operand) (d : List Node) → run (token.Close ∷ ts) 0 (frame.Open ∷ fs) (Some x) d ≡ run ts 0 fs (Some (enclosed_operand x)) d
+close_step ts fs (operand.Plain n) d = refl
+close_step ts fs _ d = refl
+
+enclosed_number : (x : Operand) (d : List Node) → as_number (enclosed_operand x) d ≡ as_number x d
+enclosed_number (operand.Plain n) d = refl
+enclosed_number _ d = refl
+
+enclosed_as_truth : (x : Operand) (d : List Node) → as_truth (enclosed_operand x) d ≡ as_truth x d
+enclosed_as_truth (operand.Plain n) d = refl
+enclosed_as_truth _ d = refl
+
+bracket_step : (p : Protocol) (ts : List TokenKind) (fs : List Frame) (x : Operand) (d e : List Node) → as_number x d ≡ Some e → run (token.CloseBracket ∷ ts) 0 (frame.Load p ∷ fs) (Some x) d ≡ run ts 0 fs (Some operand.Number) (node.Load p 1 ∷ e)
+bracket_step p ts fs x d e is_num = rw (no_prefix_at token.CloseBracket ts x tt, is_num)
+
+colon_step : (p : Protocol) (n : ℕ) (ts : List TokenKind) (fs : List Frame) (x : Operand) (d e : List Node) → as_number x d ≡ Some e → run (token.Colon ∷ token.Number n ∷ token.CloseBracket ∷ ts) 0 (frame.Load p ∷ fs) (Some x) d ≡ run ts 0 fs (Some operand.Number) (node.Load p n ∷ e)
+colon_step p n ts fs x d e is_num = rw (no_prefix_at token.Colon (token.Number n ∷ token.CloseBracket ∷ ts) x tt, is_num)
+
+-- where a bracket may follow
+load_step : (p : Protocol) (ts : List TokenKind) (fs : List Frame) (d : List Node) → is_accessor p ≡ true → run (token.Protocol p ∷ token.OpenBracket ∷ ts) 0 fs None d ≡ run ts 0 (frame.Load p ∷ fs) None d
+load_step p ts fs d h = rw h refl
+
+-- a plain number with a division by a number is a value, and else an operator is an operator
+record IsPrefix (o : Operator) (ts : List TokenKind) (x : Operand) : Type 0 where
+  number : ℕ
+  len_of : ℕ
+  rest : List TokenKind
+  divides : o ≡ Divide
+  tokens : ts ≡ token.Number len_of ∷ rest
+  plain : x ≡ operand.Plain number
+
+prefix_or_not : (o : Operator) (ts : List TokenKind) (x : Operand) → IsPrefix o ts x ⊎ (prefix_len x (token.Operator o ∷ ts) ≡ None)
+prefix_or_not Divide (token.Number m ∷ ts) (operand.Plain n) = inl (record { number = n; len_of = m; rest = ts; divides = refl; tokens = refl; plain = refl })
+prefix_or_not _ _ (operand.Plain n) = inr refl
+prefix_or_not _ _ operand.Truth = inr refl
+prefix_or_not _ _ operand.Number = inr refl
+prefix_or_not _ _ (operand.Either n m) = inr refl
+
+-- a unary that begins with a number is that number
+record IsLiteral (m : ℕ) (b : NumberTree) (rest here : List TokenKind) : Type 0 where
+  tree : b ≡ literal m
+  left : rest ≡ here
+
+literal_first : {k : ℕ} {ts rest : List TokenKind} {b : NumberTree} → Number k ts b rest → (m : ℕ) (here : List TokenKind) → k ≡ 0 → ts ≡ token.Number m ∷ here → IsLiteral m b rest here
+literal_first of_literal m here unary tokens = record { tree = cc; left = cc }
+literal_first of_len m here unary tokens = cc
+literal_first (enclosed inner) m here unary tokens = cc
+literal_first (of_load accessor inner) m here unary tokens = cc
+literal_first (of_sized_load accessor inner) m here unary tokens = cc
+literal_first (minus inner) m here unary tokens = cc
+literal_first (single inner) m here unary tokens = absurd (omega arith)
+literal_first (chain left at_level right) m here unary tokens = absurd (omega arith)
+
+prefix_step : (n m : ℕ) (ts : List TokenKind) (fs : List Frame) (d : List Node) → 1 ≤ room fs → run (token.Operator Divide ∷ token.Number m ∷ ts) 0 fs (Some (operand.Plain n)) d ≡ run ts 0 fs (Some (operand.Either n (Some m))) d
+prefix_step n m ts fs d h = rw (le_true 1 (room fs) h)
+
+-- a number and a length behind it, read as a value
+as_prefix : (o : Operator) (ts mid rest : List TokenKind) (fs : List Frame) (d e nodes : List Node) (x : Operand) (b : NumberTree) → run ts 0 fs None d ≡ run (token.Operator o ∷ mid) 0 fs (Some x) nodes → as_number x nodes ≡ Some e → Number (level o) mid b rest → 1 ≤ room fs → IsPrefix o mid x → ReadsNumber ts fs d (node.Apply o ∷ number_onto b e) rest
+as_prefix o ts mid rest fs d e nodes x b runs is_num right roomy is =
+    let unary : level o ≡ 0 = ap level is.divides in
+    let lit = literal_first right is.len_of is.rest unary is.tokens in
+    let here : run (token.Operator o ∷ mid) 0 fs (Some x) nodes ≡ run (token.Operator Divide ∷ token.Number is.len_of ∷ is.rest) 0 fs (Some (operand.Plain is.number)) nodes = cc (is.divides, is.tokens, is.plain) in
+    let there : run is.rest 0 fs (Some (operand.Either is.number (Some is.len_of))) nodes ≡ run rest 0 fs (Some (operand.Either is.number (Some is.len_of))) nodes = cc (lit.left) in
+    let front : ◌≡◌ {A = Option (List Node)} (Some (node.Literal is.number ∷ nodes)) (Some e) = ap (λ y. as_number y nodes) (sym is.plain) ∙ is_num in
+    let whole : number_onto (literal is.len_of) e ≡ number_onto b e = ap (λ t. number_onto t e) (sym lit.tree) in
+    record {
+      operand = operand.Either is.number (Some is.len_of);
+      nodes = nodes;
+      runs = runs ∙ here ∙ prefix_step is.number is.len_of is.rest fs nodes roomy ∙ there;
+      is_number = cc (front, whole, is.divides);
+    }
+
+reads_number : {k : ℕ} {ts rest : List TokenKind} {a : NumberTree} → Number k ts a rest → (fs : List Frame) (d : List Node) → k ≤ room fs → k ≤ reach rest → IsNoMask rest → ReadsNumber ts fs d (number_onto a d) rest
+reads_number (of_literal {n = n} {rest = rest}) fs d roomy reaches unmasked = record { operand = operand.Plain n; nodes = d; runs = plain_runs n rest fs d unmasked; is_number = refl }
+reads_number of_len fs d roomy reaches unmasked = record { operand = operand.Number; nodes = node.Len ∷ d; runs = refl; is_number = refl }
+reads_number (enclosed {rest = rest} inner) fs d roomy reaches unmasked =
+    let r = reads_number inner (frame.Open ∷ fs) d (lit≤ tt) (lit≤ tt) tt in
+    record { operand = enclosed_operand r.operand; nodes = r.nodes; runs = r.runs ∙ close_step rest fs r.operand r.nodes; is_number = enclosed_number r.operand r.nodes ∙ r.is_number }
+reads_number (of_load {p = p} {ts = ts} {rest = rest} accessor inner) fs d roomy reaches unmasked =
+    let r = reads_number inner (frame.Load p ∷ fs) d (lit≤ tt) (lit≤ tt) tt in
+    record { operand = operand.Number; nodes = _; runs = load_step p ts fs d accessor ∙ r.runs ∙ bracket_step p rest fs r.operand r.nodes _ r.is_number; is_number = refl }
+reads_number (of_sized_load {p = p} {n = n} {ts = ts} {rest = rest} accessor inner) fs d roomy reaches unmasked =
+    let r = reads_number inner (frame.Load p ∷ fs) d (lit≤ tt) (lit≤ tt) tt in
+    record { operand = operand.Number; nodes = _; runs = load_step p ts fs d accessor ∙ r.runs ∙ colon_step p n rest fs r.operand r.nodes _ r.is_number; is_number = refl }
+reads_number (minus inner) fs d roomy reaches unmasked =
+    let r = reads_number inner (frame.Negate ∷ fs) d (lit≤ tt) reaches unmasked in
+    record { operand = operand.Number; nodes = _; runs = r.runs ∙ take_frame frame.Negate fs _ _ _ _ _ reaches (rw r.is_number refl) refl; is_number = refl }
+reads_number (single inner) fs d roomy reaches unmasked = reads_number inner fs d (omega arith) (omega arith) unmasked
+reads_number (chain {k = k} {ts = ts} {mid = mid} {rest = rest} {a = a} {b = b} {o = o} left at_level right) fs d roomy reaches unmasked =
+    let l = reads_number left fs d roomy (omega arith) tt in
+    let r = reads_number right (frame.Apply o ∷ fs) (number_onto a d) (omega arith) (omega arith) unmasked in
+    ⊎_elim
+    (λ is. as_prefix o ts mid rest fs d (number_onto a d) l.nodes l.operand b l.runs l.is_number (subst (λ i. Number i mid b rest) (sym at_level) right) (omega arith) is)
+    (λ other. record {
+      operand = operand.Number;
+      nodes = node.Apply o ∷ number_onto b (number_onto a d);
+      runs = l.runs ∙ operator_step o mid fs l.operand l.nodes (number_onto a d) (omega arith) l.is_number other ∙ r.runs ∙ take_frame (frame.Apply o) fs r.operand operand.Number r.nodes (node.Apply o ∷ number_onto b (number_onto a d)) rest (omega arith) (rw r.is_number refl) refl;
+      is_number = refl;
+    })
+    (prefix_or_not o mid l.operand)
+
+-- a protocol with what may follow a truth behind it is a check
+check_runs : (p : Protocol) (rest : List TokenKind) (fs : List Frame) (d : List Node) → is_check p ≡ true → 6 ≤ reach rest → run (token.Protocol p ∷ rest) 0 fs None d ≡ run rest 0 fs (Some operand.Truth) (node.Check p ∷ d)
+check_runs p [] fs d is h = rw is refl
+check_runs p (token.Join j ∷ ts) fs d is h = rw is refl
+check_runs p (token.Close ∷ ts) fs d is h = rw is refl
+check_runs p (token.CloseBracket ∷ ts) fs d is h = rw is refl
+check_runs p (token.Colon ∷ ts) fs d is h = rw is refl
+check_runs p (token.Operator o ∷ ts) fs d is h = absurd (omega (arith, level_small o))
+check_runs p (_ ∷ ts) fs d is h = absurd (omega arith)
+
+cast_runs : (p : Protocol) (c : Cast) (rest : List TokenKind) (fs : List Frame) (d : List Node) → has_casts p ≡ true → run (token.Protocol p ∷ token.Cast c ∷ rest) 0 fs None d ≡ run rest 0 fs (Some operand.Truth) (node.Cast (Some p) c ∷ d)
+cast_runs p c rest fs d is = rw is refl
+
+not_step : (ts : List TokenKind) (fs : List Frame) (d : List Node) → 6 ≤ room fs → run (token.Not ∷ ts) 0 fs None d ≡ run ts 0 (frame.Not ∷ fs) None d
+not_step ts fs d h = rw (le_true 6 (room fs) h)
+
+whole_truth : {ts rest : List TokenKind} {fs : List Frame} {d e : List Node} → run ts 0 fs None d ≡ run rest 0 fs (Some operand.Truth) e → ReadsTruth ts fs d e rest
+whole_truth runs = record { operand = operand.Truth; nodes = _; runs = runs; is_truth = refl }
+
+reads_bare : {ts rest : List TokenKind} {v : Value} → ReadsValue ts v rest → (fs : List Frame) (d : List Node) → 6 ≤ room fs → 6 ≤ reach rest → ReadsTruth ts fs d (truth_onto (bare v) d) rest
+reads_bare (number {n = n} {rest = rest} no_mask) fs d roomy reaches = record { operand = operand.Plain n; nodes = d; runs = plain_runs n rest fs d (no_mask_at rest (omega arith)); is_truth = refl }
+reads_bare (number {n = n} {rest = rest} (prefix {m = m})) fs d roomy reaches = record { operand = operand.Either n (Some m); nodes = d; runs = prefix_step n m rest fs d (omega arith); is_truth = refl }
+reads_bare (number dotted_mask) fs d roomy reaches = whole_truth (value_runs (number dotted_mask) refl fs d reaches)
+reads_bare (dotted m) fs d roomy reaches = whole_truth (value_runs (dotted m) refl fs d reaches)
+reads_bare ip6 fs d roomy reaches = whole_truth (value_runs ip6 refl fs d reaches)
+reads_bare ip6_prefix fs d roomy reaches = whole_truth (value_runs ip6_prefix refl fs d reaches)
+reads_bare mac fs d roomy reaches = whole_truth (value_runs mac refl fs d reaches)
+reads_bare range fs d roomy reaches = whole_truth (value_runs range refl fs d reaches)
+
+reads_truth : {k : ℕ} {ts rest : List TokenKind} {a : TruthTree} → Truth k ts a rest → (fs : List Frame) (d : List Node) → k + 6 ≤ room fs → k + 6 ≤ reach rest → ReadsTruth ts fs d (truth_onto a d) rest
+reads_truth (of_check {p = p} {rest = rest} is) fs d roomy reaches = whole_truth (check_runs p rest fs d is reaches)
+reads_truth of_cast fs d roomy reaches = whole_truth refl
+reads_truth (of_protocol_cast {p = p} {c = c} {rest = rest} is) fs d roomy reaches = whole_truth (cast_runs p c rest fs d is)
+reads_truth of_sized fs d roomy reaches = whole_truth refl
+reads_truth (of_valued qs written vs) fs d roomy reaches = whole_truth (valued_runs qs written vs fs d reaches)
+reads_truth (of_bare vs) fs d roomy reaches = reads_bare vs fs d roomy reaches
+reads_truth (relation {c = c} {mid = mid} {rest = rest} {a = a} {b = b} left right) fs d roomy reaches =
+    let l = reads_number left fs d (omega arith) (lit≤ tt) tt in
+    let r = reads_number right (frame.Compare c ∷ fs) (number_onto a d) (lit≤ tt) (omega arith) (no_mask_at rest (omega arith)) in
+    record {
+      operand = operand.Truth;
+      nodes = node.Compare c ∷ number_onto b (number_onto a d);
+      runs = l.runs ∙ comparison_step c mid fs l.operand l.nodes (number_onto a d) roomy l.is_number ∙ r.runs ∙ take_frame (frame.Compare c) fs r.operand operand.Truth r.nodes (node.Compare c ∷ number_onto b (number_onto a d)) rest (omega arith) (rw r.is_number refl) refl;
+      is_truth = refl;
+    }
+reads_truth (denial {ts = ts} {rest = rest} {a = a} inner) fs d roomy reaches =
+    let r = reads_truth inner (frame.Not ∷ fs) d (lit≤ tt) reaches in
+    record { operand = operand.Truth; nodes = node.Not ∷ truth_onto a d; runs = not_step ts fs d roomy ∙ r.runs ∙ take_frame frame.Not fs r.operand operand.Truth r.nodes (node.Not ∷ truth_onto a d) rest reaches (rw r.is_truth refl) refl; is_truth = refl }
+reads_truth (enclosed_truth {rest = rest} inner) fs d roomy reaches =
+    let r = reads_truth inner (frame.Open ∷ fs) d (lit≤ tt) (lit≤ tt) in
+    record { operand = enclosed_operand r.operand; nodes = r.nodes; runs = r.runs ∙ close_step rest fs r.operand r.nodes; is_truth = enclosed_as_truth r.operand r.nodes ∙ r.is_truth }
+reads_truth (term inner) fs d roomy reaches = reads_truth inner fs d (omega arith) (omega arith)
+reads_truth (terms {mid = mid} {rest = rest} {a = a} {b = b} {j = j} left right) fs d roomy reaches =
+    let l = reads_truth left fs d roomy (lit≤ tt) in
+    let r = reads_truth right (frame.Join j ∷ fs) (truth_onto a d) (lit≤ tt) (omega arith) in
+    record {
+      operand = operand.Truth;
+      nodes = node.Join j ∷ truth_onto b (truth_onto a d);
+      runs = l.runs ∙ join_step j mid fs l.operand l.nodes (truth_onto a d) roomy l.is_truth ∙ r.runs ∙ take_frame (frame.Join j) fs r.operand operand.Truth r.nodes (node.Join j ∷ truth_onto b (truth_onto a d)) rest reaches (rw r.is_truth refl) refl;
+      is_truth = refl;
+    }
+
+-- the machine reads each expression, and gives the nodes of its tree
+pub complete : {tokens : List TokenKind} {tree : Expression} → Reads tokens tree → all_run tokens ≡ Some (expr_onto tree)
+complete no_tokens = refl
+complete (all_tokens {ts = []} reads) =
+    let r = reads_truth reads [] [] (lit≤ tt) (lit≤ tt) in
+    let no = r.runs ∙ r.is_truth in
+    cc
+complete (all_tokens {ts = t ∷ ts} reads) =
+    let r = reads_truth reads [] [] (lit≤ tt) (lit≤ tt) in
+    r.runs ∙ r.is_truth

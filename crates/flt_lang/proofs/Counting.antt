@@ -1,0 +1,95 @@
+-- Counts over the nodes are counts over the tree.
+use Rattle.std.proofs.Common.{◌≡◌, ℕ, ◌+◌, ◌≤◌, List, [], ◌∷◌, refl, sym, ap, ◌∙◌, arith, sum_by, fold, max, lit≤}
+use Rattle.std.proofs.lemmas.List.Sums.{sum_by-cons}
+use Rattle.flt_lang.specs.declared.node.Node.{Node}
+use Rattle.flt_lang.specs.declared.node.Node.TheVariants as node
+use Rattle.flt_lang.specs.Tree.{NumberTree, literal, len, load, negated, applied, TruthTree, check, cast, sized, bare, valued, qualified, compared, denied, joined, Expression, empty, truth}
+use Rattle.flt_lang.specs.Nodes.{number_nodes, truth_nodes, expr_nodes, tree_of, IsTree}
+use Rattle.flt_lang.specs.Counts.{number_tests, truth_tests, tests_of, number_size, truth_size, nodes_of, number_words, truth_words, words_of, node_tests, node_size, accessor_tests}
+use Rattle.flt_lang.specs.Heights.{climb}
+
+one_more : (f : Node → ℕ) (n : Node) (rest : List Node) → sum_by f (n ∷ rest) ≡ f n + sum_by f rest
+one_more f n rest = sum_by-cons f n rest
+
+sum_number_tests : (a : NumberTree) (rest : List Node) → sum_by node_tests (number_nodes a rest) ≡ number_tests a + sum_by node_tests rest
+sum_number_tests (literal n) rest = one_more node_tests (node.Literal n) rest
+sum_number_tests len rest = one_more node_tests node.Len rest
+sum_number_tests (load p s a) rest = omega (arith, sum_number_tests a (node.Load p s ∷ rest), one_more node_tests (node.Load p s) rest)
+sum_number_tests (negated a) rest = omega (arith, sum_number_tests a (node.Negate ∷ rest), one_more node_tests node.Negate rest)
+sum_number_tests (applied o a b) rest = omega (arith, sum_number_tests a (number_nodes b (node.Apply o ∷ rest)), sum_number_tests b (node.Apply o ∷ rest), one_more node_tests (node.Apply o) rest)
+
+sum_truth_tests : (a : TruthTree) (rest : List Node) → sum_by node_tests (truth_nodes a rest) ≡ truth_tests a + sum_by node_tests rest
+sum_truth_tests (check p) rest = one_more node_tests (node.Check p) rest
+sum_truth_tests (cast p c) rest = one_more node_tests (node.Cast p c) rest
+sum_truth_tests (sized s n) rest = one_more node_tests (node.Sized s n) rest
+sum_truth_tests (bare v) rest = one_more node_tests (node.Bare v) rest
+sum_truth_tests (valued q v) rest = one_more node_tests (node.Valued q v) rest
+sum_truth_tests (qualified q v) rest = one_more node_tests (node.Qualified q v) rest
+sum_truth_tests (compared c a b) rest = omega (arith, sum_number_tests a (number_nodes b (node.Compare c ∷ rest)), sum_number_tests b (node.Compare c ∷ rest), one_more node_tests (node.Compare c) rest)
+sum_truth_tests (denied a) rest = omega (arith, sum_truth_tests a (node.Not ∷ rest), one_more node_tests node.Not rest)
+sum_truth_tests (joined j a b) rest = omega (arith, sum_truth_tests a (truth_nodes b (node.Join j ∷ rest)), sum_truth_tests b (node.Join j ∷ rest), one_more node_tests (node.Join j) rest)
+
+sum_expr_tests : (e : Expression) → sum_by node_tests (expr_nodes e) ≡ tests_of e
+sum_expr_tests empty = refl
+sum_expr_tests (truth a) = omega (arith, sum_truth_tests a [])
+
+pub tests_whole : (items : List Node) → IsTree items → sum_by node_tests items ≡ tests_of (tree_of items)
+tests_whole items whole = ap (λ l. sum_by node_tests l) (sym whole) ∙ sum_expr_tests (tree_of items)
+
+sum_number_sizes : (a : NumberTree) (rest : List Node) → sum_by node_size (number_nodes a rest) ≡ number_size a + sum_by node_size rest
+sum_number_sizes (literal n) rest = one_more node_size (node.Literal n) rest
+sum_number_sizes len rest = one_more node_size node.Len rest
+sum_number_sizes (load p s a) rest = omega (arith, sum_number_sizes a (node.Load p s ∷ rest), one_more node_size (node.Load p s) rest)
+sum_number_sizes (negated a) rest = omega (arith, sum_number_sizes a (node.Negate ∷ rest), one_more node_size node.Negate rest)
+sum_number_sizes (applied o a b) rest = omega (arith, sum_number_sizes a (number_nodes b (node.Apply o ∷ rest)), sum_number_sizes b (node.Apply o ∷ rest), one_more node_size (node.Apply o) rest)
+
+sum_truth_sizes : (a : TruthTree) (rest : List Node) → sum_by node_size (truth_nodes a rest) ≡ truth_size a + sum_by node_size rest
+sum_truth_sizes (check p) rest = one_more node_size (node.Check p) rest
+sum_truth_sizes (cast p c) rest = one_more node_size (node.Cast p c) rest
+sum_truth_sizes (sized s n) rest = one_more node_size (node.Sized s n) rest
+sum_truth_sizes (bare v) rest = one_more node_size (node.Bare v) rest
+sum_truth_sizes (valued q v) rest = one_more node_size (node.Valued q v) rest
+sum_truth_sizes (qualified q v) rest = one_more node_size (node.Qualified q v) rest
+sum_truth_sizes (compared c a b) rest = omega (arith, sum_number_sizes a (number_nodes b (node.Compare c ∷ rest)), sum_number_sizes b (node.Compare c ∷ rest), one_more node_size (node.Compare c) rest)
+sum_truth_sizes (denied a) rest = omega (arith, sum_truth_sizes a (node.Not ∷ rest), one_more node_size node.Not rest)
+sum_truth_sizes (joined j a b) rest = omega (arith, sum_truth_sizes a (truth_nodes b (node.Join j ∷ rest)), sum_truth_sizes b (node.Join j ∷ rest), one_more node_size (node.Join j) rest)
+
+sum_expr_sizes : (e : Expression) → sum_by node_size (expr_nodes e) ≡ nodes_of e
+sum_expr_sizes empty = refl
+sum_expr_sizes (truth a) = omega (arith, sum_truth_sizes a [])
+
+pub sizes_whole : (items : List Node) → IsTree items → sum_by node_size items ≡ nodes_of (tree_of items)
+sizes_whole items whole = ap (λ l. sum_by node_size l) (sym whole) ∙ sum_expr_sizes (tree_of items)
+
+moved_to : (h m i n : ℕ) (rest : List Node) → h ≡ i → m ≡ n → fold climb (h, m) rest ≡ fold climb (i, n) rest
+moved_to h m i n rest e f = cc
+
+-- a number on h others goes up to h + 1 and its words, and leaves h + 1
+climb_number : (a : NumberTree) (h m : ℕ) (rest : List Node) → fold climb (h, m) (number_nodes a rest) ≡ fold climb (h + 1, max m (h + 1 + number_words a)) rest
+climb_number (literal n) h m rest = moved_to _ _ _ _ rest refl (omega arith)
+climb_number len h m rest = moved_to _ _ _ _ rest refl (omega arith)
+climb_number (load p s a) h m rest = climb_number a h m (node.Load p s ∷ rest) ∙ moved_to _ _ _ _ rest refl (omega arith)
+climb_number (negated a) h m rest = climb_number a h m (node.Negate ∷ rest) ∙ moved_to _ _ _ _ rest refl (omega arith)
+climb_number (applied o a b) h m rest =
+    climb_number a h m (number_nodes b (node.Apply o ∷ rest)) ∙ climb_number b (h + 1) _ (node.Apply o ∷ rest) ∙ moved_to _ _ _ _ rest (omega arith) (omega arith)
+
+-- a truth goes up to one more than its words, and leaves nothing
+climb_truth : (a : TruthTree) (m : ℕ) (rest : List Node) → 1 ≤ m → fold climb (0, m) (truth_nodes a rest) ≡ fold climb (0, max m (1 + truth_words a)) rest
+climb_truth (check p) m rest some = moved_to _ _ _ _ rest refl (omega arith)
+climb_truth (cast p c) m rest some = moved_to _ _ _ _ rest refl (omega arith)
+climb_truth (sized s n) m rest some = moved_to _ _ _ _ rest refl (omega arith)
+climb_truth (bare v) m rest some = moved_to _ _ _ _ rest refl (omega arith)
+climb_truth (valued q v) m rest some = moved_to _ _ _ _ rest refl (omega arith)
+climb_truth (qualified q v) m rest some = moved_to _ _ _ _ rest refl (omega arith)
+climb_truth (compared c a b) m rest some =
+    climb_number a 0 m (number_nodes b (node.Compare c ∷ rest)) ∙ climb_number b (0 + 1) _ (node.Compare c ∷ rest) ∙ moved_to _ _ _ _ rest (omega arith) (omega arith)
+climb_truth (denied a) m rest some = climb_truth a m (node.Not ∷ rest) some ∙ moved_to _ _ _ _ rest refl (omega arith)
+climb_truth (joined j a b) m rest some =
+    climb_truth a m (truth_nodes b (node.Join j ∷ rest)) some ∙ climb_truth b _ (node.Join j ∷ rest) (omega arith) ∙ moved_to _ _ _ _ rest refl (omega arith)
+
+climb_expr : (e : Expression) → fold climb (0, 1) (expr_nodes e) ≡ (0, 1 + words_of e)
+climb_expr empty = refl
+climb_expr (truth a) = climb_truth a 1 [] (lit≤ tt) ∙ moved_to _ _ _ _ [] refl (omega arith)
+
+pub climb_whole : (items : List Node) → IsTree items → fold climb (0, 1) items ≡ (0, 1 + words_of (tree_of items))
+climb_whole items whole = ap (λ l. fold climb (0, 1) l) (sym whole) ∙ climb_expr (tree_of items)

@@ -1,0 +1,15 @@
+pub mod Settling
+pub mod NodesBack
+pub mod ValuesBack
+pub mod Valued
+pub mod Bare
+pub mod Complete
+pub mod Stacked
+pub mod Begins
+pub mod Sound
+pub mod Parsing
+pub mod Filling
+pub mod Primitives
+pub mod FilledFaults
+pub mod Counting
+pub mod Dividing

@@ -1,0 +1,170 @@
+-- What the parser keeps stands for the tokens before: each frame for its left side, the operand for a number or a truth.
+use Rattle.std.proofs.Common.{◌≡◌, ℕ, suc, zero, ◌+◌, ◌-◌, ◌≤◌, length, drop, ◌⊎◌, inl, inr, ⊎_elim, List, [], ◌∷◌, refl, sym, ap, ◌∙◌, subst, arith, Option, Some, None, Bool, true, false, nat_le, if◌then◌else◌, lit≤, zero-le}
+use Rattle.std.proofs.lemmas.Bool.{leb-true}
+use Rattle.std.proofs.str.Laws.{order}
+use Rattle.flt_words.specs.declared.token.Protocol.{Protocol}
+use Rattle.flt_words.specs.declared.token.Operator.{Operator}
+use Rattle.flt_words.specs.declared.token.Operator.TheVariants.{Subtract, Divide}
+use Rattle.flt_words.specs.declared.token.TokenKind.{TokenKind}
+use Rattle.flt_words.specs.declared.token.TokenKind.TheVariants as token
+use Rattle.flt_lang.specs.declared.value.NetMask.TheVariants as mask
+use Rattle.flt_lang.specs.declared.value.Value.{Value}
+use Rattle.flt_lang.specs.declared.value.Value.TheVariants as value
+use Rattle.flt_lang.specs.declared.quals.Quals.{Quals}
+use Rattle.flt_lang.specs.declared.node.Node.{Node}
+use Rattle.flt_lang.specs.declared.node.Node.TheVariants as node
+use Rattle.flt_lang.specs.declared.reading.protocols.Opening.{Opening}
+use Rattle.flt_lang.specs.declared.reading.protocols.Opening.TheVariants as opening
+use Rattle.flt_lang.specs.declared.reading.frame.Frame.{Frame}
+use Rattle.flt_lang.specs.declared.reading.frame.Frame.TheVariants as frame
+use Rattle.flt_lang.specs.declared.reading.frame.Operand.{Operand}
+use Rattle.flt_lang.specs.declared.reading.frame.Operand.TheVariants as operand
+use Rattle.flt_lang.specs.Tree.{NumberTree, literal, len, load, negated, applied, TruthTree, check, cast, sized, bare, valued, compared, denied, joined, Expression, empty, truth}
+use Rattle.flt_lang.specs.Values.{quals_of, value_of, is_written, no_mask, prefix, number}
+use Rattle.flt_lang.specs.Grammar.{level, is_accessor, is_check, has_casts, Number, of_literal, of_len, enclosed, of_load, of_sized_load, minus, single, chain, Truth, of_check, of_cast, of_protocol_cast, of_sized, of_valued, of_bare, relation, denial, enclosed_truth, term, terms, Reads, no_tokens, all_tokens}
+use Rattle.flt_lang.specs.Machine.{◌>>=◌, number_onto, truth_onto, expr_onto, looseness, room, reach_of, reach, prefix_mask, as_number, as_truth, Read, fill, Settled, settle, State, Begun, Primitive, number_waits, truth_waits, place, opening_of, protocol_begins, number_of, sized_of, begin, whole, finish, run, all_run, enclosed_operand, next_of, go_on, valued_of, valued_or, check_of, primitive, bare_of, with_frames}
+use Rattle.flt_lang.proofs.ValuesBack.{level_small}
+
+-- a chain of steps that succeeds has a first step that does
+pub some_first : {A B : Type 0} (o : Option A) (f : A → Option B) (z : B) → (o >>= f) ≡ Some z → (w : A) × (o ≡ Some w) × (f w ≡ Some z)
+some_first None f z e = cc
+some_first (Some w) f z e = (w, refl, e)
+
+-- a test whose other branch fails holds
+pub some_then : {A : Type 0} (b : Bool) (o : Option A) (z : A) → (if b then o else None) ≡ Some z → (b ≡ true) × (o ≡ Some z)
+some_then true o z e = (refl, e)
+some_then false o z e = cc
+
+-- a number of one level is one of each looser level
+pub widened : (k j : ℕ) (ts rest : List TokenKind) (a : NumberTree) → k ≤ j → Number k ts a rest → Number j ts a rest
+widened k zero ts rest a h n = let same : k ≡ 0 = omega arith in subst (λ i. Number i ts a rest) same n
+widened k (suc j) ts rest a h n =
+    ⊎_elim
+    (λ below. single (widened k j ts rest a (omega arith) n))
+    (λ above. let same : k ≡ suc j = omega arith in subst (λ i. Number i ts a rest) same n)
+    (order k (suc j))
+
+-- the tokens before here, as the frames and the nodes d have them
+abbrev pub Stacked : List Frame → List Node → List TokenKind → List TokenKind → Type 0
+Stacked [] d start here = (start ≡ here) × (d ≡ [])
+Stacked (frame.Negate ∷ fs) d start here = Stacked fs d start (token.Operator Subtract ∷ here)
+Stacked (frame.Apply o ∷ fs) d start here = (e : List Node) × (mid : List TokenKind) × (a : NumberTree) × Stacked fs e start mid × (d ≡ number_onto a e) × Number (suc (level o)) mid a (token.Operator o ∷ here) × (level o + 1 ≤ room fs)
+Stacked (frame.Compare c ∷ fs) d start here = (e : List Node) × (mid : List TokenKind) × (a : NumberTree) × Stacked fs e start mid × (d ≡ number_onto a e) × Number 4 mid a (token.Comparison c ∷ here)
+Stacked (frame.Not ∷ fs) d start here = Stacked fs d start (token.Not ∷ here)
+Stacked (frame.Join j ∷ fs) d start here = (e : List Node) × (mid : List TokenKind) × (a : TruthTree) × Stacked fs e start mid × (d ≡ truth_onto a e) × Truth 1 mid a (token.Join j ∷ here) × (7 ≤ room fs)
+Stacked (frame.Open ∷ fs) d start here = Stacked fs d start (token.Open ∷ here)
+Stacked (frame.Load p ∷ fs) d start here = (is_accessor p ≡ true) × Stacked fs d start (token.Protocol p ∷ token.OpenBracket ∷ here)
+
+-- a number that may have the length of a prefix behind it, as a number and as a truth
+abbrev pub either_number : ℕ → Option ℕ → NumberTree
+either_number n None = literal n
+either_number n (Some m) = applied Divide (literal n) (literal m)
+
+abbrev pub either_truth : ℕ → Option ℕ → TruthTree
+either_truth n m = bare (value.Number n (prefix_mask m))
+
+-- an operand between two places: a number no looser than m and than there is room for, or a truth, which is a
+-- chain only where both allow it
+abbrev pub Between : ℕ → ℕ → Operand → List Node → List Node → List TokenKind → List TokenKind → Type 0
+Between m r operand.Number d e mid rest = (k : ℕ) × (a : NumberTree) × (k ≤ m) × (k ≤ r) × (k ≤ 4) × Number k mid a rest × (e ≡ number_onto a d)
+Between m r operand.Truth d e mid rest = (a : TruthTree) × (Truth 0 mid a rest ⊎ ((7 ≤ m) × (7 ≤ r) × Truth 1 mid a rest)) × (e ≡ truth_onto a d)
+Between m r (operand.Plain n) d e mid rest = (mid ≡ token.Number n ∷ rest) × (e ≡ d)
+Between m r (operand.Either n l) d e mid rest = (k : ℕ) × (k ≤ m) × (k ≤ r) × (k ≤ 4) × Number k mid (either_number n l) rest × Truth 0 mid (either_truth n l) rest × (e ≡ d)
+
+pub record NumberBetween (m r : ℕ) (d e : List Node) (mid rest : List TokenKind) : Type 0 where
+  pub looseness_of : ℕ
+  pub tree : NumberTree
+  pub in_reach : looseness_of ≤ m
+  pub in_room : looseness_of ≤ r
+  pub small : looseness_of ≤ 4
+  pub reads : Number looseness_of mid tree rest
+  pub nodes : e ≡ number_onto tree d
+
+pub number_between : (m r : ℕ) (x : Operand) (d e f : List Node) (mid rest : List TokenKind) → Between m r x d e mid rest → as_number x e ≡ Some f → NumberBetween m r d f mid rest
+number_between m r operand.Truth d e f mid rest b h = cc
+number_between m r operand.Number d e f mid rest (k, a, in_reach, in_room, small, reads, nodes) h =
+    record { looseness_of = k; tree = a; in_reach = in_reach; in_room = in_room; small = small; reads = reads; nodes = cc }
+number_between m r (operand.Plain n) d e f mid rest (is, nodes) h =
+    record { looseness_of = 0; tree = literal n; in_reach = omega arith; in_room = omega arith; small = omega arith; reads = subst (λ ts. Number 0 ts (literal n) rest) (sym is) of_literal; nodes = cc }
+number_between m r (operand.Either n None) d e f mid rest (k, in_reach, in_room, small, reads, reads_truth, nodes) h =
+    record { looseness_of = k; tree = literal n; in_reach = in_reach; in_room = in_room; small = small; reads = reads; nodes = cc }
+number_between m r (operand.Either n (Some l)) d e f mid rest (k, in_reach, in_room, small, reads, reads_truth, nodes) h =
+    record { looseness_of = k; tree = applied Divide (literal n) (literal l); in_reach = in_reach; in_room = in_room; small = small; reads = reads; nodes = cc }
+
+pub record TruthBetween (m r : ℕ) (d e : List Node) (mid rest : List TokenKind) : Type 0 where
+  pub tree : TruthTree
+  pub reads : Truth 0 mid tree rest ⊎ ((7 ≤ m) × (7 ≤ r) × Truth 1 mid tree rest)
+  pub nodes : e ≡ truth_onto tree d
+
+pub truth_between : (m r : ℕ) (x : Operand) (d e f : List Node) (mid rest : List TokenKind) → Between m r x d e mid rest → as_truth x e ≡ Some f → TruthBetween m r d f mid rest
+truth_between m r operand.Number d e f mid rest b h = cc
+truth_between m r operand.Truth d e f mid rest (a, reads, nodes) h = record { tree = a; reads = reads; nodes = cc }
+truth_between m r (operand.Plain n) d e f mid rest (is, nodes) h = record { tree = either_truth n None; reads = inl (subst (λ ts. Truth 0 ts (either_truth n None) rest) (sym is) (of_bare (number no_mask))); nodes = cc }
+truth_between m r (operand.Either n l) d e f mid rest (k, in_reach, in_room, small, reads, reads_truth, nodes) h = record { tree = either_truth n l; reads = inl reads_truth; nodes = cc }
+
+-- a truth where a chain has no room is a term
+term_of : {m r : ℕ} {mid rest : List TokenKind} {a : TruthTree} → r ≤ 6 → Truth 0 mid a rest ⊎ ((7 ≤ m) × (7 ≤ r) × Truth 1 mid a rest) → Truth 0 mid a rest
+term_of h reads = ⊎_elim (λ t. t) (λ (_, roomy, _). absurd (omega arith)) reads
+
+pub chain_of : {m r : ℕ} {mid rest : List TokenKind} {a : TruthTree} → Truth 0 mid a rest ⊎ ((7 ≤ m) × (7 ≤ r) × Truth 1 mid a rest) → Truth 1 mid a rest
+chain_of reads = ⊎_elim (λ t. term t) (λ (_, _, t). t) reads
+
+-- an operand behind some frames
+abbrev pub Behind : ℕ → List Frame → Operand → List Node → List TokenKind → List TokenKind → Type 0
+Behind m fs x e start rest = (d : List Node) × (mid : List TokenKind) × Stacked fs d start mid × Between m (room fs) x d e mid rest
+
+moved : (m : ℕ) (fs : List Frame) (start rest : List TokenKind) (y z : Operand) (g h : List Node) → Behind m fs y g start rest → ◌≡◌ {A = Option Read} (Some (y, g)) (Some (z, h)) → Behind m fs z h start rest
+moved m fs start rest y z g h b same =
+    let P : Read → Type 0 = λ r. Behind m fs r.0 r.1 start rest in
+    let pairs : ◌≡◌ {A = Read} (y, g) (z, h) = cc in
+    subst P pairs b
+
+-- a frame with its operand is an operand
+fill_sound : (m : ℕ) (f : Frame) (fs : List Frame) (x y : Operand) (e g : List Node) (start rest : List TokenKind) → looseness f ≤ m → Behind m (f ∷ fs) x e start rest → fill f x e ≡ Some (y, g) → Behind m fs y g start rest
+fill_sound m frame.Negate fs x y e g start rest h (d, mid, stacked, between) filled =
+    let (i, is_number, is_rest) = some_first (as_number x e) (λ i. Some (operand.Number, node.Negate ∷ i)) (y, g) filled in
+    let n = number_between m 0 x d e i mid rest between is_number in
+    moved m fs start rest operand.Number y (node.Negate ∷ i) g (d, (token.Operator Subtract ∷ mid), stacked, (0, negated n.tree, zero-le, zero-le, zero-le, minus (widened n.looseness_of 0 mid rest n.tree n.in_room n.reads), ap (λ l. node.Negate ∷ l) n.nodes)) is_rest
+fill_sound m (frame.Apply o) fs x y e g start rest h (d, mid, (d', mid', a, stacked, d_is, left, roomy), between) filled =
+    let (i, is_number, is_rest) = some_first (as_number x e) (λ i. Some (operand.Number, node.Apply o ∷ i)) (y, g) filled in
+    let n = number_between m (level o) x d e i mid rest between is_number in
+    let right = widened n.looseness_of (level o) mid rest n.tree n.in_room n.reads in
+    moved m fs start rest operand.Number y (node.Apply o ∷ i) g (d', mid', stacked, (suc (level o), applied o a n.tree, omega arith, omega arith, omega (arith, level_small o), chain left refl right, ap (λ l. node.Apply o ∷ l) (n.nodes ∙ ap (λ l. number_onto n.tree l) d_is))) is_rest
+fill_sound m (frame.Compare c) fs x y e g start rest h (d, mid, (d', mid', a, stacked, d_is, left), between) filled =
+    let (i, is_number, is_rest) = some_first (as_number x e) (λ i. Some (operand.Truth, node.Compare c ∷ i)) (y, g) filled in
+    let n = number_between m 4 x d e i mid rest between is_number in
+    let right = widened n.looseness_of 4 mid rest n.tree n.small n.reads in
+    moved m fs start rest operand.Truth y (node.Compare c ∷ i) g (d', mid', stacked, (compared c a n.tree, inl (relation left right), ap (λ l. node.Compare c ∷ l) (n.nodes ∙ ap (λ l. number_onto n.tree l) d_is))) is_rest
+fill_sound m frame.Not fs x y e g start rest h (d, mid, stacked, between) filled =
+    let (i, is_truth, is_rest) = some_first (as_truth x e) (λ i. Some (operand.Truth, node.Not ∷ i)) (y, g) filled in
+    let t = truth_between m 6 x d e i mid rest between is_truth in
+    moved m fs start rest operand.Truth y (node.Not ∷ i) g (d, (token.Not ∷ mid), stacked, (denied t.tree, inl (denial (term_of (lit≤ tt) t.reads)), ap (λ l. node.Not ∷ l) t.nodes)) is_rest
+fill_sound m (frame.Join j) fs x y e g start rest h (d, mid, (d', mid', a, stacked, d_is, left, roomy), between) filled =
+    let (i, is_truth, is_rest) = some_first (as_truth x e) (λ i. Some (operand.Truth, node.Join j ∷ i)) (y, g) filled in
+    let t = truth_between m 6 x d e i mid rest between is_truth in
+    moved m fs start rest operand.Truth y (node.Join j ∷ i) g (d', mid', stacked, (joined j a t.tree, inr (h, roomy, terms left (term_of (lit≤ tt) t.reads)), ap (λ l. node.Join j ∷ l) (t.nodes ∙ ap (λ l. truth_onto t.tree l) d_is))) is_rest
+fill_sound m frame.Open fs x y e g start rest h b filled = cc
+fill_sound m (frame.Load p) fs x y e g start rest h b filled = cc
+
+settle_one : (m : ℕ) (f : Frame) (fs : List Frame) (x : Operand) (e : List Node) (start rest : List TokenKind) (s : Settled) (q : Bool) → nat_le (looseness f) m ≡ q → Behind m (f ∷ fs) x e start rest → ((y : Operand) (g : List Node) → Behind m fs y g start rest → settle m fs y g ≡ Some s → Behind m s.0 s.1 s.2 start rest) → (if q then (fill f x e >>= λ r. settle m fs r.0 r.1) else Some (f ∷ fs, x, e)) ≡ Some s → Behind m s.0 s.1 s.2 start rest
+settle_one m f fs x e start rest s true is_tight b others h =
+    let (r, filled, settles) = some_first (fill f x e) (λ r. settle m fs r.0 r.1) s h in
+    others r.0 r.1 (fill_sound m f fs x r.0 e r.1 start rest (leb-true _ _ is_tight) b filled) settles
+settle_one m f fs x e start rest s false is_loose b others h =
+    let P : Settled → Type 0 = λ s. Behind m s.0 s.1 s.2 start rest in
+    let same : ◌≡◌ {A = Settled} (f ∷ fs, x, e) s = cc in
+    subst P same b
+
+pub settle_sound : (m : ℕ) (fs : List Frame) (x : Operand) (e : List Node) (start rest : List TokenKind) (s : Settled) → Behind m fs x e start rest → settle m fs x e ≡ Some s → Behind m s.0 s.1 s.2 start rest
+settle_sound m [] x e start rest s b settled =
+    let P : Settled → Type 0 = λ s. Behind m s.0 s.1 s.2 start rest in
+    let same : ◌≡◌ {A = Settled} ([], x, e) s = cc in
+    subst P same b
+settle_sound m (f ∷ fs) x e start rest s b settled =
+    settle_one m f fs x e start rest s (nat_le (looseness f) m) refl b (λ y g c h. settle_sound m fs y g start rest s c h) settled
+
+pub loosened : (m r : ℕ) (x : Operand) (d e : List Node) (mid rest : List TokenKind) → 1 ≤ m → Between 1 r x d e mid rest → Between m r x d e mid rest
+loosened m r operand.Number d e mid rest h (k, a, in_reach, in_room, small, reads, nodes) = (k, a, omega arith, in_room, small, reads, nodes)
+loosened m r operand.Truth d e mid rest h (a, reads, nodes) = (a, ⊎_elim (λ t. inl t) (λ (h, _, _). absurd (omega arith)) reads, nodes)
+loosened m r (operand.Plain n) d e mid rest h b = b
+loosened m r (operand.Either n l) d e mid rest h (k, in_reach, in_room, small, reads, reads_truth, nodes) = (k, omega arith, in_room, small, reads, reads_truth, nodes)

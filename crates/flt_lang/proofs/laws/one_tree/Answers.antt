@@ -1,0 +1,10 @@
+-- The machine gives one list of nodes.
+use Rattle.std.proofs.Common.{sym, ◌∙◌}
+use Rattle.flt_lang.proofs.Complete.{complete}
+use Rattle.flt_lang.proofs.NodesBack.{same_nodes}
+use Rattle.flt_lang.proofs.laws.one_tree.Goals as goal
+
+pub returns : goal.returns
+returns c = λ tokens a b reads_a reads_b.
+    let same = sym (complete reads_a) ∙ complete reads_b in
+    same_nodes a b cc

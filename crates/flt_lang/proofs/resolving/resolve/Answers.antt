@@ -1,0 +1,33 @@
+-- The nodes that are left are those of the filled tree.
+use Rattle.std.proofs.Common.{◌≡◌, ◌∙◌, sym, ap, subst, None}
+use Rattle.flt_lang.specs.Nodes.{tree_of}
+use Rattle.flt_lang.specs.Filled.{filled}
+use Rattle.flt_lang.specs.Resolved.{nodes_fault, fill_fault, IsResolved}
+use Rattle.flt_lang.proofs.Filling.{filled_whole, nodes_are_tree, tree_is}
+use Rattle.flt_lang.proofs.FilledFaults.{found_fault, filled_resolved}
+use Rattle.flt_lang.proofs.resolving.resolve.Given as given
+use Rattle.flt_lang.proofs.resolving.resolve.Goals as goal
+use Rattle.flt_lang.proofs.resolving.resolve.Goals.{After-complete}
+
+pub returns-in-Some-clause-err : goal.returns-in-Some-clause-err
+returns-in-Some-clause-err g c =
+    sym (found_fault c.expr.inside.nodes.items c.inherit.new.nodes.items c.args.expr c.expr.invariant c.expr.view_is c.inherit.ensures) ∙ ap nodes_fault (sym c.deref.ensures.value) ∙ sym c.fault_of.ensures ∙ c.in-Some.is
+
+tree_left : (g : given.Over) (c : After-complete g) → tree_of c.complete.new.nodes.items ≡ filled c.args.expr
+tree_left g c =
+    let nodes = filled_whole c.expr.inside.nodes.items c.inherit.new.nodes.items c.complete.new.nodes.items c.expr.invariant c.inherit.ensures c.complete.ensures in
+    tree_is _ _ nodes ∙ ap filled c.expr.view_is
+
+pub invariant_of-result : goal.invariant_of-result
+invariant_of-result g c = nodes_are_tree (filled (tree_of c.expr.inside.nodes.items)) c.complete.new.nodes.items (filled_whole c.expr.inside.nodes.items c.inherit.new.nodes.items c.complete.new.nodes.items c.expr.invariant c.inherit.ensures c.complete.ensures)
+
+pub returns : goal.returns
+returns g c =
+    let tree = tree_left g c in
+    let faultless : fill_fault c.args.expr ≡ None = sym (found_fault c.expr.inside.nodes.items c.inherit.new.nodes.items c.args.expr c.expr.invariant c.expr.view_is c.inherit.ensures) ∙ ap nodes_fault (sym c.deref.ensures.value) ∙ sym c.fault_of.ensures ∙ c.in_default.is in
+    record {
+      ok = tree;
+      fits = faultless;
+      resolved = subst IsResolved (sym tree) (filled_resolved c.args.expr faultless);
+      err = tt;
+    }

@@ -1,0 +1,42 @@
+-- How deep tokens nest.
+use Rattle.std.specs.Prelude.{◌≡◌, ◌⊎◌, ℕ, ◌+◌, ◌<◌, ◌≤◌, Bool, true, false, List, length, take, drop, count_by}
+use Rattle.std.specs.List.{list_all}
+use Rattle.flt_words.specs.declared.token.Operator.TheVariants.{Subtract}
+use Rattle.flt_words.specs.declared.token.Token.{Token}
+use Rattle.flt_words.specs.declared.token.TokenKind.{TokenKind}
+use Rattle.flt_words.specs.declared.token.TokenKind.TheVariants as token
+
+abbrev pub is_opening_kind : TokenKind → Bool
+is_opening_kind token.Open = true
+is_opening_kind token.OpenBracket = true
+is_opening_kind _ = false
+
+abbrev pub is_closing_kind : TokenKind → Bool
+is_closing_kind token.Close = true
+is_closing_kind token.CloseBracket = true
+is_closing_kind _ = false
+
+abbrev pub is_prefix_kind : TokenKind → Bool
+is_prefix_kind token.Not = true
+is_prefix_kind (token.Operator Subtract) = true
+is_prefix_kind _ = false
+
+unfoldable pub is_opening : Token → Bool
+is_opening t = is_opening_kind t.kind
+
+unfoldable pub is_closing : Token → Bool
+is_closing t = is_closing_kind t.kind
+
+unfoldable pub is_prefix : Token → Bool
+is_prefix t = is_prefix_kind t.kind
+
+-- some front has over 100 more `(` and `[` than `)` and `]`
+abbrev pub HasDeepFront : List Token → Type 0
+HasDeepFront ts = (n : ℕ) × (count_by is_closing (take n ts) + 100 < count_by is_opening (take n ts))
+
+-- 101 tokens `not` and `-` follow one another
+abbrev pub HasLongPrefix : List Token → Type 0
+HasLongPrefix ts = (i : ℕ) × (i + 101 ≤ length ts) × (list_all is_prefix (take 101 (drop i ts)) ≡ true)
+
+abbrev pub IsTooDeep : List Token → Type 0
+IsTooDeep ts = HasDeepFront ts ⊎ HasLongPrefix ts

@@ -1,0 +1,36 @@
+//! The counts of a checked expression.
+
+ghost use Rattle.std.specs.Prelude.{◌≡◌};
+ghost use Rattle.flt_lang.specs.Counts.{tests_of, nodes_of, words_of, bound_of};
+
+use crate::checked::Checked;
+use crate::sums;
+use std::alloc::Allocator;
+
+/// How many elementary tests the formulas of its primitives have.
+pub fn tests<A: Allocator>(checked: &Checked<A>) -> u32
+    ensures { result ≡ tests_of checked.now.expr }
+{
+    sums::tests_in(&checked.expr) as u32
+}
+
+/// How many nodes its arithmetic has: numbers, `len`, accessors and operators.
+pub fn nodes<A: Allocator>(checked: &Checked<A>) -> u32
+    ensures { result ≡ nodes_of checked.now.expr }
+{
+    sums::nodes_in(&checked.expr) as u32
+}
+
+/// How many words of memory hold what waits while right sides are computed.
+pub fn words<A: Allocator>(checked: &Checked<A>) -> u32
+    ensures { result ≡ words_of checked.now.expr }
+{
+    sums::words_in(&checked.expr) as u32
+}
+
+/// How many instructions a program for it has at most: 2, and 6 for each test and node.
+pub fn bound<A: Allocator>(checked: &Checked<A>) -> u32
+    ensures { result ≡ bound_of checked.now.expr }
+{
+    2 + 6 * (tests(checked) + nodes(checked))
+}

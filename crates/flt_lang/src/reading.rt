@@ -1,0 +1,11 @@
+//! Tokens become a tree.
+
+mod fault;
+mod frame;
+mod machine;
+mod parser;
+mod primitive;
+mod protocols;
+mod starts;
+
+pub use parser::parse;

@@ -1,0 +1,102 @@
+//! What the parser keeps: frames that wait for an operand, and the operand that was just read.
+//! Three numbers rule it: how loosely a frame or a token binds, how far the next token reaches, and
+//! the room of the latest frame.
+
+ghost use Rattle.std.specs.Prelude.{◌≡◌, reverse};
+ghost use Rattle.flt_lang.specs.Grammar.{level};
+ghost use Rattle.flt_lang.specs.Machine.{looseness, room, reach, enclosed_operand};
+
+use flt_words::{Comparison, Join, Operator, Protocol, TokenKind};
+
+/// What waits for an operand on its right, or for its closing token.
+#[derive(Clone, Copy, Debug, PartialEq, Eq)]
+pub enum Frame {
+    Negate,
+    Apply(Operator),
+    Compare(Comparison),
+    Not,
+    Join(Join),
+    Open,
+    Load(Protocol),
+}
+
+/// An operand that was just read. The nodes of a truth and of a number are written. The others may
+/// still become either: a plain number, which may also be the front of a longer value, and a number
+/// in parentheses or with the length of a prefix behind it.
+#[derive(Clone, Copy, Debug, PartialEq, Eq)]
+pub enum Operand {
+    Truth,
+    Number,
+    Plain(u32),
+    Either(u32, Option<u32>),
+}
+
+impl Operand {
+    /// The operand in parentheses.
+    pub fn enclosed(self) -> Operand
+        ensures { result ≡ enclosed_operand self }
+    {
+        match self {
+            Operand::Plain(number) => Operand::Either(number, None),
+            _ => self,
+        }
+    }
+}
+
+impl Frame {
+    /// How loosely it binds its operand.
+    pub fn looseness(self) -> u8
+        ensures { result ≡ looseness self }
+    {
+        match self {
+            Frame::Negate => 0,
+            Frame::Apply(operator) => level(operator) + 1,
+            Frame::Compare(_) => 5,
+            Frame::Not => 6,
+            Frame::Join(_) => 7,
+            Frame::Open | Frame::Load(_) => 9,
+        }
+    }
+}
+
+/// The level of an operator: its chains are of operands of this level.
+pub fn level(operator: Operator) -> u8
+    ensures { result ≡ level operator }
+{
+    match operator {
+        Operator::Multiply | Operator::Divide => 0,
+        Operator::Add | Operator::Subtract => 1,
+        Operator::ShiftLeft | Operator::ShiftRight => 2,
+        Operator::Or | Operator::And => 3,
+    }
+}
+
+/// How loosely the next token binds the operand before it.
+pub fn reach(tokens: &[TokenKind]) -> u8
+    ensures { result ≡ reach tokens.now }
+{
+    match tokens {
+        [TokenKind::Operator(operator), ..] => level(*operator) + 1,
+        [TokenKind::Comparison(_), ..] => 5,
+        [TokenKind::Join(_), ..] => 7,
+        []
+        | [
+            TokenKind::Close | TokenKind::CloseBracket | TokenKind::Colon,
+            ..
+        ] => 8,
+        _ => 1,
+    }
+}
+
+/// The loosest operand that the latest frame takes.
+pub fn room(frames: &[Frame]) -> u8
+    ensures { result ≡ room (reverse frames.now) }
+{
+    match frames.last() {
+        None | Some(Frame::Open) => 7,
+        Some(Frame::Negate) => 0,
+        Some(Frame::Apply(operator)) => level(*operator),
+        Some(Frame::Compare(_)) | Some(Frame::Load(_)) => 4,
+        Some(Frame::Not) | Some(Frame::Join(_)) => 6,
+    }
+}

@@ -1,0 +1,60 @@
+//! The parser.
+
+ghost use Rattle.std.specs.Prelude.{◌≡◌, ◌↔◌, ◌⊎◌, Err, IfOk, IfErr};
+ghost use Rattle.flt_lang.specs.Tree.{Expression};
+ghost use Rattle.flt_lang.specs.Grammar.{Reads, kinds_of};
+ghost use Rattle.flt_lang.specs.Nesting.{IsTooDeep};
+
+use crate::expr::Expr;
+use crate::nesting::is_nested_too_deep;
+use crate::reading::fault::ReadFault;
+use crate::reading::machine::{finish, step};
+use flt_words::{ExprFault, Token, TokenKind};
+use std::alloc::{AllocError, Allocator};
+
+/// Reads the tokens of a whole expression.
+///
+/// `NestedTooDeep` is told before anything else is looked at, `NotAnExpression` where the tokens
+/// have no tree.
+pub fn parse<A: Allocator + Clone>(alloc: A, tokens: &[Token]) -> Result<Expr<A>, ExprFault>
+    ensures deep { (result ≡ Err ExprFault.NestedTooDeep) ↔ IsTooDeep tokens.now }
+    ensures ok { IfOk result (λ tree. Reads (kinds_of tokens.now) tree) }
+    ensures none { result ≡ Err ExprFault.NotAnExpression
+        → (tree : Expression) → Reads (kinds_of tokens.now) tree → ⊥ }
+    ensures err { IfErr result (λ fault. (fault ≡ ExprFault.NestedTooDeep)
+        ⊎ (fault ≡ ExprFault.NotAnExpression) ⊎ (fault ≡ ExprFault.Memory)) }
+{
+    if is_nested_too_deep(tokens) {
+        return Err(ExprFault::NestedTooDeep);
+    }
+    let kinds = kinds_of(alloc.clone()?, tokens)?;
+    Ok(read(alloc, &kinds)?)
+}
+
+/// The tokens without their places.
+fn kinds_of<A: Allocator>(alloc: A, tokens: &[Token]) -> Result<Vec<TokenKind, A>, AllocError>
+    ensures { IfOk result (λ kinds. kinds.items ≡ kinds_of tokens.now) }
+{
+    tokens.iter().map(|token| token.kind).collect(alloc)
+}
+
+fn read<A: Allocator + Clone>(alloc: A, tokens: &[TokenKind]) -> Result<Expr<A>, ReadFault>
+    ensures ok { IfOk result (λ tree. Reads tokens.now tree) }
+    ensures none { result ≡ Err ReadFault.NotAnExpression
+        → (tree : Expression) → Reads tokens.now tree → ⊥ }
+{
+    let mut nodes = Vec::new(alloc.clone()?);
+    if tokens.is_empty() {
+        return Ok(Expr { nodes });
+    }
+    let mut frames = Vec::new(alloc);
+    let mut operand = None;
+    let mut at = 0;
+    while at < tokens.len() {
+        let (used, next) = step(&mut frames, &mut nodes, operand, &tokens[at..])?;
+        operand = next;
+        at += used;
+    }
+    finish(&mut frames, &mut nodes, operand)?;
+    Ok(Expr { nodes })
+}

@@ -1,0 +1,144 @@
+//! Values and what stands before them. Each reader takes as many tokens as it can, and says how
+//! many.
+
+ghost use Rattle.std.specs.Prelude.{◌≡◌, List, IsTrue, IfSome, IfNone, Some, None, length, drop, ◌<◌, ◌≤◌};
+ghost use Rattle.flt_words.specs.declared.token.TokenKind.{TokenKind};
+ghost use Rattle.flt_lang.specs.declared.quals.Quals.{Quals};
+ghost use Rattle.flt_lang.specs.Values.{quals_of, protocol_of, direction_of, type_of, mask_of, value_of};
+ghost use Rattle.flt_lang.specs.Machine.{valued_of};
+
+use crate::quals::{Direction, Quals};
+use crate::value::{Dotted, NetMask, Value};
+use flt_words::{Operator, Protocol, Side, TokenKind, ValueType};
+
+fn read_protocol(tokens: &[TokenKind]) -> (Option<Protocol>, usize)
+    ensures value { result.0 ≡ (protocol_of tokens.now).0 }
+    ensures rest { drop result.1 tokens.now ≡ (protocol_of tokens.now).1 }
+    ensures within { result.1 ≤ length tokens.now }
+{
+    match tokens {
+        [TokenKind::Protocol(protocol), ..] => (Some(*protocol), 1),
+        _ => (None, 0),
+    }
+}
+
+fn read_direction(tokens: &[TokenKind]) -> (Option<Direction>, usize)
+    ensures value { result.0 ≡ (direction_of tokens.now).0 }
+    ensures rest { drop result.1 tokens.now ≡ (direction_of tokens.now).1 }
+    ensures within { result.1 ≤ length tokens.now }
+{
+    match tokens {
+        [
+            TokenKind::Side(Side::Source),
+            TokenKind::Join(join),
+            TokenKind::Side(Side::Destination),
+            ..
+        ]
+        | [
+            TokenKind::Side(Side::Destination),
+            TokenKind::Join(join),
+            TokenKind::Side(Side::Source),
+            ..
+        ] => (Some(Direction::Both(*join)), 3),
+        [TokenKind::Side(side), ..] => (Some(Direction::One(*side)), 1),
+        _ => (None, 0),
+    }
+}
+
+fn read_type(tokens: &[TokenKind]) -> (Option<ValueType>, usize)
+    ensures value { result.0 ≡ (type_of tokens.now).0 }
+    ensures rest { drop result.1 tokens.now ≡ (type_of tokens.now).1 }
+    ensures within { result.1 ≤ length tokens.now }
+{
+    match tokens {
+        [TokenKind::ValueType(value_type), ..] => (Some(*value_type), 1),
+        _ => (None, 0),
+    }
+}
+
+fn read_quals(tokens: &[TokenKind]) -> (Quals, usize)
+    ensures quals { result.0 ≡ (quals_of tokens.now).0 }
+    ensures rest { drop result.1 tokens.now ≡ (quals_of tokens.now).1 }
+    ensures within { result.1 ≤ length tokens.now }
+{
+    let (protocol, a) = read_protocol(tokens);
+    let (direction, b) = read_direction(&tokens[a..]);
+    let (value_type, c) = read_type(&tokens[a + b..]);
+    let quals = Quals {
+        protocol,
+        direction,
+        value_type,
+    };
+    (quals, a + b + c)
+}
+
+fn read_mask(tokens: &[TokenKind]) -> (NetMask, usize)
+    ensures value { result.0 ≡ (mask_of tokens.now).0 }
+    ensures rest { drop result.1 tokens.now ≡ (mask_of tokens.now).1 }
+    ensures within { result.1 ≤ length tokens.now }
+{
+    match tokens {
+        [
+            TokenKind::Operator(Operator::Divide),
+            TokenKind::Number(len),
+            ..
+        ] => { (NetMask::Prefix(*len), 2) }
+        [TokenKind::Mask, TokenKind::Dotted { address, parts }, ..] => {
+            let mask = Dotted {
+                address: *address,
+                parts: *parts,
+            };
+            (NetMask::Mask(mask), 2)
+        }
+        _ => (NetMask::Unwritten, 0),
+    }
+}
+
+/// A value, with the mask behind it.
+pub fn read_value(tokens: &[TokenKind]) -> Option<(Value, usize)>
+    ensures some { IfSome result (λ r. value_of tokens.now ≡ Some (r.0, drop r.1 tokens.now)) }
+    ensures used { IfSome result (λ r. 0 < r.1) }
+    ensures within { IfSome result (λ r. r.1 ≤ length tokens.now) }
+    ensures none { IfNone result (value_of tokens.now ≡ None) }
+{
+    match tokens {
+        [TokenKind::Number(number), rest @ ..] => {
+            let (mask, used) = read_mask(rest);
+            Some((Value::Number(*number, mask), 1 + used))
+        }
+        [TokenKind::Dotted { address, parts }, rest @ ..] => {
+            let (mask, used) = read_mask(rest);
+            let dotted = Dotted {
+                address: *address,
+                parts: *parts,
+            };
+            Some((Value::Dotted(dotted, mask), 1 + used))
+        }
+        [
+            TokenKind::Ip6(address),
+            TokenKind::Operator(Operator::Divide),
+            TokenKind::Number(len),
+            ..
+        ] => Some((Value::Ip6(*address, Some(*len)), 3)),
+        [TokenKind::Ip6(address), ..] => Some((Value::Ip6(*address, None), 1)),
+        [TokenKind::Mac(address), ..] => Some((Value::Mac(*address), 1)),
+        [TokenKind::Range { first, last }, ..] => {
+            let range = Value::Range {
+                first: *first,
+                last: *last,
+            };
+            Some((range, 1))
+        }
+        _ => None,
+    }
+}
+
+/// A value with what stands before it, and how many tokens more than one they are.
+pub fn read_valued(tokens: &[TokenKind]) -> Option<(Quals, Value, usize)>
+    ensures value { result ≡ valued_of tokens.now }
+    ensures within { IfSome result (λ r. r.2 < length tokens.now) }
+{
+    let (quals, used) = read_quals(tokens);
+    let (value, more) = read_value(&tokens[used..])?;
+    Some((quals, value, used + more - 1))
+}

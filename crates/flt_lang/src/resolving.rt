@@ -1,0 +1,94 @@
+//! Values get the qualifiers that stand for them.
+
+ghost use Rattle.std.specs.Prelude.{◌≡◌, map, IfOk, IfErr, Some, None};
+ghost use Rattle.std.specs.List.{list_any};
+ghost use Rattle.flt_lang.specs.Filled.{filled, inherited_nodes, completed_node, only_host};
+ghost use Rattle.flt_lang.specs.Resolved.{fill_fault, nodes_fault, IsResolved, is_misfit_node, is_out_of_range_node, has_past_bits_node};
+
+use crate::expr::Expr;
+use crate::node::Node;
+use crate::quals::Quals;
+use flt_words::{ExprFault, ValueType};
+use std::alloc::Allocator;
+
+/// Gives each bare value the qualifiers of the nearest value to its left that has some written
+/// before it, or `host`, and fills in what is left out: the type `host`, the direction `src or
+/// dst`.
+///
+/// `QualifiersDoNotFit` is told where some value has qualifiers that do not go with it, else
+/// `ValueOutOfRange` where a number of a value or the size of an accessor is out of range, else
+/// `BitsPastMask`.
+pub fn resolve<A: Allocator>(expr: Expr<A>) -> Result<Expr<A>, ExprFault>
+    ensures ok { IfOk result (λ tree. tree ≡ filled expr) }
+    ensures fits { IfOk result (λ _. fill_fault expr ≡ None) }
+    ensures resolved { IfOk result (λ tree. IsResolved tree) }
+    ensures err { IfErr result (λ fault. fill_fault expr ≡ Some fault) }
+{
+    let Expr { mut nodes } = expr;
+    inherit(&mut nodes);
+    if let Some(fault) = fault_of(&nodes) {
+        return Err(fault);
+    }
+    complete(&mut nodes);
+    Ok(Expr { nodes })
+}
+
+/// Gives each bare value the qualifiers that were written last.
+fn inherit<A: Allocator>(nodes: &mut Vec<Node, A>)
+    ensures { nodes.new.items ≡ inherited_nodes only_host nodes.old.items }
+{
+    let mut nearest = Quals {
+        protocol: None,
+        direction: None,
+        value_type: Some(ValueType::Host),
+    };
+    for i in 0..nodes.len() {
+        match nodes[i] {
+            Node::Valued(quals, _) => nearest = quals,
+            Node::Bare(value) => nodes[i] = Node::Valued(nearest, value),
+            _ => {}
+        }
+    }
+}
+
+/// The first fault, by its number and not by its place.
+fn fault_of(nodes: &[Node]) -> Option<ExprFault>
+    ensures { result ≡ nodes_fault nodes.now }
+{
+    if has_misfit(nodes) {
+        Some(ExprFault::QualifiersDoNotFit)
+    } else if has_out_of_range(nodes) {
+        Some(ExprFault::ValueOutOfRange)
+    } else if has_past_bits(nodes) {
+        Some(ExprFault::BitsPastMask)
+    } else {
+        None
+    }
+}
+
+fn has_misfit(nodes: &[Node]) -> bool
+    ensures { result ≡ list_any is_misfit_node nodes.now }
+{
+    nodes.iter().any(|node| node.is_misfit())
+}
+
+fn has_out_of_range(nodes: &[Node]) -> bool
+    ensures { result ≡ list_any is_out_of_range_node nodes.now }
+{
+    nodes.iter().any(|node| node.is_out_of_range())
+}
+
+fn has_past_bits(nodes: &[Node]) -> bool
+    ensures { result ≡ list_any has_past_bits_node nodes.now }
+{
+    nodes.iter().any(|node| node.has_past_bits())
+}
+
+/// Fills in what is left out before the values.
+fn complete<A: Allocator>(nodes: &mut Vec<Node, A>)
+    ensures { nodes.new.items ≡ map completed_node nodes.old.items }
+{
+    for node in nodes.iter_mut() {
+        *node = node.completed();
+    }
+}

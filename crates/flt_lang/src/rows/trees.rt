@@ -1,0 +1,52 @@
+//! Which trees texts have.
+
+use super::compile;
+use std::test::Fail;
+
+#[test]
+fn reads_as(rt: HostRuntime) -> Result<(), Fail> {
+    let rows = [
+        (
+            "tcp dst port 80 or 443 and not src 10.0.0.1",
+            "(tcp dst port 80 or tcp dst port 443) and not (src host 10.0.0.1)",
+        ),
+        ("(src host 10.0.0.1) or 10.0.0.2", "src host 10.0.0.1 or src host 10.0.0.2"),
+        ("port 80 or (ip or 443)", "port 80 or (ip or port 443)"),
+        ("10.0.0.1", "src or dst host 10.0.0.1"),
+        ("dst or src host 10.0.0.1", "host 10.0.0.1"),
+        ("ip or arp and tcp", "(ip or arp) and tcp"),
+        ("not ip and tcp", "(not ip) and tcp"),
+        ("! ip && tcp || udp", "((not ip) and tcp) or udp"),
+        ("len - 1 - 2 = 3", "((len - 1) - 2) == 3"),
+        ("len | 1 & 2 = 3", "(len | 1) & 2 = 3"),
+        ("len << 1 + 2 * 3 = 4", "len << (1 + (2 * 3)) = 4"),
+        ("len & 1 << 2 = 3", "len & (1 << 2) = 3"),
+        ("-1 - -len = 0", "(-1) - (-len) = 0"),
+        ("ip[9] = 6", "ip[9:1] = 6"),
+        ("((ip))", "ip"),
+    ];
+    for (text, same) in rows {
+        let left = compile(rt.alloc(), text)?;
+        let right = compile(rt.alloc(), same)?;
+        assert!(rt; left.expr.nodes() == right.expr.nodes(), "{text} is {same}");
+    }
+    Ok(())
+}
+
+#[test]
+fn reads_apart(rt: HostRuntime) -> Result<(), Fail> {
+    let rows = [
+        ("len - 1 - 2 = 3", "len - (1 - 2) = 3"),
+        ("ip or arp and tcp", "ip or (arp and tcp)"),
+        ("not ip and tcp", "not (ip and tcp)"),
+        ("src host 10.0.0.1 or 10.0.0.2", "src host 10.0.0.1 or host 10.0.0.2"),
+        ("src and dst port 80", "src or dst port 80"),
+        ("ip[9:2] = 6", "ip[9] = 6"),
+    ];
+    for (text, other) in rows {
+        let left = compile(rt.alloc(), text)?;
+        let right = compile(rt.alloc(), other)?;
+        assert!(rt; left.expr.nodes() != right.expr.nodes(), "{text} is not {other}");
+    }
+    Ok(())
+}

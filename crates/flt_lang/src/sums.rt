@@ -1,0 +1,93 @@
+//! The counts of an expression, each in one pass over its nodes.
+
+ghost use Rattle.std.specs.Prelude.{◌≡◌, ◌≤◌, ◌*◌, ◌^◌, sum_by, fold, false};
+ghost use Rattle.flt_lang.specs.Counts.{tests_of, nodes_of, words_of, bound_of, node_tests, node_size};
+ghost use Rattle.flt_lang.specs.Heights.{climb};
+ghost use Rattle.flt_lang.specs.Resolved.{some_primitive};
+ghost use Rattle.flt_lang.specs.Checks.{divides_by_zero, zero_divided};
+
+use crate::expr::Expr;
+use crate::node::Node;
+use std::alloc::Allocator;
+
+fn sum_of_tests(nodes: &[Node]) -> u128
+    ensures sum { result ≡ sum_by node_tests nodes.now }
+    ensures few { result ≤ 27 * 2 ^ 64 }
+{
+    let mut sum: u128 = 0;
+    for node in nodes {
+        sum += u128::from(node.tests());
+    }
+    sum
+}
+
+fn sum_of_sizes(nodes: &[Node]) -> u128
+    ensures sum { result ≡ sum_by node_size nodes.now }
+    ensures few { result ≤ 2 * 2 ^ 64 }
+{
+    let mut sum: u128 = 0;
+    for node in nodes {
+        sum += u128::from(node.size());
+    }
+    sum
+}
+
+/// The greatest number of numbers that wait at once, at least 1.
+fn highest(nodes: &[Node]) -> usize
+    ensures { result ≡ (fold climb (0, 1) nodes.now).1 }
+{
+    let mut height = 0;
+    let mut highest = 1;
+    for &node in nodes {
+        highest = highest.max(node.peak(height));
+        height = node.height_after(height);
+    }
+    highest
+}
+
+/// Whether a division stands right behind the number 0.
+fn has_divided_zero(nodes: &[Node]) -> bool
+    ensures { result ≡ zero_divided false nodes.now }
+{
+    let mut zero = false;
+    for next in nodes {
+        if next.is_division() && zero {
+            return true;
+        }
+        zero = next.is_zero();
+    }
+    false
+}
+
+/// How many tests the formulas of the primitives have.
+#[tactic(auto, using(crate::proofs::Counting::tests_whole))]
+pub(crate) fn tests_in<A: Allocator>(expr: &Expr<A>) -> u128
+    ensures count { result ≡ tests_of expr.now }
+    ensures few { result ≤ 27 * 2 ^ 64 }
+{
+    sum_of_tests(&expr.nodes)
+}
+
+/// How many nodes the arithmetic has.
+#[tactic(auto, using(crate::proofs::Counting::sizes_whole))]
+pub(crate) fn nodes_in<A: Allocator>(expr: &Expr<A>) -> u128
+    ensures count { result ≡ nodes_of expr.now }
+    ensures few { result ≤ 2 * 2 ^ 64 }
+{
+    sum_of_sizes(&expr.nodes)
+}
+
+/// How many words of memory hold what waits while right sides are computed.
+pub(crate) fn words_in<A: Allocator>(expr: &Expr<A>) -> usize
+    ensures { result ≡ words_of expr.now }
+{
+    highest(&expr.nodes) - 1
+}
+
+/// Whether some divisor is the number 0, as it is written.
+#[tactic(auto, using(crate::proofs::Dividing::zero_whole))]
+pub(crate) fn divides_by_zero<A: Allocator>(expr: &Expr<A>) -> bool
+    ensures { result ≡ some_primitive divides_by_zero expr.now }
+{
+    has_divided_zero(&expr.nodes)
+}

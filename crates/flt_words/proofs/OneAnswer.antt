@@ -1,0 +1,136 @@
+-- A text has one answer at most.
+use Rattle.std.proofs.Common.{◌≡◌, ℕ, suc, zero, ◌+◌, ◌<◌, ◌≤◌, List, [], ◌∷◌, length, get_or, take, drop, refl, sym, ap, ◌∙◌, subst, arith, Bool, true, false, Result, Ok, Err, Some, length-drop, length-take-le, get_or-drop, add-zero, Option}
+use Rattle.std.proofs.lemmas.Bool.{false≢true}
+use Rattle.std.proofs.lemmas.Bool.Decides.{nat_tests}
+use Rattle.flt_words.specs.declared.fault.ExprFault.{ExprFault}
+use Rattle.flt_words.specs.declared.fault.ExprFault.TheVariants as fault
+use Rattle.flt_words.specs.declared.token.Token.{Token}
+use Rattle.flt_words.specs.declared.token.TokenKind.{TokenKind}
+use Rattle.flt_words.specs.Characters.{is_blank, is_inside, starts_word}
+use Rattle.flt_words.specs.Spellings.{symbol_of}
+use Rattle.flt_words.specs.Tokens.{IsLongest, IsPiece, IsRefused, IsToken, IsWordPiece, PieceMeans, Tokens, TokensFrom, before}
+use Rattle.flt_words.specs.Tokens.IsPiece.{symbol, word}
+use Rattle.flt_words.specs.Tokens.IsRefused.{bad_piece, no_piece}
+use Rattle.flt_words.specs.Tokens.PieceMeans.{symbol_meaning, word_meaning}
+use Rattle.flt_words.specs.Tokens.TokensFrom.{at_end, blank, refused, token}
+use Rattle.flt_words.specs.Tokens.Tokens.{short, too_long}
+use Rattle.flt_words.specs.Words.{Stands, WordMeans, fits}
+use Rattle.flt_words.specs.Words.WordMeans.{known, too_large, unknown}
+use Rattle.flt_words.proofs.OneKind.{same_kind}
+use Rattle.flt_words.proofs.Pieces.{longest_some, taken, word_some}
+use Rattle.flt_words.proofs.Symbols.{symbol_piece}
+
+fits_apart : {word : List ℕ} {a b : TokenKind} → Stands word a → Stands word b → fits a ≡ true → fits b ≡ false → ⊥
+fits_apart v w fit no_fit = false≢true (sym no_fit ∙ ap fits (same_kind w v) ∙ fit)
+
+same_word : {place : ℕ} {word : List ℕ} {a b : Result TokenKind ExprFault} → WordMeans place word a → WordMeans place word b → a ≡ b
+same_word (known v f) (known w g) = ap Ok (same_kind v w)
+same_word (known v f) (too_large w g) = absurd (fits_apart v w f g)
+same_word (known v f) (unknown none) = absurd (none _ v)
+same_word (too_large v f) (known w g) = absurd (fits_apart w v g f)
+same_word (too_large v f) (too_large w g) = refl
+same_word (too_large v f) (unknown none) = absurd (none _ v)
+same_word (unknown none) (known w g) = absurd (none _ w)
+same_word (unknown none) (too_large w g) = absurd (none _ w)
+same_word (unknown none) (unknown other) = refl
+
+no_symbol : {inside : Bool} {text : List ℕ} {kind : TokenKind} → IsWordPiece inside text → symbol_of inside text ≡ Some kind → ⊥
+no_symbol {inside} {text} {kind} w found = false≢true (sym (symbol_piece inside text kind found).starts_none ∙ w.begins)
+
+same_means : {inside : Bool} {place : ℕ} {text : List ℕ} {a b : Result TokenKind ExprFault} → PieceMeans inside place text a → PieceMeans inside place text b → a ≡ b
+same_means (word_meaning v m) (word_meaning w n) = same_word m n
+same_means (word_meaning v m) (symbol_meaning found) = absurd (no_symbol v found)
+same_means (symbol_meaning found) (word_meaning v m) = absurd (no_symbol v found)
+same_means (symbol_meaning found) (symbol_meaning other) = same_found found other
+  where
+    same_found : {o : Option TokenKind} {a b : TokenKind} → o ≡ Some a → o ≡ Some b → ◌≡◌ {A = Result TokenKind ExprFault} (Ok a) (Ok b)
+    same_found e f = cc
+
+same_length : {inside : Bool} {rest : List ℕ} {m n : ℕ} → IsLongest inside rest m → IsLongest inside rest n → m ≡ n
+same_length {inside} {rest} {m} {n} v w = omega (arith, v.longest n w.in_range w.piece, w.longest m v.in_range v.piece)
+
+-- two readings of the front of a text
+same_token : {inside : Bool} {place m n : ℕ} {rest : List ℕ} {a b : TokenKind} → IsToken inside place rest a m → IsToken inside place rest b n → (m ≡ n) × (a ≡ b)
+same_token {inside} {place} {m} {n} {rest} {a} {b} v w =
+    let long = same_length v.longest w.longest in
+    let means : PieceMeans inside place (take m rest) (Ok b) = subst (λ k. PieceMeans inside place (take k rest) (Ok b)) (sym long) w.means in
+    (long, ok_same (same_means v.means means))
+  where
+    ok_same : ◌≡◌ {A = Result TokenKind ExprFault} (Ok a) (Ok b) → a ≡ b
+    ok_same e = cc
+
+no_err_is_ok : {a : TokenKind} {e : ExprFault} → ◌≡◌ {A = Result TokenKind ExprFault} (Ok a) (Err e) → ⊥
+no_err_is_ok same = cc
+
+token_or_refused : {inside : Bool} {place n : ℕ} {rest : List ℕ} {a : TokenKind} {e : ExprFault} → IsToken inside place rest a n → IsRefused inside place rest e → ⊥
+token_or_refused {inside} {place} {n} {rest} v (no_piece none) = none n v.longest.in_range v.longest.piece
+token_or_refused {inside} {place} {n} {rest} v (bad_piece {n = m} {refusal} longest means) =
+    let long = same_length longest v.longest in
+    no_err_is_ok (same_means v.means (subst (λ k. PieceMeans inside place (take k rest) (Err refusal)) long means))
+
+same_refusal : {inside : Bool} {place : ℕ} {rest : List ℕ} {d e : ExprFault} → IsRefused inside place rest d → IsRefused inside place rest e → d ≡ e
+same_refusal (no_piece none) (no_piece other) = refl
+same_refusal (no_piece none) (bad_piece {n} longest means) = absurd (none n longest.in_range longest.piece)
+same_refusal (bad_piece {n} longest means) (no_piece none) = absurd (none n longest.in_range longest.piece)
+same_refusal {inside} {place} {rest} (bad_piece {refusal = d} longest means) (bad_piece {refusal = e} other_longest other_means) =
+    let long = same_length other_longest longest in
+    err_same (same_means means (subst (λ k. PieceMeans inside place (take k rest) (Err e)) long other_means))
+  where
+    err_same : {x y : ExprFault} → ◌≡◌ {A = Result TokenKind ExprFault} (Err x) (Err y) → x ≡ y
+    err_same same = cc
+
+-- a blank begins no token
+blank_starts_none : (inside : Bool) (b : ℕ) → is_blank b ≡ true → starts_word inside b ≡ false
+blank_starts_none true b is = grind (arith, nat_tests)
+blank_starts_none false b is = grind (arith, nat_tests)
+
+piece_not_blank : (inside : Bool) (rest : List ℕ) (m : ℕ) → m ≤ length rest → IsPiece inside (take m rest) → is_blank (get_or rest 0 0) ≡ true → ⊥
+piece_not_blank inside rest m within (word w) is =
+    let first = taken rest m 0 (word_some inside rest m w) in
+    false≢true (sym (blank_starts_none inside (get_or rest 0 0) is) ∙ sym (ap (starts_word inside) first) ∙ w.begins)
+piece_not_blank inside rest m within (symbol {kind} found) is =
+    let piece = symbol_piece inside (take m rest) kind found in
+    let some : 0 < m = omega (arith, piece.some, length-take-le m rest within) in
+    false≢true (sym piece.no_blank ∙ ap is_blank (taken rest m 0 some) ∙ is)
+
+module _ (text : List ℕ) (at : ℕ) where
+  first_is : get_or (drop at text) 0 0 ≡ get_or text at 0
+  first_is = rw (get_or-drop, add-zero) refl
+
+  token_not_blank : {n place : ℕ} {kind : TokenKind} → IsToken (is_inside (take at text)) place (drop at text) kind n → is_blank (get_or text at 0) ≡ true → ⊥
+  token_not_blank {n} v is = piece_not_blank (is_inside (take at text)) (drop at text) n v.longest.in_range v.longest.piece (ap is_blank first_is ∙ is)
+
+  token_within : {n place : ℕ} {kind : TokenKind} → IsToken (is_inside (take at text)) place (drop at text) kind n → at < length text
+  token_within {n} v = omega (arith, v.longest.in_range, longest_some v.longest, length-drop at text)
+
+blank_within : (text : List ℕ) (at : ℕ) → is_blank (get_or text at 0) ≡ true → at < length text
+blank_within [] at is = absurd (false≢true is)
+blank_within (b ∷ text) zero is = omega arith
+blank_within (b ∷ text) (suc at) is = omega (arith, blank_within text at is)
+
+same_rest : {text : List ℕ} {at : ℕ} {a b : Result (List Token) ExprFault} → TokensFrom text at a → TokensFrom text at b → a ≡ b
+same_rest (at_end e) (at_end f) = refl
+same_rest {text} {at} (at_end e) (blank is r) = absurd (omega (arith, blank_within text at is))
+same_rest {text} {at} (at_end e) (token is r) = absurd (omega (arith, token_within text at is))
+same_rest {text} {at} (at_end e) (refused within other is) = absurd (omega arith)
+same_rest {text} {at} (blank is r) (at_end f) = absurd (omega (arith, blank_within text at is))
+same_rest (blank is r) (blank is' s) = same_rest r s
+same_rest {text} {at} (blank is r) (token is' s) = absurd (token_not_blank text at is' is)
+same_rest (blank is r) (refused within other is') = absurd (false≢true (sym other ∙ is))
+same_rest {text} {at} (token is r) (at_end f) = absurd (omega (arith, token_within text at is))
+same_rest {text} {at} (token is r) (blank is' s) = absurd (token_not_blank text at is is')
+same_rest {text} {at} (token {n} {kind} {answer} is r) (token {n = n'} {kind = kind'} {answer = answer'} is' s) =
+    let same = same_token is is' in
+    let rest : answer ≡ answer' = same_rest r (subst (λ k. TokensFrom text (at + k) answer') (sym same.0) s) in
+    ap (λ k. before (record { kind = k; place = at + 1 }) answer) same.1 ∙ ap (before (record { kind = kind'; place = at + 1 })) rest
+same_rest (token is r) (refused within other is') = absurd (token_or_refused is is')
+same_rest {text} {at} (refused within other is) (at_end f) = absurd (omega arith)
+same_rest (refused within other is) (blank is' s) = absurd (false≢true (sym other ∙ is'))
+same_rest (refused within other is) (token is' s) = absurd (token_or_refused is' is)
+same_rest (refused within other is) (refused within' other' is') = ap Err (same_refusal is is')
+
+pub same_answer : {text : List ℕ} {a b : Result (List Token) ExprFault} → Tokens text a → Tokens text b → a ≡ b
+same_answer (too_long l) (too_long m) = refl
+same_answer (too_long l) (short m r) = absurd (omega arith)
+same_answer (short l r) (too_long m) = absurd (omega arith)
+same_answer (short l r) (short m s) = same_rest r s

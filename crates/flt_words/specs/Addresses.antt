@@ -1,0 +1,86 @@
+-- Addresses in words: groups of digits that a separator joins.
+use Rattle.std.specs.Prelude.{◌≡◌, ◌≤◌, ◌+◌, ◌-◌, ℕ, List, ◌++◌, map, length, replicate, codes, slice_index, Option, Some, None}
+use Rattle.std.specs.Int.Digits.{number_from_digits}
+use Rattle.std.specs.List.{AllByRecursion, join_with_byte}
+use Rattle.std.specs.Str.Parse.{IsNumeral, digits_value}
+use Rattle.flt_words.specs.declared.address.Group.{Group}
+use Rattle.flt_words.specs.declared.address.Group.TheVariants as group
+use Rattle.flt_words.specs.declared.address.Joined.{Joined}
+use Rattle.flt_words.specs.Numbers.{WritesDecimal}
+
+-- what joins groups of a form: a point, or a colon
+abbrev pub separator_of : Group → ℕ
+separator_of group.Octet = 46
+separator_of group.Byte = 58
+separator_of group.Quad = 58
+
+-- a group's number is below its base
+abbrev pub base_of : Group → ℕ
+base_of group.Octet = 256
+base_of group.Byte = 256
+base_of group.Quad = 65536
+
+-- digits of the form: decimal up to 255, one or two hexadecimal, one to four hexadecimal
+abbrev pub IsGroup : Group → List ℕ → Type 0
+IsGroup group.Octet digits = (n : ℕ) × WritesDecimal digits n × (n ≤ 255)
+IsGroup group.Byte digits = IsNumeral 16 digits × (length digits ≤ 2)
+IsGroup group.Quad digits = IsNumeral 16 digits × (length digits ≤ 4)
+
+abbrev pub group_value : Group → List ℕ → ℕ
+group_value group.Octet digits = digits_value 10 digits
+group_value group.Byte digits = digits_value 16 digits
+group_value group.Quad digits = digits_value 16 digits
+
+abbrev pub group_values : Group → List (List ℕ) → List ℕ
+group_values form groups = map (group_value form) groups
+
+-- the text is these groups, joined
+pub record AreGroups (form : Group) (text : List ℕ) (groups : List (List ℕ)) : Type 0 where
+  pub joined : text ≡ join_with_byte (separator_of form) groups
+  pub each : AllByRecursion (IsGroup form) groups
+
+-- the word is two to four parts of an IPv4 address, the missing ones 0
+pub record IsDotted (word : List ℕ) (address parts : ℕ) : Type 0 where
+  pub groups : List (List ℕ)
+  pub are : AreGroups group.Octet word groups
+  pub at_least_two : 2 ≤ length groups
+  pub at_most_four : length groups ≤ 4
+  pub count : parts ≡ length groups
+  pub value : address ≡ number_from_digits 256 (group_values group.Octet groups ++ replicate (4 - length groups) 0)
+
+-- the word is the six bytes of a MAC address
+pub record IsMac (word : List ℕ) (address : ℕ) : Type 0 where
+  pub groups : List (List ℕ)
+  pub are : AreGroups group.Byte word groups
+  pub six : length groups ≡ 6
+  pub value : address ≡ number_from_digits 256 (group_values group.Byte groups)
+
+-- the word is the eight groups of an IPv6 address
+pub record IsWholeIp6 (word : List ℕ) (address : ℕ) : Type 0 where
+  pub groups : List (List ℕ)
+  pub are : AreGroups group.Quad word groups
+  pub eight : length groups ≡ 8
+  pub value : address ≡ number_from_digits 65536 (group_values group.Quad groups)
+
+-- the two texts are at most seven groups of an IPv6 address together, and those left out between them are 0
+pub record AreIp6Ends (front back : List ℕ) (address : ℕ) : Type 0 where
+  pub first : List (List ℕ)
+  pub last : List (List ℕ)
+  pub are_first : AreGroups group.Quad front first
+  pub are_last : AreGroups group.Quad back last
+  pub at_most_seven : length first + length last ≤ 7
+  pub value : address ≡ number_from_digits 65536 (group_values group.Quad first ++ (replicate (8 - (length first + length last)) 0 ++ group_values group.Quad last))
+
+-- the word is an IPv6 address, in full or with one `::` for groups left out
+pub data IsIp6 : List ℕ → ℕ → Type 0 where
+  whole : {word : List ℕ} {address : ℕ} → IsWholeIp6 word address → IsIp6 word address
+  shortened : {front back : List ℕ} {address : ℕ} → AreIp6Ends front back address → IsIp6 (front ++ (codes "::" ++ back)) address
+
+-- two colons stand here
+abbrev pub IsDoubleColon : List ℕ → ℕ → Type 0
+IsDoubleColon word i = (slice_index word i ≡ 58) × (slice_index word (i + 1) ≡ 58)
+
+-- the answer of reading a text as at most eight groups: how many, and the number that they write in their base
+abbrev pub ReadsGroups : Group → List ℕ → Option Joined → Type 0
+ReadsGroups form text None = (groups : List (List ℕ)) → AreGroups form text groups → length groups ≤ 8 → ⊥
+ReadsGroups form text (Some joined) = (groups : List (List ℕ)) × AreGroups form text groups × (length groups ≤ 8) × (joined.count ≡ length groups) × (joined.value ≡ number_from_digits (base_of form) (group_values form groups))

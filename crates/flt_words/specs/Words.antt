@@ -1,0 +1,30 @@
+-- What a word stands for.
+use Rattle.std.specs.Prelude.{◌≡◌, ℕ, List, Bool, ◌&&◌, true, false, Some, Result, Ok, Err}
+use Rattle.flt_words.specs.declared.fault.ExprFault.{ExprFault}
+use Rattle.flt_words.specs.declared.fault.ExprFault.TheVariants as fault
+use Rattle.flt_words.specs.declared.token.TokenKind.{TokenKind}
+use Rattle.flt_words.specs.declared.token.TokenKind.TheVariants as token
+use Rattle.flt_words.specs.Addresses.{IsDotted, IsIp6, IsMac}
+use Rattle.flt_words.specs.Numbers.{IsNumber, IsRange, is_word_sized}
+use Rattle.flt_words.specs.Spellings.{keyword_of}
+
+-- the word stands for this, its numbers as large as they may be
+pub data Stands : List ℕ → TokenKind → Type 0 where
+  keyword : {word : List ℕ} {kind : TokenKind} → keyword_of word ≡ Some kind → Stands word kind
+  number : {word : List ℕ} {n : ℕ} → IsNumber word n → Stands word (token.Number n)
+  dotted : {word : List ℕ} {address parts : ℕ} → IsDotted word address parts → Stands word (token.Dotted address parts)
+  range : {word : List ℕ} {first last : ℕ} → IsRange word first last → Stands word (token.Range first last)
+  mac : {word : List ℕ} {address : ℕ} → IsMac word address → Stands word (token.Mac address)
+  ip6 : {word : List ℕ} {address : ℕ} → IsIp6 word address → Stands word (token.Ip6 address)
+
+-- a number that a token has is below 2 ^ 32, and so are both of a range
+abbrev pub fits : TokenKind → Bool
+fits (token.Number n) = is_word_sized n
+fits (token.Range first last) = is_word_sized first && is_word_sized last
+fits _ = true
+
+-- the answer for a word at a place
+pub data WordMeans (place : ℕ) (word : List ℕ) : Result TokenKind ExprFault → Type 0 where
+  known : {kind : TokenKind} → Stands word kind → fits kind ≡ true → WordMeans place word (Ok kind)
+  too_large : {kind : TokenKind} → Stands word kind → fits kind ≡ false → WordMeans place word (Err (fault.NumberTooLarge place))
+  unknown : ((kind : TokenKind) → Stands word kind → ⊥) → WordMeans place word (Err (fault.UnknownWord place))

@@ -1,0 +1,116 @@
+//! The tokens of a text.
+
+ghost use Rattle.std.specs.Prelude.{◌≡◌, ◌≢◌, ◌<◌, ◌+◌, ◌==◌, ◌≤◌, IfErr, IfOk, MatchOption, MatchResult, Ok, Err, None, Some, count_by, length, slice_index, take, false, true, ℕ};
+ghost use Rattle.flt_words.specs.Characters.{starts_word};
+ghost use Rattle.flt_words.specs.Spellings.{symbol_of};
+ghost use Rattle.flt_words.specs.Tokens.{IsLongest, IsPiece, IsRefused, IsToken, PieceMeans, Tokens};
+
+use std::alloc::Allocator;
+
+use crate::character::{is_blank, starts_word, within_word};
+use crate::fault::ExprFault;
+use crate::spelling::symbol_of;
+use crate::token::{Token, TokenKind};
+use crate::word::word_kind;
+
+/// The longest text, in bytes.
+const LONGEST: usize = 65536;
+
+/// How long the word is with which a text begins.
+fn word_len(inside: bool, rest: &[u8]) -> usize
+    requires { starts_word inside (slice_index rest.now 0) ≡ true }
+    ensures { IsLongest inside rest.now result }
+{
+    let mut len = 0;
+    for (i, byte) in rest.iter().enumerate() {
+        if !within_word(inside, *byte) {
+            break;
+        }
+        if starts_word(inside, *byte) {
+            len = i + 1;
+        }
+    }
+    len
+}
+
+/// The symbol of so many bytes with which a text begins.
+fn symbol_of_len(inside: bool, len: usize, rest: &[u8]) -> Option<TokenKind>
+    ensures { MatchOption result (len ≤ length rest.now → symbol_of inside (take len rest.now) ≡ None)
+        (λ kind. (len ≤ length rest.now) × (symbol_of inside (take len rest.now) ≡ Some kind)) }
+{
+    if len > rest.len() {
+        return None;
+    }
+    symbol_of(inside, &rest[..len])
+}
+
+/// The longest symbol with which a text begins, and its length.
+fn symbol_at(inside: bool, rest: &[u8]) -> Option<(TokenKind, usize)>
+    requires { starts_word inside (slice_index rest.now 0) ≡ false }
+    ensures { MatchOption result ((n : ℕ) → n ≤ length rest.now → IsPiece inside (take n rest.now) → ⊥)
+        (λ symbol. IsLongest inside rest.now symbol.1 × (symbol_of inside (take symbol.1 rest.now) ≡ Some symbol.0)) }
+{
+    if let Some(kind) = symbol_of_len(inside, 2, rest) {
+        return Some((kind, 2));
+    }
+    let kind = symbol_of_len(inside, 1, rest)?;
+    Some((kind, 1))
+}
+
+/// The token with which a text begins, and its length.
+fn token_at(inside: bool, place: u32, rest: &[u8]) -> Result<(TokenKind, usize), ExprFault>
+    requires { 0 < length rest.now }
+    ensures { MatchResult result (λ token. IsToken inside place rest.now token.0 token.1) (IsRefused inside place rest.now) }
+{
+    if starts_word(inside, rest[0]) {
+        let len = word_len(inside, rest);
+        let kind = word_kind(place, &rest[..len])?;
+        return Ok((kind, len));
+    }
+    match symbol_at(inside, rest) {
+        Some(token) => Ok(token),
+        None => Err(ExprFault::UnknownCharacter(place)),
+    }
+}
+
+/// How often a byte stands in a piece.
+fn count(byte: u8, piece: &[u8]) -> usize
+    ensures value { result ≡ count_by (λ b. b == byte) piece.now }
+    ensures few { result ≤ length piece.now }
+{
+    piece.iter().filter(|other| **other == byte).count()
+}
+
+/// The tokens of a text, each with its place, or the leftmost refusal.
+///
+/// A text over 65,536 bytes is `TooLong` (E1). Else the leftmost of these is told: a character that begins no token
+/// (E2), a word of no kind (E3), a number above 2^32 - 1 (E4). `Memory` comes in place of the answer where a token
+/// cannot be kept.
+pub fn lex<A: Allocator>(alloc: A, text: &str) -> Result<Vec<Token, A>, ExprFault>
+    ensures ok { IfOk result (λ tokens. Tokens text.now (Ok tokens.items)) }
+    ensures err { IfErr result (λ fault. fault ≢ ExprFault.Memory → Tokens text.now (Err fault)) }
+    ensures too_long { 65536 < length text.now → result ≡ Err ExprFault.TooLong }
+{
+    let bytes = text.as_bytes();
+    if bytes.len() > LONGEST {
+        return Err(ExprFault::TooLong);
+    }
+    let mut tokens = Vec::new(alloc);
+    let mut opened = 0;
+    let mut closed = 0;
+    let mut at = 0;
+    while at < bytes.len() {
+        if is_blank(bytes[at]) {
+            at += 1;
+        } else {
+            let place = at as u32 + 1;
+            let (kind, len) = token_at(closed < opened, place, &bytes[at..])?;
+            tokens.push(Token { kind, place })?;
+            let piece = &bytes[at..at + len];
+            opened += count(b'[', piece);
+            closed += count(b']', piece);
+            at += len;
+        }
+    }
+    Ok(tokens)
+}
