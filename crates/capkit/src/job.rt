@@ -1,5 +1,6 @@
 //! A command over files and standard streams.
-ghost use Rattle.std.specs.Prelude.{◌≡◌};
+ghost use Rattle.std.specs.Prelude.{◌≡◌, ◌⊎◌, IfOk, true, length, vec_len};
+ghost use Rattle.cap_tools.specs.Command.{is_proper};
 
 use crate::line::Line;
 use crate::names::STANDARD;
@@ -60,7 +61,9 @@ impl<T: Drop> From<AllocFailed<T>> for Stop<'_> {
 }
 
 /// Opens the inputs in order.
-fn open<'a>(rt: &HostRuntime, names: &'a [String]) -> Result<Vec<Source>, Stop<'a>> {
+fn open<'a>(rt: &HostRuntime, names: &'a [String]) -> Result<Vec<Source>, Stop<'a>>
+    ensures { IfOk result (λ inputs. vec_len inputs ≡ length names.entry.now) }
+{
     let mut inputs = Vec::new(rt.alloc());
     for name in names {
         let name = name.as_str();
@@ -89,7 +92,11 @@ fn run_over<'a>(
     mut names: Vec<String>,
     inputs: Vec<Source>,
     output: &'a str,
-) -> Result<u8, Stop<'a>> {
+) -> Result<u8, Stop<'a>>
+    requires proper { is_proper command (vec_len inputs) ≡ true }
+    requires named { vec_len names ≡ vec_len inputs }
+    ensures { IfOk result (λ status. (status ≡ 0) ⊎ (status ≡ 1)) }
+{
     let target = create(rt, output)?;
     names.push(String::from_str(rt.alloc(), output)?)?;
     let messages = BufWriter::new(rt.alloc(), rt.stderr())?;
@@ -120,7 +127,10 @@ fn stopped(rt: &HostRuntime, stop: Stop<'_>) -> u8
 /// Runs the command of the line over the files and streams that its names stand for, and answers its status.
 ///
 /// The inputs are opened in order, then the output is created, then the command runs.
-pub fn run(rt: &HostRuntime, line: Line) -> u8 {
+pub fn run(rt: &HostRuntime, line: Line) -> u8
+    requires { is_proper line.command (vec_len line.inputs) ≡ true }
+    ensures { (result ≡ 0) ⊎ (result ≡ 1) }
+{
     let Line {
         command,
         inputs: names,

@@ -1,5 +1,5 @@
 //! What the words of a command line ask for.
-ghost use Rattle.std.specs.Prelude.{◌≡◌, ◌∷◌, [], ◌⊎◌, IfOk, IfErr, OnOk, Some, None, option_map, map, codes, true, length, string_bytes};
+ghost use Rattle.std.specs.Prelude.{◌≡◌, ◌∷◌, [], ◌⊎◌, IfOk, IfErr, OnOk, Some, None, option_map, map, codes, true, vec_len, string_bytes};
 ghost use Rattle.cap_tools.specs.Command.{has_proper_ranges, is_proper};
 ghost use Rattle.clap.specs.Words.{found_of, rows_of};
 ghost use Rattle.capkit.specs.Line.{text_in, texts_in, flag_in, range_fault, fault_in, IsEditOf, IsFaultOf, SaysLine, SaysFault};
@@ -77,7 +77,7 @@ fn ranges_in(alloc: Global, words: &[&str]) -> Result<Vec<(u64, u64)>, Usage>
 fn edit_line(alloc: Global, matches: &ArgMatches<'_>) -> Result<Line, Usage>
     ensures line { IfOk result (IsEditOf (rows_of (found_of matches.now))) }
     ensures faultless { OnOk result (fault_in (rows_of (found_of matches.now)) ≡ None) }
-    ensures proper { IfOk result (λ line. is_proper line.command (length line.inputs.items) ≡ true) }
+    ensures proper { IfOk result (λ line. is_proper line.command (vec_len line.inputs) ≡ true) }
     ensures fault { IfErr result (IsFaultOf (rows_of (found_of matches.now))) }
 {
     let ranges = ranges_in(alloc, texts(matches, "RANGE"))?;
@@ -107,7 +107,7 @@ fn edit_line(alloc: Global, matches: &ArgMatches<'_>) -> Result<Line, Usage>
 /// more than 512 ranges, a range is none, a name is used twice; or memory is refused after clap's parse.
 pub fn command_of(alloc: Global, words: Vec<String>) -> Result<Line, Usage>
     ensures line { IfOk result (SaysLine (map string_bytes words.items)) }
-    ensures proper { IfOk result (λ line. is_proper line.command (length line.inputs.items) ≡ true) }
+    ensures proper { IfOk result (λ line. is_proper line.command (vec_len line.inputs) ≡ true) }
     ensures usage { IfErr result (SaysFault (map string_bytes words.items)) }
 {
     let matches = match matches_of(alloc, words.as_slice()) {

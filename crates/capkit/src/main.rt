@@ -9,6 +9,8 @@ mod job;
 mod line;
 mod names;
 mod range;
+#[cfg(test)]
+mod rows;
 mod streams;
 #[cfg(test)]
 mod tests;

@@ -1,4 +1,4 @@
-use Rattle.std.proofs.Common.{◌≡◌, ◌∙◌, ◌++◌, ◌∷◌, [], ap, refl, map, Some, length, string_bytes, String}
+use Rattle.std.proofs.Common.{◌≡◌, ◌∙◌, ◌++◌, ◌∷◌, [], ap, refl, map, Some, vec_len, ◌+◌, string_bytes, String}
 use Rattle.std.proofs.lemmas.Bool.{and_from, eq-eqb}
 use Rattle.capkit.specs.Range.{range_of}
 use Rattle.capkit.proofs.line.edit_line.Goals as goal
@@ -18,5 +18,8 @@ returns-clause-line c = record {
   code = refl;
 }
 
+one : (c : goal.In_ok-from_str-2) → vec_len c.push.new.self ≡ 1
+one c = c.in_ok-push.ensures.len ∙ ap (λ n. n + 1) c.new-inputs.ensures.len
+
 pub returns-clause-proper : goal.returns-clause-proper
-returns-clause-proper c = and_from _ _ (eq-eqb _ 1 (ap length (one_input c))) c.in_ok-ranges.ensures.proper
+returns-clause-proper c = and_from _ _ (eq-eqb _ 1 (one c)) c.in_ok-ranges.ensures.proper
