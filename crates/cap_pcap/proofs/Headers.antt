@@ -1,12 +1,10 @@
 -- What a text begins with is told by its first bytes alone: the file header.
-use Rattle.std.proofs.Common.{◌≡◌, ℕ, ◌+◌, ◌<◌, ◌≤◌, Bool, true, false, List, [], ◌∷◌, ◌++◌, length, Option, Some, None, is_some, refl, sym, ap, ◌∙◌, arith, rules}
+use Rattle.std.proofs.Common.{◌≡◌, ℕ, ◌+◌, ◌<◌, ◌≤◌, true, List, ◌++◌, length, Some, None, is_some, refl, arith}
 use Rattle.std.proofs.lemmas.List.{length-append}
 use Rattle.std.proofs.lemmas.Bool.{leb-true, le-leb, lt-leb}
-use Rattle.cap_octet.specs.declared.fault.Fault.{Fault}
 use Rattle.cap_octet.specs.declared.fault.Fault.TheVariants.{NotACaptureFile, Truncated}
 use Rattle.cap_octet.specs.declared.number.Order.{Order}
 use Rattle.cap_octet.specs.declared.number.Order.TheVariants.{Little, Big}
-use Rattle.cap_octet.specs.Number.{number_in}
 use Rattle.cap_octet.proofs.Checks.{all_met}
 use Rattle.cap_octet.proofs.Numbers.{number_in-append}
 use Rattle.cap_pcap.specs.Header.{form_in, form_of, head_checks, head_fault, head_in}
@@ -26,9 +24,16 @@ pub head_fault-append : (front more : List ℕ) → 24 ≤ length front → head
 head_fault-append front more enough =
     let order : Order = (form_of front).0 in
     let size : length (front ++ more) ≡ length front + length more = length-append front more in
-    rw (form_in-append front more (omega arith), number_in-append order 2 front more 4 (omega arith), number_in-append order 2 front more 6 (omega arith),
-      number_in-append order 4 front more 20 (omega arith), le-leb 24 (length (front ++ more)) (omega arith), le-leb 24 (length front) enough,
-      le-leb 4 (length (front ++ more)) (omega arith), le-leb 4 (length front) (omega arith)) refl
+    rw (
+      form_in-append front more (omega arith),
+      number_in-append order 2 front more 4 (omega arith),
+      number_in-append order 2 front more 6 (omega arith),
+      number_in-append order 4 front more 20 (omega arith),
+      le-leb 24 (length (front ++ more)) (omega arith),
+      le-leb 24 (length front) enough,
+      le-leb 4 (length (front ++ more)) (omega arith),
+      le-leb 4 (length front) (omega arith),
+    ) refl
 
 -- ---- the first checks
 

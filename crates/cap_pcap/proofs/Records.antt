@@ -1,5 +1,5 @@
 -- What a text begins with is told by its first bytes alone: a record.
-use Rattle.std.proofs.Common.{◌≡◌, ℕ, ◌+◌, ◌<◌, ◌≤◌, Bool, true, false, List, [], ◌∷◌, ◌++◌, length, take, drop, nat_le, Option, Some, None, refl, sym, ap, ◌∙◌, arith}
+use Rattle.std.proofs.Common.{◌≡◌, ℕ, ◌+◌, ◌<◌, ◌≤◌, Bool, List, [], ◌∷◌, ◌++◌, length, take, drop, nat_le, Some, None, refl, sym, ap, ◌∙◌, arith}
 use Rattle.std.proofs.lemmas.List.{length-append, length-take-le, take-append-drop}
 use Rattle.std.proofs.lemmas.Bool.{leb-true, le-leb, lt-leb}
 use Rattle.cap_octet.specs.Checks.{first_failing}
@@ -21,8 +21,12 @@ field_checks-append head front more enough =
 
 pub record_head_in-append : (head : Head) (front more : List ℕ) → 16 ≤ length front → record_head_in head (front ++ more) ≡ record_head_in head front
 record_head_in-append head front more enough =
-    rw (number_in-append head.order 4 front more 0 (omega arith), number_in-append head.order 4 front more 4 (omega arith), captured_len-append head front more enough,
-      number_in-append head.order 4 front more 12 (omega arith)) refl
+    rw (
+      number_in-append head.order 4 front more 0 (omega arith),
+      number_in-append head.order 4 front more 4 (omega arith),
+      captured_len-append head front more enough,
+      number_in-append head.order 4 front more 12 (omega arith),
+    ) refl
 
 -- ---- the checks, one after another
 
@@ -72,10 +76,11 @@ pub IsRecord-front : (head : Head) (bytes more : List ℕ) → IsRecord head byt
 IsRecord-front head bytes more is =
     let p = passes head bytes is.passes in
     let same : captured_len head (bytes ++ more) ≡ captured_len head bytes = captured_len-append head bytes more p.enough in
-    let size : length (bytes ++ more) ≡ length bytes + length more = length-append bytes more in
-    (record_fault-whole head (bytes ++ more) (let e : 16 ≤ length bytes = p.enough in omega arith) (ap first_failing (field_checks-append head bytes more p.enough) ∙ p.fields)
-      (omega (arith, same, size, is.whole)),
-      omega (arith, same, is.whole))
+    let size : length (bytes ++ more) ≡ length bytes + length more = length-append bytes more in (
+      record_fault-whole head (bytes ++ more) (let e : 16 ≤ length bytes = p.enough in omega arith) (ap first_failing (field_checks-append head bytes more p.enough) ∙ p.fields)
+          (omega (arith, same, size, is.whole)),
+      omega (arith, same, is.whole),
+    )
 
 -- bytes that came one after another are a record
 pub IsRecord-came : (head : Head) (bytes : List ℕ) → 16 ≤ length bytes → first_failing (field_checks head (take 16 bytes)) ≡ None → length bytes ≡ 16 + captured_len head (take 16 bytes) → IsRecord head bytes

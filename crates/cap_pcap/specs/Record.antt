@@ -1,5 +1,5 @@
 -- A record of a pcap savefile: its checks, in order, and its packet (draft-ietf-opsawg-pcap, "Packet Record").
-use Rattle.std.specs.Prelude.{◌≡◌, ℕ, ◌+◌, ◌*◌, Bool, List, [], ◌∷◌, ◌++◌, length, drop, take, nat_lt, nat_le, Option, None}
+use Rattle.std.specs.Prelude.{◌≡◌, ℕ, ◌+◌, ◌*◌, Bool, List, [], ◌∷◌, ◌++◌, length, drop, nat_lt, nat_le, Option, None}
 use Rattle.cap_octet.specs.Checks.{first_failing}
 use Rattle.cap_octet.specs.Number.{u32_in}
 use Rattle.cap_octet.specs.Packet.{Captured}

@@ -8,3 +8,6 @@ pub mod write;
 
 pub use head::{Head, RecordHead, Resolution, read_head, read_magic, read_record};
 pub use write::{fits, head_bytes, record_bytes};
+
+#[cfg(test)]
+mod tests;

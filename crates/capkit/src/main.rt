@@ -9,8 +9,6 @@ mod job;
 mod line;
 mod names;
 mod range;
-#[cfg(test)]
-mod rows;
 mod streams;
 #[cfg(test)]
 mod tests;

@@ -1,17 +1,16 @@
 -- A value with nothing before it, as tokens and as the machine reads it. A number alone waits, since it may be arithmetic.
-use Rattle.std.proofs.Common.{◌≡◌, ℕ, suc, ◌-◌, ◌<◌, ◌≤◌, List, [], ◌∷◌, length, drop, refl, ap, ◌∙◌, arith, Option, Some, None, Bool, true, false}
+use Rattle.std.proofs.Common.{◌≡◌, ℕ, suc, ◌-◌, ◌<◌, ◌≤◌, List, ◌∷◌, length, drop, refl, ap, ◌∙◌, arith, Some, None, Bool, true, false}
 use Rattle.flt_words.specs.declared.token.TokenKind.{TokenKind}
 use Rattle.flt_words.specs.declared.token.TokenKind.TheVariants as token
 use Rattle.flt_lang.specs.declared.value.Value.{Value}
 use Rattle.flt_lang.specs.declared.node.Node.{Node}
 use Rattle.flt_lang.specs.declared.node.Node.TheVariants as node
 use Rattle.flt_lang.specs.declared.reading.frame.Frame.{Frame}
-use Rattle.flt_lang.specs.declared.reading.frame.Operand.{Operand}
 use Rattle.flt_lang.specs.declared.reading.frame.Operand.TheVariants as operand
-use Rattle.flt_lang.specs.Values.{ReadsMask, no_mask, prefix, dotted_mask, ReadsValue, number, dotted, ip6, ip6_prefix, mac, range, value_of}
-use Rattle.flt_lang.specs.Machine.{◌>>=◌, Primitive, reach, begin, run, with_frames, bare_of}
+use Rattle.flt_lang.specs.Values.{ReadsValue}
+use Rattle.flt_lang.specs.Machine.{◌>>=◌, reach, begin, run, with_frames, bare_of}
 use Rattle.flt_lang.proofs.ValuesBack.{value_back}
-use Rattle.flt_lang.proofs.Valued.{IsSuffix, value_suffix, value_some, run_begins}
+use Rattle.flt_lang.proofs.Valued.{value_suffix, value_some, run_begins}
 
 -- the tokens where a value is read at once
 abbrev pub is_value_front : List TokenKind → Bool

@@ -1,33 +1,25 @@
 -- Where an operand begins, the machine reads what the grammar reads.
-use Rattle.std.proofs.Common.{◌≡◌, ℕ, suc, zero, ◌+◌, ◌-◌, ◌≤◌, length, drop, ◌⊎◌, inl, inr, ⊎_elim, List, [], ◌∷◌, refl, sym, ap, ◌∙◌, subst, arith, Option, Some, None, Bool, true, false, nat_le, if◌then◌else◌, lit≤, zero-le}
-use Rattle.std.proofs.lemmas.Bool.{leb-true}
-use Rattle.std.proofs.str.Laws.{order}
+use Rattle.std.proofs.Common.{◌≡◌, ℕ, suc, zero, ◌-◌, length, drop, inl, List, [], ◌∷◌, refl, sym, ap, ◌∙◌, subst, Option, Some, None, true, nat_le, zero-le}
 use Rattle.flt_words.specs.declared.token.Protocol.{Protocol}
-use Rattle.flt_words.specs.declared.token.Operator.{Operator}
-use Rattle.flt_words.specs.declared.token.Operator.TheVariants.{Subtract, Divide}
+use Rattle.flt_words.specs.declared.token.Operator.TheVariants.{Subtract}
 use Rattle.flt_words.specs.declared.token.Size.{Size}
 use Rattle.flt_words.specs.declared.token.TokenKind.{TokenKind}
 use Rattle.flt_words.specs.declared.token.TokenKind.TheVariants as token
-use Rattle.flt_lang.specs.declared.value.NetMask.TheVariants as mask
 use Rattle.flt_lang.specs.declared.value.Value.{Value}
-use Rattle.flt_lang.specs.declared.value.Value.TheVariants as value
 use Rattle.flt_lang.specs.declared.quals.Quals.{Quals}
 use Rattle.flt_lang.specs.declared.node.Node.{Node}
 use Rattle.flt_lang.specs.declared.node.Node.TheVariants as node
-use Rattle.flt_lang.specs.declared.reading.protocols.Opening.{Opening}
-use Rattle.flt_lang.specs.declared.reading.protocols.Opening.TheVariants as opening
 use Rattle.flt_lang.specs.declared.reading.frame.Frame.{Frame}
 use Rattle.flt_lang.specs.declared.reading.frame.Frame.TheVariants as frame
 use Rattle.flt_lang.specs.declared.reading.frame.Operand.{Operand}
 use Rattle.flt_lang.specs.declared.reading.frame.Operand.TheVariants as operand
-use Rattle.flt_lang.specs.Tree.{NumberTree, literal, len, load, negated, applied, TruthTree, check, cast, sized, bare, valued, compared, denied, joined, Expression, empty, truth}
-use Rattle.flt_lang.specs.Values.{quals_of, value_of, is_written, no_mask, prefix, number}
-use Rattle.flt_lang.specs.Grammar.{level, is_accessor, is_check, has_casts, Number, of_literal, of_len, enclosed, of_load, of_sized_load, minus, single, chain, Truth, of_check, of_cast, of_protocol_cast, of_sized, of_valued, of_bare, relation, denial, enclosed_truth, term, terms, Reads, no_tokens, all_tokens}
-use Rattle.flt_lang.specs.Machine.{◌>>=◌, number_onto, truth_onto, expr_onto, looseness, room, reach_of, reach, prefix_mask, as_number, as_truth, Read, fill, Settled, settle, State, Begun, Primitive, number_waits, truth_waits, place, opening_of, protocol_begins, number_of, sized_of, begin, whole, finish, run, all_run, enclosed_operand, next_of, go_on, valued_of, valued_or, check_of, primitive, bare_of, with_frames}
-use Rattle.flt_lang.proofs.ValuesBack.{level_small}
+use Rattle.flt_lang.specs.Tree.{len, TruthTree, check, cast, sized, bare, valued}
+use Rattle.flt_lang.specs.Values.{quals_of, value_of, is_written}
+use Rattle.flt_lang.specs.Grammar.{is_accessor, is_check, has_casts, of_len, Truth, of_check, of_cast, of_protocol_cast, of_sized, of_valued, of_bare}
+use Rattle.flt_lang.specs.Machine.{truth_onto, room, Begun, begin, valued_of, valued_or, check_of, primitive, bare_of, with_frames}
 use Rattle.flt_lang.proofs.Valued.{quals_sound, value_sound, side_written, left_behind}
 use Rattle.flt_lang.proofs.Bare.{value_left}
-use Rattle.flt_lang.proofs.Stacked.{some_first, some_then, Stacked, Between, Behind}
+use Rattle.flt_lang.proofs.Stacked.{some_first, some_then, Stacked, Behind}
 
 -- the tokens behind the next k
 abbrev pub left : List TokenKind → ℕ → List TokenKind

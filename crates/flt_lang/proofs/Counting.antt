@@ -5,7 +5,7 @@ use Rattle.flt_lang.specs.declared.node.Node.{Node}
 use Rattle.flt_lang.specs.declared.node.Node.TheVariants as node
 use Rattle.flt_lang.specs.Tree.{NumberTree, literal, len, load, negated, applied, TruthTree, check, cast, sized, bare, valued, qualified, compared, denied, joined, Expression, empty, truth}
 use Rattle.flt_lang.specs.Nodes.{number_nodes, truth_nodes, expr_nodes, tree_of, IsTree}
-use Rattle.flt_lang.specs.Counts.{number_tests, truth_tests, tests_of, number_size, truth_size, nodes_of, number_words, truth_words, words_of, node_tests, node_size, accessor_tests}
+use Rattle.flt_lang.specs.Counts.{number_tests, truth_tests, tests_of, number_size, truth_size, nodes_of, number_words, truth_words, words_of, node_tests, node_size}
 use Rattle.flt_lang.specs.Heights.{climb}
 
 one_more : (f : Node → ℕ) (n : Node) (rest : List Node) → sum_by f (n ∷ rest) ≡ f n + sum_by f rest

@@ -1,8 +1,7 @@
 -- The nodes of a tree whose values inherit, and of one that is completed.
-use Rattle.std.proofs.Common.{◌≡◌, List, [], ◌∷◌, refl, sym, ap, ◌∙◌, map}
+use Rattle.std.proofs.Common.{◌≡◌, List, [], refl, sym, ap, ◌∙◌, map}
 use Rattle.flt_lang.specs.declared.quals.Quals.{Quals}
 use Rattle.flt_lang.specs.declared.node.Node.{Node}
-use Rattle.flt_lang.specs.declared.node.Node.TheVariants as node
 use Rattle.flt_lang.specs.Tree.{NumberTree, literal, len, load, negated, applied, TruthTree, check, cast, sized, bare, valued, qualified, compared, denied, joined, Expression, empty, truth}
 use Rattle.flt_lang.specs.Nodes.{number_nodes, truth_nodes, expr_nodes, tree_of, tree_back, IsTree}
 use Rattle.flt_lang.specs.Filled.{latest, inherited, completed, only_host, expr_inherited, filled, inherited_nodes, completed_node}

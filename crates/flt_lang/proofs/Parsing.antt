@@ -1,5 +1,5 @@
 -- What the loop of the parser needs of the machine.
-use Rattle.std.proofs.Common.{◌≡◌, ℕ, suc, zero, ◌+◌, ◌<◌, List, [], ◌∷◌, length, drop, reverse, refl, sym, ap, ◌∙◌, subst, arith, Option, Some, None, one-add}
+use Rattle.std.proofs.Common.{◌≡◌, ℕ, ◌+◌, ◌<◌, List, [], ◌∷◌, length, drop, reverse, refl, sym, ap, ◌∙◌, subst, arith, Some, None, one-add}
 use Rattle.std.proofs.lemmas.List.{reverse-reverse}
 use Rattle.flt_words.specs.declared.token.TokenKind.{TokenKind}
 use Rattle.flt_lang.specs.declared.node.Node.{Node}

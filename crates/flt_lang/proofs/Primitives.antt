@@ -1,19 +1,15 @@
 -- A fault of some node is a fault of some primitive.
-use Rattle.std.proofs.Common.{◌≡◌, ℕ, List, [], ◌∷◌, refl, sym, ap, ◌∙◌, Bool, true, false, not, ◌||◌, ◌&&◌, is_some, Option, Some, None, unwrap_or, if◌then◌else◌}
+use Rattle.std.proofs.Common.{◌≡◌, ℕ, List, [], ◌∷◌, refl, sym, ap, ◌∙◌, Bool, true, false, not, ◌||◌}
 use Rattle.std.specs.List.{list_any}
 use Rattle.flt_words.specs.declared.token.Protocol.{Protocol}
 use Rattle.flt_words.specs.declared.token.Operator.{Operator}
 use Rattle.flt_words.specs.declared.token.Join.{Join}
-use Rattle.flt_words.specs.declared.fault.ExprFault.{ExprFault}
-use Rattle.flt_lang.specs.declared.quals.Quals.{Quals}
-use Rattle.flt_lang.specs.declared.value.Value.{Value}
 use Rattle.flt_lang.specs.declared.node.Node.{Node}
 use Rattle.flt_lang.specs.declared.node.Node.TheVariants as node
 use Rattle.flt_lang.specs.Tree.{NumberTree, literal, len, load, negated, applied, TruthTree, check, cast, sized, bare, valued, qualified, compared, denied, joined, Expression, empty, truth}
 use Rattle.flt_lang.specs.Nodes.{number_nodes, truth_nodes, expr_nodes}
-use Rattle.flt_lang.specs.Fits.{is_size, is_proto, is_either, fit_of, is_misfit_fit}
-use Rattle.flt_lang.specs.Filled.{type_or_host, full, latest, inherited, completed, only_host, expr_inherited, filled}
-use Rattle.flt_lang.specs.Resolved.{has_wrong_size, is_misfit, is_out_of_range, has_past_bits, is_unfilled, any_primitive, some_primitive, tree_fault, IsResolved, is_misfit_node, is_out_of_range_node, has_past_bits_node, nodes_fault}
+use Rattle.flt_lang.specs.Fits.{is_size}
+use Rattle.flt_lang.specs.Resolved.{has_wrong_size, is_misfit, is_out_of_range, has_past_bits, any_primitive, some_primitive, tree_fault, is_misfit_node, is_out_of_range_node, has_past_bits_node, nodes_fault}
 
 pub or_assoc : (a b c : Bool) → ((a || b) || c) ≡ (a || (b || c))
 or_assoc true b c = refl

@@ -1,30 +1,20 @@
 -- What the machine reads, the grammar reads.
-use Rattle.std.proofs.Common.{◌≡◌, ℕ, suc, zero, ◌+◌, ◌-◌, ◌≤◌, length, drop, ◌⊎◌, inl, inr, ⊎_elim, List, [], ◌∷◌, refl, sym, ap, ◌∙◌, subst, arith, Option, Some, None, Bool, true, false, nat_le, if◌then◌else◌, lit≤, zero-le}
+use Rattle.std.proofs.Common.{◌≡◌, ℕ, suc, zero, ◌+◌, ◌≤◌, inl, List, [], ◌∷◌, refl, sym, ap, ◌∙◌, subst, arith, Option, Some, None, Bool, true, false, nat_le, if◌then◌else◌, lit≤, zero-le}
 use Rattle.std.proofs.lemmas.Bool.{leb-true}
-use Rattle.std.proofs.str.Laws.{order}
-use Rattle.flt_words.specs.declared.token.Protocol.{Protocol}
-use Rattle.flt_words.specs.declared.token.Operator.{Operator}
-use Rattle.flt_words.specs.declared.token.Operator.TheVariants.{Subtract, Divide}
+use Rattle.flt_words.specs.declared.token.Operator.TheVariants.{Divide}
 use Rattle.flt_words.specs.declared.token.TokenKind.{TokenKind}
 use Rattle.flt_words.specs.declared.token.TokenKind.TheVariants as token
-use Rattle.flt_lang.specs.declared.value.NetMask.TheVariants as mask
-use Rattle.flt_lang.specs.declared.value.Value.{Value}
-use Rattle.flt_lang.specs.declared.value.Value.TheVariants as value
-use Rattle.flt_lang.specs.declared.quals.Quals.{Quals}
 use Rattle.flt_lang.specs.declared.node.Node.{Node}
 use Rattle.flt_lang.specs.declared.node.Node.TheVariants as node
-use Rattle.flt_lang.specs.declared.reading.protocols.Opening.{Opening}
-use Rattle.flt_lang.specs.declared.reading.protocols.Opening.TheVariants as opening
 use Rattle.flt_lang.specs.declared.reading.frame.Frame.{Frame}
 use Rattle.flt_lang.specs.declared.reading.frame.Frame.TheVariants as frame
 use Rattle.flt_lang.specs.declared.reading.frame.Operand.{Operand}
 use Rattle.flt_lang.specs.declared.reading.frame.Operand.TheVariants as operand
-use Rattle.flt_lang.specs.Tree.{NumberTree, literal, len, load, negated, applied, TruthTree, check, cast, sized, bare, valued, compared, denied, joined, Expression, empty, truth}
-use Rattle.flt_lang.specs.Values.{quals_of, value_of, is_written, no_mask, prefix, number}
-use Rattle.flt_lang.specs.Grammar.{level, is_accessor, is_check, has_casts, Number, of_literal, of_len, enclosed, of_load, of_sized_load, minus, single, chain, Truth, of_check, of_cast, of_protocol_cast, of_sized, of_valued, of_bare, relation, denial, enclosed_truth, term, terms, Reads, no_tokens, all_tokens}
-use Rattle.flt_lang.specs.Machine.{◌>>=◌, number_onto, truth_onto, expr_onto, looseness, room, reach_of, reach, prefix_mask, as_number, as_truth, Read, fill, Settled, settle, State, Begun, Primitive, number_waits, truth_waits, place, opening_of, protocol_begins, number_of, sized_of, begin, whole, finish, run, all_run, enclosed_operand, next_of, go_on, valued_of, valued_or, check_of, primitive, bare_of, with_frames}
-use Rattle.flt_lang.proofs.ValuesBack.{level_small}
-use Rattle.flt_lang.proofs.Stacked.{some_first, some_then, widened, either_number, either_truth, Stacked, Between, Behind, number_between, truth_between, chain_of, settle_sound, loosened}
+use Rattle.flt_lang.specs.Tree.{literal, load, Expression, empty, truth}
+use Rattle.flt_lang.specs.Values.{no_mask, prefix, number}
+use Rattle.flt_lang.specs.Grammar.{level, Number, of_literal, enclosed, of_load, of_sized_load, single, chain, Truth, of_bare, enclosed_truth, term, Reads, no_tokens, all_tokens}
+use Rattle.flt_lang.specs.Machine.{◌>>=◌, truth_onto, expr_onto, room, reach_of, reach, as_number, as_truth, settle, Begun, place, begin, whole, finish, run, all_run, enclosed_operand, next_of, go_on}
+use Rattle.flt_lang.proofs.Stacked.{some_first, some_then, widened, either_number, either_truth, Between, Behind, number_between, truth_between, chain_of, settle_sound, loosened}
 use Rattle.flt_lang.proofs.Begins.{left, SoFar, After, begun, begin_sound}
 
 -- an operand in parentheses

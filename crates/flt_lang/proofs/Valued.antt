@@ -1,5 +1,5 @@
 -- A value with what stands before it, as tokens and as the machine reads it.
-use Rattle.std.proofs.Common.{◌≡◌, ℕ, suc, zero, ◌+◌, ◌-◌, ◌<◌, ◌≤◌, List, [], ◌∷◌, length, drop, refl, sym, ap, ◌∙◌, subst, arith, is_some, ◌||◌, Option, Some, None, Bool, true, false, one-add, length-drop}
+use Rattle.std.proofs.Common.{◌≡◌, ℕ, suc, zero, ◌+◌, ◌-◌, ◌<◌, ◌≤◌, List, [], ◌∷◌, length, drop, refl, sym, ap, ◌∙◌, subst, arith, is_some, ◌||◌, Option, Some, None, Bool, true, false}
 use Rattle.std.proofs.lemmas.List.{drop-drop}
 use Rattle.flt_words.specs.declared.token.Protocol.{Protocol}
 use Rattle.flt_words.specs.declared.token.Operator.TheVariants.{Divide}
@@ -19,7 +19,7 @@ use Rattle.flt_lang.specs.declared.reading.frame.Frame.{Frame}
 use Rattle.flt_lang.specs.declared.reading.frame.Operand.{Operand}
 use Rattle.flt_lang.specs.declared.reading.frame.Operand.TheVariants as operand
 use Rattle.flt_lang.specs.Values.{ReadsProtocol, no_protocol, protocol, ReadsDirection, no_direction, one_side, source_first, destination_first, ReadsType, no_type, of_type, ReadsQuals, quals, is_written, ReadsMask, no_mask, prefix, dotted_mask, ReadsValue, number, dotted, ip6, ip6_prefix, mac, range, starts_value, protocol_of, direction_of, type_of, quals_of, mask_of, value_of}
-use Rattle.flt_lang.specs.Machine.{◌>>=◌, reach, State, begin, run, valued_of, valued_or, primitive, with_frames, bare_of, number_of}
+use Rattle.flt_lang.specs.Machine.{◌>>=◌, reach, State, begin, run, valued_of, valued_or, primitive, with_frames}
 use Rattle.flt_lang.proofs.ValuesBack.{type_back, direction_back, quals_back, ends_protocol, value_back}
 
 -- rest is what is left of ts

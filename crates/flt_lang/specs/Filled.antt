@@ -1,5 +1,5 @@
 -- What a bare value inherits, and what is filled in where it is left out.
-use Rattle.std.specs.Prelude.{List, [], ◌∷◌, Option, Some, None, unwrap_or}
+use Rattle.std.specs.Prelude.{List, [], ◌∷◌, Some, None, unwrap_or}
 use Rattle.flt_words.specs.declared.token.Join.TheVariants as join
 use Rattle.flt_words.specs.declared.token.ValueType.{ValueType}
 use Rattle.flt_words.specs.declared.token.ValueType.TheVariants.{Host}
@@ -8,7 +8,7 @@ use Rattle.flt_lang.specs.declared.quals.Quals.{Quals}
 use Rattle.flt_lang.specs.declared.quals.FullQuals.{FullQuals}
 use Rattle.flt_lang.specs.declared.node.Node.{Node}
 use Rattle.flt_lang.specs.declared.node.Node.TheVariants as node
-use Rattle.flt_lang.specs.Tree.{TruthTree, check, cast, sized, bare, valued, qualified, compared, denied, joined, Expression, empty, truth}
+use Rattle.flt_lang.specs.Tree.{TruthTree, bare, valued, qualified, denied, joined, Expression, empty, truth}
 
 -- the qualifiers of the last value in a tree that has some written before it, or else q
 abbrev pub latest : Quals → TruthTree → Quals

@@ -1,13 +1,11 @@
 -- The faults of a tree whose bare values have their qualifiers: a misfit, a value out of range, bits past a mask.
-use Rattle.std.specs.Prelude.{◌≡◌, ℕ, List, Bool, true, false, not, ◌&&◌, ◌||◌, is_some, Option, Some, None}
+use Rattle.std.specs.Prelude.{◌≡◌, List, Bool, true, false, not, ◌&&◌, ◌||◌, is_some, Option, Some, None}
 use Rattle.std.specs.List.{list_any}
 use Rattle.flt_words.specs.declared.fault.ExprFault.{ExprFault}
 use Rattle.flt_words.specs.declared.fault.ExprFault.TheVariants as fault
-use Rattle.flt_lang.specs.declared.quals.Quals.{Quals}
-use Rattle.flt_lang.specs.declared.quals.FullQuals.{FullQuals}
 use Rattle.flt_lang.specs.declared.node.Node.{Node}
 use Rattle.flt_lang.specs.declared.node.Node.TheVariants as node
-use Rattle.flt_lang.specs.Tree.{NumberTree, literal, len, load, negated, applied, TruthTree, check, cast, sized, bare, valued, qualified, compared, denied, joined, Expression, empty, truth}
+use Rattle.flt_lang.specs.Tree.{NumberTree, literal, len, load, negated, applied, TruthTree, cast, bare, valued, qualified, compared, denied, joined, Expression, empty, truth}
 use Rattle.flt_lang.specs.Nets.{is_past_mask}
 use Rattle.flt_lang.specs.Fits.{fit_of, is_misfit_fit, is_out_of_range_fit, is_net, is_proto, is_either, is_cast_misfit, is_size}
 use Rattle.flt_lang.specs.Filled.{type_or_host, expr_inherited}

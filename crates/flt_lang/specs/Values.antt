@@ -11,7 +11,6 @@ use Rattle.flt_words.specs.declared.token.TokenKind.TheVariants as token
 use Rattle.flt_lang.specs.declared.quals.Direction.{Direction}
 use Rattle.flt_lang.specs.declared.quals.Direction.TheVariants as direction
 use Rattle.flt_lang.specs.declared.quals.Quals.{Quals}
-use Rattle.flt_lang.specs.declared.value.Dotted.{Dotted}
 use Rattle.flt_lang.specs.declared.value.NetMask.{NetMask}
 use Rattle.flt_lang.specs.declared.value.NetMask.TheVariants as mask
 use Rattle.flt_lang.specs.declared.value.Value.{Value}

@@ -17,7 +17,7 @@ use std::alloc::Allocator;
 pub struct Checked<A: Allocator> {
     pub expr: Expr<A>,
     pub ghost resolved: { IsResolved expr },
-    pub ghost divides: { some_primitive divides_by_zero expr ≡ false },
+    pub ghost no_zero_divisor: { some_primitive divides_by_zero expr ≡ false },
     pub ghost few_words: { words_of expr ≤ 16 },
     pub ghost short: { bound_of expr ≤ 32768 },
 }

@@ -84,7 +84,7 @@ ends_fit first count last last_count below last_below few =
     room_left m n p top h k = omega arith
 
 pub ends_value : (form : Group) (first last : List (List ℕ)) → length first + length last ≤ 7
-  → number_from_digits 65536 (group_values form first) * 65536 ^ (8 - length first) + number_from_digits 65536 (group_values form last)
+    → number_from_digits 65536 (group_values form first) * 65536 ^ (8 - length first) + number_from_digits 65536 (group_values form last)
     ≡ number_from_digits 65536 (group_values form first ++ (replicate (8 - (length first + length last)) 0 ++ group_values form last))
 ends_value form first last few =
     let between = number_between 65536 (8 - (length first + length last)) (group_values form first) (group_values form last) in

@@ -29,9 +29,9 @@ answers_both V W p q (Err fault.TooLarge) (Err fault.Unknown) h k = λ ab w. k a
 
 -- an answer for one kind of word, mapped to a token, where the word can be of no other kind
 pub answers_mapped : {A : Type 0} (V : A → Type 0) (test : A → Bool) (f : A → TokenKind) (word : List ℕ) → ((a : A) → V a → Stands word (f a)) → ((a : A) → fits (f a) ≡ test a)
-  → (((a : A) → V a → ⊥) → (kind : TokenKind) → Stands word kind → ⊥)
-  → (Post : A → TokenKind → Type 0) → ((a : A) (kind : TokenKind) → Post a kind → kind ≡ f a)
-  → (r : Result A WordFault) (s : Result TokenKind WordFault) → Answers V test r → MatchResult r (λ a. IsOkAnd s (Post a)) (λ e. s ≡ Err e) → Answers (Stands word) fits s
+    → (((a : A) → V a → ⊥) → (kind : TokenKind) → Stands word kind → ⊥)
+    → (Post : A → TokenKind → Type 0) → ((a : A) (kind : TokenKind) → Post a kind → kind ≡ f a)
+    → (r : Result A WordFault) (s : Result TokenKind WordFault) → Answers V test r → MatchResult r (λ a. IsOkAnd s (Post a)) (λ e. s ≡ Err e) → Answers (Stands word) fits s
 answers_mapped V test f word to same none Post is (Ok a) (Ok kind) h m = rw (is a kind m) (to a h.0, same a ∙ h.1)
 answers_mapped V test f word to same none Post is (Ok a) (Err e) h m = absurd m
 answers_mapped V test f word to same none Post is (Err fault.TooLarge) s h m = rw m (f h.0, to h.0 h.1, same h.0 ∙ h.2)

@@ -67,7 +67,7 @@ groups_are_parts {form} {text} {groups} are some = parts_of form text groups are
 
 -- the answer at digits of which few are read
 pub small_answer : (digits : List ℕ) (most : ℕ) (r : Result ℕ WordFault) → most ≤ 4 → length digits ≤ most → Answers (Writes 16 digits) is_word_sized r
-  → MatchOption (result_ok r) (IsNumeral 16 digits × (length digits ≤ most) → ⊥) (λ n. IsNumeral 16 digits × (length digits ≤ most) × (n ≡ digits_value 16 digits))
+    → MatchOption (result_ok r) (IsNumeral 16 digits × (length digits ≤ most) → ⊥) (λ n. IsNumeral 16 digits × (length digits ≤ most) × (n ≡ digits_value 16 digits))
 small_answer digits most (Ok n) low few h = (h.0.numeral, few, sym h.0.value)
 small_answer digits most (Err fault.TooLarge) low few h =
     let below = small_hexadecimal digits most h.1.numeral.1 few in

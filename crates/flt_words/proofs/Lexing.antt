@@ -68,7 +68,7 @@ blank_keeps_closed text at within is = count_by_more_no (λ b. b == 93) text at 
 
 -- the counted brackets tell whether a byte stands inside
 pub inside_at : (P : Bool → List ℕ → Type 0) (text : List ℕ) (at opened closed : ℕ) → opened ≡ count_by (λ b. b == 91) (take at text) → closed ≡ count_by (λ b. b == 93) (take at text)
-  → P (nat_lt closed opened) (take (length text - at) (drop at text)) → P (is_inside (take at text)) (drop at text)
+    → P (nat_lt closed opened) (take (length text - at) (drop at text)) → P (is_inside (take at text)) (drop at text)
 inside_at P text at opened closed o c h = subst (λ rest. P (is_inside (take at text)) rest) (take_rest text at) (subst (λ m. P (nat_lt m (count_by (λ b. b == 91) (take at text))) (take (length text - at) (drop at text))) c (subst (λ m. P (nat_lt closed m) (take (length text - at) (drop at text))) o h))
 
 pub counted_step : (p : ℕ → Bool) (text : List ℕ) (at n old more : ℕ) → old ≡ count_by p (take at text) → more ≡ count_by p (take (at + n - at) (drop at text)) → old + more ≡ count_by p (take (at + n) text)

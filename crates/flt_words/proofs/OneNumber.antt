@@ -16,9 +16,10 @@ same_decimal v w = same_writes v.writes w.writes
 
 -- octal digits do not begin with an x
 octal_first : (b n : ℕ) (digits : List ℕ) → Writes 8 (b ∷ digits) n → (b ≢ 120) × (b ≢ 88)
-octal_first b n digits w =
-    (λ e. let small : digit_value 120 < 8 = subst (λ d. digit_value d < 8) e w.numeral.1.0 in omega arith,
-     λ e. let small : digit_value 88 < 8 = subst (λ d. digit_value d < 8) e w.numeral.1.0 in omega arith)
+octal_first b n digits w = (
+  λ e. let small : digit_value 120 < 8 = subst (λ d. digit_value d < 8) e w.numeral.1.0 in omega arith,
+  λ e. let small : digit_value 88 < 8 = subst (λ d. digit_value d < 8) e w.numeral.1.0 in omega arith,
+)
 
 octal_alone : (digits : List ℕ) {m n : ℕ} → Writes 8 digits m → IsNumber (48 ∷ digits) n → Writes 8 digits n
 octal_alone [] v w = absurd (omega (arith, v.numeral.0))

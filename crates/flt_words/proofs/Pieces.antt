@@ -66,8 +66,7 @@ last_starts inside rest m some within w =
     sym (ap (starts_word inside) same) ∙ w.ends
 
 module _ (inside : Bool) (rest : List ℕ) (len stop : ℕ) (scanned : IsScanned inside rest len stop) (in_range : stop ≤ length rest) (begins : starts_word inside (get_or rest 0 0) ≡ true)
-  (stops : stop < length rest → within_word inside (get_or rest stop 0) ≡ false) where
-
+    (stops : stop < length rest → within_word inside (get_or rest stop 0) ≡ false) where
   past_stop : (m : ℕ) → m ≤ length rest → stop < m → IsWordPiece inside (take m rest) → ⊥
   past_stop m within above w =
       let long : length (take m rest) ≡ m = length-take-le m rest within in
@@ -149,7 +148,7 @@ longest_one {inside} {rest} {kind} some other none found = record {
 }
 
 pub no_piece_at : (inside : Bool) (rest : List ℕ) → starts_word inside (get_or rest 0 0) ≡ false → (2 ≤ length rest → symbol_of inside (take 2 rest) ≡ None) → (1 ≤ length rest → symbol_of inside (take 1 rest) ≡ None)
-  → (m : ℕ) → m ≤ length rest → IsPiece inside (take m rest) → ⊥
+    → (m : ℕ) → m ≤ length rest → IsPiece inside (take m rest) → ⊥
 no_piece_at inside rest other no_two no_one m within piece =
     ⊎_elim (λ one. not_one inside rest m other no_one within one piece) (λ two. not_two inside rest m other no_two within two piece) (one_or_two m (some_bytes inside rest m within piece) (few_bytes inside rest m within other piece))
 

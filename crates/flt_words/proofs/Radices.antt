@@ -32,10 +32,11 @@ only_octal a b digits zero x y (capital_hexadecimal w) = absurd (y refl)
 pub hexadecimal_by_front : (word : List ℕ) → 2 ≤ length word → get_or word 0 0 ≡ 48 → (get_or word 1 0 ≡ 120) ⊎ (get_or word 1 0 ≡ 88) → (n : ℕ) → (Writes 16 (drop 2 word) n → IsNumber word n) × (IsNumber word n → Writes 16 (drop 2 word) n)
 hexadecimal_by_front [] long zero x n = absurd (omega arith)
 hexadecimal_by_front (a ∷ []) long zero x n = absurd (omega arith)
-hexadecimal_by_front (a ∷ b ∷ digits) long zero x n =
-    (λ w. ⊎_elim (λ e. subst (λ d. IsNumber (d ∷ b ∷ digits) n) (sym zero) (subst (λ d. IsNumber (48 ∷ d ∷ digits) n) (sym e) (hexadecimal w)))
-                 (λ e. subst (λ d. IsNumber (d ∷ b ∷ digits) n) (sym zero) (subst (λ d. IsNumber (48 ∷ d ∷ digits) n) (sym e) (capital_hexadecimal w))) x,
-     only_hexadecimal a b digits zero x)
+hexadecimal_by_front (a ∷ b ∷ digits) long zero x n = (
+  λ w. ⊎_elim (λ e. subst (λ d. IsNumber (d ∷ b ∷ digits) n) (sym zero) (subst (λ d. IsNumber (48 ∷ d ∷ digits) n) (sym e) (hexadecimal w)))
+      (λ e. subst (λ d. IsNumber (d ∷ b ∷ digits) n) (sym zero) (subst (λ d. IsNumber (48 ∷ d ∷ digits) n) (sym e) (capital_hexadecimal w))) x,
+  only_hexadecimal a b digits zero x,
+)
 
 pub octal_by_front : (word : List ℕ) → 2 ≤ length word → get_or word 0 0 ≡ 48 → get_or word 1 0 ≢ 120 → get_or word 1 0 ≢ 88 → (n : ℕ) → (Writes 8 (drop 1 word) n → IsNumber word n) × (IsNumber word n → Writes 8 (drop 1 word) n)
 octal_by_front [] long zero x y n = absurd (omega arith)

@@ -18,9 +18,10 @@ range_lacks_none none (joined {front} {back} v w) =
 pub range_parts : {word : List ℕ} {first last : ℕ} (dash : ℕ) → position (λ b. b == 45) word ≡ Some dash → IsRange word first last → WritesDecimal (take dash word) first × WritesDecimal (drop (dash + 1) word) last
 range_parts {word} {first} {last} dash found (joined {front} {back} v w) =
     let at = cut_at 45 front back (decimal_lacks 45 (lit≤ tt) v) in
-    let same : length front ≡ dash = cc in
-    (subst (λ d. WritesDecimal (take d (front ++ 45 ∷ back)) first) same (rw take-append_seam v),
-     subst (λ d. WritesDecimal (drop (d + 1) (front ++ 45 ∷ back)) last) same (rw drop-append-add w))
+    let same : length front ≡ dash = cc in (
+      subst (λ d. WritesDecimal (take d (front ++ 45 ∷ back)) first) same (rw take-append_seam v),
+      subst (λ d. WritesDecimal (drop (d + 1) (front ++ 45 ∷ back)) last) same (rw drop-append-add w),
+    )
 
 pub range_from_parts : {word : List ℕ} {first last : ℕ} (dash : ℕ) → position (λ b. b == 45) word ≡ Some dash → WritesDecimal (take dash word) first × WritesDecimal (drop (dash + 1) word) last → IsRange word first last
 range_from_parts {word} {first} {last} dash found parts = subst (λ w. IsRange w first last) (sym (joined_at 45 dash word found)) (joined parts.0 parts.1)

@@ -33,7 +33,7 @@ now_pushed (x ∷ ys) y = ap (λ rest. x.now ∷ rest) (now_pushed ys y)
 
 -- a part that is no group
 pub bad_part : {form : Group} {text digits : List ℕ} (k : ℕ) → 0 < length text → (k < length (parts_of form text)) × (digits ≡ get_or (parts_of form text) k digits) → (IsGroup form digits → ⊥)
-  → (groups : List (List ℕ)) → AreGroups form text groups → length groups ≤ 8 → ⊥
+    → (groups : List (List ℕ)) → AreGroups form text groups → length groups ≤ 8 → ⊥
 bad_part {form} {text} {digits} k some at bad groups are few =
     let same = groups_are_parts are some in
     let each : AllByRecursion (IsGroup form) (parts_of form text) = subst (λ gs. AllByRecursion (IsGroup form) gs) same are.each in
@@ -41,7 +41,7 @@ bad_part {form} {text} {digits} k some at bad groups are few =
 
 -- a ninth part
 pub too_many : {form : Group} {text : List ℕ} (k : ℕ) → 0 < length text → k < length (parts_of form text) → k ≡ 8
-  → (groups : List (List ℕ)) → AreGroups form text groups → length groups ≤ 8 → ⊥
+    → (groups : List (List ℕ)) → AreGroups form text groups → length groups ≤ 8 → ⊥
 too_many {form} {text} k some within eight groups are few =
     let same = ap length (groups_are_parts are some) in omega arith
 
@@ -66,7 +66,7 @@ base_fits group.Quad count h = pow-le-pow_right (lit< tt) {j = 8} (omega arith)
 
 -- what reading one more part leaves
 pub value_pushed : (form : Group) (groups : List (List ℕ)) (g : List ℕ) (value digit : ℕ) → value ≡ number_from_digits (base_of form) (group_values form groups) → digit ≡ group_value form g
-  → value * base_of form + digit ≡ number_from_digits (base_of form) (group_values form (groups ++ g ∷ []))
+    → value * base_of form + digit ≡ number_from_digits (base_of form) (group_values form (groups ++ g ∷ []))
 value_pushed form groups g value digit v d =
     let pushed = number_push (base_of form) (group_values form groups) (group_value form g) in
     rw (values_pushed form groups g, pushed, v, d) refl
@@ -81,7 +81,7 @@ step_fits form digits value count digit base same g small few =
     omega arith
 
 pub step_value : (form : Group) (seen : List (List ℕ)) (digits : List ℕ) (value digit base : ℕ) → base ≡ base_of form → IsGroup form digits × (digit ≡ group_value form digits) → value ≡ number_from_digits (base_of form) (group_values form seen)
-  → value * base + digit ≡ number_from_digits (base_of form) (group_values form (seen ++ digits ∷ []))
+    → value * base + digit ≡ number_from_digits (base_of form) (group_values form (seen ++ digits ∷ []))
 step_value form seen digits value digit base same g v = rw same (value_pushed form seen digits value digit v g.1)
 
 -- one more zero digit

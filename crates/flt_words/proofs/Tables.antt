@@ -13,7 +13,7 @@ both true b h = (refl, h)
 both false b h = absurd (cc)
 
 found_step : (p : List ℕ → TokenKind → Bool) (spelling : List ℕ) (found : TokenKind) (piece : List ℕ) (kind : TokenKind) (later : Option TokenKind) (same : Bool) → bytes_eq spelling piece ≡ same → p spelling found ≡ true
-  → (later ≡ Some kind → p piece kind ≡ true) → ◌≡◌ {A = Option TokenKind} (cond same (Some found) later) (Some kind) → p piece kind ≡ true
+    → (later ≡ Some kind → p piece kind ≡ true) → ◌≡◌ {A = Option TokenKind} (cond same (Some found) later) (Some kind) → p piece kind ≡ true
 found_step p spelling found piece kind later true same pass more is =
     let spelled = (bytes_eq-Decides spelling piece).0 same in
     let answer : found ≡ kind = cc in

@@ -50,7 +50,7 @@ pub data TokensFrom (text : List ℕ) : ℕ → Result (List Token) ExprFault �
   at_end : {at : ℕ} → at ≡ length text → TokensFrom text at (Ok [])
   blank : {at : ℕ} {answer : Result (List Token) ExprFault} → is_blank (slice_index text at) ≡ true → TokensFrom text (at + 1) answer → TokensFrom text at answer
   token : {at n : ℕ} {kind : TokenKind} {answer : Result (List Token) ExprFault} → IsToken (is_inside (take at text)) (at + 1) (drop at text) kind n → TokensFrom text (at + n) answer
-    → TokensFrom text at (before (record { kind = kind; place = at + 1 }) answer)
+      → TokensFrom text at (before (record { kind = kind; place = at + 1 }) answer)
   refused : {at : ℕ} {refusal : ExprFault} → at < length text → is_blank (slice_index text at) ≡ false → IsRefused (is_inside (take at text)) (at + 1) (drop at text) refusal → TokensFrom text at (Err refusal)
 
 -- the tokens of a text of at most 65,536 bytes, or its refusal

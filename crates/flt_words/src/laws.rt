@@ -10,11 +10,9 @@ ghost use Rattle.flt_words.specs.Words.{Stands};
 /// A word is of one kind at most, and stands for one value of it.
 pub fn one_kind()
     ensures { (word : List ℕ) (a b : TokenKind) → Stands word a → Stands word b → a ≡ b }
-{
-}
+{}
 
 /// A text has one list of tokens with places or one refusal, and never two answers.
 pub fn one_answer()
     ensures { (text : List ℕ) (a b : Result (List Token) ExprFault) → Tokens text a → Tokens text b → a ≡ b }
-{
-}
+{}

@@ -5,13 +5,12 @@ ghost use Rattle.flt_words.specs.Characters.{starts_word};
 ghost use Rattle.flt_words.specs.Spellings.{symbol_of};
 ghost use Rattle.flt_words.specs.Tokens.{IsLongest, IsPiece, IsRefused, IsToken, PieceMeans, Tokens};
 
-use std::alloc::Allocator;
-
 use crate::character::{is_blank, starts_word, within_word};
 use crate::fault::ExprFault;
 use crate::spelling::symbol_of;
 use crate::token::{Token, TokenKind};
 use crate::word::word_kind;
+use std::alloc::Allocator;
 
 /// The longest text, in bytes.
 const LONGEST: usize = 65536;

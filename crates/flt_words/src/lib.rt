@@ -8,9 +8,13 @@ pub mod laws;
 mod lexer;
 mod number;
 mod spelling;
+#[cfg(test)]
+mod tests;
 mod token;
 mod word;
 
 pub use fault::ExprFault;
 pub use lexer::lex;
-pub use token::{Cast, Comparison, Join, Operator, Protocol, Side, Size, Token, TokenKind, ValueType};
+pub use token::{
+    Cast, Comparison, Join, Operator, Protocol, Side, Size, Token, TokenKind, ValueType,
+};

@@ -105,7 +105,10 @@ fn dash_in(word: &[u8]) -> Option<usize>
 }
 
 /// Both answers: unknown where either is, and else too large where either is.
-fn both(first: Result<u32, WordFault>, last: Result<u32, WordFault>) -> Result<(u32, u32), WordFault>
+fn both(
+    first: Result<u32, WordFault>,
+    last: Result<u32, WordFault>,
+) -> Result<(u32, u32), WordFault>
     ensures { result ≡ both first last }
 {
     match (first, last) {

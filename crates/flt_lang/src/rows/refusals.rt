@@ -33,7 +33,10 @@ fn refuses(rt: HostRuntime) -> Result<(), Fail> {
         ("src proto 6", ExprFault::QualifiersDoNotFit),
         ("src or dst proto 6", ExprFault::QualifiersDoNotFit),
         ("ip broadcast", ExprFault::QualifiersDoNotFit),
-        ("port 65536 or tcp host 1.2.3.4", ExprFault::QualifiersDoNotFit),
+        (
+            "port 65536 or tcp host 1.2.3.4",
+            ExprFault::QualifiersDoNotFit,
+        ),
         ("port 65536", ExprFault::ValueOutOfRange),
         ("proto 256", ExprFault::ValueOutOfRange),
         ("ether proto 1535", ExprFault::ValueOutOfRange),

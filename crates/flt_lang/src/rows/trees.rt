@@ -10,7 +10,10 @@ fn reads_as(rt: HostRuntime) -> Result<(), Fail> {
             "tcp dst port 80 or 443 and not src 10.0.0.1",
             "(tcp dst port 80 or tcp dst port 443) and not (src host 10.0.0.1)",
         ),
-        ("(src host 10.0.0.1) or 10.0.0.2", "src host 10.0.0.1 or src host 10.0.0.2"),
+        (
+            "(src host 10.0.0.1) or 10.0.0.2",
+            "src host 10.0.0.1 or src host 10.0.0.2",
+        ),
         ("port 80 or (ip or 443)", "port 80 or (ip or port 443)"),
         ("10.0.0.1", "src or dst host 10.0.0.1"),
         ("dst or src host 10.0.0.1", "host 10.0.0.1"),
@@ -39,14 +42,20 @@ fn reads_apart(rt: HostRuntime) -> Result<(), Fail> {
         ("len - 1 - 2 = 3", "len - (1 - 2) = 3"),
         ("ip or arp and tcp", "ip or (arp and tcp)"),
         ("not ip and tcp", "not (ip and tcp)"),
-        ("src host 10.0.0.1 or 10.0.0.2", "src host 10.0.0.1 or host 10.0.0.2"),
+        (
+            "src host 10.0.0.1 or 10.0.0.2",
+            "src host 10.0.0.1 or host 10.0.0.2",
+        ),
         ("src and dst port 80", "src or dst port 80"),
         ("ip[9:2] = 6", "ip[9] = 6"),
     ];
     for (text, other) in rows {
         let left = compile(rt.alloc(), text)?;
         let right = compile(rt.alloc(), other)?;
-        assert!(rt; left.expr.nodes() != right.expr.nodes(), "{text} is not {other}");
+        assert!(rt;
+            left.expr.nodes() != right.expr.nodes(),
+            "{text} is not {other}"
+        );
     }
     Ok(())
 }

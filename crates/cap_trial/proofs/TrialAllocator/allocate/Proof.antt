@@ -44,7 +44,7 @@ use Rattle.cap_trial.proofs.TrialAllocator.allocate.Statement.{statement}
 use Rattle.cap_trial.proofs.TrialAllocator.allocate.Code as code
 use Rattle.cap_trial.proofs.admits.Symbol as symbol
 use Rattle.cap_trial.proofs.admits.Met as admits
-use Rattle.cap_trial.proofs.Counting.{Admits, at_plan, Admits-goes, Admits-gives, Said}
+use Rattle.cap_trial.proofs.Counting.{Admits, at_plan, Admits-goes, Admits-gives}
 
 module _ (Z : Al) where
   abbrev args : Args
@@ -89,13 +89,13 @@ module _ (Z : Al) {M : Type 1} {𝓤 : Ura M} (𝓛 : Logic 𝓤) (at_mem : Memo
         let Sized : Type 0 = (capped (size τ) ≡ n) × (capped (align τ) ≡ a) in
         -- from the tokens and what is answered to the end
         let none : Sq 𝓛 (‵ (flft κ₁ q₁) ∷ (‵ (flft κ₂ q₂) ⊛ ‵ ftrue) ∷ []) (prop (Post (answer_val false 0 0))) =
-          nothing ! $ suffices ! _ (ends_at 𝓛 (ended Z) (stayed Z) clauses W-ghost (answer_val false 0 0) (Err (record {})) (tt, (tt, (tt, tt))) (tt, (tt, (tt, tt)))) $
-          use0 𝓛 (‵ (Answer.own_val (Err (record {})) (answer_val false 0 0 ∷ []))) (Answer-err 𝓛) $
-          nothing ! $ nothing ! $ fjoin ! $ nothing ! $ fjoin ! $ nothing ! $ fjoin ! $ join ! $ move ! (2 ∷ 3 ∷ []) $ join ! $ join ! $ done ! in
+        nothing ! $ suffices ! _ (ends_at 𝓛 (ended Z) (stayed Z) clauses W-ghost (answer_val false 0 0) (Err (record {})) (tt, (tt, (tt, tt))) (tt, (tt, (tt, tt)))) $
+        use0 𝓛 (‵ (Answer.own_val (Err (record {})) (answer_val false 0 0 ∷ []))) (Answer-err 𝓛) $
+        nothing ! $ nothing ! $ fjoin ! $ nothing ! $ fjoin ! $ nothing ! $ fjoin ! $ join ! $ move ! (2 ∷ 3 ∷ []) $ join ! $ join ! $ done ! in
         let block : (b o : ℕ) → Sq 𝓛 (‵ (fsep (froom τ b o) (token Z handle τ (block_ptr b o))) ∷ ‵ (flft κ₁ q₁) ∷ (‵ (flft κ₂ q₂) ⊛ ‵ ftrue) ∷ []) (prop (Post (answer_val true b o))) = λ b o.
-          suffices ! _ (ends_at 𝓛 (ended Z) (stayed Z) clauses W-ghost (answer_val true b o) (Ok (block_ptr b o)) (tt, (tt, (tt, tt))) (tt, (tt, (tt, tt)))) $
-          use0 𝓛 (‵ (Answer.own_val (Ok (block_ptr b o)) (answer_val true b o ∷ []))) (Answer-Ok 𝓛 b o) $
-          nothing ! $ nothing ! $ fjoin ! $ nothing ! $ fjoin ! $ nothing ! $ fjoin ! $ join ! $ move ! (2 ∷ 3 ∷ []) $ join ! $ join ! $ done ! in
+        suffices ! _ (ends_at 𝓛 (ended Z) (stayed Z) clauses W-ghost (answer_val true b o) (Ok (block_ptr b o)) (tt, (tt, (tt, tt))) (tt, (tt, (tt, tt)))) $
+        use0 𝓛 (‵ (Answer.own_val (Ok (block_ptr b o)) (answer_val true b o ∷ []))) (Answer-Ok 𝓛 b o) $
+        nothing ! $ nothing ! $ fjoin ! $ nothing ! $ fjoin ! $ nothing ! $ fjoin ! $ join ! $ move ! (2 ∷ 3 ∷ []) $ join ! $ join ! $ done ! in
         qed 𝓛 (((‵ (flft κ₁ q₁) ⊛ ‵ (flft κ₂ q₂) ⊛ ‵ ftrue) ⊛ ‵ (owns (types_at (ended Z).signature.params W-ghost.0.0) W-ghost.0.3 W-ghost.0.4)) ∷ (raw (fact 𝓤 (κ₂ ⊑ Z.row.lives)) ⊛ raw (fact 𝓤 Sized)) ∷ []) ∵
         move ! (1 ∷ []) $ split ! $ heard ! (κ₂ ⊑ Z.row.lives) (λ lives. heard ! Sized (λ sized.
         split ! $ split ! $ move ! (2 ∷ []) $ fsplit ! $ fsplit ! $ move ! (1 ∷ []) $ unhide ! $ fsplit ! $ fsplit ! $ use1 𝓛 (‵ (seen Z κ₁ at handle)) (id⊢ 𝓤 _) $

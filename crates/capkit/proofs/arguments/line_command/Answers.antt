@@ -17,9 +17,9 @@ returns c =
     let shape = c.in_ok-edit.ensures.shape in
     let about : app_of c.about.result ≡ named = ap app_of_fields c.about.ensures ∙ c.new.ensures.app in
     let required : app_of c.subcommand_required.result ≡ requiring named =
-        ap app_of_fields c.subcommand_required.ensures ∙ ap requiring about in
+    ap app_of_fields c.subcommand_required.ensures ∙ ap requiring about in
     let alone : app_of c.disable_help_subcommand.result ≡ without_help (requiring named) =
-        ap app_of_fields c.disable_help_subcommand.ensures ∙ ap without_help required in
+    ap app_of_fields c.disable_help_subcommand.ensures ∙ ap without_help required in
     record {
       shape = (
         shape.0,

@@ -1,5 +1,5 @@
 -- No run of prefixes begins at the place that was just looked at.
-use Rattle.std.proofs.Common.{◌≡◌, ◌+◌, ◌-◌, ◌≤◌, length, take, drop, false, arith, below_more, ap, sym, ◌∙◌}
+use Rattle.std.proofs.Common.{◌≡◌, ◌+◌, ◌-◌, take, drop, arith, below_more, ap, sym, ◌∙◌}
 use Rattle.std.specs.List.{list_all}
 use Rattle.flt_lang.specs.Nesting.{is_prefix}
 use Rattle.flt_lang.proofs.nesting.has_long_prefix.Goals as goal

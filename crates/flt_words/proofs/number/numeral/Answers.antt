@@ -7,13 +7,14 @@ use Rattle.flt_words.proofs.number.numeral.Goals.{then-is_empty-via-then-is_empt
 
 pub returns-then-is_empty : goal.returns-then-is_empty
 returns-then-is_empty c = λ n w. elim c.then-is_empty.branch [
-    then-is_empty-via-then-is_empty v ↦
+  | then-is_empty-via-then-is_empty v ↦
       let empty : (length c.args.digits.now == 0) ≡ true = sym c.is_empty.ensures ∙ v.if-is_empty.true in
       some_from_test (length c.args.digits.now) w.numeral.0 empty
   | then-is_empty-via-else-is_empty+then-not-all_digits v ↦
       let pass : are_digits c.args.radix c.args.digits.now ≡ true = writes_pass w in
       let fail : are_digits c.args.radix c.args.digits.now ≡ false = sym v.all_digits.ensures ∙ v.if-not-all_digits.true in
-      cc ]
+      cc
+]
 
 pub returns-in-Some : goal.returns-in-Some
 returns-in-Some c =

@@ -1,5 +1,5 @@
 -- What the loop keeps gives the tree, or that there is none.
-use Rattle.std.proofs.Common.{◌≡◌, ◌∙◌, sym, ap, reverse, [], length, None, Err, arith}
+use Rattle.std.proofs.Common.{◌≡◌, ◌∙◌, sym, ap, reverse, length, Err, arith}
 use Rattle.std.proofs.lemmas.Bool.Decides.{nat_tests}
 use Rattle.std.proofs.lemmas.Result.{err_from_is_err_and}
 use Rattle.std.proofs.lemmas.List.{take_rest, at_drop_all}

@@ -1,0 +1,132 @@
+-- Options of an interface, read one after another.
+use Rattle.std.proofs.Common.{◌≡◌, ℕ, Bool, true, false, List, [], ◌∷◌, ◌++◌, cond, refl, sym, ap, ◌∙◌, subst, eqb-true, Option, Some, None, Result, Ok, Err}
+use Rattle.std.specs.Prelude.{is_some, if◌then◌else◌, ◌==◌}
+use Rattle.std.specs.Option.{option_copied, option_map, option_or}
+use Rattle.std.proofs.lemmas.List.{append_assoc, append-nil}
+use Rattle.std.specs.Borrow.{Bor}
+use Rattle.cap_octet.proofs.Checks.{met_front, failing_front}
+use Rattle.cap_octet.specs.Checks.{first_failing}
+use Rattle.cap_octet.specs.declared.fault.Fault.{Fault}
+use Rattle.cap_octet.specs.declared.number.Order.{Order}
+use Rattle.cap_pcapng.specs.Interface.{IsFound, is_found}
+use Rattle.cap_pcapng.specs.InterfaceOptions.{checks_behind, first_checks, first_value, given, list_checks, name_code, offset_code, offset_told, resolution_code, units_told, value_for}
+use Rattle.cap_pcapng.specs.OptionList.{CodedValue}
+use Rattle.cap_pcapng.specs.declared.interface.Found.{Found}
+
+-- what an iterator of options has left, once some were read and passed, and this was found in them
+pub record HasRead (order : Order) (all rest : List (Result CodedValue Fault)) (found : Found) : Type 0 where
+  pub before : List CodedValue
+  pub checks : first_failing (list_checks [] all) ≡ first_failing (list_checks before rest)
+  pub joined : given all ≡ before ++ given rest
+  pub is_found : IsFound order before found
+
+or_later : (test : Bool) (value : List ℕ) (x y z : Option (List ℕ)) → x ≡ option_or y z
+    → cond test (Some value) x ≡ option_or (cond test (Some value) y) z
+or_later true value x y z same = refl
+or_later false value x y z same = same
+
+first_value-push : (code : ℕ) (before : List CodedValue) (o : CodedValue) → first_value code (before ++ o ∷ []) ≡ option_or (first_value code before) (value_for code o)
+first_value-push code [] o = refl
+first_value-push code (b ∷ before) o = or_later (b.code == code) b.value _ _ _ (first_value-push code before o)
+
+is_some-map : {X Y : Type 0} (f : X → Y) (o : Option X) → is_some (option_map f o) ≡ is_some o
+is_some-map f None = refl
+is_some-map f (Some x) = refl
+
+option_or-map : {X Y : Type 0} (f : X → Y) (a b : Option X) → option_or (option_map f a) (option_map f b) ≡ option_map f (option_or a b)
+option_or-map f None b = refl
+option_or-map f (Some x) b = refl
+
+-- one option more
+pub IsFound-more : (order : Order) (before : List CodedValue) (o : CodedValue) (found more : Found) → IsFound order before found
+    → option_copied more.name ≡ option_or (option_copied found.name) (value_for name_code o)
+    → more.units ≡ option_or found.units (option_map units_told (value_for resolution_code o))
+    → more.offset ≡ option_or found.offset (option_map (offset_told order) (value_for offset_code o))
+    → IsFound order (before ++ o ∷ []) more
+IsFound-more order before o found more is name units offset = record {
+  name = name ∙ ap (λ v. option_or v (value_for name_code o)) is.name ∙ sym (first_value-push name_code before o);
+  units =
+      units ∙ ap (λ v. option_or v (option_map units_told (value_for resolution_code o))) is.units
+      ∙ option_or-map units_told (first_value resolution_code before) (value_for resolution_code o)
+      ∙ ap (option_map units_told) (sym (first_value-push resolution_code before o));
+  offset =
+      offset ∙ ap (λ v. option_or v (option_map (offset_told order) (value_for offset_code o))) is.offset
+      ∙ option_or-map (offset_told order) (first_value offset_code before) (value_for offset_code o)
+      ∙ ap (option_map (offset_told order)) (sym (first_value-push offset_code before o));
+}
+
+is_some-copied : (name : Option (Bor (List ℕ))) → is_some (option_copied name) ≡ is_some name
+is_some-copied None = refl
+is_some-copied (Some x) = refl
+
+-- a list of checks that is empty unless a code is one of three, and then where one of its code was found
+by_code : (is_name is_resolution is_offset given name units offset : Bool) (a b c : List (Bool × Fault))
+    → (is_name ≡ true → given ≡ name) → (is_resolution ≡ true → given ≡ units) → (is_offset ≡ true → given ≡ offset)
+    → cond given [] (cond is_name a (cond is_resolution b (cond is_offset c [])))
+    ≡ cond (cond is_name name (cond is_resolution units (cond is_offset offset false))) [] (cond is_name a (cond is_resolution b (cond is_offset c [])))
+by_code true r o given name units offset a b c n u f = ap (λ g. cond g [] a) (n refl)
+by_code false true o given name units offset a b c n u f = ap (λ g. cond g [] b) (u refl)
+by_code false false true given name units offset a b c n u f = ap (λ g. cond g [] c) (f refl)
+by_code false false false true name units offset a b c n u f = refl
+by_code false false false false name units offset a b c n u f = refl
+
+-- an option of which one of its code stands before isn't checked
+pub checks_behind-found : (order : Order) (before : List CodedValue) (o : CodedValue) (found : Found) → IsFound order before found
+    → checks_behind before o ≡ (if is_found found o.code then [] else first_checks o)
+checks_behind-found order before o found is =
+    by_code (o.code == name_code) (o.code == resolution_code) (o.code == offset_code) (is_some (first_value o.code before))
+    (is_some found.name) (is_some found.units) (is_some found.offset) _ _ _
+    (λ t. ap (λ code. is_some (first_value code before)) (eqb-true o.code name_code t) ∙ sym (sym (is_some-copied found.name) ∙ ap is_some is.name))
+    (λ t. ap (λ code. is_some (first_value code before)) (eqb-true o.code resolution_code t)
+    ∙ sym (ap is_some is.units ∙ is_some-map units_told (first_value resolution_code before)))
+    (λ t. ap (λ code. is_some (first_value code before)) (eqb-true o.code offset_code t)
+    ∙ sym (ap is_some is.offset ∙ is_some-map (offset_told order) (first_value offset_code before)))
+
+-- ---- one item of the iterator
+
+pub HasRead-none : (order : Order) (all : List (Result CodedValue Fault)) (found : Found) → found.name ≡ None → found.units ≡ None
+    → found.offset ≡ None → HasRead order all all found
+HasRead-none order all found name units offset = record {
+  before = [];
+  checks = refl;
+  joined = refl;
+  is_found = record { name = ap option_copied name; units = units; offset = offset };
+}
+
+pub HasRead-more : (order : Order) (all left rest : List (Result CodedValue Fault)) (o : CodedValue) (found more : Found)
+    → HasRead order all left found → left ≡ Ok o ∷ rest
+    → option_copied more.name ≡ option_or (option_copied found.name) (value_for name_code o)
+    → more.units ≡ option_or found.units (option_map units_told (value_for resolution_code o))
+    → more.offset ≡ option_or found.offset (option_map (offset_told order) (value_for offset_code o))
+    → first_failing (if is_found found o.code then [] else first_checks o) ≡ None
+    → HasRead order all rest more
+HasRead-more order all left rest o found more read is name units offset passes = record {
+  before = read.before ++ o ∷ [];
+  checks =
+      read.checks ∙ ap (λ items. first_failing (list_checks read.before items)) is
+      ∙ met_front (checks_behind read.before o) _ (ap first_failing (checks_behind-found order read.before o found read.is_found) ∙ passes);
+  joined = read.joined ∙ ap (λ items. read.before ++ given items) is ∙ sym (append_assoc read.before (o ∷ []) (given rest));
+  is_found = IsFound-more order read.before o found more read.is_found name units offset;
+}
+
+pub HasRead-refused : (order : Order) (all left rest : List (Result CodedValue Fault)) (o : CodedValue) (found : Found) (fault : Fault)
+    → HasRead order all left found → left ≡ Ok o ∷ rest
+    → first_failing (if is_found found o.code then [] else first_checks o) ≡ Some fault
+    → first_failing (list_checks [] all) ≡ Some fault
+HasRead-refused order all left rest o found fault read is refused =
+    read.checks ∙ ap (λ items. first_failing (list_checks read.before items)) is
+    ∙ failing_front (checks_behind read.before o) _ fault (ap first_failing (checks_behind-found order read.before o found read.is_found) ∙ refused)
+
+pub HasRead-misfit : (order : Order) (all rest : List (Result CodedValue Fault)) (found : Found) (fault : Fault)
+    → HasRead order all (Err fault ∷ rest) found → first_failing (list_checks [] all) ≡ Some fault
+HasRead-misfit order all rest found fault read = read.checks
+
+pub HasRead-passes : (order : Order) (all rest : List (Result CodedValue Fault)) (found : Found) → HasRead order all rest found → rest ≡ []
+    → first_failing (list_checks [] all) ≡ None
+HasRead-passes order all rest found read over = read.checks ∙ ap (λ items. first_failing (list_checks read.before items)) over
+
+pub HasRead-found : (order : Order) (all rest : List (Result CodedValue Fault)) (found : Found) → HasRead order all rest found → rest ≡ []
+    → IsFound order (given all) found
+HasRead-found order all rest found read over =
+    let P : List CodedValue → Type 0 = λ options. IsFound order options found in
+    subst P (sym (read.joined ∙ ap (λ items. read.before ++ given items) over ∙ append-nil read.before)) read.is_found

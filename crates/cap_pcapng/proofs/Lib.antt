@@ -1,0 +1,7 @@
+pub mod InterfaceLists
+pub mod Numerals
+pub mod OptionLists
+pub mod OptionsBack
+pub mod Units
+pub mod WrittenBack
+pub mod WrittenBlocks

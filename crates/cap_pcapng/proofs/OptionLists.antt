@@ -1,0 +1,111 @@
+-- What a list of options begins with.
+use Rattle.std.proofs.Common.{◌≡◌, ℕ, zero, suc, ◌+◌, ◌<◌, ◌≤◌, Bool, true, false, List, [], ◌∷◌, ◌||◌, cond, length, drop, refl, sym, ap, ap₂, ◌∙◌, ◌-◌, take, arith, lit<, ltb-false, lt-ltb, le-ltb, le-leb, eq-eqb, ne_eqb, length-drop, min, ◌≢◌, Result, Ok, Err}
+use Rattle.std.proofs.lemmas.Bool.{lt-leb}
+use Rattle.std.proofs.lemmas.List.{drop_min, take_rest}
+use Rattle.std.specs.Prelude.{nat_lt}
+use Rattle.cap_octet.specs.Number.{u16_in}
+use Rattle.cap_octet.specs.declared.fault.Fault.{Fault}
+use Rattle.cap_octet.specs.declared.fault.Fault.TheVariants.{BadOption}
+use Rattle.cap_octet.specs.declared.number.Order.{Order}
+use Rattle.cap_pcapng.specs.OptionList.{CodedValue, option_at, option_size, ends_at, fits_at, options_in, options_within}
+use Rattle.cap_pcapng.specs.Padding.{padded}
+
+false_first : (a b : Bool) → (a || b) ≡ false → a ≡ false
+false_first false b is = refl
+false_first true b is = is
+
+-- an option has four bytes at least
+pub room : (order : Order) (text : List ℕ) → ends_at order text ≡ false → 4 ≤ length text
+room order text more = ltb-false (length text) 4 (false_first (nat_lt (length text) 4) _ more)
+
+pub options_in-end : (order : Order) (text : List ℕ) → ends_at order text ≡ true → options_in order text ≡ []
+unfolding options_in options_within
+options_in-end order [] ends = refl
+options_in-end order (b ∷ bytes) ends = rw ends refl
+
+pub options_in-misfit : (order : Order) (text : List ℕ) → ends_at order text ≡ false → fits_at order text ≡ false
+    → options_in order text ≡ Err BadOption ∷ []
+unfolding options_in options_within
+options_in-misfit order [] more misfit = (cc)
+options_in-misfit order (b ∷ bytes) more misfit = rw (more, misfit) refl
+
+-- what stands behind an option is shorter
+behind_shorter : (order : Order) (text : List ℕ) → 4 ≤ length text → length (drop (padded (option_size order text)) text) + 4 ≤ length text
+behind_shorter order text room = rw length-drop (omega arith)
+
+same_by : (ends fits : Bool) (o : CodedValue) (r s e : List (Result CodedValue Fault)) → (ends ≡ false → r ≡ s)
+    → cond ends [] (cond fits (Ok o ∷ r) e) ≡ cond ends [] (cond fits (Ok o ∷ s) e)
+same_by true fits o r s e same = refl
+same_by false true o r s e same = ap (λ t. Ok o ∷ t) (same refl)
+same_by false false o r s e same = refl
+
+-- it doesn't matter how many options are allowed, where they are enough
+enough : (n m : ℕ) (order : Order) (text : List ℕ) → length text ≤ n → length text ≤ m → options_within n order text ≡ options_within m order text
+unfolding options_within
+enough zero zero order text few less = refl
+enough zero (suc m) order [] few less = refl
+enough zero (suc m) order (b ∷ bytes) few less = absurd (omega arith)
+enough (suc n) zero order [] few less = refl
+enough (suc n) zero order (b ∷ bytes) few less = absurd (omega arith)
+enough (suc n) (suc m) order text few less =
+    same_by (ends_at order text) (fits_at order text) _ _ _ _
+    (λ more. let shorter = behind_shorter order text (room order text more) in enough n m order _ (omega arith) (omega arith))
+
+pub options_in-more : (order : Order) (text : List ℕ) → ends_at order text ≡ false → fits_at order text ≡ true
+    → options_in order text ≡ Ok (option_at order text) ∷ options_in order (drop (padded (option_size order text)) text)
+unfolding options_in options_within
+options_in-more order [] more fits = (cc)
+options_in-more order (b ∷ bytes) more fits =
+    let shorter = behind_shorter order (b ∷ bytes) (room order (b ∷ bytes) more) in
+    rw (more, fits) (ap (λ t. Ok (option_at order (b ∷ bytes)) ∷ t) (enough (length bytes) _ order _ (omega arith) (omega arith)))
+
+drop_least : (n : ℕ) (text : List ℕ) → drop (min (length text) n) text ≡ drop n text
+drop_least n text = ap (λ k. drop k text) (omega arith) ∙ drop_min n text
+
+-- the same by the numbers that the tests are of
+
+or_true : (a b : Bool) → b ≡ true → (a || b) ≡ true
+or_true true b is = refl
+or_true false b is = is
+
+or_false : (a b : Bool) → a ≡ false → b ≡ false → (a || b) ≡ false
+or_false true b neither nor = neither
+or_false false b neither nor = nor
+
+pub options_in-short : (order : Order) (text : List ℕ) → length text < 4 → options_in order text ≡ []
+options_in-short order text short = options_in-end order text (rw (lt-ltb (length text) 4 short) refl)
+
+pub options_in-code_end : (order : Order) (text : List ℕ) → u16_in order text 0 ≡ 0 → options_in order text ≡ []
+options_in-code_end order text code =
+    options_in-end order text (or_true (nat_lt (length text) 4) _ (eq-eqb (u16_in order text 0) 0 code))
+
+pub goes_on : (order : Order) (text : List ℕ) → 4 ≤ length text → u16_in order text 0 ≢ 0 → ends_at order text ≡ false
+goes_on order text there code = or_false (nat_lt (length text) 4) _ (le-ltb (length text) 4 there) (ne_eqb (u16_in order text 0) 0 code)
+
+pub options_in-past : (order : Order) (text : List ℕ) → 4 ≤ length text → u16_in order text 0 ≢ 0 → length text < option_size order text
+    → options_in order text ≡ Err BadOption ∷ []
+options_in-past order text there code past =
+    options_in-misfit order text (goes_on order text there code) (lt-leb (option_size order text) (length text) past)
+
+-- as the code finds the code, the value and the rest
+pub options_in-next : (order : Order) (text : List ℕ) (code len behind : ℕ) → code ≡ u16_in order text 0 → len ≡ u16_in order text 2
+    → 4 ≤ length text → code ≢ 0 → 4 + len ≤ length text → behind ≡ min (length text) (padded (4 + len))
+    → options_in order text ≡ Ok (record { code = code; value = take (4 + len - 4) (drop 4 text) })
+    ∷ options_in order (take (length text - behind) (drop behind text))
+options_in-next order text code len behind code_is len_is there more within is =
+    let size : 4 + len - 4 ≡ u16_in order text 2 = omega arith in
+    let rest : drop (padded (option_size order text)) text ≡ take (length text - behind) (drop behind text) =
+    sym (drop_least (padded (option_size order text)) text)
+    ∙ ap (λ n. drop n text) (sym (is ∙ ap (λ n. min (length text) (padded (4 + n))) len_is))
+    ∙ sym (take_rest text behind) in
+    let value : CodedValue = record { code = code; value = take (4 + len - 4) (drop 4 text) } in
+    let same : option_at order text ≡ value = ap₂ (λ (c n : ℕ). record { code = c; value = take n (drop 4 text) }) (sym code_is) (sym size) in
+    options_in-more order text (goes_on order text there (λ none. more (code_is ∙ none))) (le-leb (option_size order text) (length text) (omega arith))
+    ∙ ap₂ (λ (o : CodedValue) (t : List ℕ). Ok o ∷ options_in order t) same rest
+
+pub options_in-none : (order : Order) → options_in order [] ≡ []
+options_in-none order = options_in-short order [] (lit< tt)
+
+-- an item fewer is left
+pub shorter_by : {X : Type 0} (x : X) (all rest : List X) → all ≡ x ∷ rest → length rest < length all
+shorter_by x all rest is = let e : length all ≡ length rest + 1 = ap length is ∙ omega arith in omega arith

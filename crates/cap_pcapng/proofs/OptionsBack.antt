@@ -1,0 +1,76 @@
+-- Options that were written read back.
+use Rattle.std.proofs.Common.{◌≡◌, ℕ, ◌+◌, ◌-◌, ◌^◌, ◌<◌, ◌≤◌, List, [], ◌∷◌, ◌++◌, length, take, drop, replicate, refl, sym, ap, ap₂, ◌∙◌, arith, append_assoc, length-append, None, Result, Ok, le-leb}
+use Rattle.std.proofs.lemmas.List.{length-replicate, take_at, drop_at}
+use Rattle.byteorder.specs.Endian.{little_bytes}
+use Rattle.cap_octet.specs.Checks.{first_failing}
+use Rattle.cap_octet.specs.Number.{number_in, u16_in}
+use Rattle.cap_octet.specs.declared.fault.Fault.{Fault}
+use Rattle.cap_octet.specs.declared.number.Order.TheVariants.{Little}
+use Rattle.cap_pcapng.specs.Interface.{described_by, described_in}
+use Rattle.cap_pcapng.specs.InterfaceOptions.{given, list_checks}
+use Rattle.cap_pcapng.specs.Laws.{written_interface}
+use Rattle.cap_pcapng.specs.OptionList.{CodedValue, option_at, option_size, options_in, options_within}
+use Rattle.cap_pcapng.specs.Padding.{padded}
+use Rattle.cap_pcapng.specs.Written.{end_text, name_text, option_text, padded_text, resolution_text}
+use Rattle.cap_pcapng.proofs.Numerals.{number_at}
+use Rattle.cap_pcapng.proofs.OptionLists.{goes_on, options_in-more}
+
+length-option_text : (code : ℕ) (value : List ℕ) → length (option_text code value) ≡ padded (4 + length value)
+length-option_text code value = simp (length-append, length-replicate) (omega arith)
+
+-- an option in front of others
+pub options_in-option : (code : ℕ) (value rest : List ℕ) → code < 2 ^ 16 → (code ≡ 0 → ⊥) → length value < 2 ^ 16
+    → options_in Little (option_text code value ++ rest) ≡ Ok (record { code = code; value = value }) ∷ options_in Little rest
+options_in-option code value rest few some short =
+    let text : List ℕ = option_text code value ++ rest in
+    let zeros : List ℕ = replicate (padded (length value) - length value) 0 in
+    let code_is : u16_in Little text 0 ≡ code = number_at 2 text 0 code (little_bytes 2 (length value) ++ (padded_text value ++ rest)) refl few in
+    let len_is : u16_in Little text 2 ≡ length value = number_at 2 text 2 (length value) (padded_text value ++ rest) refl short in
+    let size_is : option_size Little text ≡ 4 + length value = ap (λ n. 4 + n) len_is in
+    let room : length text ≡ padded (4 + length value) + length rest = length-append (option_text code value) rest ∙ ap (λ n. n + length rest) (length-option_text code value) in
+    let value_is : take (u16_in Little text 2) (drop 4 text) ≡ value =
+    ap (λ n. take n (padded_text value ++ rest)) len_is
+    ∙ ap (λ t. take (length value) t) (append_assoc value zeros rest) ∙ take_at value (zeros ++ rest) (length value) refl in
+    let rest_is : drop (padded (option_size Little text)) text ≡ rest =
+    ap (λ n. drop (padded n) text) size_is ∙ drop_at (option_text code value) rest (padded (4 + length value)) (length-option_text code value) in
+    let option_is : option_at Little text ≡ record { code = code; value = value } =
+    ap₂ (λ (c : ℕ) (v : List ℕ). record { code = c; value = v }) code_is value_is in
+    options_in-more Little text (goes_on Little text (omega arith) (λ none. some (sym code_is ∙ none)))
+    (le-leb (option_size Little text) (length text) (omega arith))
+    ∙ ap₂ (λ (o : CodedValue) (t : List ℕ). Ok o ∷ options_in Little t) option_is rest_is
+
+resolution_back : options_in Little (resolution_text ++ end_text) ≡ Ok (record { code = 9; value = 9 ∷ [] }) ∷ []
+unfolding options_in options_within number_in
+resolution_back = refl
+
+-- the options of an interface as it is written
+abbrev options_text : List ℕ → List ℕ
+options_text name = name_text name ++ resolution_text ++ end_text
+
+abbrev items_back : List ℕ → List (Result CodedValue Fault)
+items_back [] = Ok (record { code = 9; value = 9 ∷ [] }) ∷ []
+items_back (b ∷ bytes) = Ok (record { code = 2; value = b ∷ bytes }) ∷ Ok (record { code = 9; value = 9 ∷ [] }) ∷ []
+
+options_back : (name : List ℕ) → length name ≤ 255 → options_in Little (options_text name) ≡ items_back name
+options_back [] short = resolution_back
+options_back (b ∷ bytes) short =
+    let name : List ℕ = b ∷ bytes in
+    ap (λ t. options_in Little t) (append_assoc (option_text 2 name) resolution_text end_text)
+    ∙ options_in-option 2 name (resolution_text ++ end_text) (omega arith) (λ is. absurd (omega arith)) (omega arith)
+    ∙ ap (λ items. Ok (record { code = 2; value = name }) ∷ items) resolution_back
+
+checks_back : (name : List ℕ) → length name ≤ 255 → first_failing (list_checks [] (items_back name)) ≡ None
+checks_back [] short = refl
+checks_back (b ∷ bytes) short = rw (le-leb (length (b ∷ bytes)) 255 short) refl
+
+pub options_pass : (name : List ℕ) → length name ≤ 255 → first_failing (list_checks [] (options_in Little (name_text name ++ resolution_text ++ end_text))) ≡ None
+options_pass name short = ap (λ items. first_failing (list_checks [] items)) (options_back name short) ∙ checks_back name short
+
+described_back : (link snap : ℕ) (name : List ℕ) → described_by link snap Little (given (items_back name)) ≡ written_interface link snap name
+described_back link snap [] = refl
+described_back link snap (b ∷ bytes) = refl
+
+pub options_describe : (link snap : ℕ) (name : List ℕ) → length name ≤ 255
+    → described_in link snap Little (name_text name ++ resolution_text ++ end_text) ≡ written_interface link snap name
+options_describe link snap name short =
+    ap (λ items. described_by link snap Little (given items)) (options_back name short) ∙ described_back link snap name

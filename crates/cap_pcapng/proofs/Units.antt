@@ -1,0 +1,228 @@
+-- What a text begins with is told by its first bytes alone: a block.
+use Rattle.std.proofs.Common.{◌≡◌, ℕ, ◌+◌, ◌-◌, ◌<◌, ◌≤◌, Bool, true, false, ◌&&◌, List, [], ◌∷◌, ◌++◌, length, take, drop, Option, Some, None, refl, sym, ap, ap₂, ◌∙◌, subst, arith, leb-true, le-leb}
+use Rattle.std.specs.Prelude.{nat_le, ◌==◌}
+use Rattle.std.proofs.lemmas.Bool.{lt-leb}
+use Rattle.std.proofs.lemmas.List.{length-append, length-take-le, take-append-drop, take-append-le, drop-append-le, length-drop}
+use Rattle.cap_octet.specs.Checks.{first_failing}
+use Rattle.cap_octet.specs.declared.fault.Fault.{Fault}
+use Rattle.cap_octet.specs.declared.fault.Fault.TheVariants.{BadBlockLength, Truncated}
+use Rattle.cap_octet.specs.declared.number.Order.{Order}
+use Rattle.cap_octet.specs.declared.number.Order.TheVariants.{Little, Big}
+use Rattle.cap_octet.proofs.Checks.{all_met, failing_front, met_front}
+use Rattle.cap_octet.proofs.Numbers.{number_in-append}
+use Rattle.cap_pcapng.specs.Block.{block_checks, body_checks, body_in, parts_in, parts_in_body}
+use Rattle.cap_pcapng.specs.Frame.{frame_checks, frame_in, length_in, order_in}
+use Rattle.cap_pcapng.specs.Unit.{IsBlock, Section, block_size, checks_among, frame_behind, interfaces_before, order_before, parts_behind, unit_fault}
+use Rattle.cap_pcapng.specs.declared.frames.Frame.{Frame}
+
+-- ---- more bytes behind
+
+pub frame_in-append : (section : Option Order) (front more : List ℕ) → 12 ≤ length front → frame_in section (front ++ more) ≡ frame_in section front
+frame_in-append section front more enough =
+    rw (
+      number_in-append Little 4 front more 0 (omega arith),
+      number_in-append Little 4 front more 8 (omega arith),
+      number_in-append Big 4 front more 8 (omega arith),
+      number_in-append (order_in section front) 4 front more 0 (omega arith),
+      number_in-append (order_in section front) 4 front more 4 (omega arith),
+    ) refl
+
+pub frame_checks-append : (section : Option Order) (front more : List ℕ) → 12 ≤ length front → frame_checks section (front ++ more) ≡ frame_checks section front
+frame_checks-append section front more enough =
+    rw (
+      number_in-append Little 4 front more 0 (omega arith),
+      number_in-append Little 4 front more 8 (omega arith),
+      number_in-append Big 4 front more 8 (omega arith),
+      number_in-append (order_in section front) 4 front more 4 (omega arith),
+    ) refl
+
+pub body_in-append : (frame : Frame) (front more : List ℕ) → 12 ≤ frame.length → frame.length ≤ length front → body_in frame (front ++ more) ≡ body_in frame front
+body_in-append frame front more least whole =
+    ap (λ t. take (frame.length - 12) t) (drop-append-le 8 front more (omega arith))
+    ∙ take-append-le (frame.length - 12) (drop 8 front) more (omega (arith, length-drop 8 front))
+
+pub block_checks-append : (frame : Frame) (front more : List ℕ) → 12 ≤ frame.length → frame.length ≤ length front
+    → block_checks frame (front ++ more) ≡ block_checks frame front
+block_checks-append frame front more least whole =
+    ap₂ (λ (n : ℕ) (body : List ℕ). (n == frame.length, BadBlockLength) ∷ body_checks frame.block_type frame.order body)
+    (number_in-append frame.order 4 front more (frame.length - 4) (omega arith)) (body_in-append frame front more least whole)
+
+pub parts_in-append : (frame : Frame) (front more : List ℕ) → 12 ≤ frame.length → frame.length ≤ length front → parts_in frame (front ++ more) ≡ parts_in frame front
+parts_in-append frame front more least whole = ap (parts_in_body frame.block_type frame.order) (body_in-append frame front more least whole)
+
+-- ---- the checks, one after another
+
+-- the checks of the whole block, and those of its place among others
+behind_frame : Option Section → List ℕ → List (Bool × Fault)
+behind_frame before text =
+    block_checks (frame_behind before text) text ++ checks_among (interfaces_before before) (parts_behind before text)
+
+behind_first : (before : Option Section) (text : List ℕ) → 12 ≤ length text
+    → unit_fault before text ≡ first_failing (frame_checks (order_before before) text ++ ((nat_le (block_size before text) (length text), Truncated) ∷ behind_frame before text))
+unfolding behind_frame
+behind_first before text enough = rw (le-leb 12 (length text) enough) refl
+
+behind_size : (before : Option Section) (text : List ℕ) → 12 ≤ length text → first_failing (frame_checks (order_before before) text) ≡ None
+    → block_size before text ≤ length text → unit_fault before text ≡ first_failing (behind_frame before text)
+behind_size before text enough framed whole =
+    behind_first before text enough
+    ∙ met_front (frame_checks (order_before before) text) ((nat_le (block_size before text) (length text), Truncated) ∷ behind_frame before text) framed
+    ∙ ap (λ (b : Bool). first_failing ((b, Truncated) ∷ behind_frame before text)) (le-leb (block_size before text) (length text) whole)
+
+pub unit_fault-few : (before : Option Section) (text : List ℕ) → length text < 12 → unit_fault before text ≡ Some Truncated
+unit_fault-few before text few = rw (lt-leb 12 (length text) few) refl
+
+pub unit_fault-frame : (before : Option Section) (text : List ℕ) (fault : Fault) → 12 ≤ length text
+    → first_failing (frame_checks (order_before before) text) ≡ Some fault → unit_fault before text ≡ Some fault
+unit_fault-frame before text fault enough fails =
+    behind_first before text enough
+    ∙ failing_front (frame_checks (order_before before) text) ((nat_le (block_size before text) (length text), Truncated) ∷ behind_frame before text) fault fails
+
+pub unit_fault-short : (before : Option Section) (text : List ℕ) → 12 ≤ length text → first_failing (frame_checks (order_before before) text) ≡ None
+    → length text < block_size before text → unit_fault before text ≡ Some Truncated
+unit_fault-short before text enough framed short =
+    behind_first before text enough
+    ∙ met_front (frame_checks (order_before before) text) ((nat_le (block_size before text) (length text), Truncated) ∷ behind_frame before text) framed
+    ∙ ap (λ (b : Bool). first_failing ((b, Truncated) ∷ behind_frame before text)) (lt-leb (block_size before text) (length text) short)
+
+pub unit_fault-block : (before : Option Section) (text : List ℕ) (fault : Fault) → 12 ≤ length text
+    → first_failing (frame_checks (order_before before) text) ≡ None → block_size before text ≤ length text
+    → first_failing (block_checks (frame_behind before text) text) ≡ Some fault → unit_fault before text ≡ Some fault
+unfolding behind_frame
+unit_fault-block before text fault enough framed whole fails =
+    behind_size before text enough framed whole
+    ∙ failing_front (block_checks (frame_behind before text) text) (checks_among (interfaces_before before) (parts_behind before text)) fault fails
+
+-- the checks among others decide where all before them are met
+pub unit_fault-among : (before : Option Section) (text : List ℕ) → 12 ≤ length text
+    → first_failing (frame_checks (order_before before) text) ≡ None → block_size before text ≤ length text
+    → first_failing (block_checks (frame_behind before text) text) ≡ None
+    → unit_fault before text ≡ first_failing (checks_among (interfaces_before before) (parts_behind before text))
+unfolding behind_frame
+unit_fault-among before text enough framed whole blocked =
+    behind_size before text enough framed whole
+    ∙ met_front (block_checks (frame_behind before text) text) (checks_among (interfaces_before before) (parts_behind before text)) blocked
+
+-- ---- what the checks say of a text
+
+pub record Passes (before : Option Section) (text : List ℕ) : Type 0 where
+  pub enough : 12 ≤ length text
+  pub framed : first_failing (frame_checks (order_before before) text) ≡ None
+  pub least : 12 ≤ block_size before text
+  pub whole : block_size before text ≤ length text
+  pub blocked : first_failing (block_checks (frame_behind before text) text) ≡ None
+  pub among : first_failing (checks_among (interfaces_before before) (parts_behind before text)) ≡ None
+
+both_none : (rows more : List (Bool × Fault)) → first_failing (rows ++ more) ≡ None → (first_failing rows ≡ None) × (first_failing more ≡ None)
+both_none [] more none = (refl, none)
+both_none ((true, fault) ∷ rows) more none = both_none rows more none
+both_none ((false, fault) ∷ rows) more none = (cc)
+
+and_first : (a b : Bool) → (a && b) ≡ true → a ≡ true
+and_first true b is = refl
+and_first false b is = is
+
+-- a frame that passes has a total length of 12 at least
+pub least_length : (section : Option Order) (text : List ℕ) → first_failing (frame_checks section text) ≡ None → 12 ≤ length_in section text
+least_length section text framed =
+    leb-true 12 (length_in section text) (and_first (nat_le 12 (length_in section text)) _ (all_met (frame_checks section text) framed).1.1.0)
+
+met_first : (b : Bool) (fault : Fault) (rows : List (Bool × Fault)) → first_failing ((b, fault) ∷ rows) ≡ None → (b ≡ true) × (first_failing rows ≡ None)
+met_first true fault rows none = (refl, none)
+met_first false fault rows none = (cc)
+
+pub passes : (before : Option Section) (text : List ℕ) → unit_fault before text ≡ None → Passes before text
+unfolding behind_frame
+passes before text none =
+    let first = met_first (nat_le 12 (length text)) Truncated
+    (frame_checks (order_before before) text ++ ((nat_le (block_size before text) (length text), Truncated) ∷ behind_frame before text)) none in
+    let enough : 12 ≤ length text = leb-true 12 (length text) first.0 in
+    let framed = both_none (frame_checks (order_before before) text) ((nat_le (block_size before text) (length text), Truncated) ∷ behind_frame before text)
+    (sym (behind_first before text enough) ∙ none) in
+    let size = met_first (nat_le (block_size before text) (length text)) Truncated (behind_frame before text) framed.1 in
+    let block = both_none (block_checks (frame_behind before text) text) (checks_among (interfaces_before before) (parts_behind before text)) size.1 in
+    record {
+      enough = enough;
+      framed = framed.0;
+      least = least_length (order_before before) text framed.0;
+      whole = leb-true (block_size before text) (length text) size.0;
+      blocked = block.0;
+      among = block.1;
+    }
+
+pub unit_fault-passes : (before : Option Section) (text : List ℕ) → Passes before text → unit_fault before text ≡ None
+unit_fault-passes before text p = unit_fault-among before text p.enough p.framed p.whole p.blocked ∙ p.among
+
+-- ---- a block in front of more
+
+pub parts_behind-append : (before : Option Section) (front more : List ℕ) → 12 ≤ length front → 12 ≤ block_size before front
+    → block_size before front ≤ length front → parts_behind before (front ++ more) ≡ parts_behind before front
+parts_behind-append before front more enough least whole =
+    ap (λ (f : Frame). parts_in f (front ++ more)) (frame_in-append (order_before before) front more enough)
+    ∙ parts_in-append (frame_behind before front) front more least whole
+
+block_checks-behind : (before : Option Section) (front more : List ℕ) → 12 ≤ length front → 12 ≤ block_size before front
+    → block_size before front ≤ length front
+    → block_checks (frame_behind before (front ++ more)) (front ++ more) ≡ block_checks (frame_behind before front) front
+block_checks-behind before front more enough least whole =
+    ap (λ (f : Frame). block_checks f (front ++ more)) (frame_in-append (order_before before) front more enough)
+    ∙ block_checks-append (frame_behind before front) front more least whole
+
+pub block_size-append : (before : Option Section) (front more : List ℕ) → 12 ≤ length front → block_size before (front ++ more) ≡ block_size before front
+block_size-append before front more enough = ap (λ (f : Frame). f.length) (frame_in-append (order_before before) front more enough)
+
+pub Passes-append : (before : Option Section) (front more : List ℕ) → Passes before front → Passes before (front ++ more)
+Passes-append before front more p =
+    let size : length (front ++ more) ≡ length front + length more = length-append front more in
+    let same : block_size before (front ++ more) ≡ block_size before front = block_size-append before front more p.enough in
+    let enough : 12 ≤ length front = p.enough in
+    let least : 12 ≤ block_size before front = p.least in
+    let whole : block_size before front ≤ length front = p.whole in
+    record {
+      enough = omega arith;
+      framed = ap first_failing (frame_checks-append (order_before before) front more enough) ∙ p.framed;
+      least = omega arith;
+      whole = omega arith;
+      blocked = ap first_failing (block_checks-behind before front more enough least whole) ∙ p.blocked;
+      among = ap (λ q. first_failing (checks_among (interfaces_before before) q)) (parts_behind-append before front more enough least whole) ∙ p.among;
+    }
+
+pub Passes-front : (before : Option Section) (front more : List ℕ) → 12 ≤ length front → block_size before (front ++ more) ≤ length front
+    → Passes before (front ++ more) → Passes before front
+Passes-front before front more enough within p =
+    let same : block_size before (front ++ more) ≡ block_size before front = block_size-append before front more enough in
+    let long : 12 ≤ block_size before (front ++ more) = p.least in
+    let least : 12 ≤ block_size before front = omega arith in
+    let whole : block_size before front ≤ length front = omega arith in
+    record {
+      enough = enough;
+      framed = sym (ap first_failing (frame_checks-append (order_before before) front more enough)) ∙ p.framed;
+      least = least;
+      whole = whole;
+      blocked = sym (ap first_failing (block_checks-behind before front more enough least whole)) ∙ p.blocked;
+      among = sym (ap (λ q. first_failing (checks_among (interfaces_before before) q)) (parts_behind-append before front more enough least whole)) ∙ p.among;
+    }
+
+-- a block at the front of a text
+pub IsBlock-front : (before : Option Section) (bytes more : List ℕ) → IsBlock before bytes
+    → (unit_fault before (bytes ++ more) ≡ None) × (block_size before (bytes ++ more) ≡ length bytes)
+IsBlock-front before bytes more is =
+    let p = passes before bytes is.passes in
+    (unit_fault-passes before (bytes ++ more) (Passes-append before bytes more p), block_size-append before bytes more p.enough ∙ sym is.whole)
+
+-- the block at the front of a text that passes
+pub IsBlock-take : (before : Option Section) (text : List ℕ) → unit_fault before text ≡ None → IsBlock before (take (block_size before text) text)
+IsBlock-take before text none =
+    let p = passes before text none in
+    let front : List ℕ = take (block_size before text) text in
+    let size : length front ≡ block_size before text = length-take-le (block_size before text) text p.whole in
+    let joined : front ++ drop (block_size before text) text ≡ text = take-append-drop (block_size before text) text in
+    let least : 12 ≤ block_size before text = p.least in
+    let P : List ℕ → Type 0 = λ t. Passes before t in
+    let Q : List ℕ → Type 0 = λ t. block_size before t ≤ length front in
+    let within : block_size before (front ++ drop (block_size before text) text) ≤ length front = subst Q (sym joined) (omega arith) in
+    let q = Passes-front before front (drop (block_size before text) text) (omega arith) within (subst P (sym joined) p) in
+    record {
+      passes = unit_fault-passes before front q;
+      whole = size ∙ ap (block_size before) (sym joined) ∙ block_size-append before front (drop (block_size before text) text) (omega arith);
+    }

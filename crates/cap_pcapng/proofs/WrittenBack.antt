@@ -1,0 +1,218 @@
+-- Blocks that were written read back.
+use Rattle.std.proofs.Common.{◌≡◌, ℕ, ◌+◌, ◌-◌, ◌*◌, ◌/◌, ◌%◌, ◌^◌, ◌<◌, ◌≤◌, Bool, true, false, List, [], ◌∷◌, ◌++◌, length, take, drop, replicate, refl, sym, ap, ap₂, ◌∙◌, arith, length-append, Option, Some, None, le-leb, leb-true, lt-ltb, eq-eqb, lit≤, pos}
+use Rattle.std.specs.Prelude.{◌==◌, nat_le}
+use Rattle.std.specs.List.{slice_get}
+use Rattle.std.specs.Option.{option_to_list}
+use Rattle.std.proofs.lemmas.List.{length-replicate, take_at, drop_at}
+use Rattle.byteorder.specs.Endian.{little_bytes}
+use Rattle.cap_octet.proofs.Checks.{all_met, met_front}
+use Rattle.cap_octet.specs.Checks.{first_failing}
+use Rattle.cap_octet.specs.Number.{number_in, u16_in, u32_in}
+use Rattle.cap_octet.specs.declared.fault.Fault.{Fault}
+use Rattle.cap_octet.specs.declared.fault.Fault.TheVariants.{Truncated}
+use Rattle.cap_octet.specs.declared.number.Order.TheVariants.{Little}
+use Rattle.cap_pcapng.specs.Block.{EnhancedParts, InterfaceParts, Parts, block_checks, body_checks, body_in, parts_in, parts_in_body}
+use Rattle.cap_pcapng.specs.Frame.{frame_checks, frame_in, most_block, section_type, type_of}
+use Rattle.cap_octet.specs.Packet.{Captured}
+use Rattle.cap_pcapng.specs.Interface.{Described}
+use Rattle.cap_pcapng.specs.Laws.{InterfaceBack, PacketBack, SectionBack, ReadsAs, written_interface, written_section}
+use Rattle.cap_pcapng.specs.Padding.{padded}
+use Rattle.cap_pcapng.specs.Time.{second, time_by, time_in}
+use Rattle.cap_pcapng.specs.Unit.{Section, checks_among, frame_behind, interfaces_before, most_interfaces, order_before, packet_by, section_by, unit_fault}
+use Rattle.cap_pcapng.specs.Written.{block_text, end_text, fit_checks, interface_body, name_text, packet_body, padded_text, resolution_text}
+use Rattle.cap_pcapng.proofs.Numerals.{number_at}
+use Rattle.cap_pcapng.proofs.OptionsBack.{options_describe, options_pass}
+use Rattle.cap_pcapng.proofs.WrittenBlocks.{length-interface_body, length-packet_body}
+use Rattle.cap_pcapng.specs.declared.frames.Frame.{Frame}
+
+-- ---- a section header
+
+pub section_back : SectionBack
+unfolding number_in
+section_back before = record {
+  is_block = record { passes = refl; whole = refl };
+  declares = refl;
+  holds = refl;
+}
+
+-- ---- a block of any type
+
+-- the frame of a block that is no section header, behind a section
+frame_told : (type size : ℕ) (text : List ℕ) → u32_in Little text 0 ≡ type → u32_in Little text 4 ≡ size → (type == section_type) ≡ false
+    → frame_in (Some Little) text ≡ record { order = Little; block_type = type_of type; length = size }
+frame_told type size text type_is size_is other =
+    let no_section : (u32_in Little text 0 == section_type) ≡ false = ap (λ n. n == section_type) type_is ∙ other in
+    rw (no_section, type_is, size_is) refl
+
+frame_passes : (type size : ℕ) (text : List ℕ) → u32_in Little text 0 ≡ type → u32_in Little text 4 ≡ size → (type == section_type) ≡ false
+    → 12 ≤ size → size % 4 ≡ 0 → size ≤ most_block → first_failing (frame_checks (Some Little) text) ≡ None
+frame_passes type size text type_is size_is other least whole most =
+    let no_section : (u32_in Little text 0 == section_type) ≡ false = ap (λ n. n == section_type) type_is ∙ other in
+    rw (no_section, size_is, le-leb 12 size least, eq-eqb (size % 4) 0 whole, le-leb size most_block most) refl
+
+-- a table passes where each part of it does
+parts_pass : (a b : Bool) (fault : Fault) (framed blocked among : List (Bool × Fault)) → a ≡ true → first_failing framed ≡ None → b ≡ true
+    → first_failing blocked ≡ None → first_failing among ≡ None
+    → first_failing ((a, fault) ∷ (framed ++ ((b, fault) ∷ (blocked ++ among)))) ≡ None
+parts_pass a b fault framed blocked among a_is framed_is b_is blocked_is among_is =
+    rw a_is
+    (met_front framed ((b, fault) ∷ (blocked ++ among)) framed_is
+    ∙ (rw b_is (met_front blocked among blocked_is ∙ among_is)))
+
+unit_passes : (before : Option Section) (text : List ℕ) (frame : Frame) (parts : Parts) → frame_behind before text ≡ frame
+    → parts_in frame text ≡ parts → length text ≡ frame.length → 12 ≤ frame.length
+    → first_failing (frame_checks (order_before before) text) ≡ None
+    → first_failing (block_checks frame text) ≡ None
+    → first_failing (checks_among (interfaces_before before) parts) ≡ None
+    → unit_fault before text ≡ None
+unit_passes before text frame parts frame_is parts_is size least framed blocked among =
+    parts_pass (nat_le 12 (length text)) (nat_le (frame_behind before text).length (length text)) Truncated
+    (frame_checks (order_before before) text) (block_checks (frame_behind before text) text)
+    (checks_among (interfaces_before before) (parts_in (frame_behind before text) text))
+    (le-leb 12 (length text) (omega arith)) framed
+    (le-leb (frame_behind before text).length (length text) (omega (arith, ap (λ (f : Frame). f.length) frame_is)))
+    (ap (λ (f : Frame). first_failing (block_checks f text)) frame_is ∙ blocked)
+    (ap (λ (p : Parts). first_failing (checks_among (interfaces_before before) p)) (ap (λ (f : Frame). parts_in f text) frame_is ∙ parts_is) ∙ among)
+
+abbrev pub written_frame : ℕ → List ℕ → Frame
+written_frame type body = record { order = Little; block_type = type_of type; length = 12 + length body }
+
+-- what a written block of a type other than a section header is
+pub record IsWritten (type : ℕ) (body : List ℕ) : Type 0 where
+  pub told : frame_in (Some Little) (block_text type body) ≡ written_frame type body
+  pub framed : first_failing (frame_checks (Some Little) (block_text type body)) ≡ None
+  pub size : length (block_text type body) ≡ 12 + length body
+  pub ends : u32_in Little (block_text type body) (12 + length body - 4) ≡ 12 + length body
+  pub between : body_in (written_frame type body) (block_text type body) ≡ body
+
+pub block_written : (type : ℕ) (body : List ℕ) → type < 2 ^ 32 → (type == section_type) ≡ false → length body % 4 ≡ 0 → 12 + length body ≤ most_block
+    → IsWritten type body
+block_written type body few other whole most =
+    let size : ℕ = 12 + length body in
+    let text : List ℕ = block_text type body in
+    let type_is : u32_in Little text 0 ≡ type =
+    number_at 4 text 0 type (little_bytes 4 size ++ body ++ little_bytes 4 size) refl few in
+    let size_is : u32_in Little text 4 ≡ size = number_at 4 text 4 size (body ++ little_bytes 4 size) refl (omega arith) in
+    record {
+      told = frame_told type size text type_is size_is other;
+      framed = frame_passes type size text type_is size_is other (omega arith) (omega arith) most;
+      size = simp length-append (omega arith);
+      ends = number_at 4 text (size - 4) size []
+          (ap (λ n. drop n text) (omega arith) ∙ drop_at (little_bytes 4 type ++ little_bytes 4 size ++ body) (little_bytes 4 size) (8 + length body) (omega arith))
+          (omega arith);
+      between = ap (λ n. take n (body ++ little_bytes 4 size)) (omega arith) ∙ take_at body (little_bytes 4 size) (length body) refl;
+    }
+
+-- what a written block reads as, by its body
+pub block_reads : (interfaces : List Described) (type : ℕ) (body : List ℕ) → IsWritten type body
+    → first_failing (body_checks (type_of type) Little body) ≡ None
+    → first_failing (checks_among interfaces (parts_in_body (type_of type) Little body)) ≡ None
+    → ReadsAs (Some (written_section interfaces)) (block_text type body)
+    (section_by (Some (written_section interfaces)) Little (parts_in_body (type_of type) Little body))
+    (option_to_list (packet_by interfaces (parts_in_body (type_of type) Little body)))
+block_reads interfaces type body w passes among =
+    let text : List ℕ = block_text type body in
+    let parts : Parts = parts_in_body (type_of type) Little body in
+    let parts_are : parts_in (written_frame type body) text ≡ parts = ap (λ t. parts_in_body (type_of type) Little t) w.between in
+    let found : parts_in (frame_in (Some Little) text) text ≡ parts = ap (λ (f : Frame). parts_in f text) w.told ∙ parts_are in
+    let blocked : first_failing (block_checks (written_frame type body) text) ≡ None =
+    rw (eq-eqb _ _ w.ends) (ap (λ t. first_failing (body_checks (type_of type) Little t)) w.between ∙ passes) in
+    record {
+      is_block = record {
+        passes =
+            unit_passes (Some (written_section interfaces)) text (written_frame type body) parts w.told parts_are w.size (omega arith) w.framed blocked among;
+        whole = w.size ∙ sym (ap (λ (f : Frame). f.length) w.told);
+      };
+      declares = ap₂ (λ o q. section_by (Some (written_section interfaces)) o q) (ap (λ (f : Frame). f.order) w.told) found;
+      holds = ap (λ q. option_to_list (packet_by interfaces q)) found;
+    }
+
+-- ---- a packet
+
+same_time : (time : ℕ) → time / 2 ^ 32 * 4294967296 + time % 2 ^ 32 ≡ time
+same_time time = omega arith
+
+pub packet_parts : (number : ℕ) (p : Captured) → number < 2 ^ 32 → p.time < 2 ^ 63 → p.orig < 2 ^ 32 → length p.bytes < 2 ^ 32
+    → parts_in_body (type_of 6) Little (packet_body number p) ≡ EnhancedParts number p.time (length p.bytes) p.orig (padded_text p.bytes)
+packet_parts number p number_fits time_fits orig_fits few =
+    let body : List ℕ = packet_body number p in
+    let number_is : u32_in Little body 0 ≡ number = number_at 4 body 0 number (drop 4 body) refl number_fits in
+    let high_is : u32_in Little body 4 ≡ p.time / 2 ^ 32 = number_at 4 body 4 (p.time / 2 ^ 32) (drop 8 body) refl (omega arith) in
+    let low_is : u32_in Little body 8 ≡ p.time % 2 ^ 32 = number_at 4 body 8 (p.time % 2 ^ 32) (drop 12 body) refl (omega arith) in
+    let captured_is : u32_in Little body 12 ≡ length p.bytes = number_at 4 body 12 (length p.bytes) (drop 16 body) refl few in
+    let orig_is : u32_in Little body 16 ≡ p.orig = number_at 4 body 16 p.orig (drop 20 body) refl orig_fits in
+    rw (number_is, high_is, low_is, captured_is, orig_is, same_time p.time) refl
+
+-- nanoseconds are the time itself
+nanoseconds_back : (time : ℕ) → time < 2 ^ 63 → time_in time second (pos 0) ≡ Some time
+nanoseconds_back time few =
+    let same : time * second / second + 0 ≡ time = omega arith in
+    ap (λ n. time_by (pos n)) same ∙ (rw (lt-ltb time (2 ^ 63) few) refl)
+
+padded_fits : (bytes : List ℕ) → padded (length bytes) ≤ length (padded_text bytes)
+padded_fits bytes = simp (length-append, length-replicate) (omega arith)
+
+packet_among : (interfaces : List Described) (number : ℕ) (p : Captured) → slice_get interfaces number ≡ Some (written_interface p.link p.snap p.name)
+    → p.time < 2 ^ 63 → first_failing (checks_among interfaces (EnhancedParts number p.time (length p.bytes) p.orig (padded_text p.bytes))) ≡ None
+packet_among interfaces number p known few =
+    rw (known, le-leb (padded (length p.bytes)) (length (padded_text p.bytes)) (padded_fits p.bytes), nanoseconds_back p.time few) refl
+
+packet_held : (interfaces : List Described) (number : ℕ) (p : Captured) → slice_get interfaces number ≡ Some (written_interface p.link p.snap p.name)
+    → p.time < 2 ^ 63 → packet_by interfaces (EnhancedParts number p.time (length p.bytes) p.orig (padded_text p.bytes)) ≡ Some p
+packet_held interfaces number p known few =
+    rw (known, nanoseconds_back p.time few, take_at p.bytes (replicate (padded (length p.bytes) - length p.bytes) 0) (length p.bytes) refl) refl
+
+fits_told : (p : Captured) → first_failing (fit_checks p) ≡ None → 32 + padded (length p.bytes) ≤ most_block
+fits_told p fits = leb-true (32 + padded (length p.bytes)) most_block (all_met (fit_checks p) fits).0
+
+pub packet_back : PacketBack
+packet_back interfaces number p known number_fits time_fits orig_fits fits =
+    let most : 32 + padded (length p.bytes) ≤ most_block = fits_told p fits in
+    let body : List ℕ = packet_body number p in
+    let size : length body ≡ 20 + padded (length p.bytes) = length-packet_body number p in
+    let w : IsWritten 6 body = block_written 6 body (omega arith) refl (omega arith) (omega arith) in
+    let parts : parts_in_body (type_of 6) Little body ≡ EnhancedParts number p.time (length p.bytes) p.orig (padded_text p.bytes) =
+    packet_parts number p number_fits time_fits orig_fits (omega arith) in
+    let reads = block_reads interfaces 6 body w (rw (le-leb 20 (length body) (omega arith)) refl)
+    (ap (λ q. first_failing (checks_among interfaces q)) parts ∙ packet_among interfaces number p known time_fits) in
+    record {
+      is_block = reads.is_block;
+      declares = reads.declares ∙ ap (λ q. section_by (Some (written_section interfaces)) Little q) parts;
+      holds = reads.holds ∙ ap (λ q. option_to_list (packet_by interfaces q)) parts ∙ ap option_to_list (packet_held interfaces number p known time_fits);
+    }
+
+-- ---- an interface
+
+interface_parts : (link snap : ℕ) (name : List ℕ) → link < 2 ^ 16 → snap < 2 ^ 32
+    → parts_in_body (type_of 1) Little (interface_body link snap name) ≡ InterfaceParts link snap Little (name_text name ++ resolution_text ++ end_text)
+interface_parts link snap name link_fits snap_fits =
+    let body : List ℕ = interface_body link snap name in
+    let link_is : u16_in Little body 0 ≡ link = number_at 2 body 0 link (drop 2 body) refl link_fits in
+    let snap_is : u32_in Little body 4 ≡ snap = number_at 4 body 4 snap (drop 8 body) refl snap_fits in
+    rw (link_is, snap_is) refl
+
+interface_size : (link snap : ℕ) (name : List ℕ) → length name ≤ 255
+    → (length (interface_body link snap name) % 4 ≡ 0) × (20 ≤ length (interface_body link snap name)) × (length (interface_body link snap name) ≤ 280)
+interface_size link snap [] short = (refl, lit≤ tt, lit≤ tt)
+interface_size link snap (b ∷ bytes) short =
+    let size : length (interface_body link snap (b ∷ bytes)) ≡ 24 + padded (length (b ∷ bytes)) = length-interface_body link snap b bytes in
+    (omega arith, omega arith, omega arith)
+
+pub interface_back : InterfaceBack
+interface_back interfaces link snap name room link_fits snap_fits short =
+    let body : List ℕ = interface_body link snap name in
+    let size = interface_size link snap name short in
+    let w : IsWritten 1 body = block_written 1 body (omega arith) refl size.0 (omega arith) in
+    let parts : parts_in_body (type_of 1) Little body ≡ InterfaceParts link snap Little (name_text name ++ resolution_text ++ end_text) =
+    interface_parts link snap name link_fits snap_fits in
+    let among : first_failing (checks_among interfaces (InterfaceParts link snap Little (name_text name ++ resolution_text ++ end_text))) ≡ None =
+    rw (lt-ltb (length interfaces) most_interfaces room) (options_pass name short) in
+    let reads = block_reads interfaces 1 body w (rw (le-leb 8 (length body) (omega arith)) refl)
+    (ap (λ q. first_failing (checks_among interfaces q)) parts ∙ among) in
+    record {
+      is_block = reads.is_block;
+      declares =
+          reads.declares ∙ ap (λ q. section_by (Some (written_section interfaces)) Little q) parts
+          ∙ ap (λ (i : Described). written_section (interfaces ++ i ∷ [])) (options_describe link snap name short);
+      holds = reads.holds ∙ ap (λ q. option_to_list (packet_by interfaces q)) parts;
+    }

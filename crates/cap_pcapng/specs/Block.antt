@@ -1,0 +1,80 @@
+-- The bodies of blocks: their checks, in order, and their parts (draft-ietf-opsawg-pcapng, "Block Types").
+use Rattle.std.specs.Prelude.{ℕ, ◌+◌, ◌-◌, ◌*◌, ◌==◌, ◌&&◌, ◌||◌, if◌then◌else◌, min, Bool, false, List, [], ◌∷◌, length, take, drop, nat_le, Option}
+use Rattle.cap_octet.specs.Checks.{first_failing}
+use Rattle.cap_octet.specs.Number.{u16_in, u32_in}
+use Rattle.cap_octet.specs.declared.fault.Fault.{Fault}
+use Rattle.cap_octet.specs.declared.fault.Fault.TheVariants.{BadVersion, BadBlockLength, BadBody, ObsoletePacketBlock}
+use Rattle.cap_octet.specs.declared.number.Order.{Order}
+use Rattle.cap_pcapng.specs.Padding.{padded}
+use Rattle.cap_pcapng.specs.declared.blocks.Block.{Block}
+use Rattle.cap_pcapng.specs.declared.blocks.Block.TheVariants as a
+use Rattle.cap_pcapng.specs.declared.frames.BlockType.{BlockType}
+use Rattle.cap_pcapng.specs.declared.frames.BlockType.TheVariants as type
+use Rattle.cap_pcapng.specs.declared.frames.Frame.{Frame}
+
+-- what stands between the two total lengths
+abbrev pub body_in : Frame → List ℕ → List ℕ
+body_in frame text = take (frame.length - 12) (drop 8 text)
+
+-- ---- the checks
+
+abbrev pub body_checks : BlockType → Order → List ℕ → List (Bool × Fault)
+body_checks type.Section order body =
+    (nat_le 16 (length body), BadBody)
+    ∷ ((u16_in order body 4 == 1) && ((u16_in order body 6 == 0) || (u16_in order body 6 == 2)), BadVersion)
+    ∷ []
+body_checks type.Interface order body = (nat_le 8 (length body), BadBody) ∷ []
+body_checks type.ObsoletePacket order body = (false, ObsoletePacketBlock) ∷ []
+body_checks type.SimplePacket order body = (nat_le 4 (length body), BadBody) ∷ []
+body_checks type.EnhancedPacket order body = (nat_le 20 (length body), BadBody) ∷ []
+body_checks type.Other order body = []
+
+-- the checks of a whole block that need no interface, on a text that begins with it
+abbrev pub block_checks : Frame → List ℕ → List (Bool × Fault)
+block_checks frame text =
+    (u32_in frame.order text (frame.length - 4) == frame.length, BadBlockLength)
+    ∷ body_checks frame.block_type frame.order (body_in frame text)
+
+abbrev pub block_fault : Frame → List ℕ → Option Fault
+block_fault frame text = first_failing (block_checks frame text)
+
+-- ---- a packet's data
+
+-- the captured length of a simple packet, in an interface of this snap length
+abbrev pub simple_captured : (orig snap : ℕ) → ℕ
+simple_captured orig snap = if snap == 0 then orig else min orig snap
+
+-- that so many captured bytes with their padding lie in what is left of a body
+abbrev pub data_checks : ℕ → List ℕ → List (Bool × Fault)
+data_checks captured rest = (nat_le (padded captured) (length rest), BadBody) ∷ []
+
+-- ---- the parts
+
+-- what a block says. The rest of a packet's body is its padded data, and what follows that.
+pub data Parts : Type 0 where
+  SectionParts : Parts
+  InterfaceParts : (link snap : ℕ) → (order : Order) → (options : List ℕ) → Parts
+  EnhancedParts : (interface ticks captured orig : ℕ) → (rest : List ℕ) → Parts
+  SimpleParts : (orig : ℕ) → (rest : List ℕ) → Parts
+  SkippedParts : Parts
+
+abbrev pub parts_in_body : BlockType → Order → List ℕ → Parts
+parts_in_body type.Section order body = SectionParts
+parts_in_body type.Interface order body = InterfaceParts (u16_in order body 0) (u32_in order body 4) order (drop 8 body)
+parts_in_body type.ObsoletePacket order body = SkippedParts
+parts_in_body type.SimplePacket order body = SimpleParts (u32_in order body 0) (drop 4 body)
+parts_in_body type.EnhancedPacket order body =
+    EnhancedParts (u32_in order body 0) (u32_in order body 4 * 4294967296 + u32_in order body 8)
+    (u32_in order body 12) (u32_in order body 16) (drop 20 body)
+parts_in_body type.Other order body = SkippedParts
+
+abbrev pub parts_in : Frame → List ℕ → Parts
+parts_in frame text = parts_in_body frame.block_type frame.order (body_in frame text)
+
+-- the same as a block was read, without the places in memory where they lie
+abbrev pub parts_of : Block → Parts
+parts_of a.Section = SectionParts
+parts_of (a.Interface b) = InterfaceParts b.link b.snap b.options.order b.options.rest.now
+parts_of (a.Enhanced b) = EnhancedParts b.interface b.ticks b.captured b.orig b.rest.now
+parts_of (a.Simple b) = SimpleParts b.orig b.rest.now
+parts_of a.Skipped = SkippedParts

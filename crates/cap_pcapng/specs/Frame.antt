@@ -1,0 +1,78 @@
+-- What stands at both ends of every block, and the checks of it, in order (draft-ietf-opsawg-pcapng, "General Block
+-- Structure" and "Section Header Block").
+use Rattle.std.specs.Prelude.{ℕ, ◌%◌, ◌==◌, ◌&&◌, ◌||◌, not, if◌then◌else◌, Bool, List, [], ◌∷◌, nat_le, Option, Some, None, is_some, unwrap_or}
+use Rattle.cap_octet.specs.Checks.{first_failing}
+use Rattle.cap_octet.specs.Number.{u32_in}
+use Rattle.cap_octet.specs.declared.fault.Fault.{Fault}
+use Rattle.cap_octet.specs.declared.fault.Fault.TheVariants.{NotACaptureFile, BadByteOrderMagic, BadBlockLength, TooLong}
+use Rattle.cap_octet.specs.declared.number.Order.{Order}
+use Rattle.cap_octet.specs.declared.number.Order.TheVariants.{Little, Big}
+use Rattle.cap_pcapng.specs.declared.frames.BlockType.{BlockType}
+use Rattle.cap_pcapng.specs.declared.frames.BlockType.TheVariants as block
+use Rattle.cap_pcapng.specs.declared.frames.Frame.{Frame}
+
+-- how many bytes a block may have
+abbrev pub most_block : ℕ
+most_block = 1048576
+
+-- the type of a section header block, which reads the same in both orders
+abbrev pub section_type : ℕ
+section_type = 0x0a0d0d0a
+
+abbrev pub byte_order_magic : ℕ
+byte_order_magic = 0x1a2b3c4d
+
+-- the type of a block that is no section header
+abbrev pub type_of : ℕ → BlockType
+type_of number =
+    if number == 1 then block.Interface
+    else (if number == 2 then block.ObsoletePacket
+    else (if number == 3 then block.SimplePacket
+    else (if number == 6 then block.EnhancedPacket
+    else block.Other)))
+
+-- whether a text begins with a section header
+abbrev pub is_section : List ℕ → Bool
+is_section text = u32_in Little text 0 == section_type
+
+-- the byte order in which bytes 8 to 11 are the byte-order magic
+abbrev pub magic_order : List ℕ → Option Order
+magic_order text =
+    if u32_in Little text 8 == byte_order_magic then Some Little
+    else (if u32_in Big text 8 == byte_order_magic then Some Big
+    else None)
+
+-- the byte order of a block: a section header tells its own, the others have that of the section before them
+abbrev pub order_told : Option Order → List ℕ → Option Order
+order_told section text = if is_section text then magic_order text else section
+
+-- the same where there is one; the first checks fail where there is none
+abbrev pub order_in : Option Order → List ℕ → Order
+order_in section text = unwrap_or (order_told section text) Little
+
+abbrev pub type_in : Option Order → List ℕ → BlockType
+type_in section text = if is_section text then block.Section else type_of (u32_in (order_in section text) text 0)
+
+-- the total length
+abbrev pub length_in : Option Order → List ℕ → ℕ
+length_in section text = u32_in (order_in section text) text 4
+
+-- the checks of a block's first 12 bytes, in order, behind a section of this byte order or behind none
+abbrev pub frame_checks : Option Order → List ℕ → List (Bool × Fault)
+frame_checks section text =
+    (is_section text || is_some section, NotACaptureFile)
+    ∷ (not (is_section text) || is_some (magic_order text), BadByteOrderMagic)
+    ∷ (nat_le 12 (length_in section text) && (length_in section text % 4 == 0), BadBlockLength)
+    ∷ (nat_le (length_in section text) most_block, TooLong)
+    ∷ []
+
+abbrev pub frame_fault : Option Order → List ℕ → Option Fault
+frame_fault section text = first_failing (frame_checks section text)
+
+-- what a block's first 12 bytes say of it
+abbrev pub frame_in : Option Order → List ℕ → Frame
+frame_in section text = record {
+  order = order_in section text;
+  block_type = type_in section text;
+  length = length_in section text;
+}

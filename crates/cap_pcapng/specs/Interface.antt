@@ -1,0 +1,56 @@
+-- An interface by its values, and what is found of it while its options are read.
+use Rattle.std.specs.Prelude.{◌≡◌, ◌≤◌, ◌<◌, ℕ, length, IfSome, ◌==◌, if◌then◌else◌, Bool, false, ℤ, pos, List, [], is_some, unwrap_or}
+use Rattle.std.specs.Option.{option_map, option_map_or, option_copied}
+use Rattle.cap_octet.specs.declared.number.Order.{Order}
+use Rattle.cap_pcapng.specs.InterfaceOptions.{first_value, given, name_code, offset_code, offset_told, resolution_code, units_told}
+use Rattle.cap_pcapng.specs.OptionList.{CodedValue, options_in}
+use Rattle.cap_pcapng.specs.Time.{microseconds}
+use Rattle.cap_pcapng.specs.declared.interface.Found.{Found}
+use Rattle.cap_pcapng.specs.declared.interface.Interface.{Interface}
+
+-- an interface without the place in memory where its name lies
+pub record Described : Type 0 where
+  pub link : ℕ
+  pub snap : ℕ
+  -- empty where there is none
+  pub name : List ℕ
+  -- how many ticks make a second, and the seconds that are added
+  pub units : ℕ
+  pub offset : ℤ
+
+abbrev pub described : Interface → Described
+described i = record { link = i.link; snap = i.snap; name = i.name.now; units = i.clock.units; offset = i.clock.offset }
+
+-- the interface of this link type and snap length that options describe
+abbrev pub described_by : (link snap : ℕ) → Order → List CodedValue → Described
+described_by link snap order options = record {
+  link = link;
+  snap = snap;
+  name = unwrap_or (first_value name_code options) [];
+  units = option_map_or units_told (first_value resolution_code options) microseconds;
+  offset = option_map_or (offset_told order) (first_value offset_code options) (pos 0);
+}
+
+abbrev pub described_in : (link snap : ℕ) → Order → List ℕ → Described
+described_in link snap order text = described_by link snap order (given (options_in order text))
+
+-- ---- while they are read
+
+-- what was found in these options
+pub record IsFound (order : Order) (options : List CodedValue) (found : Found) : Type 0 where
+  pub name : option_copied found.name ≡ first_value name_code options
+  pub units : found.units ≡ option_map units_told (first_value resolution_code options)
+  pub offset : found.offset ≡ option_map (offset_told order) (first_value offset_code options)
+
+-- what was found is short enough, and units are some
+pub record IsSound (found : Found) : Type 0 where
+  pub short : IfSome found.name (λ name. length name.now ≤ 255)
+  pub some : IfSome found.units (λ units. 0 < units)
+
+-- whether an option of this code was found, if it is looked at
+abbrev pub is_found : Found → ℕ → Bool
+is_found found code =
+    if code == name_code then is_some found.name
+    else (if code == resolution_code then is_some found.units
+    else (if code == offset_code then is_some found.offset
+    else false))

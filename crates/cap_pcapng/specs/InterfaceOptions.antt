@@ -1,0 +1,78 @@
+-- The options of an interface description block: their checks, in order, and what they say
+-- (draft-ietf-opsawg-pcapng, "Interface Description Block").
+use Rattle.std.specs.Prelude.{ℕ, ◌==◌, if◌then◌else◌, Bool, false, ℤ, List, [], ◌∷◌, ◌++◌, length, slice_index, nat_le, Option, Some, None, is_some, Result, Ok, Err}
+use Rattle.std.specs.Int.{cast_signed, w64}
+use Rattle.cap_octet.specs.Checks.{first_failing}
+use Rattle.cap_octet.specs.Number.{number_in}
+use Rattle.cap_octet.specs.declared.fault.Fault.{Fault}
+use Rattle.cap_octet.specs.declared.fault.Fault.TheVariants.{BadOption, BadTimeResolution}
+use Rattle.cap_octet.specs.declared.number.Order.{Order}
+use Rattle.cap_pcapng.specs.OptionList.{CodedValue, options_in}
+use Rattle.cap_pcapng.specs.Time.{is_resolution, units_by}
+
+-- the codes of the options that are looked at
+abbrev pub name_code : ℕ
+name_code = 2
+
+abbrev pub resolution_code : ℕ
+resolution_code = 9
+
+abbrev pub offset_code : ℕ
+offset_code = 14
+
+-- ---- the checks
+
+abbrev pub name_checks : List ℕ → List (Bool × Fault)
+name_checks value = (nat_le (length value) 255, BadOption) ∷ []
+
+abbrev pub resolution_checks : List ℕ → List (Bool × Fault)
+resolution_checks value = (length value == 1, BadOption) ∷ (is_resolution (slice_index value 0), BadTimeResolution) ∷ []
+
+abbrev pub offset_checks : List ℕ → List (Bool × Fault)
+offset_checks value = (length value == 8, BadOption) ∷ []
+
+-- the checks of the first option of its code
+abbrev pub first_checks : CodedValue → List (Bool × Fault)
+first_checks option =
+    if option.code == name_code then name_checks option.value
+    else (if option.code == resolution_code then resolution_checks option.value
+    else (if option.code == offset_code then offset_checks option.value
+    else []))
+
+-- the value of an option, if it has this code
+abbrev pub value_for : ℕ → CodedValue → Option (List ℕ)
+value_for code option = if option.code == code then Some option.value else None
+
+-- the value of the first option of a code
+abbrev pub first_value : ℕ → List CodedValue → Option (List ℕ)
+first_value code [] = None
+first_value code (option ∷ options) = if option.code == code then Some option.value else first_value code options
+
+-- the checks of an option behind these: of those of one code the first alone is checked
+abbrev pub checks_behind : List CodedValue → CodedValue → List (Bool × Fault)
+checks_behind before option = if is_some (first_value option.code before) then [] else first_checks option
+
+-- the checks of a list of options behind these, in order: that the value fits, and then those of its code
+abbrev pub list_checks : List CodedValue → List (Result CodedValue Fault) → List (Bool × Fault)
+list_checks before [] = []
+list_checks before (Err fault ∷ items) = (false, fault) ∷ list_checks before items
+list_checks before (Ok option ∷ items) = checks_behind before option ++ list_checks (before ++ option ∷ []) items
+
+-- why a list of options can't be read
+abbrev pub options_fault : Order → List ℕ → Option Fault
+options_fault order text = first_failing (list_checks [] (options_in order text))
+
+-- ---- what they say
+
+-- the options whose values fit
+abbrev pub given : List (Result CodedValue Fault) → List CodedValue
+given [] = []
+given (Err fault ∷ items) = given items
+given (Ok option ∷ items) = option ∷ given items
+
+abbrev pub units_told : List ℕ → ℕ
+units_told value = units_by (slice_index value 0)
+
+-- seconds, in two's complement
+abbrev pub offset_told : Order → List ℕ → ℤ
+offset_told order value = cast_signed w64 (number_in order 8 value 0)

@@ -1,0 +1,42 @@
+-- What is written of an interface and of a packet reads back as they are.
+use Rattle.std.specs.Prelude.{◌≡◌, ℕ, ◌^◌, ◌<◌, ◌≤◌, pos, List, [], ◌∷◌, ◌++◌, length, Option, Some, None}
+use Rattle.std.specs.List.{slice_get}
+use Rattle.cap_octet.specs.Checks.{first_failing}
+use Rattle.cap_octet.specs.Packet.{Captured}
+use Rattle.cap_octet.specs.declared.number.Order.TheVariants.{Little}
+use Rattle.cap_pcapng.specs.Interface.{Described}
+use Rattle.cap_pcapng.specs.Time.{second}
+use Rattle.cap_pcapng.specs.Unit.{IsBlock, Section, most_interfaces, packets_in, section_after}
+use Rattle.cap_pcapng.specs.Written.{fit_checks, interface_text, packet_text, section_text}
+
+-- These bytes are one block, behind which the section is this, and they hold these packets.
+pub record ReadsAs (before : Option Section) (bytes : List ℕ) (after : Section) (packets : List Captured) : Type 0 where
+  pub is_block : IsBlock before bytes
+  pub declares : section_after before bytes ≡ after
+  pub holds : packets_in before bytes ≡ packets
+
+-- a little-endian section with these interfaces
+abbrev pub written_section : List Described → Section
+written_section interfaces = record { order = Little; interfaces = interfaces }
+
+-- an interface as it is written: its ticks are nanoseconds
+abbrev pub written_interface : (link snap : ℕ) → (name : List ℕ) → Described
+written_interface link snap name = record { link = link; snap = snap; name = name; units = second; offset = pos 0 }
+
+-- a section header begins a section
+abbrev pub SectionBack : Type 0
+SectionBack = (before : Option Section) → ReadsAs before section_text (written_section []) []
+
+-- an interface gets the next number
+abbrev pub InterfaceBack : Type 0
+InterfaceBack = (interfaces : List Described) (link snap : ℕ) (name : List ℕ) → length interfaces < most_interfaces
+    → link < 2 ^ 16 → snap < 2 ^ 32 → length name ≤ 255
+    → ReadsAs (Some (written_section interfaces)) (interface_text link snap name)
+    (written_section (interfaces ++ written_interface link snap name ∷ [])) []
+
+-- a packet of an interface that was written
+abbrev pub PacketBack : Type 0
+PacketBack = (interfaces : List Described) (number : ℕ) (p : Captured)
+    → slice_get interfaces number ≡ Some (written_interface p.link p.snap p.name)
+    → number < 2 ^ 32 → p.time < 2 ^ 63 → p.orig < 2 ^ 32 → first_failing (fit_checks p) ≡ None
+    → ReadsAs (Some (written_section interfaces)) (packet_text number p) (written_section interfaces) (p ∷ [])

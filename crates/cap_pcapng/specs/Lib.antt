@@ -1,0 +1,10 @@
+pub mod Block
+pub mod Frame
+pub mod Interface
+pub mod InterfaceOptions
+pub mod Laws
+pub mod OptionList
+pub mod Padding
+pub mod Time
+pub mod Unit
+pub mod Written

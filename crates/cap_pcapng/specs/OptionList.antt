@@ -1,0 +1,54 @@
+-- Options: codes and values, one after another (draft-ietf-opsawg-pcapng, "Options").
+use Rattle.std.specs.Prelude.{ℕ, zero, suc, ◌+◌, ◌==◌, ◌||◌, if◌then◌else◌, Bool, List, [], ◌∷◌, length, drop, take, nat_le, nat_lt, Result, Ok, Err}
+use Rattle.cap_octet.specs.Number.{u16_in}
+use Rattle.cap_octet.specs.declared.fault.Fault.{Fault}
+use Rattle.cap_octet.specs.declared.fault.Fault.TheVariants.{BadOption}
+use Rattle.cap_octet.specs.declared.number.Order.{Order}
+use Rattle.cap_pcapng.specs.Padding.{padded}
+use Rattle.cap_pcapng.specs.declared.options.BlockOption.{BlockOption}
+use Rattle.cap_pcapng.specs.declared.options.Options.{Options}
+
+-- an option without the place in memory where its value lies
+pub record CodedValue : Type 0 where
+  pub code : ℕ
+  pub value : List ℕ
+
+-- the code and the value of the option at the front of a text, and how many bytes it has before its padding
+abbrev pub option_size : Order → List ℕ → ℕ
+option_size order text = 4 + u16_in order text 2
+
+abbrev pub option_at : Order → List ℕ → CodedValue
+option_at order text = record { code = u16_in order text 0; value = take (u16_in order text 2) (drop 4 text) }
+
+-- whether a list of options ends here: at its bytes' end, or at code 0, whose length isn't looked at
+abbrev pub ends_at : Order → List ℕ → Bool
+ends_at order text = nat_lt (length text) 4 || (u16_in order text 0 == 0)
+
+-- whether the value of the option at the front lies within the text
+abbrev pub fits_at : Order → List ℕ → Bool
+fits_at order text = nat_le (option_size order text) (length text)
+
+-- the options of a text, in order, with at most so many of them; the last may be one whose value doesn't fit
+unfoldable pub options_within : ℕ → Order → List ℕ → List (Result CodedValue Fault)
+options_within zero order text = []
+options_within (suc most) order text =
+    if ends_at order text then []
+    else (if fits_at order text
+    then Ok (option_at order text) ∷ options_within most order (drop (padded (option_size order text)) text)
+    else Err BadOption ∷ [])
+
+-- the options of a text; each has a byte at least
+unfoldable pub options_in : Order → List ℕ → List (Result CodedValue Fault)
+options_in order text = options_within (length text) order text
+
+-- the options that are left to an iterator
+abbrev pub options_left : Options → List (Result CodedValue Fault)
+options_left options = options_in options.order options.rest.now
+
+abbrev pub coded_value : BlockOption → CodedValue
+coded_value option = record { code = option.code; value = option.value.now }
+
+-- an item of the iterator, without the place in memory
+abbrev pub item_of : Result BlockOption Fault → Result CodedValue Fault
+item_of (Ok option) = Ok (coded_value option)
+item_of (Err fault) = Err fault

@@ -1,0 +1,31 @@
+-- How the ticks of an interface become a time (draft-ietf-opsawg-pcapng, options if_tsresol and if_tsoffset).
+use Rattle.std.specs.Prelude.{ℕ, ◌*◌, ◌/◌, ◌^◌, ◌-◌, ℤ, pos, negsuc, ◌+ℤ◌, ◌*ℤ◌, if◌then◌else◌, Bool, nat_le, nat_lt, Option, Some, None}
+
+-- nanoseconds in a second
+abbrev pub second : ℕ
+second = 1000000000
+
+-- The nanoseconds since 1970 of so many ticks, of which these units make a second, after an offset in seconds. A part
+-- of a nanosecond is cut off.
+abbrev pub nanoseconds : ℕ → ℕ → ℤ → ℤ
+nanoseconds ticks units offset = pos (ticks * second / units) +ℤ (offset *ℤ pos second)
+
+abbrev pub time_by : ℤ → Option ℕ
+time_by (pos n) = if nat_lt n (2 ^ 63) then Some n else None
+time_by (negsuc n) = None
+
+-- the same where it is a time: from 0 to 2^63 - 1
+abbrev pub time_in : ℕ → ℕ → ℤ → Option ℕ
+time_in ticks units offset = time_by (nanoseconds ticks units offset)
+
+-- the byte of a resolution: a negative power of ten, or with its top bit a negative power of two
+abbrev pub is_resolution : ℕ → Bool
+is_resolution byte = if nat_lt byte 128 then nat_le byte 12 else nat_le (byte - 128) 32
+
+-- how many units of this resolution make a second
+abbrev pub units_by : ℕ → ℕ
+units_by byte = if nat_lt byte 128 then 10 ^ byte else 2 ^ (byte - 128)
+
+-- microseconds, where no resolution is given
+abbrev pub microseconds : ℕ
+microseconds = 1000000

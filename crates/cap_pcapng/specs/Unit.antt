@@ -1,0 +1,119 @@
+-- A block behind the blocks in front of it: all of its checks, in order, what it declares, and its packet.
+use Rattle.std.specs.Prelude.{◌≡◌, ℕ, Bool, List, [], ◌∷◌, ◌++◌, length, nat_le, nat_lt, take, Option, None, is_some, unwrap_or}
+use Rattle.std.specs.List.{slice_get}
+use Rattle.std.specs.Option.{option_and_then, option_map, option_map_or, option_to_list}
+use Rattle.cap_octet.specs.Checks.{first_failing}
+use Rattle.cap_octet.specs.Packet.{Captured}
+use Rattle.cap_octet.specs.declared.fault.Fault.{Fault}
+use Rattle.cap_octet.specs.declared.fault.Fault.TheVariants.{Truncated, UnknownInterface, TimeOutOfRange, TooManyInterfaces}
+use Rattle.cap_octet.specs.declared.number.Order.{Order}
+use Rattle.cap_pcapng.specs.Block.{Parts, SectionParts, InterfaceParts, EnhancedParts, SimpleParts, SkippedParts, block_checks, data_checks, parts_in, simple_captured}
+use Rattle.cap_pcapng.specs.Frame.{frame_checks, frame_in}
+use Rattle.cap_pcapng.specs.Interface.{Described, described_in}
+use Rattle.cap_pcapng.specs.InterfaceOptions.{list_checks}
+use Rattle.cap_pcapng.specs.OptionList.{options_in}
+use Rattle.cap_pcapng.specs.Time.{time_in}
+use Rattle.cap_pcapng.specs.declared.frames.Frame.{Frame}
+
+-- how many interfaces a section may have
+abbrev pub most_interfaces : ℕ
+most_interfaces = 256
+
+-- what a section declares so far: its byte order, and its interfaces by their numbers
+pub record Section : Type 0 where
+  pub order : Order
+  pub interfaces : List Described
+
+-- the same before a block, empty where no section stands before it
+abbrev pub order_before : Option Section → Option Order
+order_before before = option_map (λ (s : Section). s.order) before
+
+abbrev pub interfaces_before : Option Section → List Described
+interfaces_before before = option_map_or (λ (s : Section). s.interfaces) before []
+
+-- the frame, the size and the parts of the block that a text begins with
+abbrev pub frame_behind : Option Section → List ℕ → Frame
+frame_behind before text = frame_in (order_before before) text
+
+abbrev pub block_size : Option Section → List ℕ → ℕ
+block_size before text = (frame_behind before text).length
+
+abbrev pub parts_behind : Option Section → List ℕ → Parts
+parts_behind before text = parts_in (frame_behind before text) text
+
+-- ---- the checks
+
+-- the time of so many ticks of an interface, if there is one
+abbrev pub time_of : Option Described → ℕ → Option ℕ
+time_of interface ticks = option_and_then (λ (i : Described). time_in ticks i.units i.offset) interface
+
+-- the captured length of a simple packet of an interface
+abbrev pub captured_of : Option Described → ℕ → ℕ
+captured_of interface orig = option_map_or (λ (i : Described). simple_captured orig i.snap) interface 0
+
+-- the checks that need the interfaces before the block
+abbrev pub checks_among : List Described → Parts → List (Bool × Fault)
+checks_among interfaces SectionParts = []
+checks_among interfaces (InterfaceParts link snap order options) =
+    (nat_lt (length interfaces) most_interfaces, TooManyInterfaces) ∷ list_checks [] (options_in order options)
+checks_among interfaces (EnhancedParts number ticks captured orig rest) =
+    (is_some (slice_get interfaces number), UnknownInterface)
+    ∷ data_checks captured rest
+    ++ (is_some (time_of (slice_get interfaces number) ticks), TimeOutOfRange)
+    ∷ []
+checks_among interfaces (SimpleParts orig rest) =
+    (is_some (slice_get interfaces 0), UnknownInterface) ∷ data_checks (captured_of (slice_get interfaces 0) orig) rest
+checks_among interfaces SkippedParts = []
+
+-- all checks of the block that a text begins with
+abbrev pub unit_checks : Option Section → List ℕ → List (Bool × Fault)
+unit_checks before text =
+    (nat_le 12 (length text), Truncated)
+    ∷ frame_checks (order_before before) text
+    ++ (nat_le (block_size before text) (length text), Truncated)
+    ∷ block_checks (frame_behind before text) text
+    ++ checks_among (interfaces_before before) (parts_behind before text)
+
+-- why a text doesn't begin with a block
+abbrev pub unit_fault : Option Section → List ℕ → Option Fault
+unit_fault before text = first_failing (unit_checks before text)
+
+-- These bytes are one block, which passes every check.
+pub record IsBlock (before : Option Section) (bytes : List ℕ) : Type 0 where
+  pub passes : unit_fault before bytes ≡ None
+  pub whole : length bytes ≡ block_size before bytes
+
+-- ---- what it declares and holds
+
+-- A section header begins a section without interfaces, and an interface gets the next number.
+abbrev pub section_by : Option Section → Order → Parts → Section
+section_by before order SectionParts = record { order = order; interfaces = [] }
+section_by before order (InterfaceParts link snap own options) =
+    record { order = order; interfaces = interfaces_before before ++ described_in link snap own options ∷ [] }
+section_by before order (EnhancedParts number ticks captured orig rest) = record { order = order; interfaces = interfaces_before before }
+section_by before order (SimpleParts orig rest) = record { order = order; interfaces = interfaces_before before }
+section_by before order SkippedParts = record { order = order; interfaces = interfaces_before before }
+
+abbrev pub section_after : Option Section → List ℕ → Section
+section_after before bytes = section_by before (frame_behind before bytes).order (parts_behind before bytes)
+
+-- a packet of an interface
+abbrev pub packet_of : Described → (time orig : ℕ) → List ℕ → Captured
+packet_of i time orig bytes = record { link = i.link; snap = i.snap; name = i.name; time = time; orig = orig; bytes = bytes }
+
+-- A simple packet is one of interface 0, at time 0.
+abbrev pub packet_by : List Described → Parts → Option Captured
+packet_by interfaces SectionParts = None
+packet_by interfaces (InterfaceParts link snap order options) = None
+packet_by interfaces (EnhancedParts number ticks captured orig rest) =
+    option_map
+    (λ (i : Described). packet_of i (unwrap_or (time_in ticks i.units i.offset) 0) orig (take captured rest))
+    (slice_get interfaces number)
+packet_by interfaces (SimpleParts orig rest) =
+    option_map
+    (λ (i : Described). packet_of i 0 orig (take (simple_captured orig i.snap) rest))
+    (slice_get interfaces 0)
+packet_by interfaces SkippedParts = None
+
+abbrev pub packets_in : Option Section → List ℕ → List Captured
+packets_in before bytes = option_to_list (packet_by (interfaces_before before) (parts_behind before bytes))

@@ -1,0 +1,71 @@
+-- Blocks as they are written, all of them little-endian.
+use Rattle.std.specs.Prelude.{ℕ, ◌+◌, ◌-◌, ◌/◌, ◌%◌, ◌^◌, Bool, List, [], ◌∷◌, ◌++◌, length, replicate, nat_le}
+use Rattle.byteorder.specs.Endian.{little_bytes}
+use Rattle.cap_octet.specs.Packet.{Captured}
+use Rattle.cap_octet.specs.declared.fault.Fault.{Fault}
+use Rattle.cap_octet.specs.declared.fault.Fault.TheVariants.{TooLong}
+use Rattle.cap_pcapng.specs.Frame.{byte_order_magic, most_block, section_type}
+use Rattle.cap_pcapng.specs.InterfaceOptions.{name_code, resolution_code}
+use Rattle.cap_pcapng.specs.Padding.{padded}
+
+-- type, total length, body, total length
+abbrev pub block_text : (type : ℕ) → (body : List ℕ) → List ℕ
+block_text type body =
+    little_bytes 4 type ++ little_bytes 4 (12 + length body) ++ body ++ little_bytes 4 (12 + length body)
+
+-- bytes, and zeros up to a multiple of four
+abbrev pub padded_text : List ℕ → List ℕ
+padded_text bytes = bytes ++ replicate (padded (length bytes) - length bytes) 0
+
+abbrev pub option_text : (code : ℕ) → (value : List ℕ) → List ℕ
+option_text code value = little_bytes 2 code ++ little_bytes 2 (length value) ++ padded_text value
+
+abbrev pub end_text : List ℕ
+end_text = little_bytes 2 0 ++ little_bytes 2 0
+
+-- byte-order magic, version 1.0, a section length that isn't told
+abbrev pub section_text : List ℕ
+section_text = block_text section_type
+    (little_bytes 4 byte_order_magic ++ little_bytes 2 1 ++ little_bytes 2 0 ++ little_bytes 8 (2 ^ 64 - 1))
+
+-- a name that is empty isn't written
+abbrev pub name_text : List ℕ → List ℕ
+name_text [] = []
+name_text (b ∷ bytes) = option_text name_code (b ∷ bytes)
+
+-- the resolution of nanoseconds
+abbrev pub resolution_text : List ℕ
+resolution_text = option_text resolution_code (9 ∷ [])
+
+-- link type, reserved, snap length, and the options
+abbrev pub interface_body : (link snap : ℕ) → (name : List ℕ) → List ℕ
+interface_body link snap name =
+    little_bytes 2 link ++ little_bytes 2 0 ++ little_bytes 4 snap ++ name_text name ++ resolution_text ++ end_text
+
+abbrev pub interface_text : (link snap : ℕ) → (name : List ℕ) → List ℕ
+interface_text link snap name = block_text 1 (interface_body link snap name)
+
+-- what of it stands in front of a name of this length, in a block of this total length
+abbrev pub interface_heading : (size link snap len : ℕ) → List ℕ
+interface_heading size link snap len =
+    little_bytes 4 1 ++ little_bytes 4 size ++ little_bytes 2 link ++ little_bytes 2 0 ++ little_bytes 4 snap
+    ++ little_bytes 2 name_code ++ little_bytes 2 len
+
+-- interface, time, captured length, original length, and the data
+abbrev pub packet_body : (number : ℕ) → Captured → List ℕ
+packet_body number p =
+    little_bytes 4 number ++ little_bytes 4 (p.time / 2 ^ 32) ++ little_bytes 4 (p.time % 2 ^ 32)
+    ++ little_bytes 4 (length p.bytes) ++ little_bytes 4 p.orig ++ padded_text p.bytes
+
+abbrev pub packet_text : (number : ℕ) → Captured → List ℕ
+packet_text number p = block_text 6 (packet_body number p)
+
+-- what of it stands in front of the data, in a block of this total length
+abbrev pub packet_heading : (size number : ℕ) → Captured → List ℕ
+packet_heading size number p =
+    little_bytes 4 6 ++ little_bytes 4 size ++ little_bytes 4 number ++ little_bytes 4 (p.time / 2 ^ 32)
+    ++ little_bytes 4 (p.time % 2 ^ 32) ++ little_bytes 4 (length p.bytes) ++ little_bytes 4 p.orig
+
+-- the checks of a packet that is to be written: its block isn't too long to be read
+abbrev pub fit_checks : Captured → List (Bool × Fault)
+fit_checks p = (nat_le (32 + padded (length p.bytes)) most_block, TooLong) ∷ []

@@ -1,0 +1,171 @@
+//! What blocks say, with their data lent.
+ghost use Rattle.std.specs.Prelude.{◌≡◌, None, Some, take, IfOk, IfErr};
+ghost use Rattle.cap_octet.specs.Checks.{checked, first_failing};
+ghost use Rattle.cap_pcapng.specs.Block.{EnhancedParts, InterfaceParts, SimpleParts, body_checks, data_checks, parts_in_body, simple_captured};
+ghost use Rattle.cap_pcapng.specs.declared.frames.BlockType.TheVariants as kind;
+
+use crate::options::{Options, padded_length};
+use cap_octet::{Fault, Order, u16_at, u32_at};
+
+/// A block that passed its own checks (draft-ietf-opsawg-pcapng, "Block Types").
+#[derive(Clone, Copy, Debug, PartialEq, Eq)]
+pub enum Block<'a> {
+    Section,
+    Interface(InterfaceBlock<'a>),
+    Enhanced(EnhancedBlock<'a>),
+    Simple(SimpleBlock<'a>),
+    /// A block of another type.
+    Skipped,
+}
+
+/// An interface description block.
+#[derive(Clone, Copy, Debug, PartialEq, Eq)]
+pub struct InterfaceBlock<'a> {
+    /// The link type (tcpdump.org's list of LINKTYPE_ values).
+    pub link: u16,
+    /// The snap length, in bytes; 0 is none.
+    pub snap: u32,
+    pub options: Options<'a>,
+}
+
+/// An enhanced packet block.
+#[derive(Clone, Copy, Debug, PartialEq, Eq)]
+pub struct EnhancedBlock<'a> {
+    /// The number of its interface, counted from 0 in its section.
+    pub interface: u32,
+    /// The time, in ticks of its interface.
+    pub ticks: u64,
+    /// The captured length, in bytes.
+    pub captured: u32,
+    /// The original length, in bytes.
+    pub orig: u32,
+    /// The padded data and what follows it in the body.
+    pub rest: &'a [u8],
+}
+
+/// A simple packet block.
+#[derive(Clone, Copy, Debug, PartialEq, Eq)]
+pub struct SimpleBlock<'a> {
+    /// The original length, in bytes.
+    pub orig: u32,
+    /// The padded data and what follows it in the body.
+    pub rest: &'a [u8],
+}
+
+/// Whether a body is that of a section header of version 1.0 or 1.2, or the first check that it fails.
+pub(crate) fn check_section(order: Order, body: &[u8]) -> Result<(), Fault>
+    ensures { result ≡ checked (first_failing (body_checks kind.Section order body.now)) tt }
+{
+    if body.len() < 16 {
+        return Err(Fault::BadBody);
+    }
+    let major = u16_at(order, body, 4);
+    let minor = u16_at(order, body, 6);
+    if major != 1 || (minor != 0 && minor != 2) {
+        return Err(Fault::BadVersion);
+    }
+    Ok(())
+}
+
+/// The captured bytes at the front of what is left of a body, or fault 9 where it is shorter than they are with their
+/// padding.
+fn data_in(rest: &[u8], captured: u32) -> Result<&[u8], Fault>
+    ensures found { IfOk result (λ bytes. bytes.now ≡ take captured rest.now) }
+    ensures passes { IfOk result (λ _. first_failing (data_checks captured rest.now) ≡ None) }
+    ensures refused { IfErr result (λ fault. first_failing (data_checks captured rest.now) ≡ Some fault) }
+{
+    if padded_length(u64::from(captured)) > rest.len() as u64 {
+        return Err(Fault::BadBody);
+    }
+    Ok(&rest[..captured as usize])
+}
+
+impl<'a> InterfaceBlock<'a> {
+    /// Reads a body, or tells that it is shorter than 8 bytes.
+    pub(crate) fn of(order: Order, body: &'a [u8]) -> Result<Self, Fault>
+        ensures found { IfOk result (λ b.
+            InterfaceParts b.link b.snap b.options.order b.options.rest.now ≡ parts_in_body kind.Interface order body.now) }
+        ensures passes { IfOk result (λ _. first_failing (body_checks kind.Interface order body.now) ≡ None) }
+        ensures refused { IfErr result (λ fault. first_failing (body_checks kind.Interface order body.now) ≡ Some fault) }
+    {
+        if body.len() < 8 {
+            return Err(Fault::BadBody);
+        }
+        Ok(InterfaceBlock {
+            link: u16_at(order, body, 0),
+            snap: u32_at(order, body, 4),
+            options: Options::new(order, &body[8..]),
+        })
+    }
+}
+
+impl<'a> EnhancedBlock<'a> {
+    /// Reads a body, or tells that it is shorter than 20 bytes.
+    pub(crate) fn of(order: Order, body: &'a [u8]) -> Result<Self, Fault>
+        ensures found { IfOk result (λ b.
+            EnhancedParts b.interface b.ticks b.captured b.orig b.rest.now ≡ parts_in_body kind.EnhancedPacket order body.now) }
+        ensures passes { IfOk result (λ _. first_failing (body_checks kind.EnhancedPacket order body.now) ≡ None) }
+        ensures refused { IfErr result (λ fault. first_failing (body_checks kind.EnhancedPacket order body.now) ≡ Some fault) }
+    {
+        if body.len() < 20 {
+            return Err(Fault::BadBody);
+        }
+        let high = u64::from(u32_at(order, body, 4));
+        let low = u64::from(u32_at(order, body, 8));
+        Ok(EnhancedBlock {
+            interface: u32_at(order, body, 0),
+            ticks: high * 4_294_967_296 + low,
+            captured: u32_at(order, body, 12),
+            orig: u32_at(order, body, 16),
+            rest: &body[20..],
+        })
+    }
+
+    /// The captured bytes, or fault 9 where the body is shorter than they are with their padding.
+    pub fn data(&self) -> Result<&'a [u8], Fault>
+        ensures found { IfOk result (λ bytes. bytes.now ≡ take self.now.captured self.now.rest.now) }
+        ensures passes { IfOk result (λ _. first_failing (data_checks self.now.captured self.now.rest.now) ≡ None) }
+        ensures refused { IfErr result (λ fault. first_failing (data_checks self.now.captured self.now.rest.now) ≡ Some fault) }
+    {
+        data_in(self.rest, self.captured)
+    }
+}
+
+impl<'a> SimpleBlock<'a> {
+    /// Reads a body, or tells that it is shorter than 4 bytes.
+    pub(crate) fn of(order: Order, body: &'a [u8]) -> Result<Self, Fault>
+        ensures found { IfOk result (λ b. SimpleParts b.orig b.rest.now ≡ parts_in_body kind.SimplePacket order body.now) }
+        ensures passes { IfOk result (λ _. first_failing (body_checks kind.SimplePacket order body.now) ≡ None) }
+        ensures refused { IfErr result (λ fault. first_failing (body_checks kind.SimplePacket order body.now) ≡ Some fault) }
+    {
+        if body.len() < 4 {
+            return Err(Fault::BadBody);
+        }
+        Ok(SimpleBlock {
+            orig: u32_at(order, body, 0),
+            rest: &body[4..],
+        })
+    }
+
+    /// The captured length, in bytes, where the interface has this snap length.
+    pub fn captured(&self, snap: u32) -> u32
+        ensures { result ≡ simple_captured self.now.orig snap }
+    {
+        if snap == 0 {
+            self.orig
+        } else {
+            self.orig.min(snap)
+        }
+    }
+
+    /// The captured bytes where the interface has this snap length, or fault 9 where the body is shorter than they are
+    /// with their padding.
+    pub fn data(&self, snap: u32) -> Result<&'a [u8], Fault>
+        ensures found { IfOk result (λ bytes. bytes.now ≡ take (simple_captured self.now.orig snap) self.now.rest.now) }
+        ensures passes { IfOk result (λ _. first_failing (data_checks (simple_captured self.now.orig snap) self.now.rest.now) ≡ None) }
+        ensures refused { IfErr result (λ fault.
+            first_failing (data_checks (simple_captured self.now.orig snap) self.now.rest.now) ≡ Some fault) }
+    {
+        data_in(self.rest, self.captured(snap))
+    }
+}

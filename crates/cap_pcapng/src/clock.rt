@@ -1,0 +1,63 @@
+//! How the ticks of an interface become times.
+ghost use Rattle.std.specs.Prelude.{◌≡◌, ◌<◌, ◌^◌, if◌then◌else◌, IfOk};
+ghost use Rattle.std.specs.Option.{ok_or};
+ghost use Rattle.cap_pcapng.specs.Time.{is_resolution, time_in, units_by};
+
+use cap_octet::Fault;
+
+/// Nanoseconds in a second.
+const SECOND: u32 = 1_000_000_000;
+
+/// The bit of a resolution that tells a power of two.
+const POWER_OF_TWO: u8 = 128;
+
+/// The greatest negative power of ten that a resolution may be.
+const MOST_OF_TEN: u8 = 12;
+
+/// The greatest negative power of two that a resolution may be.
+const MOST_OF_TWO: u8 = 32;
+
+/// The resolution and the offset of an interface's ticks.
+#[derive(Clone, Copy, Debug, PartialEq, Eq)]
+pub struct Clock {
+    /// How many ticks make a second.
+    pub units: u64,
+    /// What is added to each time, in seconds.
+    pub offset: i64,
+    ghost moves: { 0 < units },
+}
+
+/// How many units of a resolution make a second, or fault 12 where its power is above 12 of ten or 32 of two
+/// (draft-ietf-opsawg-pcapng, option if_tsresol).
+pub(crate) fn units_of(resolution: u8) -> Result<u64, Fault>
+    ensures answer { result ≡ (if is_resolution resolution then Ok (units_by resolution) else Err Fault.BadTimeResolution) }
+    ensures some { IfOk result (λ units. 0 < units) }
+{
+    if resolution < POWER_OF_TWO {
+        if resolution > MOST_OF_TEN {
+            return Err(Fault::BadTimeResolution);
+        }
+        return Ok(10u64.pow(u32::from(resolution)));
+    }
+    let power = resolution - POWER_OF_TWO;
+    if power > MOST_OF_TWO {
+        return Err(Fault::BadTimeResolution);
+    }
+    Ok(1 << power)
+}
+
+impl Clock {
+    /// Nanoseconds since 1970-01-01 00:00:00 UTC at a tick, cut to whole ones, or fault 10 where they are not from 0 to
+    /// 2^63 - 1.
+    pub fn time(&self, ticks: u64) -> Result<u64, Fault>
+        ensures answer { result ≡ ok_or (time_in ticks self.now.units self.now.offset) Fault.TimeOutOfRange }
+        ensures in_range { IfOk result (λ time. time < 2 ^ 63) }
+    {
+        let whole = u128::from(ticks) * u128::from(SECOND) / u128::from(self.units);
+        let time = whole as i128 + i128::from(self.offset) * i128::from(SECOND);
+        if time < 0 || time >= 1 << 63 {
+            return Err(Fault::TimeOutOfRange);
+        }
+        Ok(time as u64)
+    }
+}

@@ -1,0 +1,176 @@
+//! Interfaces, as their options describe them.
+ghost use Rattle.std.specs.Prelude.{◌≡◌, ◌≤◌, ◌<◌, if◌then◌else◌, [], length, slice_index, None, Some, IfOk, IfErr};
+ghost use Rattle.cap_octet.specs.Checks.{checked, first_failing};
+ghost use Rattle.cap_pcapng.specs.InterfaceOptions.{name_checks, resolution_checks, offset_checks, first_checks, value_for, name_code, resolution_code, offset_code, units_told, offset_told};
+
+use crate::blocks::InterfaceBlock;
+use crate::clock::{Clock, units_of};
+use crate::options::{BlockOption, Options};
+use byteorder::{BigEndian, ByteOrder, LittleEndian};
+use cap_octet::{Fault, Order};
+
+/// The code of a name (option if_name).
+const NAME: u16 = 2;
+
+/// The code of a resolution (option if_tsresol).
+const RESOLUTION: u16 = 9;
+
+/// The code of an offset (option if_tsoffset).
+const OFFSET: u16 = 14;
+
+/// The greatest length of a name, in bytes.
+const MOST_NAME: usize = 255;
+
+/// How many ticks make a second where no resolution is given.
+const MICROSECONDS: u64 = 1_000_000;
+
+/// An interface, with its name lent.
+#[derive(Clone, Copy, Debug, PartialEq, Eq)]
+pub struct Interface<'a> {
+    /// The link type (tcpdump.org's list of LINKTYPE_ values).
+    pub link: u16,
+    /// The snap length, in bytes; 0 is none.
+    pub snap: u32,
+    /// Empty where there is none.
+    pub name: &'a [u8],
+    /// How the ticks of its packets become times.
+    pub clock: Clock,
+    ghost short_name: { length name.now ≤ 255 },
+}
+
+/// What was found in the options so far: the first of each code.
+#[derive(Clone, Copy)]
+struct Found<'a> {
+    name: Option<&'a [u8]>,
+    units: Option<u64>,
+    offset: Option<i64>,
+}
+
+/// Whether a name has at most 255 bytes, else fault 8.
+fn check_name(value: &[u8]) -> Result<(), Fault>
+    ensures answer { result ≡ checked (first_failing (name_checks value.now)) tt }
+    ensures short { IfOk result (λ _. length value.now ≤ 255) }
+{
+    if value.len() > MOST_NAME {
+        return Err(Fault::BadOption);
+    }
+    Ok(())
+}
+
+/// The units of a resolution, which has one byte, else fault 8, and is in range, else fault 12.
+fn units_in(value: &[u8]) -> Result<u64, Fault>
+    ensures answer { result ≡ checked (first_failing (resolution_checks value.now)) (units_told value.now) }
+    ensures some { IfOk result (λ units. 0 < units) }
+{
+    if value.len() != 1 {
+        return Err(Fault::BadOption);
+    }
+    units_of(value[0])
+}
+
+/// An offset, which has eight bytes, else fault 8.
+#[tactic(auto, unfolding(cap_octet::specs::Number::number_in))]
+fn offset_in(order: Order, value: &[u8]) -> Result<i64, Fault>
+    ensures { result ≡ checked (first_failing (offset_checks value.now)) (offset_told order value.now) }
+{
+    if value.len() != 8 {
+        return Err(Fault::BadOption);
+    }
+    Ok(match order {
+        Order::Little => LittleEndian::read_i64(value),
+        Order::Big => BigEndian::read_i64(value),
+    })
+}
+
+impl<'a> Found<'a> {
+    ghost use Rattle.std.specs.Option.{option_copied, option_map, option_or};
+    ghost use Rattle.cap_pcapng.specs.Interface.{IsFound, IsSound, is_found};
+    ghost use Rattle.cap_pcapng.specs.InterfaceOptions.{given, list_checks};
+    ghost use Rattle.cap_pcapng.specs.OptionList.{coded_value, options_left};
+
+    /// What is found in one option more, or the first check that this fails, if it is the first of its code.
+    fn with(self, order: Order, option: BlockOption<'a>) -> Result<Self, Fault>
+        ensures name { IfOk result (λ next. option_copied next.name
+            ≡ option_or (option_copied self.entry.name) (value_for name_code (coded_value option.entry))) }
+        ensures units { IfOk result (λ next. next.units
+            ≡ option_or self.entry.units (option_map units_told (value_for resolution_code (coded_value option.entry)))) }
+        ensures offset { IfOk result (λ next. next.offset
+            ≡ option_or self.entry.offset (option_map (offset_told order) (value_for offset_code (coded_value option.entry)))) }
+        ensures sound { IsSound self.entry → IfOk result IsSound }
+        ensures passes { IfOk result (λ _. first_failing
+            (if is_found self.entry option.entry.code then [] else first_checks (coded_value option.entry)) ≡ None) }
+        ensures refused { IfErr result (λ fault. first_failing
+            (if is_found self.entry option.entry.code then [] else first_checks (coded_value option.entry)) ≡ Some fault) }
+    {
+        let Found {
+            name,
+            units,
+            offset,
+        } = self;
+        match option.code {
+            NAME if name.is_none() => {
+                check_name(option.value)?;
+                Ok(Found {
+                    name: Some(option.value),
+                    units,
+                    offset,
+                })
+            }
+            RESOLUTION if units.is_none() => Ok(Found {
+                name,
+                units: Some(units_in(option.value)?),
+                offset,
+            }),
+            OFFSET if offset.is_none() => Ok(Found {
+                name,
+                units,
+                offset: Some(offset_in(order, option.value)?),
+            }),
+            _ => Ok(self),
+        }
+    }
+
+    /// What the options say, or the first check that they fail.
+    fn of(options: Options<'a>) -> Result<Self, Fault>
+        ensures found { IfOk result (IsFound options.entry.order (given (options_left options.entry))) }
+        ensures sound { IfOk result IsSound }
+        ensures passes { IfOk result (λ _. first_failing (list_checks [] (options_left options.entry)) ≡ None) }
+        ensures refused { IfErr result (λ fault. first_failing (list_checks [] (options_left options.entry)) ≡ Some fault) }
+    {
+        let mut found = Found {
+            name: None,
+            units: None,
+            offset: None,
+        };
+        for option in options {
+            found = found.with(options.order, option?)?;
+        }
+        Ok(found)
+    }
+}
+
+impl<'a> InterfaceBlock<'a> {
+    ghost use Rattle.cap_pcapng.specs.Interface.{described, described_in};
+    ghost use Rattle.cap_pcapng.specs.InterfaceOptions.{options_fault};
+
+    /// The interface that the block describes, or the first check that its options fail, in their order: a value that
+    /// doesn't fit, a first name of more than 255 bytes, a first resolution of other than 1 byte or a first offset of
+    /// other than 8 (fault 8), a first resolution out of range (fault 12).
+    pub fn described(&self) -> Result<Interface<'a>, Fault>
+        ensures found { IfOk result (λ interface. described interface
+            ≡ described_in self.now.link self.now.snap self.now.options.order self.now.options.rest.now) }
+        ensures passes { IfOk result (λ _. options_fault self.now.options.order self.now.options.rest.now ≡ None) }
+        ensures refused { IfErr result (λ fault. options_fault self.now.options.order self.now.options.rest.now ≡ Some fault) }
+    {
+        let found = Found::of(self.options)?;
+        Ok(Interface {
+            link: self.link,
+            snap: self.snap,
+            name: found.name.unwrap_or(&[]),
+            clock: Clock {
+                units: found.units.unwrap_or(MICROSECONDS),
+                offset: found.offset.unwrap_or(0),
+            },
+        })
+    }
+}

@@ -1,0 +1,17 @@
+//! What the definitions say of one another: blocks that were written read back as what they were written of.
+ghost use Rattle.cap_pcapng.specs.Laws.{InterfaceBack, PacketBack, SectionBack};
+
+/// A section header that was written begins a little-endian section without interfaces.
+pub fn section_back()
+    ensures { SectionBack }
+{}
+
+/// An interface that was written gets the next number of its section, and its ticks are nanoseconds.
+pub fn interface_back()
+    ensures { InterfaceBack }
+{}
+
+/// A packet that was written is the one packet of its block.
+pub fn packet_back()
+    ensures { PacketBack }
+{}

@@ -1,0 +1,25 @@
+//! Blocks of pcapng files (draft-ietf-opsawg-pcapng), one at a time: read in both byte orders, and written.
+//!
+//! Nothing here takes memory but `Table::push`.
+#![tactic(auto)]
+
+pub mod blocks;
+pub mod clock;
+pub mod frames;
+pub mod interface;
+pub mod laws;
+pub mod options;
+pub mod read;
+pub mod table;
+#[cfg(test)]
+mod tests;
+pub mod write;
+
+pub use blocks::{Block, EnhancedBlock, InterfaceBlock, SimpleBlock};
+pub use clock::Clock;
+pub use frames::{BlockType, Frame};
+pub use interface::Interface;
+pub use options::{BlockOption, Options};
+pub use read::{block, frame};
+pub use table::Table;
+pub use write::{fits, section_bytes, write_interface, write_packet};

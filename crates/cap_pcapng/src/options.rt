@@ -1,0 +1,77 @@
+//! Options: codes and values, one after another, at the end of a block's body.
+ghost use Rattle.std.specs.Prelude.{◌≡◌, ◌+◌, ◌<◌, ◌^◌};
+ghost use Rattle.cap_pcapng.specs.Padding.{padded};
+
+use cap_octet::{Fault, Order, u16_at};
+
+/// The code that ends a list of options.
+const END: u16 = 0;
+
+/// The options of a block, in order, up to code 0 or the end of their bytes. A value that doesn't fit in the bytes is
+/// fault 8, and nothing comes behind it (draft-ietf-opsawg-pcapng, "Options").
+#[derive(Clone, Copy, Debug, PartialEq, Eq)]
+pub struct Options<'a> {
+    /// The byte order of the block.
+    pub order: Order,
+    /// The bytes of the options that are left.
+    pub rest: &'a [u8],
+}
+
+/// An option, with its value lent.
+#[derive(Clone, Copy, Debug, PartialEq, Eq)]
+pub struct BlockOption<'a> {
+    pub code: u16,
+    pub value: &'a [u8],
+}
+
+/// A length with the padding to a multiple of four.
+pub(crate) fn padded_length(length: u64) -> u64
+    requires { length + 3 < 2 ^ 64 }
+    ensures { result ≡ padded length }
+{
+    (length + 3) / 4 * 4
+}
+
+impl<'a> Options<'a> {
+    /// The options in these bytes.
+    pub(crate) fn new(order: Order, rest: &'a [u8]) -> Self
+        ensures order { result.order ≡ order }
+        ensures rest { result.rest.now ≡ rest.now }
+    {
+        Options { order, rest }
+    }
+}
+
+impl<'a> Iterator for Options<'a> {
+    type Item = Result<BlockOption<'a>, Fault>;
+
+    ghost use Rattle.std.specs.Iterator.{YieldsFirstBy, item_count};
+    ghost use Rattle.cap_pcapng.specs.OptionList.{item_of, options_left};
+
+    ghost next_gives = { YieldsFirstBy item_of options_left };
+
+    ghost remaining = { item_count options_left };
+
+    fn next(&mut self) -> Option<Result<BlockOption<'a>, Fault>> {
+        let order = self.order;
+        let rest = self.rest;
+        if rest.len() < 4 {
+            return None;
+        }
+        let code = u16_at(order, rest, 0);
+        if code == END {
+            return None;
+        }
+        let size = 4 + usize::from(u16_at(order, rest, 2));
+        if rest.len() < size {
+            self.rest = &[];
+            return Some(Err(Fault::BadOption));
+        }
+        let behind = rest.len().min(padded_length(size as u64) as usize);
+        self.rest = &rest[behind..];
+        Some(Ok(BlockOption {
+            code,
+            value: &rest[4..size],
+        }))
+    }
+}

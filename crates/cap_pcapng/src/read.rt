@@ -1,0 +1,77 @@
+//! A block is read in two steps: its first 12 bytes, then all of them.
+ghost use Rattle.std.specs.Prelude.{◌≡◌, ◌≤◌, ◌%◌, length, IfOk, IfErr, None, Some};
+ghost use Rattle.cap_octet.specs.Checks.{checked};
+ghost use Rattle.cap_pcapng.specs.Block.{block_fault, parts_in, parts_of};
+ghost use Rattle.cap_pcapng.specs.Frame.{frame_fault, frame_in, most_block};
+
+use crate::blocks::{Block, EnhancedBlock, InterfaceBlock, SimpleBlock, check_section};
+use crate::frames::{BlockType, Frame, order_of};
+use cap_octet::{Fault, Order, u32_at};
+
+/// The type of a section header block, which reads the same in both orders.
+const SECTION_TYPE: u32 = 0x0a0d_0d0a;
+
+/// The greatest total length of a block that is read, in bytes.
+const MOST_BLOCK: u32 = 1_048_576;
+
+/// Reads the first 12 bytes of a block that stands behind a section of this byte order, or behind none; or tells the
+/// first check that they fail: no section before a block of another type, no byte-order magic in a section header, a
+/// total length below 12 or no multiple of 4, a total length above 1,048,576.
+pub fn frame(section: Option<Order>, bytes: &[u8; 12]) -> Result<Frame, Fault>
+    ensures answer { result ≡ checked (frame_fault section bytes.now) (frame_in section bytes.now) }
+    ensures shortest { IfOk result (λ frame. 12 ≤ frame.length) }
+    ensures longest { IfOk result (λ frame. frame.length ≤ most_block) }
+    ensures whole { IfOk result (λ frame. frame.length % 4 ≡ 0) }
+{
+    let is_section = u32_at(Order::Little, bytes, 0) == SECTION_TYPE;
+    let order = if is_section {
+        order_of(bytes).ok_or(Fault::BadByteOrderMagic)?
+    } else {
+        section.ok_or(Fault::NotACaptureFile)?
+    };
+    let length = u32_at(order, bytes, 4);
+    if length < 12 || length % 4 != 0 {
+        return Err(Fault::BadBlockLength);
+    }
+    if length > MOST_BLOCK {
+        return Err(Fault::TooLong);
+    }
+    let block_type = if is_section {
+        BlockType::Section
+    } else {
+        BlockType::of(u32_at(order, bytes, 0))
+    };
+    Ok(Frame {
+        order,
+        block_type,
+        length,
+    })
+}
+
+/// Reads a whole block, whose first 12 bytes this frame was read from and which has as many bytes as that says; or
+/// tells the first check that it fails: the two total lengths differ, an obsolete packet block, a body that is too
+/// short for its type, a section header of another version than 1.0 and 1.2.
+pub fn block<'a>(frame: &Frame, bytes: &'a [u8]) -> Result<Block<'a>, Fault>
+    requires whole { length bytes.now ≡ frame.now.length }
+    requires shortest { 12 ≤ frame.now.length }
+    ensures parts { IfOk result (λ block. parts_of block ≡ parts_in frame.now bytes.now) }
+    ensures passes { IfOk result (λ _. block_fault frame.now bytes.now ≡ None) }
+    ensures refused { IfErr result (λ fault. block_fault frame.now bytes.now ≡ Some fault) }
+{
+    let end = bytes.len() - 4;
+    if u32_at(frame.order, bytes, end) != frame.length {
+        return Err(Fault::BadBlockLength);
+    }
+    let body = &bytes[8..end];
+    match frame.block_type {
+        BlockType::Section => {
+            check_section(frame.order, body)?;
+            Ok(Block::Section)
+        }
+        BlockType::Interface => Ok(Block::Interface(InterfaceBlock::of(frame.order, body)?)),
+        BlockType::ObsoletePacket => Err(Fault::ObsoletePacketBlock),
+        BlockType::SimplePacket => Ok(Block::Simple(SimpleBlock::of(frame.order, body)?)),
+        BlockType::EnhancedPacket => Ok(Block::Enhanced(EnhancedBlock::of(frame.order, body)?)),
+        BlockType::Other => Ok(Block::Skipped),
+    }
+}

@@ -1,0 +1,139 @@
+//! The interfaces of a section.
+ghost use Rattle.std.specs.Prelude.{◌≡◌, ◌≤◌, ◌<◌, ◌↔◌, [], ◌∷◌, ◌++◌, length, IsTrue, OnOk, OnErr, IfErr};
+
+use crate::clock::Clock;
+use crate::interface::Interface;
+use cap_octet::Fault;
+use std::alloc::{Allocator, Global};
+use std::marker::Model;
+
+/// The greatest number of interfaces in a section.
+const MOST_INTERFACES: usize = 256;
+
+/// An interface that holds its name.
+#[derive(Drop)]
+struct Entry {
+    link: u16,
+    snap: u32,
+    clock: Clock,
+    name_len: u8,
+    name: [u8; 255],
+}
+
+impl Model for Entry {
+    ghost use Rattle.std.specs.Prelude.{take};
+    ghost use Rattle.cap_pcapng.specs.Interface.{Described};
+
+    ghost Value = { Described };
+
+    ghost view = { λ e. record {
+      link = e.link;
+      snap = e.snap;
+      name = take e.name_len e.name;
+      units = e.clock.units;
+      offset = e.clock.offset;
+    } };
+}
+
+impl Entry {
+    ghost use Rattle.cap_pcapng.specs.Interface.{described};
+
+    fn new(interface: &Interface<'_>) -> Self
+        ensures { result ≡ described interface.now }
+    {
+        let len = interface.name.len();
+        let mut name = [0; 255];
+        name[..len].copy_from_slice(interface.name);
+        Entry {
+            link: interface.link,
+            snap: interface.snap,
+            clock: interface.clock,
+            name_len: len as u8,
+            name,
+        }
+    }
+
+    fn interface(&self) -> Interface<'_>
+        ensures { described result ≡ self.now }
+    {
+        Interface {
+            link: self.link,
+            snap: self.snap,
+            name: &self.name[..usize::from(self.name_len)],
+            clock: self.clock,
+        }
+    }
+}
+
+/// The interfaces of a section by their numbers, at most 256. Contracts see a list.
+#[derive(Drop)]
+pub struct Table<A: Allocator = Global> {
+    entries: Vec<Entry, A>,
+}
+
+impl<A: Allocator> Model for Table<A> {
+    ghost use Rattle.std.specs.Prelude.{◌≤◌, List, length};
+    ghost use Rattle.cap_pcapng.specs.Interface.{Described};
+
+    ghost Value = { List Described };
+
+    ghost view = { λ t. t.entries.items };
+
+    ghost invariant = { λ t. length t.entries.items ≤ 256 };
+}
+
+impl<A: Allocator> Table<A> {
+    ghost use Rattle.std.specs.Prelude.{slice_get};
+    ghost use Rattle.std.specs.Option.{option_map};
+    ghost use Rattle.cap_pcapng.specs.Interface.{described};
+
+    /// A table without interfaces. It takes no memory.
+    pub fn new(alloc: A) -> Self
+        ensures { result ≡ [] }
+    {
+        Table {
+            entries: Vec::new(alloc),
+        }
+    }
+
+    /// Whether there are 256 interfaces.
+    pub fn is_full(&self) -> bool
+        ensures full { IsTrue result ↔ (length self.now ≡ 256) }
+        ensures bounded { length self.now ≤ 256 }
+    {
+        self.entries.len() == MOST_INTERFACES
+    }
+
+    /// Forgets all interfaces, and keeps the memory for those to come.
+    pub fn clear(&mut self)
+        ensures { self.new ≡ [] }
+    {
+        self.entries.clear();
+    }
+
+    /// Gives an interface the next number. A full table is fault 11, and a growth that is refused fault 16; either
+    /// leaves the table.
+    pub fn push(&mut self, interface: &Interface<'_>) -> Result<(), Fault>
+        ensures pushed { OnOk result (self.new ≡ self.old ++ described interface.now ∷ []) }
+        ensures kept { OnErr result (self.new ≡ self.old) }
+        ensures full { (result ≡ Err Fault.TooManyInterfaces) ↔ (length self.old ≡ 256) }
+        ensures no_memory { IfErr result (λ fault. length self.old < 256 → fault ≡ Fault.NoMemory) }
+    {
+        if self.is_full() {
+            return Err(Fault::TooManyInterfaces);
+        }
+        match self.entries.push(Entry::new(interface)) {
+            Ok(()) => Ok(()),
+            Err(_) => Err(Fault::NoMemory),
+        }
+    }
+
+    /// The interface with this number, if there is one.
+    pub fn get(&self, number: u32) -> Option<Interface<'_>>
+        ensures { option_map described result ≡ slice_get self.now number }
+    {
+        self.entries
+            .get(number as usize)
+            .map(|entry| entry.interface())
+    }
+}

@@ -1,0 +1,310 @@
+//! Captures over memory, from the words of a line to the bytes that are written and told.
+
+use crate::line::{Line, command_of};
+use cap_octet::{TrialInput, TrialOutput};
+use cap_tools::run;
+use std::alloc::AllocError;
+use std::test::Fail;
+
+/// The header of a little-endian capture of microseconds.
+const HEAD: [u8; 24] = [
+    0xd4, 0xc3, 0xb2, 0xa1, 2, 0, 4, 0, 0, 0, 0, 0, 0, 0, 0, 0, 0, 0, 4, 0, 1, 0, 0, 0,
+];
+
+/// How many bytes a run may write here.
+const ROOM: usize = 300_000;
+
+/// What a run wrote and told, and its status.
+#[derive(Drop)]
+struct Outcome {
+    status: u8,
+    written: Vec<u8>,
+    told: Vec<u8>,
+}
+
+/// Runs `capkit edit -F pcap in out` with more words over memory, `piece` bytes a call. The input fails at its read
+/// number `at`, if there is one, and the output has room for so many bytes.
+fn trial(
+    rt: &HostRuntime,
+    more: &[&str],
+    capture: &[u8],
+    piece: usize,
+    at: Option<u64>,
+    room: usize,
+) -> Result<Outcome, Fail>
+    requires { 0 < piece }
+{
+    let mut words = Vec::new(rt.alloc());
+    for word in ["capkit", "edit", "-F", "pcap", "in", "out"] {
+        words.push(String::from_str(rt.alloc(), word)?)?;
+    }
+    for word in more {
+        words.push(String::from_str(rt.alloc(), word)?)?;
+    }
+    let Line {
+        command,
+        inputs: mut names,
+        output,
+        code: _,
+    } = command_of(rt.alloc(), words)?;
+    if names.len() != 1 {
+        return Err(Fail::from("not one input"));
+    }
+    names.push(output.ok_or("no output")?)?;
+    let mut inputs = Vec::new(rt.alloc());
+    inputs.push(TrialInput::new(capture, piece, at))?;
+    let mut out = vec![in rt.alloc(); 0u8; room]?;
+    let mut err = vec![in rt.alloc(); 0u8; 200]?;
+    let (status, out, err) = run(
+        rt.alloc(),
+        command,
+        names,
+        inputs,
+        TrialOutput::new(out.as_mut_slice(), piece),
+        TrialOutput::new(err.as_mut_slice(), piece),
+    );
+    Ok(Outcome {
+        status,
+        written: out.written().to_vec(rt.alloc())?,
+        told: err.written().to_vec(rt.alloc())?,
+    })
+}
+
+/// Whether an edit, by many bytes a call and by one, writes these bytes and tells this message. It answers 1 where it
+/// tells something, and else 0.
+fn gives(
+    rt: &HostRuntime,
+    more: &[&str],
+    capture: &[u8],
+    written: &[u8],
+    told: &str,
+) -> Result<bool, Fail> {
+    for piece in [ROOM, 1] {
+        let outcome = trial(rt, more, capture, piece, None, ROOM)?;
+        if outcome.written.as_slice() != written
+            || outcome.told.as_slice() != told.as_bytes()
+            || outcome.status != u8::from(!told.is_empty())
+        {
+            return Ok(false);
+        }
+    }
+    Ok(true)
+}
+
+/// A little-endian record at so many seconds and that fraction, which says that it has `captured` bytes.
+fn record(
+    rt: &HostRuntime,
+    fraction: u32,
+    captured: u32,
+    data: &[u8],
+) -> Result<Vec<u8>, AllocError> {
+    let mut bytes = Vec::new(rt.alloc());
+    for number in [1, fraction, captured, captured] {
+        bytes.extend_from_slice(&number.to_le_bytes())?;
+    }
+    bytes.extend_from_slice(data)?;
+    Ok(bytes)
+}
+
+/// The header and then the parts.
+fn capture(rt: &HostRuntime, head: &[u8; 24], parts: &[&[u8]]) -> Result<Vec<u8>, AllocError> {
+    let mut bytes = head.as_slice().to_vec(rt.alloc())?;
+    for part in parts {
+        bytes.extend_from_slice(part)?;
+    }
+    Ok(bytes)
+}
+
+#[test]
+fn ranges_of_four_packets(rt: HostRuntime) -> Result<(), Fail> {
+    let one = record(&rt, 0, 1, &[1])?;
+    let two = record(&rt, 0, 2, &[2, 2])?;
+    let three = record(&rt, 0, 3, &[3, 3, 3])?;
+    let last = record(&rt, 0, 4, &[4, 4, 4, 4])?;
+    let all = four(&rt)?;
+    assert_eq!(rt; all.len(), 98);
+    let outer = capture(&rt, &HEAD, &[&one, &last])?;
+    assert_eq!(rt; outer.len(), 61);
+    let inner = capture(&rt, &HEAD, &[&two, &three])?;
+    assert!(rt; gives(&rt, &[], &all, &all, "")?);
+    assert!(rt; gives(&rt, &["2-3"], &all, &outer, "")?);
+    assert!(rt; gives(&rt, &["-r", "2-3"], &all, &inner, "")?);
+    assert!(rt; gives(&rt, &["-r", "2-3", "3", "9"], &all, &inner, "")?);
+    assert!(rt; gives(&rt, &["-r"], &all, &HEAD, "")?);
+    assert!(rt; gives(&rt, &["1-4"], &all, &HEAD, "")?);
+    Ok(())
+}
+
+#[test]
+fn captures_without_packets(rt: HostRuntime) -> Result<(), Fail> {
+    let none = "capkit: in: offset 0: not a capture file\n";
+    let cut = "capkit: in: offset 0: truncated\n";
+    assert!(rt; gives(&rt, &[], &HEAD, &HEAD, "")?);
+    assert!(rt; gives(&rt, &[], &[], &[], none)?);
+    assert!(rt; gives(&rt, &[], &HEAD[..3], &[], none)?);
+    assert!(rt; gives(&rt, &[], &HEAD[..23], &[], cut)?);
+    Ok(())
+}
+
+#[test]
+fn headers_that_are_refused(rt: HostRuntime) -> Result<(), Fail> {
+    let mut version = HEAD;
+    version[6] = 3;
+    let mut link = HEAD;
+    link[22] = 1;
+    assert!(rt;
+        gives(
+            &rt,
+            &[],
+            &version,
+            &[],
+            "capkit: in: offset 0: bad version\n"
+        )?
+    );
+    assert!(rt;
+        gives(
+            &rt,
+            &[],
+            &link,
+            &[],
+            "capkit: in: offset 0: bad link type field\n"
+        )?
+    );
+    Ok(())
+}
+
+#[test]
+fn big_endian_nanoseconds(rt: HostRuntime) -> Result<(), Fail> {
+    let input = [
+        0xa1, 0xb2, 0x3c, 0x4d, 0, 2, 0, 4, 0, 0, 0, 0, 0, 0, 0, 0, 0, 4, 0, 0, 0, 0, 0, 1, 0, 0,
+        0, 1, 0x3b, 0x9a, 0xc9, 0xff, 0, 0, 0, 1, 0, 0, 0, 1, 0xff,
+    ];
+    let cut = [
+        1, 0, 0, 0, 0x3f, 0x42, 0x0f, 0, 1, 0, 0, 0, 1, 0, 0, 0, 0xff,
+    ];
+    let output = capture(&rt, &HEAD, &[&cut])?;
+    assert_eq!(rt; output.len(), 41);
+    assert!(rt; gives(&rt, &[], &input, &output, "")?);
+    Ok(())
+}
+
+#[test]
+fn fractions_of_a_second(rt: HostRuntime) -> Result<(), Fail> {
+    let mut nano = HEAD;
+    nano[0] = 0x4d;
+    nano[1] = 0x3c;
+    let late = "capkit: in: offset 24: time out of range\n";
+    let long = "capkit: in: offset 24: too long\n";
+    let last = record(&rt, 999_999, 1, &[7])?;
+    let kept = capture(&rt, &HEAD, &[&last])?;
+    assert!(rt; gives(&rt, &[], &kept, &kept, "")?);
+    let past = capture(&rt, &HEAD, &[&record(&rt, 1_000_000, 1, &[7])?])?;
+    assert!(rt; gives(&rt, &[], &past, &[], late)?);
+    let second = capture(&rt, &nano, &[&record(&rt, 1_000_000_000, 1, &[7])?])?;
+    assert!(rt; gives(&rt, &[], &second, &[], late)?);
+    let both = capture(&rt, &nano, &[&record(&rt, 1_000_000_000, 262_145, &[7])?])?;
+    assert!(rt; gives(&rt, &[], &both, &[], long)?);
+    Ok(())
+}
+
+#[test]
+fn a_truncated_record(rt: HostRuntime) -> Result<(), Fail> {
+    let whole = record(&rt, 5, 60, &[9; 60])?;
+    let input = capture(
+        &rt,
+        &HEAD,
+        &[&whole, &whole, whole.get(..75).ok_or("no front")?],
+    )?;
+    let output = capture(&rt, &HEAD, &[&whole, &whole])?;
+    assert_eq!(rt; output.len(), 176);
+    assert!(rt;
+        gives(
+            &rt,
+            &[],
+            &input,
+            &output,
+            "capkit: in: offset 176: truncated\n"
+        )?
+    );
+    Ok(())
+}
+
+#[test]
+fn the_longest_record(rt: HostRuntime) -> Result<(), Fail> {
+    let data = vec![in rt.alloc(); 3u8; 262_145]?;
+    let most = data.get(..262_144).ok_or("no front")?;
+    let longest = capture(&rt, &HEAD, &[&record(&rt, 0, 262_144, most)?])?;
+    assert!(rt; gives(&rt, &[], &longest, &longest, "")?);
+    let longer = capture(&rt, &HEAD, &[&record(&rt, 0, 262_145, &data)?])?;
+    assert!(rt; gives(&rt, &[], &longer, &[], "capkit: in: offset 24: too long\n")?);
+    Ok(())
+}
+
+/// Four records of 1, 2, 3 and 4 bytes, at the offsets 24, 41, 59 and 78.
+fn four(rt: &HostRuntime) -> Result<Vec<u8>, AllocError> {
+    let one = record(rt, 0, 1, &[1])?;
+    let two = record(rt, 0, 2, &[2, 2])?;
+    let three = record(rt, 0, 3, &[3, 3, 3])?;
+    let four = record(rt, 0, 4, &[4, 4, 4, 4])?;
+    capture(rt, &HEAD, &[&one, &two, &three, &four])
+}
+
+#[test]
+fn reads_that_fail(rt: HostRuntime) -> Result<(), Fail> {
+    let all = four(&rt)?;
+    for piece in [1, 7, 98] {
+        let mut offset = 0;
+        for at in 1..120 {
+            let outcome = trial(&rt, &[], all.as_slice(), piece, Some(at), 98)?;
+            let written = outcome.written.as_slice();
+            if outcome.status == 0 {
+                assert_eq!(rt; written, all.as_slice(), "read {at}");
+                continue;
+            }
+            let told = outcome.told.as_slice();
+            let next = [0, 24, 41, 59, 78, 98]
+                .into_iter()
+                .find(|k| is_read_failed(told, *k));
+            let at_offset = next.ok_or("another message")?;
+            assert!(rt; offset <= at_offset, "read {at}");
+            offset = at_offset;
+            let before = if offset <= 24 { 0 } else { offset };
+            assert_eq!(rt; Some(written), all.get(..before), "read {at}");
+        }
+        assert_eq!(rt; offset, 98);
+    }
+    Ok(())
+}
+
+fn is_read_failed(told: &[u8], offset: usize) -> bool {
+    let message = match offset {
+        0 => "capkit: in: offset 0: read failed\n",
+        24 => "capkit: in: offset 24: read failed\n",
+        41 => "capkit: in: offset 41: read failed\n",
+        59 => "capkit: in: offset 59: read failed\n",
+        78 => "capkit: in: offset 78: read failed\n",
+        _ => "capkit: in: offset 98: read failed\n",
+    };
+    told == message.as_bytes()
+}
+
+#[test]
+fn writes_that_fail(rt: HostRuntime) -> Result<(), Fail> {
+    let all = four(&rt)?;
+    for piece in [1, ROOM] {
+        for room in 0..98 {
+            let outcome = trial(&rt, &[], all.as_slice(), piece, None, room)?;
+            assert_eq!(rt; outcome.status, 1);
+            assert_eq!(rt;
+                outcome.told.as_slice(),
+                b"capkit: out: write failed\n".as_slice()
+            );
+            assert_eq!(rt;
+                Some(outcome.written.as_slice()),
+                all.get(..room),
+                "room {room}"
+            );
+        }
+    }
+    Ok(())
+}

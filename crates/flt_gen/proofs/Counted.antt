@@ -1,0 +1,355 @@
+-- The counts of an expression's formula are at most those of its tree.
+use Rattle.std.proofs.Common.{◌≡◌, ℕ, ◌+◌, ◌≤◌, max, min, List, [], ◌∷◌, Bool, true, false, Option, Some, None, refl, ◌∙◌, arith}
+use Rattle.std.specs.Prelude.{◌||◌}
+use Rattle.flt_words.specs.declared.token.Protocol.{Protocol}
+use Rattle.flt_words.specs.declared.token.Protocol.TheVariants as protocol
+use Rattle.flt_words.specs.declared.token.Side.TheVariants.{Source, Destination}
+use Rattle.flt_words.specs.declared.token.Join.TheVariants.{And, Or}
+use Rattle.flt_words.specs.declared.token.Size.TheVariants as size
+use Rattle.flt_words.specs.declared.token.Cast.{Cast}
+use Rattle.flt_words.specs.declared.token.Cast.TheVariants.{Broadcast, Multicast}
+use Rattle.flt_words.specs.declared.token.ValueType.{ValueType}
+use Rattle.flt_words.specs.declared.token.ValueType.TheVariants.{Host, Net, Port, PortRange, Proto}
+use Rattle.flt_lang.specs.declared.quals.Direction.{Direction}
+use Rattle.flt_lang.specs.declared.quals.Direction.TheVariants as direction
+use Rattle.flt_lang.specs.declared.value.Value.{Value}
+use Rattle.flt_lang.specs.declared.value.Value.TheVariants as value
+use Rattle.flt_lang.specs.Tree.{NumberTree, literal, len, load, negated, applied, TruthTree, check, cast, sized, bare, valued, qualified, compared, denied, joined}
+use Rattle.flt_lang.specs.Counts as count
+use Rattle.flt_lang.specs.Resolved.{is_unfilled, any_primitive}
+use Rattle.flt_gen.specs.declared.link.Link.{Link}
+use Rattle.flt_gen.specs.declared.elementary.Kind.{Kind}
+use Rattle.flt_gen.specs.declared.elementary.Kind.TheVariants as kind
+use Rattle.flt_gen.specs.declared.elementary.Place.{Place}
+use Rattle.flt_gen.specs.declared.elementary.Elementary.{Elementary}
+use Rattle.flt_gen.specs.declared.elementary.Ports.{Ports}
+use Rattle.flt_gen.specs.declared.elementary.Ports.TheVariants.{One, Between}
+use Rattle.flt_gen.specs.declared.elementary.Place.TheVariants.{At, Past}
+use Rattle.flt_gen.specs.Elementary.{network, has_ip_proto, has_ip6_proto}
+use Rattle.flt_gen.specs.Numbers.{accessors, accessor_tests}
+use Rattle.flt_gen.specs.Formula.{Formula, Single, Compare, Both, Either, all_of, sides, checked, guarded}
+use Rattle.flt_gen.specs.Primitives.{ip_proto, ip6_proto, any_proto, mac_tests, check_formula, cast_formula, proto_formula, net_of_kind, net_formula, ip6_formula, ether_host, port_formula, port_tests, transport, value_formula}
+use Rattle.flt_gen.specs.Reading.{formula}
+use Rattle.flt_gen.specs.Counts.{tests, nodes, words}
+
+check_tests_are : (link : Link) (p : Protocol) → tests (check_formula link p) ≡ count.check_tests p
+check_tests_are link protocol.Ether = refl
+check_tests_are link protocol.Ip = refl
+check_tests_are link protocol.Ip6 = refl
+check_tests_are link protocol.Arp = refl
+check_tests_are link protocol.Rarp = refl
+check_tests_are link protocol.Tcp = refl
+check_tests_are link protocol.Udp = refl
+check_tests_are link protocol.Icmp = refl
+check_tests_are link protocol.Icmp6 = refl
+
+cast_tests_fit : (link : Link) (p : Option Protocol) (c : Cast) → tests (cast_formula link p c) ≤ count.cast_tests c
+cast_tests_fit link None Broadcast = omega arith
+cast_tests_fit link (Some protocol.Ether) Broadcast = omega arith
+cast_tests_fit link (Some _) Broadcast = omega arith
+cast_tests_fit link None Multicast = omega arith
+cast_tests_fit link (Some protocol.Ether) Multicast = omega arith
+cast_tests_fit link (Some protocol.Ip) Multicast = omega arith
+cast_tests_fit link (Some protocol.Ip6) Multicast = omega arith
+cast_tests_fit link (Some _) Multicast = omega arith
+
+proto_tests_fit : (link : Link) (p : Option Protocol) (n : ℕ) → tests (proto_formula link p n) ≤ count.proto_tests p
+proto_tests_fit link None n = omega arith
+proto_tests_fit link (Some protocol.Ip) n = omega arith
+proto_tests_fit link (Some protocol.Ip6) n = omega arith
+proto_tests_fit link (Some protocol.Ether) n = omega arith
+proto_tests_fit link (Some _) n = omega arith
+
+ether_tests_are : (link : Link) (d : Direction) (a : ℕ) → tests (ether_host link d a) ≡ count.ether_tests d
+ether_tests_are link (direction.One Source) a = refl
+ether_tests_are link (direction.One Destination) a = refl
+ether_tests_are link (direction.Both Or) a = refl
+ether_tests_are link (direction.Both And) a = refl
+
+ip6_tests_are : (link : Link) (d : Direction) (prefix : Option ℕ) (a : ℕ) → tests (ip6_formula link d prefix a) ≡ count.ip6_tests d
+ip6_tests_are link (direction.One Source) prefix a = refl
+ip6_tests_are link (direction.One Destination) prefix a = refl
+ip6_tests_are link (direction.Both Or) prefix a = refl
+ip6_tests_are link (direction.Both And) prefix a = refl
+
+-- one test a side
+one_a_side : (d : Direction) (s t : Elementary) → tests (sides d (s ∷ []) (t ∷ [])) ≡ count.side_tests d 1
+one_a_side (direction.One Source) s t = refl
+one_a_side (direction.One Destination) s t = refl
+one_a_side (direction.Both Or) s t = refl
+one_a_side (direction.Both And) s t = refl
+
+two_a_side : (d : Direction) (s s' t t' : Elementary) → tests (sides d (s ∷ s' ∷ []) (t ∷ t' ∷ [])) ≡ count.side_tests d 2
+two_a_side (direction.One Source) s s' t t' = refl
+two_a_side (direction.One Destination) s s' t t' = refl
+two_a_side (direction.Both Or) s s' t t' = refl
+two_a_side (direction.Both And) s s' t t' = refl
+
+kind_tests_fit : (link : Link) (k : Kind) (d : Direction) (mask : Option ℕ) (a : ℕ) → tests (net_of_kind link k d mask a) ≤ 1 + count.side_tests d 1
+kind_tests_fit link k (direction.One Source) mask a = omega arith
+kind_tests_fit link k (direction.One Destination) mask a = omega arith
+kind_tests_fit link k (direction.Both Or) mask a = omega arith
+kind_tests_fit link k (direction.Both And) mask a = omega arith
+
+net_tests_fit : (link : Link) (p : Option Protocol) (d : Direction) (mask : Option ℕ) (a : ℕ) → tests (net_formula link p d mask a) ≤ count.ip4_tests p d
+net_tests_fit link None (direction.One Source) mask a = omega arith
+net_tests_fit link None (direction.One Destination) mask a = omega arith
+net_tests_fit link None (direction.Both Or) mask a = omega arith
+net_tests_fit link None (direction.Both And) mask a = omega arith
+net_tests_fit link (Some protocol.Ip) d mask a = kind_tests_fit link kind.Ip d mask a
+net_tests_fit link (Some protocol.Arp) d mask a = kind_tests_fit link kind.Arp d mask a
+net_tests_fit link (Some protocol.Rarp) d mask a = kind_tests_fit link kind.Rarp d mask a
+net_tests_fit link (Some _) d mask a = omega arith
+
+transport_tests_fit : (p : Option Protocol) (s t : Elementary) → tests (transport p s t) ≤ count.transport_tests p
+transport_tests_fit None s t = omega arith
+transport_tests_fit (Some protocol.Tcp) s t = omega arith
+transport_tests_fit (Some protocol.Udp) s t = omega arith
+transport_tests_fit (Some _) s t = omega arith
+
+-- how many tests a side has
+abbrev a_side : Ports → ℕ
+a_side (One n) = 1
+a_side (Between a b) = 2
+
+sides_tests : (d : Direction) (ports : Ports) (s t : Place) → tests (sides d (port_tests ports s) (port_tests ports t)) ≡ count.side_tests d (a_side ports)
+sides_tests (direction.One Source) (One n) s t = refl
+sides_tests (direction.One Destination) (One n) s t = refl
+sides_tests (direction.Both Or) (One n) s t = refl
+sides_tests (direction.Both And) (One n) s t = refl
+sides_tests (direction.One Source) (Between a b) s t = refl
+sides_tests (direction.One Destination) (Between a b) s t = refl
+sides_tests (direction.Both Or) (Between a b) s t = refl
+sides_tests (direction.Both And) (Between a b) s t = refl
+
+port_tests_fit : (link : Link) (p : Option Protocol) (d : Direction) (ports : Ports) → tests (port_formula link p d ports) ≤ count.port_tests p d (a_side ports)
+port_tests_fit link p d ports =
+    let l = network link in
+    let a = sides_tests d ports (Past l l) (Past l (l + 2)) in
+    let b = sides_tests d ports (At (l + 40)) (At (l + 42)) in
+    let t = transport_tests_fit p (has_ip_proto link 6) (has_ip_proto link 17) in
+    let u = transport_tests_fit p (has_ip6_proto link 6) (has_ip6_proto link 17) in
+    omega arith
+
+some_ip4 : (p : Option Protocol) (d : Direction) → 1 ≤ count.ip4_tests p d
+some_ip4 None d = omega arith
+some_ip4 (Some p) d = omega arith
+
+some_proto : (p : Option Protocol) → 1 ≤ count.proto_tests p
+some_proto None = omega arith
+some_proto (Some p) = omega arith
+
+value_tests_fit : (link : Link) (k : ValueType) (p : Option Protocol) (d : Direction) (v : Value) → tests (value_formula link k p d v) ≤ count.typed_tests k p d v
+value_tests_fit link Host p d (value.Number n m) = some_ip4 p d
+value_tests_fit link Host p d (value.Dotted a m) = net_tests_fit link p d None a.address
+value_tests_fit link Host p d (value.Ip6 a n) = omega (arith, ip6_tests_are link d None a)
+value_tests_fit link Host p d (value.Mac a) = omega (arith, ether_tests_are link d a)
+value_tests_fit link Host p d (value.Range a b) = some_ip4 p d
+value_tests_fit link Net p d (value.Number n m) = net_tests_fit link p d _ _
+value_tests_fit link Net p d (value.Dotted a m) = net_tests_fit link p d _ _
+value_tests_fit link Net p d (value.Ip6 a n) = omega (arith, ip6_tests_are link d n a)
+value_tests_fit link Net p d (value.Mac a) = omega arith
+value_tests_fit link Net p d (value.Range a b) = some_ip4 p d
+value_tests_fit link Port p d (value.Number n m) = port_tests_fit link p d (One n)
+value_tests_fit link Port p d _ = omega arith
+value_tests_fit link PortRange p d (value.Range a b) = port_tests_fit link p d (Between (min a b) (max a b))
+value_tests_fit link PortRange p d _ = omega arith
+value_tests_fit link Proto p d (value.Number n m) = proto_tests_fit link p n
+value_tests_fit link Proto p d _ = some_proto p
+
+accessor_tests_are : (link : Link) (p : Protocol) (f : Formula) → tests (guarded (accessor_tests link p) f) ≡ count.accessor_tests p + tests f
+accessor_tests_are link protocol.Ether f = refl
+accessor_tests_are link protocol.Ip f = refl
+accessor_tests_are link protocol.Ip6 f = refl
+accessor_tests_are link protocol.Arp f = refl
+accessor_tests_are link protocol.Rarp f = refl
+accessor_tests_are link protocol.Tcp f = omega arith
+accessor_tests_are link protocol.Udp f = omega arith
+accessor_tests_are link protocol.Icmp f = omega arith
+accessor_tests_are link protocol.Icmp6 f = refl
+
+checked_tests : (link : Link) (a : NumberTree) (rest : List Protocol) (f : Formula) → tests (checked link (accessors a rest) f) ≡ count.number_tests a + tests (checked link rest f)
+checked_tests link (literal n) rest f = omega arith
+checked_tests link len rest f = omega arith
+checked_tests link (load p s a) rest f =
+    let h = checked_tests link a rest f in
+    let t = accessor_tests_are link p (checked link (accessors a rest) f) in
+    omega arith
+checked_tests link (negated a) rest f = checked_tests link a rest f
+checked_tests link (applied o a b) rest f =
+    let h = checked_tests link a (accessors b rest) f in
+    let k = checked_tests link b rest f in
+    omega arith
+
+left_false : (a b : Bool) → (a || b) ≡ false → a ≡ false
+left_false true b e = cc
+left_false false b e = refl
+
+right_false : (a b : Bool) → (a || b) ≡ false → b ≡ false
+right_false true b e = cc
+right_false false b e = e
+
+-- each test of an expression's formula is counted
+pub tests_fit : (link : Link) (a : TruthTree) → any_primitive is_unfilled a ≡ false → tests (formula link a) ≤ count.truth_tests a
+tests_fit link (check p) e = omega (arith, check_tests_are link p)
+tests_fit link (cast p c) e = cast_tests_fit link p c
+tests_fit link (sized size.Less n) e = omega arith
+tests_fit link (sized size.Greater n) e = omega arith
+tests_fit link (bare v) e = cc
+tests_fit link (valued q v) e = cc
+tests_fit link (qualified q v) e = value_tests_fit link q.value_type q.protocol q.direction v
+tests_fit link (compared c l r) e =
+    let h = checked_tests link l (accessors r []) (Compare c l r) in
+    let k = checked_tests link r [] (Compare c l r) in
+    omega arith
+tests_fit link (denied a) e = tests_fit link a e
+tests_fit link (joined And a b) e =
+    let h = tests_fit link a (left_false _ _ e) in
+    let k = tests_fit link b (right_false _ _ e) in
+    omega arith
+tests_fit link (joined Or a b) e =
+    let h = tests_fit link a (left_false _ _ e) in
+    let k = tests_fit link b (right_false _ _ e) in
+    omega arith
+
+-- a formula without comparisons
+record Bare (f : Formula) : Type 0 where
+  no_nodes : nodes f ≡ 0
+  no_words : words f ≡ 0
+
+bare_one : (t : Elementary) → Bare (Single t)
+bare_one t = record { no_nodes = refl; no_words = refl }
+
+bare_both : (a b : Formula) → Bare a → Bare b → Bare (Both a b)
+bare_both a b h k = let n = h.no_nodes in let m = k.no_nodes in let v = h.no_words in let w = k.no_words in record { no_nodes = omega arith; no_words = omega arith }
+
+bare_either : (a b : Formula) → Bare a → Bare b → Bare (Either a b)
+bare_either a b h k = let n = h.no_nodes in let m = k.no_nodes in let v = h.no_words in let w = k.no_words in record { no_nodes = omega arith; no_words = omega arith }
+
+bare_all : (ts : List Elementary) → Bare (all_of ts)
+bare_all [] = bare_one _
+bare_all (t ∷ []) = bare_one t
+bare_all (t ∷ u ∷ ts) = bare_both (Single t) (all_of (u ∷ ts)) (bare_one t) (bare_all (u ∷ ts))
+
+bare_sides : (d : Direction) (s t : List Elementary) → Bare (sides d s t)
+bare_sides (direction.One Source) s t = bare_all s
+bare_sides (direction.One Destination) s t = bare_all t
+bare_sides (direction.Both Or) s t = bare_either (all_of s) (all_of t) (bare_all s) (bare_all t)
+bare_sides (direction.Both And) s t = bare_both (all_of s) (all_of t) (bare_all s) (bare_all t)
+
+bare_pair : (t u : Elementary) → Bare (Both (Single t) (Single u))
+bare_pair t u = bare_both (Single t) (Single u) (bare_one t) (bare_one u)
+
+bare_proto : (link : Link) (n : ℕ) → Bare (any_proto link n)
+bare_proto link n = bare_either (ip_proto link n) (ip6_proto link n) (bare_pair _ _) (bare_pair _ _)
+
+bare_check : (link : Link) (p : Protocol) → Bare (check_formula link p)
+bare_check link protocol.Ether = bare_one _
+bare_check link protocol.Ip = bare_one _
+bare_check link protocol.Ip6 = bare_one _
+bare_check link protocol.Arp = bare_one _
+bare_check link protocol.Rarp = bare_one _
+bare_check link protocol.Tcp = bare_proto link 6
+bare_check link protocol.Udp = bare_proto link 17
+bare_check link protocol.Icmp = bare_pair _ _
+bare_check link protocol.Icmp6 = bare_pair _ _
+
+bare_ether : (link : Link) (d : Direction) (a : ℕ) → Bare (ether_host link d a)
+bare_ether link d a = bare_both _ _ (bare_one _) (bare_sides d (mac_tests 6 a) (mac_tests 0 a))
+
+bare_cast : (link : Link) (p : Option Protocol) (c : Cast) → Bare (cast_formula link p c)
+bare_cast link None Broadcast = bare_ether link (direction.One Destination) 0xffff_ffff_ffff
+bare_cast link (Some protocol.Ether) Broadcast = bare_ether link (direction.One Destination) 0xffff_ffff_ffff
+bare_cast link (Some _) Broadcast = bare_one _
+bare_cast link None Multicast = bare_pair _ _
+bare_cast link (Some protocol.Ether) Multicast = bare_pair _ _
+bare_cast link (Some protocol.Ip) Multicast = bare_pair _ _
+bare_cast link (Some protocol.Ip6) Multicast = bare_pair _ _
+bare_cast link (Some _) Multicast = bare_one _
+
+bare_proto_value : (link : Link) (p : Option Protocol) (n : ℕ) → Bare (proto_formula link p n)
+bare_proto_value link None n = bare_proto link n
+bare_proto_value link (Some protocol.Ip) n = bare_pair _ _
+bare_proto_value link (Some protocol.Ip6) n = bare_pair _ _
+bare_proto_value link (Some protocol.Ether) n = bare_pair _ _
+bare_proto_value link (Some _) n = bare_one _
+
+bare_kind : (link : Link) (k : Kind) (d : Direction) (mask : Option ℕ) (a : ℕ) → Bare (net_of_kind link k d mask a)
+bare_kind link k d mask a = bare_both _ _ (bare_one _) (bare_sides d _ _)
+
+bare_net : (link : Link) (p : Option Protocol) (d : Direction) (mask : Option ℕ) (a : ℕ) → Bare (net_formula link p d mask a)
+bare_net link None d mask a =
+    bare_either _ _ (bare_kind link kind.Ip d mask a) (bare_either _ _ (bare_kind link kind.Arp d mask a) (bare_kind link kind.Rarp d mask a))
+bare_net link (Some protocol.Ip) d mask a = bare_kind link kind.Ip d mask a
+bare_net link (Some protocol.Arp) d mask a = bare_kind link kind.Arp d mask a
+bare_net link (Some protocol.Rarp) d mask a = bare_kind link kind.Rarp d mask a
+bare_net link (Some _) d mask a = bare_one _
+
+bare_ip6 : (link : Link) (d : Direction) (prefix : Option ℕ) (a : ℕ) → Bare (ip6_formula link d prefix a)
+bare_ip6 link d prefix a = bare_both _ _ (bare_one _) (bare_sides d _ _)
+
+bare_transport : (p : Option Protocol) (s t : Elementary) → Bare (transport p s t)
+bare_transport None s t = bare_either _ _ (bare_one s) (bare_one t)
+bare_transport (Some protocol.Tcp) s t = bare_one s
+bare_transport (Some protocol.Udp) s t = bare_one t
+bare_transport (Some _) s t = bare_one _
+
+bare_ports : (link : Link) (p : Option Protocol) (d : Direction) (ports : Ports) → Bare (port_formula link p d ports)
+bare_ports link p d ports =
+    bare_either _ _
+    (bare_both _ _ (bare_one _) (bare_both _ _ (bare_transport p _ _) (bare_both _ _ (bare_one _) (bare_sides d _ _))))
+    (bare_both _ _ (bare_one _) (bare_both _ _ (bare_transport p _ _) (bare_sides d _ _)))
+
+bare_value : (link : Link) (k : ValueType) (p : Option Protocol) (d : Direction) (v : Value) → Bare (value_formula link k p d v)
+bare_value link Host p d (value.Dotted a m) = bare_net link p d None a.address
+bare_value link Host p d (value.Ip6 a n) = bare_ip6 link d None a
+bare_value link Host p d (value.Mac a) = bare_ether link d a
+bare_value link Host p d _ = bare_one _
+bare_value link Net p d (value.Number n m) = bare_net link p d _ _
+bare_value link Net p d (value.Dotted a m) = bare_net link p d _ _
+bare_value link Net p d (value.Ip6 a n) = bare_ip6 link d n a
+bare_value link Net p d _ = bare_one _
+bare_value link Port p d (value.Number n m) = bare_ports link p d (One n)
+bare_value link Port p d _ = bare_one _
+bare_value link PortRange p d (value.Range a b) = bare_ports link p d (Between (min a b) (max a b))
+bare_value link PortRange p d _ = bare_one _
+bare_value link Proto p d (value.Number n m) = bare_proto_value link p n
+bare_value link Proto p d _ = bare_one _
+
+-- the tests of accessors add neither nodes nor words
+same_sizes : (link : Link) (ps : List Protocol) (f : Formula) → (nodes (checked link ps f) ≡ nodes f) × (words (checked link ps f) ≡ words f)
+same_sizes link [] f = (refl, refl)
+same_sizes link (p ∷ ps) f =
+    let h = same_sizes link ps f in
+    let g = guarded_sizes (accessor_tests link p) (checked link ps f) in
+    (g.0 ∙ h.0, g.1 ∙ h.1)
+  where
+    guarded_sizes : (ts : List Elementary) (f : Formula) → (nodes (guarded ts f) ≡ nodes f) × (words (guarded ts f) ≡ words f)
+    guarded_sizes [] f = (refl, refl)
+    guarded_sizes (t ∷ ts) f = let h = guarded_sizes ts f in let n = h.0 in let w = h.1 in (omega arith, omega arith)
+
+pub nodes_fit : (link : Link) (a : TruthTree) → nodes (formula link a) ≡ count.truth_size a
+nodes_fit link (check p) = (bare_check link p).no_nodes
+nodes_fit link (cast p c) = (bare_cast link p c).no_nodes
+nodes_fit link (sized size.Less n) = refl
+nodes_fit link (sized size.Greater n) = refl
+nodes_fit link (bare v) = refl
+nodes_fit link (valued q v) = refl
+nodes_fit link (qualified q v) = (bare_value link q.value_type q.protocol q.direction v).no_nodes
+nodes_fit link (compared c l r) = (same_sizes link (accessors l (accessors r [])) (Compare c l r)).0
+nodes_fit link (denied a) = nodes_fit link a
+nodes_fit link (joined And a b) = let h = nodes_fit link a in let k = nodes_fit link b in omega arith
+nodes_fit link (joined Or a b) = let h = nodes_fit link a in let k = nodes_fit link b in omega arith
+
+pub words_fit : (link : Link) (a : TruthTree) → words (formula link a) ≡ count.truth_words a
+words_fit link (check p) = (bare_check link p).no_words
+words_fit link (cast p c) = (bare_cast link p c).no_words
+words_fit link (sized size.Less n) = refl
+words_fit link (sized size.Greater n) = refl
+words_fit link (bare v) = refl
+words_fit link (valued q v) = refl
+words_fit link (qualified q v) = (bare_value link q.value_type q.protocol q.direction v).no_words
+words_fit link (compared c l r) = (same_sizes link (accessors l (accessors r [])) (Compare c l r)).1
+words_fit link (denied a) = words_fit link a
+words_fit link (joined And a b) = let h = words_fit link a in let k = words_fit link b in omega arith
+words_fit link (joined Or a b) = let h = words_fit link a in let k = words_fit link b in omega arith

@@ -1,0 +1,225 @@
+-- A jump stands only for a target that is too far for the test before it.
+use Rattle.std.proofs.Common.{◌≡◌, ℕ, zero, suc, ◌+◌, ◌-◌, ◌<◌, ◌≤◌, List, ◌∷◌, length, drop, Bool, true, false, Option, Some, None, refl, sym, ap, ◌∙◌, subst, arith, inl, inr}
+use Rattle.std.specs.Prelude.{◌≢◌, ◌⊎◌, slice_get, nat_le, ◌&&◌, if◌then◌else◌}
+use Rattle.std.proofs.lemmas.Bool.Decides.{nat_tests}
+use Rattle.flt_bpf.specs.declared.insn.Insn.{Insn}
+use Rattle.flt_bpf.specs.declared.operation.Width.{Width}
+use Rattle.flt_bpf.specs.declared.operation.Width.TheVariants.{Word, HalfWord, Byte}
+use Rattle.flt_bpf.specs.declared.operation.Test.{Test}
+use Rattle.flt_bpf.specs.declared.operation.Test.TheVariants as test
+use Rattle.flt_bpf.specs.declared.operation.Operand.{Operand}
+use Rattle.flt_bpf.specs.declared.operation.Operand.TheVariants.{Constant, IndexRegister}
+use Rattle.flt_words.specs.declared.token.Comparison.{Comparison}
+use Rattle.flt_words.specs.declared.token.Comparison.TheVariants.{Equal, NotEqual, Less, AtMost, Greater, AtLeast}
+use Rattle.flt_words.specs.declared.token.Operator.{Operator}
+use Rattle.flt_words.specs.declared.token.Operator.TheVariants.{Or, And, ShiftLeft, ShiftRight, Add, Subtract, Multiply, Divide}
+use Rattle.flt_words.specs.declared.token.Protocol.{Protocol}
+use Rattle.flt_words.specs.declared.token.Protocol.TheVariants.{Ether, Tcp, Udp, Icmp}
+use Rattle.flt_lang.specs.Tree.{NumberTree, literal, len, load, negated, applied}
+use Rattle.flt_gen.specs.declared.link.Link.{Link}
+use Rattle.flt_gen.specs.declared.elementary.Place.{Place}
+use Rattle.flt_gen.specs.declared.elementary.Place.TheVariants.{At, Past}
+use Rattle.flt_gen.specs.declared.elementary.Elementary.TheVariants.{Known, Field}
+use Rattle.flt_bpf.specs.Instructions.{operation_of}
+use Rattle.flt_gen.specs.Elementary.{network}
+use Rattle.flt_gen.specs.Numbers.{width_of}
+use Rattle.flt_gen.specs.Formula.{Formula, Single, Compare, Both, Either, Except}
+use Rattle.flt_gen.specs.Code.{plain, load_code, indirect_code, operator_code, test_code, branch_insn, jump_before, branch_before, comparison_before, field_before, mask_before, base_before, transport_before, accessor_before, number_before, Entered, at_top, emitted, NEAR}
+use Rattle.flt_gen.specs.Layout.{is_branch, JUMP, IsNeeded, JumpsAreNeeded}
+use Rattle.flt_gen.proofs.Tails.{tail, Extends, extends_none, extends_on, test_extends, relation_extends}
+
+pub load_no_jump : (w : Width) → load_code w ≢ JUMP
+load_no_jump Word = λ e. absurd (omega arith)
+load_no_jump HalfWord = λ e. absurd (omega arith)
+load_no_jump Byte = λ e. absurd (omega arith)
+
+pub indirect_no_jump : (w : Width) → indirect_code w ≢ JUMP
+indirect_no_jump Word = λ e. absurd (omega arith)
+indirect_no_jump HalfWord = λ e. absurd (omega arith)
+indirect_no_jump Byte = λ e. absurd (omega arith)
+
+pub operator_no_jump : (a : Operator) → operator_code a ≢ JUMP
+operator_no_jump Add = λ e. absurd (omega arith)
+operator_no_jump Subtract = λ e. absurd (omega arith)
+operator_no_jump Multiply = λ e. absurd (omega arith)
+operator_no_jump Divide = λ e. absurd (omega arith)
+operator_no_jump Or = λ e. absurd (omega arith)
+operator_no_jump And = λ e. absurd (omega arith)
+operator_no_jump ShiftLeft = λ e. absurd (omega arith)
+operator_no_jump ShiftRight = λ e. absurd (omega arith)
+
+pub branch_no_jump : (t : Test) (o : Operand) → test_code t o ≢ JUMP
+branch_no_jump test.Equal Constant = λ e. absurd (omega arith)
+branch_no_jump test.Greater Constant = λ e. absurd (omega arith)
+branch_no_jump test.AtLeast Constant = λ e. absurd (omega arith)
+branch_no_jump test.AnyBit Constant = λ e. absurd (omega arith)
+branch_no_jump test.Equal IndexRegister = λ e. absurd (omega arith)
+branch_no_jump test.Greater IndexRegister = λ e. absurd (omega arith)
+branch_no_jump test.AtLeast IndexRegister = λ e. absurd (omega arith)
+branch_no_jump test.AnyBit IndexRegister = λ e. absurd (omega arith)
+
+branch_tests : (t : Test) (o : Operand) (k jt jf : ℕ) → is_branch (operation_of (branch_insn t o k jt jf).code) ≡ true
+unfolding operation_of
+branch_tests test.Equal Constant k jt jf = refl
+branch_tests test.Greater Constant k jt jf = refl
+branch_tests test.AtLeast Constant k jt jf = refl
+branch_tests test.AnyBit Constant k jt jf = refl
+branch_tests test.Equal IndexRegister k jt jf = refl
+branch_tests test.Greater IndexRegister k jt jf = refl
+branch_tests test.AtLeast IndexRegister k jt jf = refl
+branch_tests test.AnyBit IndexRegister k jt jf = refl
+
+-- a jump of the code behind is needed in the whole
+one_later : (c : List Insn) (i : Insn) (place : ℕ) (jump : Insn) → IsNeeded c place jump → IsNeeded (i ∷ c) (suc place) jump
+one_later c i place jump h =
+    record { from = suc h.from; branch = h.branch; there = h.there; branches = h.branches; leads = later h.leads; far = omega (arith, h.far) }
+  where
+    later : (h.from + 1 + h.branch.jt ≡ place) ⊎ (h.from + 1 + h.branch.jf ≡ place) → (suc h.from + 1 + h.branch.jt ≡ suc place) ⊎ (suc h.from + 1 + h.branch.jf ≡ suc place)
+    later (inl e) = inl (omega arith)
+    later (inr e) = inr (omega arith)
+
+needed_put : (c : List Insn) (i : Insn) → i.code ≢ JUMP → JumpsAreNeeded c → JumpsAreNeeded (i ∷ c)
+needed_put c i other h = record { each = at }
+  where
+    at : (place : ℕ) (jump : Insn) → slice_get (i ∷ c) place ≡ Some jump → jump.code ≡ JUMP → IsNeeded (i ∷ c) place jump
+    at zero jump g e = let same : i ≡ jump = cc in absurd (other (ap (λ j. j.code) same ∙ e))
+    at (suc place) jump g e = one_later c i place jump (h.each place jump g e)
+
+-- a test and a jump for one of its ways
+needed_one : (c : List Insn) (t : Test) (o : Operand) (k jt jf to : ℕ) → (jt ≡ 0) ⊎ (jf ≡ 0) → NEAR < length c - to → JumpsAreNeeded c → JumpsAreNeeded (branch_insn t o k jt jf ∷ jump_before to c)
+needed_one c t o k jt jf to way far h = record { each = at }
+  where
+    all : List Insn
+    all = branch_insn t o k jt jf ∷ jump_before to c
+
+    leads : (jt ≡ 0) ⊎ (jf ≡ 0) → (0 + 1 + jt ≡ 1) ⊎ (0 + 1 + jf ≡ 1)
+    leads (inl e) = inl (omega arith)
+    leads (inr e) = inr (omega arith)
+
+    at : (place : ℕ) (jump : Insn) → slice_get all place ≡ Some jump → jump.code ≡ JUMP → IsNeeded all place jump
+    at zero jump g e = let same : branch_insn t o k jt jf ≡ jump = cc in absurd (branch_no_jump t o (ap (λ j. j.code) same ∙ e))
+    at (suc zero) jump g e =
+        let same : plain 5 (length c - to) ≡ jump = cc in
+        let offset : length c - to ≡ jump.k = ap (λ j. j.k) same in
+        record { from = 0; branch = branch_insn t o k jt jf; there = refl; branches = branch_tests t o k jt jf; leads = leads way; far = omega arith }
+    at (suc (suc place)) jump g e = one_later (jump_before to c) _ (suc place) jump (one_later c _ place jump (h.each place jump g e))
+
+-- a test and a jump for each of its ways
+needed_two : (c : List Insn) (t : Test) (o : Operand) (k hit miss : ℕ) → NEAR < length c + 1 - hit → NEAR < length c + 1 - miss → JumpsAreNeeded c → JumpsAreNeeded (branch_insn t o k 0 1 ∷ jump_before hit (jump_before miss c))
+needed_two c t o k hit miss far_hit far_miss h = record { each = at }
+  where
+    all : List Insn
+    all = branch_insn t o k 0 1 ∷ jump_before hit (jump_before miss c)
+
+    at : (place : ℕ) (jump : Insn) → slice_get all place ≡ Some jump → jump.code ≡ JUMP → IsNeeded all place jump
+    at zero jump g e = let same : branch_insn t o k 0 1 ≡ jump = cc in absurd (branch_no_jump t o (ap (λ j. j.code) same ∙ e))
+    at (suc zero) jump g e =
+        let same : plain 5 (length (jump_before miss c) - hit) ≡ jump = cc in
+        let offset : length (jump_before miss c) - hit ≡ jump.k = ap (λ j. j.k) same in
+        record { from = 0; branch = branch_insn t o k 0 1; there = refl; branches = branch_tests t o k 0 1; leads = inl refl; far = omega arith }
+    at (suc (suc zero)) jump g e =
+        let same : plain 5 (length c - miss) ≡ jump = cc in
+        let offset : length c - miss ≡ jump.k = ap (λ j. j.k) same in
+        record { from = 0; branch = branch_insn t o k 0 1; there = refl; branches = branch_tests t o k 0 1; leads = inr refl; far = omega arith }
+    at (suc (suc (suc place))) jump g e = one_later _ _ (suc (suc place)) jump (one_later _ _ (suc place) jump (one_later c _ place jump (h.each place jump g e)))
+
+needed_choice : (t : Test) (o : Operand) (k hit miss : ℕ) (c : List Insn) → JumpsAreNeeded c → (a b d : Bool) → a ≡ (nat_le (length c - hit) NEAR && nat_le (length c - miss) NEAR) → b ≡ nat_le (length c + 1 - miss) NEAR → d ≡ nat_le (length c + 1 - hit) NEAR → JumpsAreNeeded (if a then branch_insn t o k (length c - hit) (length c - miss) ∷ c else (if b then branch_insn t o k 0 (length c + 1 - miss) ∷ jump_before hit c else (if d then branch_insn t o k (length c + 1 - hit) 0 ∷ jump_before miss c else branch_insn t o k 0 1 ∷ jump_before hit (jump_before miss c))))
+needed_choice t o k hit miss c h true b d ea eb ed = needed_put c _ (branch_no_jump t o) h
+needed_choice t o k hit miss c h false true d ea eb ed =
+    let far : NEAR < length c - hit = grind (arith, nat_tests) in
+    needed_one c t o k 0 (length c + 1 - miss) hit (inl refl) far h
+needed_choice t o k hit miss c h false false true ea eb ed =
+    let far : NEAR < length c - miss = grind (arith, nat_tests) in
+    needed_one c t o k (length c + 1 - hit) 0 miss (inr refl) far h
+needed_choice t o k hit miss c h false false false ea eb ed =
+    let far_hit : NEAR < length c + 1 - hit = grind (arith, nat_tests) in
+    let far_miss : NEAR < length c + 1 - miss = grind (arith, nat_tests) in
+    needed_two c t o k hit miss far_hit far_miss h
+
+branch_needed : (t : Test) (o : Operand) (k hit miss : ℕ) (c : List Insn) → JumpsAreNeeded c → JumpsAreNeeded (branch_before t o k hit miss c)
+branch_needed t o k hit miss c h = needed_choice t o k hit miss c h _ _ _ refl refl refl
+
+field_needed : (place : Place) (w : Width) (c : List Insn) → JumpsAreNeeded c → JumpsAreNeeded (field_before place w c)
+field_needed (At k) w c h = needed_put c _ (load_no_jump w) h
+field_needed (Past header k) w c h = needed_put _ _ (λ e. absurd (omega arith)) (needed_put c _ (indirect_no_jump w) h)
+
+mask_needed : (mask : Option ℕ) (c : List Insn) → JumpsAreNeeded c → JumpsAreNeeded (mask_before mask c)
+mask_needed None c h = h
+mask_needed (Some mask) c h = needed_put c _ (λ e. absurd (omega arith)) h
+
+comparison_needed : (comparison : Comparison) (o : Operand) (k hit miss : ℕ) (c : List Insn) → JumpsAreNeeded c → JumpsAreNeeded (comparison_before comparison o k hit miss c)
+comparison_needed Equal o k hit miss c h = branch_needed test.Equal o k hit miss c h
+comparison_needed NotEqual o k hit miss c h = branch_needed test.Equal o k miss hit c h
+comparison_needed Less o k hit miss c h = branch_needed test.AtLeast o k miss hit c h
+comparison_needed AtMost o k hit miss c h = branch_needed test.Greater o k miss hit c h
+comparison_needed Greater o k hit miss c h = branch_needed test.Greater o k hit miss c h
+comparison_needed AtLeast o k hit miss c h = branch_needed test.AtLeast o k hit miss c h
+
+base_needed : (at : ℕ) (w : Width) (c : List Insn) → JumpsAreNeeded c → JumpsAreNeeded (base_before at w c)
+base_needed at w c h = needed_put _ _ (λ e. absurd (omega arith)) (needed_put c _ (indirect_no_jump w) h)
+
+transport_needed : (link : Link) (w : Width) (c : List Insn) → JumpsAreNeeded c → JumpsAreNeeded (transport_before link w c)
+transport_needed link w c h =
+    needed_put _ _ (λ e. absurd (omega arith)) (needed_put _ _ (λ e. absurd (omega arith)) (needed_put _ _ (λ e. absurd (omega arith)) (needed_put c _ (indirect_no_jump w) h)))
+
+accessor_needed : (link : Link) (protocol : Protocol) (w : Width) (c : List Insn) → JumpsAreNeeded c → JumpsAreNeeded (accessor_before link protocol w c)
+accessor_needed link Ether w c h = base_needed 0 w c h
+accessor_needed link Tcp w c h = transport_needed link w c h
+accessor_needed link Udp w c h = transport_needed link w c h
+accessor_needed link Icmp w c h = transport_needed link w c h
+accessor_needed link _ w c h = base_needed (network link) w c h
+
+number_needed : (link : Link) (e : NumberTree) (slot : ℕ) (c : List Insn) → JumpsAreNeeded c → JumpsAreNeeded (number_before link e slot c)
+number_needed link (literal k) slot c h = needed_put c _ (λ e. absurd (omega arith)) h
+number_needed link len slot c h = needed_put c _ (λ e. absurd (omega arith)) h
+number_needed link (negated a) slot c h = number_needed link a slot _ (needed_put c _ (λ e. absurd (omega arith)) h)
+number_needed link (load protocol size i) slot c h = number_needed link i slot _ (accessor_needed link protocol (width_of size) c h)
+number_needed link (applied operator l r) slot c h =
+    number_needed link l slot _ (needed_put _ _ (λ e. absurd (omega arith)) (number_needed link r (slot + 1) _ (needed_put _ _ (λ e. absurd (omega arith)) (needed_put _ _ (λ e. absurd (omega arith)) (needed_put c _ (operator_no_jump operator) h)))))
+
+-- the same of the code from the entry on
+pub record Needed (e : Entered) : Type 0 where
+  pub code : JumpsAreNeeded e.code
+  pub entered : JumpsAreNeeded (tail e.code e.entry)
+
+needed_top : (c : List Insn) → JumpsAreNeeded c → Needed (at_top c)
+needed_top c h =
+    let none : 0 ≡ length c - length c = omega arith in
+    record { code = h; entered = subst (λ k. JumpsAreNeeded (drop k c)) none h }
+
+needed_on : (c d : List Insn) (place : ℕ) → place ≤ length c → Extends c d → JumpsAreNeeded (tail c place) → JumpsAreNeeded (tail d place)
+needed_on c d place l e h = subst JumpsAreNeeded (sym (e.same place l)) h
+
+pub record Placed (e : Entered) (c : List Insn) : Type 0 where
+  pub needed : Needed e
+  pub inside : e.entry ≤ length e.code
+  pub extends : Extends c e.code
+
+pub emitted_needed : (link : Link) (f : Formula) (hit miss : ℕ) (c : List Insn) → hit ≤ length c → miss ≤ length c → JumpsAreNeeded c → JumpsAreNeeded (tail c hit) → JumpsAreNeeded (tail c miss) → Placed (emitted link f hit miss c) c
+emitted_needed link (Single (Known true)) hit miss c lh lm n h m = record { needed = record { code = n; entered = h }; inside = lh; extends = extends_none c }
+emitted_needed link (Single (Known false)) hit miss c lh lm n h m = record { needed = record { code = n; entered = m }; inside = lm; extends = extends_none c }
+emitted_needed link (Single (Field k)) hit miss c lh lm n h m =
+    record {
+      needed = needed_top _ (field_needed k.place k.width _ (mask_needed k.mask _ (comparison_needed k.comparison Constant k.value hit miss c n)));
+      inside = omega arith;
+      extends = test_extends k hit miss c;
+    }
+emitted_needed link (Compare comparison l r) hit miss c lh lm n h m =
+    record {
+      needed = needed_top _ (number_needed link l 0 _ (needed_put _ _ (λ e. absurd (omega arith)) (number_needed link r 1 _ (needed_put _ _ (λ e. absurd (omega arith)) (needed_put _ _ (λ e. absurd (omega arith)) (comparison_needed comparison IndexRegister 0 hit miss c n))))));
+      inside = omega arith;
+      extends = relation_extends link comparison l r hit miss c;
+    }
+emitted_needed link (Both a b) hit miss c lh lm n h m =
+    let e = emitted link b hit miss c in
+    let pb = emitted_needed link b hit miss c lh lm n h m in
+    let lm' : miss ≤ length e.code = omega (arith, pb.extends.longer) in
+    let pa = emitted_needed link a e.entry miss e.code pb.inside lm' pb.needed.code pb.needed.entered (needed_on c e.code miss lm pb.extends m) in
+    record { needed = pa.needed; inside = pa.inside; extends = extends_on c e.code _ pb.extends pa.extends }
+emitted_needed link (Either a b) hit miss c lh lm n h m =
+    let e = emitted link b hit miss c in
+    let pb = emitted_needed link b hit miss c lh lm n h m in
+    let lh' : hit ≤ length e.code = omega (arith, pb.extends.longer) in
+    let pa = emitted_needed link a hit e.entry e.code lh' pb.inside pb.needed.code (needed_on c e.code hit lh pb.extends h) pb.needed.entered in
+    record { needed = pa.needed; inside = pa.inside; extends = extends_on c e.code _ pb.extends pa.extends }
+emitted_needed link (Except a) hit miss c lh lm n h m = emitted_needed link a miss hit c lm lh n m h

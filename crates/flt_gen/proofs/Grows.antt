@@ -1,0 +1,240 @@
+-- The code of a formula has no fault, and no more instructions than its bound.
+use Rattle.std.proofs.Common.{◌≡◌, ℕ, ◌+◌, ◌-◌, ◌*◌, ◌<◌, ◌≤◌, List, [], ◌∷◌, length, true, false, Option, Some, None, refl, ap, ◌∙◌, arith}
+use Rattle.std.specs.Prelude.{nat_lt, nat_le, ◌&&◌}
+use Rattle.std.proofs.lemmas.Bool.Decides.{nat_tests}
+use Rattle.flt_bpf.specs.declared.insn.Insn.{Insn}
+use Rattle.flt_bpf.specs.declared.operation.Width.{Width}
+use Rattle.flt_bpf.specs.declared.operation.Width.TheVariants.{Word, HalfWord, Byte}
+use Rattle.flt_bpf.specs.declared.operation.Test.{Test}
+use Rattle.flt_bpf.specs.declared.operation.Test.TheVariants as test
+use Rattle.flt_bpf.specs.declared.operation.Operand.{Operand}
+use Rattle.flt_bpf.specs.declared.operation.Operand.TheVariants.{Constant, IndexRegister}
+use Rattle.flt_words.specs.declared.token.Comparison.{Comparison}
+use Rattle.flt_words.specs.declared.token.Comparison.TheVariants.{Equal, NotEqual, Less, AtMost, Greater, AtLeast}
+use Rattle.flt_words.specs.declared.token.Operator.{Operator}
+use Rattle.flt_words.specs.declared.token.Operator.TheVariants.{Or, And, ShiftLeft, ShiftRight, Add, Subtract, Multiply, Divide}
+use Rattle.flt_words.specs.declared.token.Protocol.{Protocol}
+use Rattle.flt_words.specs.declared.token.Protocol.TheVariants.{Ether, Tcp, Udp, Icmp}
+use Rattle.flt_lang.specs.Tree.{NumberTree, literal, len, load, negated, applied}
+use Rattle.flt_gen.specs.declared.link.Link.{Link}
+use Rattle.flt_gen.specs.declared.elementary.Place.{Place}
+use Rattle.flt_gen.specs.declared.elementary.Place.TheVariants.{At, Past}
+use Rattle.flt_gen.specs.declared.elementary.Elementary.TheVariants.{Known, Field}
+use Rattle.flt_bpf.specs.declared.fault.CheckFault.{CheckFault}
+use Rattle.flt_bpf.specs.declared.fault.CheckFault.TheVariants.{JumpOut, NoSuchWord}
+use Rattle.flt_bpf.specs.Instructions.{operation_of}
+use Rattle.flt_bpf.specs.Check.{fault_of, unless, ends_in_return}
+use Rattle.flt_gen.specs.Elementary.{network}
+use Rattle.flt_gen.specs.Numbers.{width_of}
+use Rattle.flt_gen.specs.Formula.{Formula, Single, Compare, Both, Either, Except}
+use Rattle.flt_lang.specs.Counts.{number_words, number_size}
+use Rattle.flt_gen.specs.Counts.{words, nodes, tests}
+use Rattle.flt_gen.specs.Code.{plain, load_code, indirect_code, operator_code, branch_insn, jump_before, branch_before, comparison_before, field_before, mask_before, base_before, transport_before, accessor_before, number_before, Entered, at_top, emitted, NEAR}
+use Rattle.flt_bpf.proofs.Suffix.{IsFaultless}
+use Rattle.flt_gen.proofs.Tails.{one_of_four}
+
+passes : (k m : ℕ) (f : CheckFault) → k < m → unless (nat_lt k m) f ≡ None
+passes k m f l = let t : nat_lt k m ≡ true = grind (arith, nat_tests) in ap (λ b. unless b f) t
+
+passes_both : (j k m : ℕ) (f : CheckFault) → j < m → k < m → unless (nat_lt j m && nat_lt k m) f ≡ None
+passes_both j k m f a b =
+    let s : nat_lt j m ≡ true = grind (arith, nat_tests) in
+    let t : nat_lt k m ≡ true = grind (arith, nat_tests) in
+    ap (λ x. unless (x && nat_lt k m) f) s ∙ ap (λ x. unless (true && x) f) t
+
+-- instructions without a fault
+store_fine : (k m : ℕ) → k < 16 → fault_of (plain 2 k) m ≡ None
+unfolding fault_of operation_of
+store_fine k m l = passes k 16 NoSuchWord l
+
+word_fine : (k m : ℕ) → k < 16 → fault_of (plain 96 k) m ≡ None
+unfolding fault_of operation_of
+word_fine k m l = passes k 16 NoSuchWord l
+
+jump_fine : (k m : ℕ) → k < m → fault_of (plain 5 k) m ≡ None
+unfolding fault_of operation_of
+jump_fine k m l = passes k m JumpOut l
+
+branch_fine : (t : Test) (operand : Operand) (k jt jf m : ℕ) → jt < m → jf < m → fault_of (branch_insn t operand k jt jf) m ≡ None
+unfolding fault_of operation_of
+branch_fine test.Equal Constant k jt jf m a b = passes_both jt jf m JumpOut a b
+branch_fine test.Greater Constant k jt jf m a b = passes_both jt jf m JumpOut a b
+branch_fine test.AtLeast Constant k jt jf m a b = passes_both jt jf m JumpOut a b
+branch_fine test.AnyBit Constant k jt jf m a b = passes_both jt jf m JumpOut a b
+branch_fine test.Equal IndexRegister k jt jf m a b = passes_both jt jf m JumpOut a b
+branch_fine test.Greater IndexRegister k jt jf m a b = passes_both jt jf m JumpOut a b
+branch_fine test.AtLeast IndexRegister k jt jf m a b = passes_both jt jf m JumpOut a b
+branch_fine test.AnyBit IndexRegister k jt jf m a b = passes_both jt jf m JumpOut a b
+
+literal_fine : (k m : ℕ) → fault_of (plain 0 k) m ≡ None
+unfolding fault_of operation_of
+literal_fine k m = refl
+
+length_fine : (k m : ℕ) → fault_of (plain 128 k) m ≡ None
+unfolding fault_of operation_of
+length_fine k m = refl
+
+minus_fine : (k m : ℕ) → fault_of (plain 132 k) m ≡ None
+unfolding fault_of operation_of
+minus_fine k m = refl
+
+to_x_fine : (k m : ℕ) → fault_of (plain 7 k) m ≡ None
+unfolding fault_of operation_of
+to_x_fine k m = refl
+
+header_fine : (k m : ℕ) → fault_of (plain 177 k) m ≡ None
+unfolding fault_of operation_of
+header_fine k m = refl
+
+mask_fine : (k m : ℕ) → fault_of (plain 84 k) m ≡ None
+unfolding fault_of operation_of
+mask_fine k m = refl
+
+add_fine : (k m : ℕ) → fault_of (plain 12 k) m ≡ None
+unfolding fault_of operation_of
+add_fine k m = refl
+
+load_fine : (w : Width) (k m : ℕ) → fault_of (plain (load_code w) k) m ≡ None
+unfolding fault_of operation_of
+load_fine Word k m = refl
+load_fine HalfWord k m = refl
+load_fine Byte k m = refl
+
+indirect_fine : (w : Width) (k m : ℕ) → fault_of (plain (indirect_code w) k) m ≡ None
+unfolding fault_of operation_of
+indirect_fine Word k m = refl
+indirect_fine HalfWord k m = refl
+indirect_fine Byte k m = refl
+
+operator_fine : (operator : Operator) (k m : ℕ) → fault_of (plain (operator_code operator) k) m ≡ None
+unfolding fault_of operation_of
+operator_fine Add k m = refl
+operator_fine Subtract k m = refl
+operator_fine Multiply k m = refl
+operator_fine Divide k m = refl
+operator_fine Or k m = refl
+operator_fine And k m = refl
+operator_fine ShiftLeft k m = refl
+operator_fine ShiftRight k m = refl
+
+ends_put : (i : Insn) (c : List Insn) → ends_in_return c ≡ true → ends_in_return (i ∷ c) ≡ true
+ends_put i [] e = cc
+ends_put i (j ∷ c) e = e
+
+ends_some : (c : List Insn) → ends_in_return c ≡ true → 0 < length c
+ends_some [] e = cc
+ends_some (i ∷ c) e = omega arith
+
+-- code d without a fault, which has code c at its end and at most m instructions more
+pub record Grows (c d : List Insn) (m : ℕ) : Type 0 where
+  pub sound : IsFaultless d
+  pub longer : length c ≤ length d
+  pub shorter : length d ≤ length c + m
+  pub ends : ends_in_return d ≡ true
+
+pub grows_none : (c : List Insn) → IsFaultless c → ends_in_return c ≡ true → Grows c c 0
+grows_none c s e = record { sound = s; longer = omega arith; shorter = omega arith; ends = e }
+
+grows_put : (c d : List Insn) (m m' : ℕ) (i : Insn) → Grows c d m → fault_of i (length d) ≡ None → m + 1 ≤ m' → Grows c (i ∷ d) m'
+grows_put c d m m' i g f l =
+    record { sound = (f, g.sound); longer = omega (arith, g.longer); shorter = omega (arith, g.shorter); ends = ends_put i d g.ends }
+
+grows_more : (c d : List Insn) (m m' : ℕ) → m ≤ m' → Grows c d m → Grows c d m'
+grows_more c d m m' l g = record { sound = g.sound; longer = g.longer; shorter = omega (arith, g.shorter); ends = g.ends }
+
+grows_on : (c d f : List Insn) (m m' : ℕ) → Grows c d m → Grows d f m' → Grows c f (m + m')
+grows_on c d f m m' a b =
+    record { sound = b.sound; longer = omega (arith, a.longer, b.longer); shorter = omega (arith, a.shorter, b.shorter); ends = b.ends }
+
+branch_grows : (t : Test) (operand : Operand) (k hit miss : ℕ) (c : List Insn) → IsFaultless c → ends_in_return c ≡ true → 0 < hit → hit ≤ length c → 0 < miss → miss ≤ length c → Grows c (branch_before t operand k hit miss c) 3
+branch_grows t operand k hit miss c s e ph lh pm lm =
+    let none = grows_none c s e in
+    let one_hit = grows_put c c 0 1 (plain 5 (length c - hit)) none (jump_fine (length c - hit) (length c) (omega arith)) (omega arith) in
+    let one_miss = grows_put c c 0 1 (plain 5 (length c - miss)) none (jump_fine (length c - miss) (length c) (omega arith)) (omega arith) in
+    let j = plain 5 (length c - miss) in
+    let two = grows_put c (j ∷ c) 1 2 (plain 5 (length (j ∷ c) - hit)) one_miss (jump_fine (length (j ∷ c) - hit) (length (j ∷ c)) (omega arith)) (omega arith) in
+    one_of_four (λ d. Grows c d 3) (nat_le (length c - hit) NEAR && nat_le (length c - miss) NEAR) (nat_le (length c + 1 - miss) NEAR) (nat_le (length c + 1 - hit) NEAR) _ _ _ _
+    (grows_put c c 0 3 _ none (branch_fine t operand k (length c - hit) (length c - miss) (length c) (omega arith) (omega arith)) (omega arith))
+    (grows_put c (jump_before hit c) 1 3 _ one_hit (branch_fine t operand k 0 (length c + 1 - miss) (length (jump_before hit c)) (omega arith) (omega arith)) (omega arith))
+    (grows_put c (jump_before miss c) 1 3 _ one_miss (branch_fine t operand k (length c + 1 - hit) 0 (length (jump_before miss c)) (omega arith) (omega arith)) (omega arith))
+    (grows_put c (jump_before hit (jump_before miss c)) 2 3 _ two (branch_fine t operand k 0 1 (length (jump_before hit (jump_before miss c))) (omega arith) (omega arith)) (omega arith))
+
+field_grows : (place : Place) (w : Width) (c d : List Insn) (m : ℕ) → Grows c d m → Grows c (field_before place w d) (m + 2)
+field_grows (At k) w c d m g = grows_put c d m (m + 2) _ g (load_fine w k (length d)) (omega arith)
+field_grows (Past header k) w c d m g = grows_put c _ (m + 1) (m + 2) _ (grows_put c d m (m + 1) _ g (indirect_fine w k (length d)) (omega arith)) (header_fine header _) (omega arith)
+
+mask_grows : (mask : Option ℕ) (c d : List Insn) (m : ℕ) → Grows c d m → Grows c (mask_before mask d) (m + 1)
+mask_grows None c d m g = grows_more c d m (m + 1) (omega arith) g
+mask_grows (Some mask) c d m g = grows_put c d m (m + 1) _ g (mask_fine mask (length d)) (omega arith)
+
+comparison_grows : (comparison : Comparison) (operand : Operand) (k hit miss : ℕ) (c : List Insn) → IsFaultless c → ends_in_return c ≡ true → 0 < hit → hit ≤ length c → 0 < miss → miss ≤ length c → Grows c (comparison_before comparison operand k hit miss c) 3
+comparison_grows Equal operand k hit miss c s e ph lh pm lm = branch_grows test.Equal operand k hit miss c s e ph lh pm lm
+comparison_grows NotEqual operand k hit miss c s e ph lh pm lm = branch_grows test.Equal operand k miss hit c s e pm lm ph lh
+comparison_grows Less operand k hit miss c s e ph lh pm lm = branch_grows test.AtLeast operand k miss hit c s e pm lm ph lh
+comparison_grows AtMost operand k hit miss c s e ph lh pm lm = branch_grows test.Greater operand k miss hit c s e pm lm ph lh
+comparison_grows Greater operand k hit miss c s e ph lh pm lm = branch_grows test.Greater operand k hit miss c s e ph lh pm lm
+comparison_grows AtLeast operand k hit miss c s e ph lh pm lm = branch_grows test.AtLeast operand k hit miss c s e ph lh pm lm
+
+base_grows : (at : ℕ) (w : Width) (c d : List Insn) (m : ℕ) → Grows c d m → Grows c (base_before at w d) (m + 4)
+base_grows at w c d m g = grows_put c _ (m + 1) (m + 4) _ (grows_put c d m (m + 1) _ g (indirect_fine w at (length d)) (omega arith)) (to_x_fine 0 _) (omega arith)
+
+transport_grows : (link : Link) (w : Width) (c d : List Insn) (m : ℕ) → Grows c d m → Grows c (transport_before link w d) (m + 4)
+transport_grows link w c d m g =
+    grows_put c _ (m + 3) (m + 4) _ (grows_put c _ (m + 2) (m + 3) _ (grows_put c _ (m + 1) (m + 2) _ (grows_put c d m (m + 1) _ g (indirect_fine w (network link) (length d)) (omega arith)) (to_x_fine 0 _) (omega arith)) (add_fine 0 _) (omega arith)) (header_fine (network link) _) (omega arith)
+
+accessor_grows : (link : Link) (protocol : Protocol) (w : Width) (c d : List Insn) (m : ℕ) → Grows c d m → Grows c (accessor_before link protocol w d) (m + 4)
+accessor_grows link Ether w c d m g = base_grows 0 w c d m g
+accessor_grows link Tcp w c d m g = transport_grows link w c d m g
+accessor_grows link Udp w c d m g = transport_grows link w c d m g
+accessor_grows link Icmp w c d m g = transport_grows link w c d m g
+accessor_grows link _ w c d m g = base_grows (network link) w c d m g
+
+number_grows : (link : Link) (e : NumberTree) (slot : ℕ) (c d : List Insn) (m : ℕ) → slot + number_words e ≤ 16 → Grows c d m → Grows c (number_before link e slot d) (m + 6 * number_size e)
+number_grows link (literal k) slot c d m few g = grows_put c d m _ _ g (literal_fine k (length d)) (omega arith)
+number_grows link len slot c d m few g = grows_put c d m _ _ g (length_fine 0 (length d)) (omega arith)
+number_grows link (negated a) slot c d m few g =
+    grows_more c _ (m + 1 + 6 * number_size a) _ (omega arith) (number_grows link a slot c (plain 132 0 ∷ d) (m + 1) few (grows_put c d m (m + 1) _ g (minus_fine 0 (length d)) (omega arith)))
+number_grows link (load protocol size i) slot c d m few g =
+    grows_more c _ (m + 4 + 6 * number_size i) _ (omega arith) (number_grows link i slot c (accessor_before link protocol (width_of size) d) (m + 4) few (accessor_grows link protocol (width_of size) c d m g))
+number_grows link (applied operator l r) slot c d m few g =
+    let g1 = grows_put c d m (m + 1) (plain (operator_code operator) 0) g (operator_fine operator 0 (length d)) (omega arith) in
+    let g2 = grows_put c _ (m + 1) (m + 2) (plain 96 slot) g1 (word_fine slot _ (omega arith)) (omega arith) in
+    let g3 = grows_put c _ (m + 2) (m + 3) (plain 7 0) g2 (to_x_fine 0 _) (omega arith) in
+    let g4 = number_grows link r (slot + 1) c _ (m + 3) (omega arith) g3 in
+    let g5 = grows_put c _ (m + 3 + 6 * number_size r) (m + 4 + 6 * number_size r) (plain 2 slot) g4 (store_fine slot _ (omega arith)) (omega arith) in
+    grows_more c _ (m + 4 + 6 * number_size r + 6 * number_size l) _ (omega arith) (number_grows link l slot c _ (m + 4 + 6 * number_size r) (omega arith) g5)
+
+-- grown code, with its entry inside
+pub record Sits (e : Entered) (c : List Insn) (m : ℕ) : Type 0 where
+  pub grows : Grows c e.code m
+  pub low : 0 < e.entry
+  pub inside : e.entry ≤ length e.code
+
+sits_top : (c d : List Insn) (m m' : ℕ) → m ≤ m' → Grows c d m → Sits (at_top d) c m'
+sits_top c d m m' l g = record { grows = grows_more c d m m' l g; low = ends_some d g.ends; inside = omega arith }
+
+pub emitted_sits : (link : Link) (f : Formula) (hit miss : ℕ) (c : List Insn) → words f ≤ 16 → IsFaultless c → ends_in_return c ≡ true → 0 < hit → hit ≤ length c → 0 < miss → miss ≤ length c → Sits (emitted link f hit miss c) c (6 * (tests f + nodes f))
+emitted_sits link (Single (Known true)) hit miss c few s e ph lh pm lm = record { grows = grows_more c c 0 6 (omega arith) (grows_none c s e); low = ph; inside = lh }
+emitted_sits link (Single (Known false)) hit miss c few s e ph lh pm lm = record { grows = grows_more c c 0 6 (omega arith) (grows_none c s e); low = pm; inside = lm }
+emitted_sits link (Single (Field k)) hit miss c few s e ph lh pm lm =
+    sits_top c _ 6 _ (omega arith) (field_grows k.place k.width c _ 4 (mask_grows k.mask c _ 3 (comparison_grows k.comparison Constant k.value hit miss c s e ph lh pm lm)))
+emitted_sits link (Compare comparison l r) hit miss c few s e ph lh pm lm =
+    let g0 = comparison_grows comparison IndexRegister 0 hit miss c s e ph lh pm lm in
+    let g1 = grows_put c _ 3 4 (plain 96 0) g0 (word_fine 0 _ (omega arith)) (omega arith) in
+    let g2 = grows_put c _ 4 5 (plain 7 0) g1 (to_x_fine 0 _) (omega arith) in
+    let g3 = number_grows link r 1 c _ 5 (omega arith) g2 in
+    let g4 = grows_put c _ (5 + 6 * number_size r) (6 + 6 * number_size r) (plain 2 0) g3 (store_fine 0 _ (omega arith)) (omega arith) in
+    sits_top c _ (6 + 6 * number_size r + 6 * number_size l) _ (omega arith) (number_grows link l 0 c _ (6 + 6 * number_size r) (omega arith) g4)
+emitted_sits link (Both a b) hit miss c few s e ph lh pm lm =
+    let d = emitted link b hit miss c in
+    let sb = emitted_sits link b hit miss c (omega arith) s e ph lh pm lm in
+    let lm' : miss ≤ length d.code = omega (arith, sb.grows.longer) in
+    let sa = emitted_sits link a d.entry miss d.code (omega arith) sb.grows.sound sb.grows.ends sb.low sb.inside pm lm' in
+    record { grows = grows_more c _ (6 * (tests b + nodes b) + 6 * (tests a + nodes a)) _ (omega arith) (grows_on c d.code _ _ _ sb.grows sa.grows); low = sa.low; inside = sa.inside }
+emitted_sits link (Either a b) hit miss c few s e ph lh pm lm =
+    let d = emitted link b hit miss c in
+    let sb = emitted_sits link b hit miss c (omega arith) s e ph lh pm lm in
+    let lh' : hit ≤ length d.code = omega (arith, sb.grows.longer) in
+    let sa = emitted_sits link a hit d.entry d.code (omega arith) sb.grows.sound sb.grows.ends ph lh' sb.low sb.inside in
+    record { grows = grows_more c _ (6 * (tests b + nodes b) + 6 * (tests a + nodes a)) _ (omega arith) (grows_on c d.code _ _ _ sb.grows sa.grows); low = sa.low; inside = sa.inside }
+emitted_sits link (Except a) hit miss c few s e ph lh pm lm = emitted_sits link a miss hit c few s e pm lm ph lh

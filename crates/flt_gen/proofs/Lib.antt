@@ -1,0 +1,14 @@
+pub mod Backwards
+pub mod Joined
+pub mod Tails
+pub mod Numbers
+pub mod Runs
+pub mod Grows
+pub mod Far
+pub mod Short
+pub mod Accessors
+pub mod Walking
+pub mod Room
+pub mod Counted
+pub mod Whole
+pub mod Turned

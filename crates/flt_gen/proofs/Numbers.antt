@@ -1,0 +1,233 @@
+-- What the code of arithmetic does.
+use Rattle.std.proofs.Common.{◌≡◌, ℕ, ◌+◌, ◌-◌, ◌%◌, ◌^◌, ◌<◌, ◌≤◌, List, ◌∷◌, length, Bool, true, false, Option, Some, None, refl, sym, ap, ◌∙◌, arith}
+use Rattle.std.specs.Prelude.{slice_get, slice_set, nat_lt, if◌then◌else◌, bit_and}
+use Rattle.std.specs.Option.{option_map}
+use Rattle.std.proofs.Math.ListN.{set, length-set}
+use Rattle.std.proofs.Math.Nat.{mod-add-mod}
+use Rattle.std.proofs.lemmas.Bool.Decides.{nat_tests}
+use Rattle.std.proofs.lemmas.Option.{slice_get-get_or}
+use Rattle.std.proofs.lemmas.List.{get_or-set_same, get_or-set_other}
+use Rattle.flt_bpf.specs.declared.insn.Insn.{Insn}
+use Rattle.flt_bpf.specs.declared.machine.State.{State}
+use Rattle.flt_bpf.specs.declared.operation.Register.TheVariants.{Accumulator, Index}
+use Rattle.flt_bpf.specs.declared.operation.Width.{Width}
+use Rattle.flt_bpf.specs.declared.operation.Width.TheVariants.{Word, HalfWord, Byte}
+use Rattle.flt_bpf.specs.declared.operation.Test.{Test}
+use Rattle.flt_bpf.specs.declared.operation.Test.TheVariants as test
+use Rattle.flt_bpf.specs.declared.operation.Operand.{Operand}
+use Rattle.flt_bpf.specs.declared.operation.Operand.TheVariants.{Constant, IndexRegister}
+use Rattle.flt_bpf.specs.Instructions.{operation_of}
+use Rattle.flt_bpf.specs.Machine.{Goes, Lost, step, field, holds, value_of, into, header_length}
+use Rattle.flt_words.specs.declared.token.Operator.{Operator}
+use Rattle.flt_words.specs.declared.token.Operator.TheVariants.{Or, And, ShiftLeft, ShiftRight, Add, Subtract, Multiply, Divide}
+use Rattle.flt_words.specs.declared.token.Protocol.{Protocol}
+use Rattle.flt_words.specs.declared.token.Protocol.TheVariants.{Ether, Tcp, Udp, Icmp}
+use Rattle.flt_lang.specs.Tree.{NumberTree, literal, len, load, negated, applied}
+use Rattle.flt_gen.specs.declared.link.Link.{Link}
+use Rattle.flt_gen.specs.Elementary.{with, network}
+use Rattle.flt_gen.specs.Numbers.{width_of, base, result_of, number}
+use Rattle.flt_lang.specs.Counts.{number_words}
+use Rattle.flt_gen.specs.Code.{plain, load_code, indirect_code, operator_code, branch_insn, base_before, transport_before, accessor_before, operands_before, number_before}
+use Rattle.flt_bpf.proofs.Suffix.{answer_of, answer_after}
+
+get_set_same : (xs : List ℕ) (i v : ℕ) → i < length xs → slice_get (slice_set xs i v) i ≡ Some v
+get_set_same xs i v l =
+    let within : i < length (slice_set xs i v) = omega (arith, length-set {A = ℕ}) in
+    slice_get-get_or (slice_set xs i v) i 0 within ∙ ap Some (get_or-set_same xs i v 0 l)
+
+get_set_below : (xs : List ℕ) (i j v : ℕ) → j < i → i < length xs → slice_get (slice_set xs i v) j ≡ slice_get xs j
+get_set_below xs i j v less l =
+    let within : j < length (slice_set xs i v) = omega (arith, length-set {A = ℕ}) in
+    slice_get-get_or (slice_set xs i v) j 0 within ∙ ap Some (get_or-set_other xs i j v 0 (λ e. absurd (omega arith))) ∙ sym (slice_get-get_or xs j 0 (omega arith))
+
+module _ (p : List ℕ) (n : ℕ) where
+  -- one instruction
+  pub run_literal : (k : ℕ) (c : List Insn) (s : State) → answer_of (plain 0 k ∷ c) p n 0 s ≡ answer_of c p n 0 (record s { accumulator = k })
+  unfolding step operation_of
+  run_literal k c s = refl
+
+  pub run_length : (k : ℕ) (c : List Insn) (s : State) → answer_of (plain 128 k ∷ c) p n 0 s ≡ answer_of c p n 0 (record s { accumulator = n })
+  unfolding step operation_of
+  run_length k c s = refl
+
+  pub run_minus : (k : ℕ) (c : List Insn) (s : State) → answer_of (plain 132 k ∷ c) p n 0 s ≡ answer_of c p n 0 (record s { accumulator = (2 ^ 32 - s.accumulator) % 2 ^ 32 })
+  unfolding step operation_of
+  run_minus k c s = refl
+
+  pub run_to_x : (k : ℕ) (c : List Insn) (s : State) → answer_of (plain 7 k ∷ c) p n 0 s ≡ answer_of c p n 0 (record s { index = s.accumulator })
+  unfolding step operation_of
+  run_to_x k c s = refl
+
+  pub run_operator : (operator : Operator) (k : ℕ) (c : List Insn) (s : State) → answer_of (plain (operator_code operator) k ∷ c) p n 0 s ≡ answer_after (answer_of c p n) (into Accumulator (result_of operator s.accumulator s.index) s)
+  unfolding step operation_of
+  run_operator Add k c s = refl
+  run_operator Subtract k c s = refl
+  run_operator Multiply k c s = refl
+  run_operator Divide k c s = refl
+  run_operator Or k c s = refl
+  run_operator And k c s = refl
+  run_operator ShiftLeft k c s = refl
+  run_operator ShiftRight k c s = refl
+
+  pub run_load : (w : Width) (k : ℕ) (c : List Insn) (s : State) → answer_of (plain (load_code w) k ∷ c) p n 0 s ≡ answer_after (answer_of c p n) (into Accumulator (field p k w) s)
+  unfolding step operation_of
+  run_load Word k c s = refl
+  run_load HalfWord k c s = refl
+  run_load Byte k c s = refl
+
+  pub run_indirect : (w : Width) (k : ℕ) (c : List Insn) (s : State) → answer_of (plain (indirect_code w) k ∷ c) p n 0 s ≡ answer_after (answer_of c p n) (into Accumulator (field p ((s.index + k) % 2 ^ 32) w) s)
+  unfolding step operation_of
+  run_indirect Word k c s = refl
+  run_indirect HalfWord k c s = refl
+  run_indirect Byte k c s = refl
+
+  pub run_header : (k : ℕ) (c : List Insn) (s : State) → answer_of (plain 177 k ∷ c) p n 0 s ≡ answer_after (answer_of c p n) (into Index (option_map header_length (field p k Byte)) s)
+  unfolding step operation_of
+  run_header k c s = refl
+
+  pub run_mask : (k : ℕ) (c : List Insn) (s : State) → answer_of (plain 84 k ∷ c) p n 0 s ≡ answer_of c p n 0 (record s { accumulator = bit_and s.accumulator k })
+  unfolding step operation_of
+  run_mask k c s = refl
+
+  pub run_jump : (k : ℕ) (c : List Insn) (s : State) → answer_of (plain 5 k ∷ c) p n 0 s ≡ answer_of c p n k s
+  unfolding step operation_of
+  run_jump k c s = refl
+
+  pub run_branch : (t : Test) (operand : Operand) (k jt jf : ℕ) (c : List Insn) (s : State) → answer_of (branch_insn t operand k jt jf ∷ c) p n 0 s ≡ answer_of c p n (if holds t s.accumulator (value_of operand k s.index) then jt else jf) s
+  unfolding step operation_of
+  run_branch test.Equal Constant k jt jf c s = refl
+  run_branch test.Greater Constant k jt jf c s = refl
+  run_branch test.AtLeast Constant k jt jf c s = refl
+  run_branch test.AnyBit Constant k jt jf c s = refl
+  run_branch test.Equal IndexRegister k jt jf c s = refl
+  run_branch test.Greater IndexRegister k jt jf c s = refl
+  run_branch test.AtLeast IndexRegister k jt jf c s = refl
+  run_branch test.AnyBit IndexRegister k jt jf c s = refl
+
+  stored : (b : Bool) (c : List Insn) (t : State) → b ≡ true → answer_after (answer_of c p n) (if b then Goes 0 t else Lost) ≡ answer_of c p n 0 t
+  stored true c t e = refl
+  stored false c t e = cc
+
+  pub run_store : (k : ℕ) (c : List Insn) (s : State) → k < length s.memory → answer_of (plain 2 k ∷ c) p n 0 s ≡ answer_of c p n 0 (record s { memory = slice_set s.memory k s.accumulator })
+  unfolding step operation_of
+  run_store k c s l = let t : nat_lt k (length s.memory) ≡ true = grind (arith, nat_tests) in stored _ c _ t
+
+  pub run_word : (k v : ℕ) (c : List Insn) (s : State) → slice_get s.memory k ≡ Some v → answer_of (plain 96 k ∷ c) p n 0 s ≡ answer_of c p n 0 (record s { accumulator = v })
+  unfolding step operation_of
+  run_word k v c s e = rw e refl
+
+  -- the words below slot are kept
+  pub record Keeps (slot : ℕ) (s t : State) : Type 0 where
+    pub long : length t.memory ≡ 16
+    pub kept : (j : ℕ) → j < slot → slice_get t.memory j ≡ slice_get s.memory j
+
+  -- code in front of c puts a number into A and goes on with c, or ends the run with 0 where there is none
+  abbrev pub NumberRuns : List Insn → List Insn → ℕ → State → Option ℕ → Type 0
+  NumberRuns c' c slot s None = answer_of c' p n 0 s ≡ Some 0
+  NumberRuns c' c slot s (Some v) = (t : State) × Keeps slot s t × (t.accumulator ≡ v) × (answer_of c' p n 0 s ≡ answer_of c p n 0 t)
+
+  pub keeps_on : (slot slot' : ℕ) (s t u : State) → slot ≤ slot' → Keeps slot s t → Keeps slot' t u → Keeps slot s u
+  keeps_on slot slot' s t u le k l = record { long = l.long; kept = λ j less. l.kept j (omega arith) ∙ k.kept j less }
+
+  pub chain : (c' c1 c : List Insn) (slot slot' : ℕ) (s t : State) → slot ≤ slot' → Keeps slot s t → answer_of c' p n 0 s ≡ answer_of c1 p n 0 t → (o : Option ℕ) → NumberRuns c1 c slot' t o → NumberRuns c' c slot s o
+  chain c' c1 c slot slot' s t le k e None r = e ∙ r
+  chain c' c1 c slot slot' s t le k e (Some v) r = (r.0, keeps_on slot slot' s t r.0 le k r.1, r.2, e ∙ r.3)
+
+  pub number_then : (c' c1 c : List Insn) (slot : ℕ) (s : State) (o : Option ℕ) (f : ℕ → Option ℕ) → NumberRuns c' c1 slot s o → ((v : ℕ) (t : State) → length t.memory ≡ 16 → t.accumulator ≡ v → NumberRuns c1 c slot t (f v)) → NumberRuns c' c slot s (with o f)
+  number_then c' c1 c slot s None f r next = r
+  number_then c' c1 c slot s (Some v) f r next =
+      chain c' c1 c slot slot s r.0 (omega arith) r.1 r.3 (f v) (next v r.0 r.1.long r.2)
+
+  -- the last instruction puts a number into A, or ends the run
+  into_runs : (c' c : List Insn) (slot : ℕ) (s u : State) → length u.memory ≡ 16 → u.memory ≡ s.memory → (o : Option ℕ) → answer_of c' p n 0 s ≡ answer_after (answer_of c p n) (into Accumulator o u) → NumberRuns c' c slot s o
+  into_runs c' c slot s u long same None e = e
+  into_runs c' c slot s u long same (Some v) e = (record u { accumulator = v }, record { long = long; kept = λ j l. ap (λ ws. slice_get ws j) same }, refl, e)
+
+  transport_runs : (link : Link) (w : Width) (c : List Insn) (slot : ℕ) (v : ℕ) (s : State) → length s.memory ≡ 16 → s.accumulator ≡ v → (o : Option ℕ) → field p (network link) Byte ≡ o → NumberRuns (transport_before link w c) c slot s (with (with (with o (λ b. Some (header_length b))) (λ x. Some (x + network link))) (λ at. field p ((at + v) % 2 ^ 32) w))
+  transport_runs link w c slot v s long e None f =
+      run_header (network link) (plain 12 0 ∷ plain 7 0 ∷ plain (indirect_code w) (network link) ∷ c) s ∙ ap (λ o. answer_after (answer_of (plain 12 0 ∷ plain 7 0 ∷ plain (indirect_code w) (network link) ∷ c) p n) (into Index (option_map header_length o) s)) f
+  transport_runs link w c slot v s long e (Some b) f =
+      let x = header_length b in
+      let l = network link in
+      let u : State = record { accumulator = (s.accumulator + x) % 2 ^ 32; index = (s.accumulator + x) % 2 ^ 32; memory = s.memory } in
+      let to_x = run_header l (plain 12 0 ∷ plain 7 0 ∷ plain (indirect_code w) l ∷ c) s ∙ ap (λ o. answer_after (answer_of (plain 12 0 ∷ plain 7 0 ∷ plain (indirect_code w) l ∷ c) p n) (into Index (option_map header_length o) s)) f in
+      let added = run_operator Add 0 (plain 7 0 ∷ plain (indirect_code w) l ∷ c) (record s { index = x }) in
+      let moved = run_to_x 0 (plain (indirect_code w) l ∷ c) (record { accumulator = (s.accumulator + x) % 2 ^ 32; index = x; memory = s.memory }) in
+      let loaded = run_indirect w l c u in
+      let sum : s.accumulator + x + l ≡ x + l + v = omega (arith, e) in
+      let place : ((s.accumulator + x) % 2 ^ 32 + l) % 2 ^ 32 ≡ (x + l + v) % 2 ^ 32 = mod-add-mod (s.accumulator + x) (2 ^ 32) l ∙ ap (λ m. m % 2 ^ 32) sum in
+      into_runs (transport_before link w c) c slot s u long refl (field p ((x + l + v) % 2 ^ 32) w) (to_x ∙ added ∙ moved ∙ loaded ∙ ap (λ at. answer_after (answer_of c p n) (into Accumulator (field p at w) u)) place)
+
+  base_runs : (at : ℕ) (w : Width) (c : List Insn) (slot v : ℕ) (s : State) → length s.memory ≡ 16 → s.accumulator ≡ v → NumberRuns (base_before at w c) c slot s (field p ((at + v) % 2 ^ 32) w)
+  base_runs at w c slot v s long e =
+      let u : State = record s { index = s.accumulator } in
+      let place : s.accumulator + at ≡ at + v = omega (arith, e) in
+      into_runs (base_before at w c) c slot s u long refl (field p ((at + v) % 2 ^ 32) w) (run_to_x 0 (plain (indirect_code w) at ∷ c) s ∙ run_indirect w at c u ∙ ap (λ b. answer_after (answer_of c p n) (into Accumulator (field p (b % 2 ^ 32) w) u)) place)
+
+  accessor_runs : (link : Link) (protocol : Protocol) (w : Width) (c : List Insn) (slot v : ℕ) (s : State) → length s.memory ≡ 16 → s.accumulator ≡ v → NumberRuns (accessor_before link protocol w c) c slot s (with (base link protocol p) (λ at. field p ((at + v) % 2 ^ 32) w))
+  accessor_runs link Ether w c slot v s long e = base_runs 0 w c slot v s long e
+  accessor_runs link Tcp w c slot v s long e = transport_runs link w c slot v s long e _ refl
+  accessor_runs link Udp w c slot v s long e = transport_runs link w c slot v s long e _ refl
+  accessor_runs link Icmp w c slot v s long e = transport_runs link w c slot v s long e _ refl
+  accessor_runs link _ w c slot v s long e = base_runs (network link) w c slot v s long e
+
+  -- code in front of c puts one number into A and another into X
+  abbrev pub TwoRuns : List Insn → List Insn → ℕ → State → Option ℕ → Option ℕ → Type 0
+  TwoRuns c' c slot s None o = answer_of c' p n 0 s ≡ Some 0
+  TwoRuns c' c slot s (Some x) None = answer_of c' p n 0 s ≡ Some 0
+  TwoRuns c' c slot s (Some x) (Some y) = (t : State) × Keeps slot s t × (t.accumulator ≡ x) × (t.index ≡ y) × (answer_of c' p n 0 s ≡ answer_of c p n 0 t)
+
+  -- a number, a word for it, a second number, and both brought to A and X
+  pub two_runs : (c' cr c : List Insn) (slot : ℕ) (s : State) (ox oy : Option ℕ) → slot < 16 → NumberRuns c' (plain 2 slot ∷ cr) slot s ox → ((t : State) → length t.memory ≡ 16 → NumberRuns cr (operands_before slot c) (slot + 1) t oy) → TwoRuns c' c slot s ox oy
+  two_runs c' cr c slot s None oy few rx ry = rx
+  two_runs c' cr c slot s (Some x) oy few rx ry =
+      second oy (ry t1 long)
+    where
+      t : State
+      t = rx.0
+
+      t1 : State
+      t1 = record t { memory = slice_set t.memory slot t.accumulator }
+
+      inside : slot < length t.memory
+      inside = omega (arith, rx.1.long)
+
+      long : length t1.memory ≡ 16
+      long = omega (arith, length-set {A = ℕ}, rx.1.long)
+
+      to_word : answer_of c' p n 0 s ≡ answer_of cr p n 0 t1
+      to_word = rx.3 ∙ run_store slot cr t inside
+
+      kept_below : (j : ℕ) → j < slot → slice_get t1.memory j ≡ slice_get s.memory j
+      kept_below j l = get_set_below t.memory slot j t.accumulator l inside ∙ rx.1.kept j l
+
+      second : (o : Option ℕ) → NumberRuns cr (operands_before slot c) (slot + 1) t1 o → TwoRuns c' c slot s (Some x) o
+      second None r = to_word ∙ r
+      second (Some y) r =
+          let u = r.0 in
+          let word : slice_get u.memory slot ≡ Some x = r.1.kept slot (omega arith) ∙ get_set_same t.memory slot t.accumulator inside ∙ ap Some rx.2 in
+          let moved = run_to_x 0 (plain 96 slot ∷ c) u ∙ run_word slot x c (record u { index = u.accumulator }) word in
+          (record { accumulator = x; index = u.accumulator; memory = u.memory }, record { long = r.1.long; kept = λ j l. r.1.kept j (omega arith) ∙ kept_below j l }, refl, r.2, to_word ∙ r.3 ∙ moved)
+
+  binary_runs : (operator : Operator) (c' c : List Insn) (slot : ℕ) (s : State) (ox oy : Option ℕ) → TwoRuns c' (plain (operator_code operator) 0 ∷ c) slot s ox oy → NumberRuns c' c slot s (with ox (λ x. with oy (λ y. result_of operator x y)))
+  binary_runs operator c' c slot s None oy r = r
+  binary_runs operator c' c slot s (Some x) None r = r
+  binary_runs operator c' c slot s (Some x) (Some y) r =
+      let t = r.0 in
+      let same : result_of operator t.accumulator t.index ≡ result_of operator x y = ap (λ v. result_of operator v t.index) r.2 ∙ ap (λ v. result_of operator x v) r.3 in
+      chain c' (plain (operator_code operator) 0 ∷ c) c slot slot s t (omega arith) r.1 r.4 (result_of operator x y) (into_runs (plain (operator_code operator) 0 ∷ c) c slot t t r.1.long refl (result_of operator x y) (run_operator operator 0 c t ∙ ap (λ o. answer_after (answer_of c p n) (into Accumulator o t)) same))
+
+  minus_runs : (c : List Insn) (slot v : ℕ) (s : State) → length s.memory ≡ 16 → s.accumulator ≡ v → NumberRuns (plain 132 0 ∷ c) c slot s (Some ((2 ^ 32 - v) % 2 ^ 32))
+  minus_runs c slot v s long e =
+      (record s { accumulator = (2 ^ 32 - s.accumulator) % 2 ^ 32 }, record { long = long; kept = λ j l. refl }, ap (λ m. (2 ^ 32 - m) % 2 ^ 32) e, run_minus 0 c s)
+
+  -- the code of arithmetic gives its value
+  pub number_runs : (link : Link) (e : NumberTree) (slot : ℕ) (c : List Insn) (s : State) → length s.memory ≡ 16 → slot + number_words e ≤ 16 → NumberRuns (number_before link e slot c) c slot s (number link e p n)
+  number_runs link (literal k) slot c s long few = (record s { accumulator = k }, record { long = long; kept = λ j l. refl }, refl, run_literal k c s)
+  number_runs link len slot c s long few = (record s { accumulator = n }, record { long = long; kept = λ j l. refl }, refl, run_length 0 c s)
+  number_runs link (load protocol size i) slot c s long few =
+      number_then _ (accessor_before link protocol (width_of size) c) c slot s (number link i p n) _ (number_runs link i slot (accessor_before link protocol (width_of size) c) s long few) (λ v t l a. accessor_runs link protocol (width_of size) c slot v t l a)
+  number_runs link (negated e) slot c s long few =
+      number_then _ (plain 132 0 ∷ c) c slot s (number link e p n) (λ v. Some ((2 ^ 32 - v) % 2 ^ 32)) (number_runs link e slot (plain 132 0 ∷ c) s long few) (λ v t l a. minus_runs c slot v t l a)
+  number_runs link (applied operator l r) slot c s long few =
+      binary_runs operator _ c slot s (number link l p n) (number link r p n) (two_runs _ (number_before link r (slot + 1) (operands_before slot (plain (operator_code operator) 0 ∷ c))) (plain (operator_code operator) 0 ∷ c) slot s (number link l p n) (number link r p n) (omega arith) (number_runs link l slot _ s long (omega arith)) (λ t lt. number_runs link r (slot + 1) _ t lt (omega arith)))

@@ -1,0 +1,122 @@
+-- A short formula's code has no jump.
+use Rattle.std.proofs.Common.{◌≡◌, ℕ, zero, suc, ◌+◌, ◌-◌, ◌*◌, ◌≤◌, List, ◌∷◌, length, true, false, Option, Some, None, refl, sym, subst, arith}
+use Rattle.std.specs.Prelude.{◌≢◌, nat_le, All}
+use Rattle.std.proofs.lemmas.Bool.Decides.{nat_tests}
+use Rattle.flt_bpf.specs.declared.insn.Insn.{Insn}
+use Rattle.flt_bpf.specs.declared.operation.Width.{Width}
+use Rattle.flt_bpf.specs.declared.operation.Test.{Test}
+use Rattle.flt_bpf.specs.declared.operation.Test.TheVariants as test
+use Rattle.flt_bpf.specs.declared.operation.Operand.{Operand}
+use Rattle.flt_bpf.specs.declared.operation.Operand.TheVariants.{Constant, IndexRegister}
+use Rattle.flt_words.specs.declared.token.Comparison.{Comparison}
+use Rattle.flt_words.specs.declared.token.Comparison.TheVariants.{Equal, NotEqual, Less, AtMost, Greater, AtLeast}
+use Rattle.flt_words.specs.declared.token.Protocol.{Protocol}
+use Rattle.flt_words.specs.declared.token.Protocol.TheVariants.{Ether, Tcp, Udp, Icmp}
+use Rattle.flt_lang.specs.Tree.{NumberTree, literal, len, load, negated, applied}
+use Rattle.flt_gen.specs.declared.link.Link.{Link}
+use Rattle.flt_gen.specs.declared.elementary.Place.{Place}
+use Rattle.flt_gen.specs.declared.elementary.Place.TheVariants.{At, Past}
+use Rattle.flt_gen.specs.declared.elementary.Elementary.TheVariants.{Known, Field}
+use Rattle.flt_gen.specs.Elementary.{network}
+use Rattle.flt_gen.specs.Numbers.{width_of}
+use Rattle.flt_gen.specs.Formula.{Formula, Single, Compare, Both, Either, Except}
+use Rattle.flt_lang.specs.Counts.{number_size}
+use Rattle.flt_gen.specs.Counts.{nodes, tests}
+use Rattle.flt_gen.specs.Code.{plain, branch_insn, branch_before, comparison_before, field_before, mask_before, base_before, transport_before, accessor_before, number_before, emitted, NEAR}
+use Rattle.flt_gen.specs.Layout.{JUMP}
+use Rattle.flt_gen.proofs.Far.{load_no_jump, indirect_no_jump, operator_no_jump, branch_no_jump}
+
+-- code d without a jump, at most m instructions longer than code c
+pub record Slim (c d : List Insn) (m : ℕ) : Type 0 where
+  pub none : All (λ i. i.code ≢ JUMP) d
+  pub longer : length c ≤ length d
+  pub shorter : length d ≤ length c + m
+
+pub all_put : (P : Insn → Type 0) (i : Insn) (c : List Insn) → P i → All P c → All P (i ∷ c)
+all_put P i c h all zero d l = h
+all_put P i c h all (suc k) d l = all k d (omega arith)
+
+slim_put : (c d : List Insn) (m m' : ℕ) (i : Insn) → Slim c d m → i.code ≢ JUMP → m + 1 ≤ m' → Slim c (i ∷ d) m'
+slim_put c d m m' i s other l = record { none = all_put (λ j. j.code ≢ JUMP) i d other s.none; longer = omega (arith, s.longer); shorter = omega (arith, s.shorter) }
+
+slim_more : (c d : List Insn) (m m' : ℕ) → m ≤ m' → Slim c d m → Slim c d m'
+slim_more c d m m' l s = record { none = s.none; longer = s.longer; shorter = omega (arith, s.shorter) }
+
+near_branch : (t : Test) (o : Operand) (k hit miss : ℕ) (c : List Insn) → length c ≤ 255 → branch_before t o k hit miss c ≡ branch_insn t o k (length c - hit) (length c - miss) ∷ c
+near_branch t o k hit miss c l =
+    let h : nat_le (length c - hit) NEAR ≡ true = grind (arith, nat_tests) in
+    let m : nat_le (length c - miss) NEAR ≡ true = grind (arith, nat_tests) in
+    rw (h, m) refl
+
+branch_slim : (t : Test) (o : Operand) (k hit miss : ℕ) (c : List Insn) → length c ≤ 255 → All (λ i. i.code ≢ JUMP) c → Slim c (branch_before t o k hit miss c) 1
+branch_slim t o k hit miss c l n =
+    subst (λ d. Slim c d 1) (sym (near_branch t o k hit miss c l)) (record { none = all_put (λ j. j.code ≢ JUMP) _ c (branch_no_jump t o) n; longer = omega arith; shorter = omega arith })
+
+field_slim : (place : Place) (w : Width) (c d : List Insn) (m : ℕ) → Slim c d m → Slim c (field_before place w d) (m + 2)
+field_slim (At k) w c d m s = slim_put c d m (m + 2) _ s (load_no_jump w) (omega arith)
+field_slim (Past header k) w c d m s = slim_put c _ (m + 1) (m + 2) _ (slim_put c d m (m + 1) _ s (indirect_no_jump w) (omega arith)) (λ e. absurd (omega arith)) (omega arith)
+
+mask_slim : (mask : Option ℕ) (c d : List Insn) (m : ℕ) → Slim c d m → Slim c (mask_before mask d) (m + 1)
+mask_slim None c d m s = slim_more c d m (m + 1) (omega arith) s
+mask_slim (Some mask) c d m s = slim_put c d m (m + 1) _ s (λ e. absurd (omega arith)) (omega arith)
+
+comparison_slim : (comparison : Comparison) (o : Operand) (k hit miss : ℕ) (c : List Insn) → length c ≤ 255 → All (λ i. i.code ≢ JUMP) c → Slim c (comparison_before comparison o k hit miss c) 1
+comparison_slim Equal o k hit miss c l n = branch_slim test.Equal o k hit miss c l n
+comparison_slim NotEqual o k hit miss c l n = branch_slim test.Equal o k miss hit c l n
+comparison_slim Less o k hit miss c l n = branch_slim test.AtLeast o k miss hit c l n
+comparison_slim AtMost o k hit miss c l n = branch_slim test.Greater o k miss hit c l n
+comparison_slim Greater o k hit miss c l n = branch_slim test.Greater o k hit miss c l n
+comparison_slim AtLeast o k hit miss c l n = branch_slim test.AtLeast o k hit miss c l n
+
+base_slim : (at : ℕ) (w : Width) (c d : List Insn) (m : ℕ) → Slim c d m → Slim c (base_before at w d) (m + 4)
+base_slim at w c d m s = slim_put c _ (m + 1) (m + 4) _ (slim_put c d m (m + 1) _ s (indirect_no_jump w) (omega arith)) (λ e. absurd (omega arith)) (omega arith)
+
+transport_slim : (link : Link) (w : Width) (c d : List Insn) (m : ℕ) → Slim c d m → Slim c (transport_before link w d) (m + 4)
+transport_slim link w c d m s =
+    slim_put c _ (m + 3) (m + 4) _ (slim_put c _ (m + 2) (m + 3) _ (slim_put c _ (m + 1) (m + 2) _ (slim_put c d m (m + 1) _ s (indirect_no_jump w) (omega arith)) (λ e. absurd (omega arith)) (omega arith)) (λ e. absurd (omega arith)) (omega arith)) (λ e. absurd (omega arith)) (omega arith)
+
+accessor_slim : (link : Link) (protocol : Protocol) (w : Width) (c d : List Insn) (m : ℕ) → Slim c d m → Slim c (accessor_before link protocol w d) (m + 4)
+accessor_slim link Ether w c d m s = base_slim 0 w c d m s
+accessor_slim link Tcp w c d m s = transport_slim link w c d m s
+accessor_slim link Udp w c d m s = transport_slim link w c d m s
+accessor_slim link Icmp w c d m s = transport_slim link w c d m s
+accessor_slim link _ w c d m s = base_slim (network link) w c d m s
+
+number_slim : (link : Link) (e : NumberTree) (slot : ℕ) (c d : List Insn) (m : ℕ) → Slim c d m → Slim c (number_before link e slot d) (m + 6 * number_size e)
+number_slim link (literal k) slot c d m s = slim_put c d m _ _ s (λ e. absurd (omega arith)) (omega arith)
+number_slim link len slot c d m s = slim_put c d m _ _ s (λ e. absurd (omega arith)) (omega arith)
+number_slim link (negated a) slot c d m s =
+    slim_more c _ (m + 1 + 6 * number_size a) _ (omega arith) (number_slim link a slot c (plain 132 0 ∷ d) (m + 1) (slim_put c d m (m + 1) _ s (λ e. absurd (omega arith)) (omega arith)))
+number_slim link (load protocol size i) slot c d m s =
+    slim_more c _ (m + 4 + 6 * number_size i) _ (omega arith) (number_slim link i slot c (accessor_before link protocol (width_of size) d) (m + 4) (accessor_slim link protocol (width_of size) c d m s))
+number_slim link (applied operator l r) slot c d m s =
+    let s1 = slim_put c d m (m + 1) _ s (operator_no_jump operator) (omega arith) in
+    let s2 = slim_put c _ (m + 1) (m + 2) (plain 96 slot) s1 (λ e. absurd (omega arith)) (omega arith) in
+    let s3 = slim_put c _ (m + 2) (m + 3) (plain 7 0) s2 (λ e. absurd (omega arith)) (omega arith) in
+    let s4 = number_slim link r (slot + 1) c _ (m + 3) s3 in
+    let s5 = slim_put c _ (m + 3 + 6 * number_size r) (m + 4 + 6 * number_size r) (plain 2 slot) s4 (λ e. absurd (omega arith)) (omega arith) in
+    slim_more c _ (m + 4 + 6 * number_size r + 6 * number_size l) _ (omega arith) (number_slim link l slot c _ (m + 4 + 6 * number_size r) s5)
+
+pub emitted_slim : (link : Link) (f : Formula) (hit miss : ℕ) (c : List Insn) → length c + 4 * tests f + 6 * nodes f ≤ 256 → All (λ i. i.code ≢ JUMP) c → Slim c (emitted link f hit miss c).code (4 * tests f + 6 * nodes f)
+emitted_slim link (Single (Known true)) hit miss c l n = record { none = n; longer = omega arith; shorter = omega arith }
+emitted_slim link (Single (Known false)) hit miss c l n = record { none = n; longer = omega arith; shorter = omega arith }
+emitted_slim link (Single (Field k)) hit miss c l n =
+    slim_more c _ 4 _ (omega arith) (field_slim k.place k.width c _ 2 (mask_slim k.mask c _ 1 (comparison_slim k.comparison Constant k.value hit miss c (omega arith) n)))
+emitted_slim link (Compare comparison x y) hit miss c l n =
+    let s1 = comparison_slim comparison IndexRegister 0 hit miss c (omega arith) n in
+    let s2 = slim_put c _ 1 2 (plain 96 0) s1 (λ e. absurd (omega arith)) (omega arith) in
+    let s3 = slim_put c _ 2 3 (plain 7 0) s2 (λ e. absurd (omega arith)) (omega arith) in
+    let s4 = number_slim link y 1 c _ 3 s3 in
+    let s5 = slim_put c _ (3 + 6 * number_size y) (4 + 6 * number_size y) (plain 2 0) s4 (λ e. absurd (omega arith)) (omega arith) in
+    slim_more c _ (4 + 6 * number_size y + 6 * number_size x) _ (omega arith) (number_slim link x 0 c _ (4 + 6 * number_size y) s5)
+emitted_slim link (Both a b) hit miss c l n =
+    let e = emitted link b hit miss c in
+    let sb = emitted_slim link b hit miss c (omega arith) n in
+    let sa = emitted_slim link a e.entry miss e.code (omega (arith, sb.shorter)) sb.none in
+    record { none = sa.none; longer = omega (arith, sa.longer, sb.longer); shorter = omega (arith, sa.shorter, sb.shorter) }
+emitted_slim link (Either a b) hit miss c l n =
+    let e = emitted link b hit miss c in
+    let sb = emitted_slim link b hit miss c (omega arith) n in
+    let sa = emitted_slim link a hit e.entry e.code (omega (arith, sb.shorter)) sb.none in
+    record { none = sa.none; longer = omega (arith, sa.longer, sb.longer); shorter = omega (arith, sa.shorter, sb.shorter) }
+emitted_slim link (Except a) hit miss c l n = emitted_slim link a miss hit c l n

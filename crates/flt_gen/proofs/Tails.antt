@@ -1,0 +1,132 @@
+-- Code that grew in front still stands at its end.
+use Rattle.std.proofs.Common.{◌≡◌, ℕ, suc, ◌+◌, ◌-◌, ◌≤◌, List, [], ◌∷◌, length, drop, Bool, true, false, Option, Some, None, refl, ap, ◌∙◌, arith}
+use Rattle.std.specs.Prelude.{nat_le, ◌&&◌, if◌then◌else◌}
+use Rattle.flt_bpf.specs.declared.insn.Insn.{Insn}
+use Rattle.flt_bpf.specs.declared.operation.Width.{Width}
+use Rattle.flt_bpf.specs.declared.operation.Test.{Test}
+use Rattle.flt_bpf.specs.declared.operation.Test.TheVariants as test
+use Rattle.flt_bpf.specs.declared.operation.Operand.{Operand}
+use Rattle.flt_bpf.specs.declared.operation.Operand.TheVariants.{Constant, IndexRegister}
+use Rattle.flt_words.specs.declared.token.Comparison.{Comparison}
+use Rattle.flt_words.specs.declared.token.Comparison.TheVariants.{Equal, NotEqual, Less, AtMost, Greater, AtLeast}
+use Rattle.flt_words.specs.declared.token.Protocol.{Protocol}
+use Rattle.flt_words.specs.declared.token.Protocol.TheVariants.{Ether, Tcp, Udp, Icmp}
+use Rattle.flt_lang.specs.Tree.{NumberTree, literal, len, load, negated, applied}
+use Rattle.flt_gen.specs.declared.link.Link.{Link}
+use Rattle.flt_gen.specs.declared.elementary.Place.{Place}
+use Rattle.flt_gen.specs.declared.elementary.Place.TheVariants.{At, Past}
+use Rattle.flt_gen.specs.declared.elementary.FieldTest.{FieldTest}
+use Rattle.flt_gen.specs.declared.elementary.Elementary.{Elementary}
+use Rattle.flt_gen.specs.declared.elementary.Elementary.TheVariants.{Known, Field}
+use Rattle.flt_gen.specs.Elementary.{network}
+use Rattle.flt_gen.specs.Numbers.{width_of, accessor_tests}
+use Rattle.flt_gen.specs.Formula.{Formula, Single, Compare, Both, Either, Except}
+use Rattle.flt_gen.specs.Code.{plain, branch_before, comparison_before, field_before, mask_before, test_before, accessor_before, number_before, relation_before, elementary_before, emitted, all_before, accessors_before, base_before, transport_before, NEAR}
+
+-- the code from a place on
+abbrev pub tail : List Insn → ℕ → List Insn
+tail c place = drop (length c - place) c
+
+-- a longer code is the same from the places of the shorter
+pub record Extends (c d : List Insn) : Type 0 where
+  pub longer : length c ≤ length d
+  pub same : (place : ℕ) → place ≤ length c → tail d place ≡ tail c place
+
+pub extends_none : (c : List Insn) → Extends c c
+extends_none c = record { longer = omega arith; same = λ place l. refl }
+
+pub extends_put : (c d : List Insn) (i : Insn) → Extends c d → Extends c (i ∷ d)
+extends_put c d i e =
+    record {
+      longer = omega (arith, e.longer);
+      same = λ place l. (let more : length (i ∷ d) - place ≡ suc (length d - place) = omega (arith, e.longer) in ap (λ k. drop k (i ∷ d)) more) ∙ e.same place l;
+    }
+
+pub extends_on : (c d f : List Insn) → Extends c d → Extends d f → Extends c f
+extends_on c d f a b =
+    record {
+      longer = omega (arith, a.longer, b.longer);
+      same = λ place l. b.same place (omega (arith, a.longer)) ∙ a.same place l;
+    }
+
+pub one_of_four : (P : List Insn → Type 0) (a b c : Bool) (w x y z : List Insn) → P w → P x → P y → P z → P (if a then w else (if b then x else (if c then y else z)))
+one_of_four P true b c w x y z pw px py pz = pw
+one_of_four P false true c w x y z pw px py pz = px
+one_of_four P false false true w x y z pw px py pz = py
+one_of_four P false false false w x y z pw px py pz = pz
+
+pub branch_extends : (t : Test) (operand : Operand) (k hit miss : ℕ) (c : List Insn) → Extends c (branch_before t operand k hit miss c)
+branch_extends t operand k hit miss c =
+    let none = extends_none c in
+    let one_hit = extends_put c c (plain 5 (length c - hit)) none in
+    let one_miss = extends_put c c (plain 5 (length c - miss)) none in
+    one_of_four (λ d. Extends c d) (nat_le (length c - hit) NEAR && nat_le (length c - miss) NEAR) (nat_le (length c + 1 - miss) NEAR) (nat_le (length c + 1 - hit) NEAR) _ _ _ _
+    (extends_put c c _ none) (extends_put c _ _ one_hit) (extends_put c _ _ one_miss) (extends_put c _ _ (extends_put c _ _ one_miss))
+
+pub field_extends : (place : Place) (width : Width) (c d : List Insn) → Extends c d → Extends c (field_before place width d)
+field_extends (At k) width c d e = extends_put c d _ e
+field_extends (Past header k) width c d e = extends_put c _ _ (extends_put c d _ e)
+
+pub mask_extends : (mask : Option ℕ) (c d : List Insn) → Extends c d → Extends c (mask_before mask d)
+mask_extends None c d e = e
+mask_extends (Some mask) c d e = extends_put c d _ e
+
+pub comparison_extends : (comparison : Comparison) (operand : Operand) (k hit miss : ℕ) (c : List Insn) → Extends c (comparison_before comparison operand k hit miss c)
+comparison_extends Equal operand k hit miss c = branch_extends test.Equal operand k hit miss c
+comparison_extends NotEqual operand k hit miss c = branch_extends test.Equal operand k miss hit c
+comparison_extends Less operand k hit miss c = branch_extends test.AtLeast operand k miss hit c
+comparison_extends AtMost operand k hit miss c = branch_extends test.Greater operand k miss hit c
+comparison_extends Greater operand k hit miss c = branch_extends test.Greater operand k hit miss c
+comparison_extends AtLeast operand k hit miss c = branch_extends test.AtLeast operand k hit miss c
+
+base_extends : (at : ℕ) (w : Width) (c d : List Insn) → Extends c d → Extends c (base_before at w d)
+base_extends at w c d e = extends_put c _ _ (extends_put c d _ e)
+
+transport_extends : (link : Link) (w : Width) (c d : List Insn) → Extends c d → Extends c (transport_before link w d)
+transport_extends link w c d e = extends_put c _ _ (extends_put c _ _ (extends_put c _ _ (extends_put c d _ e)))
+
+pub accessor_extends : (link : Link) (protocol : Protocol) (w : Width) (c d : List Insn) → Extends c d → Extends c (accessor_before link protocol w d)
+accessor_extends link Ether w c d e = base_extends 0 w c d e
+accessor_extends link Tcp w c d e = transport_extends link w c d e
+accessor_extends link Udp w c d e = transport_extends link w c d e
+accessor_extends link Icmp w c d e = transport_extends link w c d e
+accessor_extends link _ w c d e = base_extends (network link) w c d e
+
+pub number_extends : (link : Link) (e : NumberTree) (slot : ℕ) (c d : List Insn) → Extends c d → Extends c (number_before link e slot d)
+number_extends link (literal k) slot c d e = extends_put c d _ e
+number_extends link len slot c d e = extends_put c d _ e
+number_extends link (load protocol size i) slot c d e = number_extends link i slot c _ (accessor_extends link protocol (width_of size) c d e)
+number_extends link (negated a) slot c d e = number_extends link a slot c (plain 132 0 ∷ d) (extends_put c d _ e)
+number_extends link (applied operator l r) slot c d e =
+    number_extends link l slot c _ (extends_put c _ _ (number_extends link r (slot + 1) c _ (extends_put c _ _ (extends_put c _ _ (extends_put c d _ e)))))
+
+pub test_extends : (t : FieldTest) (hit miss : ℕ) (c : List Insn) → Extends c (test_before t hit miss c)
+test_extends t hit miss c = field_extends t.place t.width c _ (mask_extends t.mask c _ (comparison_extends t.comparison Constant t.value hit miss c))
+
+pub elementary_extends : (t : Elementary) (hit miss : ℕ) (c : List Insn) → Extends c (elementary_before t hit miss c).code
+elementary_extends (Known true) hit miss c = extends_none c
+elementary_extends (Known false) hit miss c = extends_none c
+elementary_extends (Field t) hit miss c = test_extends t hit miss c
+
+pub relation_extends : (link : Link) (comparison : Comparison) (l r : NumberTree) (hit miss : ℕ) (c : List Insn) → Extends c (relation_before link comparison l r hit miss c)
+relation_extends link comparison l r hit miss c =
+    number_extends link l 0 c _ (extends_put c _ _ (number_extends link r 1 c _ (extends_put c _ _ (extends_put c _ _ (comparison_extends comparison IndexRegister 0 hit miss c)))))
+
+pub emitted_extends : (link : Link) (f : Formula) (hit miss : ℕ) (c : List Insn) → Extends c (emitted link f hit miss c).code
+emitted_extends link (Single t) hit miss c = elementary_extends t hit miss c
+emitted_extends link (Compare comparison l r) hit miss c = relation_extends link comparison l r hit miss c
+emitted_extends link (Both a b) hit miss c =
+    let e = emitted link b hit miss c in extends_on c e.code _ (emitted_extends link b hit miss c) (emitted_extends link a e.entry miss e.code)
+emitted_extends link (Either a b) hit miss c =
+    let e = emitted link b hit miss c in extends_on c e.code _ (emitted_extends link b hit miss c) (emitted_extends link a hit e.entry e.code)
+emitted_extends link (Except a) hit miss c = emitted_extends link a miss hit c
+
+pub all_extends : (ts : List Elementary) (hit miss : ℕ) (c : List Insn) → Extends c (all_before ts hit miss c).code
+all_extends [] hit miss c = extends_none c
+all_extends (t ∷ ts) hit miss c =
+    let e = all_before ts hit miss c in extends_on c e.code _ (all_extends ts hit miss c) (elementary_extends t e.entry miss e.code)
+
+pub accessors_extend : (link : Link) (ps : List Protocol) (hit miss : ℕ) (c : List Insn) → Extends c (accessors_before link ps hit miss c).code
+accessors_extend link [] hit miss c = extends_none c
+accessors_extend link (p ∷ ps) hit miss c =
+    let e = accessors_before link ps hit miss c in extends_on c e.code _ (accessors_extend link ps hit miss c) (all_extends (accessor_tests link p) e.entry miss e.code)

@@ -1,0 +1,158 @@
+-- The program of an expression is valid and decides it, its jumps are needed, and a short one has none.
+use Rattle.std.proofs.Common.{◌≡◌, ℕ, ◌+◌, ◌-◌, ◌*◌, ◌<◌, ◌≤◌, List, [], ◌∷◌, length, drop, true, false, refl, ap, ◌∙◌, subst, arith, length-drop}
+use Rattle.std.specs.Prelude.{◌≢◌, ◌↔◌, All}
+use Rattle.std.proofs.lemmas.Option.{slice_get_within, get_or_from_slice_get}
+use Rattle.std.proofs.lemmas.List.Elements.{All-drop, All-nil}
+use Rattle.flt_bpf.specs.declared.insn.Insn.{Insn}
+use Rattle.flt_bpf.specs.Instructions.{operation_of}
+use Rattle.flt_bpf.specs.Machine.{step, start}
+use Rattle.flt_bpf.specs.Check.{fault_of, ends_in_return}
+use Rattle.flt_bpf.specs.Valid.{IsValid}
+use Rattle.flt_lang.specs.Tree.{Expression, empty, truth}
+use Rattle.flt_lang.specs.Counts.{words_of, bound_of}
+use Rattle.flt_lang.specs.Resolved.{is_unfilled, some_primitive}
+use Rattle.flt_gen.specs.declared.link.Link.{Link}
+use Rattle.flt_gen.specs.declared.elementary.Elementary.TheVariants.{Known}
+use Rattle.flt_gen.specs.Elementary.{Reading, Yes, No, Rejected}
+use Rattle.flt_gen.specs.Formula.{Formula, Single, reads}
+use Rattle.flt_gen.specs.Reading.{formula, holds}
+use Rattle.flt_gen.specs.Counts.{words, tests, nodes, short_bound_of}
+use Rattle.flt_gen.specs.Code.{plain, emitted, Entered, returns_code, expression_code, from_entry, program_code}
+use Rattle.flt_gen.specs.Correct.{Decides, IsProgramOf}
+use Rattle.flt_gen.specs.Layout.{JUMP, JumpsAreNeeded, IsShort}
+use Rattle.flt_bpf.proofs.Suffix.{IsFaultless, valid_if_faultless, faultless_drop, ends_drop, answer_drop, machine_answers}
+use Rattle.flt_gen.proofs.Runs.{pick, Leads, emitted_works}
+use Rattle.flt_gen.proofs.Far.{emitted_needed}
+use Rattle.flt_gen.proofs.Short.{emitted_slim, all_put}
+use Rattle.flt_gen.proofs.Grows.{Sits, emitted_sits}
+use Rattle.flt_gen.proofs.Counted.{tests_fit, nodes_fit, words_fit}
+
+-- the empty expression as a formula, which has no code either
+abbrev pub formula_of : Link → Expression → Formula
+formula_of link empty = Single (Known true)
+formula_of link (truth a) = formula link a
+
+code_of : (link : Link) (e : Expression) → emitted link (formula_of link e) 2 1 returns_code ≡ expression_code link e
+code_of link empty = refl
+code_of link (truth a) = refl
+
+reads_of : (link : Link) (e : Expression) (p : List ℕ) (n : ℕ) → reads link (formula_of link e) p n ≡ holds e link p n
+reads_of link empty p n = refl
+reads_of link (truth a) p n = refl
+
+returns_sound : IsFaultless returns_code
+unfolding fault_of operation_of
+returns_sound = (refl, (refl, tt))
+
+returns_end : ends_in_return returns_code ≡ true
+unfolding operation_of
+returns_end = refl
+
+hit_leads : (p : List ℕ) (n : ℕ) → Leads p n returns_code 2 262144
+unfolding step operation_of
+hit_leads p n = record { by = λ s long. refl }
+
+miss_leads : (p : List ℕ) (n : ℕ) → Leads p n returns_code 1 0
+unfolding step operation_of
+miss_leads p n = record { by = λ s long. refl }
+
+pick_right : (r : Reading) → (pick r 262144 0 ≢ 0) ↔ (r ≡ Yes)
+pick_right Yes = (λ h. refl, λ e z. absurd (omega arith))
+pick_right No = (λ h. absurd (h refl), λ e. cc)
+pick_right Rejected = (λ h. absurd (h refl), λ e. cc)
+
+entry_length : (e : Entered) → e.entry ≤ length e.code → length (from_entry e) ≡ e.entry
+entry_length e l = omega (arith, length-drop (length e.code - e.entry) e.code)
+
+-- how the code of an expression sits on the two returns
+sits : (link : Link) (e : Expression) → words_of e ≤ 16 → Sits (expression_code link e) returns_code (6 * (tests (formula_of link e) + nodes (formula_of link e)))
+sits link e few =
+    let f = formula_of link e in
+    let w : words f ≤ 16 = words_of_formula e few in
+    subst (λ (x : Entered). Sits x returns_code (6 * (tests f + nodes f))) (code_of link e) (emitted_sits link f 2 1 returns_code w returns_sound returns_end (omega arith) (omega arith) (omega arith) (omega arith))
+  where
+    words_of_formula : (e : Expression) → words_of e ≤ 16 → words (formula_of link e) ≤ 16
+    words_of_formula empty few = omega arith
+    words_of_formula (truth a) few = omega (arith, words_fit link a)
+
+short_code : (link : Link) (e : Expression) → some_primitive is_unfilled e ≡ false → words_of e ≤ 16 → length (from_entry (expression_code link e)) ≤ bound_of e
+short_code link empty filled few = omega arith
+short_code link (truth a) filled few =
+    let s = sits link (truth a) few in
+    let n = entry_length (expression_code link (truth a)) s.inside in
+    omega (arith, n, s.inside, s.grows.shorter, tests_fit link a filled, nodes_fit link a)
+
+-- the code of an expression is no longer than its bound, and its entry is inside
+pub record Fits (link : Link) (e : Expression) : Type 0 where
+  pub room : length (expression_code link e).code ≤ 32768
+  pub inside : (expression_code link e).entry ≤ length (expression_code link e).code
+
+pub code_fits : (link : Link) (e : Expression) → some_primitive is_unfilled e ≡ false → words_of e ≤ 16 → bound_of e ≤ 32768 → Fits link e
+code_fits link empty filled few short = record { room = omega arith; inside = omega arith }
+code_fits link (truth a) filled few short =
+    let s = sits link (truth a) few in
+    record { room = omega (arith, s.grows.shorter, tests_fit link a filled, nodes_fit link a); inside = s.inside }
+
+pub program_valid : (link : Link) (e : Expression) → some_primitive is_unfilled e ≡ false → words_of e ≤ 16 → bound_of e ≤ 32768 → IsValid (program_code link e)
+program_valid link e filled few short =
+    let x = expression_code link e in
+    let s = sits link e few in
+    let n = entry_length x s.inside in
+    let k : length x.code - x.entry < length x.code = omega (arith, s.low, s.inside) in
+    valid_if_faultless (from_entry x) (faultless_drop x.code (length x.code - x.entry) s.grows.sound) (omega (arith, n, s.low)) (omega (arith, short_code link e filled few)) (ends_drop x.code (length x.code - x.entry) k s.grows.ends)
+
+pub program_decides : (link : Link) (e : Expression) → some_primitive is_unfilled e ≡ false → words_of e ≤ 16 → bound_of e ≤ 32768 → IsProgramOf (program_code link e) e link
+program_decides link e filled few short =
+    record { bounded = short_code link e filled few; decides = decided }
+  where
+    f : Formula
+    f = formula_of link e
+
+    x : Entered
+    x = expression_code link e
+
+    few_words : (e : Expression) → words_of e ≤ 16 → words (formula_of link e) ≤ 16
+    few_words empty h = omega arith
+    few_words (truth a) h = omega (arith, words_fit link a)
+
+    decided : (p : List ℕ) (n : ℕ) → Decides (program_code link e) e link p n
+    decided p n =
+        let v = pick (reads link f p n) 262144 0 in
+        let w = emitted_works p n link f 2 1 262144 0 returns_code (few_words e few) (omega arith) (omega arith) (hit_leads p n) (miss_leads p n) in
+        let l : Leads p n x.code x.entry v = subst (λ (y : Entered). Leads p n y.code y.entry v) (code_of link e) w.leads in
+        let c = machine_answers (from_entry x) p n v (answer_drop x.code p n (length x.code - x.entry) start ∙ l.by start refl) in
+        record {
+          answer = v;
+          count = c.met;
+          answered = c.answered;
+          few = omega (arith, c.few);
+          right = subst (λ r. (v ≢ 0) ↔ (r ≡ Yes)) (reads_of link e p n) (pick_right (reads link f p n));
+        }
+
+returns_no_jump : All (λ i. i.code ≢ JUMP) returns_code
+returns_no_jump =
+    all_put (λ i. i.code ≢ JUMP) (plain 6 262144) (plain 6 0 ∷ []) (λ e. absurd (omega arith)) (all_put (λ i. i.code ≢ JUMP) (plain 6 0) [] (λ e. absurd (omega arith)) (All-nil (λ i. i.code ≢ JUMP)))
+
+-- code without jumps needs none
+none_needed : (c : List Insn) → All (λ i. i.code ≢ JUMP) c → JumpsAreNeeded c
+none_needed c h = record { each = λ place jump g e. absurd (h place jump (slice_get_within c place jump g) (ap (λ i. i.code) (get_or_from_slice_get c place jump jump g) ∙ e)) }
+
+pub program_layout : (link : Link) (e : Expression) → JumpsAreNeeded (program_code link e)
+program_layout link e =
+    let all = none_needed returns_code returns_no_jump in
+    let last = none_needed (drop 1 returns_code) (All-drop (λ i. i.code ≢ JUMP) 1 returns_code returns_no_jump) in
+    let n = (emitted_needed link (formula_of link e) 2 1 returns_code (omega arith) (omega arith) all all last).needed.entered in
+    subst (λ (x : Entered). JumpsAreNeeded (from_entry x)) (code_of link e) n
+
+pub program_short : (link : Link) (e : Expression) → some_primitive is_unfilled e ≡ false → short_bound_of e ≤ 256 → IsShort (program_code link e) (short_bound_of e)
+program_short link empty filled l = record { no_jump = returns_no_jump; short = omega arith }
+program_short link (truth a) filled l =
+    let f = formula link a in
+    let e = emitted link f 2 1 returns_code in
+    let t = tests_fit link a filled in
+    let n = nodes_fit link a in
+    let s = emitted_slim link f 2 1 returns_code (omega arith) returns_no_jump in
+    record {
+      no_jump = All-drop (λ i. i.code ≢ JUMP) (length e.code - e.entry) e.code s.none;
+      short = omega (arith, length-drop (length e.code - e.entry) e.code, s.shorter);
+    }

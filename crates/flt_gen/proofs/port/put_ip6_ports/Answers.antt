@@ -1,0 +1,20 @@
+-- The code of both sides is that of their formula.
+use Rattle.std.proofs.Common.{rules, ◌≡◌, ◌+◌, ap}
+use Rattle.flt_gen.specs.declared.elementary.Place.TheVariants.{At}
+use Rattle.flt_gen.specs.Elementary.{network}
+use Rattle.flt_gen.specs.Formula.{sides}
+use Rattle.flt_gen.specs.Primitives.{port_tests}
+use Rattle.flt_gen.specs.Code.{entered, emitted}
+use Rattle.flt_gen.proofs.Joined.{sides_put}
+use Rattle.flt_gen.proofs.port.put_ip6_ports.Goals as goal
+
+pub returns-clause-code : goal.returns-clause-code
+returns-clause-code g c =
+    let m = c.network-start.result in
+    let s = port_tests c.args.ports (At ((network c.args.link) + 40)) in
+    let d = port_tests c.args.ports (At ((network c.args.link) + 42)) in
+    let p : port_tests c.args.ports (At (m + 40)) ≡ s = ap (λ n. port_tests c.args.ports (At (n + 40))) c.network-start.ensures.place in
+    let q : port_tests c.args.ports (At (m + 42)) ≡ d = ap (λ n. port_tests c.args.ports (At (n + 42))) c.network-start.ensures.place in
+    let sides_are : emitted c.args.link (sides c.args.direction s d) c.args.to.yes c.args.to.no c.args.code.now ≡ entered c.put_port_sides.new.code c.in_ok-yes.yes =
+    sides_put c.args.link c.args.direction s _ d _ c.args.to.yes c.args.to.no c.args.code.now (entered c.put_port_sides.new.code c.in_ok-yes.yes) p q c.in_ok-yes.ensures.code in
+    search rules

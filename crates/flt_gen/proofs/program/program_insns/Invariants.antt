@@ -1,0 +1,16 @@
+-- What is left to do leads to the same walk.
+use Rattle.std.proofs.Common.{◌≡◌, ◌≤◌, length, take}
+use Rattle.std.specs.Prelude.{reverse}
+use Rattle.flt_gen.specs.Walk.{walked, start}
+use Rattle.flt_gen.proofs.Room.{IsLow}
+use Rattle.flt_gen.proofs.program.program_insns.Given as goal
+
+abbrev pub invariant-nodes : goal.invariant-nodes
+invariant-nodes g l = record {
+  within : l.left ≤ length l.nodes;
+  same : walked l.link l.walk (reverse (take l.left l.nodes)) ≡ walked l.link start (reverse l.nodes);
+  low : IsLow l.walk;
+}
+
+abbrev pub decreases-nodes : goal.decreases-nodes
+decreases-nodes g l = l.left

@@ -1,0 +1,212 @@
+-- The code of a formula, which is put in front of the code that is there.
+use Rattle.std.specs.Prelude.{ℕ, ◌+◌, ◌-◌, true, false, nat_le, ◌&&◌, if◌then◌else◌, List, [], ◌∷◌, length, drop, Option, Some, None}
+use Rattle.flt_bpf.specs.declared.insn.Insn.{Insn}
+use Rattle.flt_bpf.specs.declared.operation.Width.{Width}
+use Rattle.flt_bpf.specs.declared.operation.Width.TheVariants.{Word, HalfWord, Byte}
+use Rattle.flt_bpf.specs.declared.operation.Test.{Test}
+use Rattle.flt_bpf.specs.declared.operation.Test.TheVariants as test
+use Rattle.flt_bpf.specs.declared.operation.Operand.{Operand}
+use Rattle.flt_bpf.specs.declared.operation.Operand.TheVariants.{Constant, IndexRegister}
+use Rattle.flt_words.specs.declared.token.Operator.{Operator}
+use Rattle.flt_words.specs.declared.token.Operator.TheVariants.{Or, And, ShiftLeft, ShiftRight, Add, Subtract, Multiply, Divide}
+use Rattle.flt_words.specs.declared.token.Comparison.{Comparison}
+use Rattle.flt_words.specs.declared.token.Comparison.TheVariants.{Equal, NotEqual, Less, AtMost, Greater, AtLeast}
+use Rattle.flt_words.specs.declared.token.Size.{Size}
+use Rattle.flt_words.specs.declared.token.Size.TheVariants as size
+use Rattle.flt_words.specs.declared.token.Protocol.{Protocol}
+use Rattle.flt_words.specs.declared.token.Protocol.TheVariants.{Ether, Tcp, Udp, Icmp}
+use Rattle.flt_words.specs.declared.token.Side.TheVariants.{Source, Destination}
+use Rattle.flt_words.specs.declared.token.Join.TheVariants as join
+use Rattle.flt_lang.specs.declared.quals.Direction.{Direction}
+use Rattle.flt_lang.specs.declared.quals.Direction.TheVariants as direction
+use Rattle.flt_lang.specs.Tree.{NumberTree, literal, len, load, negated, applied, Expression, empty, truth}
+use Rattle.flt_gen.specs.declared.link.Link.{Link}
+use Rattle.flt_gen.specs.declared.elementary.Place.{Place}
+use Rattle.flt_gen.specs.declared.elementary.Place.TheVariants.{At, Past}
+use Rattle.flt_gen.specs.declared.elementary.FieldTest.{FieldTest}
+use Rattle.flt_gen.specs.declared.elementary.Elementary.{Elementary}
+use Rattle.flt_gen.specs.declared.elementary.Elementary.TheVariants.{Known, Field}
+use Rattle.flt_gen.specs.Elementary.{network}
+use Rattle.flt_gen.specs.Numbers.{width_of, accessor_tests}
+use Rattle.flt_gen.specs.Formula.{Formula, Single, Compare, Both, Either, Except}
+use Rattle.flt_gen.specs.Reading.{formula}
+
+-- an instruction that isn't a test
+abbrev pub plain : ℕ → ℕ → Insn
+plain code k = record { code = code; jt = 0; jf = 0; k = k }
+
+abbrev pub load_code : Width → ℕ
+load_code Word = 32
+load_code HalfWord = 40
+load_code Byte = 48
+
+abbrev pub indirect_code : Width → ℕ
+indirect_code Word = 64
+indirect_code HalfWord = 72
+indirect_code Byte = 80
+
+-- an operator with X
+abbrev pub operator_code : Operator → ℕ
+operator_code Add = 12
+operator_code Subtract = 28
+operator_code Multiply = 44
+operator_code Divide = 60
+operator_code Or = 76
+operator_code And = 92
+operator_code ShiftLeft = 108
+operator_code ShiftRight = 124
+
+abbrev pub test_code : Test → Operand → ℕ
+test_code test.Equal Constant = 21
+test_code test.Greater Constant = 37
+test_code test.AtLeast Constant = 53
+test_code test.AnyBit Constant = 69
+test_code test.Equal IndexRegister = 29
+test_code test.Greater IndexRegister = 45
+test_code test.AtLeast IndexRegister = 61
+test_code test.AnyBit IndexRegister = 77
+
+-- the greatest offset of a conditional jump
+abbrev pub NEAR : ℕ
+NEAR = 255
+
+abbrev pub branch_insn : Test → Operand → ℕ → ℕ → ℕ → Insn
+branch_insn test operand k jt jf = record { code = test_code test operand; jt = jt; jf = jf; k = k }
+
+-- a jump to a place, which is given as the number of instructions from there to the end
+abbrev pub jump_before : ℕ → List Insn → List Insn
+jump_before to c = plain 5 (length c - to) ∷ c
+
+-- a test that goes on at one of two places; a place that is too far is reached by a jump right behind the test
+abbrev pub branch_before : Test → Operand → ℕ → ℕ → ℕ → List Insn → List Insn
+branch_before test operand k hit miss c =
+    if nat_le (length c - hit) NEAR && nat_le (length c - miss) NEAR
+    then branch_insn test operand k (length c - hit) (length c - miss) ∷ c
+    else (if nat_le (length c + 1 - miss) NEAR
+    then branch_insn test operand k 0 (length c + 1 - miss) ∷ jump_before hit c
+    else (if nat_le (length c + 1 - hit) NEAR
+    then branch_insn test operand k (length c + 1 - hit) 0 ∷ jump_before miss c
+    else branch_insn test operand k 0 1 ∷ jump_before hit (jump_before miss c)))
+
+-- the machine has three of the six comparisons; the others exchange the places
+abbrev pub comparison_before : Comparison → Operand → ℕ → ℕ → ℕ → List Insn → List Insn
+comparison_before Equal operand k hit miss c = branch_before test.Equal operand k hit miss c
+comparison_before NotEqual operand k hit miss c = branch_before test.Equal operand k miss hit c
+comparison_before Less operand k hit miss c = branch_before test.AtLeast operand k miss hit c
+comparison_before AtMost operand k hit miss c = branch_before test.Greater operand k miss hit c
+comparison_before Greater operand k hit miss c = branch_before test.Greater operand k hit miss c
+comparison_before AtLeast operand k hit miss c = branch_before test.AtLeast operand k hit miss c
+
+-- a field's number goes into A
+abbrev pub field_before : Place → Width → List Insn → List Insn
+field_before (At k) width c = plain (load_code width) k ∷ c
+field_before (Past header k) width c = plain 177 header ∷ plain (indirect_code width) k ∷ c
+
+abbrev pub mask_before : Option ℕ → List Insn → List Insn
+mask_before None c = c
+mask_before (Some mask) c = plain 84 mask ∷ c
+
+abbrev pub test_before : FieldTest → ℕ → ℕ → List Insn → List Insn
+test_before t hit miss c = field_before t.place t.width (mask_before t.mask (comparison_before t.comparison Constant t.value hit miss c))
+
+-- what loads an accessor's field where its first byte stands at the number in A
+abbrev pub transport_before : Link → Width → List Insn → List Insn
+transport_before link width c =
+    plain 177 (network link) ∷ plain 12 0 ∷ plain 7 0 ∷ plain (indirect_code width) (network link) ∷ c
+
+abbrev pub base_before : ℕ → Width → List Insn → List Insn
+base_before at width c = plain 7 0 ∷ plain (indirect_code width) at ∷ c
+
+-- an accessor's field goes into A, its index being there
+abbrev pub accessor_before : Link → Protocol → Width → List Insn → List Insn
+accessor_before link Ether width c = base_before 0 width c
+accessor_before link Tcp width c = transport_before link width c
+accessor_before link Udp width c = transport_before link width c
+accessor_before link Icmp width c = transport_before link width c
+accessor_before link _ width c = base_before (network link) width c
+
+-- the left operand is in A when it goes into a word; later it comes back from there, and the right one is in X
+abbrev pub operands_before : ℕ → List Insn → List Insn
+operands_before slot c = plain 7 0 ∷ plain 96 slot ∷ c
+
+-- arithmetic's value goes into A; the words from slot on are free for it
+abbrev pub number_before : Link → NumberTree → ℕ → List Insn → List Insn
+number_before link (literal k) slot c = plain 0 k ∷ c
+number_before link len slot c = plain 128 0 ∷ c
+number_before link (load protocol size i) slot c = number_before link i slot (accessor_before link protocol (width_of size) c)
+number_before link (negated a) slot c = number_before link a slot (plain 132 0 ∷ c)
+number_before link (applied operator l r) slot c =
+    number_before link l slot (plain 2 slot ∷ number_before link r (slot + 1) (operands_before slot (plain (operator_code operator) 0 ∷ c)))
+
+abbrev pub relation_before : Link → Comparison → NumberTree → NumberTree → ℕ → ℕ → List Insn → List Insn
+relation_before link comparison l r hit miss c =
+    number_before link l 0 (plain 2 0 ∷ number_before link r 1 (operands_before 0 (comparison_before comparison IndexRegister 0 hit miss c)))
+
+-- the original length, compared with a number
+abbrev pub sized_comparison : Size → Comparison
+sized_comparison size.Less = AtMost
+sized_comparison size.Greater = AtLeast
+
+abbrev pub sized_before : Size → ℕ → ℕ → ℕ → List Insn → List Insn
+sized_before size number hit miss c =
+    plain 128 0 ∷ plain 2 0 ∷ plain 0 number ∷ operands_before 0 (comparison_before (sized_comparison size) IndexRegister 0 hit miss c)
+
+-- code, and the place at which it is entered
+pub record Entered : Type 0 where
+  pub code : List Insn
+  pub entry : ℕ
+
+abbrev pub entered : List Insn → ℕ → Entered
+entered c entry = record { code = c; entry = entry }
+
+abbrev pub at_top : List Insn → Entered
+at_top c = record { code = c; entry = length c }
+
+-- a test that is known takes no code
+abbrev pub elementary_before : Elementary → ℕ → ℕ → List Insn → Entered
+elementary_before (Known true) hit miss c = record { code = c; entry = hit }
+elementary_before (Known false) hit miss c = record { code = c; entry = miss }
+elementary_before (Field t) hit miss c = at_top (test_before t hit miss c)
+
+-- the code of a formula that goes on at one of two places
+abbrev pub emitted : Link → Formula → ℕ → ℕ → List Insn → Entered
+emitted link (Single t) hit miss c = elementary_before t hit miss c
+emitted link (Compare comparison l r) hit miss c = at_top (relation_before link comparison l r hit miss c)
+emitted link (Both a b) hit miss c = let e = emitted link b hit miss c in emitted link a e.entry miss e.code
+emitted link (Either a b) hit miss c = let e = emitted link b hit miss c in emitted link a hit e.entry e.code
+emitted link (Except a) hit miss c = emitted link a miss hit c
+
+-- all of some tests, from the last to the first
+abbrev pub all_before : List Elementary → ℕ → ℕ → List Insn → Entered
+all_before [] hit miss c = record { code = c; entry = hit }
+all_before (t ∷ ts) hit miss c = let e = all_before ts hit miss c in elementary_before t e.entry miss e.code
+
+-- the tests of a direction
+abbrev pub sides_before : Direction → List Elementary → List Elementary → ℕ → ℕ → List Insn → Entered
+sides_before (direction.One Source) source destination hit miss c = all_before source hit miss c
+sides_before (direction.One Destination) source destination hit miss c = all_before destination hit miss c
+sides_before (direction.Both join.Or) source destination hit miss c = let e = all_before destination hit miss c in all_before source hit e.entry e.code
+sides_before (direction.Both join.And) source destination hit miss c = let e = all_before destination hit miss c in all_before source e.entry miss e.code
+
+-- the tests of accessors, from the last to the first
+abbrev pub accessors_before : Link → List Protocol → ℕ → ℕ → List Insn → Entered
+accessors_before link [] hit miss c = record { code = c; entry = hit }
+accessors_before link (p ∷ ps) hit miss c =
+    let e = accessors_before link ps hit miss c in all_before (accessor_tests link p) e.entry miss e.code
+
+-- the two returns at the end
+abbrev pub returns_code : List Insn
+returns_code = plain 6 262144 ∷ plain 6 0 ∷ []
+
+-- the code of an expression, in front of the two returns; the empty expression has none
+abbrev pub expression_code : Link → Expression → Entered
+expression_code link empty = record { code = returns_code; entry = 2 }
+expression_code link (truth a) = emitted link (formula link a) 2 1 returns_code
+
+-- the instructions from the entry on
+abbrev pub from_entry : Entered → List Insn
+from_entry e = drop (length e.code - e.entry) e.code
+
+-- the program of an expression
+abbrev pub program_code : Link → Expression → List Insn
+program_code link e = from_entry (expression_code link e)

@@ -1,0 +1,30 @@
+-- How many tests, nodes of arithmetic and words of memory a formula has, and the bound of a program without jumps.
+use Rattle.std.specs.Prelude.{ℕ, ◌+◌, ◌*◌, max}
+use Rattle.flt_lang.specs.Tree.{Expression}
+use Rattle.flt_lang.specs.Counts.{number_words, number_size, tests_of, nodes_of}
+use Rattle.flt_gen.specs.Formula.{Formula, Single, Compare, Both, Either, Except}
+
+abbrev pub words : Formula → ℕ
+words (Single t) = 0
+words (Compare c l r) = max (number_words l) (1 + number_words r)
+words (Both a b) = max (words a) (words b)
+words (Either a b) = max (words a) (words b)
+words (Except a) = words a
+
+abbrev pub nodes : Formula → ℕ
+nodes (Single t) = 0
+nodes (Compare c l r) = number_size l + number_size r
+nodes (Both a b) = nodes a + nodes b
+nodes (Either a b) = nodes a + nodes b
+nodes (Except a) = nodes a
+
+abbrev pub tests : Formula → ℕ
+tests (Single t) = 1
+tests (Compare c l r) = 1
+tests (Both a b) = tests a + tests b
+tests (Either a b) = tests a + tests b
+tests (Except a) = tests a
+
+-- the most instructions of an expression's program where no jump is needed
+abbrev pub short_bound_of : Expression → ℕ
+short_bound_of e = 2 + 4 * tests_of e + 6 * nodes_of e

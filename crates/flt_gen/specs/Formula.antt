@@ -1,0 +1,73 @@
+-- Tests joined by and, or and not, and how they are read.
+use Rattle.std.specs.Prelude.{ℕ, true, List, [], ◌∷◌, Some}
+use Rattle.flt_words.specs.declared.token.Comparison.{Comparison}
+use Rattle.flt_words.specs.declared.token.Protocol.{Protocol}
+use Rattle.flt_words.specs.declared.token.Side.TheVariants.{Source, Destination}
+use Rattle.flt_words.specs.declared.token.Join.TheVariants.{And, Or}
+use Rattle.flt_lang.specs.declared.quals.Direction.{Direction}
+use Rattle.flt_lang.specs.declared.quals.Direction.TheVariants as direction
+use Rattle.flt_lang.specs.Tree.{NumberTree}
+use Rattle.flt_gen.specs.declared.link.Link.{Link}
+use Rattle.flt_gen.specs.declared.elementary.Elementary.{Elementary}
+use Rattle.flt_gen.specs.declared.elementary.Elementary.TheVariants.{Known}
+use Rattle.flt_gen.specs.Elementary.{Reading, Yes, No, Rejected, reading_of, with, compares, elementary_reads}
+use Rattle.flt_gen.specs.Numbers.{number, accessor_tests}
+
+pub data Formula : Type 0 where
+  Single : Elementary → Formula
+  Compare : Comparison → NumberTree → NumberTree → Formula
+  Both : Formula → Formula → Formula
+  Either : Formula → Formula → Formula
+  Except : Formula → Formula
+
+-- the second is read only where the first is yes; only where it is no
+abbrev pub both : Reading → Reading → Reading
+both Yes b = b
+both No b = No
+both Rejected b = Rejected
+
+abbrev pub either : Reading → Reading → Reading
+either Yes b = Yes
+either No b = b
+either Rejected b = Rejected
+
+-- yes and no are exchanged
+abbrev pub negated : Reading → Reading
+negated Yes = No
+negated No = Yes
+negated Rejected = Rejected
+
+abbrev pub relation_reads : Link → Comparison → NumberTree → NumberTree → List ℕ → ℕ → Reading
+relation_reads link c l r p n =
+    reading_of (with (number link l p n) (λ x. with (number link r p n) (λ y. Some (compares c x y))))
+
+-- the reading of a formula on a packet of original length n
+abbrev pub reads : Link → Formula → List ℕ → ℕ → Reading
+reads link (Single t) p n = elementary_reads t p
+reads link (Compare c l r) p n = relation_reads link c l r p n
+reads link (Both a b) p n = both (reads link a p n) (reads link b p n)
+reads link (Either a b) p n = either (reads link a p n) (reads link b p n)
+reads link (Except a) p n = negated (reads link a p n)
+
+-- all of some tests
+abbrev pub all_of : List Elementary → Formula
+all_of [] = Single (Known true)
+all_of (t ∷ []) = Single t
+all_of (t ∷ u ∷ ts) = Both (Single t) (all_of (u ∷ ts))
+
+-- some tests, and then a formula
+abbrev pub guarded : List Elementary → Formula → Formula
+guarded [] f = f
+guarded (t ∷ ts) f = Both (Single t) (guarded ts f)
+
+-- the tests of accessors, and then a formula
+abbrev pub checked : Link → List Protocol → Formula → Formula
+checked link [] f = f
+checked link (protocol ∷ rest) f = guarded (accessor_tests link protocol) (checked link rest f)
+
+-- the tests of the source and of the destination, as a direction asks for them
+abbrev pub sides : Direction → List Elementary → List Elementary → Formula
+sides (direction.One Source) source destination = all_of source
+sides (direction.One Destination) source destination = all_of destination
+sides (direction.Both Or) source destination = Either (all_of source) (all_of destination)
+sides (direction.Both And) source destination = Both (all_of source) (all_of destination)

@@ -1,0 +1,36 @@
+-- Where long jumps stand in a program.
+use Rattle.std.specs.Prelude.{◌≡◌, ◌≢◌, ◌⊎◌, ℕ, ◌+◌, ◌<◌, ◌≤◌, Bool, true, false, List, length, Option, Some, slice_get, All}
+use Rattle.flt_bpf.specs.declared.insn.Insn.{Insn}
+use Rattle.flt_bpf.specs.declared.operation.Operation.{Operation}
+use Rattle.flt_bpf.specs.declared.operation.Operation.TheVariants.{JumpIf}
+use Rattle.flt_bpf.specs.Instructions.{operation_of}
+
+abbrev pub is_branch : Option Operation → Bool
+is_branch (Some (JumpIf test operand)) = true
+is_branch _ = false
+
+-- the code of a jump
+abbrev pub JUMP : ℕ
+JUMP = 5
+
+-- the greatest offset of a conditional jump
+abbrev pub MOST_OFFSET : ℕ
+MOST_OFFSET = 255
+
+-- the jump at a place is where a conditional jump goes on, and its target is too far from the instruction after that one
+pub record IsNeeded (prog : List Insn) (place : ℕ) (jump : Insn) : Type 0 where
+  pub from : ℕ
+  pub branch : Insn
+  pub there : slice_get prog from ≡ Some branch
+  pub branches : is_branch (operation_of branch.code) ≡ true
+  pub leads : (from + 1 + branch.jt ≡ place) ⊎ (from + 1 + branch.jf ≡ place)
+  pub far : from + 1 + MOST_OFFSET < place + 1 + jump.k
+
+-- each jump is needed
+pub record JumpsAreNeeded (prog : List Insn) : Type 0 where
+  pub each : (place : ℕ) (jump : Insn) → slice_get prog place ≡ Some jump → jump.code ≡ JUMP → IsNeeded prog place jump
+
+-- there is no jump, and the program is short
+pub record IsShort (prog : List Insn) (most : ℕ) : Type 0 where
+  pub no_jump : All (λ i. i.code ≢ JUMP) prog
+  pub short : length prog ≤ most

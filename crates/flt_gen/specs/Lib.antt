@@ -1,0 +1,10 @@
+pub mod Elementary
+pub mod Formula
+pub mod Numbers
+pub mod Primitives
+pub mod Reading
+pub mod Code
+pub mod Counts
+pub mod Layout
+pub mod Walk
+pub mod Correct

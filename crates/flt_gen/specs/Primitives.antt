@@ -1,0 +1,208 @@
+-- The table of primitives: each is a formula of elementary tests.
+use Rattle.std.specs.Prelude.{ℕ, ◌+◌, ◌-◌, ◌*◌, ◌/◌, ◌%◌, ◌^◌, min, max, false, List, [], ◌∷◌, Option, Some, None}
+use Rattle.std.specs.Option.{option_map}
+use Rattle.flt_bpf.specs.declared.operation.Width.TheVariants.{Word, HalfWord, Byte}
+use Rattle.flt_words.specs.declared.token.Comparison.TheVariants.{NotEqual, AtMost, AtLeast, Equal}
+use Rattle.flt_words.specs.declared.token.Protocol.{Protocol}
+use Rattle.flt_words.specs.declared.token.Protocol.TheVariants as protocol
+use Rattle.flt_words.specs.declared.token.Side.TheVariants.{Destination}
+use Rattle.flt_words.specs.declared.token.ValueType.{ValueType}
+use Rattle.flt_words.specs.declared.token.ValueType.TheVariants.{Host, Net, Port, PortRange, Proto}
+use Rattle.flt_words.specs.declared.token.Size.{Size}
+use Rattle.flt_words.specs.declared.token.Size.TheVariants as size
+use Rattle.flt_words.specs.declared.token.Cast.{Cast}
+use Rattle.flt_words.specs.declared.token.Cast.TheVariants.{Broadcast, Multicast}
+use Rattle.flt_lang.specs.declared.quals.Direction.{Direction}
+use Rattle.flt_lang.specs.declared.quals.Direction.TheVariants as direction
+use Rattle.flt_lang.specs.declared.quals.FullQuals.{FullQuals}
+use Rattle.flt_lang.specs.declared.value.NetMask.{NetMask}
+use Rattle.flt_lang.specs.declared.value.NetMask.TheVariants.{Unwritten, Prefix, Mask}
+use Rattle.flt_lang.specs.declared.value.Value.{Value}
+use Rattle.flt_lang.specs.declared.value.Value.TheVariants as value
+use Rattle.flt_lang.specs.Tree.{literal, len}
+use Rattle.flt_gen.specs.declared.link.Link.{Link}
+use Rattle.flt_gen.specs.declared.elementary.Kind.{Kind}
+use Rattle.flt_gen.specs.declared.elementary.Kind.TheVariants.{Ethernet, Ip, Ip6, Arp, Rarp}
+use Rattle.flt_gen.specs.declared.elementary.Place.{Place}
+use Rattle.flt_gen.specs.declared.elementary.Place.TheVariants.{At, Past}
+use Rattle.flt_gen.specs.declared.elementary.Elementary.{Elementary}
+use Rattle.flt_gen.specs.declared.elementary.Elementary.TheVariants.{Known, Field}
+use Rattle.flt_gen.specs.declared.elementary.Ports.{Ports}
+use Rattle.flt_gen.specs.declared.elementary.Ports.TheVariants.{One, Between}
+use Rattle.flt_gen.specs.Elementary.{is_at, compares_at, network, kind_test, first_fragment, has_ip_proto, has_ip6_proto}
+use Rattle.flt_gen.specs.Formula.{Formula, Single, Compare, Both, Either, all_of, guarded, sides}
+
+-- protocols
+
+abbrev pub ip_proto : Link → ℕ → Formula
+ip_proto link n = all_of (kind_test link Ip ∷ has_ip_proto link n ∷ [])
+
+abbrev pub ip6_proto : Link → ℕ → Formula
+ip6_proto link n = all_of (kind_test link Ip6 ∷ has_ip6_proto link n ∷ [])
+
+abbrev pub any_proto : Link → ℕ → Formula
+any_proto link n = Either (ip_proto link n) (ip6_proto link n)
+
+abbrev pub ether_proto : Link → ℕ → Formula
+ether_proto link n = all_of (kind_test link Ethernet ∷ is_at 12 HalfWord n ∷ [])
+
+abbrev pub check_formula : Link → Protocol → Formula
+check_formula link protocol.Ether = Single (kind_test link Ethernet)
+check_formula link protocol.Ip = Single (kind_test link Ip)
+check_formula link protocol.Ip6 = Single (kind_test link Ip6)
+check_formula link protocol.Arp = Single (kind_test link Arp)
+check_formula link protocol.Rarp = Single (kind_test link Rarp)
+check_formula link protocol.Tcp = any_proto link 6
+check_formula link protocol.Udp = any_proto link 17
+check_formula link protocol.Icmp = ip_proto link 1
+check_formula link protocol.Icmp6 = ip6_proto link 58
+
+abbrev pub proto_formula : Link → Option Protocol → ℕ → Formula
+proto_formula link (Some protocol.Ip) n = ip_proto link n
+proto_formula link (Some protocol.Ip6) n = ip6_proto link n
+proto_formula link (Some protocol.Ether) n = ether_proto link n
+proto_formula link None n = any_proto link n
+proto_formula link (Some _) n = Single (Known false)
+
+-- Ethernet addresses
+
+-- the six bytes from a place on
+abbrev pub mac_tests : ℕ → ℕ → List Elementary
+mac_tests at address = is_at at Word (address / 2 ^ 16 % 2 ^ 32) ∷ is_at (at + 4) HalfWord (address % 2 ^ 16) ∷ []
+
+abbrev pub ether_host : Link → Direction → ℕ → Formula
+ether_host link direction address = guarded (kind_test link Ethernet ∷ []) (sides direction (mac_tests 6 address) (mac_tests 0 address))
+
+-- the lowest bit of an Ethernet address' first byte is set
+abbrev pub is_group_address : Elementary
+is_group_address = Field (record { place = At 0; width = Byte; mask = Some 1; comparison = NotEqual; value = 0 })
+
+abbrev pub cast_formula : Link → Option Protocol → Cast → Formula
+cast_formula link None Broadcast = ether_host link (direction.One Destination) 0xffff_ffff_ffff
+cast_formula link (Some protocol.Ether) Broadcast = ether_host link (direction.One Destination) 0xffff_ffff_ffff
+cast_formula link (Some _) Broadcast = Single (Known false)
+cast_formula link (Some protocol.Ip) Multicast = all_of (kind_test link Ip ∷ compares_at (At (network link + 16)) Byte AtLeast 224 ∷ [])
+cast_formula link (Some protocol.Ip6) Multicast = all_of (kind_test link Ip6 ∷ is_at (network link + 24) Byte 255 ∷ [])
+cast_formula link None Multicast = all_of (kind_test link Ethernet ∷ is_group_address ∷ [])
+cast_formula link (Some protocol.Ether) Multicast = all_of (kind_test link Ethernet ∷ is_group_address ∷ [])
+cast_formula link (Some _) Multicast = Single (Known false)
+
+-- IPv4 addresses and networks
+
+abbrev pub address_test : Option ℕ → ℕ → ℕ → Elementary
+address_test mask address at = Field (record { place = At at; width = Word; mask = mask; comparison = Equal; value = address })
+
+-- how far behind the network header's start the addresses stand
+abbrev pub source_offset : Kind → ℕ
+source_offset Ip = 12
+source_offset _ = 14
+
+abbrev pub destination_offset : Kind → ℕ
+destination_offset Ip = 16
+destination_offset _ = 24
+
+abbrev pub net_of_kind : Link → Kind → Direction → Option ℕ → ℕ → Formula
+net_of_kind link kind direction mask address =
+    guarded (kind_test link kind ∷ []) (sides direction (address_test mask address (network link + source_offset kind) ∷ []) (address_test mask address (network link + destination_offset kind) ∷ []))
+
+abbrev pub net_formula : Link → Option Protocol → Direction → Option ℕ → ℕ → Formula
+net_formula link (Some protocol.Ip) direction mask address = net_of_kind link Ip direction mask address
+net_formula link (Some protocol.Arp) direction mask address = net_of_kind link Arp direction mask address
+net_formula link (Some protocol.Rarp) direction mask address = net_of_kind link Rarp direction mask address
+net_formula link None direction mask address =
+    Either (net_of_kind link Ip direction mask address) (Either (net_of_kind link Arp direction mask address) (net_of_kind link Rarp direction mask address))
+net_formula link (Some _) direction mask address = Single (Known false)
+
+-- a mask of so many bits, of 32
+abbrev pub prefix_mask : ℕ → ℕ
+prefix_mask bits = 2 ^ 32 - 2 ^ (32 - bits)
+
+-- the mask of a network of which so many parts are written
+abbrev pub net_mask : ℕ → NetMask → ℕ
+net_mask parts Unwritten = prefix_mask (8 * parts)
+net_mask parts (Prefix bits) = prefix_mask bits
+net_mask parts (Mask mask) = mask.address
+
+-- IPv6 addresses and networks: four words
+
+abbrev pub ip6_test : Option ℕ → ℕ → ℕ → ℕ → Elementary
+ip6_test prefix address at word =
+    address_test (option_map (λ bits. prefix_mask (bits - 32 * word)) prefix) (address / 2 ^ (96 - 32 * word) % 2 ^ 32) (at + 4 * word)
+
+abbrev pub ip6_tests : Option ℕ → ℕ → ℕ → List Elementary
+ip6_tests prefix address at =
+    ip6_test prefix address at 0 ∷ ip6_test prefix address at 1 ∷ ip6_test prefix address at 2 ∷ ip6_test prefix address at 3 ∷ []
+
+abbrev pub ip6_formula : Link → Direction → Option ℕ → ℕ → Formula
+ip6_formula link direction prefix address =
+    guarded (kind_test link Ip6 ∷ []) (sides direction (ip6_tests prefix address (network link + 8)) (ip6_tests prefix address (network link + 24)))
+
+-- ports
+
+abbrev pub port_tests : Ports → Place → List Elementary
+port_tests (One n) place = compares_at place HalfWord Equal n ∷ []
+port_tests (Between a b) place = compares_at place HalfWord AtLeast a ∷ compares_at place HalfWord AtMost b ∷ []
+
+-- the test of TCP, that of UDP, or either
+abbrev pub transport : Option Protocol → Elementary → Elementary → Formula
+transport (Some protocol.Tcp) tcp udp = Single tcp
+transport (Some protocol.Udp) tcp udp = Single udp
+transport None tcp udp = Either (Single tcp) (Single udp)
+transport (Some _) tcp udp = Single (Known false)
+
+-- behind an IPv4 header, which has no fixed length
+abbrev pub ip_ports : Link → Option Protocol → Direction → Ports → Formula
+ip_ports link protocol direction ports =
+    Both (Single (kind_test link Ip)) (Both (transport protocol (has_ip_proto link 6) (has_ip_proto link 17)) (Both (Single (first_fragment link))
+    (sides direction (port_tests ports (Past (network link) (network link))) (port_tests ports (Past (network link) (network link + 2))))))
+
+-- behind an IPv6 header
+abbrev pub ip6_ports : Link → Option Protocol → Direction → Ports → Formula
+ip6_ports link protocol direction ports =
+    Both (Single (kind_test link Ip6)) (Both (transport protocol (has_ip6_proto link 6) (has_ip6_proto link 17))
+    (sides direction (port_tests ports (At (network link + 40))) (port_tests ports (At (network link + 42)))))
+
+abbrev pub port_formula : Link → Option Protocol → Direction → Ports → Formula
+port_formula link protocol direction ports = Either (ip_ports link protocol direction ports) (ip6_ports link protocol direction ports)
+
+-- values with their qualifiers; what doesn't fit is no, here and above
+
+abbrev pub host_formula : Link → Option Protocol → Direction → Value → Formula
+host_formula link protocol direction (value.Dotted dotted mask) = net_formula link protocol direction None dotted.address
+host_formula link protocol direction (value.Ip6 address prefix) = ip6_formula link direction None address
+host_formula link protocol direction (value.Mac address) = ether_host link direction address
+host_formula link protocol direction _ = Single (Known false)
+
+-- a number alone is the first of four parts
+abbrev pub net_value_formula : Link → Option Protocol → Direction → Value → Formula
+net_value_formula link protocol direction (value.Number n mask) = net_formula link protocol direction (Some (net_mask 1 mask)) (n % 256 * 2 ^ 24)
+net_value_formula link protocol direction (value.Dotted dotted mask) = net_formula link protocol direction (Some (net_mask dotted.parts mask)) dotted.address
+net_value_formula link protocol direction (value.Ip6 address prefix) = ip6_formula link direction prefix address
+net_value_formula link protocol direction _ = Single (Known false)
+
+abbrev pub port_value_formula : Link → Option Protocol → Direction → Value → Formula
+port_value_formula link protocol direction (value.Number n mask) = port_formula link protocol direction (One n)
+port_value_formula link protocol direction _ = Single (Known false)
+
+abbrev pub range_value_formula : Link → Option Protocol → Direction → Value → Formula
+range_value_formula link protocol direction (value.Range a b) = port_formula link protocol direction (Between (min a b) (max a b))
+range_value_formula link protocol direction _ = Single (Known false)
+
+abbrev pub proto_value_formula : Link → Option Protocol → Value → Formula
+proto_value_formula link protocol (value.Number n mask) = proto_formula link protocol n
+proto_value_formula link protocol _ = Single (Known false)
+
+abbrev pub value_formula : Link → ValueType → Option Protocol → Direction → Value → Formula
+value_formula link Host protocol direction v = host_formula link protocol direction v
+value_formula link Net protocol direction v = net_value_formula link protocol direction v
+value_formula link Port protocol direction v = port_value_formula link protocol direction v
+value_formula link PortRange protocol direction v = range_value_formula link protocol direction v
+value_formula link Proto protocol direction v = proto_value_formula link protocol v
+
+abbrev pub qualified_formula : Link → FullQuals → Value → Formula
+qualified_formula link q v = value_formula link q.value_type q.protocol q.direction v
+
+-- the original length is at most, or at least, a number
+abbrev pub sized_formula : Size → ℕ → Formula
+sized_formula size.Less n = Compare AtMost len (literal n)
+sized_formula size.Greater n = Compare AtLeast len (literal n)

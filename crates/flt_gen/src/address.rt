@@ -1,0 +1,168 @@
+//! The code of hosts and networks of IPv4 and IPv6.
+
+ghost use Rattle.std.specs.Prelude.{◌≡◌, ◌+◌, ◌^◌, ◌<◌, ◌≤◌, length, OnOk, IfOk};
+ghost use Rattle.flt_gen.specs.Code.{emitted, entered};
+ghost use Rattle.flt_gen.specs.Primitives.{address_test, source_offset, destination_offset, net_of_kind, net_formula, prefix_mask, net_mask, ip6_test, ip6_tests, ip6_formula};
+
+use crate::code::{Code, Targets};
+use crate::elementary::{Elementary, FieldTest, Kind, Place};
+use crate::link::Link;
+use crate::put::{put_elementary, put_sides};
+use crate::table::{kind_test, network};
+use flt_bpf::operation::Width;
+use flt_lang::{Direction, NetMask};
+use flt_words::{Comparison, Protocol};
+use std::alloc::{AllocError, Allocator};
+
+// The word at a place is an address, as far as the mask goes.
+fn address_test(mask: Option<u32>, address: u32, at: u32) -> Elementary
+    ensures { result ≡ address_test mask address at }
+{
+    Elementary::Field(FieldTest {
+        place: Place::At(at),
+        width: Width::Word,
+        mask,
+        comparison: Comparison::Equal,
+        value: address,
+    })
+}
+
+// How far behind the network header's start the source address stands (RFC 791, RFC 826).
+fn source_offset(kind: Kind) -> u32
+    ensures offset { result ≡ source_offset kind }
+    ensures near { result ≤ 14 }
+{
+    match kind {
+        Kind::Ip => 12,
+        _ => 14,
+    }
+}
+
+fn destination_offset(kind: Kind) -> u32
+    ensures offset { result ≡ destination_offset kind }
+    ensures near { result ≤ 24 }
+{
+    match kind {
+        Kind::Ip => 16,
+        _ => 24,
+    }
+}
+
+fn put_net_of_kind<A: Allocator>(
+    code: &mut Code<A>,
+    link: Link,
+    kind: Kind,
+    direction: Direction,
+    mask: Option<u32>,
+    address: u32,
+    to: Targets,
+) -> Result<usize, AllocError>
+    requires { length code.old + 18 < 2 ^ 31 }
+    ensures code { IfOk result
+        (λ entry. emitted link (net_of_kind link kind direction mask address) to.yes to.no code.old ≡ entered code.new entry) }
+    ensures room { OnOk result (length code.new ≤ length code.old + 18) }
+{
+    let start = network(link);
+    let source = address_test(mask, address, start + source_offset(kind));
+    let destination = address_test(mask, address, start + destination_offset(kind));
+    let yes = put_sides(code, direction, &[source], &[destination], to)?;
+    put_elementary(code, kind_test(link, kind), Targets { yes, no: to.no })
+}
+
+/// `host` and `net` of IPv4.
+pub fn put_net<A: Allocator>(
+    code: &mut Code<A>,
+    link: Link,
+    protocol: Option<Protocol>,
+    direction: Direction,
+    mask: Option<u32>,
+    address: u32,
+    to: Targets,
+) -> Result<usize, AllocError>
+    requires { length code.old + 54 < 2 ^ 31 }
+    ensures code { IfOk result
+        (λ entry. emitted link (net_formula link protocol direction mask address) to.yes to.no code.old ≡ entered code.new entry) }
+    ensures room { OnOk result (length code.new ≤ length code.old + 54) }
+{
+    match protocol {
+        Some(Protocol::Ip) => put_net_of_kind(code, link, Kind::Ip, direction, mask, address, to),
+        Some(Protocol::Arp) => put_net_of_kind(code, link, Kind::Arp, direction, mask, address, to),
+        Some(Protocol::Rarp) => {
+            put_net_of_kind(code, link, Kind::Rarp, direction, mask, address, to)
+        }
+        Some(_) => Ok(to.no),
+        None => {
+            let yes = to.yes;
+            let no = put_net_of_kind(code, link, Kind::Rarp, direction, mask, address, to)?;
+            let to = Targets { yes, no };
+            let no = put_net_of_kind(code, link, Kind::Arp, direction, mask, address, to)?;
+            let to = Targets { yes, no };
+            put_net_of_kind(code, link, Kind::Ip, direction, mask, address, to)
+        }
+    }
+}
+
+// A mask of so many bits, of 32.
+fn prefix_mask(bits: u32) -> u32
+    ensures { result ≡ prefix_mask bits }
+{
+    let others = 32u32.saturating_sub(bits);
+    (0x1_0000_0000 - 2u64.pow(others)) as u32
+}
+
+/// The mask of a network of which so many parts are written.
+pub fn net_mask(parts: u8, mask: NetMask) -> u32
+    ensures { result ≡ net_mask parts mask }
+{
+    match mask {
+        NetMask::Unwritten => prefix_mask(8 * u32::from(parts)),
+        NetMask::Prefix(bits) => prefix_mask(bits),
+        NetMask::Mask(mask) => mask.address,
+    }
+}
+
+// One of the four words of an IPv6 address that begins at a place.
+fn ip6_test(prefix: Option<u32>, address: u128, at: u32, word: u32) -> Elementary
+    requires { (at ≤ 38) × (word ≤ 3) }
+    ensures { result ≡ ip6_test prefix address at word }
+{
+    let mask = match prefix {
+        None => None,
+        Some(bits) => Some(prefix_mask(bits.saturating_sub(32 * word))),
+    };
+    let part = address / 2u128.pow(96 - 32 * word) % 0x1_0000_0000;
+    address_test(mask, part as u32, at + 4 * word)
+}
+
+fn ip6_tests(prefix: Option<u32>, address: u128, at: u32) -> [Elementary; 4]
+    requires { at ≤ 38 }
+    ensures { result ≡ ip6_tests prefix address at }
+{
+    [
+        ip6_test(prefix, address, at, 0),
+        ip6_test(prefix, address, at, 1),
+        ip6_test(prefix, address, at, 2),
+        ip6_test(prefix, address, at, 3),
+    ]
+}
+
+/// `host` and `net` of IPv6, with the length of the prefix where not the whole address counts.
+pub fn put_ip6<A: Allocator>(
+    code: &mut Code<A>,
+    link: Link,
+    direction: Direction,
+    prefix: Option<u32>,
+    address: u128,
+    to: Targets,
+) -> Result<usize, AllocError>
+    requires { length code.old + 54 < 2 ^ 31 }
+    ensures code { IfOk result
+        (λ entry. emitted link (ip6_formula link direction prefix address) to.yes to.no code.old ≡ entered code.new entry) }
+    ensures room { OnOk result (length code.new ≤ length code.old + 54) }
+{
+    let start = network(link);
+    let source = ip6_tests(prefix, address, start + 8);
+    let destination = ip6_tests(prefix, address, start + 24);
+    let yes = put_sides(code, direction, &source, &destination, to)?;
+    put_elementary(code, kind_test(link, Kind::Ip6), Targets { yes, no: to.no })
+}

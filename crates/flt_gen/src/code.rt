@@ -1,0 +1,168 @@
+//! Code that grows from its end to its beginning.
+
+ghost use Rattle.std.specs.Prelude.{◌≡◌, ◌+◌, ◌-◌, ◌^◌, ◌<◌, ◌≤◌, List, [], ◌∷◌, length, drop, OnOk};
+ghost use Rattle.flt_gen.specs.Code.{plain, jump_before, branch_before, test_code};
+
+use flt_bpf::insn::Insn;
+use flt_bpf::operation::{Operand, Test};
+use std::alloc::{AllocError, Allocator};
+use std::marker::Model;
+
+/// The greatest offset of a conditional jump.
+pub const NEAR: usize = 255;
+
+/// The code from some place to the end. A place is named by the number of instructions from there on.
+#[derive(Drop)]
+pub struct Code<A: Allocator> {
+    backwards: Vec<Insn, A>,
+}
+
+impl<A: Allocator> Model for Code<A> {
+    ghost use Rattle.std.specs.Prelude.{List, reverse};
+    ghost use Rattle.flt_bpf.specs.declared.insn.Insn.{Insn};
+
+    ghost Value = { List Insn };
+
+    ghost view = { λ c. reverse c.backwards.items };
+}
+
+/// Where a test goes on.
+#[derive(Clone, Copy)]
+pub struct Targets {
+    pub yes: usize,
+    pub no: usize,
+}
+
+impl Targets {
+    /// The targets of the opposite test.
+    pub fn exchanged(self) -> Self
+        ensures yes { result.yes ≡ self.no }
+        ensures no { result.no ≡ self.yes }
+    {
+        Targets {
+            yes: self.no,
+            no: self.yes,
+        }
+    }
+}
+
+impl<A: Allocator> Code<A> {
+    pub fn new(alloc: A) -> Self
+        ensures { result ≡ [] }
+    {
+        Code {
+            backwards: Vec::new(alloc),
+        }
+    }
+
+    /// The place of the instruction that stands first.
+    pub fn top(&self) -> usize
+        ensures { result ≡ length self.now }
+    {
+        self.backwards.len()
+    }
+
+    /// How many instructions stand in front of a place.
+    fn distance(&self, place: usize) -> usize
+        ensures { result ≡ length self.now - place }
+    {
+        self.top().saturating_sub(place)
+    }
+
+    /// The same once there is one more instruction in front.
+    fn distance_past(&self, place: usize) -> usize
+        requires { length self.now < 2 ^ 32 }
+        ensures { result ≡ length self.now + 1 - place }
+    {
+        (self.top() + 1).saturating_sub(place)
+    }
+
+    /// One more instruction in front.
+    pub fn put(&mut self, insn: Insn) -> Result<(), AllocError>
+        ensures { OnOk result (self.new ≡ insn ∷ self.old) }
+    {
+        self.backwards.push(insn)?;
+        Ok(())
+    }
+
+    /// One that isn't a test.
+    pub fn put_plain(&mut self, code: u16, k: u32) -> Result<(), AllocError>
+        ensures { OnOk result (self.new ≡ plain code k ∷ self.old) }
+    {
+        self.put(Insn {
+            code,
+            jt: 0,
+            jf: 0,
+            k,
+        })
+    }
+
+    /// A jump to a place.
+    pub fn put_jump(&mut self, to: usize) -> Result<(), AllocError>
+        requires { length self.old < 2 ^ 32 }
+        ensures { OnOk result (self.new ≡ jump_before to self.old) }
+    {
+        let offset = self.distance(to) as u32;
+        self.put_plain(5, offset)
+    }
+
+    /// A test that goes on at one of two places, a far one by a jump right behind it.
+    pub fn put_branch(
+        &mut self,
+        test: Test,
+        operand: Operand,
+        k: u32,
+        to: Targets,
+    ) -> Result<(), AllocError>
+        requires { length self.old < 2 ^ 31 }
+        ensures code { OnOk result (self.new ≡ branch_before test operand k to.yes to.no self.old) }
+        ensures room { OnOk result (length self.new ≤ length self.old + 3) }
+    {
+        let code = branch_code(test, operand);
+        let (yes, no) = (self.distance(to.yes), self.distance(to.no));
+        let (past_yes, past_no) = (self.distance_past(to.yes), self.distance_past(to.no));
+        if yes <= NEAR && no <= NEAR {
+            let (jt, jf) = (yes as u8, no as u8);
+            self.put(Insn { code, jt, jf, k })
+        } else if past_no <= NEAR {
+            self.put_jump(to.yes)?;
+            let jf = past_no as u8;
+            self.put(Insn { code, jt: 0, jf, k })
+        } else if past_yes <= NEAR {
+            self.put_jump(to.no)?;
+            let jt = past_yes as u8;
+            self.put(Insn { code, jt, jf: 0, k })
+        } else {
+            self.put_jump(to.no)?;
+            self.put_jump(to.yes)?;
+            let (jt, jf) = (0, 1);
+            self.put(Insn { code, jt, jf, k })
+        }
+    }
+
+    /// The instructions from a place on, in their order.
+    pub fn into_insns(self, entry: usize) -> Vec<Insn, A>
+        requires { entry ≤ length self }
+        ensures { result.items ≡ drop (length self - entry) self }
+    {
+        let Code { mut backwards } = self;
+        backwards.truncate(entry);
+        backwards.reverse();
+        backwards
+    }
+}
+
+fn branch_code(test: Test, operand: Operand) -> u16
+    ensures { result ≡ test_code test operand }
+{
+    match (test, operand) {
+        (Test::Equal, Operand::Constant) => 21,
+        (Test::Greater, Operand::Constant) => 37,
+        (Test::AtLeast, Operand::Constant) => 53,
+        (Test::AnyBit, Operand::Constant) => 69,
+        (Test::Equal, Operand::IndexRegister) => 29,
+        (Test::Greater, Operand::IndexRegister) => 45,
+        (Test::AtLeast, Operand::IndexRegister) => 61,
+        (Test::AnyBit, Operand::IndexRegister) => 77,
+    }
+}

@@ -1,0 +1,21 @@
+//! From filter expressions to programs of the packet-filter machine.
+#![tactic(auto)]
+
+mod address;
+mod code;
+mod elementary;
+mod link;
+mod number;
+mod port;
+mod primitive;
+mod program;
+mod put;
+mod table;
+#[cfg(test)]
+mod tests;
+mod value;
+mod waiting;
+mod walk;
+
+pub use link::Link;
+pub use program::generate;

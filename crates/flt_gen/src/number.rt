@@ -1,0 +1,132 @@
+//! The code of arithmetic and of the tests that accessors ask for.
+
+ghost use Rattle.std.specs.Prelude.{◌≡◌, ◌+◌, ◌*◌, ◌^◌, ◌<◌, ◌≤◌, length, OnOk, IfOk, reverse};
+ghost use Rattle.flt_gen.specs.Code.{entered, base_before, transport_before, accessor_before, operator_code, operands_before, all_before, accessors_before};
+ghost use Rattle.flt_gen.specs.Numbers.{accessor_tests, width_of};
+
+use crate::code::{Code, Targets};
+use crate::elementary::Kind;
+use crate::link::Link;
+use crate::put::{indirect_code, put_all};
+use crate::table::{first_fragment, has_ip_proto, kind_test, network};
+use flt_bpf::operation::Width;
+use flt_words::{Operator, Protocol};
+use std::alloc::{AllocError, Allocator};
+
+/// The code of an operator with X.
+pub fn operator_code(operator: Operator) -> u16
+    ensures { result ≡ operator_code operator }
+{
+    match operator {
+        Operator::Add => 12,
+        Operator::Subtract => 28,
+        Operator::Multiply => 44,
+        Operator::Divide => 60,
+        Operator::Or => 76,
+        Operator::And => 92,
+        Operator::ShiftLeft => 108,
+        Operator::ShiftRight => 124,
+    }
+}
+
+/// How much an accessor reads of which the size in bytes is written: 1, 2 or 4.
+pub fn width_of(size: u32) -> Width
+    ensures { result ≡ width_of size }
+{
+    match size {
+        1 => Width::Byte,
+        2 => Width::HalfWord,
+        _ => Width::Word,
+    }
+}
+
+/// The left operand comes back from its word into A, and the right one goes into X.
+pub fn put_operands<A: Allocator>(code: &mut Code<A>, slot: u32) -> Result<(), AllocError>
+    ensures { OnOk result (code.new ≡ operands_before slot code.old) }
+{
+    code.put_plain(96, slot)?;
+    code.put_plain(7, 0)
+}
+
+// A field goes into A that stands as far behind a place as A says.
+fn put_base<A: Allocator>(code: &mut Code<A>, at: u32, width: Width) -> Result<(), AllocError>
+    ensures { OnOk result (code.new ≡ base_before at width code.old) }
+{
+    code.put_plain(indirect_code(width), at)?;
+    code.put_plain(7, 0)
+}
+
+// The same behind an IPv4 header.
+fn put_transport<A: Allocator>(
+    code: &mut Code<A>,
+    link: Link,
+    width: Width,
+) -> Result<(), AllocError>
+    ensures { OnOk result (code.new ≡ transport_before link width code.old) }
+{
+    let start = network(link);
+    code.put_plain(indirect_code(width), start)?;
+    code.put_plain(7, 0)?;
+    code.put_plain(12, 0)?;
+    code.put_plain(177, start)
+}
+
+/// An accessor's field goes into A, where its index is.
+pub fn put_accessor<A: Allocator>(
+    code: &mut Code<A>,
+    link: Link,
+    protocol: Protocol,
+    width: Width,
+) -> Result<(), AllocError>
+    ensures { OnOk result (code.new ≡ accessor_before link protocol width code.old) }
+{
+    match protocol {
+        Protocol::Ether => put_base(code, 0, width),
+        Protocol::Tcp | Protocol::Udp | Protocol::Icmp => put_transport(code, link, width),
+        _ => put_base(code, network(link), width),
+    }
+}
+
+// What must hold of a packet before a protocol's bytes are read.
+fn put_accessor_tests<A: Allocator>(
+    code: &mut Code<A>,
+    link: Link,
+    protocol: Protocol,
+    to: Targets,
+) -> Result<usize, AllocError>
+    requires { length code.old + 18 < 2 ^ 31 }
+    ensures code { IfOk result
+        (λ entry. all_before (accessor_tests link protocol) to.yes to.no code.old ≡ entered code.new entry) }
+    ensures room { OnOk result (length code.new ≤ length code.old + 18) }
+{
+    let ip = kind_test(link, Kind::Ip);
+    let first = first_fragment(link);
+    match protocol {
+        Protocol::Ether => put_all(code, &[kind_test(link, Kind::Ethernet)], to),
+        Protocol::Ip => put_all(code, &[ip], to),
+        Protocol::Ip6 | Protocol::Icmp6 => put_all(code, &[kind_test(link, Kind::Ip6)], to),
+        Protocol::Arp => put_all(code, &[kind_test(link, Kind::Arp)], to),
+        Protocol::Rarp => put_all(code, &[kind_test(link, Kind::Rarp)], to),
+        Protocol::Tcp => put_all(code, &[ip, has_ip_proto(link, 6), first], to),
+        Protocol::Udp => put_all(code, &[ip, has_ip_proto(link, 17), first], to),
+        Protocol::Icmp => put_all(code, &[ip, has_ip_proto(link, 1), first], to),
+    }
+}
+
+/// The tests of accessors, of which the one whose word stands last comes first here.
+pub fn put_accessors<A: Allocator>(
+    code: &mut Code<A>,
+    link: Link,
+    protocols: &[Protocol],
+    to: Targets,
+) -> Result<usize, AllocError>
+    requires { length (accessors_before link (reverse protocols.now) to.yes to.no code.old).code < 2 ^ 30 }
+    ensures { IfOk result
+        (λ entry. accessors_before link (reverse protocols.now) to.yes to.no code.old ≡ entered code.new entry) }
+{
+    let mut yes = to.yes;
+    for protocol in protocols {
+        yes = put_accessor_tests(code, link, *protocol, Targets { yes, no: to.no })?;
+    }
+    Ok(yes)
+}

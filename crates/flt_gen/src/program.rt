@@ -1,0 +1,57 @@
+//! Programs of expressions.
+
+ghost use Rattle.std.specs.Prelude.{◌≡◌, ◌≤◌, length, IfOk, reverse};
+ghost use Rattle.flt_gen.specs.Correct.{IsProgramOf};
+ghost use Rattle.flt_gen.specs.Counts.{short_bound_of};
+ghost use Rattle.flt_gen.specs.Layout.{JumpsAreNeeded, IsShort};
+ghost use Rattle.flt_gen.specs.Walk.{walked, start, insns_of};
+
+use crate::link::Link;
+use crate::walk::Walk;
+use flt_bpf::insn::Insn;
+use flt_bpf::program::{Program, check};
+use flt_lang::{Checked, Node};
+use std::alloc::{AllocError, Allocator};
+
+// The instructions of a program for the tree with these nodes.
+fn program_insns<A: Allocator + Clone + Drop>(
+    alloc: A,
+    nodes: &[Node],
+    link: Link,
+) -> Result<Vec<Insn, A>, AllocError>
+    requires room { length (walked link start (reverse nodes.now)).code ≤ 32768 }
+    requires inside { (walked link start (reverse nodes.now)).to.yes
+        ≤ length (walked link start (reverse nodes.now)).code }
+    ensures { IfOk result (λ insns. insns.items ≡ insns_of (walked link start (reverse nodes.now))) }
+{
+    let mut walk = Walk::new(alloc)?;
+    let mut left = nodes.len();
+    'nodes: while left > 0 {
+        left -= 1;
+        walk.put_node(link, &nodes[left])?;
+    }
+    Ok(walk.into_insns())
+}
+
+/// A program that answers other than 0 exactly on the packets that the expression, read on the link, says yes to. It
+/// has at most as many instructions as the expression's bound, and none of them is met twice in a run.
+///
+/// A jump (`ja`) stands only where a conditional jump's target is more than 255 instructions past the one after it, and
+/// nowhere where a program without jumps has at most 256 instructions by the expression's counts.
+pub fn generate<A: Allocator + Clone + Drop, B: Allocator>(
+    alloc: A,
+    expr: &Checked<B>,
+    link: Link,
+) -> Result<Program<A>, AllocError>
+    ensures decides { IfOk result (λ program. IsProgramOf program.insns expr.now.expr link) }
+    ensures jumps { IfOk result (λ program. JumpsAreNeeded program.insns) }
+    ensures short { short_bound_of expr.now.expr ≤ 256
+        → IfOk result (λ program. IsShort program.insns (short_bound_of expr.now.expr)) }
+    ensures fresh { IfOk result (λ program. program.spent ≡ 0) }
+{
+    let insns = program_insns(alloc, expr.expr.nodes(), link)?;
+    match check(insns) {
+        Ok(program) => Ok(program),
+        Err(_) => unreachable!(),
+    }
+}

@@ -1,0 +1,158 @@
+//! The code of elementary tests, and of several that are joined.
+
+ghost use Rattle.std.specs.Prelude.{◌≡◌, ◌+◌, ◌*◌, ◌^◌, ◌<◌, ◌≤◌, length, OnOk, IfOk};
+ghost use Rattle.flt_gen.specs.Code.{load_code, indirect_code, field_before, mask_before, comparison_before, test_before, elementary_before, all_before, sides_before, entered};
+
+use crate::code::{Code, Targets};
+use crate::elementary::{Elementary, FieldTest, Place};
+use flt_bpf::operation::{Operand, Test, Width};
+use flt_lang::Direction;
+use flt_words::{Comparison, Join, Side};
+use std::alloc::{AllocError, Allocator};
+
+fn load_code(width: Width) -> u16
+    ensures { result ≡ load_code width }
+{
+    match width {
+        Width::Word => 32,
+        Width::HalfWord => 40,
+        Width::Byte => 48,
+    }
+}
+
+/// The code of a load at X and an offset.
+pub fn indirect_code(width: Width) -> u16
+    ensures { result ≡ indirect_code width }
+{
+    match width {
+        Width::Word => 64,
+        Width::HalfWord => 72,
+        Width::Byte => 80,
+    }
+}
+
+// A field goes into A.
+fn put_field<A: Allocator>(code: &mut Code<A>, place: Place, width: Width) -> Result<(), AllocError>
+    ensures { OnOk result (code.new ≡ field_before place width code.old) }
+{
+    match place {
+        Place::At(at) => code.put_plain(load_code(width), at),
+        Place::Past(header, at) => {
+            code.put_plain(indirect_code(width), at)?;
+            code.put_plain(177, header)
+        }
+    }
+}
+
+fn put_mask<A: Allocator>(code: &mut Code<A>, mask: Option<u32>) -> Result<(), AllocError>
+    ensures { OnOk result (code.new ≡ mask_before mask code.old) }
+{
+    match mask {
+        None => Ok(()),
+        Some(mask) => code.put_plain(84, mask),
+    }
+}
+
+/// A comparison of A with an operand. The machine has three of the six; the others exchange the targets.
+pub fn put_comparison<A: Allocator>(
+    code: &mut Code<A>,
+    comparison: Comparison,
+    operand: Operand,
+    k: u32,
+    to: Targets,
+) -> Result<(), AllocError>
+    requires { length code.old < 2 ^ 31 }
+    ensures code { OnOk result (code.new ≡ comparison_before comparison operand k to.yes to.no code.old) }
+    ensures room { OnOk result (length code.new ≤ length code.old + 3) }
+{
+    let back = to.exchanged();
+    match comparison {
+        Comparison::Equal => code.put_branch(Test::Equal, operand, k, to),
+        Comparison::NotEqual => code.put_branch(Test::Equal, operand, k, back),
+        Comparison::Less => code.put_branch(Test::AtLeast, operand, k, back),
+        Comparison::AtMost => code.put_branch(Test::Greater, operand, k, back),
+        Comparison::Greater => code.put_branch(Test::Greater, operand, k, to),
+        Comparison::AtLeast => code.put_branch(Test::AtLeast, operand, k, to),
+    }
+}
+
+fn put_test<A: Allocator>(
+    code: &mut Code<A>,
+    test: FieldTest,
+    to: Targets,
+) -> Result<(), AllocError>
+    requires { length code.old < 2 ^ 31 }
+    ensures code { OnOk result (code.new ≡ test_before test to.yes to.no code.old) }
+    ensures room { OnOk result (length code.new ≤ length code.old + 6) }
+{
+    put_comparison(code, test.comparison, Operand::Constant, test.value, to)?;
+    put_mask(code, test.mask)?;
+    put_field(code, test.place, test.width)
+}
+
+/// One test. What the link type alone decides takes no code. The answer is where the test begins.
+pub fn put_elementary<A: Allocator>(
+    code: &mut Code<A>,
+    test: Elementary,
+    to: Targets,
+) -> Result<usize, AllocError>
+    requires { length code.old < 2 ^ 31 }
+    ensures code { IfOk result (λ entry. elementary_before test to.yes to.no code.old ≡ entered code.new entry) }
+    ensures room { OnOk result (length code.new ≤ length code.old + 6) }
+{
+    match test {
+        Elementary::Known(true) => Ok(to.yes),
+        Elementary::Known(false) => Ok(to.no),
+        Elementary::Field(test) => {
+            put_test(code, test, to)?;
+            Ok(code.top())
+        }
+    }
+}
+
+/// All of some tests. There are few of them.
+pub fn put_all<A: Allocator>(
+    code: &mut Code<A>,
+    tests: &[Elementary],
+    to: Targets,
+) -> Result<usize, AllocError>
+    requires { length code.old + 6 * length tests.now < 2 ^ 31 }
+    ensures code { IfOk result (λ entry. all_before tests.now to.yes to.no code.old ≡ entered code.new entry) }
+    ensures room { OnOk result (length code.new ≤ length code.old + 6 * length tests.now) }
+{
+    match tests {
+        [] => Ok(to.yes),
+        [first, others @ ..] => {
+            let yes = put_all(code, others, to)?;
+            put_elementary(code, *first, Targets { yes, no: to.no })
+        }
+    }
+}
+
+/// The tests of the source and of the destination, as a direction asks for them.
+pub fn put_sides<A: Allocator>(
+    code: &mut Code<A>,
+    direction: Direction,
+    source: &[Elementary],
+    destination: &[Elementary],
+    to: Targets,
+) -> Result<usize, AllocError>
+    requires { length code.old + 6 * (length source.now + length destination.now) < 2 ^ 31 }
+    ensures code { IfOk result
+        (λ entry. sides_before direction source.now destination.now to.yes to.no code.old ≡ entered code.new entry) }
+    ensures room { OnOk result
+        (length code.new ≤ length code.old + 6 * (length source.now + length destination.now)) }
+{
+    match direction {
+        Direction::One(Side::Source) => put_all(code, source, to),
+        Direction::One(Side::Destination) => put_all(code, destination, to),
+        Direction::Both(Join::Or) => {
+            let no = put_all(code, destination, to)?;
+            put_all(code, source, Targets { yes: to.yes, no })
+        }
+        Direction::Both(Join::And) => {
+            let yes = put_all(code, destination, to)?;
+            put_all(code, source, Targets { yes, no: to.no })
+        }
+    }
+}

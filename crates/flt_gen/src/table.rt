@@ -1,0 +1,90 @@
+//! The table of elementary tests, for both links.
+
+ghost use Rattle.std.specs.Prelude.{◌≡◌, ◌≤◌, Some, None};
+ghost use Rattle.flt_gen.specs.Elementary.{network, is_at, is_masked, compares_at, kind_test, first_fragment, has_ip_proto, has_ip6_proto};
+
+use crate::elementary::{Elementary, FieldTest, Kind, Place};
+use crate::link::Link;
+use flt_bpf::operation::Width;
+use flt_words::Comparison;
+
+/// Where the network header begins.
+pub fn network(link: Link) -> u32
+    ensures place { result ≡ network link }
+    ensures near { result ≤ 14 }
+{
+    match link {
+        Link::Ether => 14,
+        Link::Raw => 0,
+    }
+}
+
+/// The field at a place is a number.
+pub fn is_at(at: u32, width: Width, value: u32) -> Elementary
+    ensures { result ≡ is_at at width value }
+{
+    compares_at(Place::At(at), width, Comparison::Equal, value)
+}
+
+/// The bits of a field under a mask are a number.
+pub fn is_masked(at: u32, width: Width, mask: u32, value: u32) -> Elementary
+    ensures { result ≡ is_masked at width mask value }
+{
+    Elementary::Field(FieldTest {
+        place: Place::At(at),
+        width,
+        mask: Some(mask),
+        comparison: Comparison::Equal,
+        value,
+    })
+}
+
+/// A field compares so with a number.
+pub fn compares_at(place: Place, width: Width, comparison: Comparison, value: u32) -> Elementary
+    ensures { result ≡ compares_at place width comparison value }
+{
+    Elementary::Field(FieldTest {
+        place,
+        width,
+        mask: None,
+        comparison,
+        value,
+    })
+}
+
+/// A frame is of a kind: by the type in its Ethernet header, else by the version in its first byte.
+pub fn kind_test(link: Link, kind: Kind) -> Elementary
+    ensures { result ≡ kind_test link kind }
+{
+    match (link, kind) {
+        (Link::Ether, Kind::Ethernet) => Elementary::Known(true),
+        (Link::Ether, Kind::Ip) => is_at(12, Width::HalfWord, 0x0800),
+        (Link::Ether, Kind::Ip6) => is_at(12, Width::HalfWord, 0x86dd),
+        (Link::Ether, Kind::Arp) => is_at(12, Width::HalfWord, 0x0806),
+        (Link::Ether, Kind::Rarp) => is_at(12, Width::HalfWord, 0x8035),
+        (Link::Raw, Kind::Ip) => is_masked(0, Width::Byte, 0xf0, 0x40),
+        (Link::Raw, Kind::Ip6) => is_masked(0, Width::Byte, 0xf0, 0x60),
+        (Link::Raw, Kind::Ethernet | Kind::Arp | Kind::Rarp) => Elementary::Known(false),
+    }
+}
+
+/// An IPv4 packet is no fragment but the first (RFC 791, section 3.1).
+pub fn first_fragment(link: Link) -> Elementary
+    ensures { result ≡ first_fragment link }
+{
+    is_masked(network(link) + 6, Width::HalfWord, 0x1fff, 0)
+}
+
+/// The protocol behind an IPv4 header (RFC 791, section 3.1).
+pub fn has_ip_proto(link: Link, protocol: u32) -> Elementary
+    ensures { result ≡ has_ip_proto link protocol }
+{
+    is_at(network(link) + 9, Width::Byte, protocol)
+}
+
+/// The protocol behind an IPv6 header (RFC 8200, section 3).
+pub fn has_ip6_proto(link: Link, protocol: u32) -> Elementary
+    ensures { result ≡ has_ip6_proto link protocol }
+{
+    is_at(network(link) + 6, Width::Byte, protocol)
+}

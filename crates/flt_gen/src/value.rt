@@ -1,0 +1,119 @@
+//! The code of values with their qualifiers.
+
+ghost use Rattle.std.specs.Prelude.{◌≡◌, ◌+◌, ◌^◌, ◌<◌, ◌≤◌, length, OnOk, IfOk};
+ghost use Rattle.flt_gen.specs.Code.{emitted, entered, at_top, sized_before};
+ghost use Rattle.flt_gen.specs.Primitives.{host_formula, net_value_formula, qualified_formula};
+
+use crate::address::{net_mask, put_ip6, put_net};
+use crate::code::{Code, Targets};
+use crate::elementary::Ports;
+use crate::link::Link;
+use crate::number::put_operands;
+use crate::port::put_ports;
+use crate::primitive::{put_ether_host, put_proto};
+use crate::put::put_comparison;
+use flt_bpf::operation::Operand;
+use flt_lang::{Direction, FullQuals, Value};
+use flt_words::{Comparison, Protocol, Size, ValueType};
+use std::alloc::{AllocError, Allocator};
+
+fn put_host<A: Allocator>(
+    code: &mut Code<A>,
+    link: Link,
+    protocol: Option<Protocol>,
+    direction: Direction,
+    value: Value,
+    to: Targets,
+) -> Result<usize, AllocError>
+    requires { length code.old + 54 < 2 ^ 31 }
+    ensures code { IfOk result
+        (λ entry. emitted link (host_formula link protocol direction value) to.yes to.no code.old ≡ entered code.new entry) }
+    ensures room { OnOk result (length code.new ≤ length code.old + 54) }
+{
+    match value {
+        Value::Dotted(host, _) => put_net(code, link, protocol, direction, None, host.address, to),
+        Value::Ip6(address, _) => put_ip6(code, link, direction, None, address, to),
+        Value::Mac(address) => put_ether_host(code, link, direction, address, to),
+        _ => Ok(to.no),
+    }
+}
+
+// A number alone is the first of four parts.
+fn put_net_value<A: Allocator>(
+    code: &mut Code<A>,
+    link: Link,
+    protocol: Option<Protocol>,
+    direction: Direction,
+    value: Value,
+    to: Targets,
+) -> Result<usize, AllocError>
+    requires { length code.old + 54 < 2 ^ 31 }
+    ensures code { IfOk result
+        (λ entry. emitted link (net_value_formula link protocol direction value) to.yes to.no code.old ≡ entered code.new entry) }
+    ensures room { OnOk result (length code.new ≤ length code.old + 54) }
+{
+    match value {
+        Value::Number(first, mask) => {
+            let address = first % 256 * 0x100_0000;
+            let mask = Some(net_mask(1, mask));
+            put_net(code, link, protocol, direction, mask, address, to)
+        }
+        Value::Dotted(net, mask) => {
+            let mask = Some(net_mask(net.parts, mask));
+            put_net(code, link, protocol, direction, mask, net.address, to)
+        }
+        Value::Ip6(address, prefix) => put_ip6(code, link, direction, prefix, address, to),
+        _ => Ok(to.no),
+    }
+}
+
+/// A value with its qualifiers. One that doesn't fit them is no.
+pub fn put_qualified<A: Allocator>(
+    code: &mut Code<A>,
+    link: Link,
+    quals: FullQuals,
+    value: Value,
+    to: Targets,
+) -> Result<usize, AllocError>
+    requires { length code.old + 90 < 2 ^ 31 }
+    ensures code { IfOk result
+        (λ entry. emitted link (qualified_formula link quals value) to.yes to.no code.old ≡ entered code.new entry) }
+    ensures room { OnOk result (length code.new ≤ length code.old + 90) }
+{
+    let (protocol, direction) = (quals.protocol, quals.direction);
+    match (quals.value_type, value) {
+        (ValueType::Host, value) => put_host(code, link, protocol, direction, value, to),
+        (ValueType::Net, value) => put_net_value(code, link, protocol, direction, value, to),
+        (ValueType::Port, Value::Number(port, _)) => {
+            put_ports(code, link, protocol, direction, Ports::One(port), to)
+        }
+        (ValueType::PortRange, Value::Range { first, last }) => {
+            let ports = Ports::Between(first.min(last), first.max(last));
+            put_ports(code, link, protocol, direction, ports, to)
+        }
+        (ValueType::Proto, Value::Number(number, _)) => put_proto(code, link, protocol, number, to),
+        _ => Ok(to.no),
+    }
+}
+
+/// `less N` and `greater N`: the original length is compared with a number.
+pub fn put_sized<A: Allocator>(
+    code: &mut Code<A>,
+    size: Size,
+    number: u32,
+    to: Targets,
+) -> Result<usize, AllocError>
+    requires { length code.old < 2 ^ 31 }
+    ensures { IfOk result (λ entry. at_top (sized_before size number to.yes to.no code.old) ≡ entered code.new entry) }
+{
+    let comparison = match size {
+        Size::Less => Comparison::AtMost,
+        Size::Greater => Comparison::AtLeast,
+    };
+    put_comparison(code, comparison, Operand::IndexRegister, 0, to)?;
+    put_operands(code, 0)?;
+    code.put_plain(0, number)?;
+    code.put_plain(2, 0)?;
+    code.put_plain(128, 0)?;
+    Ok(code.top())
+}

@@ -1,0 +1,236 @@
+//! The walk over an expression's nodes from the last to the first, which puts code in front of code. What comes later
+//! waits in lists, so that a long chain of operands needs no more of the processor's stack than a short one.
+
+ghost use Rattle.std.specs.Prelude.{◌≡◌, ◌+◌, ◌^◌, ◌<◌, ◌≤◌, true, length, OnOk, IfOk};
+ghost use Rattle.flt_gen.specs.Code.{entered};
+ghost use Rattle.flt_gen.specs.Walk.{start, truth_put, relation_put, number_put, is_number_node, is_primitive, operands_put, with_node, insns_of};
+
+use crate::code::{Code, Targets};
+use crate::link::Link;
+use crate::number::{operator_code, put_accessor, put_accessors, put_operands, width_of};
+use crate::primitive::{put_cast, put_check};
+use crate::put::put_comparison;
+use crate::value::{put_qualified, put_sized};
+use crate::waiting::{LeftTruth, Numbers, Truths, Waiting};
+use flt_bpf::insn::Insn;
+use flt_bpf::operation::Operand;
+use flt_lang::Node;
+use flt_words::{Join, Protocol};
+use std::alloc::{AllocError, Allocator};
+use std::marker::Model;
+
+/// What a program answers where it keeps a packet.
+const KEEP: u32 = 262_144;
+
+/// How far the walk has come.
+#[derive(Drop)]
+pub struct Walk<A: Allocator> {
+    code: Code<A>,
+    /// The targets of the next truth; in the end both are where the program begins.
+    to: Targets,
+    /// The word for the next left operand.
+    slot: u32,
+    truths: Truths<A>,
+    numbers: Numbers<A>,
+    /// The protocols of the relation's accessors, that of the last word first.
+    accessors: Vec<Protocol, A>,
+}
+
+impl<A: Allocator> Model for Walk<A> {
+    ghost use Rattle.std.specs.Prelude.{reverse};
+    ghost use Rattle.flt_gen.specs.Walk.{Walk};
+
+    ghost Value = { Walk };
+
+    ghost view = { λ w. record {
+      code = w.code;
+      to = w.to;
+      slot = w.slot;
+      truths = w.truths;
+      numbers = w.numbers;
+      accessors = reverse w.accessors.items;
+    } };
+}
+
+impl<A: Allocator> Walk<A> {
+    // A truth's code is put: the left operand that waits is next.
+    fn finish_truth(&mut self, entry: usize)
+        ensures { self.new ≡ truth_put (entered self.old.code entry) self.old }
+    {
+        self.to = match self.truths.pop() {
+            None => Targets {
+                yes: entry,
+                no: entry,
+            },
+            Some(
+                LeftTruth {
+                    join: Join::And,
+                    to,
+                },
+            ) => Targets {
+                yes: entry,
+                no: to.no,
+            },
+            Some(LeftTruth { join: Join::Or, to }) => Targets {
+                yes: to.yes,
+                no: entry,
+            },
+        };
+    }
+
+    // The operands of a relation are put: the tests of its accessors stand in front of them.
+    fn finish_relation(&mut self, link: Link) -> Result<(), AllocError>
+        requires { length (relation_put link self.old).code < 2 ^ 30 }
+        ensures { OnOk result (self.new ≡ relation_put link self.old) }
+    {
+        let to = Targets {
+            yes: self.code.top(),
+            no: self.to.no,
+        };
+        let entry = put_accessors(&mut self.code, link, &self.accessors, to)?;
+        self.accessors.clear();
+        self.finish_truth(entry);
+        Ok(())
+    }
+
+    // A number's code is put: the accessors whose index it is are complete, and then the left operand that waits is next.
+    fn finish_number(&mut self, link: Link) -> Result<(), AllocError>
+        requires { length (number_put link self.old.numbers self.old).code < 2 ^ 30 }
+        ensures { OnOk result (self.new ≡ number_put link self.old.numbers self.old) }
+    {
+        'waiting: loop {
+            match self.numbers.pop() {
+                Some(Waiting::Index(protocol)) => self.accessors.push(protocol)?,
+                Some(Waiting::Left(slot)) => {
+                    self.slot = slot;
+                    return self.code.put_plain(2, slot);
+                }
+                None => return self.finish_relation(link),
+            }
+        }
+    }
+
+    // Two operands: the right one is next, and the left one waits.
+    fn put_both(&mut self, slot: u32) -> Result<(), AllocError>
+        requires { slot < 2 ^ 31 }
+        ensures { OnOk result (self.new ≡ operands_put slot self.old.code self.old) }
+    {
+        put_operands(&mut self.code, slot)?;
+        self.slot = slot + 1;
+        self.numbers.push(Waiting::Left(slot))
+    }
+
+    // A node of arithmetic.
+    fn put_number_node(&mut self, link: Link, node: &Node) -> Result<(), AllocError>
+        requires few { self.old.slot < 2 ^ 31 }
+        requires room { length (with_node link self.old node.now).code < 2 ^ 30 }
+        requires number { is_number_node node.now ≡ true }
+        ensures { OnOk result (self.new ≡ with_node link self.old node.now) }
+    {
+        match node {
+            Node::Literal(n) => {
+                self.code.put_plain(0, *n)?;
+                self.finish_number(link)
+            }
+            Node::Len => {
+                self.code.put_plain(128, 0)?;
+                self.finish_number(link)
+            }
+            Node::Load(protocol, size) => {
+                put_accessor(&mut self.code, link, *protocol, width_of(*size))?;
+                self.numbers.push(Waiting::Index(*protocol))
+            }
+            Node::Negate => self.code.put_plain(132, 0),
+            Node::Apply(operator) => {
+                self.code.put_plain(operator_code(*operator), 0)?;
+                self.put_both(self.slot)
+            }
+            _ => unreachable!(),
+        }
+    }
+
+    // A primitive. One whose qualifiers aren't filled in yet is no.
+    fn put_primitive(&mut self, link: Link, node: &Node) -> Result<(), AllocError>
+        requires room { length self.old.code < 2 ^ 30 }
+        requires primitive { is_primitive node.now ≡ true }
+        ensures { OnOk result (self.new ≡ with_node link self.old node.now) }
+    {
+        let (code, to) = (&mut self.code, self.to);
+        let entry = match node {
+            Node::Check(protocol) => put_check(code, link, *protocol, to)?,
+            Node::Cast(protocol, cast) => put_cast(code, link, *protocol, *cast, to)?,
+            Node::Sized(size, number) => put_sized(code, *size, *number, to)?,
+            Node::Qualified(quals, value) => put_qualified(code, link, *quals, *value, to)?,
+            Node::Bare(_) | Node::Valued(_, _) => to.no,
+            _ => unreachable!(),
+        };
+        self.finish_truth(entry);
+        Ok(())
+    }
+
+    /// One more node, the one before those that were put.
+    pub fn put_node(&mut self, link: Link, node: &Node) -> Result<(), AllocError>
+        requires few { self.old.slot < 2 ^ 31 }
+        requires before { length self.old.code < 2 ^ 30 }
+        requires after { length (with_node link self.old node.now).code < 2 ^ 30 }
+        ensures { OnOk result (self.new ≡ with_node link self.old node.now) }
+    {
+        match node {
+            Node::Not => {
+                self.to = self.to.exchanged();
+                Ok(())
+            }
+            Node::Join(join) => {
+                let (join, to) = (*join, self.to);
+                self.truths.push(LeftTruth { join, to })
+            }
+            Node::Compare(comparison) => {
+                let (operand, to) = (Operand::IndexRegister, self.to);
+                put_comparison(&mut self.code, *comparison, operand, 0, to)?;
+                self.put_both(0)
+            }
+            Node::Literal(_) | Node::Len | Node::Load(_, _) | Node::Negate | Node::Apply(_) => {
+                self.put_number_node(link, node)
+            }
+            _ => self.put_primitive(link, node),
+        }
+    }
+
+    /// The instructions from where the program begins, once no node is left.
+    pub fn into_insns(self) -> Vec<Insn, A>
+        requires { self.to.yes ≤ length self.code }
+        ensures { result.items ≡ insns_of self }
+    {
+        let Walk {
+            code,
+            to,
+            slot: _,
+            truths: _,
+            numbers: _,
+            accessors: _,
+        } = self;
+        code.into_insns(to.yes)
+    }
+}
+
+impl<A: Allocator + Clone> Walk<A> {
+    /// The two returns, which both answer a packet: to keep it, and not to.
+    pub fn new(alloc: A) -> Result<Self, AllocError>
+        ensures { IfOk result (λ walk. walk ≡ start) }
+    {
+        let truths = Truths::new(alloc.clone()?);
+        let numbers = Numbers::new(alloc.clone()?);
+        let accessors = Vec::new(alloc.clone()?);
+        let mut code = Code::new(alloc);
+        code.put_plain(6, 0)?;
+        code.put_plain(6, KEEP)?;
+        Ok(Walk {
+            code,
+            to: Targets { yes: 2, no: 1 },
+            slot: 0,
+            truths,
+            numbers,
+            accessors,
+        })
+    }
+}
