@@ -3,7 +3,7 @@
 use crate::line::{Line, command_of};
 use crate::usage::Usage;
 use cap_octet::Format;
-use cap_tools::Command;
+use cap_tools::{Command, Edit};
 use clap::error::ErrorKind;
 use std::test::Fail;
 
@@ -25,6 +25,18 @@ fn edit_of(rt: &HostRuntime, ranges: &[&str]) -> Result<Line, Usage> {
         line.push(String::from_str(rt.alloc(), word)?)?;
     }
     command_of(rt.alloc(), line)
+}
+
+fn edit_in(line: Line) -> Edit {
+    let Line {
+        command,
+        inputs: _,
+        output: _,
+        code: _,
+    } = line;
+    match command {
+        Command::Edit(edit) => edit,
+    }
 }
 
 /// So many ranges, of which the last is the word.
@@ -54,22 +66,28 @@ fn an_edit(rt: HostRuntime) -> Result<(), Fail> {
         "capkit", "edit", "-r", "-F", "pcap", "in", "out", "2-3", "3", "9",
     ];
     let line = line_of(&rt, words.as_slice())?;
-    let Command::Edit(edit) = line.command;
+    let Line {
+        command,
+        inputs,
+        output,
+        code,
+    } = line;
+    let Command::Edit(edit) = command;
     assert!(rt; edit.keep);
     assert_eq!(rt; edit.format, Format::Pcap);
     assert_eq!(rt; edit.ranges.as_slice(), [(2, 3), (3, 3), (9, 9)].as_slice());
-    assert_eq!(rt; line.inputs.len(), 1);
-    assert_eq!(rt; line.inputs[0].as_str(), "in");
-    assert_eq!(rt; line.output.ok_or("no output")?.as_str(), "out");
-    assert!(rt; line.code.is_none());
+    assert_eq!(rt; inputs.len(), 1);
+    assert_eq!(rt; inputs[0].as_str(), "in");
+    let output = output.ok_or("no output")?;
+    assert_eq!(rt; output.as_str(), "out");
+    assert!(rt; code.is_none());
     Ok(())
 }
 
 #[test]
 fn options_stand_anywhere(rt: HostRuntime) -> Result<(), Fail> {
     let words = ["capkit", "edit", "in", "-Fpcap", "out", "1"];
-    let line = line_of(&rt, words.as_slice())?;
-    let Command::Edit(edit) = line.command;
+    let edit = edit_in(line_of(&rt, words.as_slice())?);
     assert!(rt; !edit.keep);
     assert_eq!(rt; edit.ranges.as_slice(), [(1, 1)].as_slice());
     Ok(())
@@ -81,9 +99,16 @@ fn standard_streams(rt: HostRuntime) -> Result<(), Fail> {
         &rt,
         ["capkit", "edit", "-F", "pcap", "-", "-", "2-3"].as_slice(),
     )?;
-    assert_eq!(rt; line.inputs.len(), 1);
-    assert_eq!(rt; line.inputs[0].as_str(), "-");
-    assert_eq!(rt; line.output.ok_or("no output")?.as_str(), "-");
+    let Line {
+        command: _,
+        inputs,
+        output,
+        code: _,
+    } = line;
+    assert_eq!(rt; inputs.len(), 1);
+    assert_eq!(rt; inputs[0].as_str(), "-");
+    let output = output.ok_or("no output")?;
+    assert_eq!(rt; output.as_str(), "-");
     Ok(())
 }
 
@@ -99,8 +124,7 @@ fn numbers_of_a_range(rt: HostRuntime) -> Result<(), Fail> {
         ("9223372036854775807", (most, most)),
         ("1-09223372036854775807", (1, most)),
     ] {
-        let line = edit_of(&rt, [word].as_slice())?;
-        let Command::Edit(edit) = line.command;
+        let edit = edit_in(edit_of(&rt, [word].as_slice())?);
         assert_eq!(rt; edit.ranges.as_slice(), [range].as_slice(), "{word}");
     }
     Ok(())
@@ -137,8 +161,7 @@ fn words_that_are_no_range(rt: HostRuntime) {
 #[test]
 fn too_many_ranges_come_first(rt: HostRuntime) -> Result<(), Fail> {
     let most = many(&rt, 512, "7")?;
-    let line = edit_of(&rt, most.as_slice())?;
-    let Command::Edit(edit) = line.command;
+    let edit = edit_in(edit_of(&rt, most.as_slice())?);
     assert_eq!(rt; edit.ranges.len(), 512);
     let bad = edit_of(&rt, many(&rt, 512, "0")?.as_slice());
     assert!(rt; matches!(bad, Err(Usage::BadRange)));
