@@ -11,8 +11,6 @@ mod primitive;
 mod program;
 mod put;
 mod table;
-#[cfg(test)]
-mod tests;
 mod value;
 mod waiting;
 mod walk;
