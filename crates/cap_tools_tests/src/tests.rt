@@ -65,8 +65,7 @@ fn each_read_fails(rt: HostRuntime) -> Result<(), Fail> {
             assert_eq!(rt; written, text.len());
             break;
         }
-        failed += 1;
-        assert_eq!(rt; failed, at);
+        failed = at;
         assert!(rt; [0, 100, 176, 252].contains(&written), "{written} bytes");
         let packets = out.written();
         assert!(rt; text.starts_with(packets));
@@ -139,7 +138,7 @@ fn each_growth_is_refused(rt: HostRuntime) -> Result<(), Fail> {
 fn messages_are_lost(rt: HostRuntime) -> Result<(), Fail> {
     let alloc = rt.alloc();
     let text = capture(alloc, &[60, 60])?;
-    let message = b"capkit: in: offset 100: truncated\n";
+    let message = "capkit: in: offset 100: truncated\n";
     for size in 0..34usize {
         let command = whole(alloc);
         let names = names(alloc)?;
@@ -154,7 +153,10 @@ fn messages_are_lost(rt: HostRuntime) -> Result<(), Fail> {
         let (status, out, err) = run(alloc, command, names, inputs, out, err);
         assert_eq!(rt; status, 1);
         assert_eq!(rt; out.written(), text.get(..100).ok_or("text")?);
-        assert_eq!(rt; err.written(), &message[..size]);
+        assert_eq!(rt;
+            err.written(),
+            message.as_bytes().get(..size).ok_or("size")?
+        );
     }
     Ok(())
 }
