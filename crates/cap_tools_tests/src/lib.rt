@@ -1,4 +1,4 @@
-//! Tests of cap_tools: runs whose devices, messages and memory fail in turn.
+//! Tests of cap_tools: runs whose devices and memory fail in turn.
 #![tactic(auto)]
 
 #[cfg(test)]

@@ -1,4 +1,4 @@
-//! Runs whose devices, messages and memory fail in turn.
+//! Runs whose devices and memory fail in turn.
 
 use cap_octet::{Format, MemInput, MemOutput, TrialInput, TrialOutput};
 use cap_tools::{Command, Edit, run};
@@ -129,34 +129,6 @@ fn each_growth_is_refused(rt: HostRuntime) -> Result<(), Fail> {
         assert_eq!(rt; status, 1);
         assert_eq!(rt; err.written(), message.as_bytes());
         assert_eq!(rt; out.written(), text.get(..size).ok_or("size")?);
-    }
-    Ok(())
-}
-
-/// A message that can't be written leaves the status and the output.
-#[test]
-fn messages_are_lost(rt: HostRuntime) -> Result<(), Fail> {
-    let alloc = rt.alloc();
-    let text = capture(alloc, &[60, 60])?;
-    let message = "capkit: in: offset 100: truncated\n";
-    for size in 0..34usize {
-        let command = whole(alloc);
-        let names = names(alloc)?;
-        let mut inputs = Vec::new(alloc);
-        inputs.push(MemInput::new(text.get(..175).ok_or("text")?))?;
-        assert!(rt; command.is_proper(inputs.len()));
-        assert_eq!(rt; names.len(), inputs.len() + 1);
-        let mut room = [0; 300];
-        let mut message_room = [0; 34];
-        let out = MemOutput::new(&mut room);
-        let err = MemOutput::new(&mut message_room[..size]);
-        let (status, out, err) = run(alloc, command, names, inputs, out, err);
-        assert_eq!(rt; status, 1);
-        assert_eq!(rt; out.written(), text.get(..100).ok_or("text")?);
-        assert_eq!(rt;
-            err.written(),
-            message.as_bytes().get(..size).ok_or("size")?
-        );
     }
     Ok(())
 }
