@@ -1,6 +1,6 @@
 -- What came of a unit, from read to read.
-use Rattle.std.proofs.Common.{◌≡◌, ℕ, Bool, IsTrue, IfOk, IfErr, ◌+◌, ◌<◌, ◌≤◌, ◌⊎◌, inl, inr, List, [], ◌∷◌, ◌++◌, length, take, drop, Option, Some, None, is_some, true, false, Result, Ok, Err, refl, sym, ap, ap₂, ◌∙◌, arith, length-drop}
-use Rattle.std.proofs.lemmas.List.{length-append, length-take-le, take-append-drop, take_at, drop_at, drop-drop, append_assoc, append-nil}
+use Rattle.std.proofs.Common.{◌≡◌, ℕ, Bool, IsTrue, IfOk, IfErr, OnOk, ◌+◌, ◌<◌, ◌≤◌, inl, inr, List, [], ◌++◌, length, take, drop, Option, Some, None, is_some, true, false, Result, Ok, Err, refl, sym, subst, ap, ap₂, ◌∙◌, arith, length-drop}
+use Rattle.std.proofs.lemmas.List.{take_all, length-append, take-append-drop, take_at, drop_at, drop-drop, append_assoc, append-nil}
 use Rattle.std.proofs.Math.ListN.{drop_of_length-le}
 use Rattle.cap_octet.specs.Device.{TakesFull}
 use Rattle.cap_octet.specs.Checks.{checked, first_failing}
@@ -9,17 +9,19 @@ use Rattle.cap_octet.specs.declared.fault.Fault.TheVariants.{NotACaptureFile, Tr
 use Rattle.cap_octet.proofs.Checks.{checked_ok, checked_err}
 use Rattle.cap_pcap.specs.declared.head.Head.{Head}
 use Rattle.cap_pcap.specs.declared.head.RecordHead.{RecordHead}
-use Rattle.cap_pcap.specs.Header.{form_in, head_fault, head_in, IsHeader}
-use Rattle.cap_pcap.specs.Record.{captured_len, record_size, field_checks, record_head_in, record_fault, time_in, orig_in, IsRecord}
-use Rattle.cap_pcap.proofs.Headers.{form_in-append, head_fault-append, head_fault-no_magic, head_fault-short}
-use Rattle.cap_pcap.proofs.Records.{field_checks-append, record_head_in-append, captured_len-append, record_fault-fields, record_fault-short, IsRecord-came}
-use Rattle.cap_io.specs.declared.source.Held.{Held}
-use Rattle.cap_io.specs.Capture.{Declared, Nothing, PcapFile, Front, Whole, Stops, front_of}
-use Rattle.cap_io.specs.Reading.{most_in_unit, most_taken, IsTaken, IsReason, Refuses, RestMissing, HeaderCame, RecordCame}
-use Rattle.cap_io.proofs.Fronts.{front_of-no_header, front_of-no_record, most_taken-header, most_taken-record, most_taken-front}
+use Rattle.cap_pcap.specs.Header.{form_in, head_fault, head_in}
+use Rattle.cap_pcap.specs.Record.{captured_len, field_checks, record_head_in, packet_in}
+use Rattle.cap_pcap.proofs.Headers.{head_fault-few, form_in-append, head_fault-append, head_fault-no_magic, head_fault-short}
+use Rattle.cap_pcap.proofs.Records.{field_checks-append, record_head_in-append, captured_len-append, record_fault-few, record_fault-fields, record_fault-short, IsRecord-came}
+use Rattle.cap_pcapng.specs.Frame.{is_section}
+use Rattle.cap_pcapng.proofs.Units as block
+use Rattle.cap_io.specs.declared.unit.Held.{Held}
+use Rattle.cap_io.specs.Capture.{Declared, Nothing, PcapFile, Front, a_pcap_record, front_of, is_pcapng}
+use Rattle.cap_io.specs.Reading.{most_in_unit, most_taken, IsTaken, Refuses, RestMissing, FrontMissing, HeaderCame, PacketCame}
+use Rattle.cap_io.proofs.Fronts.{front_of-no_header, front_of-no_record, front_of-pcapng, is_section-append, is_pcapng-append, is_pcapng-few, most_taken-block, most_taken-header, most_taken-record, most_taken-front}
 
 -- bytes that came, and some more behind them
-Taken-behind : (declared : Declared) (unread unread1 unread2 front : List ℕ) (count : ℕ) → unread ≡ front ++ unread1 → count ≤ length unread1 → unread2 ≡ drop count unread1
+pub Taken-behind : (declared : Declared) (unread unread1 unread2 front : List ℕ) (count : ℕ) → unread ≡ front ++ unread1 → count ≤ length unread1 → unread2 ≡ drop count unread1
     → length front + count ≤ most_taken (front_of declared unread) → IsTaken declared unread unread2
 Taken-behind declared unread unread1 unread2 front count splits there rest within = record {
   count = length front + count;
@@ -34,33 +36,68 @@ filled unread buf unread' buf' n came full =
     sym (take-append-drop n unread)
     ∙ ap₂ (λ (x y : List ℕ). x ++ y) (sym (came.taken.bytes ∙ (rw (drop_of_length-le buf full) (append-nil (take n unread))))) (sym came.taken.rest)
 
+-- ---- the first four bytes
+
+-- so many bytes are no more than the first unit of any file
+pub most_taken-file : (text : List ℕ) (count : ℕ) → count ≤ 12 → count ≤ most_taken (front_of Nothing text)
+most_taken-file text count few = by_kind (is_pcapng text) refl
+  where
+    P : Front → Type 0
+    P f = count ≤ most_taken f
+
+    by_kind : (b : Bool) → is_pcapng text ≡ b → count ≤ most_taken (front_of Nothing text)
+    by_kind true is =
+        subst P (sym (front_of-pcapng text is))
+        (most_taken-block None None text count (λ none. omega (arith, few, (block.passes None text none).least)) (omega (arith, few)))
+    by_kind false is = most_taken-header text count is (omega (arith, few))
+
+pub too_few : (unread unread' : List ℕ) (count : ℕ) → length unread < 4 → count ≤ length unread → unread' ≡ drop count unread → Refuses Nothing unread unread' NotACaptureFile
+too_few unread unread' count few there rest = record {
+  why = inl (front_of-no_header unread NotACaptureFile (is_pcapng-few unread few) (head_fault-few unread few));
+  taken = record { count = count; within = most_taken-file unread count (omega arith); there = there; rest = rest };
+}
+
+pub first_failed : (unread unread' : List ℕ) (count : ℕ) → count < 4 → count ≤ length unread → unread' ≡ drop count unread → Refuses Nothing unread unread' ReadFailed
+first_failed unread unread' count few there rest = record {
+  why = inr (inl refl);
+  taken = record { count = count; within = most_taken-file unread count (omega arith); there = there; rest = rest };
+}
+
+-- what is refused behind the first four bytes is refused with them
+pub Refuses-behind : (unread unread1 unread2 first : List ℕ) (fault : Fault) → unread ≡ first ++ unread1 → Refuses Nothing (first ++ unread1) unread2 fault → Refuses Nothing unread unread2 fault
+Refuses-behind unread unread1 unread2 first fault splits refuses = let P : List ℕ → Type 0 = λ t. Refuses Nothing t unread2 fault in subst P (sym splits) refuses
+
 -- ---- the file header
 
-pub no_magic : (unread unread' magic : List ℕ) → unread ≡ magic ++ unread' → length magic ≡ 4 → form_in magic ≡ None → Refuses Nothing unread unread' NotACaptureFile
-no_magic unread unread' magic splits size none =
+other_kind : (unread unread' magic : List ℕ) → unread ≡ magic ++ unread' → length magic ≡ 4 → is_section magic ≡ false → is_pcapng unread ≡ false
+other_kind unread unread' magic splits size other = ap is_pcapng splits ∙ is_pcapng-append magic unread' (omega arith) ∙ other
+
+pub no_magic : (unread unread' magic : List ℕ) → unread ≡ magic ++ unread' → length magic ≡ 4 → is_section magic ≡ false → form_in magic ≡ None → Refuses Nothing unread unread' NotACaptureFile
+no_magic unread unread' magic splits size other none =
     let whole : form_in unread ≡ None = ap form_in splits ∙ form_in-append magic unread' (omega arith) ∙ none in
+    let kind : is_pcapng unread ≡ false = other_kind unread unread' magic splits size other in
     record {
-      why = inl (front_of-no_header unread NotACaptureFile (head_fault-no_magic unread whole));
-      taken = Taken-behind Nothing unread unread' unread' magic 0 splits (omega arith) refl (most_taken-header unread (length magic + 0) (omega arith));
+      why = inl (front_of-no_header unread NotACaptureFile kind (head_fault-no_magic unread whole));
+      taken = Taken-behind Nothing unread unread' unread' magic 0 splits (omega arith) refl (most_taken-header unread (length magic + 0) kind (omega arith));
     }
 
-pub rest_of_header : (unread unread1 unread2 magic : List ℕ) (fault : Fault) (whole : ℕ) → whole ≡ 24 → unread ≡ magic ++ unread1 → length magic ≡ 4 → is_some (form_in magic) ≡ true
+pub rest_of_header : (unread unread1 unread2 magic : List ℕ) (fault : Fault) (whole : ℕ) → whole ≡ 24 → unread ≡ magic ++ unread1 → length magic ≡ 4 → is_section magic ≡ false → is_some (form_in magic) ≡ true
     → RestMissing 4 whole unread1 unread2 fault → Refuses Nothing unread unread2 fault
-rest_of_header unread unread1 unread2 magic fault whole is splits size some missing =
+rest_of_header unread unread1 unread2 magic fault whole is splits size other some missing =
+    let kind : is_pcapng unread ≡ false = other_kind unread unread1 magic splits size other in
     let form : is_some (form_in unread) ≡ true = ap is_some (ap form_in splits ∙ form_in-append magic unread1 (omega arith)) ∙ some in
     let long : length unread ≡ length magic + length unread1 = ap length splits ∙ length-append magic unread1 in
     record {
       why = elim missing.why [
-        | inl short ↦ inl (rw short.0 (front_of-no_header unread Truncated (head_fault-short unread form (omega arith) (omega (arith, short.1)))))
+        | inl short ↦ inl (rw short.0 (front_of-no_header unread Truncated kind (head_fault-short unread form (omega arith) (omega (arith, short.1)))))
         | inr failed ↦ inr (inl failed)
       ];
-      taken = Taken-behind Nothing unread unread1 unread2 magic missing.count splits missing.there missing.rest (most_taken-header unread (length magic + missing.count) (omega (arith, missing.within)));
+      taken = Taken-behind Nothing unread unread1 unread2 magic missing.count splits missing.there missing.rest (most_taken-header unread (length magic + missing.count) kind (omega (arith, missing.within)));
     }
 
--- the 24 bytes are there
-pub header_answer : (unread unread1 unread2 magic bytes : List ℕ) → unread ≡ magic ++ unread1 → length magic ≡ 4 → length bytes ≡ 24 → take 4 bytes ≡ magic → unread1 ≡ drop 4 bytes ++ unread2
-    → unread ≡ bytes ++ unread2
-header_answer unread unread1 unread2 magic bytes splits size whole front rest =
+-- the front of a unit is there, read in two parts
+pub joined_front : (unread unread1 unread2 first bytes : List ℕ) → unread ≡ first ++ unread1 → take 4 bytes ≡ first → unread1 ≡ drop 4 bytes ++ unread2 → unread ≡ bytes ++ unread2
+joined_front unread unread1 unread2 first bytes splits front rest =
     splits ∙ (rw (rest, ← front) (sym (append_assoc (take 4 bytes) (drop 4 bytes) unread2) ∙ ap (λ (l : List ℕ). l ++ unread2) (take-append-drop 4 bytes)))
 
 header_says : (unread unread2 bytes : List ℕ) (head : Head) → unread ≡ bytes ++ unread2 → length bytes ≡ 24 → Ok head ≡ checked (head_fault bytes) (head_in bytes) → HeaderCame unread head unread2
@@ -68,26 +105,46 @@ header_says unread unread2 bytes head splits size is =
     let both = checked_ok (head_fault bytes) (head_in bytes) head (sym is) in
     record { bytes = bytes; header = record { passes = both.0; whole = size; says = sym both.1 }; splits = splits }
 
-header_wrong : (unread unread2 bytes : List ℕ) (fault : Fault) → unread ≡ bytes ++ unread2 → length bytes ≡ 24 → Err fault ≡ checked (head_fault bytes) (head_in bytes) → Refuses Nothing unread unread2 fault
-header_wrong unread unread2 bytes fault splits size is =
+header_wrong : (unread unread2 bytes : List ℕ) (fault : Fault) → unread ≡ bytes ++ unread2 → length bytes ≡ 24 → is_section bytes ≡ false → Err fault ≡ checked (head_fault bytes) (head_in bytes) → Refuses Nothing unread unread2 fault
+header_wrong unread unread2 bytes fault splits size other is =
+    let kind : is_pcapng unread ≡ false = ap is_pcapng splits ∙ is_pcapng-append bytes unread2 (omega arith) ∙ other in
     let fails : head_fault bytes ≡ Some fault = checked_err (head_fault bytes) (head_in bytes) fault (sym is) in
     let whole : head_fault unread ≡ Some fault = ap head_fault splits ∙ head_fault-append bytes unread2 (omega arith) ∙ fails in
     record {
-      why = inl (front_of-no_header unread fault whole);
-      taken = Taken-behind Nothing unread unread2 unread2 bytes 0 splits (omega arith) refl (most_taken-header unread (length bytes + 0) (omega arith));
+      why = inl (front_of-no_header unread fault kind whole);
+      taken = Taken-behind Nothing unread unread2 unread2 bytes 0 splits (omega arith) refl (most_taken-header unread (length bytes + 0) kind (omega arith));
     }
+
+-- the first four bytes are those that were read first
+pub section_of_bytes : (bytes first : List ℕ) → length bytes ≡ 24 → take 4 bytes ≡ first → length first ≡ 4 → is_section first ≡ false → is_section bytes ≡ false
+section_of_bytes bytes first size front four other =
+    let joined : first ++ drop 4 bytes ≡ bytes = ap (λ (l : List ℕ). l ++ drop 4 bytes) (sym front) ∙ take-append-drop 4 bytes in
+    ap is_section (sym joined) ∙ is_section-append first (drop 4 bytes) (omega arith) ∙ other
 
 pub header_came : (told : Bool) (unread unread2 bytes : List ℕ) (answer : Result Head Fault) → (IsTrue told → unread ≡ bytes ++ unread2) → length bytes ≡ 24 → answer ≡ checked (head_fault bytes) (head_in bytes)
     → IfOk answer (λ head. IsTrue told → HeaderCame unread head unread2)
 header_came told unread unread2 bytes (Ok head) splits size is = λ t. header_says unread unread2 bytes head (splits t) size is
 header_came told unread unread2 bytes (Err fault) splits size is = tt
 
-pub header_refused : (told : Bool) (unread unread2 bytes : List ℕ) (answer : Result Head Fault) → (IsTrue told → unread ≡ bytes ++ unread2) → length bytes ≡ 24 → answer ≡ checked (head_fault bytes) (head_in bytes)
+pub header_refused : (told : Bool) (unread unread2 bytes : List ℕ) (answer : Result Head Fault) → (IsTrue told → unread ≡ bytes ++ unread2) → length bytes ≡ 24 → is_section bytes ≡ false
+    → answer ≡ checked (head_fault bytes) (head_in bytes)
     → IfErr answer (λ fault. IsTrue told → Refuses Nothing unread unread2 fault)
-header_refused told unread unread2 bytes (Ok head) splits size is = tt
-header_refused told unread unread2 bytes (Err fault) splits size is = λ t. header_wrong unread unread2 bytes fault (splits t) size is
+header_refused told unread unread2 bytes (Ok head) splits size other is = tt
+header_refused told unread unread2 bytes (Err fault) splits size other is = λ t. header_wrong unread unread2 bytes fault (splits t) size other is
 
 -- ---- a record
+
+pub record_front : (head : Head) (unread unread' : List ℕ) (fault : Fault) → FrontMissing 16 unread unread' fault → Refuses (PcapFile head) unread unread' fault
+record_front head unread unread' fault m = record {
+  why = elim m.missing.why [
+    | inl short ↦ elim m.some [
+      | inl some ↦ inl (rw short.0 (front_of-no_record head unread Truncated some (record_fault-few head unread (omega (arith, short.1)))))
+      | inr failed ↦ inr (inl failed)
+    ]
+    | inr failed ↦ inr (inl failed)
+  ];
+  taken = record { count = m.missing.count; within = most_taken-front head unread m.missing.count (omega (arith, m.missing.within)); there = m.missing.there; rest = m.missing.rest };
+}
 
 pub record FieldsCame (head : Head) (front : List ℕ) (found : RecordHead) : Type 0 where
   pub none : first_failing (field_checks head front) ≡ None
@@ -117,7 +174,7 @@ no_room head unread unread1 front splits size = record {
 }
 
 pub data_missing : (head : Head) (unread unread1 unread2 front : List ℕ) (found : RecordHead) (fault : Fault) (size : ℕ) → size ≡ 16 + found.captured → unread ≡ front ++ unread1 → length front ≡ 16 → FieldsCame head front found
-    → 16 + found.captured ≤ most_in_unit → RestMissing 16 size unread1 unread2 fault → Refuses (PcapFile head) unread unread2 fault
+    → 16 + found.captured ≤ most_in_unit → RestMissing (length front) size unread1 unread2 fault → Refuses (PcapFile head) unread unread2 fault
 data_missing head unread unread1 unread2 front found fault size is splits few fields small missing =
     let long : length unread ≡ length front + length unread1 = ap length splits ∙ length-append front unread1 in
     let said : found.captured ≡ captured_len head front = ap (λ (h : RecordHead). h.captured) fields.says in
@@ -132,20 +189,49 @@ data_missing head unread unread1 unread2 front found fault size is splits few fi
           (most_taken-record head unread (length front + missing.count) (omega (arith, missing.within)) (omega (arith, missing.within)));
     }
 
+-- what is held of a record
+abbrev pub record_held : RecordHead → ℕ → Held
+record_held found size = record { size = size; from = 16; captured = found.captured; interface = 0; time = found.time; orig = found.orig }
+
 pub record_came : (head : Head) (unread unread1 unread2 front unit buffer : List ℕ) (found : RecordHead) (size : ℕ) → unread ≡ front ++ unread1 → length front ≡ 16 → FieldsCame head front found
-    → size ≡ 16 + found.captured → length unit ≡ size → take 16 unit ≡ front → unread1 ≡ drop 16 unit ++ unread2 → take size buffer ≡ unit
-    → RecordCame head unread buffer (record { size = size; time = found.time; orig = found.orig }) unread2
-record_came head unread unread1 unread2 front unit buffer found size splits few fields e whole same rest there =
+    → size ≡ 16 + found.captured → length unit ≡ size → take (length front) unit ≡ front → unread1 ≡ drop (length front) unit ++ unread2 → take size buffer ≡ unit
+    → PacketCame (PcapFile head) unread buffer (record_held found size) (PcapFile head) unread2
+record_came head unread unread1 unread2 front unit buffer found size splits few fields e whole came behind there =
+    let same : take 16 unit ≡ front = ap (λ (n : ℕ). take n unit) (sym few) ∙ came in
+    let rest : unread1 ≡ drop 16 unit ++ unread2 = behind ∙ ap (λ (n : ℕ). drop n unit ++ unread2) few in
     let said : found.captured ≡ captured_len head front = ap (λ (h : RecordHead). h.captured) fields.says in
     let joined : front ++ drop 16 unit ≡ unit = ap (λ (l : List ℕ). l ++ drop 16 unit) (sym same) ∙ take-append-drop 16 unit in
     let says : record_head_in head unit ≡ found = ap (record_head_in head) (sym joined) ∙ record_head_in-append head front (drop 16 unit) (omega arith) ∙ sym fields.says in
+    let bytes : take found.captured (drop 16 unit) ≡ drop 16 unit = take_all found.captured (drop 16 unit) (omega (arith, length-drop 16 unit)) in
+    let packet : record { link = head.link; snap = head.snap; name = []; time = found.time; orig = found.orig; bytes = take found.captured (drop 16 unit) } ≡ packet_in head unit =
+    ap₂ (λ (h : RecordHead) (l : List ℕ). record { link = head.link; snap = head.snap; name = []; time = h.time; orig = h.orig; bytes = l }) (sym says) bytes in
     record {
-      there = rw there (IsRecord-came head unit (omega arith) (rw same fields.none) (rw same (omega arith)));
-      time = rw there (ap (λ (h : RecordHead). h.time) says);
-      orig = rw there (ap (λ (h : RecordHead). h.orig) says);
+      packet = packet_in head unit;
+      is_lent = rw there (ap Some packet);
+      unit = rw there (a_pcap_record head unit (IsRecord-came head unit (omega arith) (rw same fields.none) (rw same (omega arith))));
+      same = refl;
       splits = rw there (splits ∙ ap (λ (l : List ℕ). front ++ l) rest ∙ sym (append_assoc front (drop 16 unit) unread2) ∙ ap (λ (l : List ℕ). l ++ unread2) joined);
     }
 
 pub none_if_not : {X : Type 0} (o : Option X) → is_some o ≡ false → o ≡ None
 none_if_not None e = refl
 none_if_not (Some x) e = (cc)
+
+-- ---- a unit behind its front
+
+pub if_ok : {X E A B : Type 0} (r : Result X E) → (A → B) → OnOk r A → OnOk r B
+if_ok (Ok x) f a = f a
+if_ok (Err e) f a = tt
+
+pub same_front : (bytes behind front copied after : List ℕ) (size from : ℕ) → length bytes ≡ size → length copied ≡ from → copied ≡ front
+    → take from bytes ≡ take from (copied ++ after) → take from (take size (bytes ++ behind)) ≡ front
+same_front bytes behind front copied after size from whole few is same =
+    ap (take from) (take_at bytes behind size whole) ∙ same ∙ take_at copied after from few ∙ is
+
+pub each_ok : {X E : Type 0} (r : Result X E) {P Q : X → Type 0} → ((x : X) → P x → Q x) → IfOk r P → IfOk r Q
+each_ok (Ok x) f p = f x p
+each_ok (Err e) f p = tt
+
+pub each_err : {X E : Type 0} (r : Result X E) {P Q : E → Type 0} → ((e : E) → P e → Q e) → IfErr r P → IfErr r Q
+each_err (Ok x) f p = tt
+each_err (Err e) f p = f e p

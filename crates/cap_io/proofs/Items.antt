@@ -1,29 +1,15 @@
 -- Whole units in front of a text give their packets first.
-use Rattle.std.proofs.Common.{◌≡◌, ℕ, zero, suc, ◌+◌, ◌<◌, ◌≤◌, List, [], ◌∷◌, ◌++◌, length, take, drop, Option, None, Some, refl, sym, ◌∙◌, ap, arith, add-zero}
-use Rattle.std.proofs.lemmas.List.{append_assoc, append-nil, length-append, length-drop, take_at, drop_at}
+use Rattle.std.proofs.Common.{◌≡◌, ℕ, zero, suc, ◌+◌, ◌<◌, List, ◌++◌, length, drop, Option, refl, sym, ◌∙◌, ap, arith, add-zero}
+use Rattle.std.proofs.lemmas.List.{append_assoc, length-append, length-drop, drop_at}
 use Rattle.cap_octet.specs.Packet.{Captured}
 use Rattle.cap_octet.specs.declared.fault.Fault.{Fault}
-use Rattle.cap_pcap.specs.declared.head.Head.{Head}
-use Rattle.cap_pcap.specs.Header.{head_fault}
-use Rattle.cap_pcap.specs.Record.{record_fault, record_size, packet_in}
-use Rattle.cap_io.specs.Capture.{Declared, Nothing, PcapFile, IsUnit, a_pcap_header, a_pcap_record, Placed, placed_at, AreUnits, no_unit, unit_then, Front, Whole, Stops, front_of, front_of_header, front_of_record, Items, no_items, after_packets, items_with, items_within, items_from, items}
-use Rattle.cap_io.proofs.Units.{front_of-unit}
+use Rattle.cap_io.specs.Capture.{Declared, IsUnit, Placed, placed_at, AreUnits, no_unit, unit_then, Front, Whole, Stops, front_of, Items, no_items, after_packets, items_with, items_within, items_from}
+use Rattle.cap_io.proofs.Units.{front_of-unit, front_of-is}
 
 -- ---- a unit has a byte at least
 
-by_header : (fault : Option Fault) (text : List ℕ) (size : ℕ) (ps : List Captured) (d : Declared) → front_of_header fault text ≡ Whole size ps d → 0 < size
-by_header None text size ps d e = let same : 24 ≡ size = cc in omega arith
-by_header (Some fault) text size ps d e = (cc)
-
-by_record : (fault : Option Fault) (head : Head) (text : List ℕ) (size : ℕ) (ps : List Captured) (d : Declared) → front_of_record fault head text ≡ Whole size ps d → 0 < size
-by_record None head text size ps d e = let same : record_size head text ≡ size = cc in omega arith
-by_record (Some fault) head text size ps d e = (cc)
-
 front-sized : (b : Declared) (text : List ℕ) (size : ℕ) (ps : List Captured) (d : Declared) → front_of b text ≡ Whole size ps d → (0 < size) × (0 < length text)
-front-sized Nothing [] size ps d e = absurd (cc)
-front-sized Nothing (x ∷ text) size ps d e = (by_header (head_fault (x ∷ text)) (x ∷ text) size ps d e, omega arith)
-front-sized (PcapFile head) [] size ps d e = absurd (cc)
-front-sized (PcapFile head) (x ∷ text) size ps d e = (by_record (record_fault head (x ∷ text)) head (x ∷ text) size ps d e, omega arith)
+front-sized b text size ps d e = let f = front_of-is b text size ps d e in (f.some, omega (arith, f.some, f.there))
 
 -- ---- more units than there can be change nothing
 

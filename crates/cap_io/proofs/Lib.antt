@@ -1,8 +1,12 @@
 pub mod Fronts
 pub mod Came
+pub mod Entered
+pub mod OwnFaults
+pub mod BlocksCame
 pub mod Passing
 pub mod Units
 pub mod Items
 pub mod Standing
 pub mod Texts
 pub mod Cuts
+pub mod CapturesCame

@@ -1,90 +1,159 @@
 -- From one place in a file to a later one.
-use Rattle.std.proofs.Common.{◌≡◌, ℕ, ◌+◌, ◌-◌, ◌≤◌, List, [], ◌∷◌, ◌++◌, length, take, drop, Option, Some, None, refl, sym, ap, ap₂, ◌∙◌, arith, add-zero}
-use Rattle.std.proofs.lemmas.List.{append-nil, drop-take}
-use Rattle.cap_octet.specs.Packet.{Captured}
-use Rattle.cap_octet.specs.declared.fault.Fault.{Fault}
+use Rattle.std.proofs.Common.{◌≡◌, ℕ, ◌+◌, ◌-◌, ◌≤◌, List, [], ◌++◌, length, take, drop, Option, Some, None, refl, sym, ap, ap₂, ◌∙◌, subst, arith}
+use Rattle.std.specs.List.{slice_get}
+use Rattle.std.specs.Option.{option_map}
+use Rattle.std.proofs.lemmas.List.{append_assoc, drop-take, take-take, length-append, length-take-le}
+use Rattle.cap_octet.specs.declared.number.Order.{Order}
 use Rattle.cap_pcap.specs.declared.head.Head.{Head}
-use Rattle.cap_pcap.specs.Record.{packet_in, time_in, orig_in}
-use Rattle.cap_io.specs.declared.source.Held.{Held}
-use Rattle.cap_io.specs.Capture.{Declared, Nothing, PcapFile, IsUnit, a_pcap_header, a_pcap_record, AreUnits, no_unit, unit_then}
+use Rattle.cap_pcapng.specs.Interface.{Described}
+use Rattle.cap_pcapng.specs.Unit.{packet_of}
+use Rattle.cap_io.specs.declared.source.Stage.{Stage}
+use Rattle.cap_io.specs.declared.source.Stage.TheVariants as stage
+use Rattle.cap_octet.specs.declared.fault.Fault.{Fault}
+use Rattle.cap_io.specs.declared.unit.Held.{Held}
+use Rattle.cap_io.specs.Capture.{Declared, PcapFile, PcapngFile, AreUnits, no_unit}
+use Rattle.cap_io.proofs.Items.{AreUnits-append}
 use Rattle.cap_io.proofs.Units.{one_unit}
-use Rattle.cap_io.specs.Reading.{HeaderCame, RecordCame, IsReason, IsTaken}
-use Rattle.cap_io.specs.Source.{SourceView, Phase, Reading, Passes, IsBroken, FindsPacket, Opens, OpenBreaks, left, packet_held}
+use Rattle.cap_io.specs.Reading.{EndCame, PacketCame, Refuses, UnitPassed, data_held, packet_held}
+use Rattle.cap_io.specs.Source.{SourceView, Reading, Ended, Passes, IsBetween, IsBroken, FindsPacket, FindsEnd, HoldsIfAny, block_at, left, phase_at}
 
--- the file header was read before
-pub Opens-before : (s : SourceView) (head : Head) → s.block ≡ [] → s.declared ≡ PcapFile head → Opens s head s
-Opens-before s head none is = record {
-  passes = record { passed = []; splits = refl; units = no_unit; offset = rw none (omega arith) };
-  declared = is;
-}
+-- ---- no unit is gone over
 
--- the file header is read
-pub Opens-header : (old new : SourceView) (head : Head) → old.block ≡ [] → old.declared ≡ Nothing → HeaderCame old.unread head new.unread → new.declared ≡ PcapFile head → new.offset ≡ old.offset + 24
-    → Opens old head new
-Opens-header old new head none nothing came is place =
-    record {
-      passes = record {
-        passed = came.bytes;
-        splits = came.splits;
-        units = rw (nothing, is) (one_unit (a_pcap_header came.bytes head came.header));
-        offset = rw none (omega (arith, came.header.whole));
-      };
-      declared = is;
-    }
+stays : (old new : SourceView) → IsBetween old → new.declared ≡ old.declared → new.offset ≡ old.offset → Passes old new old.unread
+stays old new between declared place = record { passed = []; splits = refl; units = rw declared no_unit; offset = rw between.block (omega (arith, place)) }
 
--- ---- the unit in hand is left first
-
-pub Passes-left : (old mid new : SourceView) (rest : List ℕ) → mid ≡ left old → Passes mid new rest → Passes old new rest
-Passes-left old mid new rest is p = record {
-  passed = p.passed;
-  splits = ap (λ (s : SourceView). s.unread) (sym is) ∙ p.splits;
-  units =
-      let place : mid.offset + length mid.block ≡ old.offset + length old.block = ap (λ (s : SourceView). s.offset + length s.block) is ∙ add-zero (old.offset + length old.block) in
-      rw (ap (λ (s : SourceView). s.declared) (sym is)) (rw place at p.units);
-  offset = p.offset ∙ ap (λ (s : SourceView). s.offset + length s.block + length p.passed) is ∙ omega arith;
-}
-
-pub IsBroken-open : (old mid new : SourceView) (fault : Fault) → mid ≡ left old → OpenBreaks mid fault new → new.block ≡ [] → new.packet ≡ None → IsBroken old new fault
-IsBroken-open old mid new fault is breaks block packet = record {
-  rest = mid.unread;
-  passes = Passes-left old mid new mid.unread is (record { passed = []; splits = refl; units = rw breaks.declared no_unit; offset = rw (ap (λ (s : SourceView). s.block) is) (omega (arith, breaks.offset)) });
-  why = rw breaks.declared breaks.why;
-  taken = rw breaks.declared breaks.taken;
+pub IsBroken-next : (old new : SourceView) (fault : Fault) → IsBetween old → Refuses old.declared old.unread new.unread fault → new.declared ≡ old.declared → new.offset ≡ old.offset
+    → new.block ≡ [] → new.packet ≡ None → IsBroken old new fault
+IsBroken-next old new fault between refuses declared place block packet = record {
+  rest = old.unread;
+  passes = stays old new between declared place;
+  why = rw declared refuses.why;
+  taken = rw declared refuses.taken;
   block = block;
   packet = packet;
 }
 
--- ---- a record is in hand
+pub FindsEnd-next : (old new : SourceView) → IsBetween old → EndCame old.declared old.unread new.declared new.unread → new.offset ≡ old.offset
+    → new.block ≡ [] → new.packet ≡ None → new.phase ≡ Ended → FindsEnd old new
+FindsEnd-next old new between came place block packet phase = record {
+  passes = let P : List ℕ → Type 0 = λ rest. Passes old new rest in subst P came.over (stays old new between came.same place);
+  ends = rw came.same came.ends;
+  unread = came.rest;
+  block = block;
+  packet = packet;
+  phase = phase;
+}
 
-pub FindsPacket-record : (old mid opened new : SourceView) (head : Head) (buffer : List ℕ) (held : Held) → mid ≡ left old → Opens mid head opened → RecordCame head opened.unread buffer held new.unread
-    → new.block ≡ take held.size buffer → new.declared ≡ opened.declared → new.offset ≡ opened.offset → new.phase ≡ Reading
-    → new.packet ≡ packet_held new.declared held (take held.size buffer)
+-- ---- one unit
+
+pub Passes-next : (old new : SourceView) (size : ℕ) → IsBetween old → UnitPassed old.declared old.unread size new.declared new.unread → new.offset ≡ old.offset + size
+    → Passes old new new.unread
+Passes-next old new size between came place = record {
+  passed = came.bytes;
+  splits = came.splits;
+  units = one_unit came.unit;
+  offset = rw between.block (omega (arith, place, came.sized));
+}
+
+pub FindsPacket-next : (old new : SourceView) (held : Held) (buffer : List ℕ) → IsBetween old → PacketCame old.declared old.unread buffer held new.declared new.unread
+    → new.block ≡ take held.size buffer → new.packet ≡ packet_held new.declared held (take held.size buffer) → new.offset ≡ old.offset → new.phase ≡ Reading
     → FindsPacket old new
-FindsPacket-record old mid opened new head buffer held is opens came block declared place phase packet =
-    let unit : List ℕ = take held.size buffer in
-    let same : record { link = head.link; snap = head.snap; name = []; time = held.time; orig = held.orig; bytes = drop 16 unit } ≡ packet_in head unit =
-    ap₂ (λ (t o : ℕ). record { link = head.link; snap = head.snap; name = []; time = t; orig = o; bytes = drop 16 unit }) (sym came.time) (sym came.orig) in
-    record {
-      passes = Passes-left old mid new (new.block ++ new.unread) is (record {
-        passed = opens.passes.passed;
-        splits = opens.passes.splits ∙ ap (λ (l : List ℕ). opens.passes.passed ++ l) (came.splits ∙ ap (λ (l : List ℕ). l ++ new.unread) (sym block));
-        units = rw declared opens.passes.units;
-        offset = place ∙ opens.passes.offset;
-      });
-      packet = packet_in head unit;
-      held = packet ∙ ap (λ (d : Declared). packet_held d held unit) (declared ∙ opens.declared) ∙ ap Some same;
-      unit = rw (block, declared, opens.declared) (a_pcap_record head unit came.there);
+FindsPacket-next old new held buffer between came block packet place phase =
+    let P : List ℕ → Type 0 = λ rest. Passes old new rest in record {
+      passes = subst P (came.splits ∙ ap (λ (l : List ℕ). l ++ new.unread) (sym block)) (stays old new between came.same place);
+      packet = came.packet;
+      held = packet ∙ ap (λ (d : Declared). packet_held d held (take held.size buffer)) came.same ∙ came.is_lent;
+      unit = rw (block, came.same) came.unit;
       phase = phase;
     }
 
+-- ---- units after the unit in hand, and after others
+
+pub Passes-left : (old mid : SourceView) → mid ≡ left old → Passes old mid mid.unread
+Passes-left old mid is = record {
+  passed = [];
+  splits = ap (λ (s : SourceView). s.unread) (sym is);
+  units = rw (ap (λ (s : SourceView). s.declared) is) no_unit;
+  offset = ap (λ (s : SourceView). s.offset) is ∙ omega arith;
+}
+
+pub IsBetween-left : (old mid : SourceView) → old.phase ≡ Reading → mid ≡ left old → IsBetween mid
+IsBetween-left old mid phase is = record {
+  phase = ap (λ (s : SourceView). s.phase) is ∙ phase;
+  block = ap (λ (s : SourceView). s.block) is;
+  packet = ap (λ (s : SourceView). s.packet) is;
+}
+
+pub Passes-then : (old mid new : SourceView) (rest : List ℕ) → Passes old mid mid.unread → mid.block ≡ [] → Passes mid new rest → Passes old new rest
+Passes-then old mid new rest first none more =
+    let place : mid.offset + length mid.block ≡ old.offset + length old.block + length first.passed = rw none (omega (arith, first.offset)) in
+    let units : AreUnits old.declared (old.offset + length old.block) (first.passed ++ more.passed) [] new.declared =
+    AreUnits-append first.units (rw place at more.units) in
+    record {
+      passed = first.passed ++ more.passed;
+      splits = first.splits ∙ ap (λ (l : List ℕ). first.passed ++ l) more.splits ∙ sym (append_assoc first.passed more.passed rest);
+      units = units;
+      offset = omega (arith, more.offset, place, length-append first.passed more.passed);
+    }
+
+pub FindsPacket-then : (old mid new : SourceView) → Passes old mid mid.unread → mid.block ≡ [] → FindsPacket mid new → FindsPacket old new
+FindsPacket-then old mid new first none finds = record {
+  passes = Passes-then old mid new (new.block ++ new.unread) first none finds.passes;
+  packet = finds.packet;
+  held = finds.held;
+  unit = finds.unit;
+  phase = finds.phase;
+}
+
+pub FindsEnd-then : (old mid new : SourceView) → Passes old mid mid.unread → mid.block ≡ [] → FindsEnd mid new → FindsEnd old new
+FindsEnd-then old mid new first none finds = record {
+  passes = Passes-then old mid new [] first none finds.passes;
+  ends = finds.ends;
+  unread = finds.unread;
+  block = finds.block;
+  packet = finds.packet;
+  phase = finds.phase;
+}
+
+pub IsBroken-then : (old mid new : SourceView) (fault : Fault) → Passes old mid mid.unread → mid.block ≡ [] → IsBroken mid new fault → IsBroken old new fault
+IsBroken-then old mid new fault first none broken = record {
+  rest = broken.rest;
+  passes = Passes-then old mid new broken.rest first none broken.passes;
+  why = broken.why;
+  taken = broken.taken;
+  block = broken.block;
+  packet = broken.packet;
+}
+
 -- ---- the packet in hand
 
-abbrev pub lent : Head → ℕ → ℕ → List ℕ → Option Captured
-lent head time orig bytes = Some (record { link = head.link; snap = head.snap; name = []; time = time; orig = orig; bytes = bytes })
+-- its data, as they lie in the buffer
+pub data-lent : (held : Held) (bytes buffer : List ℕ) → held.from + held.captured ≤ held.size → bytes ≡ buffer
+    → take (held.from + held.captured - held.from) (drop held.from bytes) ≡ data_held held (take held.size buffer)
+data-lent held bytes buffer within same =
+    let count : held.from + held.captured - held.from ≡ held.captured = omega arith in
+    let whole : held.from + (held.size - held.from) ≡ held.size = omega arith in
+    let rest : drop held.from (take held.size buffer) ≡ take (held.size - held.from) (drop held.from buffer) =
+    ap (λ n. drop held.from (take n buffer)) (sym whole) ∙ drop-take held.from (held.size - held.from) buffer in
+    ap₂ (λ (n : ℕ) (l : List ℕ). take n (drop held.from l)) count same
+    ∙ sym (take-take held.captured (held.size - held.from) (drop held.from buffer) (omega arith))
+    ∙ ap (take held.captured) (sym rest)
 
-pub packet-lent : (head : Head) (time orig size : ℕ) (bytes buffer : List ℕ) → 16 ≤ size → bytes ≡ buffer
-    → lent head time orig (take (size - 16) (drop 16 bytes)) ≡ lent head time orig (drop 16 (take size buffer))
-packet-lent head time orig size bytes buffer enough same =
-    let whole : 16 + (size - 16) ≡ size = omega arith in
-    ap (lent head time orig)
-    (sym (drop-take 16 (size - 16) bytes) ∙ ap (λ (n : ℕ). drop 16 (take n bytes)) whole ∙ ap (λ (l : List ℕ). drop 16 (take size l)) same)
+pub pcap-lent : (head : Head) (held : Held) (bytes block : List ℕ) → bytes ≡ data_held held block
+    → Some (record { link = head.link; snap = head.snap; name = []; time = held.time; orig = held.orig; bytes = bytes }) ≡ packet_held (PcapFile head) held block
+pcap-lent head held bytes block same = ap (λ (l : List ℕ). Some (record { link = head.link; snap = head.snap; name = []; time = held.time; orig = held.orig; bytes = l })) same
+
+pub pcapng-lent : (order : Order) (first : Option ℕ) (interfaces : List Described) (i : Described) (held : Held) (bytes block : List ℕ) → slice_get interfaces held.interface ≡ Some i → bytes ≡ data_held held block
+    → Some (packet_of i held.time held.orig bytes) ≡ packet_held (PcapngFile first (record { order = order; interfaces = interfaces })) held block
+pcapng-lent order first interfaces i held bytes block known same =
+    ap (λ (l : List ℕ). Some (packet_of i held.time held.orig l)) same
+    ∙ ap (option_map (λ (j : Described). packet_of j held.time held.orig (data_held held block))) (sym known)
+
+-- ---- nothing is in hand
+
+pub stage_between : (now : Stage) (buffer : List ℕ) → phase_at now ≡ Reading → block_at now buffer ≡ [] → HoldsIfAny now buffer → now ≡ stage.Between
+stage_between stage.Between buffer phase none holds = refl
+stage_between (stage.InHand held) buffer phase none holds =
+    absurd (omega (arith, holds.some, holds.there, sym (length-take-le held.size buffer holds.there) ∙ ap length none))
+stage_between stage.Ended buffer phase none holds = (cc)
+stage_between (stage.Failed fault) buffer phase none holds = (cc)

@@ -1,11 +1,11 @@
 -- Where a source stands in its text, from one call to the next.
-use Rattle.std.proofs.Common.{◌≡◌, ℕ, ◌+◌, ◌⊎◌, inl, inr, Bool, true, false, List, [], ◌∷◌, ◌++◌, length, Option, None, Some, refl, sym, ◌∙◌, ap, arith, subst, add-zero, zero-add, Result, Ok, Err}
+use Rattle.std.proofs.Common.{◌≡◌, ℕ, ◌+◌, ◌⊎◌, inl, inr, Bool, true, false, List, [], ◌∷◌, ◌++◌, length, Option, None, Some, refl, sym, ◌∙◌, ap, arith, add-zero, zero-add, Result, Ok}
 use Rattle.std.proofs.lemmas.List.{append_assoc, append-nil, length-append}
 use Rattle.cap_octet.specs.declared.fault.Fault.{Fault}
 use Rattle.cap_octet.specs.declared.fault.Fault.TheVariants.{ReadFailed, NoMemory}
-use Rattle.cap_io.specs.Capture.{Declared, Nothing, Placed, placed_at, AreUnits, no_unit, Items, items, items_from, after_packets, no_items, ending_by, FaultAt, End, front_of, Stops}
+use Rattle.cap_io.specs.Capture.{Declared, Nothing, Placed, placed_at, AreUnits, no_unit, items, items_from, after_packets, ending_by, FaultAt, End, front_of, Stops}
 use Rattle.cap_io.specs.Source.{SourceView, Phase, Reading, Ended, Failed, source_at, Passes, FindsPacket, FindsEnd, FindsFault, Advances, Finds}
-use Rattle.cap_io.specs.Standing.{pending, HasPacket, IsOver, IsAt, IsCutShort}
+use Rattle.cap_io.specs.Standing.{HasPacket, IsAt, IsCutShort}
 use Rattle.cap_io.proofs.Items.{AreUnits-append, items_from-units, items_from-stops}
 use Rattle.cap_io.proofs.Units.{one_unit}
 

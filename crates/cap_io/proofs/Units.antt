@@ -1,21 +1,82 @@
 -- A unit and what a text begins with.
-use Rattle.std.proofs.Common.{◌≡◌, ℕ, zero, suc, ◌+◌, ◌<◌, ◌≤◌, List, [], ◌∷◌, ◌++◌, length, take, drop, Option, None, Some, refl, sym, ◌∙◌, ap, arith, add-zero}
-use Rattle.std.proofs.lemmas.List.{append_assoc, append-nil, length-append, length-drop, length-take-le, take-append-drop, take_at, drop_at}
+use Rattle.std.proofs.Common.{◌≡◌, ℕ, Bool, true, false, ◌||◌, ◌&&◌, cond, is_some, eqb-true, ◌⊎◌, inl, inr, ◌<◌, ◌≤◌, List, [], ◌∷◌, ◌++◌, length, take, drop, Option, None, Some, refl, sym, ◌∙◌, ap, arith}
+use Rattle.std.proofs.lemmas.List.{append-nil, length-append, length-take-le, take-append-drop, take_at}
 use Rattle.cap_octet.specs.Packet.{Captured}
 use Rattle.cap_octet.specs.declared.fault.Fault.{Fault}
 use Rattle.cap_pcap.specs.declared.head.Head.{Head}
-use Rattle.cap_pcap.specs.Header.{head_fault, head_in, IsHeader}
+use Rattle.cap_pcap.specs.declared.head.Resolution.{Resolution}
+use Rattle.cap_pcap.specs.declared.head.Resolution.TheVariants.{Microseconds, Nanoseconds}
+use Rattle.cap_pcap.specs.Header.{form_in, head_checks, head_fault, head_in, magic, IsHeader}
 use Rattle.cap_pcap.specs.Record.{record_fault, record_size, packet_in, IsRecord}
 use Rattle.cap_pcap.proofs.Headers.{head_fault-append, head_fault-none, head_in-append}
 use Rattle.cap_pcap.proofs.Records.{passes, IsRecord-front, IsRecord-take}
-use Rattle.cap_io.specs.Capture.{Declared, Nothing, PcapFile, IsUnit, a_pcap_header, a_pcap_record, placed_at, AreUnits, no_unit, unit_then, Front, Whole, Stops, front_of, front_of_header, front_of_record, Items, no_items, after_packets, items_with, items_within, items_from}
-use Rattle.cap_io.proofs.Fronts.{front_of-header, front_of-record}
+use Rattle.std.specs.Prelude.{◌==◌, nat_le}
+use Rattle.std.proofs.lemmas.Bool.{le-leb}
+use Rattle.cap_octet.specs.Number.{number_in, u32_in}
+use Rattle.cap_octet.specs.declared.number.Order.TheVariants.{Little, Big}
+use Rattle.cap_octet.proofs.Checks.{all_met}
+use Rattle.cap_pcapng.specs.Frame.{frame_checks, is_section, section_type}
+use Rattle.cap_pcapng.specs.Unit.{IsBlock, Section, block_size, packets_in, unit_fault}
+use Rattle.cap_pcapng.proofs.Units as block
+use Rattle.cap_io.specs.Capture.{Declared, Nothing, PcapFile, PcapngFile, IsUnit, a_pcap_header, a_pcap_record, a_first_block, a_block, file_after, front_of_block, is_pcapng, placed_at, AreUnits, no_unit, unit_then, Whole, front_of, front_of_file, front_of_header, front_of_record}
+use Rattle.cap_io.proofs.Fronts.{front_of-header, front_of-record, front_of-pcapng, front_of-behind, front_of_block-whole}
+
+-- ---- which kind of file
+
+-- The four bytes of a section header's type read as no magic number of pcap, in no order.
+not_swapped : (text : List ℕ) (resolution : Resolution) → 4 ≤ length text → u32_in Little text 0 ≡ section_type → u32_in Big text 0 ≡ magic resolution → ⊥
+unfolding number_in
+not_swapped [] resolution enough little big = absurd (omega arith)
+not_swapped (a ∷ []) resolution enough little big = absurd (omega arith)
+not_swapped (a ∷ b ∷ []) resolution enough little big = absurd (omega arith)
+not_swapped (a ∷ b ∷ c ∷ []) resolution enough little big = absurd (omega arith)
+not_swapped (a ∷ b ∷ c ∷ d ∷ text) Microseconds enough little big = absurd (omega (arith, little, big))
+not_swapped (a ∷ b ∷ c ∷ d ∷ text) Nanoseconds enough little big = absurd (omega (arith, little, big))
+
+some_form : {X : Type 0} (a b : Bool) (x y : X) → is_some (cond a (Some x) (cond b (Some y) None)) ≡ true → (a ≡ true) ⊎ (b ≡ true)
+some_form true b x y e = inl refl
+some_form false true x y e = inr refl
+some_form false false x y e = absurd (cc)
+
+and_second : (a b : Bool) → (a && b) ≡ true → b ≡ true
+and_second true b e = e
+and_second false b e = absurd (cc)
+
+pub header-other : (text : List ℕ) → is_pcapng text ≡ true → head_fault text ≡ None → ⊥
+header-other text is none =
+    let little : u32_in Little text 0 ≡ section_type = eqb-true (u32_in Little text 0) section_type (and_second (nat_le 4 (length text)) (is_section text) is) in
+    let some : is_some (form_in text) ≡ true = and_second (nat_le 4 (length text)) (is_some (form_in text)) (all_met (head_checks text) none).0 in
+    let form = some_form (u32_in Big text 0 == magic Microseconds) (u32_in Big text 0 == magic Nanoseconds) (Big, Microseconds) (Big, Nanoseconds) (rw little at some) in
+    let enough : 4 ≤ length text = omega (arith, head_fault-none text none) in
+    elim form [
+      | inl e ↦ not_swapped text Microseconds enough little (eqb-true (u32_in Big text 0) (magic Microseconds) e)
+      | inr e ↦ not_swapped text Nanoseconds enough little (eqb-true (u32_in Big text 0) (magic Nanoseconds) e)
+    ]
+
+-- a first block is a section header
+pub first-section : (text : List ℕ) → unit_fault None text ≡ None → is_pcapng text ≡ true
+first-section text none =
+    let p = block.passes None text none in
+    ap (λ (b : Bool). b && is_section text) (le-leb 4 (length text) (omega (arith, p.enough)))
+    ∙ both (is_section text) (all_met (frame_checks None text) p.framed).0
+  where
+    both : (b : Bool) → (b || false) ≡ true → b ≡ true
+    both true e = refl
+    both false e = e
+
+other-header : (text : List ℕ) → head_fault text ≡ None → is_pcapng text ≡ false
+other-header text none = by_bool (is_pcapng text) refl
+  where
+    by_bool : (b : Bool) → is_pcapng text ≡ b → is_pcapng text ≡ false
+    by_bool true is = absurd (header-other text is none)
+    by_bool false is = is
 
 -- ---- a unit in front
 
 header-front : (bytes more : List ℕ) (head : Head) → IsHeader bytes head → front_of Nothing (bytes ++ more) ≡ Whole (length bytes) [] (PcapFile head)
 header-front bytes more head is =
-    front_of-header (bytes ++ more) (head_fault-append bytes more (omega (arith, is.whole)) ∙ is.passes)
+    let none : head_fault (bytes ++ more) ≡ None = head_fault-append bytes more (omega (arith, is.whole)) ∙ is.passes in
+    front_of-header (bytes ++ more) (other-header (bytes ++ more) none) none
     ∙ rw (head_in-append bytes more (omega (arith, is.whole)), is.whole, is.says) refl
 
 record-front : (head : Head) (bytes more : List ℕ) → IsRecord head bytes → front_of (PcapFile head) (bytes ++ more) ≡ Whole (length bytes) (packet_in head bytes ∷ []) (PcapFile head)
@@ -24,15 +85,32 @@ record-front head bytes more is =
     front_of-record head (bytes ++ more) p.0
     ∙ rw (p.1, take_at bytes more (length bytes) refl) refl
 
+block-front : (first : Option ℕ) (before : Option Section) (bytes more : List ℕ) → IsBlock before bytes
+    → front_of_block (unit_fault before (bytes ++ more)) first before (bytes ++ more) ≡ Whole (length bytes) (packets_in before bytes) (file_after first before bytes)
+block-front first before bytes more is =
+    let p = block.IsBlock-front before bytes more is in
+    front_of_block-whole first before (bytes ++ more) p.0
+    ∙ rw (p.1, take_at bytes more (length bytes) refl) refl
+
+block-sized : (before : Option Section) (bytes : List ℕ) → IsBlock before bytes → 12 ≤ length bytes
+block-sized before bytes is = (block.passes before bytes is.passes).enough
+
 -- what follows a unit has no part in it
-pub front_of-unit : {b c : Declared} {u : List ℕ} {qs : List Captured} → IsUnit b u qs c → (more : List ℕ) → front_of b (u ++ more) ≡ Whole (length u) qs c
+pub front_of-unit : {b : Declared} {u : List ℕ} {qs : List Captured} {c : Declared} → IsUnit b u qs c → (more : List ℕ) → front_of b (u ++ more) ≡ Whole (length u) qs c
 front_of-unit (a_pcap_header bytes head is) more = header-front bytes more head is
 front_of-unit (a_pcap_record head bytes is) more = record-front head bytes more is
+front_of-unit (a_first_block bytes is) more =
+    front_of-pcapng (bytes ++ more) (first-section (bytes ++ more) (block.IsBlock-front None bytes more is).0) ∙ block-front None None bytes more is
+front_of-unit (a_block first section bytes is) more =
+    front_of-behind first section (bytes ++ more) (omega (arith, length-append bytes more, block-sized (Some section) bytes is))
+    ∙ block-front first (Some section) bytes more is
 
 -- a unit has a byte at least
-pub unit-sized : {b c : Declared} {u : List ℕ} {qs : List Captured} → IsUnit b u qs c → 0 < length u
+pub unit-sized : {b : Declared} {u : List ℕ} {qs : List Captured} {c : Declared} → IsUnit b u qs c → 0 < length u
 unit-sized (a_pcap_header bytes head is) = omega (arith, is.whole)
 unit-sized (a_pcap_record head bytes is) = omega (arith, is.whole)
+unit-sized (a_first_block bytes is) = omega (arith, block-sized None bytes is)
+unit-sized (a_block first section bytes is) = omega (arith, block-sized (Some section) bytes is)
 
 -- a text that begins with a whole unit
 pub record IsFront (declared : Declared) (text : List ℕ) (size : ℕ) (packets : List Captured) (after : Declared) : Type 0 where
@@ -69,10 +147,30 @@ record-is head text size packets after None none e =
     same_front (PcapFile head) text (record_size head text) size (packet_in head front ∷ []) packets (PcapFile head) after e is
 record-is head text size packets after (Some fault) fails e = (cc)
 
+-- the block that a text begins with, as a unit
+block-is : (declared : Declared) (first : Option ℕ) (before : Option Section) (text : List ℕ) (size : ℕ) (packets : List Captured) (after : Declared) (fault : Option Fault)
+    → unit_fault before text ≡ fault → front_of_block fault first before text ≡ Whole size packets after
+    → ((bytes : List ℕ) → IsBlock before bytes → IsUnit declared bytes (packets_in before bytes) (file_after first before bytes))
+    → IsFront declared text size packets after
+block-is declared first before text size packets after None none e unit =
+    let p = block.passes before text none in
+    let front : List ℕ = take (block_size before text) text in
+    let is : IsFront declared text (block_size before text) (packets_in before front) (file_after first before front) =
+    record { unit = unit front (block.IsBlock-take before text none); there = p.whole; some = omega (arith, p.least) } in
+    same_front declared text (block_size before text) size (packets_in before front) packets (file_after first before front) after e is
+block-is declared first before text size packets after (Some fault) fails e unit = (cc)
+
+file-is : (text : List ℕ) (size : ℕ) (packets : List Captured) (after : Declared) (section : Bool) → front_of_file section text ≡ Whole size packets after → IsFront Nothing text size packets after
+file-is text size packets after true e = block-is Nothing None None text size packets after (unit_fault None text) refl e (λ bytes is. a_first_block bytes is)
+file-is text size packets after false e = header-is text size packets after (head_fault text) refl e
+
 pub front_of-is : (declared : Declared) (text : List ℕ) (size : ℕ) (packets : List Captured) (after : Declared) → front_of declared text ≡ Whole size packets after → IsFront declared text size packets after
-front_of-is Nothing text size packets after e = header-is text size packets after (head_fault text) refl e
+front_of-is Nothing text size packets after e = file-is text size packets after (is_pcapng text) e
 front_of-is (PcapFile head) [] size packets after e = (cc)
 front_of-is (PcapFile head) (b ∷ bytes) size packets after e = record-is head (b ∷ bytes) size packets after (record_fault head (b ∷ bytes)) refl e
+front_of-is (PcapngFile first section) [] size packets after e = (cc)
+front_of-is (PcapngFile first section) (b ∷ bytes) size packets after e =
+    block-is (PcapngFile first section) first (Some section) (b ∷ bytes) size packets after (unit_fault (Some section) (b ∷ bytes)) refl e (λ u is. a_block first section u is)
 
 -- one unit alone
 pub one_unit : {b c : Declared} {at : ℕ} {u : List ℕ} {qs : List Captured} → IsUnit b u qs c → AreUnits b at u (placed_at at qs) c

@@ -1,5 +1,7 @@
 -- A capture file: the units that it is made of, how a text is cut into them, and the packets that they hold.
-use Rattle.std.specs.Prelude.{◌≡◌, ℕ, zero, suc, ◌+◌, List, [], ◌∷◌, ◌++◌, length, take, drop, Option, None, Some}
+use Rattle.std.specs.Prelude.{◌≡◌, ℕ, zero, suc, ◌+◌, Bool, true, false, List, [], ◌∷◌, ◌++◌, length, take, drop, nat_le, ◌&&◌, Option, None, Some}
+use Rattle.std.specs.List.{slice_get}
+use Rattle.std.specs.Option.{option_map, option_or}
 use Rattle.cap_octet.specs.Packet.{Captured}
 use Rattle.cap_octet.specs.declared.fault.Fault.{Fault}
 use Rattle.cap_pcap.specs.Header.{IsHeader, head_fault, head_in}
@@ -7,8 +9,11 @@ use Rattle.cap_pcap.specs.Record.{IsRecord, record_fault, record_size, packet_in
 use Rattle.cap_pcap.specs.declared.head.Head.{Head}
 use Rattle.cap_pcap.specs.declared.head.Resolution.{Resolution}
 use Rattle.cap_pcap.specs.declared.head.Resolution.TheVariants.{Microseconds, Nanoseconds}
+use Rattle.cap_pcapng.specs.Frame.{is_section}
+use Rattle.cap_pcapng.specs.Interface.{Described}
+use Rattle.cap_pcapng.specs.Unit.{IsBlock, Section, block_size, packets_in, section_after, unit_fault}
 use Rattle.cap_io.specs.declared.source.Kind.{Kind}
-use Rattle.cap_io.specs.declared.source.Kind.TheVariants.{Pcap, NsecPcap}
+use Rattle.cap_io.specs.declared.source.Kind.TheVariants.{Pcap, NsecPcap, Pcapng}
 
 -- ---- units
 
@@ -16,11 +21,25 @@ use Rattle.cap_io.specs.declared.source.Kind.TheVariants.{Pcap, NsecPcap}
 pub data Declared : Type 0 where
   Nothing : Declared
   PcapFile : (head : Head) → Declared
+  -- the first link type that an interface of the file declared, and the section in hand
+  PcapngFile : (first : Option ℕ) → (section : Section) → Declared
+
+-- the first link type of a file behind a block: the one before it, else that of the section's first interface
+abbrev pub first_after : Option ℕ → Section → Option ℕ
+first_after first section = option_or first (option_map (λ (i : Described). i.link) (slice_get section.interfaces 0))
+
+-- what is declared behind a block
+abbrev pub file_after : Option ℕ → Option Section → List ℕ → Declared
+file_after first before bytes = PcapngFile (first_after first (section_after before bytes)) (section_after before bytes)
 
 -- These bytes are one unit and hold these packets, given what was declared before it and what is after it.
 pub data IsUnit : Declared → List ℕ → List Captured → Declared → Type 0 where
   a_pcap_header : (bytes : List ℕ) (head : Head) → IsHeader bytes head → IsUnit Nothing bytes [] (PcapFile head)
   a_pcap_record : (head : Head) (bytes : List ℕ) → IsRecord head bytes → IsUnit (PcapFile head) bytes (packet_in head bytes ∷ []) (PcapFile head)
+  -- behind nothing a block is a section header
+  a_first_block : (bytes : List ℕ) → IsBlock None bytes → IsUnit Nothing bytes (packets_in None bytes) (file_after None None bytes)
+  a_block : (first : Option ℕ) (section : Section) (bytes : List ℕ) → IsBlock (Some section) bytes
+      → IsUnit (PcapngFile first section) bytes (packets_in (Some section) bytes) (file_after first (Some section) bytes)
 
 -- a packet, and the offset of its unit
 pub record Placed : Type 0 where
@@ -59,11 +78,26 @@ front_of_record None head text =
     Whole (record_size head text) (packet_in head (take (record_size head text) text) ∷ []) (PcapFile head)
 front_of_record (Some fault) head text = Stops (Some fault)
 
+abbrev pub front_of_block : Option Fault → Option ℕ → Option Section → List ℕ → Front
+front_of_block None first before text =
+    Whole (block_size before text) (packets_in before (take (block_size before text) text)) (file_after first before (take (block_size before text) text))
+front_of_block (Some fault) first before text = Stops (Some fault)
+
+-- A file whose first four bytes are the type of a section header is a pcapng file.
+abbrev pub is_pcapng : List ℕ → Bool
+is_pcapng text = nat_le 4 (length text) && is_section text
+
+abbrev pub front_of_file : Bool → List ℕ → Front
+front_of_file true text = front_of_block (unit_fault None text) None None text
+front_of_file false text = front_of_header (head_fault text) text
+
 -- An empty rest is an end only behind a unit.
 abbrev pub front_of : Declared → List ℕ → Front
-front_of Nothing text = front_of_header (head_fault text) text
+front_of Nothing text = front_of_file (is_pcapng text) text
 front_of (PcapFile head) [] = Stops None
 front_of (PcapFile head) (b ∷ bytes) = front_of_record (record_fault head (b ∷ bytes)) head (b ∷ bytes)
+front_of (PcapngFile first section) [] = Stops None
+front_of (PcapngFile first section) (b ∷ bytes) = front_of_block (unit_fault (Some section) (b ∷ bytes)) first (Some section) (b ∷ bytes)
 
 -- ---- items
 
@@ -117,8 +151,10 @@ kind_by Nanoseconds = NsecPcap
 abbrev pub kind_of : Declared → Option Kind
 kind_of Nothing = None
 kind_of (PcapFile head) = Some (kind_by head.resolution)
+kind_of (PcapngFile first section) = Some Pcapng
 
 -- the first link type
 abbrev pub first_link_of : Declared → Option ℕ
 first_link_of Nothing = None
 first_link_of (PcapFile head) = Some head.link
+first_link_of (PcapngFile first section) = first

@@ -1,5 +1,6 @@
 pub mod Capture
 pub mod Reading
+pub mod Blocks
 pub mod Source
 pub mod Text
 pub mod Sink

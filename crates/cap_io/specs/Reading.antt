@@ -1,17 +1,25 @@
 -- What reading one unit from a device does to its bytes and its counts.
-use Rattle.std.specs.Prelude.{◌≡◌, ℕ, ◌+◌, ◌^◌, ◌<◌, ◌≤◌, ◌⊎◌, Bool, true, false, IsTrue, List, [], ◌∷◌, ◌++◌, length, take, drop, Option, None, Some, Result, Ok, Err}
+use Rattle.std.specs.Prelude.{◌≡◌, ℕ, ◌+◌, ◌^◌, ◌<◌, ◌≤◌, ◌⊎◌, Bool, true, false, List, [], ◌∷◌, ◌++◌, length, take, drop, Option, None, Some, Result, Ok, Err}
+use Rattle.std.specs.List.{slice_get}
+use Rattle.std.specs.Option.{option_map}
+use Rattle.cap_octet.specs.Packet.{Captured}
 use Rattle.cap_octet.specs.declared.fault.Fault.{Fault}
 use Rattle.cap_octet.specs.declared.fault.Fault.TheVariants.{NoMemory, ReadFailed, Truncated}
 use Rattle.cap_pcap.specs.Header.{IsHeader}
-use Rattle.cap_pcap.specs.Record.{IsRecord, most_captured, time_in, orig_in}
+use Rattle.cap_pcapng.specs.Frame.{most_block}
+use Rattle.cap_pcapng.specs.Interface.{Described}
+use Rattle.cap_pcapng.specs.Unit.{packet_of}
 use Rattle.cap_pcap.specs.declared.head.Head.{Head}
-use Rattle.cap_pcap.specs.declared.head.RecordHead.{RecordHead}
-use Rattle.cap_io.specs.declared.source.Held.{Held}
-use Rattle.cap_io.specs.Capture.{Declared, Nothing, PcapFile, Front, Whole, Stops, front_of}
+use Rattle.cap_io.specs.declared.unit.Came.{Came}
+use Rattle.cap_io.specs.declared.unit.Came.TheVariants as came
+use Rattle.cap_io.specs.declared.unit.Held.{Held}
+use Rattle.cap_io.specs.declared.unit.Savefile.{Savefile}
+use Rattle.cap_io.specs.declared.unit.Savefile.TheVariants as savefile
+use Rattle.cap_io.specs.Capture.{Declared, Nothing, PcapFile, PcapngFile, IsUnit, Front, Whole, Stops, first_after, front_of}
 
 -- how many bytes a unit may have
 abbrev pub most_in_unit : ℕ
-most_in_unit = 16 + most_captured
+most_in_unit = most_block
 
 -- how often the device failed in a call: only a failed read tells that it did
 abbrev pub failures_told : {X : Type 0} → Result X Fault → ℕ
@@ -39,42 +47,7 @@ pub record Refuses (declared : Declared) (unread unread' : List ℕ) (fault : Fa
   pub why : IsReason declared unread fault
   pub taken : IsTaken declared unread unread'
 
--- the file header came
-pub record HeaderCame (unread : List ℕ) (head : Head) (unread' : List ℕ) : Type 0 where
-  pub bytes : List ℕ
-  pub header : IsHeader bytes head
-  pub splits : unread ≡ bytes ++ unread'
-
--- what stands in front of a record's data came, or the end
-abbrev pub FrontCame : List ℕ → List ℕ → Bool → List ℕ → Type 0
-FrontCame unread front true unread' = unread ≡ front ++ unread'
-FrontCame unread front false unread' = (unread ≡ []) × (unread' ≡ [])
-
--- what is held fits in the buffer and in a packet
-pub record IsHeld (held : Held) (buffer : List ℕ) : Type 0 where
-  pub whole : 16 ≤ held.size
-  pub there : held.size ≤ length buffer
-  pub small : held.size ≤ most_in_unit
-  pub time : held.time < 2 ^ 63
-
-abbrev pub HoldsIfSome : List ℕ → Option Held → Type 0
-HoldsIfSome buffer None = Unit {0}
-HoldsIfSome buffer (Some held) = IsHeld held buffer
-
-abbrev pub size_of : Option Held → ℕ
-size_of None = 0
-size_of (Some held) = held.size
-
--- a record came, and stands at the front of the block
-pub record RecordCame (head : Head) (unread block : List ℕ) (held : Held) (unread' : List ℕ) : Type 0 where
-  pub there : IsRecord head (take held.size block)
-  pub time : time_in head (take held.size block) ≡ held.time
-  pub orig : orig_in head (take held.size block) ≡ held.orig
-  pub splits : unread ≡ take held.size block ++ unread'
-
-abbrev pub UnitCame : Head → List ℕ → List ℕ → Option Held → List ℕ → Type 0
-UnitCame head unread block (Some held) unread' = RecordCame head unread block held unread'
-UnitCame head unread block None unread' = (unread ≡ []) × (unread' ≡ [])
+-- ---- the bytes of a unit
 
 -- bytes behind the first `from` of a buffer of `size` didn't all come
 pub record RestMissing (from size : ℕ) (unread unread' : List ℕ) (fault : Fault) : Type 0 where
@@ -83,3 +56,104 @@ pub record RestMissing (from size : ℕ) (unread unread' : List ℕ) (fault : Fa
   pub within : from + count ≤ size
   pub there : count ≤ length unread
   pub rest : unread' ≡ drop count unread
+
+-- the front of a unit came, or the end
+abbrev pub FrontCame : List ℕ → List ℕ → Bool → List ℕ → Type 0
+FrontCame unread front true unread' = unread ≡ front ++ unread'
+FrontCame unread front false unread' = (unread ≡ []) × (unread' ≡ [])
+
+-- some bytes are there, but not as many as the front of a unit has
+pub record FrontMissing (size : ℕ) (unread unread' : List ℕ) (fault : Fault) : Type 0 where
+  pub some : 0 < length unread ⊎ (fault ≡ ReadFailed)
+  pub missing : RestMissing 0 size unread unread' fault
+
+-- the file header of pcap came
+pub record HeaderCame (unread : List ℕ) (head : Head) (unread' : List ℕ) : Type 0 where
+  pub bytes : List ℕ
+  pub header : IsHeader bytes head
+  pub splits : unread ≡ bytes ++ unread'
+
+-- ---- what is declared, as a source holds it
+
+abbrev pub declared_by : Savefile → List Described → Declared
+declared_by savefile.Unknown interfaces = Nothing
+declared_by (savefile.Pcap head) interfaces = PcapFile head
+declared_by (savefile.Pcapng order first) interfaces = PcapngFile first (record { order = order; interfaces = interfaces })
+
+-- Before anything is read there is no interface, and the first link type of a file is known once its section has one.
+abbrev pub IsTold : Savefile → List Described → Type 0
+IsTold savefile.Unknown interfaces = interfaces ≡ []
+IsTold (savefile.Pcap head) interfaces = Unit {0}
+IsTold (savefile.Pcapng order first) interfaces = first_after first (record { order = order; interfaces = interfaces }) ≡ first
+
+-- ---- the packet in hand
+
+-- its unit lies in the buffer, and its data in its unit
+pub record IsHeld (held : Held) (buffer : List ℕ) : Type 0 where
+  pub within : held.from + held.captured ≤ held.size
+  pub there : held.size ≤ length buffer
+  pub some : 0 < held.size
+  pub small : held.size ≤ most_in_unit
+  pub time : held.time < 2 ^ 63
+
+abbrev pub data_held : Held → List ℕ → List ℕ
+data_held held block = take held.captured (drop held.from block)
+
+abbrev pub packet_held : Declared → Held → List ℕ → Option Captured
+packet_held Nothing held block = None
+packet_held (PcapFile head) held block = Some (record {
+  link = head.link;
+  snap = head.snap;
+  name = [];
+  time = held.time;
+  orig = held.orig;
+  bytes = data_held held block;
+})
+packet_held (PcapngFile first section) held block =
+    option_map (λ (i : Described). packet_of i held.time held.orig (data_held held block)) (slice_get section.interfaces held.interface)
+
+-- ---- a unit
+
+-- a unit without a packet came
+pub record UnitPassed (declared : Declared) (unread : List ℕ) (size : ℕ) (declared' : Declared) (unread' : List ℕ) : Type 0 where
+  pub bytes : List ℕ
+  pub unit : IsUnit declared bytes [] declared'
+  pub sized : length bytes ≡ size
+  pub splits : unread ≡ bytes ++ unread'
+
+-- a unit with a packet came, and stands at the front of the buffer
+pub record PacketCame (declared : Declared) (unread buffer : List ℕ) (held : Held) (declared' : Declared) (unread' : List ℕ) : Type 0 where
+  pub packet : Captured
+  pub is_lent : packet_held declared held (take held.size buffer) ≡ Some packet
+  pub unit : IsUnit declared (take held.size buffer) (packet ∷ []) declared
+  pub same : declared' ≡ declared
+  pub splits : unread ≡ take held.size buffer ++ unread'
+
+-- nothing is left behind a unit
+pub record EndCame (declared : Declared) (unread : List ℕ) (declared' : Declared) (unread' : List ℕ) : Type 0 where
+  pub ends : front_of declared [] ≡ Stops None
+  pub over : unread ≡ []
+  pub same : declared' ≡ declared
+  pub rest : unread' ≡ []
+
+abbrev pub UnitCame : Declared → List ℕ → List ℕ → Came → Declared → List ℕ → Type 0
+UnitCame declared unread buffer (came.Passed size) declared' unread' = UnitPassed declared unread size declared' unread'
+UnitCame declared unread buffer (came.Packet held) declared' unread' = PacketCame declared unread buffer held declared' unread'
+UnitCame declared unread buffer came.End declared' unread' = EndCame declared unread declared' unread'
+
+-- a unit of so many bytes, by its packet
+abbrev pub came_by : Option Held → ℕ → Came
+came_by None size = came.Passed size
+came_by (Some held) size = came.Packet held
+
+-- how many bytes it has
+abbrev pub size_of : Came → ℕ
+size_of (came.Passed size) = size
+size_of (came.Packet held) = held.size
+size_of came.End = 0
+
+-- what holds of it on any device
+abbrev pub IsSized : Came → List ℕ → ℕ → Type 0
+IsSized (came.Passed size) buffer given = (0 < size) × (given < 2 ^ 63)
+IsSized (came.Packet held) buffer given = IsHeld held buffer × (given < 2 ^ 63)
+IsSized came.End buffer given = Unit {0}

@@ -1,15 +1,15 @@
 -- What a contract sees of a source, and what its calls do.
-use Rattle.std.specs.Prelude.{◌≡◌, ℕ, ◌+◌, ◌^◌, ◌<◌, ◌≤◌, Bool, true, false, List, [], ◌∷◌, ◌++◌, length, take, drop, Option, None, Some, Result, Ok, Err}
+use Rattle.std.specs.Prelude.{◌≡◌, ℕ, ◌+◌, ◌^◌, ◌<◌, ◌≤◌, Bool, true, false, List, [], ◌∷◌, ◌++◌, length, take, Option, None, Some, Result, Ok, Err}
 use Rattle.cap_octet.specs.Packet.{Captured}
 use Rattle.cap_octet.specs.declared.fault.Fault.{Fault}
-use Rattle.cap_pcap.specs.declared.head.Head.{Head}
-use Rattle.cap_io.specs.declared.source.Held.{Held}
-use Rattle.cap_io.specs.declared.source.Savefile.{Savefile}
-use Rattle.cap_io.specs.declared.source.Savefile.TheVariants as savefile
+use Rattle.cap_pcapng.specs.Interface.{Described}
+use Rattle.cap_io.specs.declared.source.Next.{Next}
+use Rattle.cap_io.specs.declared.source.Next.TheVariants as next
 use Rattle.cap_io.specs.declared.source.Stage.{Stage}
 use Rattle.cap_io.specs.declared.source.Stage.TheVariants as stage
-use Rattle.cap_io.specs.Capture.{Declared, Nothing, PcapFile, IsUnit, AreUnits, Front, Stops, front_of}
-use Rattle.cap_io.specs.Reading.{most_in_unit, failures_told, IsReason, IsTaken, IsHeld}
+use Rattle.cap_io.specs.declared.unit.Savefile.{Savefile}
+use Rattle.cap_io.specs.Capture.{Declared, Nothing, IsUnit, AreUnits, Stops, front_of}
+use Rattle.cap_io.specs.Reading.{most_in_unit, failures_told, IsReason, IsTaken, IsHeld, IsTold, declared_by, packet_held}
 
 -- ---- the view
 
@@ -54,26 +54,11 @@ phase_at (stage.InHand held) = Reading
 phase_at stage.Ended = Ended
 phase_at (stage.Failed fault) = Failed fault
 
-abbrev pub declared_by : Savefile → Declared
-declared_by savefile.Unknown = Nothing
-declared_by (savefile.Pcap head) = PcapFile head
-
 abbrev pub block_at : Stage → List ℕ → List ℕ
 block_at stage.Between buffer = []
 block_at (stage.InHand held) buffer = take held.size buffer
 block_at stage.Ended buffer = []
 block_at (stage.Failed fault) buffer = []
-
-abbrev pub packet_held : Declared → Held → List ℕ → Option Captured
-packet_held Nothing held block = None
-packet_held (PcapFile head) held block = Some (record {
-  link = head.link;
-  snap = head.snap;
-  name = [];
-  time = held.time;
-  orig = held.orig;
-  bytes = drop 16 block;
-})
 
 abbrev pub packet_at : Stage → Declared → List ℕ → Option Captured
 packet_at stage.Between declared buffer = None
@@ -81,11 +66,11 @@ packet_at (stage.InHand held) declared buffer = packet_held declared held (take 
 packet_at stage.Ended declared buffer = None
 packet_at (stage.Failed fault) declared buffer = None
 
-abbrev pub view_of : Stage → Savefile → List ℕ → ℕ → List ℕ → ℕ → ℕ → SourceView
-view_of stage savefile buffer offset unread given failures = record {
+abbrev pub view_of : Stage → Savefile → List Described → List ℕ → ℕ → List ℕ → ℕ → ℕ → SourceView
+view_of stage savefile interfaces buffer offset unread given failures = record {
   phase = phase_at stage;
-  declared = declared_by savefile;
-  packet = packet_at stage (declared_by savefile) buffer;
+  declared = declared_by savefile interfaces;
+  packet = packet_at stage (declared_by savefile interfaces) buffer;
   block = block_at stage buffer;
   offset = offset;
   unread = unread;
@@ -100,10 +85,11 @@ HoldsIfAny stage.Ended buffer = Unit {0}
 HoldsIfAny (stage.Failed fault) buffer = Unit {0}
 
 -- what holds of each source's fields
-pub record IsSound (stage : Stage) (offset : ℕ) (buffer : List ℕ) (given : ℕ) : Type 0 where
+pub record IsSound (stage : Stage) (savefile : Savefile) (interfaces : List Described) (offset : ℕ) (buffer : List ℕ) (given : ℕ) : Type 0 where
   pub fits : offset + length (block_at stage buffer) < 2 ^ 63
   pub counted : offset + length (block_at stage buffer) ≤ given
   pub held : HoldsIfAny stage buffer
+  pub told : IsTold savefile interfaces
 
 -- ---- what an advance does
 
@@ -190,21 +176,23 @@ left s = record {
   failures = s.failures;
 }
 
--- the file header was read, here or before
-pub record Opens (old : SourceView) (head : Head) (new : SourceView) : Type 0 where
-  pub passes : Passes old new new.unread
-  pub declared : new.declared ≡ PcapFile head
+-- no packet is in hand
+pub record IsBetween (s : SourceView) : Type 0 where
+  pub phase : s.phase ≡ Reading
+  pub block : s.block ≡ []
+  pub packet : s.packet ≡ None
 
--- there is no file header
-pub record OpenBreaks (old : SourceView) (fault : Fault) (new : SourceView) : Type 0 where
-  pub why : IsReason old.declared old.unread fault
-  pub taken : IsTaken old.declared old.unread new.unread
-  pub declared : new.declared ≡ old.declared
-  pub offset : new.offset ≡ old.offset
+-- what a source that goes over one unit finds there
+abbrev pub FindsNext : SourceView → Result Next Fault → SourceView → Type 0
+FindsNext old (Ok next.Packet) new = FindsPacket old new
+FindsNext old (Ok next.Passed) new = Passes old new new.unread
+FindsNext old (Ok next.End) new = FindsEnd old new
+FindsNext old (Err fault) new = IsBroken old new fault
 
-pub record OpenBounds (old : SourceView) (r : Result Head Fault) (new : SourceView) : Type 0 where
+-- and what holds of any device
+pub record NextBounds (old : SourceView) (r : Result Next Fault) (new : SourceView) : Type 0 where
   pub given : old.given ≤ new.given
   pub failures : new.failures ≡ old.failures + failures_told r
-  pub phase : new.phase ≡ Reading
-  pub block : new.block ≡ []
-  pub packet : new.packet ≡ None
+  pub block : length new.block ≤ most_in_unit
+  pub packet : r ≡ Ok next.Packet → (old.given < new.given) × (new.given < 2 ^ 63)
+  pub passed : r ≡ Ok next.Passed → (old.given < new.given) × (new.given < 2 ^ 63) × IsBetween new

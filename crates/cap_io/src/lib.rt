@@ -1,10 +1,13 @@
 //! Packets from a device and to a device, one at a time, through one block of memory.
 #![tactic(auto)]
 
+mod blocks;
+mod capture;
 pub mod laws;
 mod reading;
 pub mod sink;
 pub mod source;
+mod unit;
 
 pub use sink::{Sink, SinkState};
 pub use source::{Kind, Source};

@@ -1,7 +1,9 @@
 //! Packets of a capture, one at a time.
-use crate::reading::{read_header, read_unit};
+use crate::capture::read_unit;
+use crate::unit::{Came, Held, Savefile};
 use cap_octet::{Fault, Input, Packet};
-use cap_pcap::{Head, Resolution};
+use cap_pcap::Resolution;
+use cap_pcapng::Table;
 use std::alloc::Allocator;
 use std::marker::Model;
 
@@ -12,22 +14,7 @@ pub enum Kind {
     Pcap,
     /// A pcap savefile with nanoseconds.
     NsecPcap,
-}
-
-/// What the units that were read declare of those behind them.
-#[derive(Clone, Copy, Debug, PartialEq, Eq)]
-pub(crate) enum Savefile {
-    /// Nothing was read.
-    Unknown,
-    Pcap(Head),
-}
-
-/// The packet in hand: the size of its unit, in bytes, and what its head says.
-#[derive(Clone, Copy, Debug, PartialEq, Eq)]
-pub(crate) struct Held {
-    pub(crate) size: usize,
-    pub(crate) time: u64,
-    pub(crate) orig: u32,
+    Pcapng,
 }
 
 /// How far a source is.
@@ -41,11 +28,24 @@ pub(crate) enum Stage {
     Failed(Fault),
 }
 
-/// Reads the packets of a capture from a device, through one block of memory.
+/// What a source finds that goes over one unit.
+#[derive(Clone, Copy, Debug, PartialEq, Eq)]
+enum Next {
+    /// A unit with a packet.
+    Packet,
+    /// A unit without one.
+    Passed,
+    /// The clean end.
+    End,
+}
+
+/// Reads the packets of a capture from a device, through one block of memory, and beside it for pcapng the table of
+/// a section's interfaces.
 #[derive(Drop)]
 pub struct Source<I: Input, A: Allocator> {
     input: I,
     buffer: Vec<u8, A>,
+    table: Table<A>,
     savefile: Savefile,
     stage: Stage,
     offset: u64,
@@ -56,26 +56,28 @@ impl<I: Input, A: Allocator> Model for Source<I, A> {
 
     ghost Value = { SourceView };
 
-    ghost view = { λ s. view_of s.stage s.savefile s.buffer.items s.offset (I.unread s.input) (I.given s.input) (I.failures s.input) };
+    ghost view = { λ s. view_of s.stage s.savefile s.table s.buffer.items s.offset (I.unread s.input) (I.given s.input) (I.failures s.input) };
 
-    ghost invariant = { λ s. IsSound s.stage s.offset s.buffer.items (I.given s.input) };
+    ghost invariant = { λ s. IsSound s.stage s.savefile s.table s.offset s.buffer.items (I.given s.input) };
 }
 
 impl<I: Input, A: Allocator> Source<I, A> {
-    ghost use Rattle.std.specs.Prelude.{◌≡◌, ◌+◌, ◌≤◌, IsTrue, OnOk, IfOk, IfErr, []};
+    ghost use Rattle.std.specs.Prelude.{◌≡◌, ◌+◌, ◌≤◌, IsTrue, OnOk, OnErr, IfErr, []};
     ghost use Rattle.std.specs.Option.{option_map};
     ghost use Rattle.cap_octet.specs.Packet.{captured};
     ghost use Rattle.cap_io.specs.Capture.{kind_of, first_link_of};
-    ghost use Rattle.cap_io.specs.Reading.{failures_told};
-    ghost use Rattle.cap_io.specs.Source.{Reading, Advances, Continues, KeepsBounds, Opens, OpenBreaks, OpenBounds, Steps, left, source_at};
+    ghost use Rattle.cap_io.specs.Source.{Reading, Advances, Continues, FindsNext, IsBetween, KeepsBounds, NextBounds, Steps, left, source_at};
 
     /// A source of which nothing is read yet. It takes no memory.
     pub fn new(alloc: A, input: I) -> Self
+    where
+        A: Copy,
         ensures { result ≡ source_at (I.unread input) (I.given input) (I.failures input) }
     {
         Source {
             input,
             buffer: Vec::new(alloc),
+            table: Table::new(alloc),
             savefile: Savefile::Unknown,
             stage: Stage::Between,
             offset: 0,
@@ -106,16 +108,31 @@ impl<I: Input, A: Allocator> Source<I, A> {
     pub fn head(&self) -> Option<Packet<'_>>
         ensures { option_map captured result ≡ self.now.packet }
     {
-        match (self.savefile, self.stage) {
-            (Savefile::Pcap(head), Stage::InHand(held)) => Some(Packet {
+        let Stage::InHand(held) = self.stage else {
+            return None;
+        };
+        let bytes = &self.buffer[held.from..held.from + held.captured];
+        match self.savefile {
+            Savefile::Unknown => None,
+            Savefile::Pcap(head) => Some(Packet {
                 link: head.link,
                 snap: head.snap,
                 name: &[],
                 time: held.time,
                 orig: held.orig,
-                bytes: &self.buffer[16..held.size],
+                bytes,
             }),
-            _ => None,
+            Savefile::Pcapng(_, _) => {
+                let interface = self.table.get(held.interface)?;
+                Some(Packet {
+                    link: interface.link,
+                    snap: interface.snap,
+                    name: interface.name,
+                    time: held.time,
+                    orig: held.orig,
+                    bytes,
+                })
+            }
         }
     }
 
@@ -137,6 +154,7 @@ impl<I: Input, A: Allocator> Source<I, A> {
                 Resolution::Microseconds => Kind::Pcap,
                 Resolution::Nanoseconds => Kind::NsecPcap,
             }),
+            Savefile::Pcapng(_, _) => Some(Kind::Pcapng),
         }
     }
 
@@ -147,6 +165,7 @@ impl<I: Input, A: Allocator> Source<I, A> {
         match self.savefile {
             Savefile::Unknown => None,
             Savefile::Pcap(head) => Some(head.link),
+            Savefile::Pcapng(_, first) => first,
         }
     }
 
@@ -161,6 +180,7 @@ impl<I: Input, A: Allocator> Source<I, A> {
         let Source {
             input,
             buffer: _,
+            table: _,
             savefile: _,
             stage: _,
             offset: _,
@@ -176,15 +196,11 @@ impl<I: Input, A: Allocator> Source<I, A> {
         ensures err { IfErr result (λ _. self.new.block ≡ []) }
     {
         self.leave();
-        let head = self.open()?;
-        match read_unit(&mut self.input, &head, &mut self.buffer)? {
-            Some(held) => {
-                self.stage = Stage::InHand(held);
-                Ok(true)
-            }
-            None => {
-                self.stage = Stage::Ended;
-                Ok(false)
+        loop {
+            match self.next()? {
+                Next::Packet => return Ok(true),
+                Next::End => return Ok(false),
+                Next::Passed => {}
             }
         }
     }
@@ -200,21 +216,32 @@ impl<I: Input, A: Allocator> Source<I, A> {
         self.stage = Stage::Between;
     }
 
-    /// What the file header says, which is read here where it was not read yet.
-    fn open(&mut self) -> Result<Head, Fault>
-        requires phase { self.old.phase ≡ Reading }
-        requires block { self.old.block ≡ [] }
-        ensures ok { IfOk result (λ head. IsTrue I.tells → Opens self.old head self.new) }
-        ensures err { IfErr result (λ fault. IsTrue I.tells → OpenBreaks self.old fault self.new) }
-        ensures bounds { OpenBounds self.old result self.new }
+    /// Goes over one unit, or to the clean end.
+    fn next(&mut self) -> Result<Next, Fault>
+        requires between { IsBetween self.old }
+        ensures told { IsTrue I.tells → FindsNext self.old result self.new }
+        ensures bounds { NextBounds self.old result self.new }
+        ensures err { OnErr result (IsBetween self.new) }
     {
-        match self.savefile {
-            Savefile::Pcap(head) => Ok(head),
-            Savefile::Unknown => {
-                let head = read_header(&mut self.input)?;
-                self.savefile = Savefile::Pcap(head);
-                self.offset += 24;
-                Ok(head)
+        let (savefile, came) = read_unit(
+            &mut self.input,
+            self.savefile,
+            &mut self.buffer,
+            &mut self.table,
+        )?;
+        self.savefile = savefile;
+        match came {
+            Came::Packet(held) => {
+                self.stage = Stage::InHand(held);
+                Ok(Next::Packet)
+            }
+            Came::Passed(size) => {
+                self.offset += size as u64;
+                Ok(Next::Passed)
+            }
+            Came::End => {
+                self.stage = Stage::Ended;
+                Ok(Next::End)
             }
         }
     }

@@ -1,18 +1,36 @@
-use Rattle.std.proofs.Common.{◌≡◌, ◌∙◌, refl, sym, ap, Some}
+use Rattle.std.proofs.Common.{◌∙◌, ap, arith, Ok}
 use Rattle.std.proofs.lemmas.Result.{err_from_is_err_and}
 use Rattle.cap_io.specs.Source.{SourceView}
-use Rattle.cap_io.specs.Reading.{UnitCame}
-use Rattle.cap_io.proofs.Passing.{IsBroken-open, FindsPacket-record}
+use Rattle.cap_io.proofs.Passing.{FindsEnd-then, FindsPacket-then, IsBetween-left, IsBroken-then, Passes-left, Passes-then}
 use Rattle.cap_io.proofs.source.Source.go_on.Goals as goal
 
-pub returns-in_err-head-clause-told : goal.returns-in_err-head-clause-told
-returns-in_err-head-clause-told g c = λ t.
-    let p = err_from_is_err_and c.from_residual.result c.from_residual.ensures.1 in
-    rw (p.1, p.2) (IsBroken-open _ c.leave.new.self _ _ c.leave.ensures (c.in_err-head.ensures.err t) c.in_err-head.ensures.bounds.block c.in_err-head.ensures.bounds.packet)
+pub loop-init : goal.loop-init
+loop-init g c = record {
+  told = λ t. Passes-left c.args.self.now c.leave.new.self c.leave.ensures;
+  between = IsBetween-left c.args.self.now c.leave.new.self c.requires c.leave.ensures;
+  given = omega (arith, ap (λ (s : SourceView). s.given) c.leave.ensures);
+  failures = ap (λ (s : SourceView). s.failures) c.leave.ensures;
+}
 
-pub returns-in-Some-clause-told : goal.returns-in-Some-clause-told
-returns-in-Some-clause-told g c = λ t.
-    let came = rw c.in-Some.is at (c.in_ok-held.ensures.ok t) in
-    let unread = ap (λ (v : SourceView). v.unread) c.self.view_is in
-    FindsPacket-record _ c.leave.new.self c.open.new.self _ c.in_ok-head.head c.read_unit.new.buffer.items c.in-Some.held c.leave.ensures (c.in_ok-head.ensures.ok t)
-    (rw unread at came) refl (ap (λ (v : SourceView). v.declared) c.self.view_is) (ap (λ (v : SourceView). v.offset) c.self.view_is) refl refl
+pub returns-in_err-next-clause-told : goal.returns-in_err-next-clause-told
+returns-in_err-next-clause-told g c =
+    let p = err_from_is_err_and c.from_residual.result c.from_residual.ensures.1 in
+    rw (p.1, p.2) (λ t. IsBroken-then c.args.self.now c.loop.self c.next.new.self c.in_err-next.field-0.0 (c.loop.invariant.told t) c.loop.invariant.between.block (c.in_err-next.ensures.told t))
+
+pub returns-in-Packet-clause-told : goal.returns-in-Packet-clause-told
+returns-in-Packet-clause-told g c = λ t.
+    FindsPacket-then c.args.self.now c.loop.self c.next.new.self (c.loop.invariant.told t) c.loop.invariant.between.block (rw c.in-Packet.is at (c.in_ok-next.ensures.told t))
+
+pub returns-in-End-clause-told : goal.returns-in-End-clause-told
+returns-in-End-clause-told g c = λ t.
+    FindsEnd-then c.args.self.now c.loop.self c.next.new.self (c.loop.invariant.told t) c.loop.invariant.between.block (rw c.in-End.is at (c.in_ok-next.ensures.told t))
+
+pub loop-preserved : goal.loop-preserved
+loop-preserved g c =
+    let bounds = c.in_ok-next.ensures.bounds in
+    let passed = bounds.passed (ap Ok c.in-Passed.is) in record {
+      told = λ t. Passes-then c.args.self.now c.loop.self c.next.new.self _ (c.loop.invariant.told t) c.loop.invariant.between.block (rw c.in-Passed.is at (c.in_ok-next.ensures.told t));
+      between = passed.2;
+      given = omega (arith, c.loop.invariant.given, bounds.given);
+      failures = bounds.failures ∙ omega (arith, c.loop.invariant.failures);
+    }

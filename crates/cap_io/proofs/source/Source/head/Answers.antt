@@ -1,10 +1,20 @@
-use Rattle.std.proofs.Common.{rules, ◌≡◌, ◌∙◌, ap}
+use Rattle.std.proofs.Common.{◌∙◌, ap}
+use Rattle.cap_pcapng.specs.Interface.{described}
 use Rattle.cap_io.specs.Source.{SourceView}
-use Rattle.cap_io.proofs.Passing.{packet-lent}
+use Rattle.cap_io.proofs.Entered.{known_interface}
+use Rattle.cap_io.proofs.Passing.{data-lent, pcap-lent, pcapng-lent}
 use Rattle.cap_io.proofs.source.Source.head.Goals as goal
 
-pub returns-in-Pcap-InHand : goal.returns-in-Pcap-InHand
-returns-in-Pcap-InHand g c =
-    let view = rw (c.in-Pcap-InHand.is-0, c.in-Pcap-InHand.is-1) at (ap (λ (v : SourceView). v.packet) c.self.view_is) in
-    let held = rw c.in-Pcap-InHand.is-1 at c.self.invariant.held in
-    packet-lent c.in-Pcap-InHand.head _ _ c.in-Pcap-InHand.held.size c.deref.result.now c.self.inside.buffer.items held.whole c.deref.ensures.value ∙ view
+pub returns-in-Pcap : goal.returns-in-Pcap
+returns-in-Pcap g c =
+    let view = rw (c.in-Pcap.is, c.in-InHand.is) at (ap (λ (v : SourceView). v.packet) c.self.view_is) in
+    let held = rw c.in-InHand.is at c.self.invariant.held in
+    pcap-lent c.in-Pcap.head c.in-InHand.held _ _ (data-lent c.in-InHand.held c.deref.result.now c.self.inside.buffer.items held.within c.deref.ensures.value) ∙ view
+
+pub returns-in_ok-interface-in-Pcapng : goal.returns-in_ok-interface-in-Pcapng
+returns-in_ok-interface-in-Pcapng g c =
+    let view = rw (c.in-Pcapng.is, c.in-InHand.is) at (ap (λ (v : SourceView). v.packet) c.self.view_is) in
+    let held = rw c.in-InHand.is at c.self.invariant.held in
+    pcapng-lent c.in-Pcapng.field-0 c.in-Pcapng.field-1 c.self.inside.table (described c.in_ok-interface-in-Pcapng.interface) c.in-InHand.held _ _
+    (known_interface c.get.result described c.in_ok-interface-in-Pcapng.interface _ c.in_ok-interface-in-Pcapng.was c.get.ensures)
+    (data-lent c.in-InHand.held c.deref.result.now c.self.inside.buffer.items held.within c.deref.ensures.value) ∙ view

@@ -1,0 +1,190 @@
+-- What came of a block, from read to read.
+use Rattle.std.proofs.Common.{◌≡◌, ℕ, ◌+◌, ◌≤◌, ◌⊎◌, inl, inr, List, [], ◌++◌, length, take, drop, Option, Some, None, Result, Ok, Err, refl, sym, ap, ap₂, ◌∙◌, subst, arith}
+use Rattle.std.specs.Option.{option_to_list}
+use Rattle.std.proofs.lemmas.List.{append_assoc, length-append, length-take-le, drop_at, drop-drop, take-append-drop}
+use Rattle.cap_octet.specs.Checks.{checked, first_failing}
+use Rattle.cap_octet.specs.declared.fault.Fault.{Fault}
+use Rattle.cap_octet.specs.declared.fault.Fault.TheVariants.{NoMemory, ReadFailed}
+use Rattle.cap_octet.specs.declared.number.Order.{Order}
+use Rattle.cap_octet.proofs.Checks.{checked_ok, checked_err}
+use Rattle.cap_pcapng.specs.Block.{Parts, SectionParts, InterfaceParts, EnhancedParts, SimpleParts, SkippedParts, block_checks, block_fault, parts_in}
+use Rattle.cap_pcapng.specs.Frame.{frame_checks, frame_fault, frame_in, most_block}
+use Rattle.cap_pcapng.specs.Interface.{Described}
+use Rattle.cap_pcapng.specs.Unit.{IsBlock, Section, block_size, checks_among, frame_behind, interfaces_before, order_before, packet_by, parts_behind, section_after, section_by, unit_fault}
+use Rattle.cap_pcapng.proofs.Units.{passes, frame_checks-append, frame_in-append, unit_fault-frame, unit_fault-short, unit_fault-block, unit_fault-among, parts_in-append, block_checks-append}
+use Rattle.cap_pcapng.specs.declared.frames.Frame.{Frame}
+use Rattle.cap_io.specs.Blocks.{BlockCame, BlockMissing, BlockPacketIfAny, Enters, IsEntryFault, PacketIfAny, WholeCame, packet_in, section_of}
+use Rattle.cap_io.specs.Reading.{RestMissing, data_held, most_in_unit}
+use Rattle.cap_io.specs.declared.unit.Held.{Held}
+
+-- ---- the first 12 bytes
+
+-- what the first 12 bytes say
+pub record FrontSays (section : Option Order) (front : List ℕ) (frame : Frame) : Type 0 where
+  pub passes : frame_fault section front ≡ None
+  pub says : frame_in section front ≡ frame
+
+pub front_says : (section : Option Order) (front : List ℕ) (answer : Result Frame Fault) (frame : Frame) → answer ≡ checked (frame_fault section front) (frame_in section front) → answer ≡ Ok frame
+    → FrontSays section front frame
+front_says section front answer frame is ok =
+    let both = checked_ok (frame_fault section front) (frame_in section front) frame (sym is ∙ ok) in
+    record { passes = both.0; says = both.1 }
+
+-- the same of a text that begins with them
+pub says_behind : (before : Option Section) (section : Option Order) (front more : List ℕ) (frame : Frame) → order_before before ≡ section → 12 ≤ length front → FrontSays section front frame
+    → (first_failing (frame_checks (order_before before) (front ++ more)) ≡ None) × (frame_behind before (front ++ more) ≡ frame)
+says_behind before section front more frame is enough said = (
+  ap (λ o. first_failing (frame_checks o (front ++ more))) is ∙ ap first_failing (frame_checks-append section front more enough) ∙ said.passes,
+  ap (λ o. frame_in o (front ++ more)) is ∙ frame_in-append section front more enough ∙ said.says,
+)
+
+-- so many bytes were taken, the front among them
+taken_behind : (front unread unread' : List ℕ) (count : ℕ) → unread' ≡ drop count unread → unread' ≡ drop (length front + count) (front ++ unread)
+taken_behind front unread unread' count rest =
+    rest ∙ ap (drop count) (sym (drop_at front unread (length front) refl)) ∙ drop-drop count (length front) (front ++ unread)
+
+block_missing : (before : Option Section) (front unread unread' : List ℕ) (fault : Fault) (count : ℕ) → length front ≡ 12
+    → (unit_fault before (front ++ unread) ≡ Some fault) ⊎ (fault ≡ ReadFailed) ⊎ (fault ≡ NoMemory)
+    → (unit_fault before (front ++ unread) ≡ None → 12 + count ≤ block_size before (front ++ unread)) → 12 + count ≤ most_in_unit
+    → count ≤ length unread → unread' ≡ drop count unread → BlockMissing before (front ++ unread) unread' fault
+block_missing before front unread unread' fault count few why within small there rest = record {
+  why = why;
+  count = length front + count;
+  within = λ none. rw few (within none);
+  few = rw few small;
+  there = omega (arith, length-append front unread, there);
+  rest = taken_behind front unread unread' count rest;
+}
+
+pub frame_refused : (before : Option Section) (section : Option Order) (front unread : List ℕ) (answer : Result Frame Fault) (fault : Fault) → order_before before ≡ section → length front ≡ 12
+    → answer ≡ checked (frame_fault section front) (frame_in section front) → answer ≡ Err fault → BlockMissing before (front ++ unread) unread fault
+frame_refused before section front unread answer fault is few told err =
+    let fails : frame_fault section front ≡ Some fault = checked_err (frame_fault section front) (frame_in section front) fault (sym told ∙ err) in
+    let whole : first_failing (frame_checks (order_before before) (front ++ unread)) ≡ Some fault =
+    ap (λ o. first_failing (frame_checks o (front ++ unread))) is ∙ ap first_failing (frame_checks-append section front unread (omega arith)) ∙ fails in
+    block_missing before front unread unread fault 0 few
+    (inl (unit_fault-frame before (front ++ unread) fault (omega (arith, length-append front unread)) whole))
+    (λ none. omega (arith, (passes before (front ++ unread) none).least)) (omega arith) (omega arith) refl
+
+pub no_room_for_block : (before : Option Section) (front unread : List ℕ) → length front ≡ 12 → BlockMissing before (front ++ unread) unread NoMemory
+no_room_for_block before front unread few =
+    block_missing before front unread unread NoMemory 0 few (inr (inr refl)) (λ none. omega (arith, (passes before (front ++ unread) none).least)) (omega arith) (omega arith) refl
+
+pub rest_of_block : (before : Option Section) (section : Option Order) (front unread unread' : List ℕ) (frame : Frame) (fault : Fault) → order_before before ≡ section → length front ≡ 12
+    → FrontSays section front frame → frame.length ≤ most_block → RestMissing (length front) frame.length unread unread' fault
+    → BlockMissing before (front ++ unread) unread' fault
+rest_of_block before section front unread unread' frame fault is few said small missing =
+    let both = says_behind before section front unread frame is (omega arith) said in
+    let size : block_size before (front ++ unread) ≡ frame.length = ap (λ (f : Frame). f.length) both.1 in
+    let long : length (front ++ unread) ≡ length front + length unread = length-append front unread in
+    block_missing before front unread unread' fault missing.count few
+    (elim missing.why [
+      | inl short ↦ inl (rw short.0 (unit_fault-short before (front ++ unread) (omega arith) both.0 (omega (arith, short.1))))
+      | inr failed ↦ inr (inl failed)
+    ])
+    (λ none. omega (arith, missing.within)) (omega (arith, missing.within)) missing.there missing.rest
+
+-- ---- the whole block
+
+pub whole_came : (section : Option Order) (front unread unread' unit buffer : List ℕ) (frame : Frame) → length front ≡ 12 → FrontSays section front frame
+    → take frame.length buffer ≡ unit → take (length front) unit ≡ front → unread ≡ drop (length front) unit ++ unread'
+    → WholeCame section (front ++ unread) buffer frame unread'
+whole_came section front unread unread' unit buffer frame few said there same rest =
+    let joined : front ++ drop (length front) unit ≡ unit = ap (λ (l : List ℕ). l ++ drop (length front) unit) (sym same) ∙ take-append-drop (length front) unit in
+    record {
+      passes = rw there (ap (frame_fault section) (sym joined) ∙ ap first_failing (frame_checks-append section front (drop (length front) unit) (omega arith)) ∙ said.passes);
+      says = rw there (ap (frame_in section) (sym joined) ∙ frame_in-append section front (drop (length front) unit) (omega arith) ∙ said.says);
+      splits = rw there (ap (λ (l : List ℕ). front ++ l) rest ∙ sym (append_assoc front (drop (length front) unit) unread') ∙ ap (λ (l : List ℕ). l ++ unread') joined);
+    }
+
+-- the frame of a block is that of the text that begins with it
+record IsFramed (before : Option Section) (block more : List ℕ) (frame : Frame) : Type 0 where
+  framed : first_failing (frame_checks (order_before before) (block ++ more)) ≡ None
+  behind : frame_behind before (block ++ more) ≡ frame
+  alone : frame_behind before block ≡ frame
+
+framed_block : (before : Option Section) (section : Option Order) (block more : List ℕ) (frame : Frame) → order_before before ≡ section → 12 ≤ length block
+    → frame_fault section block ≡ None → frame_in section block ≡ frame → IsFramed before block more frame
+framed_block before section block more frame is enough none says = record {
+  framed = ap (λ o. first_failing (frame_checks o (block ++ more))) is ∙ ap first_failing (frame_checks-append section block more enough) ∙ none;
+  behind = ap (λ o. frame_in o (block ++ more)) is ∙ frame_in-append section block more enough ∙ says;
+  alone = ap (λ o. frame_in o block) is ∙ says;
+}
+
+-- a block that doesn't find its place
+pub entry_refused : (before : Option Section) (section : Option Order) (interfaces : List Described) (text unread' block buffer : List ℕ) (frame : Frame) (fault : Fault)
+    → order_before before ≡ section → interfaces_before before ≡ interfaces → 12 ≤ frame.length → frame.length ≤ most_in_unit → frame.length ≤ length buffer
+    → WholeCame section text buffer frame unread' → block ≡ take frame.length buffer → IsEntryFault frame interfaces block fault
+    → BlockMissing before text unread' fault
+entry_refused before section interfaces text unread' block buffer frame fault is same least small room came block_is entry =
+    let size : length block ≡ frame.length = ap length block_is ∙ length-take-le frame.length buffer room in
+    let splits : text ≡ block ++ unread' = came.splits ∙ ap (λ (l : List ℕ). l ++ unread') (sym block_is) in
+    let f = framed_block before section block unread' frame is (omega arith) (ap (frame_fault section) block_is ∙ came.passes) (ap (frame_in section) block_is ∙ came.says) in
+    let whole : block_size before (block ++ unread') ≡ frame.length = ap (λ (g : Frame). g.length) f.behind in
+    let long : length (block ++ unread') ≡ length block + length unread' = length-append block unread' in
+    let blocked : first_failing (block_checks (frame_behind before (block ++ unread')) (block ++ unread')) ≡ block_fault frame block =
+    ap (λ (g : Frame). first_failing (block_checks g (block ++ unread'))) f.behind ∙ ap first_failing (block_checks-append frame block unread' least (omega arith)) in
+    let parts : parts_behind before (block ++ unread') ≡ parts_in frame block =
+    ap (λ (g : Frame). parts_in g (block ++ unread')) f.behind ∙ parts_in-append frame block unread' least (omega arith) in
+    let P : List ℕ → Type 0 = λ t. BlockMissing before t unread' fault in
+    subst P (sym splits) (record {
+      why = elim entry [
+        | inl fails ↦ inl (unit_fault-block before (block ++ unread') fault (omega arith) f.framed (omega arith) (blocked ∙ fails))
+        | inr more ↦ elim more [
+          | inl among ↦ inl (unit_fault-among before (block ++ unread') (omega arith) f.framed (omega arith) (blocked ∙ among.0)
+              ∙ ap₂ (λ (i : List Described) (p : Parts). first_failing (checks_among i p)) same parts ∙ among.1)
+          | inr memory ↦ inr (inr memory)
+        ]
+      ];
+      count = frame.length;
+      within = λ none. omega (arith, whole);
+      few = small;
+      there = omega (arith, long, size);
+      rest = sym (drop_at block unread' frame.length size);
+    })
+
+-- ---- a block that found it
+
+-- a section header begins one, whatever stood before it
+section_same : (before : Option Section) (order : Order) (interfaces : List Described) (parts : Parts) → interfaces_before before ≡ interfaces
+    → section_by before order parts ≡ section_by (Some (section_of order interfaces)) order parts
+section_same before order interfaces SectionParts same = refl
+section_same before order interfaces (InterfaceParts link snap own options) same = rw same refl
+section_same before order interfaces (EnhancedParts number ticks captured orig rest) same = rw same refl
+section_same before order interfaces (SimpleParts orig rest) same = rw same refl
+section_same before order interfaces SkippedParts same = rw same refl
+
+packet_if_any : (before : Option Section) (interfaces : List Described) (block : List ℕ) (parts : Parts) (held : Option Held) → interfaces_before before ≡ interfaces → parts_behind before block ≡ parts
+    → PacketIfAny interfaces parts block held → BlockPacketIfAny before block held
+packet_if_any before interfaces block parts None same is none = ap₂ (λ (i : List Described) (p : Parts). option_to_list (packet_by i p)) same is ∙ ap option_to_list none
+packet_if_any before interfaces block parts (Some held) same is stands = record {
+  packet = stands.packet;
+  stands = ap₂ (λ (i : List Described) (p : Parts). option_to_list (packet_by i p)) same is ∙ ap option_to_list stands.stands;
+  is_lent = ap (λ (i : List Described). packet_in i held (data_held held block)) same ∙ stands.is_lent;
+}
+
+pub block_came : (before : Option Section) (section : Option Order) (interfaces interfaces' : List Described) (text unread' block buffer : List ℕ) (frame : Frame) (held : Option Held)
+    → order_before before ≡ section → interfaces_before before ≡ interfaces → 12 ≤ frame.length → frame.length ≤ length buffer
+    → WholeCame section text buffer frame unread' → block ≡ take frame.length buffer → Enters frame interfaces block held interfaces'
+    → BlockCame before text buffer (record { order = frame.order; size = frame.length; packet = held }) interfaces' unread'
+block_came before section interfaces interfaces' text unread' block buffer frame held is same least room came block_is enters =
+    let size : length block ≡ frame.length = ap length block_is ∙ length-take-le frame.length buffer room in
+    let f = framed_block before section block [] frame is (omega arith) (ap (frame_fault section) block_is ∙ came.passes) (ap (frame_in section) block_is ∙ came.says) in
+    let framed : first_failing (frame_checks (order_before before) block) ≡ None = ap (λ o. frame_fault o block) is ∙ ap (frame_fault section) block_is ∙ came.passes in
+    let whole : block_size before block ≡ frame.length = ap (λ (g : Frame). g.length) f.alone in
+    let parts : parts_behind before block ≡ parts_in frame block = ap (λ (g : Frame). parts_in g block) f.alone in
+    let blocked : first_failing (block_checks (frame_behind before block) block) ≡ None = ap (λ (g : Frame). block_fault g block) f.alone ∙ enters.passes in
+    let among : unit_fault before block ≡ None =
+    unit_fault-among before block (omega arith) framed (omega arith) blocked
+    ∙ ap₂ (λ (i : List Described) (p : Parts). first_failing (checks_among i p)) same parts ∙ enters.among in
+    let Q : List ℕ → Type 0 = λ b. IsBlock before b in
+    let R : List ℕ → Type 0 = λ b. BlockPacketIfAny before b held in
+    record {
+      is_block = subst Q block_is (record { passes = among; whole = omega (arith, size, whole) });
+      section =
+          ap (section_after before) (sym block_is)
+          ∙ ap₂ (λ (o : Order) (p : Parts). section_by before o p) (ap (λ (g : Frame). g.order) f.alone) parts
+          ∙ section_same before frame.order interfaces (parts_in frame block) same ∙ enters.section;
+      packet = subst R block_is (packet_if_any before interfaces block (parts_in frame block) held same parts enters.packet);
+      splits = came.splits;
+    }

@@ -1,0 +1,173 @@
+-- A block finds its place in the table of interfaces, and its packet its data.
+use Rattle.std.proofs.Common.{◌≡◌, ℕ, ◌+◌, ◌-◌, ◌/◌, ◌*◌, ◌^◌, ◌<◌, ◌≤◌, Bool, true, false, List, [], ◌∷◌, length, take, drop, Option, Some, None, Ok, refl, sym, ap, ◌∙◌, arith, leb-true, length-drop}
+use Rattle.std.specs.Prelude.{is_some}
+use Rattle.std.specs.List.{slice_get}
+use Rattle.std.specs.Option.{option_map, ok_or}
+use Rattle.std.proofs.lemmas.List.{drop-drop, drop-take, take-take, length-take-le, length-take}
+use Rattle.cap_octet.specs.Checks.{first_failing}
+use Rattle.cap_octet.specs.declared.fault.Fault.{Fault}
+use Rattle.cap_octet.specs.declared.fault.Fault.TheVariants.{TimeOutOfRange}
+use Rattle.cap_octet.specs.declared.number.Order.{Order}
+use Rattle.cap_octet.proofs.Checks.{all_met, met_front}
+use Rattle.cap_pcapng.specs.Block.{Parts, EnhancedParts, SimpleParts, block_fault, body_checks, body_in, data_checks, parts_in, parts_in_body, simple_captured}
+use Rattle.cap_pcapng.specs.Interface.{Described}
+use Rattle.cap_pcapng.specs.Padding.{padded}
+use Rattle.cap_pcapng.specs.Time.{time_in}
+use Rattle.cap_pcapng.specs.Unit.{checks_among, packet_by, packet_of, section_by}
+use Rattle.cap_pcapng.specs.declared.frames.BlockType.{BlockType}
+use Rattle.cap_pcapng.specs.declared.frames.BlockType.TheVariants as type
+use Rattle.cap_pcapng.specs.declared.frames.Frame.{Frame}
+use Rattle.cap_io.specs.Blocks.{Enters, FitsIfAny, PacketFound, packet_in, section_of}
+use Rattle.cap_io.specs.Reading.{data_held}
+use Rattle.cap_io.specs.declared.unit.Held.{Held}
+
+-- ---- a packet's data
+
+-- captured bytes lie in what is left of a body where their padding does
+captured_fits : (captured : ℕ) (rest : List ℕ) → first_failing (data_checks captured rest) ≡ None → captured ≤ length rest
+captured_fits captured rest none =
+    let room : padded captured ≤ length rest = leb-true (padded captured) (length rest) (all_met (data_checks captured rest) none).0 in
+    let more : captured ≤ (captured + 3) / 4 * 4 = omega arith in
+    omega (arith, room, more)
+
+pub known_interface : {X : Type 0} (found : Option X) (f : X → Described) (x : X) (i : Option Described) → found ≡ Some x → option_map f found ≡ i → i ≡ Some (f x)
+known_interface found f x i is same = sym same ∙ ap (option_map f) is
+
+time_found : (told : Option ℕ) (time : ℕ) → ok_or told TimeOutOfRange ≡ Ok time → told ≡ Some time
+time_found None time e = (cc)
+time_found (Some t) time e = (cc)
+
+pub enhanced_found : (interfaces : List Described) (i : Described) (number ticks captured orig time size : ℕ) (rest bytes : List ℕ)
+    → slice_get interfaces number ≡ Some i → bytes ≡ take captured rest → first_failing (data_checks captured rest) ≡ None
+    → Ok time ≡ ok_or (time_in ticks i.units i.offset) TimeOutOfRange → time < 2 ^ 63
+    → PacketFound interfaces (EnhancedParts number ticks captured orig rest) rest
+    (record { size = size; from = 28; captured = length bytes; interface = number; time = time; orig = orig })
+enhanced_found interfaces i number ticks captured orig time size rest bytes known is few told small =
+    let fits : captured ≤ length rest = captured_fits captured rest few in
+    let count : length bytes ≡ captured = ap length is ∙ length-take-le captured rest fits in
+    let at : time_in ticks i.units i.offset ≡ Some time = time_found (time_in ticks i.units i.offset) time (sym told) in
+    record {
+      passes = rw (known, at) (met_front (data_checks captured rest) ((is_some (Some time), TimeOutOfRange) ∷ []) few);
+      packet = packet_of i time orig (take captured rest);
+      stands = rw (known, at) refl;
+      is_lent = rw (known, count) refl;
+      there = omega (arith, count, fits);
+      time = small;
+    }
+
+pub simple_found : (interfaces : List Described) (i : Described) (orig size : ℕ) (rest bytes : List ℕ)
+    → slice_get interfaces 0 ≡ Some i → bytes ≡ take (simple_captured orig i.snap) rest → first_failing (data_checks (simple_captured orig i.snap) rest) ≡ None
+    → PacketFound interfaces (SimpleParts orig rest) rest
+    (record { size = size; from = 12; captured = length bytes; interface = 0; time = 0; orig = orig })
+simple_found interfaces i orig size rest bytes known is few =
+    let fits : simple_captured orig i.snap ≤ length rest = captured_fits (simple_captured orig i.snap) rest few in
+    let count : length bytes ≡ simple_captured orig i.snap = ap length is ∙ length-take-le (simple_captured orig i.snap) rest fits in
+    record {
+      passes = rw known few;
+      packet = packet_of i 0 orig (take (simple_captured orig i.snap) rest);
+      stands = rw known refl;
+      is_lent = rw (known, count) refl;
+      there = omega (arith, count, fits);
+      time = omega arith;
+    }
+
+-- ---- the body in its block
+
+-- bytes behind the front of a body, as bytes of the block
+pub lies : (text : List ℕ) (skip most count : ℕ) → count ≤ length (drop skip (take most (drop 8 text))) → skip ≤ most
+    → take count (drop (8 + skip) text) ≡ take count (drop skip (take most (drop 8 text)))
+lies text skip most count there enough =
+    let whole : skip + (most - skip) ≡ most = omega arith in
+    let same : drop skip (take most (drop 8 text)) ≡ take (most - skip) (drop (8 + skip) text) =
+    ap (λ n. drop skip (take n (drop 8 text))) (sym whole) ∙ drop-take skip (most - skip) (drop 8 text) ∙ ap (take (most - skip)) (drop-drop skip 8 text) in
+    let few : count ≤ most - skip = omega (arith, there, ap length same, length-take (most - skip) (drop (8 + skip) text)) in
+    sym (take-take count (most - skip) (drop (8 + skip) text) few) ∙ ap (take count) (sym same)
+
+-- what is left of the body of a block with a packet, and that the front of it is there
+record BodyIs (skip : ℕ) (rest : List ℕ) (frame : Frame) (block : List ℕ) : Type 0 where
+  left : rest ≡ drop skip (body_in frame block)
+  there : skip ≤ length (body_in frame block)
+
+enhanced_body : (kind : BlockType) (order : Order) (body rest : List ℕ) (number ticks captured orig : ℕ) → parts_in_body kind order body ≡ EnhancedParts number ticks captured orig rest
+    → first_failing (body_checks kind order body) ≡ None → (rest ≡ drop 20 body) × (20 ≤ length body)
+enhanced_body type.Section order body rest number ticks captured orig e none = absurd (cc)
+enhanced_body type.Interface order body rest number ticks captured orig e none = absurd (cc)
+enhanced_body type.ObsoletePacket order body rest number ticks captured orig e none = absurd (cc)
+enhanced_body type.SimplePacket order body rest number ticks captured orig e none = absurd (cc)
+enhanced_body type.Other order body rest number ticks captured orig e none = absurd (cc)
+enhanced_body type.EnhancedPacket order body rest number ticks captured orig e none =
+    ((cc), leb-true 20 (length body) (all_met (body_checks type.EnhancedPacket order body) none).0)
+
+simple_body : (kind : BlockType) (order : Order) (body rest : List ℕ) (orig : ℕ) → parts_in_body kind order body ≡ SimpleParts orig rest
+    → first_failing (body_checks kind order body) ≡ None → (rest ≡ drop 4 body) × (4 ≤ length body)
+simple_body type.Section order body rest orig e none = absurd (cc)
+simple_body type.Interface order body rest orig e none = absurd (cc)
+simple_body type.ObsoletePacket order body rest orig e none = absurd (cc)
+simple_body type.EnhancedPacket order body rest orig e none = absurd (cc)
+simple_body type.Other order body rest orig e none = absurd (cc)
+simple_body type.SimplePacket order body rest orig e none =
+    ((cc), leb-true 4 (length body) (all_met (body_checks type.SimplePacket order body) none).0)
+
+rows_behind : (b : Bool) (fault : Fault) (rows : List (Bool × Fault)) → first_failing ((b, fault) ∷ rows) ≡ None → first_failing rows ≡ None
+rows_behind true fault rows none = none
+rows_behind false fault rows none = (cc)
+
+pub body_passes : (frame : Frame) (block : List ℕ) → block_fault frame block ≡ None → first_failing (body_checks frame.block_type frame.order (body_in frame block)) ≡ None
+body_passes frame block none = rows_behind _ _ (body_checks frame.block_type frame.order (body_in frame block)) none
+
+-- the data of a packet that was found in a body are those held of the block
+held_lies : (frame : Frame) (block rest : List ℕ) (skip : ℕ) (held : Held) → length block ≡ frame.length → 12 ≤ frame.length
+    → rest ≡ drop skip (body_in frame block) → skip ≤ length (body_in frame block) → held.from ≡ 8 + skip → held.captured ≤ length rest
+    → (data_held held block ≡ take held.captured rest) × (held.from + held.captured ≤ frame.length)
+held_lies frame block rest skip held whole least left there from few =
+    let most : length (body_in frame block) ≡ frame.length - 12 =
+    length-take-le (frame.length - 12) (drop 8 block) (omega (arith, length-drop 8 block)) in
+    let size : length rest ≡ frame.length - 12 - skip = ap length left ∙ length-drop skip (body_in frame block) ∙ ap (λ n. n - skip) most in (
+      ap (λ n. take held.captured (drop n block)) from
+          ∙ lies block skip (frame.length - 12) held.captured (omega (arith, few, ap length left)) (omega (arith, there, most))
+          ∙ ap (take held.captured) (sym left),
+      omega (arith, from, few, size, there, most),
+    )
+
+-- ---- a block with a packet
+
+pub record HasFound (frame : Frame) (interfaces : List Described) (block : List ℕ) (held : Held) : Type 0 where
+  pub enters : Enters frame interfaces block (Some held) interfaces
+  pub fits : FitsIfAny (Some held) frame.length
+
+packet_enters : (frame : Frame) (interfaces : List Described) (block rest : List ℕ) (parts : Parts) (skip : ℕ) (held : Held) → length block ≡ frame.length → 12 ≤ frame.length
+    → parts ≡ parts_in frame block → block_fault frame block ≡ None → rest ≡ drop skip (body_in frame block) → skip ≤ length (body_in frame block)
+    → held.from ≡ 8 + skip → held.size ≡ length block → PacketFound interfaces parts rest held
+    → section_by (Some (section_of frame.order interfaces)) frame.order parts ≡ section_of frame.order interfaces
+    → HasFound frame interfaces block held
+packet_enters frame interfaces block rest parts skip held whole least is passes left there from size found stays =
+    let lie = held_lies frame block rest skip held whole least left there from found.there in
+    record {
+      enters = record {
+        passes = passes;
+        among = ap (λ p. first_failing (checks_among interfaces p)) (sym is) ∙ found.passes;
+        section = ap (λ p. section_by (Some (section_of frame.order interfaces)) frame.order p) (sym is) ∙ stays;
+        packet = record {
+          packet = found.packet;
+          stands = ap (packet_by interfaces) (sym is) ∙ found.stands;
+          is_lent = ap (packet_in interfaces held) lie.0 ∙ found.is_lent;
+        };
+      };
+      fits = (size ∙ whole, lie.1, found.time);
+    }
+
+pub enhanced_enters : (frame : Frame) (interfaces : List Described) (block rest : List ℕ) (number ticks captured orig : ℕ) (held : Held) → length block ≡ frame.length → 12 ≤ frame.length
+    → EnhancedParts number ticks captured orig rest ≡ parts_in frame block → block_fault frame block ≡ None
+    → held.from ≡ 28 → held.size ≡ length block → PacketFound interfaces (EnhancedParts number ticks captured orig rest) rest held
+    → HasFound frame interfaces block held
+enhanced_enters frame interfaces block rest number ticks captured orig held whole least is passes from size found =
+    let body = enhanced_body frame.block_type frame.order (body_in frame block) rest number ticks captured orig (sym is) (body_passes frame block passes) in
+    packet_enters frame interfaces block rest (EnhancedParts number ticks captured orig rest) 20 held whole least is passes body.0 body.1 from size found refl
+
+pub simple_enters : (frame : Frame) (interfaces : List Described) (block rest : List ℕ) (orig : ℕ) (held : Held) → length block ≡ frame.length → 12 ≤ frame.length
+    → SimpleParts orig rest ≡ parts_in frame block → block_fault frame block ≡ None
+    → held.from ≡ 12 → held.size ≡ length block → PacketFound interfaces (SimpleParts orig rest) rest held
+    → HasFound frame interfaces block held
+simple_enters frame interfaces block rest orig held whole least is passes from size found =
+    let body = simple_body frame.block_type frame.order (body_in frame block) rest orig (sym is) (body_passes frame block passes) in
+    packet_enters frame interfaces block rest (SimpleParts orig rest) 4 held whole least is passes body.0 body.1 from size found refl

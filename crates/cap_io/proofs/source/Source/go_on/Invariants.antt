@@ -1,0 +1,14 @@
+use Rattle.std.proofs.Common.{◌≡◌, ◌-◌, ◌^◌, ◌≤◌, IsTrue}
+use Rattle.cap_io.specs.Source.{Passes, IsBetween}
+use Rattle.cap_io.proofs.source.Source.go_on.Given as goal
+
+abbrev pub invariant-loop : goal.invariant-loop
+invariant-loop g l = record {
+  told : IsTrue g.I.Input.tells → Passes l.fn.self l.self l.self.unread;
+  between : IsBetween l.self;
+  given : l.fn.self.given ≤ l.self.given;
+  failures : l.self.failures ≡ l.fn.self.failures;
+}
+
+abbrev pub decreases-loop : goal.decreases-loop
+decreases-loop g l = 2 ^ 63 - l.self.given

@@ -1,0 +1,101 @@
+-- What reading one block of a pcapng file does, from its first bytes to its place in the table of interfaces.
+use Rattle.std.specs.Prelude.{◌≡◌, ℕ, ◌+◌, ◌^◌, ◌<◌, ◌≤◌, ◌⊎◌, List, [], ◌∷◌, ◌++◌, length, take, drop, Option, None, Some}
+use Rattle.std.specs.List.{slice_get}
+use Rattle.std.specs.Option.{option_map}
+use Rattle.cap_octet.specs.Checks.{first_failing}
+use Rattle.cap_octet.specs.Packet.{Captured}
+use Rattle.cap_octet.specs.declared.fault.Fault.{Fault}
+use Rattle.cap_octet.specs.declared.fault.Fault.TheVariants.{NoMemory, ReadFailed}
+use Rattle.cap_octet.specs.declared.number.Order.{Order}
+use Rattle.cap_pcapng.specs.Block.{Parts, block_fault, parts_in}
+use Rattle.cap_pcapng.specs.Frame.{frame_fault, frame_in}
+use Rattle.cap_pcapng.specs.Interface.{Described}
+use Rattle.cap_pcapng.specs.Unit.{IsBlock, Section, block_size, checks_among, interfaces_before, packet_by, packet_of, packets_in, section_after, section_by, unit_fault}
+use Rattle.cap_pcapng.specs.declared.frames.Frame.{Frame}
+use Rattle.cap_io.specs.declared.blocks.BlockRead.{BlockRead}
+use Rattle.cap_io.specs.declared.unit.Held.{Held}
+use Rattle.cap_io.specs.Reading.{data_held, most_in_unit}
+
+-- ---- the bytes
+
+-- a block whose first 12 bytes pass came, and stands at the front of the buffer
+pub record WholeCame (section : Option Order) (text buffer : List ℕ) (frame : Frame) (unread' : List ℕ) : Type 0 where
+  pub passes : frame_fault section (take frame.length buffer) ≡ None
+  pub says : frame_in section (take frame.length buffer) ≡ frame
+  pub splits : text ≡ take frame.length buffer ++ unread'
+
+-- Why no block came: a fault stands in its place, or the device failed, or memory ran out. At most the block was taken.
+pub record BlockMissing (before : Option Section) (text unread' : List ℕ) (fault : Fault) : Type 0 where
+  pub why : (unit_fault before text ≡ Some fault) ⊎ (fault ≡ ReadFailed) ⊎ (fault ≡ NoMemory)
+  pub count : ℕ
+  pub within : unit_fault before text ≡ None → count ≤ block_size before text
+  pub few : count ≤ most_in_unit
+  pub there : count ≤ length text
+  pub rest : unread' ≡ drop count text
+
+-- ---- the table of interfaces
+
+-- the same section with these interfaces
+abbrev pub section_of : Order → List Described → Section
+section_of order interfaces = record { order = order; interfaces = interfaces }
+
+-- what is held of a packet whose data stand in these bytes
+abbrev pub packet_in : List Described → Held → List ℕ → Option Captured
+packet_in interfaces held bytes = option_map (λ (i : Described). packet_of i held.time held.orig bytes) (slice_get interfaces held.interface)
+
+-- a packet whose data stand at the front of what is left of its block's body
+pub record PacketFound (interfaces : List Described) (parts : Parts) (rest : List ℕ) (held : Held) : Type 0 where
+  pub passes : first_failing (checks_among interfaces parts) ≡ None
+  pub packet : Captured
+  pub stands : packet_by interfaces parts ≡ Some packet
+  pub is_lent : packet_in interfaces held (take held.captured rest) ≡ Some packet
+  pub there : held.captured ≤ length rest
+  pub time : held.time < 2 ^ 63
+
+-- the packet of a block
+pub record PacketStands (interfaces : List Described) (parts : Parts) (block : List ℕ) (held : Held) : Type 0 where
+  pub packet : Captured
+  pub stands : packet_by interfaces parts ≡ Some packet
+  pub is_lent : packet_in interfaces held (data_held held block) ≡ Some packet
+
+abbrev pub PacketIfAny : List Described → Parts → List ℕ → Option Held → Type 0
+PacketIfAny interfaces parts block None = packet_by interfaces parts ≡ None
+PacketIfAny interfaces parts block (Some held) = PacketStands interfaces parts block held
+
+-- a block passed all of its checks, and the table of interfaces is that behind it
+pub record Enters (frame : Frame) (interfaces : List Described) (block : List ℕ) (held : Option Held) (interfaces' : List Described) : Type 0 where
+  pub passes : block_fault frame block ≡ None
+  pub among : first_failing (checks_among interfaces (parts_in frame block)) ≡ None
+  pub section : section_by (Some (section_of frame.order interfaces)) frame.order (parts_in frame block) ≡ section_of frame.order interfaces'
+  pub packet : PacketIfAny interfaces (parts_in frame block) block held
+
+-- the first check that a block fails, or want of memory
+abbrev pub IsEntryFault : Frame → List Described → List ℕ → Fault → Type 0
+IsEntryFault frame interfaces block fault =
+    (block_fault frame block ≡ Some fault)
+    ⊎ ((block_fault frame block ≡ None) × (first_failing (checks_among interfaces (parts_in frame block)) ≡ Some fault))
+    ⊎ (fault ≡ NoMemory)
+
+-- what is held of it is in the block
+abbrev pub FitsIfAny : Option Held → ℕ → Type 0
+FitsIfAny None size = Unit {0}
+FitsIfAny (Some held) size = (held.size ≡ size) × (held.from + held.captured ≤ size) × (held.time < 2 ^ 63)
+
+-- ---- both
+
+-- the packet of a block behind others
+pub record BlockPacket (before : Option Section) (block : List ℕ) (held : Held) : Type 0 where
+  pub packet : Captured
+  pub stands : packets_in before block ≡ packet ∷ []
+  pub is_lent : packet_in (interfaces_before before) held (data_held held block) ≡ Some packet
+
+abbrev pub BlockPacketIfAny : Option Section → List ℕ → Option Held → Type 0
+BlockPacketIfAny before block None = packets_in before block ≡ []
+BlockPacketIfAny before block (Some held) = BlockPacket before block held
+
+-- a block came, and stands at the front of the buffer
+pub record BlockCame (before : Option Section) (text buffer : List ℕ) (read : BlockRead) (interfaces' : List Described) (unread' : List ℕ) : Type 0 where
+  pub is_block : IsBlock before (take read.size buffer)
+  pub section : section_after before (take read.size buffer) ≡ section_of read.order interfaces'
+  pub packet : BlockPacketIfAny before (take read.size buffer) read.packet
+  pub splits : text ≡ take read.size buffer ++ unread'

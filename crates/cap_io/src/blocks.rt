@@ -1,0 +1,190 @@
+//! One block of a pcapng file, read from a device.
+ghost use Rattle.std.specs.Prelude.{◌≡◌, ◌+◌, ◌^◌, ◌<◌, ◌≤◌, ◌++◌, ◌∷◌, ◌⊎◌, IsTrue, IfOk, IfErr, OnOk, OnErr, Option, [], length, vec_len, None, Some};
+ghost use Rattle.cap_octet.specs.Checks.{first_failing};
+ghost use Rattle.cap_pcapng.specs.Block.{EnhancedParts, InterfaceParts, SimpleParts};
+ghost use Rattle.cap_pcapng.specs.Interface.{described_in};
+ghost use Rattle.cap_pcapng.specs.Unit.{Section, checks_among, interfaces_before, order_before};
+ghost use Rattle.cap_io.specs.Blocks.{BlockCame, BlockMissing, Enters, FitsIfAny, IsEntryFault, PacketFound, WholeCame};
+ghost use Rattle.cap_io.specs.Reading.{failures_told, most_in_unit};
+
+use crate::reading::{make_room, read_data};
+use crate::unit::Held;
+use cap_octet::{Fault, Input, Order};
+use cap_pcapng::{Block, EnhancedBlock, Frame, InterfaceBlock, SimpleBlock, Table, block, frame};
+use std::alloc::Allocator;
+
+/// Where the data of an enhanced packet begin in its block.
+const ENHANCED_DATA: usize = 28;
+
+/// Where the data of a simple packet begin in its block.
+const SIMPLE_DATA: usize = 12;
+
+/// A block that was read: the byte order of its section, its size in bytes, and its packet if it has one.
+#[derive(Clone, Copy, Debug, PartialEq, Eq)]
+pub(crate) struct BlockRead {
+    pub(crate) order: Order,
+    pub(crate) size: usize,
+    pub(crate) packet: Option<Held>,
+}
+
+/// Reads what is left of a block behind its first 12 bytes, to the front of the buffer. Its limits are looked at
+/// before the buffer grows.
+fn read_whole<I: Input, A: Allocator>(
+    input: &mut I,
+    section: Option<Order>,
+    front: &[u8; 12],
+    buffer: &mut Vec<u8, A>,
+) -> Result<Frame, Fault>
+    ensures counted { IfOk result (λ frame. I.given input.new + 12 ≡ I.given input.old + frame.length) }
+    ensures grown { I.given input.old ≤ I.given input.new }
+    ensures bounded { IfOk result (λ frame. 12 < frame.length → I.given input.new < 2 ^ 63) }
+    ensures failed { I.failures input.new ≡ I.failures input.old + failures_told result }
+    ensures least { IfOk result (λ frame. 12 ≤ frame.length) }
+    ensures most { IfOk result (λ frame. frame.length ≤ most_in_unit) }
+    ensures there { IfOk result (λ frame. frame.length ≤ vec_len buffer.new) }
+    ensures ok { IfOk result (λ frame. IsTrue I.tells → WholeCame section (front.now ++ I.unread input.old) buffer.new.items frame (I.unread input.new)) }
+    ensures err { IfErr result (λ fault. IsTrue I.tells → (before : Option Section) → order_before before ≡ section
+        → BlockMissing before (front.now ++ I.unread input.old) (I.unread input.new) fault) }
+{
+    let found = frame(section, front)?;
+    let size = found.length as usize;
+    make_room(buffer, size)?;
+    read_data(input, front, buffer.as_mut_slice(), size)?;
+    Ok(found)
+}
+
+/// Gives the interface of a block the next number. The check of how many there are comes before those of its options.
+fn add_interface<A: Allocator>(
+    table: &mut Table<A>,
+    block: &InterfaceBlock<'_>,
+) -> Result<(), Fault>
+    ensures passes { OnOk result (first_failing
+        (checks_among table.old (InterfaceParts block.now.link block.now.snap block.now.options.order block.now.options.rest.now)) ≡ None) }
+    ensures added { OnOk result (table.new
+        ≡ table.old ++ described_in block.now.link block.now.snap block.now.options.order block.now.options.rest.now ∷ []) }
+    ensures refused { IfErr result (λ fault. (first_failing
+        (checks_among table.old (InterfaceParts block.now.link block.now.snap block.now.options.order block.now.options.rest.now)) ≡ Some fault)
+        ⊎ (fault ≡ Fault.NoMemory)) }
+    ensures kept { OnErr result (table.new ≡ table.old) }
+{
+    if table.is_full() {
+        return Err(Fault::TooManyInterfaces);
+    }
+    let interface = block.described()?;
+    table.push(&interface)
+}
+
+/// The packet of an enhanced packet block of so many bytes.
+fn enhanced_packet<A: Allocator>(
+    table: &Table<A>,
+    block: &EnhancedBlock<'_>,
+    size: usize,
+) -> Result<Held, Fault>
+    ensures found { IfOk result (PacketFound table.now
+        (EnhancedParts block.now.interface block.now.ticks block.now.captured block.now.orig block.now.rest.now) block.now.rest.now) }
+    ensures size { IfOk result (λ held. held.size ≡ size) }
+    ensures from { IfOk result (λ held. held.from ≡ 28) }
+    ensures refused { IfErr result (λ fault. first_failing (checks_among table.now
+        (EnhancedParts block.now.interface block.now.ticks block.now.captured block.now.orig block.now.rest.now)) ≡ Some fault) }
+{
+    let Some(interface) = table.get(block.interface) else {
+        return Err(Fault::UnknownInterface);
+    };
+    let data = block.data()?;
+    let time = interface.clock.time(block.ticks)?;
+    Ok(Held {
+        size,
+        from: ENHANCED_DATA,
+        captured: data.len(),
+        interface: block.interface,
+        time,
+        orig: block.orig,
+    })
+}
+
+/// The packet of a simple packet block of so many bytes: one of interface 0, at time 0.
+fn simple_packet<A: Allocator>(
+    table: &Table<A>,
+    block: &SimpleBlock<'_>,
+    size: usize,
+) -> Result<Held, Fault>
+    ensures found { IfOk result (PacketFound table.now (SimpleParts block.now.orig block.now.rest.now) block.now.rest.now) }
+    ensures size { IfOk result (λ held. held.size ≡ size) }
+    ensures from { IfOk result (λ held. held.from ≡ 12) }
+    ensures refused { IfErr result (λ fault.
+        first_failing (checks_among table.now (SimpleParts block.now.orig block.now.rest.now)) ≡ Some fault) }
+{
+    let Some(interface) = table.get(0) else {
+        return Err(Fault::UnknownInterface);
+    };
+    let data = block.data(interface.snap)?;
+    Ok(Held {
+        size,
+        from: SIMPLE_DATA,
+        captured: data.len(),
+        interface: 0,
+        time: 0,
+        orig: block.orig,
+    })
+}
+
+/// Makes the checks of a whole block of this frame, and brings the table of interfaces behind it. A fault leaves it.
+fn enter<A: Allocator>(
+    table: &mut Table<A>,
+    frame: &Frame,
+    bytes: &[u8],
+) -> Result<Option<Held>, Fault>
+    requires whole { length bytes.now ≡ frame.now.length }
+    requires shortest { 12 ≤ frame.now.length }
+    ensures ok { IfOk result (λ held. Enters frame.now table.old bytes.now held table.new) }
+    ensures fits { IfOk result (λ held. FitsIfAny held frame.now.length) }
+    ensures err { IfErr result (IsEntryFault frame.now table.old bytes.now) }
+    ensures kept { OnErr result (table.new ≡ table.old) }
+{
+    match block(frame, bytes)? {
+        Block::Section => {
+            table.clear();
+            Ok(None)
+        }
+        Block::Interface(found) => {
+            add_interface(table, &found)?;
+            Ok(None)
+        }
+        Block::Enhanced(found) => Ok(Some(enhanced_packet(table, &found, bytes.len())?)),
+        Block::Simple(found) => Ok(Some(simple_packet(table, &found, bytes.len())?)),
+        Block::Skipped => Ok(None),
+    }
+}
+
+/// Reads a block behind its first 12 bytes to the front of the buffer, and brings the table of interfaces behind it. A
+/// fault leaves the table.
+pub(crate) fn read_block<I: Input, A: Allocator>(
+    input: &mut I,
+    section: Option<Order>,
+    front: &[u8; 12],
+    buffer: &mut Vec<u8, A>,
+    table: &mut Table<A>,
+) -> Result<BlockRead, Fault>
+    ensures counted { IfOk result (λ read. I.given input.new + 12 ≡ I.given input.old + read.size) }
+    ensures grown { I.given input.old ≤ I.given input.new }
+    ensures bounded { IfOk result (λ read. 12 < read.size → I.given input.new < 2 ^ 63) }
+    ensures failed { I.failures input.new ≡ I.failures input.old + failures_told result }
+    ensures least { IfOk result (λ read. 12 ≤ read.size) }
+    ensures most { IfOk result (λ read. read.size ≤ most_in_unit) }
+    ensures there { IfOk result (λ read. read.size ≤ vec_len buffer.new) }
+    ensures fits { IfOk result (λ read. FitsIfAny read.packet read.size) }
+    ensures ok { IfOk result (λ read. IsTrue I.tells → (before : Option Section) → order_before before ≡ section → interfaces_before before ≡ table.old
+        → BlockCame before (front.now ++ I.unread input.old) buffer.new.items read table.new (I.unread input.new)) }
+    ensures err { IfErr result (λ fault. IsTrue I.tells → (before : Option Section) → order_before before ≡ section → interfaces_before before ≡ table.old
+        → BlockMissing before (front.now ++ I.unread input.old) (I.unread input.new) fault) }
+    ensures kept { OnErr result (table.new ≡ table.old) }
+{
+    let found = read_whole(input, section, front, buffer)?;
+    let size = found.length as usize;
+    let packet = enter(table, &found, &buffer[..size])?;
+    Ok(BlockRead {
+        order: found.order,
+        size,
+        packet,
+    })
+}
