@@ -7,6 +7,11 @@ pub mod Passing
 pub mod Units
 pub mod Items
 pub mod Standing
+pub mod Interfaces
+pub mod Keys
 pub mod Texts
+pub mod Parts
 pub mod Cuts
 pub mod CapturesCame
+pub mod Backs
+pub mod PcapBack

@@ -1,17 +1,29 @@
 -- What a sink wrote is the text of the packets that were put to it.
-use Rattle.std.proofs.Common.{◌≡◌, ℕ, ◌/◌, ◌^◌, nat_le, nat_lt, length, Bool, true, false, List, [], ◌∷◌, ◌++◌, Option, None, Some, Result, Ok, refl, sym, ◌∙◌, ap, subst}
+use Rattle.std.proofs.Common.{◌≡◌, ◌⊎◌, inl, inr, ℕ, ◌+◌, ◌/◌, ◌^◌, nat_le, nat_lt, length, not, Bool, true, false, List, [], ◌∷◌, ◌++◌, Option, None, Some, Result, Ok, Err, refl, sym, ◌∙◌, ap, ap₂, subst}
 use Rattle.std.proofs.lemmas.List.{append_assoc, append-nil}
 use Rattle.cap_octet.specs.Checks.{first_failing}
 use Rattle.cap_octet.specs.Packet.{Captured}
 use Rattle.cap_octet.specs.declared.fault.Fault.{Fault}
-use Rattle.cap_octet.specs.declared.fault.Fault.TheVariants.{WriteFailed, LinkTypesDiffer, TooLong, TimeOutOfRange}
+use Rattle.cap_octet.specs.declared.fault.Fault.TheVariants.{WriteFailed, NoMemory, LinkTypesDiffer, TooLong, TimeOutOfRange, TooManyOutputInterfaces}
 use Rattle.cap_octet.specs.declared.format.Format.{Format}
-use Rattle.cap_octet.specs.declared.format.Format.TheVariants.{Pcap}
+use Rattle.cap_octet.specs.declared.format.Format.TheVariants.{Pcap, NsecPcap, Pcapng}
 use Rattle.cap_pcap.specs.Record.{most_captured}
-use Rattle.cap_pcap.specs.Written.{heading}
+use Rattle.cap_pcapng.specs.Frame.{most_block}
+use Rattle.cap_pcapng.specs.Padding.{padded}
+use Rattle.cap_pcapng.specs.Written as pcapng
 use Rattle.cap_io.specs.declared.sink.SinkState.{SinkState}
-use Rattle.cap_io.specs.Text.{packet_text, packets_text, text, added, has_first_link, refused}
-use Rattle.cap_io.specs.Sink.{SinkView, sink_at, state_after, HasPut, HasPackets, PutsAfter, WritesPacket, Puts, PutWrites, IsAnswer, Finishes, FinishWrites, FinishesEmpty, link_or_ethernet}
+use Rattle.cap_io.specs.declared.sink.SinkState.TheVariants.{Empty, Started, Broken}
+use Rattle.cap_io.specs.Text.{Interface, interface_of, interfaces_of, number_among, descriptions, most_output_interfaces, heading, packet_text, packets_text, text, added, has_first_link, put_checks, refused}
+use Rattle.cap_io.specs.Sink.{SinkView, sink_at, state_after, kept_interfaces, HasPut, HasPackets, takes_memory, PutsAfter, WritesPacket, Puts, PutWrites, IsPutAnswer, Finishes, FinishWrites, FinishesEmpty, link_or_ethernet, Adds, checks_in, refusal_in, takes_memory_in, heading_in, packet_in, added_in, state_behind, interfaces_behind}
+use Rattle.cap_io.proofs.Interfaces.{interfaces_of-push, among-interfaces_of, new-interfaces_of}
+
+-- ---- faults that refuse no packet
+
+abbrev IsFailure : Fault → Type 0
+IsFailure fault = (fault ≡ WriteFailed) ⊎ (fault ≡ NoMemory)
+
+is-failure : (refusal fault : Fault) → IsFailure fault → refusal ≡ fault → (refusal ≡ WriteFailed → ⊥) → (refusal ≡ NoMemory → ⊥) → ⊥
+is-failure refusal fault is same written memory = elim is [ inl e ↦ written (same ∙ e) | inr e ↦ memory (same ∙ e) ]
 
 -- ---- texts of whole lists
 
@@ -35,22 +47,132 @@ text-more format (q ∷ qs) p xs =
 pub text-push : (format : Format) (ps : List Captured) (p : Captured) → text format (ps ++ p ∷ []) ≡ text format ps ++ added format ps p
 text-push format ps p = text-more format ps p [] ∙ ap (λ (t : List ℕ). text format ps ++ t) (append-nil (added format ps p))
 
--- no packet is refused for a failure of the device
-by_checks : (a b c : Bool) → first_failing ((a, LinkTypesDiffer) ∷ (b, TooLong) ∷ (c, TimeOutOfRange) ∷ []) ≡ Some WriteFailed → ⊥
-by_checks true true true e = (cc)
-by_checks true true false e = (cc)
-by_checks true false c e = (cc)
-by_checks false b c e = (cc)
+-- no packet is refused for a failure of the device or of memory
+record_by : (a b c : Bool) (fault : Fault) → IsFailure fault → first_failing ((a, LinkTypesDiffer) ∷ (b, TooLong) ∷ (c, TimeOutOfRange) ∷ []) ≡ Some fault → ⊥
+record_by true true true fault is e = (cc)
+record_by true true false fault is e = is-failure TimeOutOfRange fault is (cc) (λ f. (cc)) (λ f. (cc))
+record_by true false c fault is e = is-failure TooLong fault is (cc) (λ f. (cc)) (λ f. (cc))
+record_by false b c fault is e = is-failure LinkTypesDiffer fault is (cc) (λ f. (cc)) (λ f. (cc))
+
+block_by : (a b : Bool) (fault : Fault) → IsFailure fault → first_failing ((a, TooLong) ∷ (b, TooManyOutputInterfaces) ∷ []) ≡ Some fault → ⊥
+block_by true true fault is e = (cc)
+block_by true false fault is e = is-failure TooManyOutputInterfaces fault is (cc) (λ f. (cc)) (λ f. (cc))
+block_by false b fault is e = is-failure TooLong fault is (cc) (λ f. (cc)) (λ f. (cc))
+
+pub refused-failure : (format : Format) (ps : List Captured) (p : Captured) (fault : Fault) → IsFailure fault → refused format ps p ≡ Some fault → ⊥
+refused-failure Pcap ps p fault is e =
+    record_by (has_first_link ps p) (nat_le (length p.bytes) most_captured) (nat_lt (p.time / 1000000000) (2 ^ 32)) fault is e
+refused-failure NsecPcap ps p fault is e =
+    record_by (has_first_link ps p) (nat_le (length p.bytes) most_captured) (nat_lt (p.time / 1000000000) (2 ^ 32)) fault is e
+refused-failure Pcapng ps p fault is e =
+    block_by (nat_le (32 + padded (length p.bytes)) most_block) (nat_le (length (interfaces_of (ps ++ p ∷ []))) most_output_interfaces) fault is e
 
 pub refused-write_failed : (format : Format) (ps : List Captured) (p : Captured) → refused format ps p ≡ Some WriteFailed → ⊥
-refused-write_failed Pcap ps p e =
-    by_checks (has_first_link ps p) (nat_le (length p.bytes) most_captured) (nat_lt (p.time / 1000000000) (2 ^ 32)) e
+refused-write_failed format ps p e = refused-failure format ps p WriteFailed (inl refl) e
+
+pub refused-no_memory : (format : Format) (ps : List Captured) (p : Captured) → refused format ps p ≡ Some NoMemory → ⊥
+refused-no_memory format ps p e = refused-failure format ps p NoMemory (inr refl) e
 
 -- ---- a sink that these packets were put to
 
+kept-none : (format : Format) → [] ≡ kept_interfaces format []
+kept-none Pcap = refl
+kept-none NsecPcap = refl
+kept-none Pcapng = refl
+
 -- a new sink has none
 pub HasPackets-none : (format : Format) (written : List ℕ) (failures : ℕ) → HasPackets written (sink_at format written failures) []
-HasPackets-none format written failures = record { written = sym (append-nil written); put = record { state = refl } }
+HasPackets-none format written failures =
+    record { written = sym (append-nil written); put = record { state = refl; interfaces = kept-none format } }
+
+-- ---- by what a sink keeps
+
+state-after : (ps : List Captured) (p : Captured) → state_behind (state_after ps) p ≡ state_after (ps ++ p ∷ [])
+state-after [] p = refl
+state-after (q ∷ qs) p = refl
+
+interfaces-after : (format : Format) (ps : List Captured) (p : Captured) → interfaces_behind format (kept_interfaces format ps) p ≡ kept_interfaces format (ps ++ p ∷ [])
+interfaces-after Pcap ps p = refl
+interfaces-after NsecPcap ps p = refl
+interfaces-after Pcapng ps p =
+    ap (λ (l : List Interface). interfaces_of ps ++ l) (new-interfaces_of ps (interface_of p)) ∙ sym (interfaces_of-push ps p)
+
+takes-after : (format : Format) (ps : List Captured) (p : Captured) → takes_memory_in format (kept_interfaces format ps) p ≡ takes_memory format ps p
+takes-after Pcap ps p = refl
+takes-after NsecPcap ps p = refl
+takes-after Pcapng ps p = ap not (among-interfaces_of ps (interface_of p))
+
+checks-after : (format : Format) (ps : List Captured) (p : Captured) → checks_in format (state_after ps) (kept_interfaces format ps) p ≡ put_checks format ps p
+checks-after Pcap [] p = refl
+checks-after Pcap (q ∷ qs) p = refl
+checks-after NsecPcap [] p = refl
+checks-after NsecPcap (q ∷ qs) p = refl
+checks-after Pcapng ps p =
+    ap (λ (l : List Interface). pcapng.fit_checks p ++ (nat_le (length l) most_output_interfaces, TooManyOutputInterfaces) ∷ []) (interfaces-after Pcapng ps p)
+
+packet-after : (format : Format) (ps : List Captured) (p : Captured) → packet_in format (kept_interfaces format ps) p ≡ packet_text format ps p
+packet-after Pcap ps p = refl
+packet-after NsecPcap ps p = refl
+packet-after Pcapng ps p =
+    ap (λ (l : List Interface). descriptions l ++ pcapng.packet_text (number_among (interfaces_of ps) (interface_of p)) p) (new-interfaces_of ps (interface_of p))
+
+added-after : (format : Format) (ps : List Captured) (p : Captured) → heading_in format (state_after ps) p.link ++ packet_in format (kept_interfaces format ps) p ≡ added format ps p
+added-after format [] p = ap (λ (l : List ℕ). heading format p.link ++ l) (packet-after format [] p)
+added-after format (q ∷ qs) p = packet-after format (q ∷ qs) p
+
+pub refusal-put : (sink : SinkView) (ps : List Captured) (p : Captured) → HasPut sink ps → refusal_in sink p ≡ refused sink.format ps p
+refusal-put sink ps p has =
+    ap₂ (λ (s : SinkState) (l : List Interface). first_failing (checks_in sink.format s l p)) has.state has.interfaces
+    ∙ ap first_failing (checks-after sink.format ps p)
+
+pub added-put : (sink : SinkView) (ps : List Captured) (p : Captured) → HasPut sink ps → added_in sink p ≡ added sink.format ps p
+added-put sink ps p has =
+    ap₂ (λ (s : SinkState) (l : List Interface). heading_in sink.format s p.link ++ packet_in sink.format l p) has.state has.interfaces
+    ∙ added-after sink.format ps p
+
+takes-put : (sink : SinkView) (ps : List Captured) (p : Captured) → HasPut sink ps → takes_memory_in sink.format sink.interfaces p ≡ takes_memory sink.format ps p
+takes-put sink ps p has = ap (λ (l : List Interface). takes_memory_in sink.format l p) has.interfaces ∙ takes-after sink.format ps p
+
+-- a packet is added
+pub puts-ok : (ps : List Captured) (old : SinkView) (p : Captured) (new : SinkView) → HasPut old ps → Adds old p (Ok tt) new → PutsAfter ps old p (Ok tt) new
+puts-ok ps old p new has adds = record {
+  answer = rw (← refusal-put old ps p has, ← takes-put old ps p has) adds.answer;
+  state = adds.state ∙ ap (λ (s : SinkState). state_behind s p) has.state ∙ state-after ps p;
+  interfaces = adds.interfaces ∙ ap (λ (l : List Interface). interfaces_behind old.format l p) has.interfaces ∙ interfaces-after old.format ps p;
+  format = adds.format;
+  failures = adds.failures;
+}
+
+-- it isn't
+pub puts-err : (ps : List Captured) (old : SinkView) (p : Captured) (fault : Fault) (mid new : SinkView) → HasPut old ps → Adds old p (Err fault) mid
+    → new ≡ record { format = mid.format; state = Broken fault; interfaces = mid.interfaces; written = mid.written; failures = mid.failures }
+    → PutsAfter ps old p (Err fault) new
+puts-err ps old p fault mid new has adds is = record {
+  answer = rw (← refusal-put old ps p has, ← takes-put old ps p has) adds.answer;
+  state = ap (λ (s : SinkView). s.state) is;
+  interfaces = tt;
+  format = ap (λ (s : SinkView). s.format) is ∙ adds.format;
+  failures = ap (λ (s : SinkView). s.failures) is ∙ adds.failures;
+}
+
+-- what is written of it
+pub writes-put : (ps : List Captured) (old : SinkView) (p : Captured) (r : Result (Unit {0}) Fault) (written' : List ℕ) → HasPut old ps
+    → WritesPacket (refusal_in old p) (added_in old p) old.written r written' → WritesPacket (refused old.format ps p) (added old.format ps p) old.written r written'
+writes-put ps old p r written' has writes = rw (← refusal-put old ps p has, ← added-put old ps p has) writes
+
+-- ---- a put by the state before it
+
+pub puts-tell : (state : SinkState) (old : SinkView) (p : Captured) (r : Result (Unit {0}) Fault) (new : SinkView) → ((fault : Fault) → state ≡ Broken fault → ⊥)
+    → ((ps : List Captured) → HasPut old ps → PutsAfter ps old p r new) → Puts state old p r new
+puts-tell Empty old p r new sound puts = puts
+puts-tell (Started link) old p r new sound puts = puts
+puts-tell (Broken fault) old p r new sound puts = absurd (sound fault refl)
+
+pub put-writes-tell : (state : SinkState) (old : SinkView) (p : Captured) (r : Result (Unit {0}) Fault) (new : SinkView) → ((fault : Fault) → state ≡ Broken fault → ⊥)
+    → WritesPacket (refusal_in old p) (added_in old p) old.written r new.written → PutWrites state old p r new
+put-writes-tell Empty old p r new sound writes = λ ps has. writes-put ps old p r new.written has writes
+put-writes-tell (Started link) old p r new sound writes = λ ps has. writes-put ps old p r new.written has writes
+put-writes-tell (Broken fault) old p r new sound writes = absurd (sound fault refl)
 
 answers-after : (ps : List Captured) (old : SinkView) (p : Captured) (r : Result (Unit {0}) Fault) (new : SinkView) → HasPut old ps → Puts (state_after ps) old p r new → PutsAfter ps old p r new
 answers-after [] old p r new has puts = puts [] has
@@ -72,12 +194,12 @@ put-writes before ps old p r new has writes =
     writes-after ps old p r new has.put (let P : SinkState → Type 0 = λ st. PutWrites st old p r new in subst P has.put.state writes)
 
 -- a packet that is put isn't refused
-taken-answer : (refusal : Option Fault) → IsAnswer refusal (Ok tt) → refusal ≡ None
-taken-answer None answer = refl
-taken-answer (Some fault) answer = absurd answer
+taken-answer : (refusal : Option Fault) (takes : Bool) → IsPutAnswer refusal takes (Ok tt) → refusal ≡ None
+taken-answer None takes answer = refl
+taken-answer (Some fault) takes answer = absurd answer
 
 pub put-taken : (ps : List Captured) (old : SinkView) (p : Captured) (new : SinkView) → PutsAfter ps old p (Ok tt) new → refused old.format ps p ≡ None
-put-taken ps old p new puts = taken-answer (refused old.format ps p) puts.answer
+put-taken ps old p new puts = taken-answer (refused old.format ps p) (takes_memory old.format ps p) puts.answer
 
 written-ok : (refusal : Option Fault) (bytes written written' : List ℕ) → WritesPacket refusal bytes written (Ok tt) written' → written' ≡ written ++ bytes
 written-ok refusal bytes written written' writes = writes
@@ -94,7 +216,10 @@ HasPackets-put before ps old p new has puts writes =
           bytes
           ∙ rw (has.written, after.format)
           (append_assoc before (text old.format ps) (added old.format ps p) ∙ ap (λ (t : List ℕ). before ++ t) (sym (text-push old.format ps p)));
-      put = record { state = after.state };
+      put = record {
+        state = after.state;
+        interfaces = after.interfaces ∙ ap (λ (f : Format). kept_interfaces f (ps ++ p ∷ [])) (sym after.format);
+      };
     }
 
 -- ---- its end

@@ -3,6 +3,8 @@ pub mod Reading
 pub mod Blocks
 pub mod Source
 pub mod Text
+pub mod Numbering
 pub mod Sink
+pub mod Carried
 pub mod Standing
 pub mod Laws

@@ -1,27 +1,34 @@
 -- What a contract sees of a sink, and what its calls do.
-use Rattle.std.specs.Prelude.{◌≡◌, ◌==◌, ℕ, Bool, true, ◌+◌, List, [], ◌∷◌, ◌++◌, Option, None, Some, Result, Ok, Err, unwrap_or}
+use Rattle.std.specs.Prelude.{◌≡◌, ◌⊎◌, ◌==◌, ℕ, Bool, true, false, not, ◌+◌, List, [], ◌∷◌, ◌++◌, length, map, nat_le, Option, None, Some, Result, Ok, Err, OnOk, unwrap_or}
 use Rattle.cap_octet.specs.Device.{Stops}
 use Rattle.cap_octet.specs.Packet.{Captured}
 use Rattle.cap_octet.specs.declared.fault.Fault.{Fault}
-use Rattle.cap_octet.specs.declared.fault.Fault.TheVariants.{LinkTypesDiffer, WriteFailed}
+use Rattle.cap_octet.specs.declared.fault.Fault.TheVariants.{LinkTypesDiffer, NoMemory, TooManyOutputInterfaces, WriteFailed}
 use Rattle.cap_octet.specs.declared.format.Format.{Format}
-use Rattle.cap_octet.specs.declared.format.Format.TheVariants.{Pcap}
+use Rattle.cap_octet.specs.declared.format.Format.TheVariants.{Pcap, NsecPcap, Pcapng}
 use Rattle.cap_octet.specs.Checks.{first_failing}
-use Rattle.cap_pcap.specs.Written.{heading, record_heading, fit_checks}
+use Rattle.cap_pcap.specs.Written as pcap
+use Rattle.cap_pcap.specs.declared.head.Resolution.TheVariants.{Microseconds, Nanoseconds}
+use Rattle.cap_pcapng.specs.Written as pcapng
+use Rattle.cap_octet.specs.declared.device.DeviceFault.{DeviceFault}
+use Rattle.cap_io.specs.declared.numbering.Place.{Place}
 use Rattle.cap_io.specs.declared.sink.SinkState.{SinkState}
 use Rattle.cap_io.specs.declared.sink.SinkState.TheVariants.{Empty, Started, Broken}
-use Rattle.cap_io.specs.Text.{text, added, refused}
+use Rattle.cap_io.specs.Text.{Interface, interface_of, interfaces_of, is_among, new_among, number_among, most_output_interfaces, heading, record_text, descriptions, text, added, refused}
 
 pub record SinkView : Type 0 where
   pub format : Format
   pub state : SinkState
+  -- the interfaces of a pcapng file so far; pcap forms have none
+  pub interfaces : List Interface
   -- the bytes that the output took, and a count of its failures
   pub written : List ℕ
   pub failures : ℕ
 
 -- a sink to which nothing was put
 abbrev pub sink_at : Format → List ℕ → ℕ → SinkView
-sink_at format written failures = record { format = format; state = Empty; written = written; failures = failures }
+sink_at format written failures =
+    record { format = format; state = Empty; interfaces = []; written = written; failures = failures }
 
 -- ---- which packets were put
 
@@ -29,9 +36,16 @@ abbrev pub state_after : List Captured → SinkState
 state_after [] = Empty
 state_after (p ∷ ps) = Started p.link
 
+-- the interfaces that a sink keeps of packets
+abbrev pub kept_interfaces : Format → List Captured → List Interface
+kept_interfaces Pcap ps = []
+kept_interfaces NsecPcap ps = []
+kept_interfaces Pcapng ps = interfaces_of ps
+
 -- These packets were put, and no other.
 pub record HasPut (sink : SinkView) (packets : List Captured) : Type 0 where
   pub state : sink.state ≡ state_after packets
+  pub interfaces : sink.interfaces ≡ kept_interfaces sink.format packets
 
 -- Their text was written behind what the output held before.
 pub record HasPackets (before : List ℕ) (sink : SinkView) (packets : List Captured) : Type 0 where
@@ -46,12 +60,18 @@ write_failures (Err fault) = 0
 
 -- ---- put
 
--- A packet that isn't refused is added, or the device failed.
-abbrev pub IsAnswer : Option Fault → Result (Unit {0}) Fault → Type 0
-IsAnswer None (Ok done) = Unit {0}
-IsAnswer None (Err fault) = fault ≡ WriteFailed
-IsAnswer (Some refusal) (Ok done) = ⊥
-IsAnswer (Some refusal) (Err fault) = fault ≡ refusal
+-- whether a packet takes memory: in pcapng, where its interface is new
+abbrev pub takes_memory : Format → List Captured → Captured → Bool
+takes_memory Pcap packets p = false
+takes_memory NsecPcap packets p = false
+takes_memory Pcapng packets p = not (is_among (map interface_of packets) (interface_of p))
+
+-- A packet that isn't refused is added; or there was no memory, where it takes some; or the device failed.
+abbrev pub IsPutAnswer : Option Fault → Bool → Result (Unit {0}) Fault → Type 0
+IsPutAnswer None takes (Ok done) = Unit {0}
+IsPutAnswer None takes (Err fault) = (fault ≡ WriteFailed) ⊎ ((fault ≡ NoMemory) × (takes ≡ true))
+IsPutAnswer (Some refusal) takes (Ok done) = ⊥
+IsPutAnswer (Some refusal) takes (Err fault) = fault ≡ refusal
 
 abbrev pub state_put : List Captured → Captured → Result (Unit {0}) Fault → SinkState
 state_put packets p (Ok done) = state_after (packets ++ p ∷ [])
@@ -59,17 +79,23 @@ state_put packets p (Err fault) = Broken fault
 
 -- what a put does to a sink that these packets were put to, whatever the device
 pub record PutsAfter (packets : List Captured) (old : SinkView) (p : Captured) (r : Result (Unit {0}) Fault) (new : SinkView) : Type 0 where
-  pub answer : IsAnswer (refused old.format packets p) r
+  pub answer : IsPutAnswer (refused old.format packets p) (takes_memory old.format packets p) r
   pub state : new.state ≡ state_put packets p r
+  pub interfaces : OnOk r (new.interfaces ≡ kept_interfaces old.format (packets ++ p ∷ []))
   pub format : new.format ≡ old.format
   pub failures : new.failures ≡ old.failures + write_failures r
 
+-- what is written where a call ends by a fault: nothing where there was no memory, else a beginning, not the whole
+abbrev pub BreaksOff : Fault → List ℕ → List ℕ → List ℕ → Type 0
+BreaksOff NoMemory bytes written written' = written' ≡ written
+BreaksOff fault bytes written written' = Stops written bytes written'
+
 -- what it writes: all that the packet adds to the text; nothing of a packet that is refused; else a beginning of
--- what it adds, not the whole
+-- what it adds, not the whole, or nothing
 abbrev pub WritesPacket : Option Fault → List ℕ → List ℕ → Result (Unit {0}) Fault → List ℕ → Type 0
 WritesPacket refusal bytes written (Ok done) written' = written' ≡ written ++ bytes
 WritesPacket (Some refusal) bytes written (Err fault) written' = written' ≡ written
-WritesPacket None bytes written (Err fault) written' = Stops written bytes written'
+WritesPacket None bytes written (Err fault) written' = BreaksOff fault bytes written written'
 
 -- a sink that failed answers that again, and stays
 abbrev pub Puts : SinkState → SinkView → Captured → Result (Unit {0}) Fault → SinkView → Type 0
@@ -84,13 +110,18 @@ PutWrites (Broken fault) old p r new = new ≡ old
 
 -- ---- finish
 
+-- The heading is written, or the device failed.
+abbrev pub IsFinishAnswer : Result (Unit {0}) Fault → Type 0
+IsFinishAnswer (Ok done) = Unit {0}
+IsFinishAnswer (Err fault) = fault ≡ WriteFailed
+
 abbrev pub state_finished : ℕ → Result (Unit {0}) Fault → SinkState
 state_finished link (Ok done) = Started link
 state_finished link (Err fault) = Broken fault
 
 -- what a finish does to a sink to which nothing was put, whatever the device
 pub record FinishesEmpty (old : SinkView) (link : ℕ) (r : Result (Unit {0}) Fault) (new : SinkView) : Type 0 where
-  pub answer : IsAnswer None r
+  pub answer : IsFinishAnswer r
   pub state : new.state ≡ state_finished link r
   pub format : new.format ≡ old.format
   pub failures : new.failures ≡ old.failures + write_failures r
@@ -110,23 +141,78 @@ FinishWrites Empty old first r new = WritesPacket None (heading old.format (link
 FinishWrites (Started link) old first r new = new ≡ old
 FinishWrites (Broken fault) old first r new = new ≡ old
 
--- ---- by the state alone
+-- ---- by what a sink keeps, whatever packets were put
 
 abbrev pub has_link : SinkState → Captured → Bool
 has_link Empty p = true
 has_link (Started link) p = link == p.link
 has_link (Broken fault) p = true
 
-abbrev pub refusal_in : Format → SinkState → Captured → Option Fault
-refusal_in Pcap state p = first_failing ((has_link state p, LinkTypesDiffer) ∷ fit_checks Pcap p)
+abbrev pub record_checks : SinkState → Captured → List (Bool × Fault)
+record_checks state p = (has_link state p, LinkTypesDiffer) ∷ pcap.fit_checks p
 
-abbrev pub added_in : Format → SinkState → Captured → List ℕ
-added_in format Empty p = heading format p.link ++ record_heading format p ++ p.bytes
-added_in format (Started link) p = record_heading format p ++ p.bytes
-added_in format (Broken fault) p = record_heading format p ++ p.bytes
+abbrev pub block_checks : List Interface → Captured → List (Bool × Fault)
+block_checks interfaces p =
+    pcapng.fit_checks p
+    ++ (nat_le (length (interfaces ++ new_among interfaces (interface_of p))) most_output_interfaces, TooManyOutputInterfaces)
+    ∷ []
 
--- the state behind a packet
+abbrev pub checks_in : Format → SinkState → List Interface → Captured → List (Bool × Fault)
+checks_in Pcap state interfaces p = record_checks state p
+checks_in NsecPcap state interfaces p = record_checks state p
+checks_in Pcapng state interfaces p = block_checks interfaces p
+
+abbrev pub refusal_in : SinkView → Captured → Option Fault
+refusal_in sink p = first_failing (checks_in sink.format sink.state sink.interfaces p)
+
+abbrev pub takes_memory_in : Format → List Interface → Captured → Bool
+takes_memory_in Pcap interfaces p = false
+takes_memory_in NsecPcap interfaces p = false
+takes_memory_in Pcapng interfaces p = not (is_among interfaces (interface_of p))
+
+-- the heading is written in front of the first packet
+abbrev pub heading_in : Format → SinkState → ℕ → List ℕ
+heading_in format Empty link = heading format link
+heading_in format (Started first) link = []
+heading_in format (Broken fault) link = []
+
+abbrev pub packet_in : Format → List Interface → Captured → List ℕ
+packet_in Pcap interfaces p = record_text Microseconds p
+packet_in NsecPcap interfaces p = record_text Nanoseconds p
+packet_in Pcapng interfaces p =
+    descriptions (new_among interfaces (interface_of p)) ++ pcapng.packet_text (number_among interfaces (interface_of p)) p
+
+abbrev pub added_in : SinkView → Captured → List ℕ
+added_in sink p = heading_in sink.format sink.state p.link ++ packet_in sink.format sink.interfaces p
+
+-- a packet of pcapng by the place of its interface
+abbrev pub description_text : Bool → Captured → List ℕ
+description_text true p = pcapng.interface_text p.link p.snap p.name
+description_text false p = []
+
+abbrev pub block_text : Place → Captured → List ℕ
+block_text place p = description_text place.is_new p ++ pcapng.packet_text place.number p
+
+-- what a sink answers where its device was called
+abbrev pub answer_of : Result (Unit {0}) DeviceFault → Result (Unit {0}) Fault
+answer_of (Ok done) = Ok tt
+answer_of (Err fault) = Err WriteFailed
+
+-- the state and the interfaces behind a packet
 abbrev pub state_behind : SinkState → Captured → SinkState
 state_behind Empty p = Started p.link
 state_behind (Started link) p = Started link
 state_behind (Broken fault) p = Broken fault
+
+abbrev pub interfaces_behind : Format → List Interface → Captured → List Interface
+interfaces_behind Pcap interfaces p = interfaces
+interfaces_behind NsecPcap interfaces p = interfaces
+interfaces_behind Pcapng interfaces p = interfaces ++ new_among interfaces (interface_of p)
+
+-- what adding a packet does to a sink that did not fail, whatever the device
+pub record Adds (old : SinkView) (p : Captured) (r : Result (Unit {0}) Fault) (new : SinkView) : Type 0 where
+  pub answer : IsPutAnswer (refusal_in old p) (takes_memory_in old.format old.interfaces p) r
+  pub state : OnOk r (new.state ≡ state_behind old.state p)
+  pub interfaces : OnOk r (new.interfaces ≡ interfaces_behind old.format old.interfaces p)
+  pub format : new.format ≡ old.format
+  pub failures : new.failures ≡ old.failures + write_failures r

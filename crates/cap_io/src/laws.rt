@@ -1,9 +1,18 @@
 //! Laws of the definitions: each is the contract of a function that does nothing.
 ghost use Rattle.cap_io.specs.Laws.{EachHasCut, EachHasOneCut, CutTellsItems};
+ghost use Rattle.cap_io.specs.Carried.{Back};
+
+use cap_octet::Format;
 
 /// Each text is cut into units in one way, and the cut tells its items.
 pub fn one_cut()
     ensures some { EachHasCut }
     ensures one { EachHasOneCut }
     ensures items { CutTellsItems }
+{}
+
+/// What is written of packets that a format carries reads back as they are.
+pub fn items_back()
+    ensures pcap { Back Format.Pcap }
+    ensures nanoseconds { Back Format.NsecPcap }
 {}

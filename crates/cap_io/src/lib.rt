@@ -4,10 +4,12 @@
 mod blocks;
 mod capture;
 pub mod laws;
+mod numbering;
 mod reading;
 pub mod sink;
 pub mod source;
 mod unit;
+mod writing;
 
 pub use sink::{Sink, SinkState};
 pub use source::{Kind, Source};

@@ -1,8 +1,12 @@
 //! The formats that captures are written in.
 
-/// A savefile format.
+/// A savefile format. All of them are written little-endian.
 #[derive(Clone, Copy, Debug, PartialEq, Eq)]
 pub enum Format {
-    /// Little-endian pcap with microseconds (draft-ietf-opsawg-pcap).
+    /// pcap with microseconds (draft-ietf-opsawg-pcap).
     Pcap,
+    /// pcap with nanoseconds.
+    NsecPcap,
+    /// pcapng with nanoseconds (draft-ietf-opsawg-pcapng).
+    Pcapng,
 }

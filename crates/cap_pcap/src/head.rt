@@ -1,7 +1,7 @@
 //! What the heads of a savefile and of its records say.
 ghost use Rattle.std.specs.Prelude.{◌≡◌, ◌≤◌, ◌<◌, ◌^◌, length, IfOk};
 ghost use Rattle.cap_octet.specs.Checks.{checked, first_failing};
-ghost use Rattle.cap_pcap.specs.Header.{form_in, head_fault, head_in};
+ghost use Rattle.cap_pcap.specs.Header.{form_in, head_fault, head_in, magic};
 ghost use Rattle.cap_pcap.specs.Record.{field_checks, most_captured, nanoseconds_of_part, parts_of_second, record_head_in};
 
 use cap_octet::{Fault, Order, u16_at, u32_at};
@@ -49,6 +49,16 @@ pub struct RecordHead {
 }
 
 impl Resolution {
+    /// The magic number of a savefile of this resolution.
+    pub(crate) fn magic(self) -> u32
+        ensures { result ≡ magic self }
+    {
+        match self {
+            Resolution::Microseconds => MICROSECOND_MAGIC,
+            Resolution::Nanoseconds => NANOSECOND_MAGIC,
+        }
+    }
+
     /// How many parts make a second.
     fn parts(self) -> u32
         ensures { result ≡ parts_of_second self }
@@ -60,7 +70,7 @@ impl Resolution {
     }
 
     /// How many nanoseconds a part is.
-    fn nanoseconds(self) -> u64
+    pub(crate) fn nanoseconds(self) -> u64
         ensures { result ≡ nanoseconds_of_part self }
     {
         match self {

@@ -64,4 +64,11 @@ fn heads_are_written(rt: HostRuntime) {
     assert_eq!(rt; head_bytes(Format::Pcap, 1), HEADER);
     let record = [1, 0, 0, 0, 0x3f, 0x42, 0x0f, 0, 1, 0, 0, 0, 9, 0, 0, 0];
     assert_eq!(rt; record_bytes(Format::Pcap, &packet), record);
+    let mut header = HEADER;
+    header[0] = 0x4d;
+    header[1] = 0x3c;
+    header[2] = 0xb2;
+    assert_eq!(rt; head_bytes(Format::NsecPcap, 1), header);
+    let record = [1, 0, 0, 0, 0xff, 0xc9, 0x9a, 0x3b, 1, 0, 0, 0, 9, 0, 0, 0];
+    assert_eq!(rt; record_bytes(Format::NsecPcap, &packet), record);
 }

@@ -2,12 +2,12 @@
 ghost use Rattle.std.specs.Prelude.{◌≡◌, None};
 ghost use Rattle.cap_octet.specs.Checks.{checked, first_failing};
 ghost use Rattle.cap_octet.specs.Packet.{captured};
-ghost use Rattle.cap_pcap.specs.Written.{heading, record_heading, fit_checks};
+ghost use Rattle.cap_pcap.specs.Header.{magic};
+ghost use Rattle.cap_pcap.specs.Written.{IsPcap, heading, record_heading, resolution_of, fit_checks};
 
+use crate::head::Resolution;
 use byteorder::{ByteOrder, LittleEndian};
 use cap_octet::{Fault, Format, Packet};
-
-const MAGIC: u32 = 0xa1b2_c3d4;
 
 /// The snap length that is written, and the greatest number of captured bytes in a record.
 const MOST_CAPTURED: usize = 262_144;
@@ -15,15 +15,24 @@ const MOST_CAPTURED: usize = 262_144;
 /// Nanoseconds in a second.
 const SECOND: u64 = 1_000_000_000;
 
-/// Nanoseconds in a microsecond.
-const MICROSECOND: u64 = 1_000;
-
-/// Whether a format holds a packet, or the first check that it fails: more than 262,144 captured bytes, 2^32
-/// seconds or more.
-pub fn fits(format: Format, packet: &Packet<'_>) -> Result<(), Fault>
-    ensures { result ≡ checked (first_failing (fit_checks format (captured packet.now))) tt }
+/// The resolution that a pcap form writes.
+fn written_resolution(format: Format) -> Resolution
+    requires { IsPcap format }
+    ensures { result ≡ resolution_of format }
 {
-    let Format::Pcap = format;
+    match format {
+        Format::Pcap => Resolution::Microseconds,
+        Format::NsecPcap => Resolution::Nanoseconds,
+        Format::Pcapng => unreachable!(),
+    }
+}
+
+/// Whether a pcap form holds a packet, or the first check that it fails: more than 262,144 captured bytes, 2^32
+/// seconds or more. Its caller owes a format other than pcapng; both pcap forms hold the same packets.
+pub fn fits(_format: Format, packet: &Packet<'_>) -> Result<(), Fault>
+    requires { IsPcap _format }
+    ensures { result ≡ checked (first_failing (fit_checks (captured packet.now))) tt }
+{
     if packet.bytes.len() > MOST_CAPTURED {
         return Err(Fault::TooLong);
     }
@@ -33,13 +42,13 @@ pub fn fits(format: Format, packet: &Packet<'_>) -> Result<(), Fault>
     Ok(())
 }
 
-/// The file header of a format, with the link type of the packets.
+/// The file header of a pcap form, with the link type of the packets. Its caller owes a format other than pcapng.
 pub fn head_bytes(format: Format, link: u16) -> [u8; 24]
-    ensures { result ≡ heading format link }
+    requires { IsPcap format }
+    ensures { result ≡ heading (resolution_of format) link }
 {
-    let Format::Pcap = format;
     let mut bytes = [0; 24];
-    LittleEndian::write_u32(&mut bytes, MAGIC);
+    LittleEndian::write_u32(&mut bytes, written_resolution(format).magic());
     LittleEndian::write_u16(&mut bytes[4..], 2);
     LittleEndian::write_u16(&mut bytes[6..], 4);
     LittleEndian::write_u32(&mut bytes[16..], MOST_CAPTURED as u32);
@@ -47,15 +56,17 @@ pub fn head_bytes(format: Format, link: u16) -> [u8; 24]
     bytes
 }
 
-/// What stands in front of a packet's data. Its caller knows by `fits` that the format holds the packet.
+/// What stands in front of a packet's data. Its caller owes a format other than pcapng, and knows by `fits` that the
+/// format holds the packet.
 pub fn record_bytes(format: Format, packet: &Packet<'_>) -> [u8; 16]
-    requires { first_failing (fit_checks format (captured packet.now)) ≡ None }
-    ensures { result ≡ record_heading format (captured packet.now) }
+    requires form { IsPcap format }
+    requires fits { first_failing (fit_checks (captured packet.now)) ≡ None }
+    ensures { result ≡ record_heading (resolution_of format) (captured packet.now) }
 {
-    let Format::Pcap = format;
+    let part = packet.time % SECOND / written_resolution(format).nanoseconds();
     let mut bytes = [0; 16];
     LittleEndian::write_u32(&mut bytes, (packet.time / SECOND) as u32);
-    LittleEndian::write_u32(&mut bytes[4..], (packet.time % SECOND / MICROSECOND) as u32);
+    LittleEndian::write_u32(&mut bytes[4..], part as u32);
     LittleEndian::write_u32(&mut bytes[8..], packet.bytes.len() as u32);
     LittleEndian::write_u32(&mut bytes[12..], packet.orig);
     bytes

@@ -1,0 +1,170 @@
+-- What is written in a pcap form reads back.
+use Rattle.std.proofs.Common.{◌≡◌, ℕ, ◌+◌, ◌*◌, ◌/◌, ◌%◌, ◌^◌, ◌<◌, ◌≤◌, Bool, true, List, [], ◌∷◌, ◌++◌, length, drop, nat_le, nat_lt, None, Some, refl, sym, ap, ◌∙◌, arith, length-append, le-leb, leb-true, lt-ltb}
+use Rattle.std.specs.List.{AllByRecursion, flat_map}
+use Rattle.std.proofs.lemmas.Bool.{eqb-true, ltb-true}
+use Rattle.cap_octet.specs.Checks.{first_failing}
+use Rattle.cap_octet.specs.Number.{number_in, u32_in}
+use Rattle.cap_octet.specs.Packet.{Captured}
+use Rattle.cap_octet.specs.declared.fault.Fault.{Fault}
+use Rattle.cap_octet.specs.declared.fault.Fault.TheVariants.{LinkTypesDiffer}
+use Rattle.cap_octet.specs.declared.format.Format.TheVariants.{Pcap, NsecPcap}
+use Rattle.cap_octet.specs.declared.number.Order.TheVariants.{Little}
+use Rattle.cap_octet.proofs.Checks.{all_met, none_failing}
+use Rattle.cap_pcap.specs.Header.{IsHeader, head_checks, head_fault, head_in}
+use Rattle.cap_pcap.specs.Record.{IsRecord, captured_len, field_checks, most_captured, nanoseconds_of_part, packet_in, parts_of_second, record_size}
+use Rattle.cap_pcap.specs.Written as pcap
+use Rattle.cap_pcap.specs.declared.head.Head.{Head}
+use Rattle.cap_pcap.specs.declared.head.Resolution.{Resolution}
+use Rattle.cap_pcap.specs.declared.head.Resolution.TheVariants.{Microseconds, Nanoseconds}
+use Rattle.cap_pcap.proofs.Records.{record_fault-whole}
+use Rattle.cap_pcapng.proofs.Numerals.{number_at}
+use Rattle.cap_io.specs.Capture.{Nothing, PcapFile, a_pcap_header, a_pcap_record}
+use Rattle.cap_io.specs.Carried.{Back, Carries, InRange, IsCarried, IsNameless, ReadsBack}
+use Rattle.cap_io.specs.Text.{has_first_link, packets_text, record_text, text}
+use Rattle.cap_io.proofs.Backs.{Holds, each-behind, holds-none, holds-unit, reads-back}
+
+-- ---- a record
+
+written_head : Resolution → ℕ → Head
+written_head resolution link = record { order = Little; resolution = resolution; snap = most_captured; link = link }
+
+-- whole parts of a second
+abbrev IsWhole : Resolution → ℕ → Type 0
+IsWhole Microseconds time = time % 1000 ≡ 0
+IsWhole Nanoseconds time = Unit {0}
+
+part-fits : (r : Resolution) (time : ℕ) → time % 1000000000 / nanoseconds_of_part r < parts_of_second r
+part-fits Microseconds time = omega arith
+part-fits Nanoseconds time = omega arith
+
+part-small : (r : Resolution) (time : ℕ) → time % 1000000000 / nanoseconds_of_part r < 256 ^ 4
+part-small Microseconds time = omega arith
+part-small Nanoseconds time = omega arith
+
+time-back : (r : Resolution) (time : ℕ) → IsWhole r time → time / 1000000000 * 1000000000 + time % 1000000000 / nanoseconds_of_part r * nanoseconds_of_part r ≡ time
+time-back Microseconds time whole = omega arith
+time-back Nanoseconds time whole = omega arith
+
+-- a packet that a form keeps
+record IsKept (r : Resolution) (link : ℕ) (p : Captured) : Type 0 where
+  link_is : p.link ≡ link
+  nameless : IsNameless p
+  whole : IsWhole r p.time
+  orig : p.orig < 2 ^ 32
+  few : length p.bytes ≤ most_captured
+  seconds : p.time / 1000000000 < 2 ^ 32
+
+record ReadsRecord (r : Resolution) (link : ℕ) (p : Captured) : Type 0 where
+  is_record : IsRecord (written_head r link) (record_text r p)
+  packet : packet_in (written_head r link) (record_text r p) ≡ p
+
+record-back : (r : Resolution) (link : ℕ) (p : Captured) → IsKept r link p → ReadsRecord r link p
+unfolding written_head
+record-back r link p kept =
+    let bytes : List ℕ = record_text r p in
+    let head : Head = written_head r link in
+    let seconds_are : u32_in Little bytes 0 ≡ p.time / 1000000000 = number_at 4 bytes 0 (p.time / 1000000000) (drop 4 bytes) refl kept.seconds in
+    let part_is : u32_in Little bytes 4 ≡ p.time % 1000000000 / nanoseconds_of_part r = number_at 4 bytes 4 (p.time % 1000000000 / nanoseconds_of_part r) (drop 8 bytes) refl (part-small r p.time) in
+    let captured_is : u32_in Little bytes 8 ≡ length p.bytes = number_at 4 bytes 8 (length p.bytes) (drop 12 bytes) refl (omega (arith, kept.few)) in
+    let orig_is : u32_in Little bytes 12 ≡ p.orig = number_at 4 bytes 12 p.orig (drop 16 bytes) refl kept.orig in
+    let size : length bytes ≡ 16 + length p.bytes = omega arith in
+    let fields : first_failing (field_checks head bytes) ≡ None =
+    rw (captured_is, part_is, le-leb (length p.bytes) most_captured kept.few, lt-ltb (p.time % 1000000000 / nanoseconds_of_part r) (parts_of_second r) (part-fits r p.time)) refl in
+    let time_is : u32_in Little bytes 0 * 1000000000 + u32_in Little bytes 4 * nanoseconds_of_part r ≡ p.time =
+    ap (λ (n : ℕ). n * 1000000000 + u32_in Little bytes 4 * nanoseconds_of_part r) seconds_are
+    ∙ ap (λ (n : ℕ). p.time / 1000000000 * 1000000000 + n * nanoseconds_of_part r) part_is
+    ∙ time-back r p.time kept.whole in
+    record {
+      is_record = record {
+        passes = record_fault-whole head bytes (omega arith) fields (omega (arith, captured_is));
+        whole = omega (arith, captured_is);
+      };
+      packet = λ k. record { link = sym kept.link_is k; snap = sym kept.nameless.snap k; name = sym kept.nameless.name k; time = time_is k; orig = orig_is k; bytes = p.bytes };
+    }
+
+-- ---- the file header
+
+header-back : (r : Resolution) (link : ℕ) → link < 2 ^ 16 → IsHeader (pcap.heading r link) (written_head r link)
+unfolding written_head number_in
+header-back Microseconds link few =
+    let bytes : List ℕ = pcap.heading Microseconds link in
+    let link_is : u32_in Little bytes 20 ≡ link = number_at 4 bytes 20 link [] refl (omega arith) in
+    record {
+      passes = none_failing (head_checks bytes) (refl, (refl, (refl, (ap (λ (n : ℕ). nat_lt n 65536) link_is ∙ lt-ltb link 65536 few, tt))));
+      whole = refl;
+      says = λ k. record { order = Little; resolution = Microseconds; snap = most_captured; link = sym link_is k };
+    }
+header-back Nanoseconds link few =
+    let bytes : List ℕ = pcap.heading Nanoseconds link in
+    let link_is : u32_in Little bytes 20 ≡ link = number_at 4 bytes 20 link [] refl (omega arith) in
+    record {
+      passes = none_failing (head_checks bytes) (refl, (refl, (refl, (ap (λ (n : ℕ). nat_lt n 65536) link_is ∙ lt-ltb link 65536 few, tt))));
+      whole = refl;
+      says = λ k. record { order = Little; resolution = Nanoseconds; snap = most_captured; link = sym link_is k };
+    }
+
+-- ---- records
+
+records-hold : (r : Resolution) (link at : ℕ) (ps : List Captured) → AllByRecursion (IsKept r link) ps → Holds (PcapFile (written_head r link)) at (flat_map (record_text r) ps) ps
+records-hold r link at [] kept = holds-none (PcapFile (written_head r link)) at refl
+records-hold r link at (p ∷ ps) kept =
+    let back = record-back r link p kept.0 in
+    let unit = a_pcap_record (written_head r link) (record_text r p) back.is_record in
+    let all : Holds (PcapFile (written_head r link)) at (record_text r p ++ flat_map (record_text r) ps) (packet_in (written_head r link) (record_text r p) ∷ ps) =
+    holds-unit unit at (flat_map (record_text r) ps) ps (records-hold r link (at + length (record_text r p)) ps kept.1) in
+    rw back.packet at all
+
+text-pcap : (earlier ps : List Captured) → packets_text Pcap earlier ps ≡ flat_map (record_text Microseconds) ps
+text-pcap earlier [] = refl
+text-pcap earlier (p ∷ ps) = ap (λ (l : List ℕ). record_text Microseconds p ++ l) (text-pcap (earlier ++ p ∷ []) ps)
+
+text-nanoseconds : (earlier ps : List Captured) → packets_text NsecPcap earlier ps ≡ flat_map (record_text Nanoseconds) ps
+text-nanoseconds earlier [] = refl
+text-nanoseconds earlier (p ∷ ps) = ap (λ (l : List ℕ). record_text Nanoseconds p ++ l) (text-nanoseconds (earlier ++ p ∷ []) ps)
+
+file-back : (r : Resolution) (link : ℕ) (ps : List Captured) → link < 2 ^ 16 → AllByRecursion (IsKept r link) ps → ReadsBack (pcap.heading r link ++ flat_map (record_text r) ps) ps
+file-back r link ps few kept =
+    let unit = a_pcap_header (pcap.heading r link) (written_head r link) (header-back r link few) in
+    reads-back (pcap.heading r link ++ flat_map (record_text r) ps) ps
+    (holds-unit unit 0 (flat_map (record_text r) ps) ps (records-hold r link (0 + length (pcap.heading r link)) ps kept))
+
+-- ---- what a form carries is kept
+
+abbrev link_check : List Captured → Captured → List (Bool × Fault)
+link_check earlier p = (has_first_link earlier p, LinkTypesDiffer) ∷ []
+
+abbrev form_checks : List Captured → Captured → List (Bool × Fault)
+form_checks earlier p = (has_first_link earlier p, LinkTypesDiffer) ∷ pcap.fit_checks p
+
+same-first : (first p : Captured) (rest earlier later : List Captured) → first ∷ rest ≡ earlier ++ p ∷ later → first_failing (link_check earlier p) ≡ None → p.link ≡ first.link
+same-first first p rest [] later is none = let e : first ≡ p = cc in ap (λ (q : Captured). q.link) (sym e)
+same-first first p rest (q ∷ qs) later is none =
+    let e : first ≡ q = cc in
+    sym (eqb-true q.link p.link (all_met (link_check (q ∷ qs) p) none).0) ∙ ap (λ (x : Captured). x.link) (sym e)
+
+kept-of : (r : Resolution) (first p : Captured) (rest earlier later : List Captured) → first ∷ rest ≡ earlier ++ p ∷ later → InRange p → IsNameless p → IsWhole r p.time
+    → first_failing (form_checks earlier p) ≡ None → IsKept r first.link p
+kept-of r first p rest earlier later is in_range nameless whole none =
+    let met = all_met (form_checks earlier p) none in
+    record {
+      link_is = same-first first p rest earlier later is (none_failing (link_check earlier p) (met.0, tt));
+      nameless = nameless;
+      whole = whole;
+      orig = in_range.orig;
+      few = leb-true (length p.bytes) most_captured met.1.0;
+      seconds = ltb-true (p.time / 1000000000) (2 ^ 32) met.1.1.0;
+    }
+
+pub pcap-back : Back Pcap
+pcap-back p ps carries =
+    let kept = each-behind (IsKept Microseconds p.link) (p ∷ ps)
+    (λ earlier q later is. let one = carries.each earlier q later is in kept-of Microseconds p q ps earlier later is one.in_range one.kept.0 one.kept.1 one.taken) [] (p ∷ ps) refl in
+    let one = carries.each [] p ps refl in
+    rw (← text-pcap [] (p ∷ ps)) at (file-back Microseconds p.link (p ∷ ps) one.in_range.link kept)
+
+pub nanoseconds-back : Back NsecPcap
+nanoseconds-back p ps carries =
+    let kept = each-behind (IsKept Nanoseconds p.link) (p ∷ ps)
+    (λ earlier q later is. let one = carries.each earlier q later is in kept-of Nanoseconds p q ps earlier later is one.in_range one.kept tt one.taken) [] (p ∷ ps) refl in
+    let one = carries.each [] p ps refl in
+    rw (← text-nanoseconds [] (p ∷ ps)) at (file-back Nanoseconds p.link (p ∷ ps) one.in_range.link kept)

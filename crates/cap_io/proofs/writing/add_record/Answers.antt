@@ -1,0 +1,18 @@
+use Rattle.cap_octet.specs.Packet.{captured}
+use Rattle.cap_pcap.specs.Written.{resolution_of}
+use Rattle.cap_io.specs.Text.{record_text}
+use Rattle.cap_io.specs.Sink.{heading_in}
+use Rattle.cap_io.proofs.Parts.{stops-front, appends-behind}
+use Rattle.cap_io.proofs.writing.add_record.Goals as goal
+
+pub returns-in_default-clause-told : goal.returns-in_default-clause-told
+returns-in_default-clause-told g c = λ tells.
+    let p = captured c.args.packet.now in
+    stops-front (g.O.Output.written c.args.output.now) (heading_in c.args.format c.args.state p.link) (record_text (resolution_of c.args.format) p) (g.O.Output.written c.start.new.output)
+    (c.in_default.ensures.told tells)
+
+pub returns-clause-told : goal.returns-clause-told
+returns-clause-told g c = λ tells.
+    let p = captured c.args.packet.now in
+    appends-behind c.write_record.result (g.O.Output.written c.args.output.now) (heading_in c.args.format c.args.state p.link) (record_text (resolution_of c.args.format) p)
+    (g.O.Output.written c.start.new.output) (g.O.Output.written c.write_record.new.output) (c.in-Ok.ensures.told tells) (c.write_record.ensures.told tells)

@@ -1,0 +1,53 @@
+-- Which packets a format carries: what is written of them reads back as they are.
+use Rattle.std.specs.Prelude.{◌≡◌, ℕ, ◌%◌, ◌^◌, ◌<◌, ◌≤◌, List, [], ◌∷◌, ◌++◌, length, map, None}
+use Rattle.cap_octet.specs.Packet.{Captured}
+use Rattle.cap_octet.specs.declared.format.Format.{Format}
+use Rattle.cap_octet.specs.declared.format.Format.TheVariants.{Pcap, NsecPcap, Pcapng}
+use Rattle.cap_pcap.specs.Record.{most_captured}
+use Rattle.cap_pcapng.specs.Unit.{most_interfaces}
+use Rattle.cap_io.specs.Capture.{Placed, End, items}
+use Rattle.cap_io.specs.Text.{interfaces_of, refused, text}
+
+-- each field of a packet is in its range
+pub record InRange (p : Captured) : Type 0 where
+  pub link : p.link < 2 ^ 16
+  pub snap : p.snap < 2 ^ 32
+  pub name : length p.name ≤ 255
+  pub time : p.time < 2 ^ 63
+  pub orig : p.orig < 2 ^ 32
+
+-- what a pcap form tells of each packet's interface: the snap length of the heading, and no name
+pub record IsNameless (p : Captured) : Type 0 where
+  pub snap : p.snap ≡ most_captured
+  pub name : p.name ≡ []
+
+-- A format keeps all of a packet.
+abbrev pub Keeps : Format → Captured → Type 0
+Keeps Pcap p = IsNameless p × (p.time % 1000 ≡ 0)
+Keeps NsecPcap p = IsNameless p
+Keeps Pcapng p = Unit {0}
+
+-- a packet that comes after these
+pub record IsCarried (format : Format) (earlier : List Captured) (p : Captured) : Type 0 where
+  pub in_range : InRange p
+  pub kept : Keeps format p
+  pub taken : refused format earlier p ≡ None
+
+-- as many interfaces as are read of a section
+abbrev pub HasFewInterfaces : Format → List Captured → Type 0
+HasFewInterfaces Pcap ps = Unit {0}
+HasFewInterfaces NsecPcap ps = Unit {0}
+HasFewInterfaces Pcapng ps = length (interfaces_of ps) ≤ most_interfaces
+
+pub record Carries (format : Format) (ps : List Captured) : Type 0 where
+  pub each : (earlier : List Captured) (p : Captured) (later : List Captured) → ps ≡ earlier ++ p ∷ later → IsCarried format earlier p
+  pub few : HasFewInterfaces format ps
+
+-- A text holds these packets, and ends cleanly.
+pub record ReadsBack (text : List ℕ) (ps : List Captured) : Type 0 where
+  pub packets : map (λ (q : Placed). q.packet) (items text).packets ≡ ps
+  pub ending : (items text).ending ≡ End
+
+-- what a format carries reads back
+abbrev pub Back : Format → Type 0
+Back format = (p : Captured) (ps : List Captured) → Carries format (p ∷ ps) → ReadsBack (text format (p ∷ ps)) (p ∷ ps)

@@ -1,0 +1,22 @@
+-- Interfaces that are numbered by first use.
+use Rattle.std.specs.Prelude.{◌≡◌, false, not, List, ◌++◌, take, Result, Ok, Err}
+use Rattle.cap_octet.specs.declared.fault.Fault.{Fault}
+use Rattle.cap_octet.specs.declared.fault.Fault.TheVariants.{NoMemory}
+use Rattle.cap_io.specs.declared.numbering.InterfaceKey.{InterfaceKey}
+use Rattle.cap_io.specs.declared.numbering.Place.{Place}
+use Rattle.cap_io.specs.Text.{Interface, is_among, new_among, number_among}
+
+-- the interface that a key stands for
+abbrev pub interface_in : InterfaceKey → Interface
+interface_in key = record { link = key.link; snap = key.snap; name = take key.name_length key.name }
+
+-- An interface has its place among those that were numbered: its number, and whether it is new there.
+pub record HasPlace (old : List Interface) (i : Interface) (place : Place) (new : List Interface) : Type 0 where
+  pub number : place.number ≡ number_among old i
+  pub is_new : place.is_new ≡ not (is_among old i)
+  pub interfaces : new ≡ old ++ new_among old i
+
+-- it is given a place, or there was no memory for one that is new
+abbrev pub Numbers : List Interface → Interface → Result Place Fault → List Interface → Type 0
+Numbers old i (Ok place) new = HasPlace old i place new
+Numbers old i (Err fault) new = (fault ≡ NoMemory) × (is_among old i ≡ false) × (new ≡ old)

@@ -1,0 +1,224 @@
+//! Packets and headings to a device, in each format.
+ghost use Rattle.std.specs.Prelude.{◌≡◌, ◌+◌, ◌++◌, None, IsTrue, OnOk};
+ghost use Rattle.cap_octet.specs.Checks.{checked, first_failing};
+ghost use Rattle.cap_octet.specs.Device.{AppendsOrStops, failures_of};
+ghost use Rattle.cap_octet.specs.Packet.{captured};
+ghost use Rattle.cap_pcap.specs.Written.{IsPcap, fit_checks, resolution_of};
+ghost use Rattle.cap_pcapng.specs.Written.{fit_checks as block_fit_checks};
+ghost use Rattle.cap_io.specs.Text.{heading, record_text};
+ghost use Rattle.cap_io.specs.Sink.{IsPutAnswer, WritesPacket, answer_of, block_checks, block_text, description_text, checks_in, heading_in, interfaces_behind, packet_in, record_checks, takes_memory_in, write_failures};
+
+use crate::numbering::{OutputInterfaces, Place};
+use crate::sink::SinkState;
+use cap_octet::{DeviceFault, Fault, Format, Output, Packet, write_parts};
+use cap_pcap::{head_bytes, record_bytes};
+use cap_pcapng::{section_bytes, write_interface};
+use std::alloc::Allocator;
+
+/// The checks of a pcap form.
+fn check_record(format: Format, state: SinkState, packet: &Packet<'_>) -> Result<(), Fault>
+    requires { IsPcap format }
+    ensures { result ≡ checked (first_failing (record_checks state (captured packet.now))) tt }
+{
+    if let SinkState::Started(link) = state {
+        if link != packet.link {
+            return Err(Fault::LinkTypesDiffer);
+        }
+    }
+    cap_pcap::fits(format, packet)
+}
+
+/// The checks of pcapng.
+fn check_block<A: Allocator>(
+    interfaces: &OutputInterfaces<A>,
+    packet: &Packet<'_>,
+) -> Result<(), Fault>
+    ensures { result ≡ checked (first_failing (block_checks interfaces.now (captured packet.now))) tt }
+{
+    cap_pcapng::fits(packet)?;
+    if !interfaces.has_room(packet) {
+        return Err(Fault::TooManyOutputInterfaces);
+    }
+    Ok(())
+}
+
+/// Whether a packet may be put, or the first check that it fails.
+pub(crate) fn check<A: Allocator>(
+    format: Format,
+    state: SinkState,
+    interfaces: &OutputInterfaces<A>,
+    packet: &Packet<'_>,
+) -> Result<(), Fault>
+    ensures { result ≡ checked (first_failing (checks_in format state interfaces.now (captured packet.now))) tt }
+{
+    match format {
+        Format::Pcap | Format::NsecPcap => check_record(format, state, packet),
+        Format::Pcapng => check_block(interfaces, packet),
+    }
+}
+
+/// Writes a heading: a file header, or a section.
+pub(crate) fn write_heading<O: Output>(
+    output: &mut O,
+    format: Format,
+    link: u16,
+) -> Result<(), DeviceFault>
+    ensures told { IsTrue O.tells → AppendsOrStops result (O.written output.old) (heading format link) (O.written output.new) }
+    ensures failed { O.failures output.new ≡ O.failures output.old + failures_of result }
+{
+    match format {
+        Format::Pcap => write_parts(output, &[&head_bytes(Format::Pcap, link)]),
+        Format::NsecPcap => write_parts(output, &[&head_bytes(Format::NsecPcap, link)]),
+        Format::Pcapng => write_parts(output, &[&section_bytes()]),
+    }
+}
+
+/// Writes the heading where nothing was put.
+fn start<O: Output>(
+    output: &mut O,
+    format: Format,
+    state: SinkState,
+    link: u16,
+) -> Result<(), DeviceFault>
+    ensures told { IsTrue O.tells → AppendsOrStops result (O.written output.old) (heading_in format state link) (O.written output.new) }
+    ensures failed { O.failures output.new ≡ O.failures output.old + failures_of result }
+{
+    match state {
+        SinkState::Empty => write_heading(output, format, link),
+        SinkState::Started(_) | SinkState::Broken(_) => Ok(()),
+    }
+}
+
+/// Writes a packet as a record of a pcap form.
+fn write_record<O: Output>(
+    output: &mut O,
+    format: Format,
+    packet: &Packet<'_>,
+) -> Result<(), DeviceFault>
+    requires form { IsPcap format }
+    requires fits { first_failing (fit_checks (captured packet.now)) ≡ None }
+    ensures told { IsTrue O.tells → AppendsOrStops result (O.written output.old) (record_text (resolution_of format) (captured packet.now)) (O.written output.new) }
+    ensures failed { O.failures output.new ≡ O.failures output.old + failures_of result }
+{
+    write_parts(output, &[&record_bytes(format, packet), packet.bytes])
+}
+
+/// Writes the description of a packet's interface where it is new.
+fn describe<O: Output>(output: &mut O, is_new: bool, packet: &Packet<'_>) -> Result<(), DeviceFault>
+    ensures told { IsTrue O.tells → AppendsOrStops result (O.written output.old)
+        (description_text is_new (captured packet.now)) (O.written output.new) }
+    ensures failed { O.failures output.new ≡ O.failures output.old + failures_of result }
+{
+    if !is_new {
+        return Ok(());
+    }
+    let Ok(()) = write_interface(packet, output) else {
+        return Err(DeviceFault);
+    };
+    Ok(())
+}
+
+/// Writes a packet as a block, behind the description of its interface where that is new.
+fn write_block<O: Output>(
+    output: &mut O,
+    place: Place,
+    packet: &Packet<'_>,
+) -> Result<(), DeviceFault>
+    requires { first_failing (block_fit_checks (captured packet.now)) ≡ None }
+    ensures told { IsTrue O.tells → AppendsOrStops result (O.written output.old)
+        (block_text place (captured packet.now)) (O.written output.new) }
+    ensures failed { O.failures output.new ≡ O.failures output.old + failures_of result }
+{
+    let Ok(()) = describe(output, place.is_new, packet) else {
+        return Err(DeviceFault);
+    };
+    let Ok(()) = cap_pcapng::write_packet(place.number, packet, output) else {
+        return Err(DeviceFault);
+    };
+    Ok(())
+}
+
+/// Writes a packet in a pcap form, the first one behind the heading.
+fn add_record<O: Output>(
+    output: &mut O,
+    format: Format,
+    state: SinkState,
+    packet: &Packet<'_>,
+) -> Result<(), DeviceFault>
+    requires form { IsPcap format }
+    requires fits { first_failing (fit_checks (captured packet.now)) ≡ None }
+    ensures told { IsTrue O.tells → AppendsOrStops result (O.written output.old)
+        (heading_in format state packet.now.link ++ record_text (resolution_of format) (captured packet.now)) (O.written output.new) }
+    ensures failed { O.failures output.new ≡ O.failures output.old + failures_of result }
+{
+    let Ok(()) = start(output, format, state, packet.link) else {
+        return Err(DeviceFault);
+    };
+    write_record(output, format, packet)
+}
+
+/// Writes a packet in pcapng, the first one behind the heading.
+fn add_block<O: Output>(
+    output: &mut O,
+    state: SinkState,
+    place: Place,
+    packet: &Packet<'_>,
+) -> Result<(), DeviceFault>
+    requires { first_failing (block_fit_checks (captured packet.now)) ≡ None }
+    ensures told { IsTrue O.tells → AppendsOrStops result (O.written output.old)
+        (heading_in Format.Pcapng state packet.now.link ++ block_text place (captured packet.now)) (O.written output.new) }
+    ensures failed { O.failures output.new ≡ O.failures output.old + failures_of result }
+{
+    let Ok(()) = start(output, Format::Pcapng, state, packet.link) else {
+        return Err(DeviceFault);
+    };
+    write_block(output, place, packet)
+}
+
+/// What a sink answers where its device was called.
+fn as_fault(outcome: Result<(), DeviceFault>) -> Result<(), Fault>
+    ensures { result ≡ answer_of outcome }
+{
+    match outcome {
+        Ok(()) => Ok(()),
+        Err(DeviceFault) => Err(Fault::WriteFailed),
+    }
+}
+
+/// Writes a packet in pcapng, whose interface is numbered first. `NoMemory` comes where a new interface found none, with
+/// nothing written.
+fn number_and_add<O: Output, A: Allocator>(
+    output: &mut O,
+    interfaces: &mut OutputInterfaces<A>,
+    state: SinkState,
+    packet: &Packet<'_>,
+) -> Result<(), Fault>
+    requires { first_failing (block_checks interfaces.old (captured packet.now)) ≡ None }
+    ensures told { IsTrue O.tells → WritesPacket None (heading_in Format.Pcapng state packet.now.link ++ packet_in Format.Pcapng interfaces.old (captured packet.now)) (O.written output.old) result (O.written output.new) }
+    ensures answer { IsPutAnswer None (takes_memory_in Format.Pcapng interfaces.old (captured packet.now)) result }
+    ensures interfaces { OnOk result (interfaces.new ≡ interfaces_behind Format.Pcapng interfaces.old (captured packet.now)) }
+    ensures failures { O.failures output.new ≡ O.failures output.old + write_failures result }
+{
+    let place = interfaces.place(packet)?;
+    as_fault(add_block(output, state, place, packet))
+}
+
+/// Writes a packet that isn't refused, the first one behind the heading. `WriteFailed` comes where the device failed.
+pub(crate) fn write<O: Output, A: Allocator>(
+    output: &mut O,
+    interfaces: &mut OutputInterfaces<A>,
+    format: Format,
+    state: SinkState,
+    packet: &Packet<'_>,
+) -> Result<(), Fault>
+    requires { first_failing (checks_in format state interfaces.old (captured packet.now)) ≡ None }
+    ensures told { IsTrue O.tells → WritesPacket None (heading_in format state packet.now.link ++ packet_in format interfaces.old (captured packet.now)) (O.written output.old) result (O.written output.new) }
+    ensures answer { IsPutAnswer None (takes_memory_in format interfaces.old (captured packet.now)) result }
+    ensures interfaces { OnOk result (interfaces.new ≡ interfaces_behind format interfaces.old (captured packet.now)) }
+    ensures failures { O.failures output.new ≡ O.failures output.old + write_failures result }
+{
+    match format {
+        Format::Pcap | Format::NsecPcap => as_fault(add_record(output, format, state, packet)),
+        Format::Pcapng => number_and_add(output, interfaces, state, packet),
+    }
+}
