@@ -20,6 +20,6 @@ pub use clock::Clock;
 pub use frames::{BlockType, Frame};
 pub use interface::Interface;
 pub use options::{BlockOption, Options};
-pub use read::{block, frame};
+pub use read::{begins_section, block, frame};
 pub use table::Table;
 pub use write::{fits, section_bytes, write_interface, write_packet};

@@ -2,7 +2,7 @@
 ghost use Rattle.std.specs.Prelude.{◌≡◌, ◌≤◌, ◌%◌, length, IfOk, IfErr, None, Some};
 ghost use Rattle.cap_octet.specs.Checks.{checked};
 ghost use Rattle.cap_pcapng.specs.Block.{block_fault, parts_in, parts_of};
-ghost use Rattle.cap_pcapng.specs.Frame.{frame_fault, frame_in, most_block};
+ghost use Rattle.cap_pcapng.specs.Frame.{frame_fault, frame_in, is_section, most_block};
 
 use crate::blocks::{Block, EnhancedBlock, InterfaceBlock, SimpleBlock, check_section};
 use crate::frames::{BlockType, Frame, order_of};
@@ -13,6 +13,13 @@ const SECTION_TYPE: u32 = 0x0a0d_0d0a;
 
 /// The greatest total length of a block that is read, in bytes.
 const MOST_BLOCK: u32 = 1_048_576;
+
+/// Whether a text that begins with these bytes begins with a section header, by the type alone.
+pub fn begins_section(bytes: &[u8; 4]) -> bool
+    ensures { result ≡ is_section bytes.now }
+{
+    u32_at(Order::Little, bytes, 0) == SECTION_TYPE
+}
 
 /// Reads the first 12 bytes of a block that stands behind a section of this byte order, or behind none; or tells the
 /// first check that they fail: no section before a block of another type, no byte-order magic in a section header, a
