@@ -12,6 +12,7 @@ pub mod Keys
 pub mod Texts
 pub mod Parts
 pub mod Cuts
-pub mod CapturesCame
 pub mod Backs
 pub mod PcapBack
+pub mod PcapngBack
+pub mod CapturesCame

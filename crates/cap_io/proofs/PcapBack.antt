@@ -1,5 +1,5 @@
 -- What is written in a pcap form reads back.
-use Rattle.std.proofs.Common.{◌≡◌, ℕ, ◌+◌, ◌*◌, ◌/◌, ◌%◌, ◌^◌, ◌<◌, ◌≤◌, Bool, true, List, [], ◌∷◌, ◌++◌, length, drop, nat_le, nat_lt, None, Some, refl, sym, ap, ◌∙◌, arith, length-append, le-leb, leb-true, lt-ltb}
+use Rattle.std.proofs.Common.{◌≡◌, ℕ, ◌+◌, ◌*◌, ◌/◌, ◌%◌, ◌^◌, ◌<◌, ◌≤◌, Bool, List, [], ◌∷◌, ◌++◌, length, drop, nat_lt, None, refl, sym, ap, ◌∙◌, arith, le-leb, leb-true, lt-ltb}
 use Rattle.std.specs.List.{AllByRecursion, flat_map}
 use Rattle.std.proofs.lemmas.Bool.{eqb-true, ltb-true}
 use Rattle.cap_octet.specs.Checks.{first_failing}
@@ -10,17 +10,17 @@ use Rattle.cap_octet.specs.declared.fault.Fault.TheVariants.{LinkTypesDiffer}
 use Rattle.cap_octet.specs.declared.format.Format.TheVariants.{Pcap, NsecPcap}
 use Rattle.cap_octet.specs.declared.number.Order.TheVariants.{Little}
 use Rattle.cap_octet.proofs.Checks.{all_met, none_failing}
-use Rattle.cap_pcap.specs.Header.{IsHeader, head_checks, head_fault, head_in}
-use Rattle.cap_pcap.specs.Record.{IsRecord, captured_len, field_checks, most_captured, nanoseconds_of_part, packet_in, parts_of_second, record_size}
+use Rattle.cap_pcap.specs.Header.{IsHeader, head_checks}
+use Rattle.cap_pcap.specs.Record.{IsRecord, field_checks, most_captured, nanoseconds_of_part, packet_in, parts_of_second}
 use Rattle.cap_pcap.specs.Written as pcap
 use Rattle.cap_pcap.specs.declared.head.Head.{Head}
 use Rattle.cap_pcap.specs.declared.head.Resolution.{Resolution}
 use Rattle.cap_pcap.specs.declared.head.Resolution.TheVariants.{Microseconds, Nanoseconds}
 use Rattle.cap_pcap.proofs.Records.{record_fault-whole}
 use Rattle.cap_pcapng.proofs.Numerals.{number_at}
-use Rattle.cap_io.specs.Capture.{Nothing, PcapFile, a_pcap_header, a_pcap_record}
-use Rattle.cap_io.specs.Carried.{Back, Carries, InRange, IsCarried, IsNameless, ReadsBack}
-use Rattle.cap_io.specs.Text.{has_first_link, packets_text, record_text, text}
+use Rattle.cap_io.specs.Capture.{PcapFile, a_pcap_header, a_pcap_record}
+use Rattle.cap_io.specs.Carried.{Back, InRange, IsNameless, ReadsBack}
+use Rattle.cap_io.specs.Text.{has_first_link, packets_text, record_text}
 use Rattle.cap_io.proofs.Backs.{Holds, each-behind, holds-none, holds-unit, reads-back}
 
 -- ---- a record

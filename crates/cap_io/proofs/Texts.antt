@@ -2,6 +2,7 @@
 use Rattle.std.proofs.Common.{◌≡◌, ◌⊎◌, inl, inr, ℕ, ◌+◌, ◌/◌, ◌^◌, nat_le, nat_lt, length, not, Bool, true, false, List, [], ◌∷◌, ◌++◌, Option, None, Some, Result, Ok, Err, refl, sym, ◌∙◌, ap, ap₂, subst}
 use Rattle.std.proofs.lemmas.List.{append_assoc, append-nil}
 use Rattle.cap_octet.specs.Checks.{first_failing}
+use Rattle.cap_octet.specs.Device.{AppendsOrStops}
 use Rattle.cap_octet.specs.Packet.{Captured}
 use Rattle.cap_octet.specs.declared.fault.Fault.{Fault}
 use Rattle.cap_octet.specs.declared.fault.Fault.TheVariants.{WriteFailed, NoMemory, LinkTypesDiffer, TooLong, TimeOutOfRange, TooManyOutputInterfaces}
@@ -230,7 +231,7 @@ pub finish-none : (before : List ℕ) (old : SinkView) (first : Option ℕ) (r :
 finish-none before old first r new has finishes = let P : SinkState → Type 0 = λ st. Finishes st old first r new in subst P has.put.state finishes
 
 pub finish-none-writes : (before : List ℕ) (old : SinkView) (first : Option ℕ) (r : Result (Unit {0}) Fault) (new : SinkView)
-    → HasPackets before old [] → FinishWrites old.state old first r new → WritesPacket None (heading old.format (link_or_ethernet first)) old.written r new.written
+    → HasPackets before old [] → FinishWrites old.state old first r new → AppendsOrStops r old.written (heading old.format (link_or_ethernet first)) new.written
 finish-none-writes before old first r new has writes = let P : SinkState → Type 0 = λ st. FinishWrites st old first r new in subst P has.put.state writes
 
 -- packets were put: all is written

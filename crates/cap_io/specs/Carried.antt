@@ -51,3 +51,6 @@ pub record ReadsBack (text : List ℕ) (ps : List Captured) : Type 0 where
 -- what a format carries reads back
 abbrev pub Back : Format → Type 0
 Back format = (p : Captured) (ps : List Captured) → Carries format (p ∷ ps) → ReadsBack (text format (p ∷ ps)) (p ∷ ps)
+
+abbrev pub ItemsBack : Type 0
+ItemsBack = (format : Format) → Back format

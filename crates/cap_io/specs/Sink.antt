@@ -1,6 +1,6 @@
 -- What a contract sees of a sink, and what its calls do.
 use Rattle.std.specs.Prelude.{◌≡◌, ◌⊎◌, ◌==◌, ℕ, Bool, true, false, not, ◌+◌, List, [], ◌∷◌, ◌++◌, length, map, nat_le, Option, None, Some, Result, Ok, Err, OnOk, unwrap_or}
-use Rattle.cap_octet.specs.Device.{Stops}
+use Rattle.cap_octet.specs.Device.{AppendsOrStops, Stops}
 use Rattle.cap_octet.specs.Packet.{Captured}
 use Rattle.cap_octet.specs.declared.fault.Fault.{Fault}
 use Rattle.cap_octet.specs.declared.fault.Fault.TheVariants.{LinkTypesDiffer, NoMemory, TooManyOutputInterfaces, WriteFailed}
@@ -135,9 +135,9 @@ Finishes Empty old first r new = FinishesEmpty old (link_or_ethernet first) r ne
 Finishes (Started link) old first r new = (r ≡ Ok tt) × (new ≡ old)
 Finishes (Broken fault) old first r new = (r ≡ Err fault) × (new ≡ old)
 
--- the heading is written where nothing was put, or a beginning of it
+-- the heading is written where nothing was put, or a beginning of it, not the whole
 abbrev pub FinishWrites : SinkState → SinkView → Option ℕ → Result (Unit {0}) Fault → SinkView → Type 0
-FinishWrites Empty old first r new = WritesPacket None (heading old.format (link_or_ethernet first)) old.written r new.written
+FinishWrites Empty old first r new = AppendsOrStops r old.written (heading old.format (link_or_ethernet first)) new.written
 FinishWrites (Started link) old first r new = new ≡ old
 FinishWrites (Broken fault) old first r new = new ≡ old
 

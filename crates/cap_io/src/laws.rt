@@ -1,8 +1,6 @@
 //! Laws of the definitions: each is the contract of a function that does nothing.
 ghost use Rattle.cap_io.specs.Laws.{EachHasCut, EachHasOneCut, CutTellsItems};
-ghost use Rattle.cap_io.specs.Carried.{Back};
-
-use cap_octet::Format;
+ghost use Rattle.cap_io.specs.Carried.{ItemsBack};
 
 /// Each text is cut into units in one way, and the cut tells its items.
 pub fn one_cut()
@@ -13,6 +11,5 @@ pub fn one_cut()
 
 /// What is written of packets that a format carries reads back as they are.
 pub fn items_back()
-    ensures pcap { Back Format.Pcap }
-    ensures nanoseconds { Back Format.NsecPcap }
+    ensures { ItemsBack }
 {}

@@ -55,7 +55,8 @@ impl<O: Output, A: Allocator + Copy> Sink<O, A> {
 }
 
 impl<O: Output, A: Allocator> Sink<O, A> {
-    ghost use Rattle.std.specs.Prelude.{None, IsTrue};
+    ghost use Rattle.std.specs.Prelude.{IsTrue};
+    ghost use Rattle.cap_octet.specs.Device.{AppendsOrStops};
     ghost use Rattle.cap_octet.specs.Packet.{captured};
     ghost use Rattle.cap_io.specs.Text.{heading};
     ghost use Rattle.cap_io.specs.Sink.{Adds, Puts, PutWrites, WritesPacket, Finishes, FinishesEmpty, FinishWrites, added_in, refusal_in};
@@ -128,7 +129,7 @@ impl<O: Output, A: Allocator> Sink<O, A> {
 
     /// Writes the heading where nothing was put.
     fn head(&mut self, link: u16) -> Result<(), Fault>
-        ensures told { IsTrue O.tells → WritesPacket None (heading self.old.format link) self.old.written result self.new.written }
+        ensures told { IsTrue O.tells → AppendsOrStops result self.old.written (heading self.old.format link) self.new.written }
         ensures answer { FinishesEmpty self.old link result self.new }
     {
         let Ok(()) = write_heading(&mut self.output, self.format, link) else {

@@ -1,5 +1,13 @@
+use Rattle.cap_octet.specs.declared.format.Format.TheVariants.{Pcap, NsecPcap, Pcapng}
+use Rattle.cap_io.specs.Carried.{ItemsBack}
 use Rattle.cap_io.proofs.PcapBack.{pcap-back, nanoseconds-back}
+use Rattle.cap_io.proofs.PcapngBack.{pcapng-back}
 use Rattle.cap_io.proofs.laws.items_back.Goals as goal
 
+items-back : ItemsBack
+items-back Pcap = pcap-back
+items-back NsecPcap = nanoseconds-back
+items-back Pcapng = pcapng-back
+
 pub returns : goal.returns
-returns c = record { pcap = pcap-back; nanoseconds = nanoseconds-back }
+returns c = items-back

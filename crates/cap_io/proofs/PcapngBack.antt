@@ -1,0 +1,146 @@
+-- What is written in pcapng reads back.
+use Rattle.std.proofs.Common.{◌≡◌, ℕ, ◌+◌, suc, ◌||◌, ◌<◌, ◌≤◌, Bool, true, false, List, [], ◌∷◌, ◌++◌, length, map, not, cond, if◌then◌else◌, Option, None, Some, refl, sym, ap, subst, ◌∙◌, arith, length-append}
+use Rattle.std.specs.List.{AllByRecursion, slice_get}
+use Rattle.std.specs.Option.{option_map}
+use Rattle.std.proofs.lemmas.List.{append_assoc, append-nil, length-map, map-append}
+use Rattle.std.proofs.lemmas.Option.{slice_get-map, slice_get_within}
+use Rattle.cap_octet.specs.Checks.{first_failing}
+use Rattle.cap_octet.specs.Packet.{Captured}
+use Rattle.cap_octet.specs.declared.format.Format.TheVariants.{Pcapng}
+use Rattle.cap_octet.proofs.Checks.{all_met, none_failing}
+use Rattle.cap_pcapng.specs.Interface.{Described}
+use Rattle.cap_pcapng.specs.Laws.{ReadsAs, written_interface, written_section}
+use Rattle.cap_pcapng.specs.Unit.{Section, most_interfaces, packets_in}
+use Rattle.cap_pcapng.specs.Written as pcapng
+use Rattle.cap_pcapng.proofs.WrittenBack.{section_back, interface_back, packet_back}
+use Rattle.cap_io.specs.Capture.{Nothing, PcapngFile, IsUnit, a_first_block, a_block, first_after}
+use Rattle.cap_io.specs.Carried.{Back, InRange, IsCarried}
+use Rattle.cap_io.specs.Text.{Interface, interface_of, is_same, is_among, new_among, first_uses, interfaces_of, number_among, descriptions, packets_text, put_checks, text}
+use Rattle.cap_io.proofs.Backs.{Holds, each-behind, holds-none, holds-unit, reads-back}
+use Rattle.cap_io.proofs.Interfaces.{first_uses-append, interfaces_of-push, new-interfaces_of, same_interface}
+
+-- ---- an interface has its number
+
+found-by : (b : Bool) (x i : Interface) (xs : List Interface) → is_same i x ≡ b
+    → slice_get (xs ++ new_among xs i) (number_among xs i) ≡ Some i
+    → slice_get ((x ∷ xs) ++ (if (b || is_among xs i) then [] else i ∷ [])) (cond (not b) (1 + number_among xs i) 0) ≡ Some i
+found-by true x i xs same later = ap Some (sym (same_interface i x same))
+found-by false x i xs same later = let e : 1 + number_among xs i ≡ suc (number_among xs i) = omega arith in rw e later
+
+-- it is found at its number, also where it is new
+pub found : (interfaces : List Interface) (i : Interface) → slice_get (interfaces ++ new_among interfaces i) (number_among interfaces i) ≡ Some i
+found [] i = refl
+found (x ∷ xs) i = found-by (is_same i x) x i xs refl (found xs i)
+
+-- ---- units
+
+abbrev described : Interface → Described
+described i = written_interface i.link i.snap i.name
+
+abbrev section_of : List Interface → Section
+section_of interfaces = written_section (map described interfaces)
+
+unit-of : (first : Option ℕ) (before after : Section) (bytes : List ℕ) (ps : List Captured) → ReadsAs (Some before) bytes after ps
+    → IsUnit (PcapngFile first before) bytes ps (PcapngFile (first_after first after) after)
+unit-of first before after bytes ps reads =
+    let P : List Captured → Type 0 = λ qs. IsUnit (PcapngFile first before) bytes qs (PcapngFile (first_after first after) after) in
+    let Q : Section → Type 0 = λ s. IsUnit (PcapngFile first before) bytes (packets_in (Some before) bytes) (PcapngFile (first_after first s) s) in
+    subst P reads.holds (subst Q reads.declares (a_block first before bytes reads.is_block))
+
+first-unit : (after : Section) (bytes : List ℕ) (ps : List Captured) → ReadsAs None bytes after ps → IsUnit Nothing bytes ps (PcapngFile (first_after None after) after)
+first-unit after bytes ps reads =
+    let P : List Captured → Type 0 = λ qs. IsUnit Nothing bytes qs (PcapngFile (first_after None after) after) in
+    let Q : Section → Type 0 = λ s. IsUnit Nothing bytes (packets_in None bytes) (PcapngFile (first_after None s) s) in
+    subst P reads.holds (subst Q reads.declares (a_first_block bytes reads.is_block))
+
+-- ---- a packet
+
+record IsKept (p : Captured) : Type 0 where
+  in_range : InRange p
+  fits : first_failing (pcapng.fit_checks p) ≡ None
+
+-- what is held behind a place, whatever link type was declared first
+abbrev HoldsBehind : List Interface → List ℕ → List Captured → Type 0
+HoldsBehind interfaces more ps = (first : Option ℕ) (at : ℕ) → Holds (PcapngFile first (section_of interfaces)) at more ps
+
+-- a packet whose interface has this number
+packet-holds : (interfaces : List Interface) (number : ℕ) (p : Captured) (more : List ℕ) (ps : List Captured) → slice_get interfaces number ≡ Some (interface_of p)
+    → length interfaces ≤ most_interfaces → IsKept p → HoldsBehind interfaces more ps → HoldsBehind interfaces (pcapng.packet_text number p ++ more) (p ∷ ps)
+packet-holds interfaces number p more ps known few kept later first at =
+    let within : number < length interfaces = slice_get_within interfaces number (interface_of p) known in
+    let told : slice_get (map described interfaces) number ≡ Some (written_interface p.link p.snap p.name) =
+    slice_get-map described interfaces number ∙ ap (option_map described) known in
+    let unit = unit-of first (section_of interfaces) (section_of interfaces) (pcapng.packet_text number p) (p ∷ [])
+    (packet_back (map described interfaces) number p told (omega arith) kept.in_range.time kept.in_range.orig kept.fits) in
+    holds-unit unit at more ps (later _ _)
+
+-- the description of a new interface
+interface-holds : (interfaces : List Interface) (p : Captured) (more : List ℕ) (ps : List Captured) → length interfaces < most_interfaces → InRange p
+    → HoldsBehind (interfaces ++ interface_of p ∷ []) more ps → HoldsBehind interfaces (pcapng.interface_text p.link p.snap p.name ++ more) ps
+interface-holds interfaces p more ps room in_range later first at =
+    let one = interface_back (map described interfaces) p.link p.snap p.name (omega (arith, length-map interfaces described)) in_range.link in_range.snap in_range.name in
+    let same : written_section (map described interfaces ++ written_interface p.link p.snap p.name ∷ []) ≡ section_of (interfaces ++ interface_of p ∷ []) =
+    ap written_section (sym (map-append described interfaces (interface_of p ∷ []))) in
+    let R : Section → Type 0 = λ s. ReadsAs (Some (section_of interfaces)) (pcapng.interface_text p.link p.snap p.name) s [] in
+    let unit = unit-of first (section_of interfaces) (section_of (interfaces ++ interface_of p ∷ [])) (pcapng.interface_text p.link p.snap p.name) [] (subst R same one) in
+    holds-unit unit at more ps (later _ _)
+
+-- a packet, behind the description of its interface where that is new
+described-holds : (b : Bool) (interfaces : List Interface) (number : ℕ) (p : Captured) (more : List ℕ) (ps : List Captured)
+    → slice_get (interfaces ++ (if b then [] else interface_of p ∷ [])) number ≡ Some (interface_of p)
+    → length (interfaces ++ (if b then [] else interface_of p ∷ [])) ≤ most_interfaces → IsKept p
+    → HoldsBehind (interfaces ++ (if b then [] else interface_of p ∷ [])) more ps
+    → HoldsBehind interfaces ((descriptions (if b then [] else interface_of p ∷ []) ++ pcapng.packet_text number p) ++ more) (p ∷ ps)
+described-holds true interfaces number p more ps known few kept later =
+    packet-holds interfaces number p more ps (rw (append-nil interfaces) at known) (rw (append-nil interfaces) at few) kept (rw (append-nil interfaces) at later)
+described-holds false interfaces number p more ps known few kept later =
+    let bytes : List ℕ = pcapng.interface_text p.link p.snap p.name in
+    let split : ((bytes ++ []) ++ pcapng.packet_text number p) ++ more ≡ bytes ++ (pcapng.packet_text number p ++ more) =
+    ap (λ (l : List ℕ). (l ++ pcapng.packet_text number p) ++ more) (append-nil bytes) ∙ append_assoc bytes (pcapng.packet_text number p) more in
+    let H : List ℕ → Type 0 = λ l. HoldsBehind interfaces l (p ∷ ps) in
+    subst H (sym split)
+    (interface-holds interfaces p (pcapng.packet_text number p ++ more) (p ∷ ps) (omega (arith, few, length-append interfaces (interface_of p ∷ []))) kept.in_range
+    (packet-holds (interfaces ++ interface_of p ∷ []) number p more ps known few kept later))
+
+-- ---- packets
+
+few-front : (xs ys : List Captured) (n : ℕ) → length (interfaces_of (xs ++ ys)) ≤ n → length (interfaces_of xs) ≤ n
+few-front xs ys n few =
+    let all : interfaces_of (xs ++ ys) ≡ interfaces_of xs ++ first_uses (map interface_of xs) (map interface_of ys) =
+    ap (first_uses []) (map-append interface_of xs ys) ∙ first_uses-append [] (map interface_of xs) (map interface_of ys) in
+    let size : length (interfaces_of xs ++ first_uses (map interface_of xs) (map interface_of ys)) ≡ length (interfaces_of xs) + length (first_uses (map interface_of xs) (map interface_of ys)) =
+    length-append (interfaces_of xs) (first_uses (map interface_of xs) (map interface_of ys)) in
+    omega (arith, few, ap length all, size)
+
+packets-hold : (earlier ps : List Captured) → AllByRecursion IsKept ps → length (interfaces_of (earlier ++ ps)) ≤ most_interfaces
+    → HoldsBehind (interfaces_of earlier) (packets_text Pcapng earlier ps) ps
+packets-hold earlier [] kept few = λ first at. holds-none (PcapngFile first (section_of (interfaces_of earlier))) at refl
+packets-hold earlier (p ∷ ps) kept few =
+    let i : Interface = interface_of p in
+    let is : List Interface = interfaces_of earlier in
+    let more : List ℕ = packets_text Pcapng (earlier ++ p ∷ []) ps in
+    let behind : length (interfaces_of ((earlier ++ p ∷ []) ++ ps)) ≤ most_interfaces =
+    let L : List Captured → Type 0 = λ l. length (interfaces_of l) ≤ most_interfaces in subst L (sym (append_assoc earlier (p ∷ []) ps)) few in
+    let grown : interfaces_of (earlier ++ p ∷ []) ≡ is ++ new_among is i =
+    interfaces_of-push earlier p ∙ ap (λ (l : List Interface). is ++ l) (sym (new-interfaces_of earlier i)) in
+    let later : HoldsBehind (is ++ new_among is i) more ps =
+    let H : List Interface → Type 0 = λ l. HoldsBehind l more ps in subst H grown (packets-hold (earlier ++ p ∷ []) ps kept.1 behind) in
+    let within : length (is ++ new_among is i) ≤ most_interfaces =
+    let L : List Interface → Type 0 = λ l. length l ≤ most_interfaces in subst L grown (few-front (earlier ++ p ∷ []) ps most_interfaces behind) in
+    let T : List Interface → Type 0 = λ l. HoldsBehind is ((descriptions l ++ pcapng.packet_text (number_among is i) p) ++ more) (p ∷ ps) in
+    subst T (new-interfaces_of earlier i) (described-holds (is_among is i) is (number_among is i) p more ps (found is i) within kept.0 later)
+
+-- ---- a file
+
+kept-of : (earlier : List Captured) (p : Captured) → IsCarried Pcapng earlier p → IsKept p
+kept-of earlier p carried = record {
+  in_range = carried.in_range;
+  fits = none_failing (pcapng.fit_checks p) ((all_met (put_checks Pcapng earlier p) carried.taken).0, tt);
+}
+
+pub pcapng-back : Back Pcapng
+pcapng-back p ps carries =
+    let kept = each-behind IsKept (p ∷ ps) (λ earlier q later is. kept-of earlier q (carries.each earlier q later is)) [] (p ∷ ps) refl in
+    let unit = first-unit (written_section []) pcapng.section_text [] (section_back None) in
+    reads-back (text Pcapng (p ∷ ps)) (p ∷ ps)
+    (holds-unit unit 0 (packets_text Pcapng [] (p ∷ ps)) (p ∷ ps) (packets-hold [] (p ∷ ps) kept carries.few _ _))
