@@ -1,6 +1,6 @@
 -- Units of a capture of any kind, as they came.
 use Rattle.std.proofs.Common.{◌≡◌, ℕ, ◌+◌, ◌≤◌, inl, inr, Bool, true, false, List, [], ◌∷◌, ◌++◌, length, take, Option, Some, None, refl, sym, ap, ◌∙◌, subst, arith, unwrap_or}
-use Rattle.std.specs.Prelude.{if◌then◌else◌, ◌&&◌, nat_le}
+use Rattle.std.specs.Prelude.{if◌then◌else◌, nat_le}
 use Rattle.std.specs.List.{slice_get}
 use Rattle.std.specs.Option.{option_map, option_or, option_to_list}
 use Rattle.std.proofs.lemmas.List.{length-append, length-take-le}
@@ -24,7 +24,7 @@ use Rattle.cap_io.specs.Capture.{Declared, Nothing, PcapFile, PcapngFile, Front,
 use Rattle.cap_io.specs.Reading.{FrontMissing, HeaderCame, PacketCame, Refuses, RestMissing, UnitCame, UnitPassed, came_by, most_taken, packet_held}
 use Rattle.cap_io.proofs.Came.{Taken-behind, most_taken-file}
 use Rattle.cap_io.proofs.Fronts.{front_of-behind, front_of-pcapng, front_of_block-none, is_pcapng-append, most_taken-block}
-use Rattle.cap_io.proofs.Units.{first-section}
+use Rattle.cap_io.proofs.Units.{and_second, first-section}
 
 -- ---- no block
 
@@ -105,10 +105,6 @@ section-parts before block is =
     let kind : type_in (order_before before) block ≡ type.Section =
     ap (λ (b : Bool). if b then type.Section else type_of (u32_in (order_in (order_before before) block) block 0)) is in
     ap (λ k. parts_in_body k (frame_behind before block).order (body_in (frame_behind before block) block)) kind
-
-and_second : (a b : Bool) → (a && b) ≡ true → b ≡ true
-and_second true b e = e
-and_second false b e = absurd (cc)
 
 pub first-packets : (block : List ℕ) → IsBlock None block → packets_in None block ≡ []
 first-packets block is =

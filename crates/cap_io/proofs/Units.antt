@@ -38,7 +38,7 @@ some_form true b x y e = inl refl
 some_form false true x y e = inr refl
 some_form false false x y e = absurd (cc)
 
-and_second : (a b : Bool) → (a && b) ≡ true → b ≡ true
+pub and_second : (a b : Bool) → (a && b) ≡ true → b ≡ true
 and_second true b e = e
 and_second false b e = absurd (cc)
 

@@ -86,7 +86,8 @@ impl<I: Input, A: Allocator> Source<I, A> {
 
     /// Reads on to the next packet, which `head` lends; `false` at the clean end, then and ever after. A fault is that
     /// of the first check which the unit at `offset` fails; `ReadFailed` where the device failed in this call;
-    /// `NoMemory` where the block could not grow. After a fault it answers that again, and reads nothing.
+    /// `NoMemory` where the block or the table of interfaces could not grow. After a fault it answers that again, and
+    /// reads nothing.
     pub fn advance(&mut self) -> Result<bool, Fault>
         ensures told { IsTrue I.tells → Advances self.old.phase self.old result self.new }
         ensures bounds { Steps self.old.phase self.old result self.new }
