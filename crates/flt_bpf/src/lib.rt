@@ -12,8 +12,6 @@ pub mod machine;
 pub mod operation;
 pub mod program;
 pub mod reading;
-#[cfg(test)]
-mod tests;
 pub mod writing;
 
 pub use fault::{CheckFault, ListingFault};

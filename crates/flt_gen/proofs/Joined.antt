@@ -1,5 +1,7 @@
 -- The code of joined tests is that of their formula.
-use Rattle.std.proofs.Common.{◌≡◌, ℕ, List, [], ◌∷◌, refl, sym, ap, ◌∙◌}
+use Rattle.std.proofs.Common.{◌≡◌, ℕ, List, [], ◌∷◌, refl, sym, ap, ◌∙◌, subst, Result}
+use Rattle.std.specs.Prelude.{IfOk}
+use Rattle.std.specs.declared.alloc.AllocError.{AllocError}
 use Rattle.flt_bpf.specs.declared.insn.Insn.{Insn}
 use Rattle.flt_words.specs.declared.token.Side.TheVariants.{Source, Destination}
 use Rattle.flt_words.specs.declared.token.Join.TheVariants.{And, Or}
@@ -9,8 +11,8 @@ use Rattle.flt_lang.specs.declared.quals.Direction.TheVariants as direction
 use Rattle.flt_gen.specs.declared.link.Link.{Link}
 use Rattle.flt_gen.specs.declared.elementary.Elementary.{Elementary}
 use Rattle.flt_gen.specs.Numbers.{accessor_tests}
-use Rattle.flt_gen.specs.Formula.{Formula, all_of, guarded, checked, sides}
-use Rattle.flt_gen.specs.Code.{Entered, elementary_before, emitted, all_before, sides_before, accessors_before}
+use Rattle.flt_gen.specs.Formula.{Formula, Single, Both, all_of, guarded, checked, sides}
+use Rattle.flt_gen.specs.Code.{Entered, entered, elementary_before, emitted, all_before, sides_before, accessors_before}
 
 pub all_emitted : (link : Link) (ts : List Elementary) (hit miss : ℕ) (c : List Insn) → emitted link (all_of ts) hit miss c ≡ all_before ts hit miss c
 all_emitted link [] hit miss c = refl
@@ -31,6 +33,11 @@ sides_emitted link (direction.Both And) s t hit miss c =
 pub sides_put : (link : Link) (d : Direction) (s s' t t' : List Elementary) (hit miss : ℕ) (c : List Insn) (e : Entered) → s' ≡ s → t' ≡ t → sides_before d s' t' hit miss c ≡ e → emitted link (sides d s t) hit miss c ≡ e
 sides_put link d s s' t t' hit miss c e p q h =
     sides_emitted link d s t hit miss c ∙ sym (ap (λ (x : List Elementary). sides_before d x t hit miss c) p) ∙ sym (ap (λ (y : List Elementary). sides_before d s' y hit miss c) q) ∙ h
+
+-- a test stands in front of the code of a formula
+pub test_put : (r : Result ℕ AllocError) (link : Link) (t t' : Elementary) (f : Formula) (hit miss : ℕ) (c new : List Insn) (e : Entered) → t' ≡ t → emitted link f hit miss c ≡ e → IfOk r (λ entry. elementary_before t' e.entry miss e.code ≡ entered new entry) → IfOk r (λ entry. emitted link (Both (Single t) f) hit miss c ≡ entered new entry)
+test_put r link t t' f hit miss c new e p q h =
+    subst (λ (x : Entered). IfOk r (λ entry. elementary_before t x.entry miss x.code ≡ entered new entry)) (sym q) (subst (λ (u : Elementary). IfOk r (λ entry. elementary_before u e.entry miss e.code ≡ entered new entry)) p h)
 
 guarded_emitted : (link : Link) (ts : List Elementary) (f : Formula) (hit miss : ℕ) (c : List Insn) → emitted link (guarded ts f) hit miss c ≡ (let e = emitted link f hit miss c in all_before ts e.entry miss e.code)
 guarded_emitted link [] f hit miss c = refl

@@ -105,13 +105,17 @@ as_truth (operand.Either n m) d = Some (node.Bare (value.Number n (prefix_mask m
 abbrev pub Read : Type 0
 Read = Operand × List Node
 
+-- a node behind its operand; the two are an operand of another sort
+abbrev pub written : Operand → Node → Option (List Node) → Option Read
+written y n o = o >>= λ e. Some (y, n ∷ e)
+
 -- what a frame makes of its operand
 abbrev pub fill : Frame → Operand → List Node → Option Read
-fill frame.Negate x d = as_number x d >>= λ e. Some (operand.Number, node.Negate ∷ e)
-fill (frame.Apply o) x d = as_number x d >>= λ e. Some (operand.Number, node.Apply o ∷ e)
-fill (frame.Compare c) x d = as_number x d >>= λ e. Some (operand.Truth, node.Compare c ∷ e)
-fill frame.Not x d = as_truth x d >>= λ e. Some (operand.Truth, node.Not ∷ e)
-fill (frame.Join j) x d = as_truth x d >>= λ e. Some (operand.Truth, node.Join j ∷ e)
+fill frame.Negate x d = written operand.Number node.Negate (as_number x d)
+fill (frame.Apply o) x d = written operand.Number (node.Apply o) (as_number x d)
+fill (frame.Compare c) x d = written operand.Truth (node.Compare c) (as_number x d)
+fill frame.Not x d = written operand.Truth node.Not (as_truth x d)
+fill (frame.Join j) x d = written operand.Truth (node.Join j) (as_truth x d)
 fill frame.Open x d = None
 fill (frame.Load p) x d = None
 

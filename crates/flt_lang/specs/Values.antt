@@ -77,11 +77,14 @@ mask_of (token.Operator Divide ∷ token.Number m ∷ ts) = (mask.Prefix m, ts)
 mask_of (token.Mask ∷ token.Dotted a p ∷ ts) = (mask.Mask (record { address = a; parts = p }), ts)
 mask_of ts = (mask.Unwritten, ts)
 
+abbrev pub prefix_of : List TokenKind → Option ℕ × List TokenKind
+prefix_of (token.Operator Divide ∷ token.Number m ∷ ts) = (Some m, ts)
+prefix_of ts = (None, ts)
+
 abbrev pub value_of : List TokenKind → Option (Value × List TokenKind)
 value_of (token.Number n ∷ ts) = Some (value.Number n (mask_of ts).0, (mask_of ts).1)
 value_of (token.Dotted a p ∷ ts) = Some (value.Dotted (record { address = a; parts = p }) (mask_of ts).0, (mask_of ts).1)
-value_of (token.Ip6 a ∷ token.Operator Divide ∷ token.Number m ∷ ts) = Some (value.Ip6 a (Some m), ts)
-value_of (token.Ip6 a ∷ ts) = Some (value.Ip6 a None, ts)
+value_of (token.Ip6 a ∷ ts) = Some (value.Ip6 a (prefix_of ts).0, (prefix_of ts).1)
 value_of (token.Mac a ∷ ts) = Some (value.Mac a, ts)
 value_of (token.Range a b ∷ ts) = Some (value.Range a b, ts)
 value_of _ = None

@@ -12,7 +12,7 @@ use crate::value::{NetMask, Value};
 use flt_words::{Cast, Join, Protocol, ValueType};
 
 /// Whether a value goes with a type and a protocol, and then whether its numbers are in range.
-#[derive(Clone, Copy, Debug, PartialEq, Eq)]
+#[derive(Clone, Copy, PartialEq, Eq)]
 pub enum Fit {
     Misfit,
     OutOfRange,

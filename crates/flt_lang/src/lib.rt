@@ -14,8 +14,6 @@ mod node_counts;
 mod quals;
 mod reading;
 mod resolving;
-#[cfg(test)]
-mod rows;
 mod sums;
 mod value;
 

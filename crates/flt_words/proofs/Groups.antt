@@ -1,16 +1,16 @@
 -- Groups of digits, and the parts of a text between separators.
-use Rattle.std.proofs.Common.{◌≡◌, ℕ, ◌+◌, ◌*◌, ◌^◌, ◌<◌, ◌≤◌, List, [], ◌∷◌, ◌++◌, length, refl, sym, ap, ◌∙◌, subst, arith, Bool, false, true, ◌==◌, cond, Result, Ok, Err, lit<, lit≤, Option, MatchOption, map}
+use Rattle.std.proofs.Common.{◌≡◌, ℕ, ◌^◌, ◌<◌, ◌≤◌, List, [], ◌∷◌, ◌++◌, length, refl, sym, ap, ◌∙◌, arith, false, ◌==◌, Result, Ok, Err, lit<, lit≤, MatchOption}
 use Rattle.std.proofs.Math.Nat.{pow-le-pow_right}
 use Rattle.std.proofs.lemmas.Bool.Decides.{nat_tests}
 use Rattle.std.proofs.lemmas.Int.Digits.{digits_value-lt}
-use Rattle.std.specs.List.{AllByRecursion, join_with_byte, slice_split, onto_first}
+use Rattle.std.specs.List.{AllByRecursion, join_with_byte, slice_split}
 use Rattle.std.specs.Result.{result_ok}
 use Rattle.std.specs.Str.Parse.{AllDigits, IsNumeral, digits_value}
 use Rattle.flt_words.specs.declared.address.Group.{Group}
 use Rattle.flt_words.specs.declared.address.Group.TheVariants as group
 use Rattle.flt_words.specs.declared.number.WordFault.{WordFault}
 use Rattle.flt_words.specs.declared.number.WordFault.TheVariants as fault
-use Rattle.flt_words.specs.Addresses.{AreGroups, IsGroup, base_of, group_value, group_values, separator_of}
+use Rattle.flt_words.specs.Addresses.{AreGroups, IsGroup, base_of, group_value, separator_of}
 use Rattle.flt_words.specs.Numbers.{Answers, Writes, is_word_sized}
 use Rattle.flt_words.specs.Characters.{has}
 use Rattle.flt_words.proofs.Cuts.{digits_lack, neither, same}

@@ -1,6 +1,6 @@
 -- A range is cut at its first dash.
-use Rattle.std.proofs.Common.{◌≡◌, ℕ, ◌+◌, List, ◌≤◌, ◌∷◌, ◌++◌, length, take, drop, refl, sym, ap, ◌∙◌, subst, false, ◌==◌, Option, Some, None, arith, lit≤}
-use Rattle.std.proofs.Math.Seq.{take-append_seam, drop-append_seam, drop-append-add}
+use Rattle.std.proofs.Common.{◌≡◌, ℕ, ◌+◌, List, ◌≤◌, ◌∷◌, ◌++◌, length, take, drop, sym, subst, false, ◌==◌, Some, None, lit≤}
+use Rattle.std.proofs.Math.Seq.{take-append_seam, drop-append-add}
 use Rattle.std.specs.Char.{digit_value}
 use Rattle.std.specs.List.{position}
 use Rattle.flt_words.specs.Numbers.{IsRange, WritesDecimal}

@@ -1,5 +1,5 @@
 -- The steps of reading a text's parts as groups.
-use Rattle.std.proofs.Common.{◌≡◌, ℕ, suc, zero, ◌+◌, ◌*◌, ◌^◌, ◌<◌, ◌≤◌, List, [], ◌∷◌, ◌++◌, length, get_or, refl, sym, ap, ◌∙◌, subst, arith, add-one, ◌==◌, map, lit<, lit≤, pow-add, pow-suc}
+use Rattle.std.proofs.Common.{◌≡◌, ℕ, suc, zero, ◌+◌, ◌*◌, ◌^◌, ◌<◌, ◌≤◌, List, [], ◌∷◌, ◌++◌, length, get_or, refl, sym, ap, ◌∙◌, subst, arith, add-one, ◌==◌, map, lit<, pow-add, pow-suc}
 use Rattle.std.proofs.Math.Nat.{add_assoc, mul-le-mul_right, mul-lt-mul_of_pos_right, mul_assoc, pow-le-pow_right, pow-zero}
 use Rattle.std.proofs.lemmas.Int.Digits.{number_push}
 use Rattle.std.proofs.lemmas.List.Splits.{join_with_byte-slice_split}

@@ -1,5 +1,5 @@
 -- A symbol is one or two bytes, and begins as no word and no blank does.
-use Rattle.std.proofs.Common.{◌≡◌, ℕ, ◌<◌, ◌≤◌, List, [], ◌∷◌, refl, sym, subst, ap, ◌∙◌, Bool, true, false, ◌&&◌, ◌||◌, ◌==◌, not, cond, Option, Some, None, get_or, length, nat_lt, codes, arith, lit≤}
+use Rattle.std.proofs.Common.{◌≡◌, ℕ, ◌<◌, ◌≤◌, List, refl, sym, subst, Bool, true, false, ◌&&◌, ◌||◌, ◌==◌, not, cond, Option, Some, get_or, length, nat_lt, codes, arith, lit≤}
 use Rattle.std.proofs.lemmas.Bool.Decides.{nat_tests}
 use Rattle.std.proofs.lemmas.Slice.Eq.{bytes_eq-Decides}
 use Rattle.std.specs.Char.{is_ascii_alphanumeric}

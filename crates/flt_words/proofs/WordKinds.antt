@@ -1,14 +1,14 @@
 -- The colons, points and dashes of the kinds of words.
-use Rattle.std.proofs.Common.{◌≡◌, ◌≢◌, ℕ, ◌+◌, ◌<◌, ◌≤◌, List, [], ◌∷◌, ◌++◌, length, refl, sym, ap, ◌∙◌, subst, arith, Bool, true, false, ◌==◌, ◌||◌, cond, lit≤, None}
+use Rattle.std.proofs.Common.{◌≡◌, ℕ, ◌≤◌, List, [], ◌∷◌, ◌++◌, length, refl, ap, ◌∙◌, arith, Bool, true, false, ◌==◌, ◌||◌, cond, lit≤, None}
 use Rattle.std.specs.Char.{digit_value}
 use Rattle.std.specs.List.{AllByRecursion, join_with_byte}
 use Rattle.flt_words.specs.declared.address.Group.{Group}
 use Rattle.flt_words.specs.declared.address.Group.TheVariants as group
 use Rattle.flt_words.specs.declared.token.TokenKind.{TokenKind}
-use Rattle.flt_words.specs.Addresses.{AreGroups, AreIp6Ends, IsDotted, IsGroup, IsIp6, IsMac, IsWholeIp6, separator_of}
+use Rattle.flt_words.specs.Addresses.{AreGroups, IsDotted, IsGroup, IsIp6, IsMac, separator_of}
 use Rattle.flt_words.specs.Addresses.IsIp6.{shortened, whole}
 use Rattle.flt_words.specs.Characters.{has}
-use Rattle.flt_words.specs.Numbers.{IsNumber, IsRange, Writes, WritesDecimal}
+use Rattle.flt_words.specs.Numbers.{IsNumber, IsRange}
 use Rattle.flt_words.specs.Numbers.IsNumber.{decimal, octal, hexadecimal, capital_hexadecimal}
 use Rattle.flt_words.specs.Numbers.IsRange.{joined}
 use Rattle.flt_words.specs.Spellings.{keyword_of}

@@ -8,8 +8,6 @@ pub mod laws;
 mod lexer;
 mod number;
 mod spelling;
-#[cfg(test)]
-mod tests;
 mod token;
 mod word;
 

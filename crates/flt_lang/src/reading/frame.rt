@@ -9,7 +9,7 @@ ghost use Rattle.flt_lang.specs.Machine.{looseness, room, reach, enclosed_operan
 use flt_words::{Comparison, Join, Operator, Protocol, TokenKind};
 
 /// What waits for an operand on its right, or for its closing token.
-#[derive(Clone, Copy, Debug, PartialEq, Eq)]
+#[derive(Clone, Copy, PartialEq, Eq)]
 pub enum Frame {
     Negate,
     Apply(Operator),
@@ -23,7 +23,7 @@ pub enum Frame {
 /// An operand that was just read. The nodes of a truth and of a number are written. The others may
 /// still become either: a plain number, which may also be the front of a longer value, and a number
 /// in parentheses or with the length of a prefix behind it.
-#[derive(Clone, Copy, Debug, PartialEq, Eq)]
+#[derive(Clone, Copy, PartialEq, Eq)]
 pub enum Operand {
     Truth,
     Number,

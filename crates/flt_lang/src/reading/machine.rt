@@ -2,7 +2,7 @@
 //! frames, and decides late which sort an operand is of.
 
 ghost use Rattle.std.specs.Prelude.{◌≡◌, reverse, ◌∷◌, Some, None, Err, IfOk, IfSome, IfNone, OnOk, length, vec_len, drop, ◌<◌, ◌≤◌};
-ghost use Rattle.flt_lang.specs.Machine.{as_number, as_truth, prefix_mask, fill, settle, looseness, IsLoose, number_waits, truth_waits, place, prefix_len, go_on, run, finish};
+ghost use Rattle.flt_lang.specs.Machine.{as_number, as_truth, prefix_mask, written, fill, settle, looseness, IsLoose, number_waits, truth_waits, place, prefix_len, go_on, run, finish};
 
 use crate::node::Node;
 use crate::reading::fault::ReadFault;
@@ -65,6 +65,38 @@ fn write_truth<A: Allocator>(nodes: &mut Vec<Node, A>, operand: Operand) -> Resu
     }
 }
 
+/// Writes a node behind its operand, a number. What the two are is answered.
+fn fill_number<A: Allocator>(
+    nodes: &mut Vec<Node, A>,
+    operand: Operand,
+    node: Node,
+    whole: Operand,
+) -> Result<Operand, ReadFault>
+    ensures ok { IfOk result (λ x. written whole node (as_number operand (reverse nodes.old.items))
+        ≡ Some (x, reverse nodes.new.items)) }
+    ensures none { result ≡ Err ReadFault.NotAnExpression → written whole node (as_number operand (reverse nodes.old.items)) ≡ None }
+{
+    write_number(nodes, operand)?;
+    nodes.push(node)?;
+    Ok(whole)
+}
+
+/// The same behind a truth.
+fn fill_truth<A: Allocator>(
+    nodes: &mut Vec<Node, A>,
+    operand: Operand,
+    node: Node,
+    whole: Operand,
+) -> Result<Operand, ReadFault>
+    ensures ok { IfOk result (λ x. written whole node (as_truth operand (reverse nodes.old.items))
+        ≡ Some (x, reverse nodes.new.items)) }
+    ensures none { result ≡ Err ReadFault.NotAnExpression → written whole node (as_truth operand (reverse nodes.old.items)) ≡ None }
+{
+    write_truth(nodes, operand)?;
+    nodes.push(node)?;
+    Ok(whole)
+}
+
 /// Writes a frame behind its operand.
 fn fill<A: Allocator>(
     nodes: &mut Vec<Node, A>,
@@ -77,31 +109,15 @@ fn fill<A: Allocator>(
         → fill frame operand (reverse nodes.old.items) ≡ None }
 {
     match frame {
-        Frame::Negate => {
-            write_number(nodes, operand)?;
-            nodes.push(Node::Negate)?;
-            Ok(Operand::Number)
-        }
+        Frame::Negate => fill_number(nodes, operand, Node::Negate, Operand::Number),
         Frame::Apply(operator) => {
-            write_number(nodes, operand)?;
-            nodes.push(Node::Apply(operator))?;
-            Ok(Operand::Number)
+            fill_number(nodes, operand, Node::Apply(operator), Operand::Number)
         }
         Frame::Compare(comparison) => {
-            write_number(nodes, operand)?;
-            nodes.push(Node::Compare(comparison))?;
-            Ok(Operand::Truth)
+            fill_number(nodes, operand, Node::Compare(comparison), Operand::Truth)
         }
-        Frame::Not => {
-            write_truth(nodes, operand)?;
-            nodes.push(Node::Not)?;
-            Ok(Operand::Truth)
-        }
-        Frame::Join(join) => {
-            write_truth(nodes, operand)?;
-            nodes.push(Node::Join(join))?;
-            Ok(Operand::Truth)
-        }
+        Frame::Not => fill_truth(nodes, operand, Node::Not, Operand::Truth),
+        Frame::Join(join) => fill_truth(nodes, operand, Node::Join(join), Operand::Truth),
         Frame::Open | Frame::Load(_) => Err(ReadFault::NotAnExpression),
     }
 }

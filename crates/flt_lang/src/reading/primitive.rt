@@ -4,7 +4,7 @@
 ghost use Rattle.std.specs.Prelude.{◌≡◌, List, IsTrue, IfSome, IfNone, Some, None, length, drop, ◌<◌, ◌≤◌};
 ghost use Rattle.flt_words.specs.declared.token.TokenKind.{TokenKind};
 ghost use Rattle.flt_lang.specs.declared.quals.Quals.{Quals};
-ghost use Rattle.flt_lang.specs.Values.{quals_of, protocol_of, direction_of, type_of, mask_of, value_of};
+ghost use Rattle.flt_lang.specs.Values.{quals_of, protocol_of, direction_of, type_of, mask_of, prefix_of, value_of};
 ghost use Rattle.flt_lang.specs.Machine.{valued_of};
 
 use crate::quals::{Direction, Quals};
@@ -94,6 +94,21 @@ fn read_mask(tokens: &[TokenKind]) -> (NetMask, usize)
     }
 }
 
+fn read_prefix(tokens: &[TokenKind]) -> (Option<u32>, usize)
+    ensures value { result.0 ≡ (prefix_of tokens.now).0 }
+    ensures rest { drop result.1 tokens.now ≡ (prefix_of tokens.now).1 }
+    ensures within { result.1 ≤ length tokens.now }
+{
+    match tokens {
+        [
+            TokenKind::Operator(Operator::Divide),
+            TokenKind::Number(len),
+            ..
+        ] => { (Some(*len), 2) }
+        _ => (None, 0),
+    }
+}
+
 /// A value, with the mask behind it.
 pub fn read_value(tokens: &[TokenKind]) -> Option<(Value, usize)>
     ensures some { IfSome result (λ r. value_of tokens.now ≡ Some (r.0, drop r.1 tokens.now)) }
@@ -102,6 +117,11 @@ pub fn read_value(tokens: &[TokenKind]) -> Option<(Value, usize)>
     ensures none { IfNone result (value_of tokens.now ≡ None) }
 {
     match tokens {
+        [] => None,
+        [TokenKind::Ip6(address), rest @ ..] => {
+            let (prefix, used) = read_prefix(rest);
+            Some((Value::Ip6(*address, prefix), 1 + used))
+        }
         [TokenKind::Number(number), rest @ ..] => {
             let (mask, used) = read_mask(rest);
             Some((Value::Number(*number, mask), 1 + used))
@@ -114,13 +134,6 @@ pub fn read_value(tokens: &[TokenKind]) -> Option<(Value, usize)>
             };
             Some((Value::Dotted(dotted, mask), 1 + used))
         }
-        [
-            TokenKind::Ip6(address),
-            TokenKind::Operator(Operator::Divide),
-            TokenKind::Number(len),
-            ..
-        ] => Some((Value::Ip6(*address, Some(*len)), 3)),
-        [TokenKind::Ip6(address), ..] => Some((Value::Ip6(*address, None), 1)),
         [TokenKind::Mac(address), ..] => Some((Value::Mac(*address), 1)),
         [TokenKind::Range { first, last }, ..] => {
             let range = Value::Range {

@@ -1,5 +1,5 @@
 -- Each turn reads the next part.
-use Rattle.std.proofs.Common.{◌≡◌, ◌≤◌, ◌<◌, ◌^◌, ◌+◌, ◌*◌, ◌++◌, ◌∷◌, [], ◌==◌, false, length, get_or, List, ℕ, length-append, map, arith, sym, ap, ◌∙◌, subst, rules, of_calls}
+use Rattle.std.proofs.Common.{◌≡◌, ◌<◌, ◌==◌, length, get_or, List, ℕ, length-append, map, arith, sym, ap, ◌∙◌, rules, of_calls}
 use Rattle.std.proofs.lemmas.Iterator.Consumers.{YieldsList-end, YieldsList-turn}
 use Rattle.std.proofs.lemmas.List.{length-map}
 use Rattle.std.proofs.lemmas.Iterator.Splits.{YieldsList-from_slice_split}

@@ -1,5 +1,5 @@
 -- Four hexadecimal digits write a number that fits.
-use Rattle.std.proofs.Common.{◌≡◌, arith}
+use Rattle.std.proofs.Common.{arith}
 use Rattle.flt_words.proofs.Groups.{small_answer}
 use Rattle.flt_words.proofs.address.hexadecimal.Goals as goal
 

@@ -1,5 +1,5 @@
 -- Six groups are 48 bits.
-use Rattle.std.proofs.Common.{◌≡◌, ◌^◌, arith, ◌<◌, length, ap, subst}
+use Rattle.std.proofs.Common.{◌^◌, arith, ◌<◌, length, ap, subst}
 use Rattle.flt_words.specs.declared.address.Group.TheVariants as group
 use Rattle.flt_words.proofs.AddressValues.{reads_below, same_groups}
 use Rattle.flt_words.proofs.address.mac.Goals as goal

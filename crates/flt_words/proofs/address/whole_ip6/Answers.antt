@@ -1,5 +1,5 @@
 -- A text is one list of groups.
-use Rattle.std.proofs.Common.{◌≡◌, arith, length, ap}
+use Rattle.std.proofs.Common.{arith, length, ap}
 use Rattle.flt_words.proofs.AddressValues.{same_groups}
 use Rattle.flt_words.proofs.address.whole_ip6.Goals as goal
 

@@ -1,10 +1,9 @@
 -- The loop's steps.
-use Rattle.std.proofs.Common.{◌≡◌, ◌≢◌, ◌≤◌, ◌<◌, ◌+◌, ◌-◌, ◌==◌, count_by, length, take, drop, arith, sym, ap, ◌∙◌, subst, length-drop, Err}
+use Rattle.std.proofs.Common.{◌+◌, ◌==◌, arith, sym, ◌∙◌, subst, length-drop, Err}
 use Rattle.std.proofs.lemmas.Result.{err_from_is_err_and}
-use Rattle.flt_words.specs.Characters.{is_inside}
 use Rattle.flt_words.specs.Tokens.{IsRefused, IsToken, Tokens}
 use Rattle.flt_words.specs.Tokens.Tokens.{short, too_long}
-use Rattle.flt_words.proofs.Lexing.{IsCut, blank_keeps_closed, blank_keeps_opened, counted_few, counted_step, cut_blank, cut_end, cut_refused, cut_token, inside_at}
+use Rattle.flt_words.proofs.Lexing.{blank_keeps_closed, blank_keeps_opened, counted_few, counted_step, cut_blank, cut_end, cut_refused, cut_token, inside_at}
 use Rattle.flt_words.proofs.Pieces.{longest_some}
 use Rattle.flt_words.proofs.lexer.lex.Goals as goal
 

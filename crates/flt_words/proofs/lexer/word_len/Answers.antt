@@ -1,5 +1,5 @@
 -- The loop's steps.
-use Rattle.std.proofs.Common.{◌≡◌, ◌+◌, ◌<◌, length, arith, sym, ◌∙◌, subst}
+use Rattle.std.proofs.Common.{◌+◌, arith, sym, ◌∙◌, subst}
 use Rattle.flt_words.proofs.Pieces.{IsScanned, longest_word, scanned_between, scanned_end}
 use Rattle.flt_words.proofs.lexer.word_len.Goals as goal
 use Rattle.flt_words.proofs.lexer.word_len.Goals.{then-starts_word, else-starts_word}

@@ -1,5 +1,5 @@
 -- What the tests told, as the digits' number.
-use Rattle.std.proofs.Common.{◌≡◌, ◌<◌, ◌≤◌, ◌^◌, length, arith, sym, ap, ◌∙◌, ◌==◌, false, true, rules}
+use Rattle.std.proofs.Common.{◌≡◌, ◌<◌, length, arith, sym, ◌∙◌, ◌==◌, false, true}
 use Rattle.std.specs.Str.Parse.{digits_value}
 use Rattle.flt_words.proofs.Digits.{are_digits, does_not_fit, fits, some_from_test, some_unless_test, writes_from_test, writes_pass}
 use Rattle.flt_words.proofs.number.numeral.Goals as goal

@@ -1,5 +1,5 @@
 -- The word is cut at its first dash.
-use Rattle.std.proofs.Common.{◌≡◌, ◌∙◌, sym, ◌+◌, drop, take}
+use Rattle.std.proofs.Common.{◌∙◌, sym, ◌+◌, drop, take}
 use Rattle.std.proofs.lemmas.List.{take_rest}
 use Rattle.flt_words.specs.Numbers.{WritesDecimal, is_word_sized}
 use Rattle.flt_words.proofs.Answering.{answers_along, answers_both}

@@ -1,5 +1,5 @@
 -- A word without a sign.
-use Rattle.std.proofs.Common.{◌≡◌, sym, ◌∙◌, refl, rules}
+use Rattle.std.proofs.Common.{sym, ◌∙◌, refl, rules}
 use Rattle.flt_words.specs.declared.token.TokenKind.TheVariants as token
 use Rattle.flt_words.specs.Numbers.{IsNumber, is_word_sized}
 use Rattle.flt_words.specs.Words.Stands.{keyword, number}

@@ -1,7 +1,6 @@
 -- A word with a dash, and no colon or point.
-use Rattle.std.proofs.Common.{refl, rules, ◌&&◌}
+use Rattle.std.proofs.Common.{refl, rules}
 use Rattle.flt_words.specs.declared.token.TokenKind.TheVariants as token
-use Rattle.flt_words.specs.Numbers.{IsRange, is_word_sized}
 use Rattle.flt_words.specs.Words.Stands.{range}
 use Rattle.flt_words.proofs.Answering.{answers_mapped}
 use Rattle.flt_words.proofs.WordKinds.{dash_sign, only_range}

@@ -3,9 +3,7 @@
 mod listings;
 mod programs;
 
-use crate::insn::Insn;
-use crate::program::{Program, check};
-use crate::reading::read_listing;
+use flt_bpf::{Insn, Program, check, read_listing};
 use std::alloc::Global;
 use std::test::Fail;
 

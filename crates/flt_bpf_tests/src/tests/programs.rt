@@ -1,10 +1,7 @@
 //! What is refused as a program, and what runs answer.
 
 use super::{IPV4, insn, program_of};
-use crate::fault::CheckFault;
-use crate::insn::Insn;
-use crate::program::{check, run};
-use crate::reading::read_listing;
+use flt_bpf::{CheckFault, Insn, check, read_listing, run};
 use std::process::Abort;
 use std::test::Fail;
 

@@ -1,11 +1,8 @@
 //! Which texts are read as listings, and what is written.
 
 use super::{IPV4, insn, program_of};
-use crate::fault::ListingFault;
-use crate::insn::Insn;
-use crate::reading::read_listing;
-use crate::writing::write_listing;
 use cap_octet::{MemOutput, TrialOutput};
+use flt_bpf::{Insn, ListingFault, read_listing, write_listing};
 use std::alloc::{AllocError, Global};
 use std::process::Abort;
 use std::test::Fail;

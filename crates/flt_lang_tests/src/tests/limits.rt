@@ -1,7 +1,7 @@
 //! Nesting, length, and want of memory.
 
 use super::compile;
-use crate::counts::{bound, nodes, tests, words};
+use flt_lang::{bound, nodes, tests, words};
 use flt_words::ExprFault;
 use linked_list_allocator::LocalHeap;
 use std::alloc::{AllocError, Global};

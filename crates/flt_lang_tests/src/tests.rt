@@ -4,10 +4,7 @@ mod limits;
 mod refusals;
 mod trees;
 
-use crate::checked::{Checked, check};
-use crate::counts::{bound, nodes, tests, words};
-use crate::reading::parse;
-use crate::resolving::resolve;
+use flt_lang::{Checked, bound, check, nodes, parse, resolve, tests, words};
 use flt_words::{ExprFault, lex};
 use std::alloc::Allocator;
 use std::test::Fail;

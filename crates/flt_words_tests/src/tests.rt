@@ -1,6 +1,6 @@
 //! What no clause says: the spellings themselves, and that texts are lexed.
 
-use crate::{
+use flt_words::{
     Cast, Comparison, ExprFault, Join, Operator, Protocol, Side, Size, TokenKind, ValueType, lex,
 };
 use std::process::Abort;

@@ -1,0 +1,5 @@
+//! Tests of flt_bpf.
+#![tactic(auto)]
+
+#[cfg(test)]
+mod tests;

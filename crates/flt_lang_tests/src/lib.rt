@@ -1,0 +1,5 @@
+//! Tests of flt_lang.
+#![tactic(auto)]
+
+#[cfg(test)]
+mod tests;

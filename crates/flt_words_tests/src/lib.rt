@@ -1,0 +1,5 @@
+//! Tests of flt_words.
+#![tactic(auto)]
+
+#[cfg(test)]
+mod tests;
