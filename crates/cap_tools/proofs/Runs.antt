@@ -1,4 +1,4 @@
--- An edit from its start to its end.
+-- A job from its start to its end.
 use Rattle.std.proofs.Common.{◌≡◌, inl, inr, ℕ, List, [], ◌++◌, refl, sym, ◌∙◌, ap, subst}
 use Rattle.cap_io.specs.Capture.{Items, Ending, FaultAt, items}
 use Rattle.cap_io.specs.Capture as capture
@@ -8,72 +8,74 @@ use Rattle.cap_io.proofs.Standing.{IsAt-start}
 use Rattle.cap_io.proofs.Texts.{HasPackets-none}
 use Rattle.cap_tools.specs.declared.progress.End.{End}
 use Rattle.cap_tools.specs.declared.progress.End.TheVariants.{Clean, Broken, OutputFailed}
-use Rattle.cap_tools.specs.Edited.{EditOptions, edited, edit_output, edit_outcome, message_of, status_of}
-use Rattle.cap_tools.specs.Editing.{EditView, edit_at, IsDecided, Comes, EndLeaves, RunGives}
-use Rattle.cap_tools.specs.Running.{end_message, end_status, OutputView, Leaves, EditLeaves}
-use Rattle.cap_tools.proofs.Selecting.{AreTaken-none}
+use Rattle.cap_tools.specs.Chosen.{Choice, listed, output_for, outcome_of, message_of, status_of}
+use Rattle.cap_tools.specs.Working.{WorkView, work_at, IsDecided, Comes, EndLeaves, RunGives}
+use Rattle.cap_tools.specs.Running.{end_message, end_status, OutputView, Leaves, WorkLeaves}
+use Rattle.cap_tools.proofs.Choosing.{AreChosen-none, AreTaken-none}
 
 -- nothing is done yet
-pub IsDecided-start : (text before : List ℕ) (options : EditOptions) (given failures outs : ℕ)
-    → IsDecided text [] before (edit_at options (source_at text given failures)) (sink_at options.format before outs)
-IsDecided-start text before options given failures outs = record {
+pub IsDecided-start : (text before : List ℕ) (choice : Choice) (given failures outs : ℕ)
+    → IsDecided text [] before (work_at choice (source_at text given failures)) (sink_at choice.format before outs)
+IsDecided-start text before choice given failures outs = record {
   packets = [];
   at = IsAt-start text given failures;
   count = refl;
-  output = HasPackets-none options.format before outs;
-  taken = AreTaken-none options.format;
+  kept = [];
+  chosen = AreChosen-none choice;
+  output = HasPackets-none choice.format before outs;
+  taken = AreTaken-none choice.format;
   format = refl;
 }
 
 abbrev pub output_view : SinkView → OutputView
 output_view sink = record { written = sink.written; failures = sink.failures }
 
-comes-leaves : (held : Items) (options same : EditOptions) (name : List ℕ) (out : OutputView) (sink : SinkView) (ending : Ending) → same ≡ options → Comes held out.written same sink ending
-    → Leaves (edit_outcome options name held) out (output_view sink) (message_of name ending) (status_of ending)
-comes-leaves held options same name out sink ending e comes = record {
-  output = comes.written ∙ ap (λ (o : EditOptions). out.written ++ edit_output o held) e;
-  messages = ap (message_of name) (sym comes.ends ∙ ap (λ (o : EditOptions). (edited o held).ending) e);
-  answered = ap status_of (sym comes.ends ∙ ap (λ (o : EditOptions). (edited o held).ending) e);
+comes-leaves : (held : Items) (choice same : Choice) (name : List ℕ) (out : OutputView) (sink : SinkView) (ending : Ending) → same ≡ choice → Comes held out.written same sink ending
+    → Leaves (outcome_of choice name held) out (output_view sink) (message_of name ending) (status_of ending)
+comes-leaves held choice same name out sink ending e comes = record {
+  output = comes.written ∙ ap (λ (o : Choice). out.written ++ output_for o held) e;
+  messages = ap (message_of name) (sym comes.ends ∙ ap (λ (o : Choice). (listed o held).ending) e);
+  answered = ap status_of (sym comes.ends ∙ ap (λ (o : Choice). (listed o held).ending) e);
 }
 
 -- what a run leaves at its end
-pub run-leaves : (text : List ℕ) (first last : EditView) (start sink : SinkView) (end : End) (input output : List ℕ) → last.options ≡ first.options → EndLeaves text start.written first start end last sink
-    → EditLeaves first.options input output text (first.source.failures, last.source.failures) (output_view start) (output_view sink) (end_message input output end last.source.offset) (end_status end)
+pub run-leaves : (text : List ℕ) (first last : WorkView) (start sink : SinkView) (end : End) (input output : List ℕ) → last.choice ≡ first.choice → EndLeaves text start.written first start end last sink
+    → WorkLeaves first.choice input output text (first.source.failures, last.source.failures) (output_view start) (output_view sink) (end_message input output end last.source.offset) (end_status end)
 run-leaves text first last start sink Clean input output same leaves =
-    inl (comes-leaves (items text) first.options last.options input (output_view start) sink capture.End same leaves)
+    inl (comes-leaves (items text) first.choice last.choice input (output_view start) sink capture.End same leaves)
 run-leaves text first last start sink (Broken fault) input output same leaves =
     elim leaves [
-      | inl faulty ↦ inl (comes-leaves (items text) first.options last.options input (output_view start) sink (FaultAt fault last.source.offset) same faulty)
+      | inl faulty ↦ inl (comes-leaves (items text) first.choice last.choice input (output_view start) sink (FaultAt fault last.source.offset) same faulty)
       | inr cut ↦ inr (inl (record {
         fault = fault;
         held = cut.held;
         cut = cut.cut;
         why = cut.why;
-        leaves = comes-leaves cut.held first.options last.options input (output_view start) sink (FaultAt fault last.source.offset) same cut.comes;
+        leaves = comes-leaves cut.held first.choice last.choice input (output_view start) sink (FaultAt fault last.source.offset) same cut.comes;
       }))
     ]
 run-leaves text first last start sink OutputFailed input output same leaves =
-    inr (inr (inl (rw (← same) (record {
+    inr (inr (rw (← same) (record {
       failures = leaves.failures;
       count = leaves.count;
       within = leaves.within;
       written = leaves.written;
       told = refl;
       answered = refl;
-    }))))
+    })))
 
-run-exact : (text before : List ℕ) (options : EditOptions) (given failures outs : ℕ) (last : EditView) (sink : SinkView) (end : End) (input output : List ℕ)
-    → RunGives (edit_at options (source_at text given failures)) (sink_at options.format before outs) end last sink
-    → EditLeaves options input output text (failures, last.source.failures) (record { written = before; failures = outs }) (output_view sink) (end_message input output end last.source.offset) (end_status end)
-run-exact text before options given failures outs last sink end input output gives =
-    let r = gives text before (IsDecided-start text before options given failures outs) in
-    run-leaves text (edit_at options (source_at text given failures)) last (sink_at options.format before outs) sink end input output r.0 r.1
+run-exact : (text before : List ℕ) (choice : Choice) (given failures outs : ℕ) (last : WorkView) (sink : SinkView) (end : End) (input output : List ℕ)
+    → RunGives (work_at choice (source_at text given failures)) (sink_at choice.format before outs) end last sink
+    → WorkLeaves choice input output text (failures, last.source.failures) (record { written = before; failures = outs }) (output_view sink) (end_message input output end last.source.offset) (end_status end)
+run-exact text before choice given failures outs last sink end input output gives =
+    let r = gives text before (IsDecided-start text before choice given failures outs) in
+    run-leaves text (work_at choice (source_at text given failures)) last (sink_at choice.format before outs) sink end input output r.0 r.1
 
 -- a run from a new source and a new sink
-pub run-started : (text before : List ℕ) (options : EditOptions) (given failures outs : ℕ) (first last : EditView) (start sink : SinkView) (end : End) (input output : List ℕ)
-    → first ≡ edit_at options (source_at text given failures) → start ≡ sink_at options.format before outs → RunGives first start end last sink
-    → EditLeaves options input output text (failures, last.source.failures) (record { written = before; failures = outs }) (output_view sink) (end_message input output end last.source.offset) (end_status end)
-run-started text before options given failures outs first last start sink end input output e f gives =
-    let P : EditView → Type 0 = λ v. RunGives v start end last sink in
-    let Q : SinkView → Type 0 = λ v. RunGives (edit_at options (source_at text given failures)) v end last sink in
-    run-exact text before options given failures outs last sink end input output (subst Q f (subst P e gives))
+pub run-started : (text before : List ℕ) (choice : Choice) (given failures outs : ℕ) (first last : WorkView) (start sink : SinkView) (end : End) (input output : List ℕ)
+    → first ≡ work_at choice (source_at text given failures) → start ≡ sink_at choice.format before outs → RunGives first start end last sink
+    → WorkLeaves choice input output text (failures, last.source.failures) (record { written = before; failures = outs }) (output_view sink) (end_message input output end last.source.offset) (end_status end)
+run-started text before choice given failures outs first last start sink end input output e f gives =
+    let P : WorkView → Type 0 = λ v. RunGives v start end last sink in
+    let Q : SinkView → Type 0 = λ v. RunGives (work_at choice (source_at text given failures)) v end last sink in
+    run-exact text before choice given failures outs last sink end input output (subst Q f (subst P e gives))

@@ -7,11 +7,9 @@ use Rattle.cap_octet.specs.declared.fault.Fault.{Fault}
 use Rattle.cap_octet.specs.declared.fault.Fault.TheVariants.{ReadFailed, NoMemory}
 use Rattle.cap_io.specs.Capture.{Items, items}
 use Rattle.cap_io.specs.Standing.{IsCutShort}
-use Rattle.cap_tools.specs.declared.command.Command.{Command}
-use Rattle.cap_tools.specs.declared.command.Command.TheVariants as command
 use Rattle.cap_tools.specs.declared.progress.End.{End}
 use Rattle.cap_tools.specs.declared.progress.End.TheVariants.{Clean, Broken, OutputFailed}
-use Rattle.cap_tools.specs.Edited.{EditOptions, options_of, Outcome, edit_output, edit_outcome}
+use Rattle.cap_tools.specs.Chosen.{Choice, Outcome, output_for, outcome_of}
 use Rattle.cap_tools.specs.Messages.{fault_message, write_failed_message, no_memory_message}
 
 -- ---- what is told
@@ -32,11 +30,20 @@ pub record OutputView : Type 0 where
   pub written : List ℕ
   pub failures : ℕ
 
+abbrev pub seen : List ℕ → ℕ → OutputView
+seen written failures = record { written = written; failures = failures }
+
 -- A message is written whole; or it is lost, in whole or past a beginning, where its device failed.
 pub record IsTold (tells : Bool) (old : OutputView) (message : List ℕ) (new : OutputView) : Type 0 where
   pub answer : Result (Unit {0}) DeviceFault
   pub told : IsTrue tells → AppendsOrStops answer old.written message new.written
   pub counted : new.failures ≡ old.failures + failures_of answer
+
+-- what a run leaves that ends by some message, `tells` being whether the messages' device tells its bytes
+pub record Runs (leaves : List ℕ → Type 0) (tells : Bool) (err err' : OutputView) : Type 0 where
+  pub message : List ℕ
+  pub left : leaves message
+  pub told : IsTold tells err message err'
 
 -- ---- the ways in which a run ends
 
@@ -46,48 +53,42 @@ pub record Leaves (outcome : Outcome) (out out' : OutputView) (message : List �
   pub messages : message ≡ outcome.messages
   pub answered : status ≡ outcome.status
 
--- The input's device failed in this run, or there was no memory for a unit: then all is as if the input ended by
--- this fault where that unit begins.
-pub record IsCut (options : EditOptions) (name text : List ℕ) (failures failures' : ℕ) (out out' : OutputView) (message : List ℕ) (status : ℕ) : Type 0 where
+-- The input's device failed in this run, or there was no memory for a unit or for what decides its packet: then all is
+-- as if the input ended by this fault where that unit begins.
+pub record IsCut (choice : Choice) (name text : List ℕ) (failures failures' : ℕ) (out out' : OutputView) (message : List ℕ) (status : ℕ) : Type 0 where
   pub fault : Fault
   pub held : Items
   pub cut : IsCutShort text fault held
   pub why : ((fault ≡ ReadFailed) × (failures < failures')) ⊎ (fault ≡ NoMemory)
-  pub leaves : Leaves (edit_outcome options name held) out out' message status
+  pub leaves : Leaves (outcome_of choice name held) out out' message status
 
--- The output's device failed in this run, after a beginning of the output, not the whole.
-pub record OutputFails (options : EditOptions) (name text : List ℕ) (out out' : OutputView) (message : List ℕ) (status : ℕ) : Type 0 where
+-- The output's device failed in this run, after a beginning of these bytes, not the whole.
+pub record OutputFails (bytes name : List ℕ) (out out' : OutputView) (message : List ℕ) (status : ℕ) : Type 0 where
   pub failures : out'.failures ≡ out.failures + 1
   pub count : ℕ
-  pub within : count < length (edit_output options (items text))
-  pub written : out'.written ≡ out.written ++ take count (edit_output options (items text))
+  pub within : count < length bytes
+  pub written : out'.written ≡ out.written ++ take count bytes
   pub told : message ≡ write_failed_message name
   pub answered : status ≡ 1
 
--- There was no memory to begin with, and nothing is written.
-pub record IsNotBegun (out out' : OutputView) (message : List ℕ) (status : ℕ) : Type 0 where
+-- The output is as it was, and this is told.
+pub record OnlyTells (text : List ℕ) (answer : ℕ) (out out' : OutputView) (message : List ℕ) (status : ℕ) : Type 0 where
   pub output : out' ≡ out
-  pub told : message ≡ no_memory_message
-  pub answered : status ≡ 1
+  pub told : message ≡ text
+  pub answered : status ≡ answer
 
--- The input, whose bytes are this text, goes into the output.
-abbrev pub EditLeaves : EditOptions → List ℕ → List ℕ → List ℕ → ℕ × ℕ → OutputView → OutputView → List ℕ → ℕ → Type 0
-EditLeaves options input output text failures out out' message status =
-    Leaves (edit_outcome options input (items text)) out out' message status
-    ⊎ IsCut options input text failures.0 failures.1 out out' message status
-    ⊎ OutputFails options output text out out' message status
-    ⊎ IsNotBegun out out' message status
+-- There was no memory to begin with, and nothing is written.
+abbrev pub IsNotBegun : OutputView → OutputView → List ℕ → ℕ → Type 0
+IsNotBegun out out' message status = OnlyTells no_memory_message 1 out out' message status
 
--- what a run leaves, of which `tells` is whether the messages' device tells its bytes
-pub record Runs (options : EditOptions) (input output text : List ℕ) (failures : ℕ × ℕ) (out : OutputView × OutputView) (tells : Bool) (err : OutputView × OutputView) (status : ℕ) : Type 0 where
-  pub message : List ℕ
-  pub leaves : EditLeaves options input output text failures out.0 out.1 message status
-  pub told : IsTold tells err.0 message err.1
+-- The packets of the input, whose bytes are this text, go into the output as they are decided.
+abbrev pub WorkLeaves : Choice → List ℕ → List ℕ → List ℕ → ℕ × ℕ → OutputView → OutputView → List ℕ → ℕ → Type 0
+WorkLeaves choice input output text failures out out' message status =
+    Leaves (outcome_of choice input (items text)) out out' message status
+    ⊎ IsCut choice input text failures.0 failures.1 out out' message status
+    ⊎ OutputFails (output_for choice (items text)) output out out' message status
 
 -- ---- the parts of a call
-
-abbrev pub edit_options : {Z : Type 0} → Command Z → EditOptions
-edit_options (command.Edit edit) = options_of edit
 
 abbrev pub name_at : {Z : Type 0} → List (String Z) → ℕ → List ℕ
 name_at names i = option_map_or string_bytes (slice_get names i) []

@@ -1,5 +1,5 @@
 -- Which packets an edit keeps, by their numbers.
-use Rattle.std.specs.Prelude.{ℕ, ◌+◌, ◌&&◌, Bool, not, nat_le, List, [], ◌∷◌, if◌then◌else◌}
+use Rattle.std.specs.Prelude.{ℕ, ◌&&◌, Bool, not, nat_le, List, if◌then◌else◌}
 use Rattle.std.specs.List.{list_any}
 
 -- some range names the number
@@ -9,9 +9,3 @@ is_named ranges number = list_any (λ range. nat_le range.0 number && nat_le num
 -- named packets are deleted, or alone kept
 abbrev pub is_kept : List (ℕ × ℕ) → Bool → ℕ → Bool
 is_kept ranges keep number = if keep then is_named ranges number else not (is_named ranges number)
-
--- those of the items whose numbers are chosen, the first of them having this number
-abbrev pub selected : {X : Type 0} → (ℕ → Bool) → ℕ → List X → List X
-selected chosen number [] = []
-selected chosen number (x ∷ xs) =
-    if chosen number then x ∷ selected chosen (number + 1) xs else selected chosen (number + 1) xs

@@ -1,10 +1,11 @@
 //! What is asked for.
-ghost use Rattle.std.specs.Prelude.{◌≡◌};
+ghost use Rattle.std.specs.Prelude.{◌≡◌, string_bytes};
 ghost use Rattle.std.specs.List.{list_all};
-ghost use Rattle.cap_tools.specs.Command.{is_proper, is_range, has_proper_ranges};
+ghost use Rattle.cap_tools.specs.Command.{is_proper, is_range, has_one_filter, has_proper_ranges};
 ghost use Rattle.cap_tools.specs.Selected.{is_named, is_kept};
 
 use cap_octet::Format;
+use flt_gen::Link;
 use std::alloc::{Allocator, Global};
 
 /// How many ranges an edit has at most.
@@ -14,6 +15,8 @@ const MOST_RANGES: usize = 512;
 #[derive(Drop)]
 pub enum Command<A: Allocator = Global> {
     Edit(Edit<A>),
+    Print(Print<A>),
+    Compile(Compile<A>),
 }
 
 /// Deletes the packets whose numbers, counted from 1, are in the ranges, or keeps them alone (editcap(1)).
@@ -27,14 +30,36 @@ pub struct Edit<A: Allocator = Global> {
     pub format: Format,
 }
 
+/// Writes the packets that pass (tcpdump(1) with `-r` and `-w`).
+#[derive(Drop)]
+pub struct Print<A: Allocator = Global> {
+    /// The filter expression (pcap-filter(7)). A packet passes where it reads yes; all packets pass an empty one.
+    pub expr: String<A>,
+    /// The bytes of a listing. Where there are some a packet passes where the program answers other than 0.
+    pub code: Option<Vec<u8, A>>,
+    /// The format that is written.
+    pub write: Format,
+}
+
+/// Writes a listing of a program for an expression (tcpdump(1) with `-ddd`).
+#[derive(Drop)]
+pub struct Compile<A: Allocator = Global> {
+    /// The filter expression.
+    pub expr: String<A>,
+    /// The link on which the program is to be run.
+    pub link: Link,
+}
+
 impl<A: Allocator> Command<A> {
     /// Whether the command may be run on so many inputs: an edit has one input, and at most 512 ranges, each from
-    /// 1 on, in order and below 2^63.
+    /// 1 on, in order and below 2^63; a print has one input, and no listing beside words; a compilation has none.
     pub fn is_proper(&self, inputs: usize) -> bool
         ensures { result ≡ is_proper self.now inputs }
     {
         match self {
             Command::Edit(edit) => inputs == 1 && edit.has_proper_ranges(),
+            Command::Print(print) => inputs == 1 && print.has_one_filter(),
+            Command::Compile(_) => inputs == 0,
         }
     }
 }
@@ -72,5 +97,13 @@ impl<A: Allocator> Edit<A> {
         ensures { result ≡ is_kept self.now.ranges.items self.now.keep number }
     {
         self.names(number) == self.keep
+    }
+}
+
+impl<A: Allocator> Print<A> {
+    fn has_one_filter(&self) -> bool
+        ensures { result ≡ has_one_filter (string_bytes self.now.expr) self.now.code }
+    {
+        self.expr.is_empty() || self.code.is_none()
     }
 }

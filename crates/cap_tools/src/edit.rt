@@ -1,11 +1,11 @@
 //! An edit under way.
 ghost use Rattle.std.specs.Prelude.{◌≡◌, ◌<◌, IsTrue, true, false};
-ghost use Rattle.cap_tools.specs.Editing.{PutsSome, unwritten};
 
 use crate::command::Edit;
-use crate::progress::{End, Progress};
+use crate::progress::Progress;
+use crate::work::{put_head, read_on, unwritten};
 use cap_io::{Sink, Source};
-use cap_octet::{Fault, Input, Output};
+use cap_octet::{Input, Output};
 use std::alloc::Allocator;
 use std::marker::Model;
 
@@ -22,7 +22,8 @@ pub struct Editing<I: Input, A: Allocator> {
 
 impl<I: Input, A: Allocator> Model for Editing<I, A> {
     ghost use Rattle.cap_tools.specs.Edited.{options_of};
-    ghost use Rattle.cap_tools.specs.Editing.{EditView, IsCounted};
+    ghost use Rattle.cap_tools.specs.Editing.{EditView};
+    ghost use Rattle.cap_tools.specs.Working.{IsCounted};
 
     ghost Value = { EditView };
 
@@ -31,32 +32,10 @@ impl<I: Input, A: Allocator> Model for Editing<I, A> {
     ghost invariant = { λ e. IsCounted e.decided e.waiting e.source.given };
 }
 
-/// Puts the packet in hand, if there is one.
-fn put_head<I: Input, O: Output, A: Allocator>(
-    source: &Source<I, A>,
-    sink: &mut Sink<O, A>,
-) -> Result<(), Fault>
-    ensures { IsTrue O.tells → PutsSome source.now.packet sink.old result sink.new }
-{
-    match source.head() {
-        Some(packet) => sink.put(&packet),
-        None => Ok(()),
-    }
-}
-
-/// Where a packet was not put: the output's device failed, or the packet is refused.
-fn unwritten(fault: Fault) -> End
-    ensures { result ≡ unwritten fault }
-{
-    match fault {
-        Fault::WriteFailed => End::OutputFailed,
-        _ => End::Broken(fault),
-    }
-}
-
 impl<I: Input, A: Allocator> Editing<I, A> {
     ghost use Rattle.cap_tools.specs.Edited.{options_of};
-    ghost use Rattle.cap_tools.specs.Editing.{StepGives, edit_at, left_of};
+    ghost use Rattle.cap_tools.specs.Editing.{edit_at, edit_work, left_of};
+    ghost use Rattle.cap_tools.specs.Working.{StepGives};
 
     /// An edit of which nothing is read yet. It takes no memory.
     pub fn new(edit: Edit<A>, source: Source<I, A>) -> Self
@@ -72,7 +51,7 @@ impl<I: Input, A: Allocator> Editing<I, A> {
 
     /// Reads on to the next packet, or decides the one in hand.
     pub fn step<O: Output>(&mut self, sink: &mut Sink<O, A>) -> Progress
-        ensures told { IsTrue I.tells → IsTrue O.tells → StepGives self.old sink.old result self.new sink.new }
+        ensures told { IsTrue I.tells → IsTrue O.tells → StepGives (edit_work self.old) sink.old result (edit_work self.new) sink.new }
         ensures progress { result ≡ Progress.More → left_of self.new < left_of self.old }
         ensures options { self.new.options ≡ self.old.options }
     {
@@ -86,7 +65,7 @@ impl<I: Input, A: Allocator> Editing<I, A> {
     /// Decides the packet in hand.
     fn answer<O: Output>(&mut self, sink: &mut Sink<O, A>) -> Progress
         requires { self.old.waiting ≡ true }
-        ensures told { IsTrue I.tells → IsTrue O.tells → StepGives self.old sink.old result self.new sink.new }
+        ensures told { IsTrue I.tells → IsTrue O.tells → StepGives (edit_work self.old) sink.old result (edit_work self.new) sink.new }
         ensures progress { result ≡ Progress.More → left_of self.new < left_of self.old }
         ensures options { self.new.options ≡ self.old.options }
     {
@@ -105,21 +84,13 @@ impl<I: Input, A: Allocator> Editing<I, A> {
     /// Reads on to the next packet, or ends the output.
     fn fetch<O: Output>(&mut self, sink: &mut Sink<O, A>) -> Progress
         requires { self.old.waiting ≡ false }
-        ensures told { IsTrue I.tells → IsTrue O.tells → StepGives self.old sink.old result self.new sink.new }
+        ensures told { IsTrue I.tells → IsTrue O.tells → StepGives (edit_work self.old) sink.old result (edit_work self.new) sink.new }
         ensures progress { result ≡ Progress.More → left_of self.new < left_of self.old }
         ensures options { self.new.options ≡ self.old.options }
     {
-        match self.source.advance() {
-            Ok(true) => {
-                self.waiting = true;
-                Progress::More
-            }
-            Ok(false) => match sink.finish(self.source.first_link()) {
-                Ok(()) => Progress::Done(End::Clean),
-                Err(_) => Progress::Done(End::OutputFailed),
-            },
-            Err(fault) => Progress::Done(End::Broken(fault)),
-        }
+        let progress = read_on(&mut self.source, sink);
+        self.waiting = matches!(progress, Progress::More);
+        progress
     }
 
     /// Where the unit in hand begins, in bytes of the input.

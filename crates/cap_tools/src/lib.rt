@@ -2,10 +2,17 @@
 #![tactic(auto)]
 
 pub mod command;
+mod compile;
+mod compiled;
 pub mod edit;
+mod expression;
+mod filter;
 pub mod job;
 mod message;
+mod print;
 pub mod progress;
+pub mod refusal;
+mod work;
 
-pub use command::{Command, Edit};
+pub use command::{Command, Compile, Edit, Print};
 pub use job::run;

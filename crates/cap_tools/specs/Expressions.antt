@@ -1,0 +1,49 @@
+-- Which texts are expressions and which are programs, and why others are refused.
+use Rattle.std.specs.Prelude.{◌≡◌, ◌⊎◌, List, ℕ, None, Some, Ok, Err}
+use Rattle.flt_words.specs.declared.fault.ExprFault.{ExprFault}
+use Rattle.flt_words.specs.declared.fault.ExprFault.TheVariants as fault
+use Rattle.flt_words.specs.declared.token.Token.{Token}
+use Rattle.flt_words.specs.Tokens.{Tokens}
+use Rattle.flt_lang.specs.Tree.{Expression}
+use Rattle.flt_lang.specs.Grammar.{Reads, kinds_of}
+use Rattle.flt_lang.specs.Nesting.{IsTooDeep}
+use Rattle.flt_lang.specs.Filled.{filled}
+use Rattle.flt_lang.specs.Resolved.{fill_fault}
+use Rattle.flt_lang.specs.Checks.{check_fault}
+
+-- the text has these tokens, and they have this tree
+pub record IsRead (text : List ℕ) (tree : Expression) : Type 0 where
+  pub tokens : List Token
+  pub lexed : Tokens text (Ok tokens)
+  pub shallow : ¬ IsTooDeep tokens
+  pub reads : Reads (kinds_of tokens) tree
+
+-- the tree has none of the faults of trees, and this is it with all that is left out filled in
+pub record IsSettled (tree e : Expression) : Type 0 where
+  pub fits : fill_fault tree ≡ None
+  pub fills : e ≡ filled tree
+  pub sound : check_fault e ≡ None
+
+-- the first fault of a tree: what doesn't fit a value (E7 to E9), else one of the whole (E10 to E12)
+abbrev pub HasFault : Expression → ExprFault → Type 0
+HasFault tree refusal =
+    (fill_fault tree ≡ Some refusal) ⊎ ((fill_fault tree ≡ None) × (check_fault (filled tree) ≡ Some refusal))
+
+-- the text is an expression, and this is its tree with all that is left out filled in
+pub record IsExpression (text : List ℕ) (e : Expression) : Type 0 where
+  pub tree : Expression
+  pub read : IsRead text tree
+  pub settled : IsSettled tree e
+
+-- the text is refused by the first of its faults: that of its tokens (E1 to E4), of their nesting (E6), of the grammar (E5),
+-- of their tree
+pub data IsRefused (text : List ℕ) : ExprFault → Type 0 where
+  by_tokens : {refusal : ExprFault} → Tokens text (Err refusal) → IsRefused text refusal
+  too_deep : {tokens : List Token} → Tokens text (Ok tokens) → IsTooDeep tokens → IsRefused text fault.NestedTooDeep
+  no_tree : {tokens : List Token} → Tokens text (Ok tokens) → ¬ IsTooDeep tokens → ((tree : Expression) → Reads (kinds_of tokens) tree → ⊥) → IsRefused text fault.NotAnExpression
+  by_tree : {tree : Expression} {refusal : ExprFault} → IsRead text tree → HasFault tree refusal → IsRefused text refusal
+
+-- Why there is no tree of a text: it is refused; memory may be refused whatever the text is.
+abbrev pub IsReasonFor : List ℕ → ExprFault → Type 0
+IsReasonFor text fault.Memory = Unit {0}
+IsReasonFor text refusal = IsRefused text refusal

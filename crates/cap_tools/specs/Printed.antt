@@ -1,0 +1,103 @@
+-- Which packets a print writes.
+use Rattle.std.specs.Prelude.{◌⊎◌, ℕ, ◌==◌, not, if◌then◌else◌, List, length, Option, None, Some}
+use Rattle.std.specs.Option.{option_map}
+use Rattle.cap_octet.specs.Packet.{Captured}
+use Rattle.cap_octet.specs.declared.fault.Fault.TheVariants.{LinkTypeNotFiltered}
+use Rattle.cap_octet.specs.declared.format.Format.{Format}
+use Rattle.flt_bpf.specs.declared.insn.Insn.{Insn}
+use Rattle.flt_bpf.specs.Listing.{IsListing}
+use Rattle.flt_bpf.specs.Machine.{machine, Progress, Answered}
+use Rattle.flt_bpf.specs.Refusal as listing
+use Rattle.flt_bpf.specs.Valid.{IsValid, BreaksFirst}
+use Rattle.flt_lang.specs.Tree.{Expression, empty, truth}
+use Rattle.flt_gen.specs.declared.link.Link.{Link}
+use Rattle.flt_gen.specs.declared.link.Link.TheVariants.{Ether, Raw}
+use Rattle.flt_gen.specs.Elementary.{Reading, Yes, No, Rejected}
+use Rattle.flt_gen.specs.Reading.{holds}
+use Rattle.cap_tools.specs.declared.command.Print.{Print}
+use Rattle.cap_tools.specs.declared.refusal.Refusal.{Refusal}
+use Rattle.cap_tools.specs.declared.refusal.Refusal.TheVariants as refusal
+use Rattle.cap_tools.specs.Chosen.{Decision, Keep, Skip, Refuse, Choice, keep_if}
+use Rattle.cap_tools.specs.Expressions.{IsExpression, IsReasonFor}
+use Rattle.cap_tools.specs.Messages.{refusal_message, refusal_status}
+use Rattle.cap_tools.specs.Running.{OutputView, OnlyTells, WorkLeaves}
+
+-- ---- which packets pass
+
+-- by what a packet is judged: what an expression reads, or what a program answers
+pub data Rule : Type 0 where
+  by_reading : (e : Expression) → Rule
+  by_answer : (prog : List Insn) → Rule
+
+-- the link types whose packets expressions are read on
+abbrev pub link_of : ℕ → Option Link
+link_of n = if n == 1 then Some Ether else (if n == 101 then Some Raw else None)
+
+-- a packet passes where an expression reads yes; one that is rejected doesn't
+abbrev pub passing : Reading → Decision
+passing Yes = Keep
+passing No = Skip
+passing Rejected = Skip
+
+abbrev pub read_on : Expression → Option Link → Captured → Decision
+read_on e None p = Refuse LinkTypeNotFiltered
+read_on e (Some link) p = passing (holds e link p.bytes p.orig)
+
+-- all packets pass the empty expression
+abbrev pub expression_decides : Expression → Captured → Decision
+expression_decides empty p = Keep
+expression_decides (truth a) p = read_on (truth a) (link_of p.link) p
+
+-- a packet passes where a program answers other than 0
+abbrev pub answering : Progress → Decision
+answering (Answered answer count) = keep_if (not (answer == 0))
+answering _ = Skip
+
+abbrev pub rule_decides : Rule → Captured → Decision
+rule_decides (by_reading e) p = expression_decides e p
+rule_decides (by_answer prog) p = answering (machine prog p.bytes p.orig (length prog))
+
+abbrev pub print_choice : Rule → Format → Choice
+print_choice rule format = record { decides = λ number packet. rule_decides rule packet; format = format }
+
+-- ---- what is asked for
+
+-- the rule that words are, or that a listing is
+abbrev pub IsRule : List ℕ → Option (List ℕ) → Rule → Type 0
+IsRule words None (by_reading e) = IsExpression words e
+IsRule words None (by_answer prog) = ⊥
+IsRule words (Some text) (by_reading e) = ⊥
+IsRule words (Some text) (by_answer prog) = IsListing text prog × IsValid prog
+
+-- why they are none
+abbrev pub IsWhy : List ℕ → Option (List ℕ) → Refusal → Type 0
+IsWhy words None (refusal.Expression fault) = IsReasonFor words fault
+IsWhy words None (refusal.Listing fault) = ⊥
+IsWhy words None (refusal.Program fault at) = ⊥
+IsWhy words (Some text) (refusal.Expression fault) = ⊥
+IsWhy words (Some text) (refusal.Listing fault) = listing.IsReasonFor text fault
+IsWhy words (Some text) (refusal.Program fault at) = (prog : List Insn) × IsListing text prog × BreaksFirst prog fault at
+
+-- ---- what a print leaves
+
+-- the packets that pass go into the output
+pub record Passes (words : List ℕ) (code : Option (List ℕ)) (format : Format) (input output text : List ℕ) (failures : ℕ × ℕ) (out out' : OutputView) (message : List ℕ) (status : ℕ) : Type 0 where
+  pub rule : Rule
+  pub asked : IsRule words code rule
+  pub leaves : WorkLeaves (print_choice rule format) input output text failures out out' message status
+
+-- the words or the listing are refused, or there was no memory for them, and nothing is written
+pub record FilterFails (words : List ℕ) (code : Option (List ℕ)) (out out' : OutputView) (message : List ℕ) (status : ℕ) : Type 0 where
+  pub refusal : Refusal
+  pub why : IsWhy words code refusal
+  pub tells : OnlyTells (refusal_message refusal) (refusal_status refusal) out out' message status
+
+-- The input, whose bytes are this text, goes through the filter into the output.
+abbrev pub PrintLeaves : List ℕ → Option (List ℕ) → Format → List ℕ → List ℕ → List ℕ → ℕ × ℕ → OutputView → OutputView → List ℕ → ℕ → Type 0
+PrintLeaves words code format input output text failures out out' message status =
+    Passes words code format input output text failures out out' message status
+    ⊎ FilterFails words code out out' message status
+
+-- the bytes of a listing, where there is one
+abbrev pub code_of : {Z : Type 0} → Print Z → Option (List ℕ)
+code_of print = option_map (λ text. text.items) print.code
