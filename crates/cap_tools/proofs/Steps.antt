@@ -7,13 +7,12 @@ use Rattle.cap_octet.specs.Packet.{Captured}
 use Rattle.cap_octet.specs.declared.fault.Fault.{Fault}
 use Rattle.cap_octet.specs.declared.fault.Fault.TheVariants.{NoMemory, WriteFailed}
 use Rattle.cap_octet.specs.declared.format.Format.{Format}
-use Rattle.cap_pcap.specs.Written.{heading}
 use Rattle.cap_io.specs.Capture.{Placed, Ending, End, FaultAt, Items, items, items_from, first_link_of}
 use Rattle.cap_io.specs.Source.{SourceView, Phase, Reading, Ended, Failed, FindsPacket, FindsEnd, FindsFault, Advances, Finds, KeepsBounds, Steps}
-use Rattle.cap_io.specs.Sink.{SinkView, HasPackets, Puts, PutWrites, PutsAfter, WritesPacket, IsAnswer, Finishes, FinishWrites, FinishesEmpty, link_or_ethernet}
+use Rattle.cap_io.specs.Sink.{SinkView, HasPackets, Puts, PutWrites, PutsAfter, WritesPacket, IsPutAnswer, takes_memory, Finishes, FinishWrites, FinishesEmpty, link_or_ethernet}
 use Rattle.cap_io.specs.Standing.{IsAt, HasPacket}
-use Rattle.cap_io.specs.Text.{text, added, packets_text, refused}
-use Rattle.cap_io.proofs.Texts.{text-more, refused-write_failed, put-answers, put-writes, put-taken, HasPackets-put, finish-none, finish-none-writes, finish-some}
+use Rattle.cap_io.specs.Text.{heading, text, added, packets_text, refused}
+use Rattle.cap_io.proofs.Texts.{text-more, refused-write_failed, refused-no_memory, put-answers, put-writes, put-taken, HasPackets-put, finish-none, finish-none-writes, finish-some}
 use Rattle.cap_io.proofs.Standing.{IsAt-found, IsAt-decided, IsAt-items, IsAt-end, IsAt-fault, Advances-sound}
 use Rattle.cap_tools.specs.declared.progress.End.TheVariants as progress
 use Rattle.cap_tools.specs.declared.progress.End as progress_end
@@ -173,25 +172,25 @@ refused-head file done before w sink fault d waits decides =
     }
 
 -- the format refuses it
-refusal-is : (refusal : Option Fault) (fault : Fault) → IsAnswer refusal (Err fault) → (fault ≡ WriteFailed → ⊥) → refusal ≡ Some fault
-refusal-is None fault answer other = absurd (other answer)
-refusal-is (Some refusal) fault answer other = ap Some (sym answer)
+refusal-is : (refusal : Option Fault) (takes : Bool) (fault : Fault) → IsPutAnswer refusal takes (Err fault) → (fault ≡ WriteFailed → ⊥) → (fault ≡ NoMemory → ⊥) → refusal ≡ Some fault
+refusal-is None takes fault answer written memory = elim answer [ inl e ↦ absurd (written e) | inr e ↦ absurd (memory e.0) ]
+refusal-is (Some refusal) takes fault answer written memory = ap Some (sym answer)
 
 stays-written : (refusal : Option Fault) (fault : Fault) (bytes written written' : List ℕ) → refusal ≡ Some fault → WritesPacket refusal bytes written (Err fault) written' → written' ≡ written
 stays-written None fault bytes written written' is writes = (cc)
 stays-written (Some refusal) fault bytes written written' is writes = writes
 
 pub refused-packet : (file done before : List ℕ) (w : WorkView) (sink sink' : SinkView) (fault : Fault) → IsDecided file done before w sink → w.waiting ≡ true
-    → DecidesHead w Keep → PutsSome w.source.packet sink (Err fault) sink' → (fault ≡ WriteFailed → ⊥)
+    → DecidesHead w Keep → PutsSome w.source.packet sink (Err fault) sink' → (fault ≡ WriteFailed → ⊥) → (fault ≡ NoMemory → ⊥)
     → EndsByFault file before w sink' fault
-refused-packet file done before w sink sink' fault d waits decides offers other =
+refused-packet file done before w sink sink' fault d waits decides offers written memory =
     let at = at_waiting file done before w sink d waits in
     let has = at.waits refl in
     let x : Placed = in_hand w.source has in
     let kept : List Placed = d.kept in
     let puts = puts-held has.packet w.source.packet sink (Err fault) sink' has.held offers in
     let after : PutsAfter (packets_of kept) sink has.packet (Err fault) sink' = put-answers before (packets_of kept) sink has.packet (Err fault) sink' d.output puts.0 in
-    let is : refused sink.format (packets_of kept) has.packet ≡ Some fault = refusal-is (refused sink.format (packets_of kept) has.packet) fault after.answer other in
+    let is : refused sink.format (packets_of kept) has.packet ≡ Some fault = refusal-is (refused sink.format (packets_of kept) has.packet) (takes_memory sink.format (packets_of kept) has.packet) fault after.answer written memory in
     let why : refused w.choice.format (packets_of kept) has.packet ≡ Some fault = ap (λ (f : Format). refused f (packets_of kept) has.packet) (sym d.format) ∙ is in
     let all : listed w.choice (items file) ≡ record { packets = packets_of kept; ending = FaultAt fault w.source.offset } =
     kept-waiting file done before w sink d waits decides
@@ -205,12 +204,12 @@ refused-packet file done before w sink sink' fault d waits decides offers other 
     }
 
 -- the device fails
-not-refused : (format : Format) (ps : List Captured) (p : Captured) → IsAnswer (refused format ps p) (Err WriteFailed) → refused format ps p ≡ None
-not-refused format ps p answer = by_refusal (refused format ps p) refl answer
+not-refused : (format : Format) (ps : List Captured) (p : Captured) (fault : Fault) → (refused format ps p ≡ Some fault → ⊥) → IsPutAnswer (refused format ps p) (takes_memory format ps p) (Err fault) → refused format ps p ≡ None
+not-refused format ps p fault none answer = by_refusal (refused format ps p) refl answer
   where
-    by_refusal : (refusal : Option Fault) → refused format ps p ≡ refusal → IsAnswer refusal (Err WriteFailed) → refused format ps p ≡ None
+    by_refusal : (refusal : Option Fault) → refused format ps p ≡ refusal → IsPutAnswer refusal (takes_memory format ps p) (Err fault) → refused format ps p ≡ None
     by_refusal None is answer = is
-    by_refusal (Some fault) is answer = absurd (refused-write_failed format ps p (is ∙ ap Some (sym answer)))
+    by_refusal (Some refusal) is answer = absurd (none (is ∙ ap Some (sym answer)))
 
 stopped-within : (refusal : Option Fault) (bytes written written' : List ℕ) → refusal ≡ None → WritesPacket refusal bytes written (Err WriteFailed) written' → Stops written bytes written'
 stopped-within None bytes written written' is writes = writes
@@ -242,7 +241,7 @@ stopped-packet file done before w sink sink' d waits decides offers =
     let kept : List Placed = d.kept in
     let puts = puts-held has.packet w.source.packet sink (Err WriteFailed) sink' has.held offers in
     let after : PutsAfter (packets_of kept) sink has.packet (Err WriteFailed) sink' = put-answers before (packets_of kept) sink has.packet (Err WriteFailed) sink' d.output puts.0 in
-    let none : refused sink.format (packets_of kept) has.packet ≡ None = not-refused sink.format (packets_of kept) has.packet after.answer in
+    let none : refused sink.format (packets_of kept) has.packet ≡ None = not-refused sink.format (packets_of kept) has.packet WriteFailed (refused-write_failed sink.format (packets_of kept) has.packet) after.answer in
     let why : refused w.choice.format (packets_of kept) has.packet ≡ None = ap (λ (f : Format). refused f (packets_of kept) has.packet) (sym d.format) ∙ none in
     let more : List Placed = (kept_later w done).packets in
     let tail : Listed = taken w.choice.format (packets_of kept ++ has.packet ∷ []) more (kept_later w done).ending in
@@ -263,12 +262,6 @@ stopped-packet file done before w sink sink' d waits decides offers =
     (packets_text w.choice.format (packets_of kept ++ has.packet ∷ []) tail.packets) (output_for w.choice (items file)) sink.written sink'.written
     whole (d.output.written ∙ ap (λ (f : Format). before ++ text f (packets_of kept)) d.format) (subst P d.format stops) in
     record { failures = after.failures; count = found.0; within = found.1; written = found.2 }
-
-pub unwritten-packet : (file done before : List ℕ) (w : WorkView) (sink sink' : SinkView) (fault : Fault) → IsDecided file done before w sink → w.waiting ≡ true
-    → DecidesHead w Keep → PutsSome w.source.packet sink (Err fault) sink'
-    → EndLeaves file before w sink (unwritten fault) w sink'
-unwritten-packet file done before w sink sink' WriteFailed d waits decides offers = stopped-packet file done before w sink sink' d waits decides offers
-unwritten-packet file done before w sink sink' fault d waits decides offers = inl (refused-packet file done before w sink sink' fault d waits decides offers (λ same. (cc)))
 
 -- ---- the next packet is in hand
 
@@ -415,6 +408,32 @@ no-memory file done before w sink d waits =
       comes = broken-comes before w.choice sink d.packets d.kept held NoMemory w.source.offset refl refl d.chosen (has_output file done before w sink d);
       why = inr refl;
     }
+
+stayed-written : (refusal : Option Fault) (bytes written written' : List ℕ) → refusal ≡ None → WritesPacket refusal bytes written (Err NoMemory) written' → written' ≡ written
+stayed-written None bytes written written' is writes = writes
+stayed-written (Some fault) bytes written written' is writes = writes
+
+-- there is no memory for the packet's interface
+full-packet : (file done before : List ℕ) (w : WorkView) (sink sink' : SinkView) → IsDecided file done before w sink → w.waiting ≡ true
+    → PutsSome w.source.packet sink (Err NoMemory) sink' → EndsByCut file before w w sink' NoMemory
+full-packet file done before w sink sink' d waits offers =
+    let has = (at_waiting file done before w sink d waits).waits refl in
+    let puts = puts-held has.packet w.source.packet sink (Err NoMemory) sink' has.held offers in
+    let after : PutsAfter (packets_of d.kept) sink has.packet (Err NoMemory) sink' = put-answers before (packets_of d.kept) sink has.packet (Err NoMemory) sink' d.output puts.0 in
+    let none : refused sink.format (packets_of d.kept) has.packet ≡ None =
+    not-refused sink.format (packets_of d.kept) has.packet NoMemory (refused-no_memory sink.format (packets_of d.kept) has.packet) after.answer in
+    let same : sink'.written ≡ sink.written =
+    stayed-written (refused sink.format (packets_of d.kept) has.packet) (added sink.format (packets_of d.kept) has.packet) sink.written sink'.written none
+    (put-writes before (packets_of d.kept) sink has.packet (Err NoMemory) sink' d.output puts.1) in
+    let cut = no-memory file done before w sink d waits in
+    record { held = cut.held; cut = cut.cut; comes = record { ends = cut.comes.ends; written = same ∙ cut.comes.written }; why = cut.why }
+
+pub unwritten-packet : (file done before : List ℕ) (w : WorkView) (sink sink' : SinkView) (fault : Fault) → IsDecided file done before w sink → w.waiting ≡ true
+    → DecidesHead w Keep → PutsSome w.source.packet sink (Err fault) sink'
+    → EndLeaves file before w sink (unwritten fault) w sink'
+unwritten-packet file done before w sink sink' WriteFailed d waits decides offers = stopped-packet file done before w sink sink' d waits decides offers
+unwritten-packet file done before w sink sink' NoMemory d waits decides offers = inr (full-packet file done before w sink sink' d waits offers)
+unwritten-packet file done before w sink sink' fault d waits decides offers = inl (refused-packet file done before w sink sink' fault d waits decides offers (λ same. (cc)) (λ same. (cc)))
 
 pub broken : (file done before : List ℕ) (w w' : WorkView) (sink : SinkView) (s' : SourceView) (fault : Fault) → IsDecided file done before w sink → w.waiting ≡ false
     → FindsFault w.source s' fault → Steps w.source.phase w.source (Err fault) s' → w' ≡ record { choice = w.choice; source = s'; decided = w.decided; waiting = w.waiting }

@@ -4,9 +4,8 @@ use Rattle.cap_octet.specs.Packet.{Captured}
 use Rattle.cap_octet.specs.declared.fault.Fault.{Fault}
 use Rattle.cap_octet.specs.declared.fault.Fault.TheVariants.{NoMemory}
 use Rattle.cap_octet.specs.declared.format.Format.{Format}
-use Rattle.cap_pcap.specs.Written.{heading}
 use Rattle.cap_io.specs.Capture.{Placed, Items, Ending, End, FaultAt, first_link_of}
-use Rattle.cap_io.specs.Text.{text, refused}
+use Rattle.cap_io.specs.Text.{heading, text, refused}
 use Rattle.cap_tools.specs.Messages.{fault_message}
 
 -- ---- packets that are kept

@@ -1,5 +1,6 @@
 mod Enters
 pub mod Getters
+mod Joining
 mod Numbers
 mod Parses
 mod RangeWords

@@ -6,48 +6,58 @@ use Rattle.clap.specs.declared.builder.value_parser.ValueParser.TheVariants as p
 use Rattle.clap.specs.declared.error.Error.{Error}
 use Rattle.clap.specs.declared.error.kind.ErrorKind.TheVariants.{OutOfMemory}
 use Rattle.clap.specs.declared.parser.matches.ArgMatches.{ArgMatches}
-use Rattle.capkit.specs.Arguments.{IsFormats, Refuses, Takes, line_app}
+use Rattle.capkit.specs.Arguments.{AreChoices, Refuses, Takes, format_names, line_app, link_names}
 
-simple_line : (formats : ValueParser) → is_simple (line_app formats) ≡ true
-simple_line formats = refl
+simple_line : (formats links : ValueParser) → is_simple (line_app formats links) ≡ true
+simple_line formats links = refl
 
-free_line : (formats : ValueParser) → is_simple_and_free (line_app formats) ≡ true
-free_line formats = refl
+free_line : (formats links : ValueParser) → is_simple_and_free (line_app formats links) ≡ true
+free_line formats links = refl
 
-pub takes_words : (app : App) (formats : ValueParser) (words : List Text) (r : Result ArgMatches Error) → app ≡ line_app formats → IsFormats formats
+pub takes_words : (app : App) (formats links : ValueParser) (words : List Text) (r : Result ArgMatches Error) → app ≡ line_app formats links → AreChoices format_names formats → AreChoices link_names links
     → IfOk r (HasMatchesOf app words) → (is_simple_and_free app ≡ true → FailsBy (fault_of app words) r)
     → IfOk r (λ matches. Takes words (subcommand_rows_of matches))
-takes_words app formats words (Err error) is are matches kinds = tt
-takes_words app formats words (Ok found) is are matches kinds = record {
+takes_words app formats links words (Err error) is are named matches kinds = tt
+takes_words app formats links words (Ok found) is are named matches kinds = record {
   formats = formats;
+  links = links;
   are_formats = are;
-  no_fault = ap (λ a. fault_of a words) (sym is) ∙ kinds (ap is_simple_and_free is ∙ free_line formats);
-  enters = ap (λ a. subcommand_of a words) (sym is) ∙ sym (matches (ap is_simple is ∙ simple_line formats)).1;
+  are_links = named;
+  no_fault = ap (λ a. fault_of a words) (sym is) ∙ kinds (ap is_simple_and_free is ∙ free_line formats links);
+  enters = ap (λ a. subcommand_of a words) (sym is) ∙ sym (matches (ap is_simple is ∙ simple_line formats links)).1;
 }
 
-pub refuses_words : (app : App) (formats : ValueParser) (words : List Text) (r : Result ArgMatches Error) → app ≡ line_app formats → IsFormats formats
+pub refuses_words : (app : App) (formats links : ValueParser) (words : List Text) (r : Result ArgMatches Error) → app ≡ line_app formats links → AreChoices format_names formats → AreChoices link_names links
     → IfErr r (λ error. takes app words ≡ true → kind_of error ≡ OutOfMemory) → (is_simple_and_free app ≡ true → FailsBy (fault_of app words) r)
     → IfErr r (Refuses words)
-refuses_words app formats words (Ok found) is are memory kinds = tt
-refuses_words app formats words (Err error) is are memory kinds = record {
+refuses_words app formats links words (Ok found) is are named memory kinds = tt
+refuses_words app formats links words (Err error) is are named memory kinds = record {
   formats = formats;
+  links = links;
   are_formats = are;
+  are_links = named;
   memory_alone = λ taken. memory (ap (λ a. takes a words) is ∙ taken);
-  kind = subst (λ a. HasKind (fault_of a words) error) is (kinds (ap is_simple_and_free is ∙ free_line formats));
+  kind = subst (λ a. HasKind (fault_of a words) error) is (kinds (ap is_simple_and_free is ∙ free_line formats links));
 }
 
-some_formats : ValueParser
-some_formats = parser.Names (record { ref_ptr = (0, 0); now = (record { ref_ptr = (0, 0); now = codes "pcap" }) ∷ [] })
+choices : List Text → ValueParser
+choices texts = parser.Names (record { ref_ptr = (0, 0); now = map (λ text. record { ref_ptr = (0, 0); now = text }) texts })
 
-are_formats : IsFormats some_formats
-unfolding some_formats
+are_formats : AreChoices format_names (choices format_names)
+unfolding choices
 are_formats = refl
+
+are_links : AreChoices link_names (choices link_names)
+unfolding choices
+are_links = refl
 
 -- want of memory refuses any words
 pub no_memory : (words : List Text) (error : Error) → kind_of error ≡ OutOfMemory → Refuses words error
 no_memory words error is = record {
-  formats = some_formats;
+  formats = choices format_names;
+  links = choices link_names;
   are_formats = are_formats;
+  are_links = are_links;
   memory_alone = λ taken. is;
   kind = inl is;
 }

@@ -1,19 +1,23 @@
 //! A command over files and standard streams.
-ghost use Rattle.std.specs.Prelude.{◌≡◌, ◌⊎◌, IfOk, true, length, vec_len};
+ghost use Rattle.std.specs.Prelude.{◌≡◌, ◌≤◌, ◌&&◌, ◌||◌, ℕ, not, is_none, IfOk, true, length, vec_len};
 ghost use Rattle.cap_tools.specs.Command.{is_proper};
+ghost use Rattle.capkit.specs.Line.{has_expression, is_ready};
 
 use crate::line::Line;
 use crate::names::STANDARD;
 use crate::streams::{Created, Opened, Watched};
 use crate::{FAULT, tell};
 use cap_octet::{StdInput, StdOutput};
-use cap_tools::Command;
+use cap_tools::{Command, Print};
 use std::alloc::{AllocError, AllocFailed};
-use std::io::{BufReader, BufWriter, Write};
+use std::io::{BufReader, BufWriter, ErrorKind, Read, Write};
 use std::{fmt, io};
 
 /// The bytes of the buffer before each input and the output.
 const BUFFER: usize = 65_536;
+
+/// How many bytes of a listing are read at most: one more than it may have, by which a longer one is known.
+const LISTING_ROOM: u64 = 1_048_577;
 
 type Source = StdInput<BufReader<Opened>>;
 
@@ -60,6 +64,36 @@ impl<T: Drop> From<AllocFailed<T>> for Stop<'_> {
     }
 }
 
+/// The first bytes of the listing of this name. One that can't be read to its end can't be opened.
+fn read_listing<'a>(rt: &HostRuntime, name: &'a str) -> Result<Vec<u8>, Stop<'a>> {
+    let Ok(opened) = Opened::open(rt, name) else {
+        return Err(Stop::CannotOpen(name));
+    };
+    let mut bytes = Vec::new(rt.alloc());
+    match opened.take(LISTING_ROOM).read_to_end(&mut bytes) {
+        Ok(_) => Ok(bytes),
+        Err(error) if error.kind() == ErrorKind::OutOfMemory => Err(Stop::NoMemory),
+        Err(_) => Err(Stop::CannotOpen(name)),
+    }
+}
+
+/// The command with the bytes of its listing, where one is named.
+fn with_listing<'a>(
+    rt: &HostRuntime,
+    command: Command,
+    listing: Option<&'a str>,
+) -> Result<Command, Stop<'a>>
+    ensures { IfOk result (λ read. (inputs : ℕ) → (is_proper command inputs && (is_none listing.entry || not (has_expression command))) ≡ true → is_proper read inputs ≡ true) }
+{
+    match (command, listing) {
+        (Command::Print(print), Some(name)) => Ok(Command::Print(Print {
+            code: Some(read_listing(rt, name)?),
+            ..print
+        })),
+        (command, _) => Ok(command),
+    }
+}
+
 /// Opens the inputs in order.
 fn open<'a>(rt: &HostRuntime, names: &'a [String]) -> Result<Vec<Source>, Stop<'a>>
     ensures { IfOk result (λ inputs. vec_len inputs ≡ length names.entry.now) }
@@ -95,7 +129,7 @@ fn run_over<'a>(
 ) -> Result<u8, Stop<'a>>
     requires proper { is_proper command (vec_len inputs) ≡ true }
     requires named { vec_len names ≡ vec_len inputs }
-    ensures { IfOk result (λ status. (status ≡ 0) ⊎ (status ≡ 1)) }
+    ensures { IfOk result (λ status. status ≤ 2) }
 {
     let target = create(rt, output)?;
     names.push(String::from_str(rt.alloc(), output)?)?;
@@ -126,18 +160,23 @@ fn stopped(rt: &HostRuntime, stop: Stop<'_>) -> u8
 
 /// Runs the command of the line over the files and streams that its names stand for, and answers its status.
 ///
-/// The inputs are opened in order, then the output is created, then the command runs.
+/// The listing is read, then the inputs are opened in order, then the output is created, then the command runs.
 pub fn run(rt: &HostRuntime, line: Line) -> u8
-    requires { is_proper line.command (vec_len line.inputs) ≡ true }
-    ensures { (result ≡ 0) ⊎ (result ≡ 1) }
+    requires { is_ready line ≡ true }
+    ensures { result ≤ 2 }
 {
     let Line {
         command,
         inputs: names,
         output,
-        code: _,
+        code,
     } = line;
     let output = output.as_ref().map_or(STANDARD, |name| name.as_str());
+    let listing = code.as_ref().map(|name| name.as_str());
+    let command = match with_listing(rt, command, listing) {
+        Ok(command) => command,
+        Err(stop) => return stopped(rt, stop),
+    };
     let inputs = match open(rt, names.as_slice()) {
         Ok(inputs) => inputs,
         Err(stop) => return stopped(rt, stop),

@@ -17,6 +17,9 @@ pub enum Usage {
     /// A word names no range of packets.
     #[error("bad range")]
     BadRange,
+    /// Words of an expression stand beside a listing.
+    #[error("options exclude each other")]
+    OptionsExclude,
     /// The output is an input too, or standard input is two of them.
     #[error("name used twice")]
     NameUsedTwice,

@@ -22,21 +22,54 @@ struct Outcome {
     told: Vec<u8>,
 }
 
-/// Runs `capkit edit -F pcap in out` with more words over memory, `piece` bytes a call, at least one. The input fails
-/// at its read number `at`, if there is one, and the output has room for so many bytes.
+/// What devices over memory take and give.
+#[derive(Clone, Copy)]
+struct Devices {
+    /// How many bytes a call moves at most, at least one.
+    piece: usize,
+    /// The number of the input's read that fails, if there is one.
+    at: Option<u64>,
+    /// How many bytes the output has room for.
+    room: usize,
+    /// How many bytes of messages are taken.
+    told: usize,
+}
+
+/// Devices that never fail here.
+fn sound(piece: usize) -> Devices {
+    Devices {
+        piece,
+        at: None,
+        room: ROOM,
+        told: 200,
+    }
+}
+
+/// The option of the format in most of these edits.
+const PCAP: [&str; 2] = ["-F", "pcap"];
+
+/// Runs `capkit edit in out` with these options and with more words over memory.
 fn trial(
     rt: &HostRuntime,
+    options: &[&str],
     more: &[&str],
     capture: &[u8],
-    piece: usize,
-    at: Option<u64>,
-    room: usize,
+    devices: Devices,
 ) -> Result<Outcome, Fail> {
+    let Devices {
+        piece,
+        at,
+        room,
+        told,
+    } = devices;
     if piece == 0 {
         return Err(Fail::from("no bytes a call"));
     }
     let mut words = Vec::new(rt.alloc());
-    for word in ["capkit", "edit", "-F", "pcap", "in", "out"] {
+    for word in ["capkit", "edit", "in", "out"] {
+        words.push(String::from_str(rt.alloc(), word)?)?;
+    }
+    for word in options {
         words.push(String::from_str(rt.alloc(), word)?)?;
     }
     for word in more {
@@ -55,7 +88,7 @@ fn trial(
     let mut inputs = Vec::new(rt.alloc());
     inputs.push(TrialInput::new(capture, piece, at))?;
     let mut out = vec![in rt.alloc(); 0u8; room]?;
-    let mut err = vec![in rt.alloc(); 0u8; 200]?;
+    let mut err = vec![in rt.alloc(); 0u8; told]?;
     let (status, out, err) = run(
         rt.alloc(),
         command,
@@ -71,8 +104,7 @@ fn trial(
     })
 }
 
-/// Whether an edit, by many bytes a call and by one, writes these bytes and tells this message. It answers 1 where it
-/// tells something, and else 0.
+/// Whether an edit to pcap writes these bytes and tells this message.
 fn gives(
     rt: &HostRuntime,
     more: &[&str],
@@ -80,8 +112,21 @@ fn gives(
     written: &[u8],
     told: &str,
 ) -> Result<bool, Fail> {
+    edits(rt, &PCAP, more, capture, written, told)
+}
+
+/// Whether an edit, by many bytes a call and by one, writes these bytes and tells this message. It answers 1 where it
+/// tells something, and else 0.
+fn edits(
+    rt: &HostRuntime,
+    options: &[&str],
+    more: &[&str],
+    capture: &[u8],
+    written: &[u8],
+    told: &str,
+) -> Result<bool, Fail> {
     for piece in [ROOM, 1] {
-        let outcome = trial(rt, more, capture, piece, None, ROOM)?;
+        let outcome = trial(rt, options, more, capture, sound(piece))?;
         if outcome.written.as_slice() != written
             || outcome.told.as_slice() != told.as_bytes()
             || outcome.status != u8::from(!told.is_empty())
@@ -256,7 +301,11 @@ fn reads_that_fail(rt: HostRuntime) -> Result<(), Fail> {
     for piece in [1, 7, 98] {
         let mut offset = 0;
         for at in 1..120 {
-            let outcome = trial(&rt, &[], all.as_slice(), piece, Some(at), 98)?;
+            let devices = Devices {
+                at: Some(at),
+                ..sound(piece)
+            };
+            let outcome = trial(&rt, &PCAP, &[], all.as_slice(), devices)?;
             let written = outcome.written.as_slice();
             if outcome.status == 0 {
                 assert_eq!(rt; written, all.as_slice(), "read {at}");
@@ -294,7 +343,11 @@ fn writes_that_fail(rt: HostRuntime) -> Result<(), Fail> {
     let all = four(&rt)?;
     for piece in [1, ROOM] {
         for room in 0..98 {
-            let outcome = trial(&rt, &[], all.as_slice(), piece, None, room)?;
+            let devices = Devices {
+                room,
+                ..sound(piece)
+            };
+            let outcome = trial(&rt, &PCAP, &[], all.as_slice(), devices)?;
             assert_eq!(rt; outcome.status, 1);
             assert_eq!(rt;
                 outcome.told.as_slice(),
@@ -309,3 +362,77 @@ fn writes_that_fail(rt: HostRuntime) -> Result<(), Fail> {
     }
     Ok(())
 }
+
+/// A message that can't be written is lost past a beginning; the output and the status stay.
+#[test]
+fn messages_that_are_lost(rt: HostRuntime) -> Result<(), Fail> {
+    let all = four(&rt)?;
+    let cut = all.get(..97).ok_or("no front")?;
+    let message = "capkit: in: offset 78: truncated\n".as_bytes();
+    for told in 0..34 {
+        let devices = Devices { told, ..sound(7) };
+        let outcome = trial(&rt, &PCAP, &[], cut, devices)?;
+        assert_eq!(rt; outcome.status, 1, "room {told}");
+        assert_eq!(rt; Some(outcome.written.as_slice()), all.get(..78));
+        let front = message.get(..told).unwrap_or(message);
+        assert_eq!(rt; outcome.told.as_slice(), front);
+    }
+    Ok(())
+}
+
+/// A section, an interface and a packet of 4 bytes in little-endian order, of link type 1; then the same in big-endian
+/// order, of link type 101.
+const TWO_SECTIONS: [u8; 168] = [
+    0x0a, 0x0d, 0x0d, 0x0a, 28, 0, 0, 0, 0x4d, 0x3c, 0x2b, 0x1a, 1, 0, 0, 0, 0xff, 0xff, 0xff, 0xff,
+    0xff, 0xff, 0xff, 0xff, 28, 0, 0, 0, 1, 0, 0, 0, 20, 0, 0, 0, 1, 0, 0, 0, 0, 0, 4, 0, 20, 0, 0, 0,
+    6, 0, 0, 0, 36, 0, 0, 0, 0, 0, 0, 0, 0, 0, 0, 0, 5, 0, 0, 0, 4, 0, 0, 0, 4, 0, 0, 0, 1, 2, 3, 4, 36,
+    0, 0, 0, 0x0a, 0x0d, 0x0d, 0x0a, 0, 0, 0, 28, 0x1a, 0x2b, 0x3c, 0x4d, 0, 1, 0, 0, 0xff, 0xff, 0xff,
+    0xff, 0xff, 0xff, 0xff, 0xff, 0, 0, 0, 28, 0, 0, 0, 1, 0, 0, 0, 20, 0, 101, 0, 0, 0, 4, 0, 0, 0, 0,
+    0, 20, 0, 0, 0, 6, 0, 0, 0, 36, 0, 0, 0, 0, 0, 0, 0, 0, 0, 0, 0, 6, 0, 0, 0, 4, 0, 0, 0, 4, 5, 6, 7,
+    8, 0, 0, 0, 36,
+];
+
+/// What is written of it: one section, and each interface before its packet, with nanoseconds.
+const ONE_SECTION: [u8; 164] = [
+    0x0a, 0x0d, 0x0d, 0x0a, 28, 0, 0, 0, 0x4d, 0x3c, 0x2b, 0x1a, 1, 0, 0, 0, 0xff, 0xff, 0xff, 0xff,
+    0xff, 0xff, 0xff, 0xff, 28, 0, 0, 0, 1, 0, 0, 0, 32, 0, 0, 0, 1, 0, 0, 0, 0, 0, 4, 0, 9, 0, 1, 0, 9,
+    0, 0, 0, 0, 0, 0, 0, 32, 0, 0, 0, 6, 0, 0, 0, 36, 0, 0, 0, 0, 0, 0, 0, 0, 0, 0, 0, 0x88, 0x13, 0, 0,
+    4, 0, 0, 0, 4, 0, 0, 0, 1, 2, 3, 4, 36, 0, 0, 0, 1, 0, 0, 0, 32, 0, 0, 0, 101, 0, 0, 0, 0, 0, 4, 0,
+    9, 0, 1, 0, 9, 0, 0, 0, 0, 0, 0, 0, 32, 0, 0, 0, 6, 0, 0, 0, 36, 0, 0, 0, 1, 0, 0, 0, 0, 0, 0, 0,
+    0x70, 0x17, 0, 0, 4, 0, 0, 0, 4, 0, 0, 0, 5, 6, 7, 8, 36, 0, 0, 0,
+];
+
+#[test]
+fn sections_of_both_orders(rt: HostRuntime) -> Result<(), Fail> {
+    let data = [0, 0, 0, 0, 5, 0, 0, 0, 4, 0, 0, 0, 4, 0, 0, 0, 1, 2, 3, 4];
+    let first = capture(&rt, &HEAD, &[&data])?;
+    let differ = "capkit: in: offset 132: link types differ\n";
+    assert!(rt; gives(&rt, &[], &TWO_SECTIONS, &first, differ)?);
+    assert!(rt; edits(&rt, &[], &[], &TWO_SECTIONS, &ONE_SECTION, "")?);
+    assert!(rt; edits(&rt, &[], &[], &ONE_SECTION, &ONE_SECTION, "")?);
+    Ok(())
+}
+
+/// The length behind an interface's block differs from that in front of it.
+#[test]
+fn unequal_lengths(rt: HostRuntime) -> Result<(), Fail> {
+    let mut unequal = TWO_SECTIONS;
+    unequal[44] = 24;
+    let bad = "capkit: in: offset 28: bad block length\n";
+    assert!(rt; gives(&rt, &[], &unequal, &[], bad)?);
+    Ok(())
+}
+
+#[test]
+fn no_packet_in_pcapng(rt: HostRuntime) -> Result<(), Fail> {
+    let section = TWO_SECTIONS.get(..28).ok_or("no front")?;
+    assert!(rt; edits(&rt, &[], &[], &HEAD, section, "")?);
+    assert!(rt; gives(&rt, &[], section, &HEAD, "")?);
+    assert!(rt; edits(&rt, &["-F", "nsecpcap"], &["-r"], &NANOSECOND_HEAD, &NANOSECOND_HEAD, "")?);
+    Ok(())
+}
+
+/// The header of a little-endian capture of nanoseconds.
+const NANOSECOND_HEAD: [u8; 24] = [
+    0x4d, 0x3c, 0xb2, 0xa1, 2, 0, 4, 0, 0, 0, 0, 0, 0, 0, 0, 0, 0, 0, 4, 0, 1, 0, 0, 0,
+];

@@ -3,8 +3,9 @@
 use crate::line::{Line, command_of};
 use crate::usage::Usage;
 use cap_octet::Format;
-use cap_tools::{Command, Edit};
+use cap_tools::{Command, Compile, Edit, Print};
 use clap::error::ErrorKind;
+use flt_gen::Link;
 use std::test::Fail;
 
 fn line_of(rt: &HostRuntime, words: &[&str]) -> Result<Line, Usage> {
@@ -27,15 +28,24 @@ fn edit_of(rt: &HostRuntime, ranges: &[&str]) -> Result<Line, Usage> {
     command_of(rt.alloc(), line)
 }
 
-fn edit_in(line: Line) -> Edit {
-    let Line {
-        command,
-        inputs: _,
-        output: _,
-        code: _,
-    } = line;
-    match command {
-        Command::Edit(edit) => edit,
+fn edit_in(line: Line) -> Result<Edit, Fail> {
+    match line.command {
+        Command::Edit(edit) => Ok(edit),
+        Command::Print(_) | Command::Compile(_) => Err(Fail::from("no edit")),
+    }
+}
+
+fn print_in(line: Line) -> Result<Print, Fail> {
+    match line.command {
+        Command::Print(print) => Ok(print),
+        Command::Edit(_) | Command::Compile(_) => Err(Fail::from("no print")),
+    }
+}
+
+fn compile_in(line: Line) -> Result<Compile, Fail> {
+    match line.command {
+        Command::Compile(compile) => Ok(compile),
+        Command::Edit(_) | Command::Print(_) => Err(Fail::from("no compilation")),
     }
 }
 
@@ -72,7 +82,9 @@ fn an_edit(rt: HostRuntime) -> Result<(), Fail> {
         output,
         code,
     } = line;
-    let Command::Edit(edit) = command;
+    let Command::Edit(edit) = command else {
+        return Err(Fail::from("no edit"));
+    };
     assert!(rt; edit.keep);
     assert_eq!(rt; edit.format, Format::Pcap);
     assert_eq!(rt; edit.ranges.as_slice(), [(2, 3), (3, 3), (9, 9)].as_slice());
@@ -87,7 +99,7 @@ fn an_edit(rt: HostRuntime) -> Result<(), Fail> {
 #[test]
 fn options_stand_anywhere(rt: HostRuntime) -> Result<(), Fail> {
     let words = ["capkit", "edit", "in", "-Fpcap", "out", "1"];
-    let edit = edit_in(line_of(&rt, words.as_slice())?);
+    let edit = edit_in(line_of(&rt, words.as_slice())?)?;
     assert!(rt; !edit.keep);
     assert_eq!(rt; edit.ranges.as_slice(), [(1, 1)].as_slice());
     Ok(())
@@ -124,7 +136,7 @@ fn numbers_of_a_range(rt: HostRuntime) -> Result<(), Fail> {
         ("9223372036854775807", (most, most)),
         ("1-09223372036854775807", (1, most)),
     ] {
-        let edit = edit_in(edit_of(&rt, [word].as_slice())?);
+        let edit = edit_in(edit_of(&rt, [word].as_slice())?)?;
         assert_eq!(rt; edit.ranges.as_slice(), [range].as_slice(), "{word}");
     }
     Ok(())
@@ -161,7 +173,7 @@ fn words_that_are_no_range(rt: HostRuntime) {
 #[test]
 fn too_many_ranges_come_first(rt: HostRuntime) -> Result<(), Fail> {
     let most = many(&rt, 512, "7")?;
-    let edit = edit_in(edit_of(&rt, most.as_slice())?);
+    let edit = edit_in(edit_of(&rt, most.as_slice())?)?;
     assert_eq!(rt; edit.ranges.len(), 512);
     let bad = edit_of(&rt, many(&rt, 512, "0")?.as_slice());
     assert!(rt; matches!(bad, Err(Usage::BadRange)));
@@ -198,7 +210,12 @@ fn lines_that_are_refused(rt: HostRuntime) {
             ["capkit", "join", "in", "out"].as_slice(),
             ErrorKind::InvalidSubcommand,
         ),
-        (["capkit", "edit", "in", "out"].as_slice(), missing),
+        (["capkit", "print", "in"].as_slice(), missing),
+        (["capkit", "print", "-w", "out"].as_slice(), missing),
+        (
+            ["capkit", "compile", "--link", "slip", "ip"].as_slice(),
+            ErrorKind::InvalidValue,
+        ),
         (["capkit", "edit", "-F", "pcap", "in"].as_slice(), missing),
         (
             ["capkit", "edit", "-F", "snoop", "in", "out"].as_slice(),
@@ -225,4 +242,84 @@ fn lines_that_are_refused(rt: HostRuntime) {
     ] {
         assert!(rt; is_refused_as(line_of(&rt, words), kind), "{words:?}");
     }
+}
+
+#[test]
+fn formats_are_named(rt: HostRuntime) -> Result<(), Fail> {
+    for (name, format) in [
+        ("pcap", Format::Pcap),
+        ("nsecpcap", Format::NsecPcap),
+        ("pcapng", Format::Pcapng),
+    ] {
+        let words = ["capkit", "edit", "-F", name, "in", "out"];
+        let edit = edit_in(line_of(&rt, words.as_slice())?)?;
+        assert_eq!(rt; edit.format, format, "{name}");
+    }
+    let words = ["capkit", "edit", "in", "out"];
+    let edit = edit_in(line_of(&rt, words.as_slice())?)?;
+    assert_eq!(rt; edit.format, Format::Pcapng);
+    Ok(())
+}
+
+#[test]
+fn a_print(rt: HostRuntime) -> Result<(), Fail> {
+    let words = [
+        "capkit", "print", "-w", "out", "--format", "nsecpcap", "in", "tcp", "port 80",
+    ];
+    let line = line_of(&rt, words.as_slice())?;
+    assert_eq!(rt; line.inputs.len(), 1);
+    assert_eq!(rt; line.inputs[0].as_str(), "in");
+    assert!(rt; line.code.is_none());
+    let print = print_in(line)?;
+    assert_eq!(rt; print.expr.as_str(), "tcp port 80");
+    assert!(rt; print.code.is_none());
+    assert_eq!(rt; print.write, Format::NsecPcap);
+    Ok(())
+}
+
+#[test]
+fn a_listing_in_place_of_words(rt: HostRuntime) -> Result<(), Fail> {
+    let words = ["capkit", "print", "--code", "listing", "-w", "-", "-"];
+    let line = line_of(&rt, words.as_slice())?;
+    let code = line.code.as_ref().map_or("", |name| name.as_str());
+    assert_eq!(rt; code, "listing");
+    let print = print_in(line)?;
+    assert_eq!(rt; print.expr.len(), 0);
+    assert_eq!(rt; print.write, Format::Pcapng);
+    Ok(())
+}
+
+/// Words beside a listing, before a name that is used twice; a listing is an input.
+#[test]
+fn prints_that_are_refused(rt: HostRuntime) {
+    for words in [
+        ["capkit", "print", "--code", "a", "-w", "b", "c", "ip"].as_slice(),
+        ["capkit", "print", "--code", "a", "-w", "a", "a", ""].as_slice(),
+    ] {
+        let line = line_of(&rt, words);
+        assert!(rt; matches!(line, Err(Usage::OptionsExclude)), "{words:?}");
+    }
+    for words in [
+        ["capkit", "print", "--code", "a", "-w", "a", "c"].as_slice(),
+        ["capkit", "print", "--code", "-", "-w", "b", "-"].as_slice(),
+        ["capkit", "print", "-w", "c", "c", "ip"].as_slice(),
+    ] {
+        let line = line_of(&rt, words);
+        assert!(rt; matches!(line, Err(Usage::NameUsedTwice)), "{words:?}");
+    }
+}
+
+#[test]
+fn compilations(rt: HostRuntime) -> Result<(), Fail> {
+    let raw = ["capkit", "compile", "--link", "raw", "ip", "or", "ip6"];
+    let compile = compile_in(line_of(&rt, raw.as_slice())?)?;
+    assert_eq!(rt; compile.expr.as_str(), "ip or ip6");
+    assert_eq!(rt; compile.link, Link::Raw);
+    let line = line_of(&rt, ["capkit", "compile"].as_slice())?;
+    assert_eq!(rt; line.inputs.len(), 0);
+    assert!(rt; line.output.is_none());
+    let compile = compile_in(line)?;
+    assert_eq!(rt; compile.expr.len(), 0);
+    assert_eq!(rt; compile.link, Link::Ether);
+    Ok(())
 }

@@ -5,16 +5,12 @@ use Rattle.capkit.proofs.arguments.edit_command.Goals as goal
 
 pub returns-clause-shape : goal.returns-clause-shape
 returns-clause-shape c =
-    let formats = c.format_arg-format.ensures.rule.0 in (
-      formats,
-      c.format_arg-format.ensures.rule.1,
-      c.in_ok-command.ensures.shape c.range_arg-ranges.ensures.local
-          ∙ ap₂ with_rule (c.in_ok-arg-4.ensures.shape c.file_arg-output.ensures.local
-          ∙ ap₂ with_rule (c.in_ok-arg-3.ensures.shape c.file_arg-input.ensures.local
-          ∙ ap₂ with_rule (c.in_ok-arg-2.ensures.shape c.format_arg-format.ensures.local
-          ∙ ap₂ with_rule (c.in_ok-arg.ensures.shape c.keep_arg-keep.ensures.local
-          ∙ ap₂ with_rule (ap app_of_fields c.about.ensures ∙ c.new.ensures.app) c.keep_arg-keep.ensures.rule) c.format_arg-format.ensures.rule.2)
-          c.file_arg-input.ensures.rule)
-          c.file_arg-output.ensures.rule)
-          c.range_arg-ranges.ensures.rule,
-    )
+    c.in_ok-command.ensures.shape c.many_arg-ranges.ensures.local
+    ∙ ap₂ with_rule (c.in_ok-arg-4.ensures.shape c.file_arg-output.ensures.local
+    ∙ ap₂ with_rule (c.in_ok-arg-3.ensures.shape c.file_arg-input.ensures.local
+    ∙ ap₂ with_rule (c.in_ok-arg-2.ensures.shape c.format_arg-format.ensures.local
+    ∙ ap₂ with_rule (c.in_ok-arg.ensures.shape c.keep_arg-keep.ensures.local
+    ∙ ap₂ with_rule (ap app_of_fields c.about.ensures ∙ c.new.ensures.app) c.keep_arg-keep.ensures.rule) c.format_arg-format.ensures.rule)
+    c.file_arg-input.ensures.rule)
+    c.file_arg-output.ensures.rule)
+    c.many_arg-ranges.ensures.rule

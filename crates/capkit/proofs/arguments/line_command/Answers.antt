@@ -1,6 +1,7 @@
-use Rattle.std.proofs.Common.{◌≡◌, ◌∙◌, ap₂, ap, codes, true}
+use Rattle.std.proofs.Common.{◌≡◌, ◌∙◌, ap₂, ap, codes, map, true}
 use Rattle.clap.specs.Simple.{app_of_fields}
 use Rattle.clap.specs.Words.{App, app_of, new_app, with_subcommand}
+use Rattle.capkit.specs.Arguments.{bare_line}
 use Rattle.capkit.proofs.arguments.line_command.Goals as goal
 
 abbrev requiring : App → App
@@ -14,17 +15,15 @@ named = new_app (codes "capkit")
 
 pub returns : goal.returns
 returns c =
-    let shape = c.in_ok-edit.ensures.shape in
     let about : app_of c.about.result ≡ named = ap app_of_fields c.about.ensures ∙ c.new.ensures.app in
     let required : app_of c.subcommand_required.result ≡ requiring named =
     ap app_of_fields c.subcommand_required.ensures ∙ ap requiring about in
-    let alone : app_of c.disable_help_subcommand.result ≡ without_help (requiring named) =
+    let alone : app_of c.disable_help_subcommand.result ≡ bare_line =
     ap app_of_fields c.disable_help_subcommand.ensures ∙ ap without_help required in
-    record {
-      shape = (
-        shape.0,
-        shape.1,
-        c.in_ok-command.ensures.shape c.in_ok-edit.ensures.local
-            ∙ ap₂ with_subcommand alone (ap (λ (a : App). a.top) shape.2),
-      );
-    }
+    (_, _, ap (map (λ name. name.now)) c.as_slice-formats.ensures, ap (map (λ name. name.now)) c.as_slice-links.ensures,
+    c.in_ok-command.ensures.shape c.in_ok-compile.ensures.local
+    ∙ ap₂ with_subcommand (c.in_ok-subcommand-2.ensures.shape c.in_ok-print.ensures.local
+    ∙ ap₂ with_subcommand (c.in_ok-subcommand.ensures.shape c.in_ok-edit.ensures.local
+    ∙ ap₂ with_subcommand alone (ap (λ (a : App). a.top) c.in_ok-edit.ensures.shape))
+    (ap (λ (a : App). a.top) c.in_ok-print.ensures.shape))
+    (ap (λ (a : App). a.top) c.in_ok-compile.ensures.shape))

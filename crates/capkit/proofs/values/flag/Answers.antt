@@ -4,7 +4,7 @@ use Rattle.std.specs.Str.{bytes_eq}
 use Rattle.clap.specs.Words.{found_of, one_text}
 use Rattle.clap.proofs.WalkLemmas.{one_text-rows}
 use Rattle.capkit.proofs.Getters.{flag_read}
-use Rattle.capkit.proofs.line.flag.Goals as goal
+use Rattle.capkit.proofs.values.flag.Goals as goal
 
 pub returns : goal.returns
 returns c =

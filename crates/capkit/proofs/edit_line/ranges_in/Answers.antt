@@ -1,6 +1,6 @@
 use Rattle.std.proofs.Common.{arith, ◌∙◌, sym, inr}
 use Rattle.capkit.proofs.RangeWords.{bad_range, no_range_fault, proper_ranges}
-use Rattle.capkit.proofs.line.ranges_in.Goals as goal
+use Rattle.capkit.proofs.edit_line.ranges_in.Goals as goal
 
 pub returns-in-None-clause-fault : goal.returns-in-None-clause-fault
 returns-in-None-clause-fault c =
