@@ -1,5 +1,7 @@
 //! How long programs are, and where they have jumps.
 
+ghost use Rattle.std.specs.Prelude.{◌<◌};
+
 use super::{compiled, repeated};
 use flt_bpf::Insn;
 use flt_gen::Link;
@@ -25,7 +27,24 @@ fn jumps_are_needed(insns: &[Insn]) -> bool {
     true
 }
 
-// 2, and 4 for each test and 6 for each node, where that is at most 256.
+/// At most so many instructions, and no jump among them.
+fn is_short(insns: &[Insn], most: usize) -> bool {
+    insns.len() <= most && !has_jump(insns)
+}
+
+/// At most so many instructions, and no jump that isn't needed.
+fn is_sparing(insns: &[Insn], most: usize) -> bool {
+    insns.len() <= most && jumps_are_needed(insns)
+}
+
+/// Where 2, and 4 for each test and 6 for each node, are at most 256, there are no jumps.
+fn is_laid_out(insns: &[Insn], tests: usize, nodes: usize) -> bool
+    requires { (tests < 1000) × (nodes < 1000) }
+{
+    let short = 2 + 4 * tests + 6 * nodes;
+    is_sparing(insns, 2 + 6 * (tests + nodes)) && (short > 256 || is_short(insns, short))
+}
+
 #[test]
 fn short_programs(rt: HostRuntime) -> Result<(), Fail> {
     let longest = repeated(rt.alloc(), "", "ip proto 6 or ", 29, "-len = 1")?;
@@ -43,8 +62,7 @@ fn short_programs(rt: HostRuntime) -> Result<(), Fail> {
     ];
     for (text, link, most) in rows {
         let program = compiled(rt.alloc(), text, link)?;
-        assert!(rt; program.insns().len() <= most, "{text}");
-        assert!(rt; !has_jump(program.insns()), "{text}");
+        assert!(rt; is_short(program.insns(), most), "{text}");
     }
     Ok(())
 }
@@ -56,8 +74,8 @@ fn long_programs(rt: HostRuntime) -> Result<(), Fail> {
     let longest = repeated(rt.alloc(), "ip", " or len = 1", 1820, "")?;
     for (text, most) in [(&longer, 386), (&ports, 2642), (&longest, 32_768)] {
         let program = compiled(rt.alloc(), text, Link::Ether)?;
-        assert!(rt; program.insns().len() <= most, "{text}");
-        assert!(rt; jumps_are_needed(program.insns()), "{text}");
+        assert!(rt; is_sparing(program.insns(), most), "{text}");
+        assert!(rt; has_jump(program.insns()) || most < 2642, "{text}");
     }
     Ok(())
 }
@@ -66,19 +84,11 @@ fn long_programs(rt: HostRuntime) -> Result<(), Fail> {
 #[test]
 fn longer_and_longer(rt: HostRuntime) -> Result<(), Fail> {
     let mut text = String::from_str(rt.alloc(), "ip")?;
-    let mut jumps = false;
     for times in 0..201usize {
         let program = compiled(rt.alloc(), &text, Link::Ether)?;
-        let insns = program.insns();
-        assert!(rt; insns.len() <= 8 + 18 * times, "{times} times");
-        assert!(rt; jumps_are_needed(insns), "{times} times");
-        if 6 + 16 * times <= 256 {
-            assert!(rt; insns.len() <= 6 + 16 * times, "{times} times");
-            assert!(rt; !has_jump(insns), "{times} times");
-        }
-        jumps = has_jump(insns);
+        let laid_out = is_laid_out(program.insns(), 1 + times, 2 * times);
+        assert!(rt; laid_out, "{times} times");
         text.push_str(" or len = 1")?;
     }
-    assert!(rt; jumps);
     Ok(())
 }
