@@ -53,6 +53,7 @@ found_in_three f test one two three some = go (test one) (test two) (test three)
   where
     first : Bool → Bool → Bool → Option Shape
     first a b c = if a then Some one else (if b then Some two else (if c then Some three else None))
+
     go : (a b c : Bool) → is_some (option_map f (first a b c)) ≡ true
         → (option_map f (first a b c) ≡ Some (f one)) ⊎ (option_map f (first a b c) ≡ Some (f two)) ⊎ (option_map f (first a b c) ≡ Some (f three))
     go true b c some = inl refl

@@ -90,9 +90,9 @@ fn listing_arg<'a>(alloc: Global) -> Arg<'a>
     ensures rule { rule_of result ≡ listing_rule }
     ensures local { result.global ≡ false }
 {
-    Arg::new(alloc, "LISTING")
-        .long("code")
-        .help("A listing of a program that stands in place of an expression")
+    Arg::new(alloc, "LISTING").long("code").help(
+        "A listing of a program that stands in place of an expression",
+    )
 }
 
 fn link_arg<'a>(alloc: Global, links: &'a [&'a str]) -> Arg<'a>

@@ -19,11 +19,15 @@ returns c =
     let required : app_of c.subcommand_required.result ≡ requiring named =
     ap app_of_fields c.subcommand_required.ensures ∙ ap requiring about in
     let alone : app_of c.disable_help_subcommand.result ≡ bare_line =
-    ap app_of_fields c.disable_help_subcommand.ensures ∙ ap without_help required in
-    (_, _, ap (map (λ name. name.now)) c.as_slice-formats.ensures, ap (map (λ name. name.now)) c.as_slice-links.ensures,
-    c.in_ok-command.ensures.shape c.in_ok-compile.ensures.local
-    ∙ ap₂ with_subcommand (c.in_ok-subcommand-2.ensures.shape c.in_ok-print.ensures.local
-    ∙ ap₂ with_subcommand (c.in_ok-subcommand.ensures.shape c.in_ok-edit.ensures.local
-    ∙ ap₂ with_subcommand alone (ap (λ (a : App). a.top) c.in_ok-edit.ensures.shape))
-    (ap (λ (a : App). a.top) c.in_ok-print.ensures.shape))
-    (ap (λ (a : App). a.top) c.in_ok-compile.ensures.shape))
+    ap app_of_fields c.disable_help_subcommand.ensures ∙ ap without_help required in (
+      _,
+      _,
+      ap (map (λ name. name.now)) c.as_slice-formats.ensures,
+      ap (map (λ name. name.now)) c.as_slice-links.ensures,
+      c.in_ok-command.ensures.shape c.in_ok-compile.ensures.local
+          ∙ ap₂ with_subcommand (c.in_ok-subcommand-2.ensures.shape c.in_ok-print.ensures.local
+          ∙ ap₂ with_subcommand (c.in_ok-subcommand.ensures.shape c.in_ok-edit.ensures.local
+          ∙ ap₂ with_subcommand alone (ap (λ (a : App). a.top) c.in_ok-edit.ensures.shape))
+          (ap (λ (a : App). a.top) c.in_ok-print.ensures.shape))
+          (ap (λ (a : App). a.top) c.in_ok-compile.ensures.shape),
+    )
