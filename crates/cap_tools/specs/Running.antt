@@ -10,7 +10,7 @@ use Rattle.cap_io.specs.Standing.{IsCutShort}
 use Rattle.cap_tools.specs.declared.progress.End.{End}
 use Rattle.cap_tools.specs.declared.progress.End.TheVariants.{Clean, Broken, OutputFailed}
 use Rattle.cap_tools.specs.Chosen.{Choice, Outcome, output_for, outcome_of}
-use Rattle.cap_tools.specs.Messages.{fault_message, write_failed_message, no_memory_message}
+use Rattle.cap_tools.specs.Messages.{fault_message, write_failed_message}
 
 -- ---- what is told
 
@@ -76,10 +76,6 @@ pub record OnlyTells (text : List ℕ) (answer : ℕ) (out out' : OutputView) (m
   pub output : out' ≡ out
   pub told : message ≡ text
   pub answered : status ≡ answer
-
--- There was no memory to begin with, and nothing is written.
-abbrev pub IsNotBegun : OutputView → OutputView → List ℕ → ℕ → Type 0
-IsNotBegun out out' message status = OnlyTells no_memory_message 1 out out' message status
 
 -- The packets of the input, whose bytes are this text, go into the output as they are decided.
 abbrev pub WorkLeaves : Choice → List ℕ → List ℕ → List ℕ → ℕ × ℕ → OutputView → OutputView → List ℕ → ℕ → Type 0
