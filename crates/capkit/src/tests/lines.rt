@@ -29,21 +29,39 @@ fn edit_of(rt: &HostRuntime, ranges: &[&str]) -> Result<Line, Usage> {
 }
 
 fn edit_in(line: Line) -> Result<Edit, Fail> {
-    match line.command {
+    let Line {
+        command,
+        inputs: _,
+        output: _,
+        code: _,
+    } = line;
+    match command {
         Command::Edit(edit) => Ok(edit),
         Command::Print(_) | Command::Compile(_) => Err(Fail::from("no edit")),
     }
 }
 
 fn print_in(line: Line) -> Result<Print, Fail> {
-    match line.command {
+    let Line {
+        command,
+        inputs: _,
+        output: _,
+        code: _,
+    } = line;
+    match command {
         Command::Print(print) => Ok(print),
         Command::Edit(_) | Command::Compile(_) => Err(Fail::from("no print")),
     }
 }
 
 fn compile_in(line: Line) -> Result<Compile, Fail> {
-    match line.command {
+    let Line {
+        command,
+        inputs: _,
+        output: _,
+        code: _,
+    } = line;
+    match command {
         Command::Compile(compile) => Ok(compile),
         Command::Edit(_) | Command::Print(_) => Err(Fail::from("no compilation")),
     }
