@@ -442,6 +442,20 @@ fn no_packet_in_pcapng(rt: HostRuntime) -> Result<(), Fail> {
     Ok(())
 }
 
+/// The packets of some ranges go into pcapng, and read back as they were.
+#[test]
+fn kept_ranges_in_pcapng(rt: HostRuntime) -> Result<(), Fail> {
+    let two = record(&rt, 0, 2, &[2, 2])?;
+    let three = record(&rt, 0, 3, &[3, 3, 3])?;
+    let inner = capture(&rt, &HEAD, &[&two, &three])?;
+    let ranges = ["-r", "2-3", "3", "9"];
+    let kept = trial(&rt, &[], &ranges, &four(&rt)?, sound(7))?;
+    assert_eq!(rt; kept.status, 0);
+    assert_eq!(rt; kept.written.len(), 132);
+    assert!(rt; gives(&rt, &[], &kept.written, &inner, "")?);
+    Ok(())
+}
+
 /// The header of a little-endian capture of nanoseconds.
 const NANOSECOND_HEAD: [u8; 24] = [
     0x4d, 0x3c, 0xb2, 0xa1, 2, 0, 4, 0, 0, 0, 0, 0, 0, 0, 0, 0, 0, 0, 4, 0, 1, 0, 0, 0,
