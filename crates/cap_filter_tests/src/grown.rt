@@ -2,8 +2,9 @@
 
 use crate::packets::{SYN, Taken, capture, whole};
 use cap_octet::{Format, MemInput, MemOutput};
-use cap_tools::{Command, Print, run};
+use cap_tools::{Command, Compile, Print, run};
 use cap_trial::Trial;
+use flt_gen::Link;
 use std::alloc::{AllocError, Allocator, Global};
 use std::process::Abort;
 use std::test::Fail;
@@ -17,15 +18,24 @@ fn by_words<A: Allocator>(alloc: A) -> Result<Command<A>, AllocError> {
     }))
 }
 
-/// The names of the input and the output.
-fn names<A: Allocator + Clone>(alloc: A) -> Result<Vec<String<A>, A>, AllocError> {
+/// A compilation of `tcp dst port 80`.
+fn compilation<A: Allocator>(alloc: A) -> Result<Command<A>, AllocError> {
+    Ok(Command::Compile(Compile {
+        expr: String::from_str(alloc, "tcp dst port 80")?,
+        link: Link::Ether,
+    }))
+}
+
+/// Names, as many as there are texts.
+fn names<A: Allocator + Clone>(alloc: A, texts: &[&str]) -> Result<Vec<String<A>, A>, AllocError> {
     let mut names = Vec::new(alloc.clone()?);
-    names.push(String::from_str(alloc.clone()?, "in")?)?;
-    names.push(String::from_str(alloc, "out")?)?;
+    for text in texts {
+        names.push(String::from_str(alloc.clone()?, text)?)?;
+    }
     Ok(names)
 }
 
-/// What a print with one growth refused left: the status, how much was written, and whether it was told with an offset.
+/// What a run with one growth refused left: the status, how much was written, and whether it was told with an offset.
 #[derive(Clone, Copy)]
 struct Ended {
     status: u8,
@@ -34,17 +44,16 @@ struct Ended {
     growths: u64,
 }
 
-/// Prints a capture while growth number `number` is refused, none at 0.
-fn print_refusing(
-    rt: &(impl Abort + AllocGlobal),
-    trial: &Trial<Global>,
-    text: &[u8],
+/// Runs a command while growth number `number` is refused, none at 0.
+fn run_refusing<'t>(
+    rt: &impl Abort,
+    trial: &'t Trial<Global>,
+    command: Command<&'t Trial<Global>>,
+    texts: &[&str],
+    inputs: Vec<MemInput<'_>, &'t Trial<Global>>,
     number: u64,
 ) -> Result<Ended, Fail> {
-    let command = by_words(trial)?;
-    let names = names(trial)?;
-    let mut inputs = Vec::new(trial);
-    inputs.push(MemInput::new(text))?;
+    let names = names(trial, texts)?;
     assert!(rt; command.is_proper(inputs.len()));
     assert_eq!(rt; names.len(), inputs.len() + 1);
     let mut room = [0; 400];
@@ -64,6 +73,30 @@ fn print_refusing(
         at_packet,
         growths,
     })
+}
+
+/// Prints a capture while growth number `number` is refused, none at 0.
+fn print_refusing(
+    rt: &impl Abort,
+    trial: &Trial<Global>,
+    text: &[u8],
+    number: u64,
+) -> Result<Ended, Fail> {
+    let mut inputs = Vec::new(trial);
+    inputs.push(MemInput::new(text))?;
+    run_refusing(rt, trial, by_words(trial)?, &["in", "out"], inputs, number)
+}
+
+/// Compiles while growth number `number` is refused, none at 0.
+fn compile_refusing(rt: &impl Abort, trial: &Trial<Global>, number: u64) -> Result<Ended, Fail> {
+    run_refusing(
+        rt,
+        trial,
+        compilation(trial)?,
+        &["out"],
+        Vec::new(trial),
+        number,
+    )
 }
 
 /// Each growth is refused in turn: no memory is told, before the input is read or with the packet in hand, and nothing
@@ -90,6 +123,30 @@ fn each_growth_is_refused(rt: HostRuntime) -> Result<(), Fail> {
         with_packet = ended.at_packet;
     }
     assert!(rt; before && with_packet);
+    Ok(())
+}
+
+/// Each growth of a compilation is refused in turn: no memory is told and nothing is written, or all is written.
+#[test]
+fn each_growth_of_a_compilation_is_refused(rt: HostRuntime) -> Result<(), Fail> {
+    let trial = Trial::new(rt.alloc());
+    let all = compile_refusing(&rt, &trial, 0)?;
+    assert_eq!(rt; all.status, 0);
+    assert!(rt; all.written > 0);
+    let mut refused = 0u64;
+    for number in 1..200 {
+        if number > all.growths {
+            break;
+        }
+        let ended = compile_refusing(&rt, &trial, number)?;
+        let expected = if ended.status == 0 { all.written } else { 0 };
+        assert_eq!(rt; ended.written, expected, "growth {number}");
+        assert!(rt; !ended.at_packet);
+        if ended.status == 1 {
+            refused = number;
+        }
+    }
+    assert!(rt; refused > 1);
     Ok(())
 }
 

@@ -11,8 +11,6 @@ pub mod memory;
 pub mod number;
 pub mod packet;
 pub mod stream;
-#[cfg(test)]
-mod tests;
 pub mod trial;
 
 pub use device::{DeviceFault, Input, Output, Stopped, read_full, write_all, write_parts};

@@ -8,6 +8,3 @@ pub mod write;
 
 pub use head::{Head, RecordHead, Resolution, read_head, read_magic, read_record};
 pub use write::{fits, head_bytes, record_bytes};
-
-#[cfg(test)]
-mod tests;

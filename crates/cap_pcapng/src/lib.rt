@@ -11,8 +11,6 @@ pub mod laws;
 pub mod options;
 pub mod read;
 pub mod table;
-#[cfg(test)]
-mod tests;
 pub mod write;
 
 pub use blocks::{Block, EnhancedBlock, InterfaceBlock, SimpleBlock};

@@ -1,6 +1,2 @@
-pub mod Arguments
-pub mod Line
-pub mod Names
-pub mod Range
 pub mod Status
 pub mod Streams

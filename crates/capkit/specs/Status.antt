@@ -3,8 +3,8 @@ use Rattle.std.specs.Prelude.{ℕ, Bool, true, false, if◌then◌else◌}
 use Rattle.clap.specs.Words.{kind_of}
 use Rattle.clap.specs.declared.error.kind.ErrorKind.{ErrorKind}
 use Rattle.clap.specs.declared.error.kind.ErrorKind.TheVariants.{DisplayHelp, DisplayVersion}
-use Rattle.capkit.specs.declared.usage.Usage.{Usage}
-use Rattle.capkit.specs.declared.usage.Usage.TheVariants.{Memory, Refused}
+use Rattle.cap_line.specs.declared.usage.Usage.{Usage}
+use Rattle.cap_line.specs.declared.usage.Usage.TheVariants.{Memory, Refused}
 
 -- the words ask to be told something
 abbrev pub is_request : ErrorKind → Bool

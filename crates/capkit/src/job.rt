@@ -1,12 +1,11 @@
 //! A command over files and standard streams.
 ghost use Rattle.std.specs.Prelude.{◌≡◌, ◌≤◌, ◌&&◌, ◌||◌, ℕ, not, is_none, IfOk, true, length, vec_len};
 ghost use Rattle.cap_tools.specs.Command.{is_proper};
-ghost use Rattle.capkit.specs.Line.{has_expression, is_ready};
+ghost use Rattle.cap_line.specs.Line.{has_expression, is_ready};
 
-use crate::line::Line;
-use crate::names::STANDARD;
 use crate::streams::{Created, Opened, Watched};
 use crate::{FAULT, tell};
+use cap_line::{Line, STANDARD};
 use cap_octet::{StdInput, StdOutput};
 use cap_tools::{Command, Print};
 use std::alloc::{AllocError, AllocFailed};

@@ -4,23 +4,11 @@
 ghost use Rattle.std.specs.Prelude.{◌≡◌};
 ghost use Rattle.capkit.specs.Status.{status_of};
 
-mod arguments;
-mod compile_line;
-mod edit_line;
 mod job;
-mod line;
-mod names;
-mod print_line;
-mod range;
 mod streams;
-#[cfg(test)]
-mod tests;
-mod usage;
-mod values;
 
 use crate::job::run;
-use crate::line::command_of;
-use crate::usage::Usage;
+use cap_line::{Usage, command_of};
 use std::alloc::AllocError;
 use std::env;
 use std::fmt::Display;

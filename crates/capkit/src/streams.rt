@@ -2,10 +2,10 @@
 ghost use Rattle.std.specs.Prelude.{◌≡◌, ◌||◌, IfOk, None, false, is_err};
 ghost use Rattle.std.specs.Io.{WritesAtMost};
 ghost use Rattle.std.specs.Io.KnownBytes.{WriteAppends};
-ghost use Rattle.capkit.specs.Names.{is_standard};
+ghost use Rattle.cap_line.specs.Names.{is_standard};
 ghost use Rattle.capkit.specs.Streams.{is_standard_input, is_standard_output};
 
-use crate::names::STANDARD;
+use cap_line::STANDARD;
 use std::fs::{self, File};
 use std::io::{self, Read, Stdin, Stdout, Write};
 

@@ -1,0 +1,69 @@
+-- What a line says of the words.
+use Rattle.std.proofs.Common.{◌≡◌, ◌∙◌, ◌⊎◌, inl, inr, refl, List, Option, Some, None, Result, Ok, Err, IfOk, IfErr, OnOk, Bool, true, false, length, codes, [], ◌∷◌}
+use Rattle.std.specs.Prelude.{◌&&◌, if◌then◌else◌, is_none, is_some, nat_lt}
+use Rattle.std.specs.List.{list_any}
+use Rattle.clap.specs.Words.{Row, Text, first_of}
+use Rattle.clap.specs.declared.error.Error.{Error}
+use Rattle.cap_line.specs.Line.{Asks, IsFaultOf, IsLineOf, SaysFault, SaysLine, exclusion_fault, fault_in, name_fault, or_else, range_fault, read_names, text_in, texts_in}
+use Rattle.cap_line.specs.Names.{uses_name_twice}
+use Rattle.cap_line.specs.Range.{range_of}
+use Rattle.cap_line.specs.declared.arguments.Subcommand.{Subcommand}
+use Rattle.cap_line.specs.declared.arguments.Subcommand.TheVariants as sub
+use Rattle.cap_line.specs.declared.line.Line.{Line}
+use Rattle.cap_line.specs.declared.usage.Usage.{Usage}
+use Rattle.cap_line.specs.declared.usage.Usage.TheVariants.{BadRange, Memory, NameUsedTwice, OptionsExclude, Refused, TooManyValues}
+
+pub says_line : (words : List Text) (asked : Subcommand) (matches : List Row) (r : Result Line Usage) → Asks words asked matches → IfOk r (IsLineOf asked matches)
+    → OnOk r (fault_in asked matches ≡ None) → IfOk r (SaysLine words)
+says_line words asked matches (Ok line) asks is none = (asked, matches, asks, none, is)
+says_line words asked matches (Err usage) asks is none = tt
+
+-- clap's refusal is no fault of the matches
+range_or_name : (many bad twice : Bool) (e : Error)
+    → or_else (if many then Some TooManyValues else (if bad then Some BadRange else None)) (if twice then Some NameUsedTwice else None) ≡ Some (Refused e) → ⊥
+range_or_name true bad twice e same = cc
+range_or_name false true twice e same = cc
+range_or_name false false true e same = cc
+range_or_name false false false e same = cc
+
+exclusion_or_name : (both twice : Bool) (e : Error)
+    → or_else (if both then Some OptionsExclude else None) (if twice then Some NameUsedTwice else None) ≡ Some (Refused e) → ⊥
+exclusion_or_name true twice e same = cc
+exclusion_or_name false true e same = cc
+exclusion_or_name false false e same = cc
+
+not_refused : (asked : Subcommand) (matches : List Row) (e : Error) → fault_in asked matches ≡ Some (Refused e) → ⊥
+not_refused sub.Edit matches e same =
+    let words = texts_in (codes "RANGE") matches in
+    range_or_name (nat_lt 512 (length words)) (list_any (λ word. is_none (range_of word)) words)
+    (uses_name_twice (text_in (codes "IN") matches ∷ []) (Some (text_in (codes "OUT") matches))) e same
+not_refused sub.Print matches e same =
+    exclusion_or_name (is_some (first_of (codes "LISTING") matches) && nat_lt 0 (length (texts_in (codes "WORD") matches)))
+    (uses_name_twice (read_names matches) (Some (text_in (codes "OUT") matches))) e same
+not_refused sub.Compile matches e same = cc
+
+says : (words : List Text) (asked : Subcommand) (matches : List Row) (usage : Usage) → Asks words asked matches → IsFaultOf (fault_in asked matches) usage
+    → SaysFault words usage
+says words asked matches (Refused e) asks fault = elim fault [
+  | inl memory ↦ cc
+  | inr same ↦ absurd (not_refused asked matches e same)
+]
+says words asked matches TooManyValues asks fault = (asked, matches, asks, fault)
+says words asked matches BadRange asks fault = (asked, matches, asks, fault)
+says words asked matches OptionsExclude asks fault = (asked, matches, asks, fault)
+says words asked matches NameUsedTwice asks fault = (asked, matches, asks, fault)
+says words asked matches Memory asks fault = (asked, matches, asks, fault)
+
+pub says_fault : (words : List Text) (asked : Subcommand) (matches : List Row) (r : Result Line Usage) → Asks words asked matches
+    → IfErr r (IsFaultOf (fault_in asked matches)) → IfErr r (SaysFault words)
+says_fault words asked matches (Ok line) asks fault = tt
+says_fault words asked matches (Err usage) asks fault = says words asked matches usage asks fault
+
+-- a compilation's line has no fault of its own
+pub compile_faultless : (matches : List Row) (r : Result Line Usage) → OnOk r (fault_in sub.Compile matches ≡ None)
+compile_faultless matches (Ok line) = refl
+compile_faultless matches (Err usage) = tt
+
+pub memory_alone : (matches : List Row) (r : Result Line Usage) → IfErr r (λ usage. usage ≡ Memory) → IfErr r (IsFaultOf (fault_in sub.Compile matches))
+memory_alone matches (Ok line) memory = tt
+memory_alone matches (Err usage) memory = inl memory

@@ -1,0 +1,115 @@
+-- The command line as clap parses it.
+use Rattle.std.specs.Prelude.{◌≡◌, List, [], ◌∷◌, Option, Some, true, codes, if◌then◌else◌, map}
+use Rattle.std.specs.Str.{bytes_eq}
+use Rattle.clap.specs.Words.{App, HasKind, Row, Rule, Text, fault_of, kind_of, new_app, new_rule, subcommand_of, takes, with_rule, with_subcommand}
+use Rattle.clap.specs.declared.builder.action.ArgAction.TheVariants.{SetTrue}
+use Rattle.clap.specs.declared.builder.value_parser.ValueParser.{ValueParser}
+use Rattle.clap.specs.declared.builder.value_parser.ValueParser.TheVariants as parser
+use Rattle.clap.specs.declared.error.Error.{Error}
+use Rattle.clap.specs.declared.error.kind.ErrorKind.TheVariants.{OutOfMemory}
+use Rattle.cap_line.specs.declared.arguments.Subcommand.{Subcommand}
+use Rattle.cap_line.specs.declared.arguments.Subcommand.TheVariants as sub
+
+-- ---- arguments
+
+-- `-r` (114)
+abbrev pub keep_rule : Rule
+keep_rule = record (new_rule (codes "keep")) { short = Some 114; action = Some SetTrue }
+
+-- `-F FORMAT` (70)
+abbrev pub format_rule : ValueParser → Rule
+format_rule formats = record (new_rule (codes "FORMAT")) { short = Some 70; parser = Some formats }
+
+-- `--format FORMAT`
+abbrev pub long_format_rule : ValueParser → Rule
+long_format_rule formats = record (new_rule (codes "FORMAT")) { long = Some (codes "format"); parser = Some formats }
+
+-- a name that stands by its place
+abbrev pub file_rule : Text → Rule
+file_rule id = record (new_rule id) { required = true }
+
+-- `-w OUT` (119)
+abbrev pub output_rule : Rule
+output_rule = record (new_rule (codes "OUT")) { short = Some 119; required = true }
+
+-- `--code LISTING`
+abbrev pub listing_rule : Rule
+listing_rule = record (new_rule (codes "LISTING")) { long = Some (codes "code") }
+
+-- `--link LINK`
+abbrev pub link_rule : ValueParser → Rule
+link_rule links = record (new_rule (codes "LINK")) { long = Some (codes "link"); parser = Some links }
+
+-- as many words as there are
+abbrev pub many_rule : Text → Rule
+many_rule id = record (new_rule id) { range = Some (record { start_inclusive = 0; end_inclusive = 18446744073709551615 }) }
+
+-- ---- commands
+
+-- `edit [-r] [-F FORMAT] IN OUT [RANGE..]`
+abbrev pub edit_app : ValueParser → App
+edit_app formats = with_rule (with_rule (with_rule (with_rule (with_rule (new_app (codes "edit"))
+    keep_rule) (format_rule formats)) (file_rule (codes "IN"))) (file_rule (codes "OUT"))) (many_rule (codes "RANGE"))
+
+-- `print [--code LISTING] -w OUT [--format FORMAT] FILE [WORD..]`
+abbrev pub print_app : ValueParser → App
+print_app formats = with_rule (with_rule (with_rule (with_rule (with_rule (new_app (codes "print"))
+    listing_rule) output_rule) (long_format_rule formats)) (file_rule (codes "FILE"))) (many_rule (codes "WORD"))
+
+-- `compile [--link LINK] [WORD..]`
+abbrev pub compile_app : ValueParser → App
+compile_app links = with_rule (with_rule (new_app (codes "compile")) (link_rule links)) (many_rule (codes "WORD"))
+
+abbrev pub bare_line : App
+bare_line =
+    let app = new_app (codes "capkit") in
+    record app { top = record app.top { subcommand_required = true; disable_help_subcommand = true } }
+
+-- the whole line, with no subcommand `help`
+abbrev pub line_app : (formats links : ValueParser) → App
+line_app formats links =
+    with_subcommand (with_subcommand (with_subcommand bare_line (edit_app formats).top) (print_app formats).top) (compile_app links).top
+
+-- ---- names to choose from
+
+abbrev pub name_of : Subcommand → Text
+name_of sub.Edit = codes "edit"
+name_of sub.Print = codes "print"
+name_of sub.Compile = codes "compile"
+
+-- the subcommand of one of these names
+abbrev pub subcommand_named : Text → Subcommand
+subcommand_named name =
+    if bytes_eq name (codes "edit") then sub.Edit
+    else (if bytes_eq name (codes "print") then sub.Print else sub.Compile)
+
+abbrev pub format_names : List Text
+format_names = codes "pcap" ∷ codes "nsecpcap" ∷ codes "pcapng" ∷ []
+
+abbrev pub link_names : List Text
+link_names = codes "ether" ∷ codes "raw" ∷ []
+
+-- the values that an argument may have; a list is the program's, so no definition can name its place in memory
+abbrev pub AreChoices : List Text → ValueParser → Type 0
+AreChoices texts (parser.Names names) = map (λ name. name.now) names.now ≡ texts
+AreChoices texts _ = ⊥
+
+-- ---- a parse
+
+-- clap has nothing against the words, and they enter this subcommand with these matches
+pub record Takes (words : List Text) (entered : Option (Text × List Row)) : Type 0 where
+  pub formats : ValueParser
+  pub links : ValueParser
+  pub are_formats : AreChoices format_names formats
+  pub are_links : AreChoices link_names links
+  pub no_fault : fault_of (line_app formats links) words ≡ []
+  pub enters : subcommand_of (line_app formats links) words ≡ entered
+
+-- clap refuses the words with this error, which is of want of memory where it takes them
+pub record Refuses (words : List Text) (error : Error) : Type 0 where
+  pub formats : ValueParser
+  pub links : ValueParser
+  pub are_formats : AreChoices format_names formats
+  pub are_links : AreChoices link_names links
+  pub memory_alone : takes (line_app formats links) words ≡ true → kind_of error ≡ OutOfMemory
+  pub kind : HasKind (fault_of (line_app formats links) words) error

@@ -1,0 +1,4 @@
+pub mod Arguments
+pub mod Line
+pub mod Names
+pub mod Range

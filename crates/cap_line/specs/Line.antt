@@ -1,0 +1,165 @@
+-- What the words of a command line ask for.
+use Rattle.std.specs.Prelude.{◌≡◌, ◌&&◌, ◌||◌, ◌⊎◌, ℕ, Bool, true, false, not, List, [], ◌∷◌, length, map, nat_lt, codes}
+use Rattle.std.specs.Prelude.{Option, Some, None, is_none, is_some, option_map, unwrap_or, if◌then◌else◌, string_bytes, vec_len}
+use Rattle.std.specs.Global.{Global}
+use Rattle.std.specs.List.{join_by, list_any}
+use Rattle.std.specs.Option.{option_map_or, option_to_list}
+use Rattle.std.specs.Str.{bytes_eq}
+use Rattle.cap_octet.specs.declared.format.Format.{Format}
+use Rattle.cap_octet.specs.declared.format.Format.TheVariants.{Pcap, NsecPcap, Pcapng}
+use Rattle.cap_tools.specs.Command.{is_proper}
+use Rattle.cap_tools.specs.declared.command.Command.{Command}
+use Rattle.cap_tools.specs.declared.command.Command.TheVariants as command
+use Rattle.cap_tools.specs.declared.command.Compile.{Compile}
+use Rattle.cap_tools.specs.declared.command.Edit.{Edit}
+use Rattle.cap_tools.specs.declared.command.Print.{Print}
+use Rattle.clap.specs.Words.{Row, Text, all_of, first_of, one_of}
+use Rattle.flt_gen.specs.declared.link.Link.{Link}
+use Rattle.flt_gen.specs.declared.link.Link.TheVariants.{Ether, Raw}
+use Rattle.cap_line.specs.Arguments.{Refuses, Takes, name_of}
+use Rattle.cap_line.specs.Names.{uses_name_twice}
+use Rattle.cap_line.specs.Range.{range_of}
+use Rattle.cap_line.specs.declared.arguments.Subcommand.{Subcommand}
+use Rattle.cap_line.specs.declared.arguments.Subcommand.TheVariants as sub
+use Rattle.cap_line.specs.declared.line.Line.{Line}
+use Rattle.cap_line.specs.declared.usage.Usage.{Usage}
+use Rattle.cap_line.specs.declared.usage.Usage.TheVariants.{BadRange, Memory, NameUsedTwice, OptionsExclude, Refused, TooManyValues}
+
+-- ---- clap's matches
+
+abbrev pub text_in : Text → List Row → Text
+text_in id matches = unwrap_or (first_of id matches) []
+
+abbrev pub texts_in : Text → List Row → List Text
+texts_in id matches = unwrap_or (all_of id matches) []
+
+abbrev pub flag_in : Text → List Row → Bool
+flag_in id matches = option_map_or (λ text. bytes_eq text (codes "true")) (one_of id matches) false
+
+abbrev pub format_named : Text → Format
+format_named text =
+    if bytes_eq text (codes "pcap") then Pcap
+    else (if bytes_eq text (codes "nsecpcap") then NsecPcap else Pcapng)
+
+-- pcapng where no format is named
+abbrev pub format_in : Text → List Row → Format
+format_in id matches = option_map_or format_named (first_of id matches) Pcapng
+
+abbrev pub link_named : Text → Link
+link_named text = if bytes_eq text (codes "raw") then Raw else Ether
+
+-- Ethernet where no link is named
+abbrev pub link_in : Text → List Row → Link
+link_in id matches = option_map_or link_named (first_of id matches) Ether
+
+-- the expression: the words, with one blank between each two
+abbrev pub expression_in : List Row → Text
+expression_in matches = join_by (λ (word : Text). word) (codes " ") (texts_in (codes "WORD") matches)
+
+-- ---- faults of usage
+
+abbrev pub or_else : Option Usage → Option Usage → Option Usage
+or_else (Some fault) next = Some fault
+or_else None next = next
+
+-- the first fault of the words for ranges
+abbrev pub range_fault : List Text → Option Usage
+range_fault words =
+    if nat_lt 512 (length words) then Some TooManyValues
+    else (if list_any (λ word. is_none (range_of word)) words then Some BadRange else None)
+
+abbrev pub name_fault : List Text → Option Text → Option Usage
+name_fault inputs output = if uses_name_twice inputs output then Some NameUsedTwice else None
+
+-- a listing stands in place of an expression
+abbrev pub exclusion_fault : (listing : Option Text) → (words : List Text) → Option Usage
+exclusion_fault listing words = if is_some listing && nat_lt 0 (length words) then Some OptionsExclude else None
+
+-- too many ranges, then a bad one, then a name used twice
+abbrev pub edit_fault : List Row → Option Usage
+edit_fault matches = or_else (range_fault (texts_in (codes "RANGE") matches))
+    (name_fault (text_in (codes "IN") matches ∷ []) (Some (text_in (codes "OUT") matches)))
+
+-- the names that are read: the capture's, and the listing's where there is one
+abbrev pub read_names : List Row → List Text
+read_names matches = text_in (codes "FILE") matches ∷ option_to_list (first_of (codes "LISTING") matches)
+
+-- an expression beside a listing, then a name used twice
+abbrev pub print_fault : List Row → Option Usage
+print_fault matches = or_else
+    (exclusion_fault (first_of (codes "LISTING") matches) (texts_in (codes "WORD") matches))
+    (name_fault (read_names matches) (Some (text_in (codes "OUT") matches)))
+
+-- ---- lines
+
+-- the line is the edit that the matches ask for
+pub record IsEditOf (matches : List Row) (line : Line) : Type 0 where
+  pub edit : Edit Global
+  pub command : line.command ≡ command.Edit edit
+  pub ranges : map Some edit.ranges.items ≡ map range_of (texts_in (codes "RANGE") matches)
+  pub keep : edit.keep ≡ flag_in (codes "keep") matches
+  pub format : edit.format ≡ format_in (codes "FORMAT") matches
+  pub inputs : map string_bytes line.inputs.items ≡ text_in (codes "IN") matches ∷ []
+  pub output : option_map string_bytes line.output ≡ Some (text_in (codes "OUT") matches)
+  pub code : line.code ≡ None
+
+-- the line is the print that the matches ask for; the listing is named, and not yet read
+pub record IsPrintOf (matches : List Row) (line : Line) : Type 0 where
+  pub print : Print Global
+  pub command : line.command ≡ command.Print print
+  pub expr : string_bytes print.expr ≡ expression_in matches
+  pub unread : print.code ≡ None
+  pub write : print.write ≡ format_in (codes "FORMAT") matches
+  pub inputs : map string_bytes line.inputs.items ≡ text_in (codes "FILE") matches ∷ []
+  pub output : option_map string_bytes line.output ≡ Some (text_in (codes "OUT") matches)
+  pub code : option_map string_bytes line.code ≡ first_of (codes "LISTING") matches
+
+-- the line is the compilation that the matches ask for
+pub record IsCompileOf (matches : List Row) (line : Line) : Type 0 where
+  pub compile : Compile Global
+  pub command : line.command ≡ command.Compile compile
+  pub expr : string_bytes compile.expr ≡ expression_in matches
+  pub link : compile.link ≡ link_in (codes "LINK") matches
+  pub inputs : line.inputs.items ≡ []
+  pub output : line.output ≡ None
+  pub code : line.code ≡ None
+
+-- ---- the words
+
+-- the first fault of the words
+abbrev pub fault_in : Subcommand → List Row → Option Usage
+fault_in sub.Edit matches = edit_fault matches
+fault_in sub.Print matches = print_fault matches
+fault_in sub.Compile matches = None
+
+abbrev pub IsLineOf : Subcommand → List Row → Line → Type 0
+IsLineOf sub.Edit matches line = IsEditOf matches line
+IsLineOf sub.Print matches line = IsPrintOf matches line
+IsLineOf sub.Compile matches line = IsCompileOf matches line
+
+-- a line is not read for want of memory, or for its first fault
+abbrev pub IsFaultOf : Option Usage → Usage → Type 0
+IsFaultOf fault usage = (usage ≡ Memory) ⊎ (fault ≡ Some usage)
+
+-- clap takes the words, of which the first is the program's name, and these are its matches of the subcommand
+abbrev pub Asks : List Text → Subcommand → List Row → Type 0
+Asks words asked matches = Takes words (Some (name_of asked, matches))
+
+abbrev pub SaysLine : List Text → Line → Type 0
+SaysLine words line = (asked : Subcommand) × (matches : List Row) × Asks words asked matches × (fault_in asked matches ≡ None) × IsLineOf asked matches line
+
+abbrev pub SaysFault : List Text → Usage → Type 0
+SaysFault words (Refused error) = Refuses words error
+SaysFault words usage = (asked : Subcommand) × (matches : List Row) × Asks words asked matches × IsFaultOf (fault_in asked matches) usage
+
+-- ---- what may be run
+
+-- the command has an expression that is not empty
+abbrev pub has_expression : {Z : Type 0} → Command Z → Bool
+has_expression (command.Print print) = nat_lt 0 (length (string_bytes print.expr))
+has_expression (command.Edit edit) = false
+has_expression (command.Compile compile) = false
+
+-- a line may be run once its listing is read
+abbrev pub is_ready : Line → Bool
+is_ready line = is_proper line.command (vec_len line.inputs) && (is_none line.code || not (has_expression line.command))

@@ -1,0 +1,16 @@
+//! The command line: what its words ask for, or why they are none.
+#![tactic(auto)]
+
+mod arguments;
+mod compile_line;
+mod edit_line;
+pub mod line;
+pub mod names;
+mod print_line;
+mod range;
+pub mod usage;
+mod values;
+
+pub use line::{Line, command_of};
+pub use names::STANDARD;
+pub use usage::Usage;

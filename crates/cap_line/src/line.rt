@@ -1,0 +1,48 @@
+//! What the words of a command line ask for.
+ghost use Rattle.std.specs.Prelude.{◌≡◌, IfOk, IfErr, map, true, string_bytes};
+ghost use Rattle.cap_line.specs.Line.{is_ready, SaysLine, SaysFault};
+
+use crate::arguments::{Subcommand, matches_of, subcommand_named};
+use crate::compile_line::compile_line;
+use crate::edit_line::edit_line;
+use crate::print_line::print_line;
+use crate::usage::Usage;
+use cap_tools::Command;
+use std::alloc::Global;
+
+/// A command line.
+#[derive(Drop)]
+pub struct Line {
+    /// What is asked for.
+    pub command: Command,
+    /// The names of the inputs, of which `-` is standard input.
+    pub inputs: Vec<String>,
+    /// The name of the output, of which `-` is standard output; standard output where there is none.
+    pub output: Option<String>,
+    /// The name of a listing, which is to be read into the command before it runs.
+    pub code: Option<String>,
+}
+
+/// The line that the words ask for, of which the first is the program's name.
+///
+/// An error is the first of these that holds: clap refuses the words (also where it is refused memory), there are
+/// more than 512 ranges, a range is none, words stand beside a listing, a name is used twice; or memory is refused
+/// after clap's parse.
+pub fn command_of(alloc: Global, words: Vec<String>) -> Result<Line, Usage>
+    ensures line { IfOk result (SaysLine (map string_bytes words.items)) }
+    ensures ready { IfOk result (λ line. is_ready line ≡ true) }
+    ensures usage { IfErr result (SaysFault (map string_bytes words.items)) }
+{
+    let matches = match matches_of(alloc, words.as_slice()) {
+        Ok(matches) => matches,
+        Err(error) => return Err(Usage::Refused(error)),
+    };
+    let Some((name, matches)) = matches.subcommand() else {
+        unreachable!()
+    };
+    match subcommand_named(name) {
+        Subcommand::Edit => edit_line(alloc, matches),
+        Subcommand::Print => print_line(alloc, matches),
+        Subcommand::Compile => compile_line(alloc, matches),
+    }
+}

@@ -1,0 +1,45 @@
+//! Why words are no command line.
+ghost use Rattle.std.specs.Prelude.{◌≡◌};
+ghost use Rattle.cap_line.specs.declared.usage.Usage.TheVariants.{Memory};
+
+use std::alloc::{AllocError, AllocFailed};
+use thiserror::Error;
+
+/// Why words are no command line. Its text is what a message calls it.
+#[derive(Debug, Drop, Error)]
+pub enum Usage {
+    /// clap refuses the words, or answers a request for help.
+    #[error(transparent)]
+    Refused(clap::Error),
+    /// There are more than 512 ranges.
+    #[error("too many values")]
+    TooManyValues,
+    /// A word names no range of packets.
+    #[error("bad range")]
+    BadRange,
+    /// Words of an expression stand beside a listing.
+    #[error("options exclude each other")]
+    OptionsExclude,
+    /// The output is an input too, or standard input is two of them.
+    #[error("name used twice")]
+    NameUsedTwice,
+    /// No memory was left for the line.
+    #[error("no memory")]
+    Memory,
+}
+
+impl From<AllocError> for Usage {
+    ghost from_gives = { λ _ usage. usage ≡ Memory };
+
+    fn from(_error: AllocError) -> Usage {
+        Usage::Memory
+    }
+}
+
+impl<T: Drop> From<AllocFailed<T>> for Usage {
+    ghost from_gives = { λ _ usage. usage ≡ Memory };
+
+    fn from(_error: AllocFailed<T>) -> Usage {
+        Usage::Memory
+    }
+}

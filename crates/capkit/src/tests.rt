@@ -1,4 +1,0 @@
-//! Command lines, and what they make of captures.
-
-mod captures;
-mod lines;
