@@ -1,10 +1,10 @@
-//! Commands, run over memory.
+//! Command lines that print and compile, run over memory.
 
-use cap_octet::{Format, MemInput, MemOutput};
-use cap_tools::{Command, Compile, Print, run};
+use cap_line::{Line, command_of, with_code};
+use cap_octet::{MemInput, MemOutput};
+use cap_tools::{Command, run};
 use flt_gen::Link;
 use std::alloc::{AllocError, Global};
-use std::process::Abort;
 use std::test::Fail;
 
 /// What a run left.
@@ -15,26 +15,25 @@ pub(crate) struct Left {
     pub(crate) told: Vec<u8>,
 }
 
-/// Names, as many as there are texts.
-fn names(alloc: Global, texts: &[&str]) -> Result<Vec<String>, AllocError> {
-    let mut names = Vec::new(alloc);
+/// Texts of their own.
+fn owned(alloc: Global, texts: &[&str]) -> Result<Vec<String>, AllocError> {
+    let mut all = Vec::new(alloc);
     for text in texts {
-        names.push(String::from_str(alloc, text)?)?;
+        all.push(String::from_str(alloc, text)?)?;
     }
-    Ok(names)
+    Ok(all)
 }
 
 /// Runs a command, whose output is at most 65,536 bytes.
 fn run_over_memory(
-    rt: &(impl Abort + AllocGlobal),
+    alloc: Global,
     command: Command,
-    texts: &[&str],
+    names: Vec<String>,
     inputs: Vec<MemInput<'_>>,
 ) -> Result<Left, Fail> {
-    let alloc = rt.alloc();
-    let names = names(alloc, texts)?;
-    assert!(rt; command.is_proper(inputs.len()));
-    assert_eq!(rt; names.len(), inputs.len() + 1);
+    if !command.is_proper(inputs.len()) || names.len() != inputs.len() + 1 {
+        return Err(Fail::from("the command may not be run"));
+    }
     let mut room = vec![in alloc; 0u8; 65_536]?;
     let mut message_room = [0; 100];
     let out = MemOutput::new(room.as_mut_slice());
@@ -45,53 +44,52 @@ fn run_over_memory(
     Ok(Left { status, out, told })
 }
 
-/// Prints a capture into a pcap, by words or by a listing.
-fn print(
-    rt: &(impl Abort + AllocGlobal),
-    text: &[u8],
-    words: &str,
-    code: Option<Vec<u8>>,
-) -> Result<Left, Fail> {
-    let alloc = rt.alloc();
-    let command = Command::Print(Print {
-        expr: String::from_str(alloc, words)?,
-        code,
-        write: Format::Pcap,
-    });
+/// Runs what the words ask for: each input is this text, and the listing that they name, if they do, has these bytes.
+fn run_words(alloc: Global, words: &[&str], text: &[u8], code: &[u8]) -> Result<Left, Fail> {
+    let Line {
+        command,
+        inputs: mut names,
+        output,
+        code: listing,
+    } = command_of(alloc, owned(alloc, words)?)?;
+    let command = match listing {
+        Some(_) => with_code(command, code.to_vec(alloc)?),
+        None => command,
+    };
     let mut inputs = Vec::new(alloc);
-    inputs.push(MemInput::new(text))?;
-    run_over_memory(rt, command, &["in", "out"], inputs)
+    for _ in 0..names.len() {
+        inputs.push(MemInput::new(text))?;
+    }
+    names.push(output.unwrap_or(String::from_str(alloc, "-")?))?;
+    run_over_memory(alloc, command, names, inputs)
 }
 
-/// Prints the packets for which the words read yes.
+/// Prints the packets for which the expression reads yes into a pcap.
 pub(crate) fn print_words(
-    rt: &(impl Abort + AllocGlobal),
+    rt: &impl AllocGlobal,
     text: &[u8],
-    words: &str,
+    expression: &str,
 ) -> Result<Left, Fail> {
-    print(rt, text, words, None)
+    let words = [
+        "capkit", "print", "-w", "out", "--format", "pcap", "in", expression,
+    ];
+    run_words(rt.alloc(), &words, text, &[])
 }
 
-/// Prints the packets for which the listing answers other than 0.
-pub(crate) fn print_code(
-    rt: &(impl Abort + AllocGlobal),
-    text: &[u8],
-    code: &[u8],
-) -> Result<Left, Fail> {
-    let code = Vec::from_slice(rt.alloc(), code)?;
-    print(rt, text, "", Some(code))
+/// Prints the packets for which the listing answers other than 0 into a pcap.
+pub(crate) fn print_code(rt: &impl AllocGlobal, text: &[u8], code: &[u8]) -> Result<Left, Fail> {
+    let words = [
+        "capkit", "print", "--code", "listing", "-w", "out", "--format", "pcap", "in",
+    ];
+    run_words(rt.alloc(), &words, text, code)
 }
 
-/// Compiles words.
-pub(crate) fn compile(
-    rt: &(impl Abort + AllocGlobal),
-    words: &str,
-    link: Link,
-) -> Result<Left, Fail> {
-    let alloc = rt.alloc();
-    let command = Command::Compile(Compile {
-        expr: String::from_str(alloc, words)?,
-        link,
-    });
-    run_over_memory(rt, command, &["out"], Vec::new(alloc))
+/// Compiles an expression for a link.
+pub(crate) fn compile(rt: &impl AllocGlobal, expression: &str, link: Link) -> Result<Left, Fail> {
+    let link = match link {
+        Link::Ether => "ether",
+        Link::Raw => "raw",
+    };
+    let words = ["capkit", "compile", "--link", link, expression];
+    run_words(rt.alloc(), &words, &[], &[])
 }

@@ -18,11 +18,11 @@ fn does_the_same(rt: &(impl Abort + AllocGlobal), words: &str) -> Result<(), Fai
         &[whole(&SYN), whole(&other), whole(&SYN[..30])],
     )?;
     let listing = compile(rt, words, Link::Ether)?;
-    assert_eq!(rt; listing.status, 0);
+    assert!(rt; listing.status == 0);
     let by_code = print_code(rt, &text, &listing.out)?;
     let by_words = print_words(rt, &text, words)?;
-    assert_eq!(rt; by_code.status, by_words.status);
-    assert_eq!(rt; by_code.out.as_slice(), by_words.out.as_slice());
+    assert!(rt; by_code.status == by_words.status);
+    assert!(rt; by_code.out.as_slice() == by_words.out.as_slice());
     Ok(())
 }
 
@@ -60,7 +60,7 @@ fn forty_ports(rt: &(impl Abort + AllocGlobal)) -> Result<String, Fail> {
 fn a_long_program(rt: HostRuntime) -> Result<(), Fail> {
     let alloc = rt.alloc();
     let listing = compile(&rt, &forty_ports(&rt)?, Link::Ether)?;
-    assert_eq!(rt; listing.status, 0);
+    assert!(rt; listing.status == 0);
     let lines = listing.out.iter().filter(|byte| **byte == b'\n').count();
     assert!(rt; lines <= 2_643, "{lines} lines");
     for port in 0..42u8 {
@@ -69,7 +69,7 @@ fn a_long_program(rt: HostRuntime) -> Result<(), Fail> {
         let text = capture(alloc, 1, &[whole(&packet)])?;
         let left = print_code(&rt, &text, &listing.out)?;
         let size = if port == 0 || port == 41 { 24 } else { 94 };
-        assert_eq!(rt; left.out.len(), size, "port {port}");
+        assert!(rt; left.out.len() == size, "port {port}");
     }
     Ok(())
 }
@@ -80,10 +80,10 @@ fn a_link_of_its_own(rt: HostRuntime) -> Result<(), Fail> {
     let listing = compile(&rt, "tcp", Link::Raw)?;
     let text = capture(rt.alloc(), 101, &[whole(&SYN[14..])])?;
     let left = print_code(&rt, &text, &listing.out)?;
-    assert_eq!(rt; left.out.as_slice(), text.as_slice());
+    assert!(rt; left.out.as_slice() == text.as_slice());
     let text = capture(rt.alloc(), 1, &[whole(&SYN)])?;
     let left = print_code(&rt, &text, &listing.out)?;
-    assert_eq!(rt; left.out.len(), 24);
+    assert!(rt; left.out.len() == 24);
     Ok(())
 }
 
@@ -100,15 +100,15 @@ fn each_write_fails(rt: HostRuntime) -> Result<(), Fail> {
         let command = Command::Compile(Compile { expr, link });
         let inputs: Vec<MemInput<'_>> = Vec::new(alloc);
         assert!(rt; command.is_proper(inputs.len()));
-        assert_eq!(rt; names.len(), inputs.len() + 1);
+        assert!(rt; names.len() == inputs.len() + 1);
         let mut room = vec![in alloc; 0u8; size]?;
         let mut message_room = [0; 100];
         let out = TrialOutput::new(room.as_mut_slice(), 7);
         let err = MemOutput::new(&mut message_room);
         let (status, out, err) = run(alloc, command, names, inputs, out, err);
-        assert_eq!(rt; status, 1);
-        assert_eq!(rt; out.written(), &whole.out[..size]);
-        assert_eq!(rt; err.written(), b"capkit: out: write failed\n".as_slice());
+        assert!(rt; status == 1);
+        assert!(rt; out.written() == &whole.out[..size]);
+        assert!(rt; err.written() == b"capkit: out: write failed\n".as_slice());
     }
     Ok(())
 }

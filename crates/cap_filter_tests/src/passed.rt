@@ -46,9 +46,9 @@ fn writes(rt: &(impl Abort + AllocGlobal), words: &str, passing: &[Taken<'_>]) -
     let text = capture(alloc, 1, &packets)?;
     let expected = capture(alloc, 1, passing)?;
     let left = print_words(rt, &text, words)?;
-    assert_eq!(rt; left.status, 0);
-    assert_eq!(rt; left.told.as_slice(), b"".as_slice());
-    assert_eq!(rt; left.out.as_slice(), expected.as_slice());
+    assert!(rt; left.status == 0);
+    assert!(rt; left.told.as_slice() == b"".as_slice());
+    assert!(rt; left.out.as_slice() == expected.as_slice());
     Ok(())
 }
 
@@ -71,8 +71,8 @@ fn comes_to(rt: &(impl Abort + AllocGlobal), words: &str, size: usize) -> Result
     packet[12] = 8;
     let text = capture(rt.alloc(), 1, &[whole(&packet)])?;
     let left = print_words(rt, &text, words)?;
-    assert_eq!(rt; left.status, 0);
-    assert_eq!(rt; left.out.len(), size);
+    assert!(rt; left.status == 0);
+    assert!(rt; left.out.len() == size);
     Ok(())
 }
 
@@ -94,8 +94,8 @@ fn a_listing_answers(rt: HostRuntime) -> Result<(), Fail> {
     let text = capture(alloc, 1, &[whole(&ip), whole(&arp), whole(&ip[..13])])?;
     let code = b"4\n40 0 0 12\n21 0 1 2048\n6 0 0 262144\n6 0 0 0\n";
     let left = print_code(&rt, &text, code)?;
-    assert_eq!(rt; left.status, 0);
-    assert_eq!(rt; left.out.len(), 54);
+    assert!(rt; left.status == 0);
+    assert!(rt; left.out.len() == 54);
     assert!(rt; text.starts_with(&left.out));
     Ok(())
 }
@@ -107,8 +107,8 @@ fn raw_packets(rt: HostRuntime) -> Result<(), Fail> {
     let text = capture(alloc, 101, &[whole(&SYN[14..]), whole(&SYN)])?;
     let expected = capture(alloc, 101, &[whole(&SYN[14..])])?;
     let left = print_words(&rt, &text, "tcp dst port 80")?;
-    assert_eq!(rt; left.status, 0);
-    assert_eq!(rt; left.out.as_slice(), expected.as_slice());
+    assert!(rt; left.status == 0);
+    assert!(rt; left.out.as_slice() == expected.as_slice());
     Ok(())
 }
 
@@ -117,17 +117,16 @@ fn raw_packets(rt: HostRuntime) -> Result<(), Fail> {
 fn another_link_type(rt: HostRuntime) -> Result<(), Fail> {
     let text = capture(rt.alloc(), 147, &[whole(&SYN)])?;
     let left = print_words(&rt, &text, "ip")?;
-    assert_eq!(rt; left.status, 1);
-    assert_eq!(rt; left.out.len(), 0);
-    assert_eq!(rt;
-        left.told.as_slice(),
-        b"capkit: in: offset 24: link type not filtered\n".as_slice()
+    assert!(rt; left.status == 1);
+    assert!(rt; left.out.len() == 0);
+    assert!(rt;
+        left.told.as_slice() == b"capkit: in: offset 24: link type not filtered\n".as_slice()
     );
     let left = print_words(&rt, &text, "")?;
-    assert_eq!(rt; left.status, 0);
-    assert_eq!(rt; left.out.as_slice(), text.as_slice());
+    assert!(rt; left.status == 0);
+    assert!(rt; left.out.as_slice() == text.as_slice());
     let left = print_code(&rt, &text, b"1\n6 0 0 1\n")?;
-    assert_eq!(rt; left.out.as_slice(), text.as_slice());
+    assert!(rt; left.out.as_slice() == text.as_slice());
     Ok(())
 }
 
@@ -136,11 +135,8 @@ fn another_link_type(rt: HostRuntime) -> Result<(), Fail> {
 fn a_truncated_record(rt: HostRuntime) -> Result<(), Fail> {
     let text = capture(rt.alloc(), 1, &[whole(&SYN), whole(&SYN)])?;
     let left = print_words(&rt, text.get(..163).ok_or("size")?, "ip")?;
-    assert_eq!(rt; left.status, 1);
-    assert_eq!(rt; left.out.as_slice(), text.get(..94).ok_or("size")?);
-    assert_eq!(rt;
-        left.told.as_slice(),
-        b"capkit: in: offset 94: truncated\n".as_slice()
-    );
+    assert!(rt; left.status == 1);
+    assert!(rt; left.out.as_slice() == text.get(..94).ok_or("size")?);
+    assert!(rt; left.told.as_slice() == b"capkit: in: offset 94: truncated\n".as_slice());
     Ok(())
 }

@@ -1,7 +1,7 @@
 -- What the words of a command line ask for.
 use Rattle.std.specs.Prelude.{◌≡◌, ◌&&◌, ◌||◌, ◌⊎◌, ℕ, Bool, true, false, not, List, [], ◌∷◌, length, map, nat_lt, codes}
 use Rattle.std.specs.Prelude.{Option, Some, None, is_none, is_some, option_map, unwrap_or, if◌then◌else◌, string_bytes, vec_len}
-use Rattle.std.specs.Global.{Global}
+use Rattle.std.specs.Global.{Global, Vec}
 use Rattle.std.specs.List.{join_by, list_any}
 use Rattle.std.specs.Option.{option_map_or, option_to_list}
 use Rattle.std.specs.Str.{bytes_eq}
@@ -163,3 +163,9 @@ has_expression (command.Compile compile) = false
 -- a line may be run once its listing is read
 abbrev pub is_ready : Line → Bool
 is_ready line = is_proper line.command (vec_len line.inputs) && (is_none line.code || not (has_expression line.command))
+
+-- the command with a listing of these bytes; a print alone takes one
+abbrev pub with_code : Command Global → Vec ℕ → Command Global
+with_code (command.Print print) bytes = command.Print (record print { code = Some bytes })
+with_code (command.Edit edit) bytes = command.Edit edit
+with_code (command.Compile compile) bytes = command.Compile compile

@@ -11,6 +11,6 @@ mod range;
 pub mod usage;
 mod values;
 
-pub use line::{Line, command_of};
+pub use line::{Line, command_of, with_code};
 pub use names::STANDARD;
 pub use usage::Usage;

@@ -1,13 +1,13 @@
 //! What the words of a command line ask for.
 ghost use Rattle.std.specs.Prelude.{◌≡◌, IfOk, IfErr, map, true, string_bytes};
-ghost use Rattle.cap_line.specs.Line.{is_ready, SaysLine, SaysFault};
+ghost use Rattle.cap_line.specs.Line.{is_ready, with_code, SaysLine, SaysFault};
 
 use crate::arguments::{Subcommand, matches_of, subcommand_named};
 use crate::compile_line::compile_line;
 use crate::edit_line::edit_line;
 use crate::print_line::print_line;
 use crate::usage::Usage;
-use cap_tools::Command;
+use cap_tools::{Command, Print};
 use std::alloc::Global;
 
 /// A command line.
@@ -44,5 +44,18 @@ pub fn command_of(alloc: Global, words: Vec<String>) -> Result<Line, Usage>
         Subcommand::Edit => edit_line(alloc, matches),
         Subcommand::Print => print_line(alloc, matches),
         Subcommand::Compile => compile_line(alloc, matches),
+    }
+}
+
+/// The command with these bytes as its listing. A command that takes no listing stays as it is.
+pub fn with_code(command: Command, bytes: Vec<u8>) -> Command
+    ensures { result ≡ with_code command bytes }
+{
+    match command {
+        Command::Print(print) => Command::Print(Print {
+            code: Some(bytes),
+            ..print
+        }),
+        command => command,
     }
 }

@@ -2,6 +2,14 @@
 #![tactic(auto)]
 
 #[cfg(test)]
-mod captures;
+mod blocks;
+#[cfg(test)]
+mod bytes;
+#[cfg(test)]
+mod edits;
+#[cfg(test)]
+mod failing;
 #[cfg(test)]
 mod lines;
+#[cfg(test)]
+mod runs;

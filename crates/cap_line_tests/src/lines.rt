@@ -1,32 +1,20 @@
 //! Command lines, from their words to what they ask for.
 
-use cap_line::{Line, Usage, command_of};
+use crate::runs::{line_of, words};
+use cap_line::{Line, Usage};
 use cap_octet::Format;
 use cap_tools::{Command, Compile, Edit, Print};
 use clap::error::ErrorKind;
 use flt_gen::Link;
 use std::test::Fail;
 
-fn line_of(rt: &HostRuntime, words: &[&str]) -> Result<Line, Usage> {
-    let mut line = Vec::new(rt.alloc());
-    for word in words {
-        line.push(String::from_str(rt.alloc(), word)?)?;
-    }
-    command_of(rt.alloc(), line)
-}
-
 /// The line of an edit from `in` to `out` with these ranges.
 fn edit_of(rt: &HostRuntime, ranges: &[&str]) -> Result<Line, Usage> {
-    let mut line = Vec::new(rt.alloc());
-    for word in ["capkit", "edit", "-F", "pcap", "in", "out"] {
-        line.push(String::from_str(rt.alloc(), word)?)?;
-    }
-    for word in ranges {
-        line.push(String::from_str(rt.alloc(), word)?)?;
-    }
-    command_of(rt.alloc(), line)
+    let edit = ["capkit", "edit", "-F", "pcap", "in", "out"];
+    line_of(rt, &words(rt.alloc(), &edit, ranges)?)
 }
 
+/// The edit that the words ask for.
 fn edit_in(line: Line) -> Result<Edit, Fail> {
     let Line {
         command,
@@ -40,30 +28,62 @@ fn edit_in(line: Line) -> Result<Edit, Fail> {
     }
 }
 
-fn print_in(line: Line) -> Result<Print, Fail> {
+/// The print that the words ask for.
+fn print_of(rt: &HostRuntime, words: &[&str]) -> Result<Print, Fail> {
     let Line {
         command,
         inputs: _,
         output: _,
         code: _,
-    } = line;
+    } = line_of(rt, words)?;
     match command {
         Command::Print(print) => Ok(print),
         Command::Edit(_) | Command::Compile(_) => Err(Fail::from("no print")),
     }
 }
 
-fn compile_in(line: Line) -> Result<Compile, Fail> {
+/// The compilation that the words ask for.
+fn compile_of(rt: &HostRuntime, words: &[&str]) -> Result<Compile, Fail> {
     let Line {
         command,
         inputs: _,
         output: _,
         code: _,
-    } = line;
+    } = line_of(rt, words)?;
     match command {
         Command::Compile(compile) => Ok(compile),
         Command::Edit(_) | Command::Print(_) => Err(Fail::from("no compilation")),
     }
+}
+
+/// Whether the text is this one, or lacks as it does.
+fn is_text(found: Option<&String>, wanted: Option<&str>) -> bool {
+    match (found, wanted) {
+        (Some(found), Some(wanted)) => found.as_str() == wanted,
+        (None, None) => true,
+        _ => false,
+    }
+}
+
+/// Whether the line of the words has this input, or none, this output and this listing.
+fn has_names(
+    rt: &HostRuntime,
+    words: &[&str],
+    (input, output, listing): (Option<&str>, Option<&str>, Option<&str>),
+) -> Result<bool, Fail> {
+    let Line {
+        command: _,
+        inputs,
+        output: target,
+        code,
+    } = line_of(rt, words)?;
+    let count = usize::from(input.is_some());
+    Ok(
+        inputs.len() == count
+            && is_text(inputs.first(), input)
+            && is_text(target.as_ref(), output)
+            && is_text(code.as_ref(), listing),
+    )
 }
 
 /// So many ranges, of which the last is the word.
@@ -92,24 +112,10 @@ fn an_edit(rt: HostRuntime) -> Result<(), Fail> {
     let words = [
         "capkit", "edit", "-r", "-F", "pcap", "in", "out", "2-3", "3", "9",
     ];
-    let line = line_of(&rt, words.as_slice())?;
-    let Line {
-        command,
-        inputs,
-        output,
-        code,
-    } = line;
-    let Command::Edit(edit) = command else {
-        return Err(Fail::from("no edit"));
-    };
-    assert!(rt; edit.keep);
-    assert_eq!(rt; edit.format, Format::Pcap);
-    assert_eq!(rt; edit.ranges.as_slice(), [(2, 3), (3, 3), (9, 9)].as_slice());
-    assert_eq!(rt; inputs.len(), 1);
-    assert_eq!(rt; inputs[0].as_str(), "in");
-    let output = output.ok_or("no output")?;
-    assert_eq!(rt; output.as_str(), "out");
-    assert!(rt; code.is_none());
+    let edit = edit_in(line_of(&rt, &words)?)?;
+    assert!(rt; (edit.keep, edit.format) == (true, Format::Pcap));
+    assert!(rt; edit.ranges.as_slice() == [(2, 3), (3, 3), (9, 9)].as_slice());
+    assert!(rt; has_names(&rt, &words, (Some("in"), Some("out"), None))?);
     Ok(())
 }
 
@@ -117,27 +123,14 @@ fn an_edit(rt: HostRuntime) -> Result<(), Fail> {
 fn options_stand_anywhere(rt: HostRuntime) -> Result<(), Fail> {
     let words = ["capkit", "edit", "in", "-Fpcap", "out", "1"];
     let edit = edit_in(line_of(&rt, words.as_slice())?)?;
-    assert!(rt; !edit.keep);
-    assert_eq!(rt; edit.ranges.as_slice(), [(1, 1)].as_slice());
+    assert!(rt; !edit.keep && edit.ranges.as_slice() == [(1, 1)].as_slice());
     Ok(())
 }
 
 #[test]
 fn standard_streams(rt: HostRuntime) -> Result<(), Fail> {
-    let line = line_of(
-        &rt,
-        ["capkit", "edit", "-F", "pcap", "-", "-", "2-3"].as_slice(),
-    )?;
-    let Line {
-        command: _,
-        inputs,
-        output,
-        code: _,
-    } = line;
-    assert_eq!(rt; inputs.len(), 1);
-    assert_eq!(rt; inputs[0].as_str(), "-");
-    let output = output.ok_or("no output")?;
-    assert_eq!(rt; output.as_str(), "-");
+    let words = ["capkit", "edit", "-F", "pcap", "-", "-", "2-3"];
+    assert!(rt; has_names(&rt, &words, (Some("-"), Some("-"), None))?);
     Ok(())
 }
 
@@ -154,7 +147,7 @@ fn numbers_of_a_range(rt: HostRuntime) -> Result<(), Fail> {
         ("1-09223372036854775807", (1, most)),
     ] {
         let edit = edit_in(edit_of(&rt, [word].as_slice())?)?;
-        assert_eq!(rt; edit.ranges.as_slice(), [range].as_slice(), "{word}");
+        assert!(rt; edit.ranges.as_slice() == [range].as_slice(), "{word}");
     }
     Ok(())
 }
@@ -191,7 +184,7 @@ fn words_that_are_no_range(rt: HostRuntime) {
 fn too_many_ranges_come_first(rt: HostRuntime) -> Result<(), Fail> {
     let most = many(&rt, 512, "7")?;
     let edit = edit_in(edit_of(&rt, most.as_slice())?)?;
-    assert_eq!(rt; edit.ranges.len(), 512);
+    assert!(rt; edit.ranges.len() == 512);
     let bad = edit_of(&rt, many(&rt, 512, "0")?.as_slice());
     assert!(rt; matches!(bad, Err(Usage::BadRange)));
     let more = edit_of(&rt, many(&rt, 513, "7")?.as_slice());
@@ -261,6 +254,11 @@ fn lines_that_are_refused(rt: HostRuntime) {
     }
 }
 
+/// The format of the edit that the words ask for.
+fn format_of(rt: &HostRuntime, words: &[&str]) -> Result<Format, Fail> {
+    Ok(edit_in(line_of(rt, words)?)?.format)
+}
+
 #[test]
 fn formats_are_named(rt: HostRuntime) -> Result<(), Fail> {
     for (name, format) in [
@@ -269,12 +267,9 @@ fn formats_are_named(rt: HostRuntime) -> Result<(), Fail> {
         ("pcapng", Format::Pcapng),
     ] {
         let words = ["capkit", "edit", "-F", name, "in", "out"];
-        let edit = edit_in(line_of(&rt, words.as_slice())?)?;
-        assert_eq!(rt; edit.format, format, "{name}");
+        assert!(rt; format_of(&rt, &words)? == format, "{name}");
     }
-    let words = ["capkit", "edit", "in", "out"];
-    let edit = edit_in(line_of(&rt, words.as_slice())?)?;
-    assert_eq!(rt; edit.format, Format::Pcapng);
+    assert!(rt; format_of(&rt, &["capkit", "edit", "in", "out"])? == Format::Pcapng);
     Ok(())
 }
 
@@ -283,26 +278,19 @@ fn a_print(rt: HostRuntime) -> Result<(), Fail> {
     let words = [
         "capkit", "print", "-w", "out", "--format", "nsecpcap", "in", "tcp", "port 80",
     ];
-    let line = line_of(&rt, words.as_slice())?;
-    assert_eq!(rt; line.inputs.len(), 1);
-    assert_eq!(rt; line.inputs[0].as_str(), "in");
-    assert!(rt; line.code.is_none());
-    let print = print_in(line)?;
-    assert_eq!(rt; print.expr.as_str(), "tcp port 80");
-    assert!(rt; print.code.is_none());
-    assert_eq!(rt; print.write, Format::NsecPcap);
+    let print = print_of(&rt, &words)?;
+    assert!(rt; print.expr.as_str() == "tcp port 80");
+    assert!(rt; print.code.is_none() && print.write == Format::NsecPcap);
+    assert!(rt; has_names(&rt, &words, (Some("in"), Some("out"), None))?);
     Ok(())
 }
 
 #[test]
 fn a_listing_in_place_of_words(rt: HostRuntime) -> Result<(), Fail> {
     let words = ["capkit", "print", "--code", "listing", "-w", "-", "-"];
-    let line = line_of(&rt, words.as_slice())?;
-    let code = line.code.as_ref().map_or("", |name| name.as_str());
-    assert_eq!(rt; code, "listing");
-    let print = print_in(line)?;
-    assert_eq!(rt; print.expr.len(), 0);
-    assert_eq!(rt; print.write, Format::Pcapng);
+    let print = print_of(&rt, &words)?;
+    assert!(rt; print.expr.is_empty() && print.write == Format::Pcapng);
+    assert!(rt; has_names(&rt, &words, (Some("-"), Some("-"), Some("listing")))?);
     Ok(())
 }
 
@@ -329,14 +317,47 @@ fn prints_that_are_refused(rt: HostRuntime) {
 #[test]
 fn compilations(rt: HostRuntime) -> Result<(), Fail> {
     let raw = ["capkit", "compile", "--link", "raw", "ip", "or", "ip6"];
-    let compile = compile_in(line_of(&rt, raw.as_slice())?)?;
-    assert_eq!(rt; compile.expr.as_str(), "ip or ip6");
-    assert_eq!(rt; compile.link, Link::Raw);
-    let line = line_of(&rt, ["capkit", "compile"].as_slice())?;
-    assert_eq!(rt; line.inputs.len(), 0);
-    assert!(rt; line.output.is_none());
-    let compile = compile_in(line)?;
-    assert_eq!(rt; compile.expr.len(), 0);
-    assert_eq!(rt; compile.link, Link::Ether);
+    let compile = compile_of(&rt, &raw)?;
+    assert!(rt; compile.expr.as_str() == "ip or ip6" && compile.link == Link::Raw);
+    let compile = compile_of(&rt, &["capkit", "compile"])?;
+    assert!(rt; compile.expr.is_empty() && compile.link == Link::Ether);
+    assert!(rt; has_names(&rt, &raw, (None, None, None))?);
+    Ok(())
+}
+
+/// What is told of words that are no line. clap's own texts are shown in part.
+#[test]
+fn texts_of_usage(rt: HostRuntime) -> Result<(), Fail> {
+    for (usage, text) in [
+        (Usage::TooManyValues, "too many values"),
+        (Usage::BadRange, "bad range"),
+        (Usage::OptionsExclude, "options exclude each other"),
+        (Usage::NameUsedTwice, "name used twice"),
+        (Usage::Memory, "no memory"),
+    ] {
+        let told = format!(in rt.alloc(); "{usage}")?;
+        assert!(rt; told.as_str() == text, "{text}");
+    }
+    Ok(())
+}
+
+/// What is told of the words, where they are no line.
+fn told_of(rt: &HostRuntime, words: &[&str]) -> Result<String, Fail> {
+    match line_of(rt, words) {
+        Ok(_) => Err(Fail::from("a line")),
+        Err(usage) => Ok(format!(in rt.alloc(); "{usage}")?),
+    }
+}
+
+#[test]
+fn texts_of_clap(rt: HostRuntime) -> Result<(), Fail> {
+    let help = told_of(&rt, &["capkit", "--help"])?;
+    for part in ["Usage: capkit", "edit", "print", "compile"] {
+        assert!(rt; help.contains(part), "{part}");
+    }
+    let refused = told_of(&rt, &["capkit", "edit", "-F", "snoop", "in", "out"])?;
+    for part in ["snoop", "pcap", "nsecpcap", "pcapng"] {
+        assert!(rt; refused.contains(part), "{part}");
+    }
     Ok(())
 }

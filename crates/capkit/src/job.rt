@@ -1,13 +1,14 @@
 //! A command over files and standard streams.
-ghost use Rattle.std.specs.Prelude.{◌≡◌, ◌≤◌, ◌&&◌, ◌||◌, ℕ, not, is_none, IfOk, true, length, vec_len};
+ghost use Rattle.std.specs.Prelude.{◌≡◌, ◌≤◌, ◌&&◌, ◌||◌, ℕ, not, is_none, IfOk, true, false, length, vec_len};
+ghost use Rattle.std.specs.Global.{Vec};
 ghost use Rattle.cap_tools.specs.Command.{is_proper};
-ghost use Rattle.cap_line.specs.Line.{has_expression, is_ready};
+ghost use Rattle.cap_line.specs.Line.{has_expression, is_ready, with_code};
 
 use crate::streams::{Created, Opened, Watched};
 use crate::{FAULT, tell};
-use cap_line::{Line, STANDARD};
+use cap_line::{Line, STANDARD, with_code};
 use cap_octet::{StdInput, StdOutput};
-use cap_tools::{Command, Print};
+use cap_tools::Command;
 use std::alloc::{AllocError, AllocFailed};
 use std::io::{BufReader, BufWriter, ErrorKind, Read, Write};
 use std::{fmt, io};
@@ -82,15 +83,15 @@ fn with_listing<'a>(
     command: Command,
     listing: Option<&'a str>,
 ) -> Result<Command, Stop<'a>>
-    ensures { IfOk result (λ read. (inputs : ℕ) → (is_proper command inputs && (is_none listing.entry || not (has_expression command))) ≡ true → is_proper read inputs ≡ true) }
+    ensures unnamed { IfOk result (λ read. is_none listing.entry ≡ true → read ≡ command) }
+    ensures named { IfOk result (λ read. is_none listing.entry ≡ false → (bytes : Vec ℕ) × (read ≡ with_code command bytes)) }
+    ensures proper { IfOk result (λ read. (inputs : ℕ) → (is_proper command inputs && (is_none listing.entry || not (has_expression command))) ≡ true → is_proper read inputs ≡ true) }
 {
-    match (command, listing) {
-        (Command::Print(print), Some(name)) => Ok(Command::Print(Print {
-            code: Some(read_listing(rt, name)?),
-            ..print
-        })),
-        (command, _) => Ok(command),
-    }
+    let Some(name) = listing else {
+        return Ok(command);
+    };
+    let bytes = read_listing(rt, name)?;
+    Ok(with_code(command, bytes))
 }
 
 /// Opens the inputs in order.

@@ -1,11 +1,13 @@
 //! capkit: a workbench for saved packet captures.
 #![tactic(auto)]
 
-ghost use Rattle.std.specs.Prelude.{◌≡◌};
+ghost use Rattle.std.specs.Prelude.{◌≡◌, ◌≤◌};
 ghost use Rattle.capkit.specs.Status.{status_of};
 
 mod job;
 mod streams;
+#[cfg(test)]
+mod tests;
 
 use crate::job::run;
 use cap_line::{Usage, command_of};
@@ -26,7 +28,9 @@ fn main(rt: HostRuntime) -> ExitCode {
 }
 
 /// Does what the program's words ask for, and answers the status.
-fn status(rt: &HostRuntime) -> u8 {
+fn status(rt: &HostRuntime) -> u8
+    ensures { result ≤ 2 }
+{
     let words = match env::args(rt) {
         Ok(words) => words.collect(rt.alloc()),
         Err(error) if error.kind() == ErrorKind::InvalidData => {

@@ -1,0 +1,108 @@
+//! Files that are opened, read, created and left alone.
+
+use crate::job::run;
+use cap_line::command_of;
+use std::alloc::{AllocError, Global};
+use std::test::Fail;
+use std::{fs, process};
+
+/// A capture of two packets, of link types IPv4 and ARP, 14 bytes each.
+fn capture() -> [u8; 84] {
+    [
+        0xd4, 0xc3, 0xb2, 0xa1, 2, 0, 4, 0, 0, 0, 0, 0, 0, 0, 0, 0, 0, 0, 4, 0, 1, 0, 0, 0, 1, 0,
+        0, 0, 0, 0, 0, 0, 14, 0, 0, 0, 14, 0, 0, 0, 0, 0, 0, 0, 0, 0, 0, 0, 0, 0, 0, 0, 8, 0, 2, 0,
+        0, 0, 0, 0, 0, 0, 14, 0, 0, 0, 14, 0, 0, 0, 0, 0, 0, 0, 0, 0, 0, 0, 0, 0, 0, 0, 8, 6,
+    ]
+}
+
+/// A program that passes IPv4 on Ethernet.
+const LISTING: &str = "4\n40 0 0 12\n21 0 1 2048\n6 0 0 262144\n6 0 0 0\n";
+
+/// A new folder of the test of this name, with the capture `in` and the listing `code`.
+fn folder(rt: &HostRuntime, test: &str) -> Result<String, Fail> {
+    let id = process::id(rt.process());
+    let folder = format!(in rt.alloc(); "/tmp/capkit_{test}_{id}")?;
+    if fs::exists(rt, &folder)? {
+        fs::remove_dir_all(rt, &folder)?;
+    }
+    fs::create_dir_all(rt, &folder)?;
+    fs::write(rt, &path(rt, &folder, "in")?, &capture())?;
+    fs::write(rt, &path(rt, &folder, "code")?, LISTING.as_bytes())?;
+    Ok(folder)
+}
+
+/// The path of a file in the folder.
+fn path(rt: &HostRuntime, folder: &str, name: &str) -> Result<String, AllocError> {
+    format!(in rt.alloc(); "{folder}/{name}")
+}
+
+/// The words of a line, in which a word with `@` in front names a file of the folder.
+fn line(alloc: Global, folder: &str, words: &[&str]) -> Result<Vec<String>, AllocError> {
+    let mut line = Vec::new(alloc);
+    for word in words {
+        let text = match word.strip_prefix("@") {
+            Some(name) => format!(in alloc; "{folder}/{name}")?,
+            None => String::from_str(alloc, word)?,
+        };
+        line.push(text)?;
+    }
+    Ok(line)
+}
+
+/// The status of a run of the words.
+fn status_of(rt: &HostRuntime, folder: &str, words: &[&str]) -> Result<u8, Fail> {
+    let line = line(rt.alloc(), folder, words)?;
+    Ok(run(rt, command_of(rt.alloc(), line)?))
+}
+
+/// Whether the file `out` of the folder has these bytes.
+fn has_written(rt: &HostRuntime, folder: &str, bytes: &[u8]) -> Result<bool, Fail> {
+    let written = fs::read(rt, &path(rt, folder, "out")?)?;
+    Ok(written.as_slice() == bytes)
+}
+
+/// The first packet is kept, by its number and by the listing.
+#[test]
+fn files_are_read_and_written(rt: HostRuntime) -> Result<(), Fail> {
+    let folder = folder(&rt, "written")?;
+    let edit = ["capkit", "edit", "-F", "pcap", "@in", "@out", "2"];
+    assert!(rt; status_of(&rt, &folder, &edit)? == 0);
+    assert!(rt; has_written(&rt, &folder, &capture()[..54])?);
+    let print = [
+        "capkit", "print", "--code", "@code", "-w", "@out", "--format", "pcap", "@in",
+    ];
+    assert!(rt; status_of(&rt, &folder, &print)? == 0);
+    assert!(rt; has_written(&rt, &folder, &capture()[..54])?);
+    fs::remove_dir_all(&rt, &folder)?;
+    Ok(())
+}
+
+/// What can't be opened is told with status 1, before the output is created, and before an expression is read.
+#[test]
+fn nothing_is_created_where_an_input_is_missing(rt: HostRuntime) -> Result<(), Fail> {
+    let folder = folder(&rt, "missing")?;
+    for words in [
+        ["capkit", "print", "-w", "@out", "@none", "port"].as_slice(),
+        ["capkit", "print", "--code", "@none", "-w", "@out", "@in"].as_slice(),
+        ["capkit", "print", "--code", "/", "-w", "@out", "@in"].as_slice(),
+        ["capkit", "edit", "@none", "@out"].as_slice(),
+    ] {
+        assert!(rt; status_of(&rt, &folder, words)? == 1, "{words:?}");
+        assert!(rt; !fs::exists(&rt, &path(&rt, &folder, "out")?)?, "{words:?}");
+    }
+    fs::remove_dir_all(&rt, &folder)?;
+    Ok(())
+}
+
+/// An output in a folder that isn't there can't be created; a refused expression leaves an empty one.
+#[test]
+fn outputs_are_created_before_the_run(rt: HostRuntime) -> Result<(), Fail> {
+    let folder = folder(&rt, "created")?;
+    let nowhere = ["capkit", "edit", "@in", "@none/out"];
+    assert!(rt; status_of(&rt, &folder, &nowhere)? == 1);
+    let refused = ["capkit", "print", "-w", "@out", "@in", "port"];
+    assert!(rt; status_of(&rt, &folder, &refused)? == 2);
+    assert!(rt; has_written(&rt, &folder, &[])?);
+    fs::remove_dir_all(&rt, &folder)?;
+    Ok(())
+}
