@@ -1,5 +1,5 @@
 -- What came of a block, from read to read.
-use Rattle.std.proofs.Common.{◌≡◌, ℕ, ◌+◌, ◌≤◌, ◌⊎◌, inl, inr, List, [], ◌++◌, length, take, drop, Option, Some, None, Result, Ok, Err, refl, sym, ap, ap₂, ◌∙◌, subst, arith}
+use Rattle.std.proofs.Common.{◌≡◌, ℕ, ◌+◌, ◌<◌, ◌≤◌, ◌⊎◌, inl, inr, List, [], ◌++◌, length, take, drop, Option, Some, None, Result, Ok, Err, refl, sym, ap, ap₂, ◌∙◌, subst, arith}
 use Rattle.std.specs.Option.{option_to_list}
 use Rattle.std.proofs.lemmas.List.{append_assoc, length-append, length-take-le, drop_at, drop-drop, take-append-drop}
 use Rattle.cap_octet.specs.Checks.{checked, first_failing}
@@ -14,8 +14,9 @@ use Rattle.cap_pcapng.specs.Unit.{IsBlock, Section, block_size, checks_among, fr
 use Rattle.cap_pcapng.proofs.Units.{passes, frame_checks-append, frame_in-append, unit_fault-frame, unit_fault-short, unit_fault-block, unit_fault-among, parts_in-append, block_checks-append}
 use Rattle.cap_pcapng.specs.declared.frames.Frame.{Frame}
 use Rattle.cap_io.specs.Blocks.{BlockCame, BlockMissing, BlockPacketIfAny, Enters, IsEntryFault, PacketIfAny, WholeCame, packet_in, section_of}
-use Rattle.cap_io.specs.Reading.{RestMissing, data_held, most_in_unit}
+use Rattle.cap_io.specs.Reading.{RestMissing, data_held, most_in_unit, length_by_front, decisive_block_length}
 use Rattle.cap_io.specs.declared.unit.Held.{Held}
+use Rattle.cap_io.proofs.OwnFaults.{entry-not_failed, frame-not_failed}
 
 -- ---- the first 12 bytes
 
@@ -45,13 +46,15 @@ taken_behind front unread unread' count rest =
 
 block_missing : (before : Option Section) (front unread unread' : List ℕ) (fault : Fault) (count : ℕ) → length front ≡ 12
     → (unit_fault before (front ++ unread) ≡ Some fault) ⊎ (fault ≡ ReadFailed) ⊎ (fault ≡ NoMemory)
-    → (unit_fault before (front ++ unread) ≡ None → 12 + count ≤ block_size before (front ++ unread)) → 12 + count ≤ most_in_unit
+    → (unit_fault before (front ++ unread) ≡ None → 12 + count ≤ block_size before (front ++ unread))
+    → (fault ≡ ReadFailed → 12 + count < decisive_block_length before (front ++ unread)) → 12 + count ≤ most_in_unit
     → count ≤ length unread → unread' ≡ drop count unread → BlockMissing before (front ++ unread) unread' fault
-block_missing before front unread unread' fault count few why within small there rest = record {
+block_missing before front unread unread' fault count few why within unfinished small there rest = record {
   why = why;
   count = length front + count;
   within = λ none. rw few (within none);
   few = rw few small;
+  unfinished = λ failed. rw few (unfinished failed);
   there = omega (arith, length-append front unread, there);
   rest = taken_behind front unread unread' count rest;
 }
@@ -64,11 +67,12 @@ frame_refused before section front unread answer fault is few told err =
     ap (λ o. first_failing (frame_checks o (front ++ unread))) is ∙ ap first_failing (frame_checks-append section front unread (omega arith)) ∙ fails in
     block_missing before front unread unread fault 0 few
     (inl (unit_fault-frame before (front ++ unread) fault (omega (arith, length-append front unread)) whole))
-    (λ none. omega (arith, (passes before (front ++ unread) none).least)) (omega arith) (omega arith) refl
+    (λ none. omega (arith, (passes before (front ++ unread) none).least))
+    (λ failed. absurd (frame-not_failed section front fault fails failed)) (omega arith) (omega arith) refl
 
 pub no_room_for_block : (before : Option Section) (front unread : List ℕ) → length front ≡ 12 → BlockMissing before (front ++ unread) unread NoMemory
 no_room_for_block before front unread few =
-    block_missing before front unread unread NoMemory 0 few (inr (inr refl)) (λ none. omega (arith, (passes before (front ++ unread) none).least)) (omega arith) (omega arith) refl
+    block_missing before front unread unread NoMemory 0 few (inr (inr refl)) (λ none. omega (arith, (passes before (front ++ unread) none).least)) (λ failed. (cc)) (omega arith) (omega arith) refl
 
 pub rest_of_block : (before : Option Section) (section : Option Order) (front unread unread' : List ℕ) (frame : Frame) (fault : Fault) → order_before before ≡ section → length front ≡ 12
     → FrontSays section front frame → frame.length ≤ most_block → RestMissing (length front) frame.length unread unread' fault
@@ -76,13 +80,14 @@ pub rest_of_block : (before : Option Section) (section : Option Order) (front un
 rest_of_block before section front unread unread' frame fault is few said small missing =
     let both = says_behind before section front unread frame is (omega arith) said in
     let size : block_size before (front ++ unread) ≡ frame.length = ap (λ (f : Frame). f.length) both.1 in
+    let reads : decisive_block_length before (front ++ unread) ≡ block_size before (front ++ unread) = ap (λ (f : Option Fault). length_by_front f 12 (block_size before (front ++ unread))) both.0 in
     let long : length (front ++ unread) ≡ length front + length unread = length-append front unread in
     block_missing before front unread unread' fault missing.count few
     (elim missing.why [
       | inl short ↦ inl (rw short.0 (unit_fault-short before (front ++ unread) (omega arith) both.0 (omega (arith, short.1))))
       | inr failed ↦ inr (inl failed)
     ])
-    (λ none. omega (arith, missing.within)) (omega (arith, missing.within)) missing.there missing.rest
+    (λ none. omega (arith, missing.within)) (λ failed. rw reads (omega (arith, missing.within))) (omega (arith, missing.within)) missing.there missing.rest
 
 -- ---- the whole block
 
@@ -139,6 +144,7 @@ entry_refused before section interfaces text unread' block buffer frame fault is
       count = frame.length;
       within = λ none. omega (arith, whole);
       few = small;
+      unfinished = λ failed. absurd (entry-not_failed frame interfaces block fault entry failed);
       there = omega (arith, long, size);
       rest = sym (drop_at block unread' frame.length size);
     })

@@ -10,22 +10,24 @@ use Rattle.cap_octet.proofs.Checks.{checked_ok, checked_err}
 use Rattle.cap_pcap.specs.declared.head.Head.{Head}
 use Rattle.cap_pcap.specs.declared.head.RecordHead.{RecordHead}
 use Rattle.cap_pcap.specs.Header.{form_in, head_fault, head_in}
-use Rattle.cap_pcap.specs.Record.{captured_len, field_checks, record_head_in, packet_in}
+use Rattle.cap_pcap.specs.Record.{captured_len, field_checks, record_head_in, record_size, packet_in}
 use Rattle.cap_pcap.proofs.Headers.{head_fault-few, form_in-append, head_fault-append, head_fault-no_magic, head_fault-short}
 use Rattle.cap_pcap.proofs.Records.{field_checks-append, record_head_in-append, captured_len-append, record_fault-few, record_fault-fields, record_fault-short, IsRecord-came}
 use Rattle.cap_pcapng.specs.Frame.{is_section}
 use Rattle.cap_pcapng.proofs.Units as block
 use Rattle.cap_io.specs.declared.unit.Held.{Held}
 use Rattle.cap_io.specs.Capture.{Declared, Nothing, PcapFile, Front, a_pcap_record, front_of, is_pcapng}
-use Rattle.cap_io.specs.Reading.{most_in_unit, most_taken, IsTaken, Refuses, RestMissing, FrontMissing, HeaderCame, PacketCame}
-use Rattle.cap_io.proofs.Fronts.{front_of-no_header, front_of-no_record, front_of-pcapng, is_section-append, is_pcapng-append, is_pcapng-few, most_taken-block, most_taken-header, most_taken-record, most_taken-front}
+use Rattle.cap_io.specs.Reading.{most_in_unit, most_taken, length_by_front, decisive_length, IsTaken, Refuses, RestMissing, FrontMissing, HeaderCame, PacketCame}
+use Rattle.cap_io.proofs.Fronts.{front_of-no_header, front_of-no_record, front_of-pcapng, is_section-append, is_pcapng-append, is_pcapng-few, most_taken-block, most_taken-header, most_taken-record, most_taken-front, decisive_length-file, decisive_length-front, decisive_length-header}
+use Rattle.cap_io.proofs.OwnFaults.{fields-not_failed, header-not_failed}
 
 -- bytes that came, and some more behind them
-pub Taken-behind : (declared : Declared) (unread unread1 unread2 front : List ℕ) (count : ℕ) → unread ≡ front ++ unread1 → count ≤ length unread1 → unread2 ≡ drop count unread1
-    → length front + count ≤ most_taken (front_of declared unread) → IsTaken declared unread unread2
-Taken-behind declared unread unread1 unread2 front count splits there rest within = record {
+pub Taken-behind : (declared : Declared) (unread unread1 unread2 front : List ℕ) (fault : Fault) (count : ℕ) → unread ≡ front ++ unread1 → count ≤ length unread1 → unread2 ≡ drop count unread1
+    → length front + count ≤ most_taken (front_of declared unread) → (fault ≡ ReadFailed → length front + count < decisive_length declared unread) → IsTaken declared unread unread2 fault
+Taken-behind declared unread unread1 unread2 front fault count splits there rest within unfinished = record {
   count = length front + count;
   within = within;
+  unfinished = unfinished;
   there = rw splits (simp length-append (omega arith));
   rest = rest ∙ ap (drop count) (sym (drop_at front unread1 (length front) refl) ∙ ap (drop (length front)) (sym splits)) ∙ drop-drop count (length front) unread;
 }
@@ -54,13 +56,13 @@ most_taken-file text count few = by_kind (is_pcapng text) refl
 pub too_few : (unread unread' : List ℕ) (count : ℕ) → length unread < 4 → count ≤ length unread → unread' ≡ drop count unread → Refuses Nothing unread unread' NotACaptureFile
 too_few unread unread' count few there rest = record {
   why = inl (front_of-no_header unread NotACaptureFile (is_pcapng-few unread few) (head_fault-few unread few));
-  taken = record { count = count; within = most_taken-file unread count (omega arith); there = there; rest = rest };
+  taken = record { count = count; within = most_taken-file unread count (omega arith); unfinished = λ failed. (cc); there = there; rest = rest };
 }
 
 pub first_failed : (unread unread' : List ℕ) (count : ℕ) → count < 4 → count ≤ length unread → unread' ≡ drop count unread → Refuses Nothing unread unread' ReadFailed
 first_failed unread unread' count few there rest = record {
   why = inr (inl refl);
-  taken = record { count = count; within = most_taken-file unread count (omega arith); there = there; rest = rest };
+  taken = record { count = count; within = most_taken-file unread count (omega arith); unfinished = λ failed. decisive_length-file unread count few; there = there; rest = rest };
 }
 
 -- what is refused behind the first four bytes is refused with them
@@ -78,7 +80,7 @@ no_magic unread unread' magic splits size other none =
     let kind : is_pcapng unread ≡ false = other_kind unread unread' magic splits size other in
     record {
       why = inl (front_of-no_header unread NotACaptureFile kind (head_fault-no_magic unread whole));
-      taken = Taken-behind Nothing unread unread' unread' magic 0 splits (omega arith) refl (most_taken-header unread (length magic + 0) kind (omega arith));
+      taken = Taken-behind Nothing unread unread' unread' magic NotACaptureFile 0 splits (omega arith) refl (most_taken-header unread (length magic + 0) kind (omega arith)) (λ failed. (cc));
     }
 
 pub rest_of_header : (unread unread1 unread2 magic : List ℕ) (fault : Fault) (whole : ℕ) → whole ≡ 24 → unread ≡ magic ++ unread1 → length magic ≡ 4 → is_section magic ≡ false → is_some (form_in magic) ≡ true
@@ -92,7 +94,8 @@ rest_of_header unread unread1 unread2 magic fault whole is splits size other som
         | inl short ↦ inl (rw short.0 (front_of-no_header unread Truncated kind (head_fault-short unread form (omega arith) (omega (arith, short.1)))))
         | inr failed ↦ inr (inl failed)
       ];
-      taken = Taken-behind Nothing unread unread1 unread2 magic missing.count splits missing.there missing.rest (most_taken-header unread (length magic + missing.count) kind (omega (arith, missing.within)));
+      taken = Taken-behind Nothing unread unread1 unread2 magic fault missing.count splits missing.there missing.rest (most_taken-header unread (length magic + missing.count) kind (omega (arith, missing.within)))
+          (λ failed. rw (decisive_length-header unread kind form) (omega (arith, missing.within)));
     }
 
 -- the front of a unit is there, read in two parts
@@ -112,7 +115,8 @@ header_wrong unread unread2 bytes fault splits size other is =
     let whole : head_fault unread ≡ Some fault = ap head_fault splits ∙ head_fault-append bytes unread2 (omega arith) ∙ fails in
     record {
       why = inl (front_of-no_header unread fault kind whole);
-      taken = Taken-behind Nothing unread unread2 unread2 bytes 0 splits (omega arith) refl (most_taken-header unread (length bytes + 0) kind (omega arith));
+      taken = Taken-behind Nothing unread unread2 unread2 bytes fault 0 splits (omega arith) refl (most_taken-header unread (length bytes + 0) kind (omega arith))
+          (λ failed. absurd (header-not_failed bytes fault fails failed));
     }
 
 -- the first four bytes are those that were read first
@@ -143,7 +147,13 @@ record_front head unread unread' fault m = record {
     ]
     | inr failed ↦ inr (inl failed)
   ];
-  taken = record { count = m.missing.count; within = most_taken-front head unread m.missing.count (omega (arith, m.missing.within)); there = m.missing.there; rest = m.missing.rest };
+  taken = record {
+    count = m.missing.count;
+    within = most_taken-front head unread m.missing.count (omega (arith, m.missing.within));
+    unfinished = λ failed. decisive_length-front head unread m.missing.count (omega (arith, m.missing.within));
+    there = m.missing.there;
+    rest = m.missing.rest;
+  };
 }
 
 pub record FieldsCame (head : Head) (front : List ℕ) (found : RecordHead) : Type 0 where
@@ -164,13 +174,14 @@ fields_refused head unread unread1 front answer fault splits size is err =
     let long : length unread ≡ length front + length unread1 = ap length splits ∙ length-append front unread1 in
     record {
       why = inl (front_of-no_record head unread fault (omega arith) (record_fault-fields head unread fault (omega arith) whole));
-      taken = Taken-behind (PcapFile head) unread unread1 unread1 front 0 splits (omega arith) refl (most_taken-front head unread (length front + 0) (omega arith));
+      taken = Taken-behind (PcapFile head) unread unread1 unread1 front fault 0 splits (omega arith) refl (most_taken-front head unread (length front + 0) (omega arith))
+          (λ failed. absurd (fields-not_failed head front fault fails failed));
     }
 
 pub no_room : (head : Head) (unread unread1 front : List ℕ) → unread ≡ front ++ unread1 → length front ≡ 16 → Refuses (PcapFile head) unread unread1 NoMemory
 no_room head unread unread1 front splits size = record {
   why = inr (inr refl);
-  taken = Taken-behind (PcapFile head) unread unread1 unread1 front 0 splits (omega arith) refl (most_taken-front head unread (length front + 0) (omega arith));
+  taken = Taken-behind (PcapFile head) unread unread1 unread1 front NoMemory 0 splits (omega arith) refl (most_taken-front head unread (length front + 0) (omega arith)) (λ failed. (cc));
 }
 
 pub data_missing : (head : Head) (unread unread1 unread2 front : List ℕ) (found : RecordHead) (fault : Fault) (size : ℕ) → size ≡ 16 + found.captured → unread ≡ front ++ unread1 → length front ≡ 16 → FieldsCame head front found
@@ -180,13 +191,14 @@ data_missing head unread unread1 unread2 front found fault size is splits few fi
     let said : found.captured ≡ captured_len head front = ap (λ (h : RecordHead). h.captured) fields.says in
     let captured : captured_len head unread ≡ captured_len head front = ap (captured_len head) splits ∙ captured_len-append head front unread1 (omega arith) in
     let none : first_failing (field_checks head unread) ≡ None = ap (λ (t : List ℕ). first_failing (field_checks head t)) splits ∙ ap first_failing (field_checks-append head front unread1 (omega arith)) ∙ fields.none in
+    let reads : decisive_length (PcapFile head) unread ≡ record_size head unread = ap (λ (f : Option Fault). length_by_front f 16 (record_size head unread)) none in
     record {
       why = elim missing.why [
         | inl short ↦ inl (rw short.0 (front_of-no_record head unread Truncated (omega arith) (record_fault-short head unread (omega arith) none (omega (arith, short.1)))))
         | inr failed ↦ inr (inl failed)
       ];
-      taken = Taken-behind (PcapFile head) unread unread1 unread2 front missing.count splits missing.there missing.rest
-          (most_taken-record head unread (length front + missing.count) (omega (arith, missing.within)) (omega (arith, missing.within)));
+      taken = Taken-behind (PcapFile head) unread unread1 unread2 front fault missing.count splits missing.there missing.rest
+          (most_taken-record head unread (length front + missing.count) (omega (arith, missing.within)) (omega (arith, missing.within))) (λ failed. rw reads (omega (arith, missing.within)));
     }
 
 -- what is held of a record

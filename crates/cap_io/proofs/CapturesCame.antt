@@ -21,30 +21,38 @@ use Rattle.cap_io.specs.declared.blocks.BlockRead.{BlockRead}
 use Rattle.cap_io.specs.declared.unit.Held.{Held}
 use Rattle.cap_io.specs.Blocks.{BlockCame, BlockMissing, FitsIfAny, section_of}
 use Rattle.cap_io.specs.Capture.{Declared, Nothing, PcapFile, PcapngFile, Front, IsUnit, a_pcap_header, a_first_block, a_block, file_after, first_after, front_of, front_of_block, is_pcapng}
-use Rattle.cap_io.specs.Reading.{FrontMissing, HeaderCame, PacketCame, Refuses, RestMissing, UnitCame, UnitPassed, came_by, most_taken, packet_held}
+use Rattle.cap_io.specs.Reading.{FrontMissing, HeaderCame, PacketCame, Refuses, RestMissing, UnitCame, UnitPassed, came_by, most_taken, packet_held, decisive_length, decisive_block_length}
 use Rattle.cap_io.proofs.Came.{Taken-behind, most_taken-file}
-use Rattle.cap_io.proofs.Fronts.{front_of-behind, front_of-pcapng, front_of_block-none, is_pcapng-append, most_taken-block}
+use Rattle.cap_io.proofs.Fronts.{front_of-behind, front_of-pcapng, front_of_block-none, is_pcapng-append, most_taken-block, decisive_length-pcapng, decisive_block_length-few}
 use Rattle.cap_io.proofs.Units.{and_second, first-section}
 
 -- ---- no block
 
 -- where a block would stand, its faults are those of the text
 missing-refuses : (declared : Declared) (first : Option ℕ) (before : Option Section) (text unread' : List ℕ) (fault : Fault)
-    → front_of declared text ≡ front_of_block (unit_fault before text) first before text → BlockMissing before text unread' fault → Refuses declared text unread' fault
-missing-refuses declared first before text unread' fault is m =
+    → front_of declared text ≡ front_of_block (unit_fault before text) first before text → decisive_length declared text ≡ decisive_block_length before text
+    → BlockMissing before text unread' fault → Refuses declared text unread' fault
+missing-refuses declared first before text unread' fault is reads m =
     let P : Front → Type 0 = λ f. m.count ≤ most_taken f in
     record {
       why = elim m.why [
         | inl fails ↦ inl (is ∙ front_of_block-none first before text fault fails)
         | inr other ↦ inr other
       ];
-      taken = record { count = m.count; within = subst P (sym is) (most_taken-block first before text m.count m.within m.few); there = m.there; rest = m.rest };
+      taken = record {
+        count = m.count;
+        within = subst P (sym is) (most_taken-block first before text m.count m.within m.few);
+        unfinished = λ failed. rw reads (m.unfinished failed);
+        there = m.there;
+        rest = m.rest;
+      };
     }
 
 pub first-refuses : (first unread unread' : List ℕ) (fault : Fault) → length first ≡ 4 → is_section first ≡ true → BlockMissing None (first ++ unread) unread' fault
     → Refuses Nothing (first ++ unread) unread' fault
 first-refuses first unread unread' fault four is m =
-    missing-refuses Nothing None None (first ++ unread) unread' fault (front_of-pcapng (first ++ unread) (is_pcapng-append first unread (omega arith) ∙ is)) m
+    let kind : is_pcapng (first ++ unread) ≡ true = is_pcapng-append first unread (omega arith) ∙ is in
+    missing-refuses Nothing None None (first ++ unread) unread' fault (front_of-pcapng (first ++ unread) kind) (decisive_length-pcapng (first ++ unread) kind) m
 
 pub block-refuses : (link : Option ℕ) (section : Section) (front unread unread1 unread' : List ℕ) (fault : Fault) → length front ≡ 12 → unread ≡ front ++ unread1
     → BlockMissing (Some section) (front ++ unread1) unread' fault → Refuses (PcapngFile link section) unread unread' fault
@@ -52,7 +60,7 @@ block-refuses link section front unread unread1 unread' fault few splits m =
     let P : List ℕ → Type 0 = λ t. Refuses (PcapngFile link section) t unread' fault in
     subst P (sym splits)
     (missing-refuses (PcapngFile link section) link (Some section) (front ++ unread1) unread' fault
-    (front_of-behind link section (front ++ unread1) (omega (arith, length-append front unread1))) m)
+    (front_of-behind link section (front ++ unread1) (omega (arith, length-append front unread1))) refl m)
 
 -- the front of the first block didn't come
 pub rest_of_front : (first unread unread' : List ℕ) (fault : Fault) (size : ℕ) → size ≡ 12 → length first ≡ 4 → is_section first ≡ true → RestMissing 4 size unread unread' fault
@@ -66,8 +74,9 @@ rest_of_front first unread unread' fault size twelve four is missing =
             ∙ front_of_block-none None None (first ++ unread) Truncated (unit_fault-few None (first ++ unread) (omega (arith, short.1)))))
         | inr failed ↦ inr (inl failed)
       ];
-      taken = Taken-behind Nothing (first ++ unread) unread unread' first missing.count refl missing.there missing.rest
-          (most_taken-file (first ++ unread) (length first + missing.count) (omega (arith, missing.within)));
+      taken = Taken-behind Nothing (first ++ unread) unread unread' first fault missing.count refl missing.there missing.rest
+          (most_taken-file (first ++ unread) (length first + missing.count) (omega (arith, missing.within)))
+          (λ failed. rw (decisive_length-pcapng (first ++ unread) kind) (decisive_block_length-few None (first ++ unread) (length first + missing.count) (omega (arith, missing.within))));
     }
 
 front-taken : (link : Option ℕ) (section : Section) (text : List ℕ) (count : ℕ) → count ≤ 12 → count ≤ most_taken (front_of (PcapngFile link section) text)
@@ -80,7 +89,7 @@ pub block_front : (link : Option ℕ) (section : Section) (unread unread' : List
     → Refuses (PcapngFile link section) unread unread' fault
 block_front link section unread unread' fault m =
     elim m.some [
-      | inl some ↦ missing-refuses (PcapngFile link section) link (Some section) unread unread' fault (front_of-behind link section unread some) (record {
+      | inl some ↦ missing-refuses (PcapngFile link section) link (Some section) unread unread' fault (front_of-behind link section unread some) refl (record {
         why = elim m.missing.why [
           | inl short ↦ inl (rw short.0 (unit_fault-few (Some section) unread (omega (arith, short.1))))
           | inr failed ↦ inr (inl failed)
@@ -88,12 +97,19 @@ block_front link section unread unread' fault m =
         count = m.missing.count;
         within = λ none. omega (arith, m.missing.within, (passes (Some section) unread none).least);
         few = omega (arith, m.missing.within);
+        unfinished = λ failed. decisive_block_length-few (Some section) unread m.missing.count (omega (arith, m.missing.within));
         there = m.missing.there;
         rest = m.missing.rest;
       })
       | inr failed ↦ record {
         why = inr (inl failed);
-        taken = record { count = m.missing.count; within = front-taken link section unread m.missing.count (omega (arith, m.missing.within)); there = m.missing.there; rest = m.missing.rest };
+        taken = record {
+          count = m.missing.count;
+          within = front-taken link section unread m.missing.count (omega (arith, m.missing.within));
+          unfinished = λ failed. decisive_block_length-few (Some section) unread m.missing.count (omega (arith, m.missing.within));
+          there = m.missing.there;
+          rest = m.missing.rest;
+        };
       }
     ]
 

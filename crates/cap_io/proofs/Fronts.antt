@@ -6,13 +6,16 @@ use Rattle.cap_octet.specs.declared.fault.Fault.{Fault}
 use Rattle.cap_octet.specs.declared.number.Order.TheVariants.{Little}
 use Rattle.cap_octet.proofs.Numbers.{number_in-append}
 use Rattle.cap_pcap.specs.declared.head.Head.{Head}
-use Rattle.cap_pcap.specs.Header.{head_fault, head_in}
-use Rattle.cap_pcap.specs.Record.{record_size, record_fault, packet_in}
+use Rattle.cap_octet.specs.Checks.{first_failing}
+use Rattle.cap_pcap.specs.Header.{form_in, head_fault, head_in}
+use Rattle.cap_pcap.specs.Record.{field_checks, record_size, record_fault, packet_in}
 use Rattle.cap_pcap.proofs.Records.{passes}
-use Rattle.cap_pcapng.specs.Frame.{is_section}
-use Rattle.cap_pcapng.specs.Unit.{Section, block_size, packets_in, unit_fault}
+use Rattle.cap_pcapng.specs.Frame.{frame_checks, is_section}
+use Rattle.cap_pcapng.specs.Unit.{Section, block_size, order_before, packets_in, unit_fault}
+use Rattle.cap_pcapng.proofs.Units.{least_length}
+use Rattle.std.specs.Prelude.{is_some, if◌then◌else◌}
 use Rattle.cap_io.specs.Capture.{Nothing, PcapFile, PcapngFile, Front, Whole, Stops, file_after, front_of, front_of_block, front_of_file, front_of_header, front_of_record, is_pcapng}
-use Rattle.cap_io.specs.Reading.{most_in_unit, most_taken}
+use Rattle.cap_io.specs.Reading.{most_in_unit, most_taken, length_by_front, decisive_length, decisive_block_length}
 
 -- ---- which kind of file
 
@@ -97,3 +100,34 @@ most_taken-block first before text count within few = by_fault (unit_fault befor
     by_fault : (fault : Option Fault) → (fault ≡ None → count ≤ block_size before text) → count ≤ most_taken (front_of_block fault first before text)
     by_fault None within = within refl
     by_fault (Some fault) within = few
+
+-- ---- how many bytes decide it
+
+pub decisive_block_length-few : (before : Option Section) (text : List ℕ) (count : ℕ) → count < 12 → count < decisive_block_length before text
+decisive_block_length-few before text count few = by_fault (first_failing (frame_checks (order_before before) text)) refl
+  where
+    by_fault : (fault : Option Fault) → first_failing (frame_checks (order_before before) text) ≡ fault → count < length_by_front fault 12 (block_size before text)
+    by_fault None framed = omega (arith, few, least_length (order_before before) text framed)
+    by_fault (Some fault) framed = few
+
+pub decisive_length-pcapng : (text : List ℕ) → is_pcapng text ≡ true → decisive_length Nothing text ≡ decisive_block_length None text
+decisive_length-pcapng text is = ap (λ (b : Bool). if b then decisive_block_length None text else (if is_some (form_in text) then 24 else 4)) is
+
+pub decisive_length-header : (text : List ℕ) → is_pcapng text ≡ false → is_some (form_in text) ≡ true → decisive_length Nothing text ≡ 24
+decisive_length-header text other some =
+    ap (λ (b : Bool). if b then decisive_block_length None text else (if is_some (form_in text) then 24 else 4)) other ∙ ap (λ (b : Bool). if b then 24 else 4) some
+
+pub decisive_length-file : (text : List ℕ) (count : ℕ) → count < 4 → count < decisive_length Nothing text
+decisive_length-file text count few = by_kind (is_pcapng text) (is_some (form_in text))
+  where
+    by_kind : (section magic : Bool) → count < (if section then decisive_block_length None text else (if magic then 24 else 4))
+    by_kind true magic = decisive_block_length-few None text count (omega (arith, few))
+    by_kind false true = omega (arith, few)
+    by_kind false false = few
+
+pub decisive_length-front : (head : Head) (text : List ℕ) (count : ℕ) → count < 16 → count < decisive_length (PcapFile head) text
+decisive_length-front head text count few = by_fault (first_failing (field_checks head text))
+  where
+    by_fault : (fault : Option Fault) → count < length_by_front fault 16 (record_size head text)
+    by_fault None = omega (arith, few)
+    by_fault (Some fault) = few

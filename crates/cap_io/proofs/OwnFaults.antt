@@ -1,11 +1,16 @@
--- No check of a block tells that the device failed.
-use Rattle.std.proofs.Common.{◌≡◌, ℕ, zero, suc, inl, inr, Bool, true, false, List, [], ◌∷◌, ◌++◌, length, drop, Some, Result, Ok, Err, refl, cond}
+-- No check tells that the device failed.
+use Rattle.std.proofs.Common.{◌≡◌, ℕ, zero, suc, inl, inr, Bool, true, false, List, [], ◌∷◌, ◌++◌, length, drop, Option, Some, Result, Ok, Err, refl, cond, arith}
 use Rattle.std.specs.Prelude.{◌==◌, is_some, if◌then◌else◌}
 use Rattle.std.specs.List.{AllByRecursion}
 use Rattle.cap_octet.specs.Checks.{first_failing}
 use Rattle.cap_octet.specs.declared.fault.Fault.{Fault}
+use Rattle.cap_octet.specs.declared.fault.Fault.TheVariants.{ReadFailed}
 use Rattle.cap_octet.specs.declared.number.Order.{Order}
 use Rattle.cap_pcapng.specs.Block.{Parts, SectionParts, InterfaceParts, EnhancedParts, SimpleParts, SkippedParts, block_checks, body_checks, body_in, parts_in}
+use Rattle.cap_pcap.specs.declared.head.Head.{Head}
+use Rattle.cap_pcap.specs.Header.{head_checks, head_fault}
+use Rattle.cap_pcap.specs.Record.{field_checks}
+use Rattle.cap_pcapng.specs.Frame.{frame_checks}
 use Rattle.cap_pcapng.specs.Interface.{Described}
 use Rattle.cap_pcapng.specs.InterfaceOptions.{checks_behind, first_checks, first_value, list_checks, name_checks, name_code, offset_checks, offset_code, resolution_checks, resolution_code}
 use Rattle.cap_pcapng.specs.OptionList.{CodedValue, ends_at, fits_at, option_at, option_size, options_in, options_within}
@@ -102,3 +107,18 @@ entry-own frame interfaces block fault is =
         | inr memory ↦ rw memory refl
       ]
     ]
+
+own-not_failed : (fault : Fault) → IsOwn fault → fault ≡ ReadFailed → ⊥
+own-not_failed fault own failed = let told : IsOwn ReadFailed = rw failed at own in omega (arith, told)
+
+pub header-not_failed : (text : List ℕ) (fault : Fault) → head_fault text ≡ Some fault → fault ≡ ReadFailed → ⊥
+header-not_failed text fault fails = own-not_failed fault (own_failing (head_checks text) fault (refl, (refl, (refl, (refl, tt)))) fails)
+
+pub fields-not_failed : (head : Head) (text : List ℕ) (fault : Fault) → first_failing (field_checks head text) ≡ Some fault → fault ≡ ReadFailed → ⊥
+fields-not_failed head text fault fails = own-not_failed fault (own_failing (field_checks head text) fault (refl, (refl, tt)) fails)
+
+pub frame-not_failed : (section : Option Order) (text : List ℕ) (fault : Fault) → first_failing (frame_checks section text) ≡ Some fault → fault ≡ ReadFailed → ⊥
+frame-not_failed section text fault fails = own-not_failed fault (own_failing (frame_checks section text) fault (refl, (refl, (refl, (refl, tt)))) fails)
+
+pub entry-not_failed : (frame : Frame) (interfaces : List Described) (block : List ℕ) (fault : Fault) → IsEntryFault frame interfaces block fault → fault ≡ ReadFailed → ⊥
+entry-not_failed frame interfaces block fault is = own-not_failed fault (entry-own frame interfaces block fault is)

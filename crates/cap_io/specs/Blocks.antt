@@ -14,7 +14,7 @@ use Rattle.cap_pcapng.specs.Unit.{IsBlock, Section, block_size, checks_among, in
 use Rattle.cap_pcapng.specs.declared.frames.Frame.{Frame}
 use Rattle.cap_io.specs.declared.blocks.BlockRead.{BlockRead}
 use Rattle.cap_io.specs.declared.unit.Held.{Held}
-use Rattle.cap_io.specs.Reading.{data_held, most_in_unit}
+use Rattle.cap_io.specs.Reading.{data_held, most_in_unit, decisive_block_length}
 
 -- ---- the bytes
 
@@ -24,12 +24,14 @@ pub record WholeCame (section : Option Order) (text buffer : List ℕ) (frame : 
   pub says : frame_in section (take frame.length buffer) ≡ frame
   pub splits : text ≡ take frame.length buffer ++ unread'
 
--- Why no block came: a fault stands in its place, or the device failed, or memory ran out. At most the block was taken.
+-- Why no block came: a fault stands in its place, or the device failed, or memory ran out. At most the block was taken,
+-- and where the device failed fewer bytes than decide what stands there.
 pub record BlockMissing (before : Option Section) (text unread' : List ℕ) (fault : Fault) : Type 0 where
   pub why : (unit_fault before text ≡ Some fault) ⊎ (fault ≡ ReadFailed) ⊎ (fault ≡ NoMemory)
   pub count : ℕ
   pub within : unit_fault before text ≡ None → count ≤ block_size before text
   pub few : count ≤ most_in_unit
+  pub unfinished : fault ≡ ReadFailed → count < decisive_block_length before text
   pub there : count ≤ length text
   pub rest : unread' ≡ drop count text
 

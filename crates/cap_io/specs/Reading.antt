@@ -1,21 +1,23 @@
 -- What reading one unit from a device does to its bytes and its counts.
-use Rattle.std.specs.Prelude.{◌≡◌, ℕ, ◌+◌, ◌^◌, ◌<◌, ◌≤◌, ◌⊎◌, Bool, true, false, List, [], ◌∷◌, ◌++◌, length, take, drop, Option, None, Some, Result, Ok, Err}
+use Rattle.std.specs.Prelude.{◌≡◌, ℕ, ◌+◌, ◌^◌, ◌<◌, ◌≤◌, ◌⊎◌, Bool, true, false, List, [], ◌∷◌, ◌++◌, length, take, drop, Option, None, Some, Result, Ok, Err, is_some, if◌then◌else◌}
 use Rattle.std.specs.List.{slice_get}
 use Rattle.std.specs.Option.{option_map}
 use Rattle.cap_octet.specs.Packet.{Captured}
 use Rattle.cap_octet.specs.declared.fault.Fault.{Fault}
 use Rattle.cap_octet.specs.declared.fault.Fault.TheVariants.{NoMemory, ReadFailed, Truncated}
-use Rattle.cap_pcap.specs.Header.{IsHeader}
-use Rattle.cap_pcapng.specs.Frame.{most_block}
+use Rattle.cap_octet.specs.Checks.{first_failing}
+use Rattle.cap_pcap.specs.Header.{IsHeader, form_in}
+use Rattle.cap_pcap.specs.Record.{field_checks, record_size}
+use Rattle.cap_pcapng.specs.Frame.{frame_checks, most_block}
 use Rattle.cap_pcapng.specs.Interface.{Described}
-use Rattle.cap_pcapng.specs.Unit.{packet_of}
+use Rattle.cap_pcapng.specs.Unit.{Section, block_size, order_before, packet_of}
 use Rattle.cap_pcap.specs.declared.head.Head.{Head}
 use Rattle.cap_io.specs.declared.unit.Came.{Came}
 use Rattle.cap_io.specs.declared.unit.Came.TheVariants as came
 use Rattle.cap_io.specs.declared.unit.Held.{Held}
 use Rattle.cap_io.specs.declared.unit.Savefile.{Savefile}
 use Rattle.cap_io.specs.declared.unit.Savefile.TheVariants as savefile
-use Rattle.cap_io.specs.Capture.{Declared, Nothing, PcapFile, PcapngFile, IsUnit, Front, Whole, Stops, first_after, front_of}
+use Rattle.cap_io.specs.Capture.{Declared, Nothing, PcapFile, PcapngFile, IsUnit, Front, Whole, Stops, first_after, front_of, is_pcapng}
 
 -- how many bytes a unit may have
 abbrev pub most_in_unit : ℕ
@@ -32,10 +34,28 @@ abbrev pub most_taken : Front → ℕ
 most_taken (Whole size packets declared) = size
 most_taken (Stops why) = most_in_unit
 
--- A front of the unit was taken, or of what stands in its place.
-pub record IsTaken (declared : Declared) (unread unread' : List ℕ) : Type 0 where
+-- all of a unit, but its front alone where that has a fault
+abbrev pub length_by_front : Option Fault → (front size : ℕ) → ℕ
+length_by_front None front size = size
+length_by_front (Some fault) front size = front
+
+-- how many bytes are read to decide what stands where a block would: its first 12 tell its size
+abbrev pub decisive_block_length : Option Section → List ℕ → ℕ
+decisive_block_length before text = length_by_front (first_failing (frame_checks (order_before before) text)) 12 (block_size before text)
+
+-- how many bytes are read to decide what a text begins with: a unit, or a fault in its place
+abbrev pub decisive_length : Declared → List ℕ → ℕ
+decisive_length Nothing text = if is_pcapng text then decisive_block_length None text else (if is_some (form_in text) then 24 else 4)
+decisive_length (PcapFile head) text = length_by_front (first_failing (field_checks head text)) 16 (record_size head text)
+decisive_length (PcapngFile first section) text = decisive_block_length (Some section) text
+
+-- A front of the unit was taken, or of what stands in its place, when this fault was told.
+pub record IsTaken (declared : Declared) (unread unread' : List ℕ) (fault : Fault) : Type 0 where
   pub count : ℕ
   pub within : count ≤ most_taken (front_of declared unread)
+  -- A failed read is told only of a unit that had not come whole: fewer bytes came than decide what stands there. Want
+  -- of memory may be met behind a whole unit.
+  pub unfinished : fault ≡ ReadFailed → count < decisive_length declared unread
   pub there : count ≤ length unread
   pub rest : unread' ≡ drop count unread
 
@@ -45,15 +65,15 @@ IsReason declared unread fault = (front_of declared unread ≡ Stops (Some fault
 
 pub record Refuses (declared : Declared) (unread unread' : List ℕ) (fault : Fault) : Type 0 where
   pub why : IsReason declared unread fault
-  pub taken : IsTaken declared unread unread'
+  pub taken : IsTaken declared unread unread' fault
 
 -- ---- the bytes of a unit
 
--- bytes behind the first `from` of a buffer of `size` didn't all come
+-- Bytes behind the first `from` of a buffer of `size` didn't all come: with those in front of them fewer than `size` did.
 pub record RestMissing (from size : ℕ) (unread unread' : List ℕ) (fault : Fault) : Type 0 where
   pub why : ((fault ≡ Truncated) × (from + length unread < size)) ⊎ (fault ≡ ReadFailed)
   pub count : ℕ
-  pub within : from + count ≤ size
+  pub within : from + count < size
   pub there : count ≤ length unread
   pub rest : unread' ≡ drop count unread
 

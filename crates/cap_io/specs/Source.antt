@@ -122,7 +122,7 @@ pub record IsBroken (old new : SourceView) (fault : Fault) : Type 0 where
   pub rest : List ℕ
   pub passes : Passes old new rest
   pub why : IsReason new.declared rest fault
-  pub taken : IsTaken new.declared rest new.unread
+  pub taken : IsTaken new.declared rest new.unread fault
   pub block : new.block ≡ []
   pub packet : new.packet ≡ None
 

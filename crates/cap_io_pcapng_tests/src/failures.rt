@@ -24,6 +24,11 @@ fn sections(alloc: Global, counts: &[u32]) -> Result<Vec<u8>, AllocError> {
     Ok(text)
 }
 
+/// What is given of a text.
+fn given_whole(alloc: Global, text: &[u8]) -> Given {
+    read_on(&mut Source::new(alloc, MemInput::new(text)))
+}
+
 #[test]
 fn interfaces_of_a_section(rt: HostRuntime) -> Result<(), Fail> {
     let files: [(&[u32], Given); 3] = [
@@ -36,8 +41,7 @@ fn interfaces_of_a_section(rt: HostRuntime) -> Result<(), Fail> {
     ];
     for (counts, want) in files {
         let text = sections(rt.alloc(), counts)?;
-        let mut source = Source::new(rt.alloc(), MemInput::new(&text));
-        assert_eq!(rt; read_on(&mut source), want);
+        assert!(rt; given_whole(rt.alloc(), &text) == want);
     }
     Ok(())
 }
@@ -49,11 +53,8 @@ fn too_many_before_options(rt: HostRuntime) -> Result<(), Fail> {
     text.extend_from_slice(&[
         1, 0, 0, 0, 24, 0, 0, 0, 1, 0, 0, 0, 0, 0, 0, 0, 2, 0, 9, 0, 24, 0, 0, 0,
     ])?;
-    let mut source = Source::new(rt.alloc(), MemInput::new(&text));
-    assert_eq!(rt;
-        read_on(&mut source),
-        answer(0, Err(Fault::TooManyInterfaces), 5_148)
-    );
+    let want = answer(0, Err(Fault::TooManyInterfaces), 5_148);
+    assert!(rt; given_whole(rt.alloc(), &text) == want);
     Ok(())
 }
 
@@ -75,14 +76,12 @@ fn the_longest_block(rt: HostRuntime) -> Result<(), Fail> {
         (1_048_576, answer(0, Err(Fault::BadBlockLength), 28)),
     ] {
         let text = long_block(rt.alloc(), total)?;
-        let mut source = Source::new(rt.alloc(), MemInput::new(&text));
-        assert_eq!(rt; read_on(&mut source), want);
+        assert!(rt; given_whole(rt.alloc(), &text) == want);
     }
     let mut text = long_block(rt.alloc(), 1_048_576)?;
     text.truncate(1_048_600);
     text.extend_from_slice(&1_048_576u32.to_le_bytes())?;
-    let mut source = Source::new(rt.alloc(), MemInput::new(&text));
-    assert_eq!(rt; read_on(&mut source), answer(0, Ok(false), 1_048_604));
+    assert!(rt; given_whole(rt.alloc(), &text) == answer(0, Ok(false), 1_048_604));
     Ok(())
 }
 
@@ -94,71 +93,77 @@ fn no_growth_over_the_limit(rt: HostRuntime) -> Result<(), Fail> {
     ];
     let trial = Trial::new(rt.alloc());
     let mut source = Source::new(&trial, MemInput::new(&front));
-    assert_eq!(rt; read_on(&mut source), answer(0, Err(Fault::TooLong), 0));
-    assert_eq!(rt; trial.growths(), 0);
+    assert!(rt; read_on(&mut source) == answer(0, Err(Fault::TooLong), 0));
+    assert!(rt; trial.growths() == 0);
     Ok(())
+}
+
+/// What a source gives whose read of this number fails, and what it gives then.
+fn given_to_failure(alloc: Global, text: &[u8], number: u64) -> [Given; 2] {
+    let mut source = Source::new(alloc, TrialInput::new(text, 1_000, Some(number)));
+    [read_on(&mut source), read_on(&mut source)]
+}
+
+/// A read that fails, how many packets were given before it, and the offset: the first four bytes, eight more and the
+/// rest of the first block; then for each block its front and its rest.
+fn failing_reads() -> [(u64, u32, u64); 14] {
+    [
+        (1, 0, 0),
+        (2, 0, 0),
+        (3, 0, 0),
+        (4, 0, 28),
+        (5, 0, 28),
+        (6, 0, 48),
+        (7, 0, 48),
+        (8, 1, 84),
+        (9, 1, 84),
+        (10, 1, 112),
+        (11, 1, 112),
+        (12, 1, 132),
+        (13, 1, 132),
+        (14, 2, 168),
+    ]
 }
 
 /// Fails at each of its reads in turn: the packets before it were given, and the offset is that of the block in hand.
 #[test]
 fn each_read_fails(rt: HostRuntime) -> Result<(), Fail> {
     let text = two_sections(rt.alloc())?;
-    // the first four bytes, eight more and the rest of the first block; then for each block its front and its rest
-    let wants = [
-        (0, 0),
-        (0, 0),
-        (0, 0),
-        (0, 28),
-        (0, 28),
-        (0, 48),
-        (0, 48),
-        (1, 84),
-        (1, 84),
-        (1, 112),
-        (1, 112),
-        (1, 132),
-        (1, 132),
-        (2, 168),
-    ];
-    let mut number = 1;
-    for (packets, offset) in wants {
-        let input = TrialInput::new(&text, 1_000, Some(number));
-        let mut source = Source::new(rt.alloc(), input);
-        let want = answer(packets, Err(Fault::ReadFailed), offset);
-        assert_eq!(rt; read_on(&mut source), want, "read {number}");
-        let again = answer(0, Err(Fault::ReadFailed), offset);
-        assert_eq!(rt; read_on(&mut source), again, "read {number} again");
-        number = u64::saturating_add(number, 1);
+    let failed = Err(Fault::ReadFailed);
+    for (number, packets, offset) in failing_reads() {
+        let wants = [answer(packets, failed, offset), answer(0, failed, offset)];
+        assert!(rt;
+            given_to_failure(rt.alloc(), &text, number) == wants,
+            "read {number}"
+        );
     }
-    let mut source = Source::new(rt.alloc(), TrialInput::new(&text, 1_000, Some(number)));
-    assert_eq!(rt; read_on(&mut source), answer(2, Ok(false), 168));
+    let wants = [answer(2, Ok(false), 168), answer(0, Ok(false), 168)];
+    assert!(rt; given_to_failure(rt.alloc(), &text, 15) == wants);
     Ok(())
 }
 
-/// Each growth is refused in turn: the block that asked for it is told, and the packets before it were given.
+/// What is given where this growth is refused, and then.
+fn given_to_refusal(trial: &Trial<Global>, text: &[u8], number: u64) -> [Given; 2] {
+    trial.refuse(number);
+    let mut source = Source::new(trial, MemInput::new(text));
+    [read_on(&mut source), read_on(&mut source)]
+}
+
+/// Each growth is refused in turn: the block that asked for it is told, and the packets before it were given. They are
+/// the block of the first section, the table with its first interface, and the block of the first packet.
 #[test]
 fn each_growth_is_refused(rt: HostRuntime) -> Result<(), Fail> {
     let text = two_sections(rt.alloc())?;
-    // the block of the first section, the table with its first interface, and the block of the first packet
-    let wants = [(1, 0), (2, 28), (3, 48)];
     let trial = Trial::new(rt.alloc());
-    for (number, offset) in wants {
-        trial.refuse(number);
-        let mut source = Source::new(&trial, MemInput::new(&text));
-        assert_eq!(rt;
-            read_on(&mut source),
-            answer(0, Err(Fault::NoMemory), offset),
+    for (number, offset) in [(1, 0), (2, 28), (3, 48)] {
+        let refused = answer(0, Err(Fault::NoMemory), offset);
+        assert!(rt;
+            given_to_refusal(&trial, &text, number) == [refused, refused],
             "growth {number}"
         );
-        assert_eq!(rt;
-            read_on(&mut source),
-            answer(0, Err(Fault::NoMemory), offset),
-            "growth {number} again"
-        );
     }
-    trial.refuse(0);
-    let mut source = Source::new(&trial, MemInput::new(&text));
-    assert_eq!(rt; read_on(&mut source), answer(2, Ok(false), 168));
-    assert_eq!(rt; trial.growths(), 3);
+    let wants = [answer(2, Ok(false), 168), answer(0, Ok(false), 168)];
+    assert!(rt; given_to_refusal(&trial, &text, 0) == wants);
+    assert!(rt; trial.growths() == 3);
     Ok(())
 }

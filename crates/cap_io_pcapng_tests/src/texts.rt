@@ -1,6 +1,6 @@
 //! Blocks that the tests put together, and what a source gave of them.
 use cap_io::Source;
-use cap_octet::{Fault, Input};
+use cap_octet::{Fault, Input, TrialInput};
 use std::alloc::{AllocError, Allocator, Global};
 
 /// A little-endian section header of version 1.0.
@@ -94,4 +94,15 @@ pub(crate) fn answer(packets: u32, last: Result<bool, Fault>, offset: u64) -> Gi
         last,
         offset,
     }
+}
+
+/// What is given of a text that comes one byte a call.
+pub(crate) fn given_by_bytes(alloc: Global, text: &[u8]) -> Given {
+    read_on(&mut Source::new(alloc, TrialInput::new(text, 1, None)))
+}
+
+/// What is given of pieces of a text, one byte a call.
+pub(crate) fn given_of(alloc: Global, pieces: &[&[u8]]) -> Result<Given, AllocError> {
+    let text = joined(alloc, pieces)?;
+    Ok(given_by_bytes(alloc, &text))
 }

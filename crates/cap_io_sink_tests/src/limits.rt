@@ -2,18 +2,24 @@
 use crate::packets::plain_packet;
 use cap_io::Sink;
 use cap_octet::{Fault, Format, MemOutput, Packet};
+use std::alloc::Global;
 use std::test::Fail;
 
-/// A packet whose block would have 1,048,592 bytes is too long in each format, with nothing written.
+/// Whether these bytes are too long for a packet in this format, with nothing written.
+fn is_too_long(alloc: Global, format: Format, long: &[u8]) -> bool {
+    let mut out = [0; 100];
+    let mut sink = Sink::new(alloc, MemOutput::new(&mut out), format);
+    sink.put(&plain_packet(1, long)) == Err(Fault::TooLong)
+        && sink.put(&plain_packet(1, &[])) == Err(Fault::TooLong)
+        && sink.into_output().written().is_empty()
+}
+
+/// A packet whose block would have 1,048,592 bytes is too long in each format.
 #[test]
 fn too_long(rt: HostRuntime) -> Result<(), Fail> {
     let long = vec![in rt.alloc(); 0u8; 1_048_560]?;
     for format in [Format::Pcap, Format::NsecPcap, Format::Pcapng] {
-        let mut out = [0; 100];
-        let mut sink = Sink::new(rt.alloc(), MemOutput::new(&mut out), format);
-        assert_eq!(rt; sink.put(&plain_packet(1, &long)), Err(Fault::TooLong));
-        assert_eq!(rt; sink.put(&plain_packet(1, &[])), Err(Fault::TooLong));
-        assert_eq!(rt; sink.into_output().written().len(), 0);
+        assert!(rt; is_too_long(rt.alloc(), format, &long));
     }
     Ok(())
 }
@@ -24,8 +30,8 @@ fn longest(rt: HostRuntime) -> Result<(), Fail> {
     let long = vec![in rt.alloc(); 0u8; 1_048_544]?;
     let mut out = vec![in rt.alloc(); 0u8; 1_048_636]?;
     let mut sink = Sink::new(rt.alloc(), MemOutput::new(&mut out), Format::Pcapng);
-    assert_eq!(rt; sink.put(&plain_packet(1, &long)), Ok(()));
-    assert_eq!(rt; sink.into_output().written().len(), 1_048_636);
+    assert!(rt; sink.put(&plain_packet(1, &long)) == Ok(()));
+    assert!(rt; sink.into_output().written().len() == 1_048_636);
     Ok(())
 }
 
@@ -47,27 +53,33 @@ fn most_interfaces(rt: HostRuntime) -> Result<(), Fail> {
     let mut out = vec![in rt.alloc(); 0u8; 262_300]?;
     let mut sink = Sink::new(rt.alloc(), MemOutput::new(&mut out), Format::Pcapng);
     for snap in 0..4_096 {
-        assert_eq!(rt; sink.put(&numbered(snap)), Ok(()), "interface {snap}");
+        assert!(rt; sink.put(&numbered(snap)) == Ok(()), "interface {snap}");
     }
-    assert_eq!(rt; sink.put(&numbered(4_095)), Ok(()));
-    let refused = Err(Fault::TooManyOutputInterfaces);
-    assert_eq!(rt; sink.put(&numbered(4_096)), refused);
-    assert_eq!(rt; sink.put(&numbered(0)), refused);
-    assert_eq!(rt; sink.into_output().written().len(), 28 + 4_096 * 64 + 32);
+    assert!(rt; sink.put(&numbered(4_095)) == Ok(()));
+    for snap in [4_096, 0] {
+        let answer = sink.put(&numbered(snap));
+        assert!(rt;
+            answer == Err(Fault::TooManyOutputInterfaces),
+            "interface {snap}"
+        );
+    }
+    assert!(rt; sink.into_output().written().len() == 28 + 4_096 * 64 + 32);
     Ok(())
+}
+
+/// Whether links that differ are refused in this format, with one record written.
+fn refuses_other_links(alloc: Global, format: Format) -> bool {
+    let mut out = [0; 100];
+    let mut sink = Sink::new(alloc, MemOutput::new(&mut out), format);
+    sink.put(&plain_packet(1, &[])) == Ok(())
+        && sink.put(&plain_packet(101, &[])) == Err(Fault::LinkTypesDiffer)
+        && sink.into_output().written().len() == 40
 }
 
 /// Links that differ are refused in a pcap form alone.
 #[test]
 fn other_links(rt: HostRuntime) {
     for format in [Format::Pcap, Format::NsecPcap] {
-        let mut out = [0; 100];
-        let mut sink = Sink::new(rt.alloc(), MemOutput::new(&mut out), format);
-        assert_eq!(rt; sink.put(&plain_packet(1, &[])), Ok(()));
-        assert_eq!(rt;
-            sink.put(&plain_packet(101, &[])),
-            Err(Fault::LinkTypesDiffer)
-        );
-        assert_eq!(rt; sink.into_output().written().len(), 40);
+        assert!(rt; refuses_other_links(rt.alloc(), format));
     }
 }

@@ -1,5 +1,7 @@
-//! Devices over std's readers and writers, of which only counts are known.
-ghost use Rattle.std.specs.Prelude.{◌≡◌, ℕ, ◌<◌, ◌^◌, false, []};
+//! Devices over std's readers and writers.
+ghost use Rattle.std.specs.Prelude.{◌≡◌, ℕ, ◌+◌, ◌≤◌, ◌<◌, ◌^◌, IsTrue, IfOk, OnOk, false, [], length};
+ghost use Rattle.std.specs.Io.KnownBytes.{ReadConsumes, WriteAppends};
+ghost use Rattle.cap_octet.specs.Device.{Reads, Writes, count_of, failures_of};
 
 use crate::device::{DeviceFault, Input, Output};
 use crate::failures::FailureCount;
@@ -40,7 +42,15 @@ impl<R: Read> Input for StdInput<R> {
 
     ghost failures = { λ s. s.failures.count };
 
-    fn read(&mut self, buf: &mut [u8]) -> Result<usize, DeviceFault> {
+    /// What it hands over is what the reader gave.
+    fn read(&mut self, buf: &mut [u8]) -> Result<usize, DeviceFault>
+        ensures within { IfOk result (λ n. n ≤ length buf.old) }
+        ensures counted { self.new.given ≡ self.old.given + count_of result }
+        ensures bounded { self.new.given < 2 ^ 63 }
+        ensures failed { self.new.failures.count ≡ self.old.failures.count + failures_of result }
+        ensures told { IsTrue false → Reads [] buf.old result [] buf.new }
+        ensures passes { OnOk result (ReadConsumes (R.remaining self.old.reader) (R.remaining self.new.reader) result buf.new) }
+    {
         match self.reader.read(buf) {
             Ok(count) if (count as u64) < MOST_GIVEN - self.given => {
                 self.given += count as u64;
@@ -92,7 +102,14 @@ impl<W: Write> Output for StdOutput<W> {
 
     ghost failures = { λ s. s.failures.count };
 
-    fn write(&mut self, buf: &[u8]) -> Result<usize, DeviceFault> {
+    /// What it counts is what the writer took.
+    fn write(&mut self, buf: &[u8]) -> Result<usize, DeviceFault>
+        ensures within { IfOk result (λ n. n ≤ length buf.now) }
+        ensures some { IfOk result (λ n. 0 < length buf.now → 0 < n) }
+        ensures failed { self.new.failures.count ≡ self.old.failures.count + failures_of result }
+        ensures told { IsTrue false → Writes [] buf.now result [] }
+        ensures passes { WriteAppends (W.contents self.old.writer) (W.contents self.new.writer) result buf.now }
+    {
         match self.writer.write(buf) {
             Ok(count) if 0 < count || buf.is_empty() => Ok(count),
             _ => {

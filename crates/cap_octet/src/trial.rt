@@ -1,5 +1,5 @@
 //! Devices for tests: over memory, a few bytes a call, failing where they are told to, counting what was asked.
-ghost use Rattle.std.specs.Prelude.{◌≡◌, ℕ, ◌+◌, ◌-◌, ◌≤◌, ◌<◌, ◌^◌, IsTrue, List, [], length, Some, None, true, IfOk, OnErr, OnOk, min};
+ghost use Rattle.std.specs.Prelude.{◌≡◌, ℕ, ◌+◌, ◌-◌, ◌≤◌, ◌<◌, ◌^◌, IsTrue, List, [], length, Some, None, true, IfOk, IsErr, OnErr, OnOk, min};
 ghost use Rattle.cap_octet.specs.Device.{Reads, Writes, count_of, failures_of};
 
 use crate::device::{DeviceFault, Input, Output};
@@ -59,7 +59,7 @@ impl Input for TrialInput<'_> {
 
     ghost failures = { λ s. s.failures.count };
 
-    /// Fails at its read number `at` alone.
+    /// Fails at its read number `at`, and there alone.
     fn read(&mut self, buf: &mut [u8]) -> Result<usize, DeviceFault>
         ensures within { IfOk result (λ n. n ≤ length buf.old) }
         ensures counted { ⟦<MemInput<'static> as Input>⟧.given self.new.inner ≡ ⟦<MemInput<'static> as Input>⟧.given self.old.inner + count_of result }
@@ -68,6 +68,7 @@ impl Input for TrialInput<'_> {
         ensures told { IsTrue true → Reads (⟦<MemInput<'static> as Input>⟧.unread self.old.inner) buf.old result (⟦<MemInput<'static> as Input>⟧.unread self.new.inner) buf.new }
         ensures piece { IfOk result (λ n. n ≤ self.old.piece) }
         ensures fails { OnErr result (self.old.at ≡ Some self.new.reads) }
+        ensures fails_there { self.old.at ≡ Some self.new.reads → IsErr result }
         ensures settings { (self.new.piece ≡ self.old.piece) × (self.new.at ≡ self.old.at) }
         ensures reads { self.new.reads ≡ min (self.old.reads + 1) (2 ^ 64 - 1) }
     {

@@ -13,10 +13,10 @@ const MICROSECOND_MAGIC: u32 = 0xa1b2_c3d4;
 const NANOSECOND_MAGIC: u32 = 0xa1b2_3c4d;
 
 /// The greatest number of captured bytes in a record.
-const MOST_CAPTURED: u32 = 262_144;
+pub(crate) const MOST_CAPTURED: u32 = 262_144;
 
 /// Nanoseconds in a second.
-const SECOND: u64 = 1_000_000_000;
+pub(crate) const SECOND: u64 = 1_000_000_000;
 
 /// The parts of a second in which a savefile counts.
 #[derive(Clone, Copy, Debug, PartialEq, Eq)]

@@ -5,15 +5,9 @@ ghost use Rattle.cap_octet.specs.Packet.{captured};
 ghost use Rattle.cap_pcap.specs.Header.{magic};
 ghost use Rattle.cap_pcap.specs.Written.{IsPcap, heading, record_heading, resolution_of, fit_checks};
 
-use crate::head::Resolution;
+use crate::head::{MOST_CAPTURED, Resolution, SECOND};
 use byteorder::{ByteOrder, LittleEndian};
 use cap_octet::{Fault, Format, Packet};
-
-/// The snap length that is written, and the greatest number of captured bytes in a record.
-const MOST_CAPTURED: usize = 262_144;
-
-/// Nanoseconds in a second.
-const SECOND: u64 = 1_000_000_000;
 
 /// The resolution that a pcap form writes.
 fn written_resolution(format: Format) -> Resolution
@@ -33,7 +27,7 @@ pub fn fits(_format: Format, packet: &Packet<'_>) -> Result<(), Fault>
     requires { IsPcap _format }
     ensures { result ≡ checked (first_failing (fit_checks (captured packet.now))) tt }
 {
-    if packet.bytes.len() > MOST_CAPTURED {
+    if packet.bytes.len() > MOST_CAPTURED as usize {
         return Err(Fault::TooLong);
     }
     if packet.time / SECOND > 0xffff_ffff {
@@ -42,7 +36,7 @@ pub fn fits(_format: Format, packet: &Packet<'_>) -> Result<(), Fault>
     Ok(())
 }
 
-/// The file header of a pcap form, with the link type of the packets. Its caller owes a format other than pcapng.
+/// The file header of a pcap form, with the link type of the packets and the greatest snap length. Its caller owes a format other than pcapng.
 pub fn head_bytes(format: Format, link: u16) -> [u8; 24]
     requires { IsPcap format }
     ensures { result ≡ heading (resolution_of format) link }
@@ -51,7 +45,7 @@ pub fn head_bytes(format: Format, link: u16) -> [u8; 24]
     LittleEndian::write_u32(&mut bytes, written_resolution(format).magic());
     LittleEndian::write_u16(&mut bytes[4..], 2);
     LittleEndian::write_u16(&mut bytes[6..], 4);
-    LittleEndian::write_u32(&mut bytes[16..], MOST_CAPTURED as u32);
+    LittleEndian::write_u32(&mut bytes[16..], MOST_CAPTURED);
     LittleEndian::write_u32(&mut bytes[20..], u32::from(link));
     bytes
 }

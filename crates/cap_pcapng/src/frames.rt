@@ -7,6 +7,9 @@ use cap_octet::{Order, u32_at};
 /// The byte-order magic of a section header block.
 const BYTE_ORDER_MAGIC: u32 = 0x1a2b_3c4d;
 
+/// The greatest total length of a block, in bytes.
+pub(crate) const MOST_BLOCK: u32 = 1_048_576;
+
 /// The types of blocks that are told apart (draft-ietf-opsawg-pcapng, "Block Types").
 #[derive(Clone, Copy, Debug, PartialEq, Eq)]
 pub enum BlockType {

@@ -5,20 +5,26 @@ ghost use Rattle.cap_pcapng.specs.Block.{block_fault, parts_in, parts_of};
 ghost use Rattle.cap_pcapng.specs.Frame.{frame_fault, frame_in, is_section, most_block};
 
 use crate::blocks::{Block, EnhancedBlock, InterfaceBlock, SimpleBlock, check_section};
-use crate::frames::{BlockType, Frame, order_of};
+use crate::frames::{BlockType, Frame, MOST_BLOCK, order_of};
 use cap_octet::{Fault, Order, u32_at};
 
 /// The type of a section header block, which reads the same in both orders.
 const SECTION_TYPE: u32 = 0x0a0d_0d0a;
-
-/// The greatest total length of a block that is read, in bytes.
-const MOST_BLOCK: u32 = 1_048_576;
 
 /// Whether a text that begins with these bytes begins with a section header, by the type alone.
 pub fn begins_section(bytes: &[u8; 4]) -> bool
     ensures { result ≡ is_section bytes.now }
 {
     u32_at(Order::Little, bytes, 0) == SECTION_TYPE
+}
+
+/// The bytes of a block's type.
+fn type_bytes(bytes: &[u8; 12]) -> [u8; 4]
+    ensures { is_section result ≡ is_section bytes.now }
+{
+    let mut first = [0; 4];
+    first.copy_from_slice(&bytes[..4]);
+    first
 }
 
 /// Reads the first 12 bytes of a block that stands behind a section of this byte order, or behind none; or tells the
@@ -30,7 +36,7 @@ pub fn frame(section: Option<Order>, bytes: &[u8; 12]) -> Result<Frame, Fault>
     ensures longest { IfOk result (λ frame. frame.length ≤ most_block) }
     ensures whole { IfOk result (λ frame. frame.length % 4 ≡ 0) }
 {
-    let is_section = u32_at(Order::Little, bytes, 0) == SECTION_TYPE;
+    let is_section = begins_section(&type_bytes(bytes));
     let order = if is_section {
         order_of(bytes).ok_or(Fault::BadByteOrderMagic)?
     } else {

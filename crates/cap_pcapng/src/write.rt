@@ -7,18 +7,16 @@ ghost use Rattle.cap_octet.specs.Packet.{captured};
 ghost use Rattle.cap_pcapng.specs.Padding.{padded};
 ghost use Rattle.cap_pcapng.specs.Written.{end_text, fit_checks, interface_heading, interface_text, packet_heading, packet_text, resolution_text, section_text};
 
+use crate::frames::MOST_BLOCK;
 use crate::options::padded_length;
 use byteorder::{ByteOrder, LittleEndian};
 use cap_octet::{Fault, Output, Packet, Stopped, write_all};
-
-/// The greatest length of a block, in bytes.
-const MOST_BLOCK: u64 = 1_048_576;
 
 /// Whether a packet's block has at most 1,048,576 bytes, else fault 4.
 pub fn fits(packet: &Packet<'_>) -> Result<(), Fault>
     ensures { result ≡ checked (first_failing (fit_checks (captured packet.now))) tt }
 {
-    if 32 + padded_length(packet.bytes.len() as u64) > MOST_BLOCK {
+    if 32 + padded_length(packet.bytes.len() as u64) > u64::from(MOST_BLOCK) {
         return Err(Fault::TooLong);
     }
     Ok(())
@@ -56,7 +54,7 @@ fn write_behind<O: Output>(output: &mut O, before: usize, buf: &[u8]) -> Result<
 
 /// Writes three pieces, one after another. An error is a failure of the device in this call, and tells how many bytes,
 /// fewer than all, were written before it.
-fn write_parts<O: Output>(
+fn write_pieces<O: Output>(
     output: &mut O,
     head: &[u8],
     middle: &[u8],
@@ -123,7 +121,7 @@ pub fn write_packet<O: Output>(
     let size = (32 + packet.bytes.len() + padding) as u32;
     let head = packet_head(size, number, packet);
     let end = end_bytes(size);
-    write_parts(output, &head, packet.bytes, &end[3 - padding..])
+    write_pieces(output, &head, packet.bytes, &end[3 - padding..])
 }
 
 /// The interface description block of an interface without a name: its ticks are nanoseconds.
@@ -186,5 +184,5 @@ pub fn write_interface<O: Output>(packet: &Packet<'_>, output: &mut O) -> Result
     let size = (36 + packet.name.len() + padding) as u32;
     let head = interface_head(size, packet);
     let end = interface_end(size);
-    write_parts(output, &head, packet.name, &end[3 - padding..])
+    write_pieces(output, &head, packet.name, &end[3 - padding..])
 }

@@ -1,10 +1,12 @@
 //! Blocks as files have them, read and written.
 use cap_octet::{Fault, MemOutput, Order, Output, Packet, Stopped, TrialOutput};
 use cap_pcapng::{
-    Block, Clock, Interface, InterfaceBlock, Table, block, fits, frame, section_bytes,
+    Block, Clock, EnhancedBlock, Interface, SimpleBlock, Table, block, fits, frame, section_bytes,
     write_interface, write_packet,
 };
 use linked_list_allocator::LocalHeap;
+use std::alloc::Allocator;
+use std::process::Abort;
 use std::test::Fail;
 
 /// A little-endian section header block.
@@ -33,10 +35,10 @@ fn interface_in(bytes: &[u8]) -> Result<Interface<'_>, Fault> {
     }
 }
 
-#[test]
-fn frames_are_checked_in_order(rt: HostRuntime) {
+/// The order of the section, the front of a block, and its fault.
+fn fronts() -> [(Option<Order>, [u8; 12], Option<Fault>); 10] {
     let little = Some(Order::Little);
-    let cases: [(Option<Order>, [u8; 12], Option<Fault>); 10] = [
+    [
         (None, *b"\x0a\x0d\x0d\x0a\x1c\0\0\0\x4d\x3c\x2b\x1a", None),
         (little, *b"\x0a\x0d\x0d\x0a\0\0\0\x1c\x1a\x2b\x3c\x4d", None),
         // a bad magic comes before a bad length
@@ -77,46 +79,55 @@ fn frames_are_checked_in_order(rt: HostRuntime) {
             *b"\x06\0\0\0\xfc\xff\xff\xff\0\0\0\0",
             Some(Fault::TooLong),
         ),
-    ];
-    for (section, bytes, fault) in cases {
-        assert_eq!(rt; frame(section, &bytes).err(), fault);
+    ]
+}
+
+#[test]
+fn frames_are_checked_in_order(rt: HostRuntime) {
+    for (section, front, fault) in fronts() {
+        assert!(rt; frame(section, &front).err() == fault, "{front:?}");
     }
+}
+
+/// Little-endian blocks, and their faults.
+fn bad_blocks() -> [(&'static [u8], Fault); 5] {
+    [
+        // the last length differs
+        (
+            b"\x01\0\0\0\x14\0\0\0\x01\0\0\0\0\0\0\0\x10\0\0\0",
+            Fault::BadBlockLength,
+        ),
+        (
+            b"\x02\0\0\0\x0c\0\0\0\x0c\0\0\0",
+            Fault::ObsoletePacketBlock,
+        ),
+        (b"\x01\0\0\0\x0c\0\0\0\x0c\0\0\0", Fault::BadBody),
+        (b"\x06\0\0\0\x0c\0\0\0\x0c\0\0\0", Fault::BadBody),
+        (b"\x03\0\0\0\x0c\0\0\0\x0c\0\0\0", Fault::BadBody),
+    ]
 }
 
 #[test]
 fn blocks_are_checked_in_order(rt: HostRuntime) {
-    let little = Some(Order::Little);
-    assert_eq!(rt; read(None, SECTION), Ok(Block::Section));
-    let minor = |minor: u8| {
-        let mut bytes = *SECTION;
-        bytes[14] = minor;
-        bytes
-    };
-    assert_eq!(rt; read(None, &minor(2)), Ok(Block::Section));
-    assert_eq!(rt; read(None, &minor(1)), Err(Fault::BadVersion));
-    // the last length differs
-    let unequal = b"\x01\0\0\0\x14\0\0\0\x01\0\0\0\0\0\0\0\x10\0\0\0";
-    assert_eq!(rt; read(little, unequal), Err(Fault::BadBlockLength));
-    assert_eq!(rt;
-        read(little, b"\x02\0\0\0\x0c\0\0\0\x0c\0\0\0"),
-        Err(Fault::ObsoletePacketBlock)
-    );
-    assert_eq!(rt;
-        read(little, b"\x01\0\0\0\x0c\0\0\0\x0c\0\0\0"),
-        Err(Fault::BadBody)
-    );
-    assert_eq!(rt;
-        read(little, b"\x06\0\0\0\x0c\0\0\0\x0c\0\0\0"),
-        Err(Fault::BadBody)
-    );
-    assert_eq!(rt;
-        read(little, b"\x03\0\0\0\x0c\0\0\0\x0c\0\0\0"),
-        Err(Fault::BadBody)
-    );
-    assert_eq!(rt;
-        read(Some(Order::Big), b"\0\0\x0b\xad\0\0\0\x0c\0\0\0\x0c"),
-        Ok(Block::Skipped)
-    );
+    for (bytes, fault) in bad_blocks() {
+        assert!(rt; read(Some(Order::Little), bytes) == Err(fault), "{bytes:?}");
+    }
+    let unknown = b"\0\0\x0b\xad\0\0\0\x0c\0\0\0\x0c";
+    assert!(rt; read(Some(Order::Big), unknown) == Ok(Block::Skipped));
+}
+
+/// Whether a section header block with this minor version is one.
+fn is_section(minor: u8) -> Result<bool, Fault> {
+    let mut bytes = *SECTION;
+    bytes[14] = minor;
+    Ok(read(None, &bytes)? == Block::Section)
+}
+
+#[test]
+fn sections_have_a_version(rt: HostRuntime) {
+    for (minor, answer) in [(0, Ok(true)), (2, Ok(true)), (1, Err(Fault::BadVersion))] {
+        assert!(rt; is_section(minor) == answer, "{minor}");
+    }
 }
 
 /// An interface block with these 16 bytes of options.
@@ -132,93 +143,160 @@ fn time_at(options: &[u8; 16], ticks: u64) -> Result<u64, Fault> {
     interface_in(&bytes)?.clock.time(ticks)
 }
 
-#[test]
-fn options_say_how_ticks_become_times(rt: HostRuntime) {
-    // without a resolution ticks are microseconds; the offset is signed
-    let offset = b"\x0e\0\x08\0\x0a\0\0\0\0\0\0\0\0\0\0\0";
-    assert_eq!(rt; time_at(offset, 1_500_000), Ok(11_500_000_000));
-    let before = b"\x0e\0\x08\0\xfe\xff\xff\xff\xff\xff\xff\xff\0\0\0\0";
-    assert_eq!(rt; time_at(before, 1_500_000), Err(Fault::TimeOutOfRange));
-    assert_eq!(rt; time_at(before, 2_500_000), Ok(500_000_000));
-    let resolution = |byte: u8| {
-        let mut options = *b"\x09\0\x01\0\0\0\0\0\0\0\0\0\0\0\0\0";
-        options[4] = byte;
-        options
-    };
-    assert_eq!(rt; time_at(&resolution(0x8a), 1_025), Ok(1_000_976_562));
-    assert_eq!(rt; time_at(&resolution(12), 1_999), Ok(1));
-    assert_eq!(rt; time_at(&resolution(13), 0), Err(Fault::BadTimeResolution));
-    assert_eq!(rt; time_at(&resolution(0xa0), 1 << 32), Ok(1_000_000_000));
-    assert_eq!(rt;
-        time_at(&resolution(0xa1), 0),
-        Err(Fault::BadTimeResolution)
-    );
-    let clock = |offset: i64| Clock {
-        units: 1_000_000_000,
-        offset,
-    };
-    assert_eq!(rt;
-        clock(-9_223_372_037).time(u64::MAX),
-        Ok(9_223_372_036_709_551_615)
-    );
-    assert_eq!(rt;
-        clock(-9_223_372_036).time(u64::MAX),
-        Err(Fault::TimeOutOfRange)
-    );
+/// The options for a resolution of this byte.
+fn resolution(byte: u8) -> [u8; 16] {
+    let mut options = *b"\x09\0\x01\0\0\0\0\0\0\0\0\0\0\0\0\0";
+    options[4] = byte;
+    options
+}
+
+/// The byte of a resolution, ticks, and their time.
+fn times_by_resolution() -> [(u8, u64, Result<u64, Fault>); 5] {
+    [
+        (0x8a, 1_025, Ok(1_000_976_562)),
+        (12, 1_999, Ok(1)),
+        (13, 0, Err(Fault::BadTimeResolution)),
+        (0xa0, 1 << 32, Ok(1_000_000_000)),
+        (0xa1, 0, Err(Fault::BadTimeResolution)),
+    ]
 }
 
 #[test]
-fn options_are_read_up_to_their_end(rt: HostRuntime) -> Result<(), Fail> {
-    // of two names the first counts
-    let names = with_options(b"\x02\0\x02\0ab\0\0\x02\0\x01\0c\0\0\0");
-    assert_eq!(rt; interface_in(&names)?.name, b"ab".as_slice());
-    // an empty name is no name, and the first one
-    let empty = with_options(b"\x02\0\0\0\x02\0\x01\0c\0\0\0\0\0\0\0");
-    assert_eq!(rt; interface_in(&empty)?.name, b"".as_slice());
-    // what follows code 0, and its length, isn't looked at
-    let ended = with_options(b"\0\0\xff\xff\x02\0\x01\0c\0\0\0\x09\0\xff\xff");
-    assert_eq!(rt; interface_in(&ended)?.name, b"".as_slice());
-    let long = with_options(b"\x01\0\x04\0....\x02\0\xff\xffab\0\0");
-    assert_eq!(rt; interface_in(&long), Err(Fault::BadOption));
-    // the first fault in the order of the options is told
-    let two = with_options(b"\x09\0\x01\0\x0d\0\0\0\x02\0\xff\xff\0\0\0\0");
-    assert_eq!(rt; interface_in(&two), Err(Fault::BadTimeResolution));
-    // a second resolution need only fit
-    let again = with_options(b"\x09\0\x01\0\x09\0\0\0\x09\0\x02\0\xff\xff\0\0");
-    assert_eq!(rt; interface_in(&again)?.clock.units, 1_000_000_000);
-    let wide = with_options(b"\x09\0\x02\0\x09\0\0\0\0\0\0\0\0\0\0\0");
-    assert_eq!(rt; interface_in(&wide), Err(Fault::BadOption));
+fn resolutions_say_how_ticks_become_times(rt: HostRuntime) {
+    for (byte, ticks, time) in times_by_resolution() {
+        assert!(rt; time_at(&resolution(byte), ticks) == time, "{byte}");
+    }
+}
+
+/// Without a resolution ticks are microseconds; the offset is signed.
+#[test]
+fn offsets_move_times(rt: HostRuntime) {
+    let offset = b"\x0e\0\x08\0\x0a\0\0\0\0\0\0\0\0\0\0\0";
+    assert!(rt; time_at(offset, 1_500_000) == Ok(11_500_000_000));
+    let before = b"\x0e\0\x08\0\xfe\xff\xff\xff\xff\xff\xff\xff\0\0\0\0";
+    assert!(rt; time_at(before, 1_500_000) == Err(Fault::TimeOutOfRange));
+    assert!(rt; time_at(before, 2_500_000) == Ok(500_000_000));
+}
+
+/// The time of the last tick, in nanoseconds from this offset.
+fn last_time(offset: i64) -> Result<u64, Fault> {
+    let clock = Clock {
+        units: 1_000_000_000,
+        offset,
+    };
+    clock.time(u64::MAX)
+}
+
+#[test]
+fn the_last_tick_can_be_out_of_range(rt: HostRuntime) {
+    assert!(rt; last_time(-9_223_372_037) == Ok(9_223_372_036_709_551_615));
+    assert!(rt; last_time(-9_223_372_036) == Err(Fault::TimeOutOfRange));
+}
+
+/// Whether an interface with these options has this name.
+fn is_named(options: &[u8; 16], name: &[u8]) -> Result<bool, Fault> {
+    let bytes = with_options(options);
+    Ok(interface_in(&bytes)?.name == name)
+}
+
+/// Options, and the name that they give.
+fn names() -> [([u8; 16], &'static [u8]); 3] {
+    [
+        // of two names the first counts
+        (*b"\x02\0\x02\0ab\0\0\x02\0\x01\0c\0\0\0", b"ab"),
+        // an empty name is no name, and the first one
+        (*b"\x02\0\0\0\x02\0\x01\0c\0\0\0\0\0\0\0", b""),
+        // what follows code 0, and its length, isn't looked at
+        (*b"\0\0\xff\xff\x02\0\x01\0c\0\0\0\x09\0\xff\xff", b""),
+    ]
+}
+
+#[test]
+fn options_name_an_interface(rt: HostRuntime) {
+    for (options, name) in names() {
+        assert!(rt; is_named(&options, name) == Ok(true), "{options:?}");
+    }
+}
+
+/// Options, and their fault.
+fn bad_options() -> [([u8; 16], Fault); 3] {
+    [
+        (*b"\x01\0\x04\0....\x02\0\xff\xffab\0\0", Fault::BadOption),
+        // the first fault in the order of the options is told
+        (
+            *b"\x09\0\x01\0\x0d\0\0\0\x02\0\xff\xff\0\0\0\0",
+            Fault::BadTimeResolution,
+        ),
+        (*b"\x09\0\x02\0\x09\0\0\0\0\0\0\0\0\0\0\0", Fault::BadOption),
+    ]
+}
+
+#[test]
+fn options_are_checked_in_order(rt: HostRuntime) {
+    for (options, fault) in bad_options() {
+        let bytes = with_options(&options);
+        assert!(rt; interface_in(&bytes) == Err(fault), "{options:?}");
+    }
+}
+
+/// A second resolution need only fit.
+#[test]
+fn the_first_resolution_counts(rt: HostRuntime) -> Result<(), Fail> {
+    let bytes = with_options(b"\x09\0\x01\0\x09\0\0\0\x09\0\x02\0\xff\xff\0\0");
+    assert!(rt; interface_in(&bytes)?.clock.units == 1_000_000_000);
     Ok(())
+}
+
+/// A big-endian packet of five bytes that says how many it captured.
+fn enhanced(captured: u32) -> [u8; 40] {
+    let mut bytes =
+        *b"\0\0\0\x06\0\0\0\x28\0\0\0\x02\0\0\0\x01\0\0\0\x03\0\0\0\x05\0\0\0\x09abcde\0\0\0\0\0\0\x28";
+    bytes[20..24].copy_from_slice(&captured.to_be_bytes());
+    bytes
+}
+
+/// The packet of a big-endian enhanced packet block.
+fn enhanced_in(bytes: &[u8]) -> Result<EnhancedBlock<'_>, Fault> {
+    match read(Some(Order::Big), bytes)? {
+        Block::Enhanced(packet) => Ok(packet),
+        _ => Err(Fault::Truncated),
+    }
 }
 
 #[test]
 fn packets_lend_their_data(rt: HostRuntime) -> Result<(), Fail> {
-    let enhanced =
-        b"\0\0\0\x06\0\0\0\x28\0\0\0\x02\0\0\0\x01\0\0\0\x03\0\0\0\x05\0\0\0\x09abcde\0\0\0\0\0\0\x28";
-    let Block::Enhanced(packet) = read(Some(Order::Big), enhanced)? else {
-        return Err("another block")?;
-    };
-    assert_eq!(rt; packet.interface, 2);
-    assert_eq!(rt; packet.ticks, 4_294_967_299);
-    assert_eq!(rt; packet.orig, 9);
-    assert_eq!(rt; packet.data()?, b"abcde".as_slice());
-    let mut past = *enhanced;
-    past[20..24].copy_from_slice(b"\0\0\0\x09");
-    let Block::Enhanced(packet) = read(Some(Order::Big), &past)? else {
-        return Err("another block")?;
-    };
-    assert_eq!(rt; packet.data(), Err(Fault::BadBody));
-    past[20..24].copy_from_slice(b"\xff\xff\xff\xff");
-    let Block::Enhanced(packet) = read(Some(Order::Big), &past)? else {
-        return Err("another block")?;
-    };
-    assert_eq!(rt; packet.data(), Err(Fault::BadBody));
-    let simple = b"\x03\0\0\0\x14\0\0\0\x09\0\0\0abcd\x14\0\0\0";
-    let Block::Simple(packet) = read(Some(Order::Little), simple)? else {
-        return Err("another block")?;
-    };
-    assert_eq!(rt; packet.data(4)?, b"abcd".as_slice());
-    assert_eq!(rt; packet.data(0), Err(Fault::BadBody));
+    let bytes = enhanced(5);
+    let packet = enhanced_in(&bytes)?;
+    assert!(rt; (packet.interface, packet.ticks, packet.orig) == (2, 4_294_967_299, 9));
+    assert!(rt; packet.data() == Ok(b"abcde".as_slice()));
+    Ok(())
+}
+
+#[test]
+fn data_ends_in_its_block(rt: HostRuntime) -> Result<(), Fail> {
+    for captured in [9, u32::MAX] {
+        let bytes = enhanced(captured);
+        assert!(rt;
+            enhanced_in(&bytes)?.data() == Err(Fault::BadBody),
+            "{captured}"
+        );
+    }
+    Ok(())
+}
+
+/// The packet of a little-endian simple packet block.
+fn simple_in(bytes: &[u8]) -> Result<SimpleBlock<'_>, Fault> {
+    match read(Some(Order::Little), bytes)? {
+        Block::Simple(packet) => Ok(packet),
+        _ => Err(Fault::Truncated),
+    }
+}
+
+#[test]
+fn simple_packets_lend_their_data(rt: HostRuntime) -> Result<(), Fail> {
+    let packet = simple_in(b"\x03\0\0\0\x14\0\0\0\x09\0\0\0abcd\x14\0\0\0")?;
+    assert!(rt; packet.data(4) == Ok(b"abcd".as_slice()));
+    assert!(rt; packet.data(0) == Err(Fault::BadBody));
     Ok(())
 }
 
@@ -235,43 +313,63 @@ fn named(name: &[u8]) -> Interface<'_> {
     }
 }
 
+/// Adds an interface of this name.
+fn push<A: Allocator>(table: &mut Table<A>, name: &[u8]) -> Result<(), Fault> {
+    table.push(&named(name))
+}
+
+/// Fills an empty table: another name comes last.
+fn fill<A: Allocator>(rt: &impl Abort, table: &mut Table<A>) {
+    for _ in 0..255 {
+        assert!(rt; push(table, b"eth0") == Ok(()));
+    }
+    assert!(rt; !table.is_full());
+    assert!(rt; push(table, b"eth1") == Ok(()));
+    assert!(rt; table.is_full());
+    assert!(rt; push(table, b"eth2") == Err(Fault::TooManyInterfaces));
+}
+
+/// Looks at the last interfaces of a full table, and behind them.
+fn check_last<A: Allocator>(rt: &impl Abort, table: &Table<A>) {
+    for (number, name) in [(254, b"eth0"), (255, b"eth1")] {
+        assert!(rt; table.get(number) == Some(named(name)));
+    }
+    for number in [256, u32::MAX] {
+        assert!(rt; table.get(number).is_none());
+    }
+}
+
 #[test]
 fn a_table_has_256_interfaces(rt: HostRuntime) {
     let mut table = Table::new(rt.alloc());
     for _ in 0..2 {
-        for _ in 0..255 {
-            assert_eq!(rt; table.push(&named(b"eth0")), Ok(()));
-        }
-        assert!(rt; !table.is_full());
-        assert_eq!(rt; table.push(&named(b"eth1")), Ok(()));
-        assert!(rt; table.is_full());
-        assert_eq!(rt; table.push(&named(b"eth2")), Err(Fault::TooManyInterfaces));
-        assert_eq!(rt; table.get(254), Some(named(b"eth0")));
-        assert_eq!(rt; table.get(255), Some(named(b"eth1")));
-        assert_eq!(rt; table.get(256), None);
-        assert_eq!(rt; table.get(u32::MAX), None);
+        fill(&rt, &mut table);
+        check_last(&rt, &table);
         table.clear();
-        assert_eq!(rt; table.get(0), None);
+        assert!(rt; table.get(0).is_none());
     }
+}
+
+/// Adds interfaces until one is refused: how many were taken, and the fault.
+fn fill_to_fault<A: Allocator>(table: &mut Table<A>) -> (u32, Result<(), Fault>) {
+    for count in 0..256 {
+        let answer = push(table, b"eth0");
+        if answer.is_err() {
+            return (count, answer);
+        }
+    }
+    (256, Ok(()))
 }
 
 #[test]
 fn a_refused_growth_leaves_the_table(rt: HostRuntime) -> Result<(), Fail> {
     let heap = LocalHeap::new(rt.alloc(), 4_096)?;
     let mut table = Table::new(&heap);
-    let mut count = 0;
-    for number in 0..256 {
-        match table.push(&named(b"eth0")) {
-            Ok(()) => count = number + 1,
-            Err(fault) => {
-                assert_eq!(rt; fault, Fault::NoMemory);
-                break;
-            }
-        }
-    }
+    let (count, answer) = fill_to_fault(&mut table);
+    assert!(rt; answer == Err(Fault::NoMemory));
     assert!(rt; 0 < count && count < 256);
-    assert_eq!(rt; table.get(count - 1), Some(named(b"eth0")));
-    assert_eq!(rt; table.get(count), None);
+    assert!(rt; table.get(count - 1) == Some(named(b"eth0")));
+    assert!(rt; table.get(count).is_none());
     Ok(())
 }
 
@@ -303,61 +401,80 @@ const PACKET: &[u8; 36] =
     b"\x06\0\0\0\x24\0\0\0\0\0\0\0\0\0\0\0\xff\x93\x35\x77\x01\0\0\0\x01\0\0\0\xff\0\0\0\x24\0\0\0";
 
 #[test]
-fn blocks_are_written(rt: HostRuntime) {
-    assert_eq!(rt; section_bytes().as_slice(), SECTION.as_slice());
+fn sections_are_written(rt: HostRuntime) {
+    assert!(rt; section_bytes() == *SECTION);
+}
+
+/// Whether this block is written for the interface of a packet.
+fn interface_becomes(name: &[u8], block: &[u8]) -> bool {
     let mut room = [0; 40];
     let mut output = MemOutput::new(&mut room);
-    assert_eq!(rt; write_interface(&packet(b""), &mut output), Ok(()));
-    assert_eq!(rt; output.written(), NAMELESS.as_slice());
+    write_interface(&packet(name), &mut output) == Ok(()) && output.written() == block
+}
+
+#[test]
+fn interfaces_are_written(rt: HostRuntime) {
+    assert!(rt; interface_becomes(b"", NAMELESS));
+    assert!(rt; interface_becomes(b"eth0", NAMED));
+}
+
+#[test]
+fn packets_are_written(rt: HostRuntime) {
+    let mut room = [0; 40];
     let mut output = MemOutput::new(&mut room);
-    assert_eq!(rt; write_interface(&packet(b"eth0"), &mut output), Ok(()));
-    assert_eq!(rt; output.written(), NAMED.as_slice());
-    let mut output = MemOutput::new(&mut room);
-    assert_eq!(rt; put(&packet(b"eth0"), &mut output), Ok(Ok(())));
-    assert_eq!(rt; output.written(), PACKET.as_slice());
+    assert!(rt; put(&packet(b"eth0"), &mut output) == Ok(Ok(())));
+    assert!(rt; output.written() == PACKET.as_slice());
+}
+
+/// Writes an interface and its packet to an output with room for less, and checks where that stops.
+fn stop_at<O: Output>(rt: &impl Abort, size: usize, output: &mut O) {
+    let packet = packet(b"eth0");
+    let first = write_interface(&packet, output);
+    if size < 40 {
+        assert!(rt; first == Err(Stopped { written: size }));
+    } else {
+        assert!(rt; first == Ok(()));
+        let second = put(&packet, output);
+        assert!(rt; second == Ok(Err(Stopped { written: size - 40 })));
+    }
+}
+
+/// The blocks of the interface and of its packet.
+fn both_blocks() -> [u8; 76] {
+    let mut bytes = [0; 76];
+    bytes[..40].copy_from_slice(NAMED);
+    bytes[40..].copy_from_slice(PACKET);
+    bytes
 }
 
 #[test]
 fn an_output_that_fails_has_a_front(rt: HostRuntime) {
-    let packet = packet(b"eth0");
+    let whole = both_blocks();
     for size in 0..76 {
         let mut room = [0; 76];
         let mut output = TrialOutput::new(&mut room[..size], 7);
-        let first = write_interface(&packet, &mut output);
-        if size < 40 {
-            assert_eq!(rt; first, Err(Stopped { written: size }));
-        } else {
-            assert_eq!(rt; first, Ok(()));
-            let second = put(&packet, &mut output);
-            assert_eq!(rt; second, Ok(Err(Stopped { written: size - 40 })));
-        }
-        for (at, byte) in output.written().iter().enumerate() {
-            let wanted = if at < 40 {
-                NAMED.get(at)
-            } else {
-                PACKET.get(at - 40)
-            };
-            assert_eq!(rt; Some(byte), wanted);
-        }
-        assert_eq!(rt; output.written().len(), size);
+        stop_at(&rt, size, &mut output);
+        assert!(rt; Some(output.written()) == whole.get(..size), "{size}");
     }
 }
 
-#[test]
-fn a_long_packet_has_no_block(rt: HostRuntime) -> Result<(), Fail> {
-    let bytes = vec![in rt.alloc(); 0u8; 1_048_545]?;
-    let packet = |bytes| Packet {
+/// A packet of these bytes at time 0.
+fn packet_of(bytes: &[u8]) -> Packet<'_> {
+    Packet {
         link: 1,
         snap: 0,
         name: b"",
         time: 0,
         orig: 0,
         bytes,
-    };
-    assert_eq!(rt;
-        fits(&packet(bytes.get(..1_048_544).ok_or("short")?)),
-        Ok(())
-    );
-    assert_eq!(rt; fits(&packet(bytes.as_slice())), Err(Fault::TooLong));
+    }
+}
+
+#[test]
+fn a_long_packet_has_no_block(rt: HostRuntime) -> Result<(), Fail> {
+    let bytes = vec![in rt.alloc(); 0u8; 1_048_545]?;
+    let longest = bytes.get(..1_048_544).ok_or("short")?;
+    assert!(rt; fits(&packet_of(longest)) == Ok(()));
+    assert!(rt; fits(&packet_of(&bytes)) == Err(Fault::TooLong));
     Ok(())
 }

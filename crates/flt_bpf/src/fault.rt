@@ -107,9 +107,10 @@ impl fmt::Display for ListingFault {
     ghost output = { λ fault. Some (listing_message fault) };
 
     fn fmt<W: fmt::Write>(&self, f: &mut fmt::Formatter<W>) -> fmt::Result {
-        match self {
-            ListingFault::NotListing(line) => write!(f, "not a listing at line {line}"),
-            ListingFault::Memory => write!(f, "no memory"),
+        let text = self.text();
+        match self.line() {
+            Some(line) => write!(f, "{text} at line {line}"),
+            None => write!(f, "{text}"),
         }
     }
 }

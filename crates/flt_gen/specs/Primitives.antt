@@ -15,10 +15,10 @@ use Rattle.flt_words.specs.declared.token.Cast.TheVariants.{Broadcast, Multicast
 use Rattle.flt_lang.specs.declared.quals.Direction.{Direction}
 use Rattle.flt_lang.specs.declared.quals.Direction.TheVariants as direction
 use Rattle.flt_lang.specs.declared.quals.FullQuals.{FullQuals}
-use Rattle.flt_lang.specs.declared.value.NetMask.{NetMask}
-use Rattle.flt_lang.specs.declared.value.NetMask.TheVariants.{Unwritten, Prefix, Mask}
 use Rattle.flt_lang.specs.declared.value.Value.{Value}
 use Rattle.flt_lang.specs.declared.value.Value.TheVariants as value
+use Rattle.flt_lang.specs.declared.net.Ip4Net.{Ip4Net}
+use Rattle.flt_lang.specs.Nets.{first_bits, ip4_net}
 use Rattle.flt_lang.specs.Tree.{literal, len}
 use Rattle.flt_gen.specs.declared.link.Link.{Link}
 use Rattle.flt_gen.specs.declared.elementary.Kind.{Kind}
@@ -113,21 +113,11 @@ net_formula link None direction mask address =
     Either (net_of_kind link Ip direction mask address) (Either (net_of_kind link Arp direction mask address) (net_of_kind link Rarp direction mask address))
 net_formula link (Some _) direction mask address = Single (Known false)
 
--- a mask of so many bits, of 32
-abbrev pub prefix_mask : ℕ → ℕ
-prefix_mask bits = 2 ^ 32 - 2 ^ (32 - bits)
-
--- the mask of a network of which so many parts are written
-abbrev pub net_mask : ℕ → NetMask → ℕ
-net_mask parts Unwritten = prefix_mask (8 * parts)
-net_mask parts (Prefix bits) = prefix_mask bits
-net_mask parts (Mask mask) = mask.address
-
 -- IPv6 addresses and networks: four words
 
 abbrev pub ip6_test : Option ℕ → ℕ → ℕ → ℕ → Elementary
 ip6_test prefix address at word =
-    address_test (option_map (λ bits. prefix_mask (bits - 32 * word)) prefix) (address / 2 ^ (96 - 32 * word) % 2 ^ 32) (at + 4 * word)
+    address_test (option_map (λ bits. first_bits 32 (bits - 32 * word)) prefix) (address / 2 ^ (96 - 32 * word) % 2 ^ 32) (at + 4 * word)
 
 abbrev pub ip6_tests : Option ℕ → ℕ → ℕ → List Elementary
 ip6_tests prefix address at =
@@ -173,12 +163,14 @@ host_formula link protocol direction (value.Ip6 address prefix) = ip6_formula li
 host_formula link protocol direction (value.Mac address) = ether_host link direction address
 host_formula link protocol direction _ = Single (Known false)
 
--- a number alone is the first of four parts
+-- the network of IPv4 that a value stands for, if it does
+abbrev pub ip4_formula : Link → Option Protocol → Direction → Option Ip4Net → Formula
+ip4_formula link protocol direction (Some net) = net_formula link protocol direction (Some net.mask) net.address
+ip4_formula link protocol direction None = Single (Known false)
+
 abbrev pub net_value_formula : Link → Option Protocol → Direction → Value → Formula
-net_value_formula link protocol direction (value.Number n mask) = net_formula link protocol direction (Some (net_mask 1 mask)) (n % 256 * 2 ^ 24)
-net_value_formula link protocol direction (value.Dotted dotted mask) = net_formula link protocol direction (Some (net_mask dotted.parts mask)) dotted.address
 net_value_formula link protocol direction (value.Ip6 address prefix) = ip6_formula link direction prefix address
-net_value_formula link protocol direction _ = Single (Known false)
+net_value_formula link protocol direction v = ip4_formula link protocol direction (ip4_net v)
 
 abbrev pub port_value_formula : Link → Option Protocol → Direction → Value → Formula
 port_value_formula link protocol direction (value.Number n mask) = port_formula link protocol direction (One n)

@@ -1,8 +1,9 @@
 //! The code of hosts and networks of IPv4 and IPv6.
 
 ghost use Rattle.std.specs.Prelude.{◌≡◌, ◌+◌, ◌^◌, ◌<◌, ◌≤◌, length, OnOk, IfOk};
+ghost use Rattle.flt_lang.specs.Nets.{first_bits};
 ghost use Rattle.flt_gen.specs.Code.{emitted, entered};
-ghost use Rattle.flt_gen.specs.Primitives.{address_test, source_offset, destination_offset, net_of_kind, net_formula, prefix_mask, net_mask, ip6_test, ip6_tests, ip6_formula};
+ghost use Rattle.flt_gen.specs.Primitives.{address_test, source_offset, destination_offset, net_of_kind, net_formula, ip6_test, ip6_tests, ip6_formula};
 
 use crate::code::{Code, Targets};
 use crate::elementary::{Elementary, FieldTest, Kind, Place};
@@ -10,7 +11,7 @@ use crate::link::Link;
 use crate::put::{put_elementary, put_sides};
 use crate::table::{kind_test, network};
 use flt_bpf::operation::Width;
-use flt_lang::{Direction, NetMask};
+use flt_lang::Direction;
 use flt_words::{Comparison, Protocol};
 use std::alloc::{AllocError, Allocator};
 
@@ -104,21 +105,10 @@ pub fn put_net<A: Allocator>(
 
 // A mask of so many bits, of 32.
 fn prefix_mask(bits: u32) -> u32
-    ensures { result ≡ prefix_mask bits }
+    ensures { result ≡ first_bits 32 bits }
 {
     let others = 32u32.saturating_sub(bits);
     (0x1_0000_0000 - 2u64.pow(others)) as u32
-}
-
-/// The mask of a network of which so many parts are written.
-pub fn net_mask(parts: u8, mask: NetMask) -> u32
-    ensures { result ≡ net_mask parts mask }
-{
-    match mask {
-        NetMask::Unwritten => prefix_mask(8 * u32::from(parts)),
-        NetMask::Prefix(bits) => prefix_mask(bits),
-        NetMask::Mask(mask) => mask.address,
-    }
 }
 
 // One of the four words of an IPv6 address that begins at a place.

@@ -38,6 +38,8 @@ fn program_insns<A: Allocator + Clone + Drop>(
 ///
 /// A jump (`ja`) stands only where a conditional jump's target is more than 255 instructions past the one after it, and
 /// nowhere where a program without jumps has at most 256 instructions by the expression's counts.
+///
+/// An error is want of memory: for the instructions, or for what waits while the tree is walked.
 pub fn generate<A: Allocator + Clone + Drop, B: Allocator>(
     alloc: A,
     expr: &Checked<B>,

@@ -4,7 +4,7 @@ ghost use Rattle.std.specs.Prelude.{◌≡◌, ◌+◌, ◌^◌, ◌<◌, ◌≤
 ghost use Rattle.flt_gen.specs.Code.{emitted, entered, at_top, sized_before};
 ghost use Rattle.flt_gen.specs.Primitives.{host_formula, net_value_formula, qualified_formula};
 
-use crate::address::{net_mask, put_ip6, put_net};
+use crate::address::{put_ip6, put_net};
 use crate::code::{Code, Targets};
 use crate::elementary::Ports;
 use crate::link::Link;
@@ -38,7 +38,6 @@ fn put_host<A: Allocator>(
     }
 }
 
-// A number alone is the first of four parts.
 fn put_net_value<A: Allocator>(
     code: &mut Code<A>,
     link: Link,
@@ -53,17 +52,14 @@ fn put_net_value<A: Allocator>(
     ensures room { OnOk result (length code.new ≤ length code.old + 54) }
 {
     match value {
-        Value::Number(first, mask) => {
-            let address = first % 256 * 0x100_0000;
-            let mask = Some(net_mask(1, mask));
-            put_net(code, link, protocol, direction, mask, address, to)
-        }
-        Value::Dotted(net, mask) => {
-            let mask = Some(net_mask(net.parts, mask));
-            put_net(code, link, protocol, direction, mask, net.address, to)
-        }
         Value::Ip6(address, prefix) => put_ip6(code, link, direction, prefix, address, to),
-        _ => Ok(to.no),
+        _ => match value.ip4_net() {
+            Some(net) => {
+                let mask = Some(net.mask);
+                put_net(code, link, protocol, direction, mask, net.address, to)
+            }
+            None => Ok(to.no),
+        },
     }
 }
 

@@ -152,14 +152,19 @@ number_waits f fs x d = if nat_le (looseness f) (room fs) then (as_number x d >>
 abbrev pub truth_waits : Frame → List Frame → Operand → List Node → Option Begun
 truth_waits f fs x d = if nat_le (looseness f) (room fs) then (as_truth x d >>= λ e. Some (0, (f ∷ fs, None, e))) else None
 
+-- the load that waits takes its index and reads so many bytes; so many tokens more than one are used up
+abbrev pub load_ends : ℕ → ℕ → List Frame → Operand → List Node → Option Begun
+load_ends more size (frame.Load p ∷ fs) x d = as_number x d >>= λ e. Some (more, (fs, Some operand.Number, node.Load p size ∷ e))
+load_ends more size _ x d = None
+
 -- the tokens behind an operand
 abbrev pub place : List TokenKind → List Frame → Operand → List Node → Option Begun
 place (token.Operator o ∷ ts) fs x d = number_waits (frame.Apply o) fs x d
 place (token.Comparison c ∷ ts) fs x d = number_waits (frame.Compare c) fs x d
 place (token.Join j ∷ ts) fs x d = truth_waits (frame.Join j) fs x d
 place (token.Close ∷ ts) (frame.Open ∷ fs) x d = Some (0, (fs, Some (enclosed_operand x), d))
-place (token.CloseBracket ∷ ts) (frame.Load p ∷ fs) x d = as_number x d >>= λ e. Some (0, (fs, Some operand.Number, node.Load p 1 ∷ e))
-place (token.Colon ∷ token.Number n ∷ token.CloseBracket ∷ ts) (frame.Load p ∷ fs) x d = as_number x d >>= λ e. Some (2, (fs, Some operand.Number, node.Load p n ∷ e))
+place (token.CloseBracket ∷ ts) fs x d = load_ends 0 1 fs x d
+place (token.Colon ∷ token.Number n ∷ token.CloseBracket ∷ ts) fs x d = load_ends 2 n fs x d
 place _ _ _ _ = None
 
 abbrev pub Primitive : Type 0

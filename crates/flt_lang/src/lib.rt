@@ -20,7 +20,7 @@ mod value;
 pub use checked::{Checked, check};
 pub use counts::{bound, nodes, tests, words};
 pub use expr::Expr;
-pub use net::{Ip4Net, Ip6Net};
+pub use net::Ip4Net;
 pub use node::Node;
 pub use quals::{Direction, FullQuals, Quals};
 pub use reading::parse;

@@ -14,7 +14,7 @@ pub struct Ip4Net {
 
 /// A network of IPv6, or a host's address with the mask of all bits.
 #[derive(Clone, Copy, Debug, PartialEq, Eq)]
-pub struct Ip6Net {
+pub(crate) struct Ip6Net {
     pub address: u128,
     pub mask: u128,
 }
@@ -39,7 +39,7 @@ impl Value {
     }
 
     /// The network of IPv6 that the value stands for.
-    pub fn ip6_net(self) -> Option<Ip6Net>
+    pub(crate) fn ip6_net(self) -> Option<Ip6Net>
         ensures { result ≡ ip6_net self }
     {
         match self {

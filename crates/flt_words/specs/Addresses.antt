@@ -1,5 +1,5 @@
 -- Addresses in words: groups of digits that a separator joins.
-use Rattle.std.specs.Prelude.{◌≡◌, ◌≤◌, ◌+◌, ◌-◌, ℕ, List, ◌++◌, map, length, replicate, codes, slice_index, Option, Some, None}
+use Rattle.std.specs.Prelude.{◌≡◌, ◌≤◌, ◌+◌, ◌-◌, ℕ, List, ◌++◌, map, length, replicate, codes, slice_index, Option, Some, None, MatchOption}
 use Rattle.std.specs.Int.Digits.{number_from_digits}
 use Rattle.std.specs.List.{AllByRecursion, join_with_byte}
 use Rattle.std.specs.Str.Parse.{IsNumeral, digits_value}
@@ -75,6 +75,10 @@ pub record AreIp6Ends (front back : List ℕ) (address : ℕ) : Type 0 where
 pub data IsIp6 : List ℕ → ℕ → Type 0 where
   whole : {word : List ℕ} {address : ℕ} → IsWholeIp6 word address → IsIp6 word address
   shortened : {front back : List ℕ} {address : ℕ} → AreIp6Ends front back address → IsIp6 (front ++ (codes "::" ++ back)) address
+
+-- the answer of looking for an address: one of which this is so, or none where it is so of no address
+abbrev pub Finds : (ℕ → Type 0) → Option ℕ → Type 0
+Finds IsIt answer = MatchOption answer ((address : ℕ) → IsIt address → ⊥) IsIt
 
 -- two colons stand here
 abbrev pub IsDoubleColon : List ℕ → ℕ → Type 0

@@ -3,7 +3,7 @@
 ghost use Rattle.std.specs.Prelude.{◌≡◌, ◌≤◌, ◌<◌, ◌+◌, ◌*◌, ◌^◌, ℕ, MatchOption, length};
 ghost use Rattle.std.specs.Str.Parse.{IsNumeral, digits_value};
 ghost use Rattle.flt_words.specs.declared.address.Group.TheVariants.{Octet};
-ghost use Rattle.flt_words.specs.Addresses.{AreIp6Ends, IsDotted, IsDoubleColon, IsGroup, IsIp6, IsMac, IsWholeIp6, ReadsGroups, base_of, group_value, separator_of};
+ghost use Rattle.flt_words.specs.Addresses.{AreIp6Ends, Finds, IsDotted, IsDoubleColon, IsGroup, IsIp6, IsMac, IsWholeIp6, ReadsGroups, base_of, group_value, separator_of};
 
 use crate::number::{decimal, numeral};
 
@@ -124,7 +124,7 @@ pub(crate) fn dotted(word: &[u8]) -> Option<(u32, u8)>
 
 /// The address of six bytes.
 pub(crate) fn mac(word: &[u8]) -> Option<u64>
-    ensures { MatchOption result ((address : ℕ) → IsMac word.now address → ⊥) (λ address. IsMac word.now address) }
+    ensures { Finds (IsMac word.now) result }
 {
     let joined = groups_of(Group::Byte, word)?;
     if joined.count != 6 {
@@ -135,7 +135,7 @@ pub(crate) fn mac(word: &[u8]) -> Option<u64>
 
 /// The address of eight groups, or of fewer with one `::` for the rest.
 pub(crate) fn ip6(word: &[u8]) -> Option<u128>
-    ensures { MatchOption result ((address : ℕ) → IsIp6 word.now address → ⊥) (λ address. IsIp6 word.now address) }
+    ensures { Finds (IsIp6 word.now) result }
 {
     match double_colon(word) {
         Some(at) => ip6_from_ends(&word[..at], &word[at + 2..]),
@@ -144,7 +144,7 @@ pub(crate) fn ip6(word: &[u8]) -> Option<u128>
 }
 
 fn whole_ip6(word: &[u8]) -> Option<u128>
-    ensures { MatchOption result ((address : ℕ) → IsWholeIp6 word.now address → ⊥) (λ address. IsWholeIp6 word.now address) }
+    ensures { Finds (IsWholeIp6 word.now) result }
 {
     let joined = groups_of(Group::Quad, word)?;
     if joined.count != 8 {
@@ -155,7 +155,7 @@ fn whole_ip6(word: &[u8]) -> Option<u128>
 
 /// The address whose groups left out between its ends are 0.
 fn ip6_from_ends(front: &[u8], back: &[u8]) -> Option<u128>
-    ensures { MatchOption result ((address : ℕ) → AreIp6Ends front.now back.now address → ⊥) (λ address. AreIp6Ends front.now back.now address) }
+    ensures { Finds (AreIp6Ends front.now back.now) result }
 {
     let first = groups_of(Group::Quad, front)?;
     let last = groups_of(Group::Quad, back)?;

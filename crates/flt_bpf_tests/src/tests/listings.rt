@@ -2,6 +2,7 @@
 
 use super::{IPV4, insn, program_of};
 use cap_octet::{MemOutput, TrialOutput};
+use cap_trial::Trial;
 use flt_bpf::{Insn, ListingFault, read_listing, write_listing};
 use std::alloc::{AllocError, Global};
 use std::process::Abort;
@@ -101,6 +102,33 @@ fn the_longest_text(rt: HostRuntime) -> Result<(), Fail> {
     read(&rt, &text, &[insn(6, 0, 0, 7)])?;
     let longer = padded(rt.alloc(), 1_048_569)?;
     refused(&rt, &longer, 1);
+    Ok(())
+}
+
+// A listing of so many returns.
+fn returns(alloc: Global, count: usize) -> Result<Vec<u8>, AllocError> {
+    let first = format!(in alloc; "{count}\n")?;
+    let mut text = Vec::from_slice(alloc, first.as_bytes())?;
+    for _ in 0..count {
+        text.extend_from_slice(b"6 0 0 0\n")?;
+    }
+    Ok(text)
+}
+
+#[test]
+fn each_growth_of_a_listing_is_refused(rt: HostRuntime) -> Result<(), Fail> {
+    let text = returns(rt.alloc(), 100)?;
+    let trial = Trial::new(rt.alloc());
+    assert_eq!(rt; read_listing(&trial, &text)?.len(), 100);
+    let growths = trial.growths();
+    assert!(rt; (3..100).contains(&growths));
+    for number in 0..growths {
+        trial.refuse(number + 1);
+        let fault = read_listing(&trial, &text).err();
+        assert_eq!(rt; fault, Some(ListingFault::Memory), "growth {number}");
+    }
+    trial.refuse(growths + 1);
+    assert_eq!(rt; read_listing(&trial, &text)?.len(), 100);
     Ok(())
 }
 

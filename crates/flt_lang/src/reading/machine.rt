@@ -2,7 +2,7 @@
 //! frames, and decides late which sort an operand is of.
 
 ghost use Rattle.std.specs.Prelude.{◌≡◌, reverse, ◌∷◌, Some, None, Err, IfOk, IfSome, IfNone, OnOk, length, vec_len, drop, ◌<◌, ◌≤◌};
-ghost use Rattle.flt_lang.specs.Machine.{as_number, as_truth, prefix_mask, written, fill, settle, looseness, IsLoose, number_waits, truth_waits, place, prefix_len, go_on, run, finish};
+ghost use Rattle.flt_lang.specs.Machine.{as_number, as_truth, prefix_mask, written, fill, settle, looseness, IsLoose, number_waits, truth_waits, load_ends, place, prefix_len, go_on, run, finish};
 
 use crate::node::Node;
 use crate::reading::fault::ReadFault;
@@ -201,6 +201,32 @@ fn await_truth<A: Allocator>(
     Ok((0, None))
 }
 
+/// The load that waits takes its index, and reads so many bytes. So many tokens more than one are
+/// used up.
+fn end_load<A: Allocator>(
+    frames: &mut Vec<Frame, A>,
+    nodes: &mut Vec<Node, A>,
+    operand: Operand,
+    more: usize,
+    size: u32,
+) -> Result<(usize, Option<Operand>), ReadFault>
+    ensures ok { IfOk result (λ r.
+        load_ends more size (reverse frames.old.items) operand (reverse nodes.old.items)
+        ≡ Some (r.0, (reverse frames.new.items, r.1, reverse nodes.new.items))) }
+    ensures used { IfOk result (λ r. r.0 ≡ more) }
+    ensures none { result ≡ Err ReadFault.NotAnExpression
+        → load_ends more size (reverse frames.old.items) operand (reverse nodes.old.items) ≡ None }
+{
+    match frames.pop() {
+        Some(Frame::Load(protocol)) => {
+            write_number(nodes, operand)?;
+            nodes.push(Node::Load(protocol, size))?;
+            Ok((more, Some(Operand::Number)))
+        }
+        _ => Err(ReadFault::NotAnExpression),
+    }
+}
+
 /// Places the tokens behind an operand: how many more than one are used up, and the operand, if one
 /// is whole.
 fn place<A: Allocator>(
@@ -228,27 +254,13 @@ fn place<A: Allocator>(
             Some(Frame::Open) => Ok((0, Some(operand.enclosed()))),
             _ => Err(ReadFault::NotAnExpression),
         },
-        [TokenKind::CloseBracket, ..] => match frames.pop() {
-            Some(Frame::Load(protocol)) => {
-                write_number(nodes, operand)?;
-                nodes.push(Node::Load(protocol, 1))?;
-                Ok((0, Some(Operand::Number)))
-            }
-            _ => Err(ReadFault::NotAnExpression),
-        },
+        [TokenKind::CloseBracket, ..] => end_load(frames, nodes, operand, 0, 1),
         [
             TokenKind::Colon,
             TokenKind::Number(size),
             TokenKind::CloseBracket,
             ..
-        ] => match frames.pop() {
-            Some(Frame::Load(protocol)) => {
-                write_number(nodes, operand)?;
-                nodes.push(Node::Load(protocol, *size))?;
-                Ok((2, Some(Operand::Number)))
-            }
-            _ => Err(ReadFault::NotAnExpression),
-        },
+        ] => end_load(frames, nodes, operand, 2, *size),
         _ => Err(ReadFault::NotAnExpression),
     }
 }

@@ -15,7 +15,8 @@ use std::alloc::{AllocError, Allocator};
 /// Reads the tokens of a whole expression.
 ///
 /// `NestedTooDeep` is told before anything else is looked at, `NotAnExpression` where the tokens
-/// have no tree.
+/// have no tree. `Memory` comes in place of the answer where the nodes, or what waits for an
+/// operand, cannot be kept.
 pub fn parse<A: Allocator + Clone>(alloc: A, tokens: &[Token]) -> Result<Expr<A>, ExprFault>
     ensures deep { (result ≡ Err ExprFault.NestedTooDeep) ↔ IsTooDeep tokens.now }
     ensures ok { IfOk result (λ tree. Reads (kinds_of tokens.now) tree) }

@@ -101,6 +101,18 @@ fn is_as_long_as_can_be(rt: HostRuntime) -> Result<(), Fail> {
 }
 
 #[test]
+fn counts_along_chains(rt: HostRuntime) -> Result<(), Fail> {
+    let ports = repeated(rt.alloc(), "port 1", " or port 2", 39, "")?;
+    let checked = compile(rt.alloc(), &ports)?;
+    assert_eq!(rt; (tests(&checked), nodes(&checked)), (440, 0));
+    assert_eq!(rt; bound(&checked), 2642);
+    let protocols = repeated(rt.alloc(), "", "ip proto 6 or ", 29, "-len = 1")?;
+    let checked = compile(rt.alloc(), &protocols)?;
+    assert_eq!(rt; (tests(&checked), nodes(&checked)), (59, 3));
+    Ok(())
+}
+
+#[test]
 fn goes_along_chains(rt: HostRuntime) -> Result<(), Fail> {
     let sums = repeated(rt.alloc(), "1", "|1", 32766, "=1")?;
     assert!(rt; compile(rt.alloc(), &sums).err() == Some(ExprFault::ProgramTooLong));

@@ -7,7 +7,7 @@ use Rattle.cap_pcapng.proofs.write.write_packet.Goals as goal
 pub returns-clause-told : goal.returns-clause-told
 returns-clause-told g c = λ tells.
     let padding = c.padding-padding.ensures in
-    let P : List ℕ → Type 0 = λ text. WritesAll (g.O.Output.written c.args.output.now) text c.write_parts.result (g.O.Output.written c.write_parts.new.output) in
+    let P : List ℕ → Type 0 = λ text. WritesAll (g.O.Output.written c.args.output.now) text c.write_pieces.result (g.O.Output.written c.write_pieces.new.output) in
     subst P
     (packet_joined c.args.number c.padding-padding.result (captured c.args.packet.now) _ _ padding.few padding.padded c.packet_head-head.ensures c.end_bytes-end.ensures)
-    (c.write_parts.ensures.told tells)
+    (c.write_pieces.ensures.told tells)
