@@ -24,6 +24,22 @@ fn owned(alloc: Global, texts: &[&str]) -> Result<Vec<String>, AllocError> {
     Ok(all)
 }
 
+/// Runs a command over memory, and answers the status and how many bytes were written and told.
+fn run_in(
+    alloc: Global,
+    (command, names): (Command, Vec<String>),
+    inputs: Vec<MemInput<'_>>,
+    (room, message_room): (&mut [u8], &mut [u8]),
+) -> Result<(u8, usize, usize), Fail> {
+    if !command.is_proper(inputs.len()) || names.len() != inputs.len() + 1 {
+        return Err(Fail::from("the command may not be run"));
+    }
+    let out = MemOutput::new(room);
+    let err = MemOutput::new(message_room);
+    let (status, out, err) = run(alloc, command, names, inputs, out, err);
+    Ok((status, out.written().len(), err.written().len()))
+}
+
 /// Runs a command, whose output is at most 65,536 bytes.
 fn run_over_memory(
     alloc: Global,
@@ -31,16 +47,12 @@ fn run_over_memory(
     names: Vec<String>,
     inputs: Vec<MemInput<'_>>,
 ) -> Result<Left, Fail> {
-    if !command.is_proper(inputs.len()) || names.len() != inputs.len() + 1 {
-        return Err(Fail::from("the command may not be run"));
-    }
-    let mut room = vec![in alloc; 0u8; 65_536]?;
-    let mut message_room = [0; 100];
-    let out = MemOutput::new(room.as_mut_slice());
-    let err = MemOutput::new(&mut message_room);
-    let (status, out, err) = run(alloc, command, names, inputs, out, err);
-    let told = Vec::from_slice(alloc, err.written())?;
-    let out = Vec::from_slice(alloc, out.written())?;
+    let mut out = vec![in alloc; 0u8; 65_536]?;
+    let mut told = vec![in alloc; 0u8; 100]?;
+    let rooms = (out.as_mut_slice(), told.as_mut_slice());
+    let (status, most, most_told) = run_in(alloc, (command, names), inputs, rooms)?;
+    out.truncate(most);
+    told.truncate(most_told);
     Ok(Left { status, out, told })
 }
 

@@ -5,6 +5,7 @@ use crate::packets::{PORT, SYN, capture, whole};
 use cap_octet::{MemInput, MemOutput, TrialOutput};
 use cap_tools::{Command, Compile, run};
 use flt_gen::Link;
+use std::alloc::Global;
 use std::process::Abort;
 use std::test::Fail;
 
@@ -87,28 +88,45 @@ fn a_link_of_its_own(rt: HostRuntime) -> Result<(), Fail> {
     Ok(())
 }
 
-/// An output that takes fewer bytes than the listing has: those are its first, and the failure is told once.
+/// Compiles `ip` into some room, at most 7 bytes a call, and answers the status and how many bytes were written and told.
+fn compile_into(
+    alloc: Global,
+    room: &mut [u8],
+    message_room: &mut [u8],
+) -> Result<(u8, usize, usize), Fail> {
+    let mut names = Vec::new(alloc);
+    names.push(String::from_str(alloc, "out")?)?;
+    let expr = String::from_str(alloc, "ip")?;
+    let link = Link::Ether;
+    let command = Command::Compile(Compile { expr, link });
+    let inputs: Vec<MemInput<'_>> = Vec::new(alloc);
+    if !command.is_proper(inputs.len()) || names.len() != inputs.len() + 1 {
+        return Err(Fail::from("the command may not be run"));
+    }
+    let out = TrialOutput::new(room, 7);
+    let err = MemOutput::new(message_room);
+    let (status, out, err) = run(alloc, command, names, inputs, out, err);
+    Ok((status, out.written().len(), err.written().len()))
+}
+
+/// Whether an output with room for so many bytes of the listing has those, and the failure is told once.
+fn write_fails(alloc: Global, listing: &[u8], size: usize) -> Result<bool, Fail> {
+    let mut room = vec![in alloc; 0u8; size]?;
+    let mut told = [0; 100];
+    let (status, _, most) = compile_into(alloc, &mut room, &mut told)?;
+    let message = "capkit: out: write failed\n".as_bytes();
+    Ok(
+        status == 1
+            && Some(room.as_slice()) == listing.get(..size)
+            && told.get(..most) == Some(message),
+    )
+}
+
 #[test]
 fn each_write_fails(rt: HostRuntime) -> Result<(), Fail> {
-    let alloc = rt.alloc();
-    let whole = compile(&rt, "ip", Link::Ether)?;
-    for size in 0..whole.out.len() {
-        let mut names = Vec::new(alloc);
-        names.push(String::from_str(alloc, "out")?)?;
-        let expr = String::from_str(alloc, "ip")?;
-        let link = Link::Ether;
-        let command = Command::Compile(Compile { expr, link });
-        let inputs: Vec<MemInput<'_>> = Vec::new(alloc);
-        assert!(rt; command.is_proper(inputs.len()));
-        assert!(rt; names.len() == inputs.len() + 1);
-        let mut room = vec![in alloc; 0u8; size]?;
-        let mut message_room = [0; 100];
-        let out = TrialOutput::new(room.as_mut_slice(), 7);
-        let err = MemOutput::new(&mut message_room);
-        let (status, out, err) = run(alloc, command, names, inputs, out, err);
-        assert!(rt; status == 1);
-        assert!(rt; out.written() == &whole.out[..size]);
-        assert!(rt; err.written() == b"capkit: out: write failed\n".as_slice());
+    let listing = compile(&rt, "ip", Link::Ether)?.out;
+    for size in 0..listing.len() {
+        assert!(rt; write_fails(rt.alloc(), &listing, size)?, "{size} bytes");
     }
     Ok(())
 }

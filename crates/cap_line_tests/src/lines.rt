@@ -180,17 +180,19 @@ fn words_that_are_no_range(rt: HostRuntime) {
     }
 }
 
+/// The line of an edit with so many ranges, of which the last is the word.
+fn edit_of_many(rt: &HostRuntime, count: usize, last: &str) -> Result<Line, Usage> {
+    edit_of(rt, &many(rt, count, last)?)
+}
+
 #[test]
 fn too_many_ranges_come_first(rt: HostRuntime) -> Result<(), Fail> {
-    let most = many(&rt, 512, "7")?;
-    let edit = edit_in(edit_of(&rt, most.as_slice())?)?;
+    let edit = edit_in(edit_of_many(&rt, 512, "7")?)?;
     assert!(rt; edit.ranges.len() == 512);
-    let bad = edit_of(&rt, many(&rt, 512, "0")?.as_slice());
-    assert!(rt; matches!(bad, Err(Usage::BadRange)));
-    let more = edit_of(&rt, many(&rt, 513, "7")?.as_slice());
-    assert!(rt; matches!(more, Err(Usage::TooManyValues)));
-    let both = edit_of(&rt, many(&rt, 513, "0")?.as_slice());
-    assert!(rt; matches!(both, Err(Usage::TooManyValues)));
+    assert!(rt; matches!(edit_of_many(&rt, 512, "0"), Err(Usage::BadRange)));
+    for last in ["7", "0"] {
+        assert!(rt; matches!(edit_of_many(&rt, 513, last), Err(Usage::TooManyValues)));
+    }
     Ok(())
 }
 

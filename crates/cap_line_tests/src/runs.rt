@@ -79,6 +79,23 @@ fn inputs(
     Ok(inputs)
 }
 
+/// Runs a command over memory, and answers the status and how many bytes were written and told.
+fn run_in(
+    alloc: Global,
+    (command, names): (Command, Vec<String>),
+    inputs: Vec<TrialInput<'_>>,
+    piece: usize,
+    (room, message_room): (&mut [u8], &mut [u8]),
+) -> Result<(u8, usize, usize), Fail> {
+    if !command.is_proper(inputs.len()) || names.len() != inputs.len() + 1 {
+        return Err(Fail::from("the command may not be run"));
+    }
+    let out = TrialOutput::new(room, piece.max(1));
+    let err = TrialOutput::new(message_room, piece.max(1));
+    let (status, out, err) = run(alloc, command, names, inputs, out, err);
+    Ok((status, out.written().len(), err.written().len()))
+}
+
 /// Runs a command over memory.
 fn run_over(
     alloc: Global,
@@ -87,18 +104,16 @@ fn run_over(
     inputs: Vec<TrialInput<'_>>,
     devices: Devices,
 ) -> Result<Outcome, Fail> {
-    if !command.is_proper(inputs.len()) || names.len() != inputs.len() + 1 {
-        return Err(Fail::from("the command may not be run"));
-    }
-    let mut out = vec![in alloc; 0u8; devices.room]?;
-    let mut err = vec![in alloc; 0u8; devices.told]?;
-    let out = TrialOutput::new(out.as_mut_slice(), devices.piece.max(1));
-    let err = TrialOutput::new(err.as_mut_slice(), devices.piece.max(1));
-    let (status, out, err) = run(alloc, command, names, inputs, out, err);
+    let mut written = vec![in alloc; 0u8; devices.room]?;
+    let mut told = vec![in alloc; 0u8; devices.told]?;
+    let rooms = (written.as_mut_slice(), told.as_mut_slice());
+    let (status, most, most_told) = run_in(alloc, (command, names), inputs, devices.piece, rooms)?;
+    written.truncate(most);
+    told.truncate(most_told);
     Ok(Outcome {
         status,
-        written: out.written().to_vec(alloc)?,
-        told: err.written().to_vec(alloc)?,
+        written,
+        told,
     })
 }
 

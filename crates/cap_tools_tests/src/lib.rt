@@ -1,5 +1,0 @@
-//! Tests of cap_tools: runs whose devices and memory fail in turn.
-#![tactic(auto)]
-
-#[cfg(test)]
-mod tests;
