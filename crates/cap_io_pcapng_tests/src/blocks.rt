@@ -258,7 +258,9 @@ fn simple(alloc: Global, snap: u32, orig: u8) -> Result<Vec<u8>, AllocError> {
 }
 
 /// How many bytes the first packet of a text has, its time and its original length, or the fault and the offset.
-fn first_packet(alloc: Global, text: &[u8]) -> Result<Option<(usize, u64, u32)>, (Fault, u64)> {
+type First = Result<Option<(usize, u64, u32)>, (Fault, u64)>;
+
+fn first_packet(alloc: Global, text: &[u8]) -> First {
     let mut source = Source::new(alloc, TrialInput::new(text, 1, None));
     match source.advance() {
         Ok(_) => Ok(
@@ -270,20 +272,22 @@ fn first_packet(alloc: Global, text: &[u8]) -> Result<Option<(usize, u64, u32)>,
     }
 }
 
-/// A snap length, an original length, and how many bytes are captured.
+/// A snap length, an original length, and the packet.
+fn simple_cases() -> [(u32, u8, First); 6] {
+    [
+        (4, 9, Ok(Some((4, 0, 9)))),
+        (4, 3, Ok(Some((3, 0, 3)))),
+        (0, 4, Ok(Some((4, 0, 4)))),
+        (3, 9, Ok(Some((3, 0, 9)))),
+        (0, 9, Err((Fault::BadBody, 48))),
+        (5, 9, Err((Fault::BadBody, 48))),
+    ]
+}
+
 #[test]
 fn simple_packets(rt: HostRuntime) -> Result<(), Fail> {
-    for (snap, orig, captured) in [(4, 9, 4), (4, 3, 3), (0, 4, 4), (3, 9, 3)] {
+    for (snap, orig, want) in simple_cases() {
         let text = simple(rt.alloc(), snap, orig)?;
-        let want = Ok(Some((captured, 0, u32::from(orig))));
-        assert!(rt;
-            first_packet(rt.alloc(), &text) == want,
-            "{snap} and {orig}"
-        );
-    }
-    for (snap, orig) in [(0, 9), (5, 9)] {
-        let text = simple(rt.alloc(), snap, orig)?;
-        let want = Err((Fault::BadBody, 48));
         assert!(rt;
             first_packet(rt.alloc(), &text) == want,
             "{snap} and {orig}"

@@ -9,20 +9,31 @@ use std::alloc::{AllocError, Allocator, Global};
 use std::process::Abort;
 use std::test::Fail;
 
+/// The link type, snap length, time and original length of the packet that a source has.
+fn head_of<I: Input, A: Allocator>(source: &Source<I, A>) -> Option<(u16, u32, u64, u32)> {
+    let packet = source.head()?;
+    Some((packet.link, packet.snap, packet.time, packet.orig))
+}
+
+/// Whether a source has a packet of these bytes without a name.
+fn has_bytes<I: Input, A: Allocator>(source: &Source<I, A>, bytes: &[u8]) -> bool {
+    match source.head() {
+        Some(packet) => packet.bytes == bytes && packet.name.is_empty(),
+        None => false,
+    }
+}
+
 /// Reads the next packet of the two sections.
 fn check_packet<I: Input, A: Allocator>(
     rt: &impl Abort,
     source: &mut Source<I, A>,
     link: u16,
     offset: u64,
-) -> Result<(), Fail> {
+) {
     assert!(rt; source.advance() == Ok(true));
     assert!(rt; source.offset() == offset);
-    let packet = source.head().ok_or("no packet")?;
-    assert!(rt; (packet.link, packet.snap, packet.time, packet.orig) == (link, 262_144, 5_000, 9));
-    assert!(rt; packet.bytes == [0xaa, 0xbb, 0xcc, 0xdd].as_slice());
-    assert!(rt; packet.name.is_empty());
-    Ok(())
+    assert!(rt; head_of(source) == Some((link, 262_144, 5_000, 9)));
+    assert!(rt; has_bytes(source, &[0xaa, 0xbb, 0xcc, 0xdd]));
 }
 
 /// Finds the end of the two sections.
@@ -40,8 +51,8 @@ fn sections_in_both_orders(rt: HostRuntime) -> Result<(), Fail> {
     for piece in [1, 7, 1_000] {
         assert!(rt; 0 < piece);
         let mut source = Source::new(rt.alloc(), TrialInput::new(&text, piece, None));
-        check_packet(&rt, &mut source, 1, 48)?;
-        check_packet(&rt, &mut source, 101, 132)?;
+        check_packet(&rt, &mut source, 1, 48);
+        check_packet(&rt, &mut source, 101, 132);
         check_end(&rt, &mut source);
     }
     Ok(())

@@ -5,7 +5,7 @@ use cap_pcapng::{
     write_interface, write_packet,
 };
 use linked_list_allocator::LocalHeap;
-use std::alloc::Allocator;
+use std::alloc::{Allocator, Global};
 use std::process::Abort;
 use std::test::Fail;
 
@@ -319,7 +319,7 @@ fn push<A: Allocator>(table: &mut Table<A>, name: &[u8]) -> Result<(), Fault> {
 }
 
 /// Fills an empty table: another name comes last.
-fn fill<A: Allocator>(rt: &impl Abort, table: &mut Table<A>) {
+fn fill(rt: &impl Abort, table: &mut Table<Global>) {
     for _ in 0..255 {
         assert!(rt; push(table, b"eth0") == Ok(()));
     }
@@ -330,7 +330,7 @@ fn fill<A: Allocator>(rt: &impl Abort, table: &mut Table<A>) {
 }
 
 /// Looks at the last interfaces of a full table, and behind them.
-fn check_last<A: Allocator>(rt: &impl Abort, table: &Table<A>) {
+fn check_last(rt: &impl Abort, table: &Table<Global>) {
     for (number, name) in [(254, b"eth0"), (255, b"eth1")] {
         assert!(rt; table.get(number) == Some(named(name)));
     }
