@@ -88,9 +88,11 @@ fn message_is_lost(rt: &HostRuntime, told: usize) -> Result<bool, Fail> {
         room: 100,
         ..sound(7)
     };
-    let outcome = run_words(rt, &EDIT, &four[..97], &[], devices)?;
+    let cut = four.get(..97).ok_or("too short")?;
+    let outcome = run_words(rt, &EDIT, cut, &[], devices)?;
+    let written = four.get(..78).ok_or("too short")?;
     let front = message.get(..told).unwrap_or(message);
-    Ok(is(&outcome, (&four[..78], front, 1)))
+    Ok(is(&outcome, (written, front, 1)))
 }
 
 #[test]
