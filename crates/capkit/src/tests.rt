@@ -55,10 +55,11 @@ fn status_of(rt: &HostRuntime, folder: &str, words: &[&str]) -> Result<u8, Fail>
     Ok(run(rt, command_of(rt.alloc(), line)?))
 }
 
-/// Whether the file `out` of the folder has these bytes.
-fn has_written(rt: &HostRuntime, folder: &str, bytes: &[u8]) -> Result<bool, Fail> {
+/// Whether the file `out` of the folder has so many bytes of the capture.
+fn has_written(rt: &HostRuntime, folder: &str, count: usize) -> Result<bool, Fail> {
     let written = fs::read(rt, &path(rt, folder, "out")?)?;
-    Ok(written.as_slice() == bytes)
+    let capture = capture();
+    Ok(capture.get(..count) == Some(written.as_slice()))
 }
 
 /// The first packet is kept, by its number and by the listing.
@@ -67,12 +68,12 @@ fn files_are_read_and_written(rt: HostRuntime) -> Result<(), Fail> {
     let folder = folder(&rt, "written")?;
     let edit = ["capkit", "edit", "-F", "pcap", "@in", "@out", "2"];
     assert!(rt; status_of(&rt, &folder, &edit)? == 0);
-    assert!(rt; has_written(&rt, &folder, &capture()[..54])?);
+    assert!(rt; has_written(&rt, &folder, 54)?);
     let print = [
         "capkit", "print", "--code", "@code", "-w", "@out", "--format", "pcap", "@in",
     ];
     assert!(rt; status_of(&rt, &folder, &print)? == 0);
-    assert!(rt; has_written(&rt, &folder, &capture()[..54])?);
+    assert!(rt; has_written(&rt, &folder, 54)?);
     fs::remove_dir_all(&rt, &folder)?;
     Ok(())
 }
@@ -102,7 +103,7 @@ fn outputs_are_created_before_the_run(rt: HostRuntime) -> Result<(), Fail> {
     assert!(rt; status_of(&rt, &folder, &nowhere)? == 1);
     let refused = ["capkit", "print", "-w", "@out", "@in", "port"];
     assert!(rt; status_of(&rt, &folder, &refused)? == 2);
-    assert!(rt; has_written(&rt, &folder, &[])?);
+    assert!(rt; has_written(&rt, &folder, 0)?);
     fs::remove_dir_all(&rt, &folder)?;
     Ok(())
 }
