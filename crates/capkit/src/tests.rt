@@ -4,7 +4,7 @@ use crate::job::run;
 use cap_line::command_of;
 use std::alloc::{AllocError, Global};
 use std::test::Fail;
-use std::{fs, process};
+use std::{env, fs, process};
 
 /// A capture of two packets, of link types IPv4 and ARP, 14 bytes each.
 fn capture() -> [u8; 84] {
@@ -21,7 +21,8 @@ const LISTING: &str = "4\n40 0 0 12\n21 0 1 2048\n6 0 0 262144\n6 0 0 0\n";
 /// A new folder of the test of this name, with the capture `in` and the listing `code`.
 fn folder(rt: &HostRuntime, test: &str) -> Result<String, Fail> {
     let id = process::id(rt.process());
-    let folder = format!(in rt.alloc(); "/tmp/capkit_{test}_{id}")?;
+    let above = env::temp_dir(rt)?;
+    let folder = format!(in rt.alloc(); "{}/capkit_{test}_{id}", above.as_str())?;
     if fs::exists(rt, &folder)? {
         fs::remove_dir_all(rt, &folder)?;
     }
