@@ -48,7 +48,7 @@ fn writes(rt: &(impl Abort + AllocGlobal), words: &str, passing: &[Taken<'_>]) -
     let left = print_words(rt, &text, words)?;
     assert!(rt; left.status == 0);
     assert!(rt; left.told.as_slice() == b"".as_slice());
-    assert!(rt; left.out.as_slice() == expected.as_slice());
+    assert!(rt; left.written.as_slice() == expected.as_slice());
     Ok(())
 }
 
@@ -72,7 +72,7 @@ fn comes_to(rt: &(impl Abort + AllocGlobal), words: &str, size: usize) -> Result
     let text = capture(rt.alloc(), 1, &[whole(&packet)])?;
     let left = print_words(rt, &text, words)?;
     assert!(rt; left.status == 0);
-    assert!(rt; left.out.len() == size);
+    assert!(rt; left.written.len() == size);
     Ok(())
 }
 
@@ -95,8 +95,8 @@ fn a_listing_answers(rt: HostRuntime) -> Result<(), Fail> {
     let code = b"4\n40 0 0 12\n21 0 1 2048\n6 0 0 262144\n6 0 0 0\n";
     let left = print_code(&rt, &text, code)?;
     assert!(rt; left.status == 0);
-    assert!(rt; left.out.len() == 54);
-    assert!(rt; text.starts_with(&left.out));
+    assert!(rt; left.written.len() == 54);
+    assert!(rt; text.starts_with(&left.written));
     Ok(())
 }
 
@@ -108,7 +108,7 @@ fn raw_packets(rt: HostRuntime) -> Result<(), Fail> {
     let expected = capture(alloc, 101, &[whole(&SYN[14..])])?;
     let left = print_words(&rt, &text, "tcp dst port 80")?;
     assert!(rt; left.status == 0);
-    assert!(rt; left.out.as_slice() == expected.as_slice());
+    assert!(rt; left.written.as_slice() == expected.as_slice());
     Ok(())
 }
 
@@ -118,15 +118,15 @@ fn another_link_type(rt: HostRuntime) -> Result<(), Fail> {
     let text = capture(rt.alloc(), 147, &[whole(&SYN)])?;
     let left = print_words(&rt, &text, "ip")?;
     assert!(rt; left.status == 1);
-    assert!(rt; left.out.len() == 0);
+    assert!(rt; left.written.len() == 0);
     assert!(rt;
         left.told.as_slice() == b"capkit: in: offset 24: link type not filtered\n".as_slice()
     );
     let left = print_words(&rt, &text, "")?;
     assert!(rt; left.status == 0);
-    assert!(rt; left.out.as_slice() == text.as_slice());
+    assert!(rt; left.written.as_slice() == text.as_slice());
     let left = print_code(&rt, &text, b"1\n6 0 0 1\n")?;
-    assert!(rt; left.out.as_slice() == text.as_slice());
+    assert!(rt; left.written.as_slice() == text.as_slice());
     Ok(())
 }
 
@@ -136,7 +136,7 @@ fn a_truncated_record(rt: HostRuntime) -> Result<(), Fail> {
     let text = capture(rt.alloc(), 1, &[whole(&SYN), whole(&SYN)])?;
     let left = print_words(&rt, text.get(..163).ok_or("size")?, "ip")?;
     assert!(rt; left.status == 1);
-    assert!(rt; left.out.as_slice() == text.get(..94).ok_or("size")?);
+    assert!(rt; left.written.as_slice() == text.get(..94).ok_or("size")?);
     assert!(rt; left.told.as_slice() == b"capkit: in: offset 94: truncated\n".as_slice());
     Ok(())
 }

@@ -1,14 +1,15 @@
 //! Filters that are refused.
 
-use crate::commands::{Left, compile, print_code, print_words};
+use crate::commands::{compile, print_code, print_words};
 use crate::packets::{SYN, capture, whole};
+use cap_runs::Outcome;
 use flt_gen::Link;
 use std::alloc::{AllocError, Global};
 use std::test::Fail;
 
 /// Whether nothing is written, this is told, and the status is 2.
-fn is_refused(left: &Left, message: &str) -> bool {
-    left.status == 2 && left.out.is_empty() && left.told.as_slice() == message.as_bytes()
+fn is_refused(left: &Outcome, message: &str) -> bool {
+    left.is(&[], message, 2)
 }
 
 /// Words, and what is told of them.
@@ -165,6 +166,6 @@ fn the_longest_expressions(rt: HostRuntime) -> Result<(), Fail> {
     let text = capture(alloc, 1, &[whole(&SYN)])?;
     let longest = repeated(alloc, "ip", " or len = 1", 1_820, "")?;
     let left = print_words(&rt, &text, &longest)?;
-    assert!(rt; left.out.as_slice() == text.as_slice());
+    assert!(rt; left.written.as_slice() == text.as_slice());
     Ok(())
 }

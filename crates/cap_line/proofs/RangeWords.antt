@@ -7,7 +7,7 @@ use Rattle.std.proofs.lemmas.Bool.{cond-false, and_from, cond-true, le-leb, le-l
 use Rattle.std.proofs.lemmas.List.Folds.{list_any_at}
 use Rattle.std.proofs.lemmas.List.{length-map, take_all}
 use Rattle.clap.proofs.WalkLemmas.{list_any-map}
-use Rattle.cap_tools.specs.Command.{has_proper_ranges, is_range}
+use Rattle.cap_tools.specs.Command.{has_proper_ranges, is_range, most_ranges}
 use Rattle.clap.specs.Words.{Text}
 use Rattle.cap_line.specs.Line.{range_fault}
 use Rattle.cap_line.specs.Range.{number_of, range_between, range_of, sides_of}
@@ -18,8 +18,8 @@ abbrev is_bad : Text → Bool
 is_bad word = is_none (range_of word)
 
 -- words that are few enough have no fault but a bad one
-few : (words : List Text) → length words ≤ 512 → range_fault words ≡ (if list_any is_bad words then Some BadRange else None)
-few words enough = cond-false _ (Some TooManyValues) _ (le-ltb 512 (length words) enough)
+few : (words : List Text) → length words ≤ most_ranges → range_fault words ≡ (if list_any is_bad words then Some BadRange else None)
+few words enough = cond-false _ (Some TooManyValues) _ (le-ltb most_ranges (length words) enough)
 
 -- words with as many ranges have none that is bad
 none_bad : (words : List Text) (ranges : List (ℕ × ℕ)) → map Some ranges ≡ map range_of words → list_any is_bad words ≡ false
@@ -33,10 +33,10 @@ none_bad (word ∷ words) (range ∷ ranges) same =
 abbrev text_of : Bor Text → Text
 text_of word = word.now
 
-still_few : (words : List (Bor Text)) → length words ≤ 512 → length (map text_of words) ≤ 512
+still_few : (words : List (Bor Text)) → length words ≤ most_ranges → length (map text_of words) ≤ most_ranges
 still_few words enough = rw length-map enough
 
-pub no_range_fault : (words : List (Bor Text)) (ranges : List (ℕ × ℕ)) (i : ℕ) → length words ≤ 512 → length words ≤ i
+pub no_range_fault : (words : List (Bor Text)) (ranges : List (ℕ × ℕ)) (i : ℕ) → length words ≤ most_ranges → length words ≤ i
     → map Some ranges ≡ map range_of (map text_of (take i words)) → range_fault (map text_of words) ≡ None
 no_range_fault words ranges i enough all same =
     let whole : take i words ≡ words = take_all i words all in
@@ -48,7 +48,7 @@ at_word : (words : List (Bor Text)) (i : ℕ) (d : Bor Text) → i < length word
 at_word words i d lt bad =
     sym (list_any-map is_bad text_of words) ∙ list_any_at (λ word. is_bad word.now) words i d lt (ap is_none bad)
 
-pub bad_range : (words : List (Bor Text)) (i : ℕ) (d : Bor Text) → length words ≤ 512 → i < length words
+pub bad_range : (words : List (Bor Text)) (i : ℕ) (d : Bor Text) → length words ≤ most_ranges → i < length words
     → range_of (slice_index_or words i d).now ≡ None → range_fault (map text_of words) ≡ Some BadRange
 bad_range words i d enough lt bad =
     few (map text_of words) (still_few words enough) ∙ cond-true _ (Some BadRange) None (at_word words i d lt bad)
@@ -80,9 +80,9 @@ as_many words ranges same =
     let some : length (map (λ (r : ℕ × ℕ). Some r) ranges) ≡ length ranges = length-map ranges (λ (r : ℕ × ℕ). Some r) in
     sym some ∙ ap length same ∙ length-map words range_of
 
-pub proper_ranges : (words : List (Bor Text)) (ranges : List (ℕ × ℕ)) (i : ℕ) → length words ≤ 512 → length words ≤ i
+pub proper_ranges : (words : List (Bor Text)) (ranges : List (ℕ × ℕ)) (i : ℕ) → length words ≤ most_ranges → length words ≤ i
     → map Some ranges ≡ map range_of (map text_of (take i words)) → has_proper_ranges ranges ≡ true
 proper_ranges words ranges i enough all same =
     let whole : map Some ranges ≡ map range_of (map text_of words) = same ∙ ap (λ ws. map range_of (map text_of ws)) (take_all i words all) in
-    let few : length ranges ≤ 512 = rw (as_many (map text_of words) ranges whole) (still_few words enough) in
-    and_from _ _ (le-leb (length ranges) 512 few) (all_ranges (map text_of words) ranges whole)
+    let few : length ranges ≤ most_ranges = rw (as_many (map text_of words) ranges whole) (still_few words enough) in
+    and_from _ _ (le-leb (length ranges) most_ranges few) (all_ranges (map text_of words) ranges whole)

@@ -4,6 +4,7 @@ use Rattle.std.specs.Prelude.{◌&&◌, if◌then◌else◌, is_none, is_some, n
 use Rattle.std.specs.List.{list_any}
 use Rattle.clap.specs.Words.{Row, Text, first_of}
 use Rattle.clap.specs.declared.error.Error.{Error}
+use Rattle.cap_tools.specs.Command.{most_ranges}
 use Rattle.cap_line.specs.Line.{Asks, IsFaultOf, IsLineOf, SaysFault, SaysLine, exclusion_fault, fault_in, name_fault, or_else, range_fault, read_names, text_in, texts_in}
 use Rattle.cap_line.specs.Names.{uses_name_twice}
 use Rattle.cap_line.specs.Range.{range_of}
@@ -35,7 +36,7 @@ exclusion_or_name false false e same = cc
 not_refused : (asked : Subcommand) (matches : List Row) (e : Error) → fault_in asked matches ≡ Some (Refused e) → ⊥
 not_refused sub.Edit matches e same =
     let words = texts_in (codes "RANGE") matches in
-    range_or_name (nat_lt 512 (length words)) (list_any (λ word. is_none (range_of word)) words)
+    range_or_name (nat_lt most_ranges (length words)) (list_any (λ word. is_none (range_of word)) words)
     (uses_name_twice (text_in (codes "IN") matches ∷ []) (Some (text_in (codes "OUT") matches))) e same
 not_refused sub.Print matches e same =
     exclusion_or_name (is_some (first_of (codes "LISTING") matches) && nat_lt 0 (length (texts_in (codes "WORD") matches)))

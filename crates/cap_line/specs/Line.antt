@@ -7,7 +7,7 @@ use Rattle.std.specs.Option.{option_map_or, option_to_list}
 use Rattle.std.specs.Str.{bytes_eq}
 use Rattle.cap_octet.specs.declared.format.Format.{Format}
 use Rattle.cap_octet.specs.declared.format.Format.TheVariants.{Pcap, NsecPcap, Pcapng}
-use Rattle.cap_tools.specs.Command.{is_proper}
+use Rattle.cap_tools.specs.Command.{is_proper, most_ranges}
 use Rattle.cap_tools.specs.declared.command.Command.{Command}
 use Rattle.cap_tools.specs.declared.command.Command.TheVariants as command
 use Rattle.cap_tools.specs.declared.command.Compile.{Compile}
@@ -65,7 +65,7 @@ or_else None next = next
 -- the first fault of the words for ranges
 abbrev pub range_fault : List Text → Option Usage
 range_fault words =
-    if nat_lt 512 (length words) then Some TooManyValues
+    if nat_lt most_ranges (length words) then Some TooManyValues
     else (if list_any (λ word. is_none (range_of word)) words then Some BadRange else None)
 
 abbrev pub name_fault : List Text → Option Text → Option Usage

@@ -10,12 +10,9 @@ use crate::names::uses_name_twice;
 use crate::range::range_in;
 use crate::usage::Usage;
 use crate::values::{flag, format, text, texts};
-use cap_tools::{Command, Edit};
+use cap_tools::{Command, Edit, MOST_RANGES};
 use clap::ArgMatches;
 use std::alloc::Global;
-
-/// How many ranges a line may have.
-const MOST_RANGES: usize = 512;
 
 /// The ranges that the words name.
 fn ranges_in(alloc: Global, words: &[&str]) -> Result<Vec<(u64, u64)>, Usage>

@@ -4,6 +4,8 @@ ghost use Rattle.std.specs.Char.{is_ascii_digit};
 ghost use Rattle.std.specs.List.{list_all};
 ghost use Rattle.cap_line.specs.Range.{WritesRange, number_of, range_of, sides_of};
 
+use cap_tools::is_range;
+
 fn has_digits_alone(text: &str) -> bool
     ensures { result ≡ list_all is_ascii_digit text.now }
 {
@@ -44,7 +46,7 @@ pub fn range_in(word: &str) -> Option<(u64, u64)>
     let (first, last) = sides(word);
     let first = number_in(first)?;
     let last = number_in(last)?;
-    if 1 <= first && first <= last && last < 1 << 63 {
+    if is_range(first, last) {
         Some((first, last))
     } else {
         None

@@ -2,7 +2,7 @@
 
 use crate::bytes::{four, head, joined, nanosecond_head, one_section, two_sections};
 use crate::edits::{edits, edits_to_pcap};
-use crate::runs::{gives, run_words, sound};
+use cap_runs::{gives, run_words, sound};
 use std::alloc::{AllocError, Global};
 use std::test::Fail;
 
@@ -61,7 +61,15 @@ fn no_packet(rt: HostRuntime) -> Result<(), Fail> {
     assert!(rt; edits_to_pcap(&rt, &[], &section(), &head(), "")?);
     let words = ["capkit", "edit", "-F", "nsecpcap", "-r", "in", "out"];
     let wanted = nanosecond_head();
-    assert!(rt; gives(&rt, &words, &nanosecond_head(), &[], (&wanted, "", 0))?);
+    assert!(rt;
+        gives(
+            rt.alloc(),
+            &words,
+            &nanosecond_head(),
+            &[],
+            (&wanted, "", 0)
+        )?
+    );
     Ok(())
 }
 
@@ -148,20 +156,15 @@ fn the_longest_simple_packet(rt: HostRuntime) -> Result<(), Fail> {
 /// Whether the packet at 48 is too long for this format.
 fn is_too_long(rt: &HostRuntime, format: &str, capture: &[u8]) -> Result<bool, Fail> {
     let words = ["capkit", "edit", "-F", format, "in", "out"];
-    let outcome = run_words(rt, &words, capture, &[], sound(65_536))?;
-    let told = "capkit: in: offset 48: too long\n";
-    Ok(
-        outcome.written.is_empty()
-            && outcome.told.as_slice() == told.as_bytes()
-            && outcome.status == 1,
-    )
+    let outcome = run_words(rt.alloc(), &words, capture, &[], sound(65_536))?;
+    Ok(outcome.is(&[], "capkit: in: offset 48: too long\n", 1))
 }
 
 /// The packets of some ranges go into pcapng, and read back as they were.
 #[test]
 fn kept_ranges(rt: HostRuntime) -> Result<(), Fail> {
     let words = ["capkit", "edit", "-r", "in", "out", "2-3", "3", "9"];
-    let kept = run_words(&rt, &words, &four(), &[], sound(7))?;
+    let kept = run_words(rt.alloc(), &words, &four(), &[], sound(7))?;
     assert!(rt; (kept.status, kept.written.len()) == (0, 132));
     let inner = joined(rt.alloc(), &[&head(), &four()[41..78]])?;
     assert!(rt; edits_to_pcap(&rt, &[], &kept.written, &inner, "")?);

@@ -1,7 +1,7 @@
 //! Edits of pcap savefiles.
 
 use crate::bytes::{four, head, joined, nanosecond_head, record};
-use crate::runs::{gives, words};
+use cap_runs::{gives, words};
 use std::alloc::{AllocError, Global};
 use std::test::Fail;
 
@@ -16,7 +16,7 @@ pub(crate) fn edits(
 ) -> Result<bool, Fail> {
     let words = words(rt.alloc(), &["capkit", "edit", "in", "out"], more)?;
     let status = u8::from(!told.is_empty());
-    gives(rt, &words, capture, &[], (written, told, status))
+    gives(rt.alloc(), &words, capture, &[], (written, told, status))
 }
 
 /// The same of an edit to pcap.
@@ -33,7 +33,7 @@ pub(crate) fn edits_to_pcap(
         more,
     )?;
     let status = u8::from(!told.is_empty());
-    gives(rt, &words, capture, &[], (written, told, status))
+    gives(rt.alloc(), &words, capture, &[], (written, told, status))
 }
 
 /// Whether an edit of four packets keeps these stretches of the capture behind its header.

@@ -1,7 +1,7 @@
 //! Edits whose devices fail.
 
 use crate::bytes::four;
-use crate::runs::{Devices, ROOM, is, run_words, sound};
+use cap_runs::{Devices, ROOM, run_words, sound};
 use std::test::Fail;
 
 /// The words of these edits.
@@ -28,14 +28,14 @@ fn read_fails(rt: &HostRuntime, piece: usize, at: u64) -> Result<Option<usize>, 
         room: 100,
         ..sound(piece)
     };
-    let outcome = run_words(rt, &EDIT, &four, &[], devices)?;
-    if is(&outcome, (&four, "", 0)) {
+    let outcome = run_words(rt.alloc(), &EDIT, &four, &[], devices)?;
+    if outcome.is(&four, "", 0) {
         return Ok(None);
     }
     for offset in [0, 24, 41, 59, 78, 98] {
         let before = if offset <= 24 { 0 } else { offset };
         let written = four.get(..before).ok_or("too short")?;
-        if is(&outcome, (written, read_failed_at(offset), 1)) {
+        if outcome.is(written, read_failed_at(offset), 1) {
             return Ok(Some(offset));
         }
     }
@@ -64,9 +64,9 @@ fn write_fails(rt: &HostRuntime, piece: usize, room: usize) -> Result<bool, Fail
         room,
         ..sound(piece)
     };
-    let outcome = run_words(rt, &EDIT, &four, &[], devices)?;
+    let outcome = run_words(rt.alloc(), &EDIT, &four, &[], devices)?;
     let written = four.get(..room).ok_or("too short")?;
-    Ok(is(&outcome, (written, "capkit: out: write failed\n", 1)))
+    Ok(outcome.is(written, "capkit: out: write failed\n", 1))
 }
 
 #[test]
@@ -89,10 +89,10 @@ fn message_is_lost(rt: &HostRuntime, told: usize) -> Result<bool, Fail> {
         ..sound(7)
     };
     let cut = four.get(..97).ok_or("too short")?;
-    let outcome = run_words(rt, &EDIT, cut, &[], devices)?;
+    let outcome = run_words(rt.alloc(), &EDIT, cut, &[], devices)?;
     let written = four.get(..78).ok_or("too short")?;
     let front = message.get(..told).unwrap_or(message);
-    Ok(is(&outcome, (written, front, 1)))
+    Ok(outcome.is(written, front, 1))
 }
 
 #[test]

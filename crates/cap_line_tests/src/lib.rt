@@ -11,5 +11,3 @@ mod edits;
 mod failing;
 #[cfg(test)]
 mod lines;
-#[cfg(test)]
-mod runs;

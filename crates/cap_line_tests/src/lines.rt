@@ -1,8 +1,8 @@
 //! Command lines, from their words to what they ask for.
 
-use crate::runs::{line_of, words};
 use cap_line::{Line, Usage};
 use cap_octet::Format;
+use cap_runs::{line_of, words};
 use cap_tools::{Command, Compile, Edit, Print};
 use clap::error::ErrorKind;
 use flt_gen::Link;
@@ -11,7 +11,7 @@ use std::test::Fail;
 /// The line of an edit from `in` to `out` with these ranges.
 fn edit_of(rt: &HostRuntime, ranges: &[&str]) -> Result<Line, Usage> {
     let edit = ["capkit", "edit", "-F", "pcap", "in", "out"];
-    line_of(rt, &words(rt.alloc(), &edit, ranges)?)
+    line_of(rt.alloc(), &words(rt.alloc(), &edit, ranges)?)
 }
 
 /// The edit that the words ask for.
@@ -35,7 +35,7 @@ fn print_of(rt: &HostRuntime, words: &[&str]) -> Result<Print, Fail> {
         inputs: _,
         output: _,
         code: _,
-    } = line_of(rt, words)?;
+    } = line_of(rt.alloc(), words)?;
     match command {
         Command::Print(print) => Ok(print),
         Command::Edit(_) | Command::Compile(_) => Err(Fail::from("no print")),
@@ -49,7 +49,7 @@ fn compile_of(rt: &HostRuntime, words: &[&str]) -> Result<Compile, Fail> {
         inputs: _,
         output: _,
         code: _,
-    } = line_of(rt, words)?;
+    } = line_of(rt.alloc(), words)?;
     match command {
         Command::Compile(compile) => Ok(compile),
         Command::Edit(_) | Command::Print(_) => Err(Fail::from("no compilation")),
@@ -76,7 +76,7 @@ fn has_names(
         inputs,
         output: target,
         code,
-    } = line_of(rt, words)?;
+    } = line_of(rt.alloc(), words)?;
     let count = usize::from(input.is_some());
     Ok(
         inputs.len() == count
@@ -112,7 +112,7 @@ fn an_edit(rt: HostRuntime) -> Result<(), Fail> {
     let words = [
         "capkit", "edit", "-r", "-F", "pcap", "in", "out", "2-3", "3", "9",
     ];
-    let edit = edit_in(line_of(&rt, &words)?)?;
+    let edit = edit_in(line_of(rt.alloc(), &words)?)?;
     assert!(rt; (edit.keep, edit.format) == (true, Format::Pcap));
     assert!(rt; edit.ranges.as_slice() == [(2, 3), (3, 3), (9, 9)].as_slice());
     assert!(rt; has_names(&rt, &words, (Some("in"), Some("out"), None))?);
@@ -122,7 +122,7 @@ fn an_edit(rt: HostRuntime) -> Result<(), Fail> {
 #[test]
 fn options_stand_anywhere(rt: HostRuntime) -> Result<(), Fail> {
     let words = ["capkit", "edit", "in", "-Fpcap", "out", "1"];
-    let edit = edit_in(line_of(&rt, words.as_slice())?)?;
+    let edit = edit_in(line_of(rt.alloc(), words.as_slice())?)?;
     assert!(rt; !edit.keep && edit.ranges.as_slice() == [(1, 1)].as_slice());
     Ok(())
 }
@@ -198,15 +198,18 @@ fn too_many_ranges_come_first(rt: HostRuntime) -> Result<(), Fail> {
 
 #[test]
 fn names_used_twice(rt: HostRuntime) {
-    let twice = line_of(&rt, ["capkit", "edit", "-F", "pcap", "in", "in"].as_slice());
+    let twice = line_of(
+        rt.alloc(),
+        ["capkit", "edit", "-F", "pcap", "in", "in"].as_slice(),
+    );
     assert!(rt; matches!(twice, Err(Usage::NameUsedTwice)));
     let bad = line_of(
-        &rt,
+        rt.alloc(),
         ["capkit", "edit", "-F", "pcap", "in", "in", "0"].as_slice(),
     );
     assert!(rt; matches!(bad, Err(Usage::BadRange)));
     let others = line_of(
-        &rt,
+        rt.alloc(),
         ["capkit", "edit", "-F", "pcap", "in", "./in"].as_slice(),
     );
     assert!(rt; others.is_ok());
@@ -252,13 +255,16 @@ fn lines_that_are_refused(rt: HostRuntime) {
         (["capkit", "--help"].as_slice(), ErrorKind::DisplayHelp),
         (["capkit", "edit", "-h"].as_slice(), ErrorKind::DisplayHelp),
     ] {
-        assert!(rt; is_refused_as(line_of(&rt, words), kind), "{words:?}");
+        assert!(rt;
+            is_refused_as(line_of(rt.alloc(), words), kind),
+            "{words:?}"
+        );
     }
 }
 
 /// The format of the edit that the words ask for.
 fn format_of(rt: &HostRuntime, words: &[&str]) -> Result<Format, Fail> {
-    Ok(edit_in(line_of(rt, words)?)?.format)
+    Ok(edit_in(line_of(rt.alloc(), words)?)?.format)
 }
 
 #[test]
@@ -303,7 +309,7 @@ fn prints_that_are_refused(rt: HostRuntime) {
         ["capkit", "print", "--code", "a", "-w", "b", "c", "ip"].as_slice(),
         ["capkit", "print", "--code", "a", "-w", "a", "a", ""].as_slice(),
     ] {
-        let line = line_of(&rt, words);
+        let line = line_of(rt.alloc(), words);
         assert!(rt; matches!(line, Err(Usage::OptionsExclude)), "{words:?}");
     }
     for words in [
@@ -311,7 +317,7 @@ fn prints_that_are_refused(rt: HostRuntime) {
         ["capkit", "print", "--code", "-", "-w", "b", "-"].as_slice(),
         ["capkit", "print", "-w", "c", "c", "ip"].as_slice(),
     ] {
-        let line = line_of(&rt, words);
+        let line = line_of(rt.alloc(), words);
         assert!(rt; matches!(line, Err(Usage::NameUsedTwice)), "{words:?}");
     }
 }
@@ -345,7 +351,7 @@ fn texts_of_usage(rt: HostRuntime) -> Result<(), Fail> {
 
 /// What is told of the words, where they are no line.
 fn told_of(rt: &HostRuntime, words: &[&str]) -> Result<String, Fail> {
-    match line_of(rt, words) {
+    match line_of(rt.alloc(), words) {
         Ok(_) => Err(Fail::from("a line")),
         Err(usage) => Ok(format!(in rt.alloc(); "{usage}")?),
     }

@@ -12,8 +12,12 @@ use Rattle.cap_tools.specs.declared.command.Print.{Print}
 abbrev pub is_range : ℕ → ℕ → Bool
 is_range first last = nat_le 1 first && nat_le first last && nat_lt last (2 ^ 63)
 
+-- how many ranges an edit has at most
+abbrev pub most_ranges : ℕ
+most_ranges = 512
+
 abbrev pub has_proper_ranges : List (ℕ × ℕ) → Bool
-has_proper_ranges ranges = nat_le (length ranges) 512 && list_all (λ range. is_range range.0 range.1) ranges
+has_proper_ranges ranges = nat_le (length ranges) most_ranges && list_all (λ range. is_range range.0 range.1) ranges
 
 -- words and a listing exclude each other
 abbrev pub has_one_filter : {X : Type 0} → List ℕ → Option X → Bool

@@ -9,7 +9,7 @@ use flt_gen::Link;
 use std::alloc::{Allocator, Global};
 
 /// How many ranges an edit has at most.
-const MOST_RANGES: usize = 512;
+pub const MOST_RANGES: usize = 512;
 
 /// A command, over the allocator of its lists.
 #[derive(Drop)]
@@ -64,8 +64,8 @@ impl<A: Allocator> Command<A> {
     }
 }
 
-/// Whether the numbers are those of a range.
-fn is_range(first: u64, last: u64) -> bool
+/// Whether the numbers are those of a range: from 1 on, in order and below 2^63.
+pub fn is_range(first: u64, last: u64) -> bool
     ensures { result ≡ is_range first last }
 {
     1 <= first && first <= last && last < 1 << 63

@@ -14,5 +14,5 @@ pub mod progress;
 pub mod refusal;
 mod work;
 
-pub use command::{Command, Compile, Edit, Print};
+pub use command::{Command, Compile, Edit, MOST_RANGES, Print, is_range};
 pub use job::run;

@@ -13,12 +13,12 @@ returns-in_err-last-clause-none c =
     let none : None ≡ range_of c.args.word.now = search rules in
     none_in c.args.word.now c.from_residual-in_err-last.result none
 
-pub returns-then-last-clause-written : goal.returns-then-last-clause-written
-returns-then-last-clause-written c =
+pub returns-then-is_range-clause-written : goal.returns-then-is_range-clause-written
+returns-then-is_range-clause-written c =
     let read : range_of c.args.word.now ≡ Some (c.in_ok-first.first, c.in_ok-last.last) = search rules in
     read_is_written c.args.word.now _ read
 
-pub returns-else-first-ge1-clause-none : goal.returns-else-first-ge1-clause-none
-returns-else-first-ge1-clause-none c =
+pub returns-else-is_range-clause-none : goal.returns-else-is_range-clause-none
+returns-else-is_range-clause-none c =
     let none : None ≡ range_of c.args.word.now = search rules in
     none_written c.args.word.now none
