@@ -37,6 +37,7 @@ pub(crate) fn compile(
     let link = match link {
         Link::Ether => "ether",
         Link::Raw => "raw",
+        Link::Cooked => "cooked",
     };
     let words = ["capkit", "compile", "--link", link, expression];
     run_words(rt.alloc(), &words, &[], &[], sound(ROOM))

@@ -112,6 +112,27 @@ fn raw_packets(rt: HostRuntime) -> Result<(), Fail> {
     Ok(())
 }
 
+/// A cooked header without its last byte.
+const COOKED_CUT: [u8; 15] = [0, 0, 0, 1, 0, 6, 0, 0x11, 0x22, 0x33, 0x44, 0x55, 0, 0, 8];
+
+/// A cooked header is of 16 bytes, and the last two are the type.
+#[test]
+fn cooked_packets(rt: HostRuntime) -> Result<(), Fail> {
+    let alloc = rt.alloc();
+    let mut packet = [0, 0, 0, 1, 0, 6, 0, 0x11, 0x22, 0x33, 0x44, 0x55, 0, 0].to_vec(alloc)?;
+    packet.extend_from_slice(&SYN[12..])?;
+    let text = capture(
+        alloc,
+        113,
+        &[whole(&packet), whole(&SYN), whole(&COOKED_CUT)],
+    )?;
+    let expected = capture(alloc, 113, &[whole(&packet)])?;
+    let left = print_words(&rt, &text, "tcp[tcpflags] & (tcp-syn|tcp-ack) != 0")?;
+    assert!(rt; left.status == 0);
+    assert!(rt; left.written.as_slice() == expected.as_slice());
+    Ok(())
+}
+
 /// An expression isn't read on another link type; the empty one passes all, and a listing runs on each.
 #[test]
 fn another_link_type(rt: HostRuntime) -> Result<(), Fail> {

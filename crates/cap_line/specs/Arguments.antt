@@ -87,7 +87,7 @@ abbrev pub format_names : List Text
 format_names = codes "pcap" ∷ codes "nsecpcap" ∷ codes "pcapng" ∷ []
 
 abbrev pub link_names : List Text
-link_names = codes "ether" ∷ codes "raw" ∷ []
+link_names = codes "ether" ∷ codes "raw" ∷ codes "cooked" ∷ []
 
 -- the values that an argument may have; a list is the program's, so no definition can name its place in memory
 abbrev pub AreChoices : List Text → ValueParser → Type 0

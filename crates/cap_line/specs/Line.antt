@@ -15,7 +15,7 @@ use Rattle.cap_tools.specs.declared.command.Edit.{Edit}
 use Rattle.cap_tools.specs.declared.command.Print.{Print}
 use Rattle.clap.specs.Words.{Row, Text, all_of, first_of, one_of}
 use Rattle.flt_gen.specs.declared.link.Link.{Link}
-use Rattle.flt_gen.specs.declared.link.Link.TheVariants.{Ether, Raw}
+use Rattle.flt_gen.specs.declared.link.Link.TheVariants.{Ether, Raw, Cooked}
 use Rattle.cap_line.specs.Arguments.{Refuses, Takes, name_of}
 use Rattle.cap_line.specs.Names.{uses_name_twice}
 use Rattle.cap_line.specs.Range.{range_of}
@@ -46,7 +46,9 @@ abbrev pub format_in : Text → List Row → Format
 format_in id matches = option_map_or format_named (first_of id matches) Pcapng
 
 abbrev pub link_named : Text → Link
-link_named text = if bytes_eq text (codes "raw") then Raw else Ether
+link_named text =
+    if bytes_eq text (codes "raw") then Raw
+    else (if bytes_eq text (codes "cooked") then Cooked else Ether)
 
 -- Ethernet where no link is named
 abbrev pub link_in : Text → List Row → Link

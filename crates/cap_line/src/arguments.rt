@@ -12,7 +12,7 @@ use std::alloc::{AllocError, Global};
 static FORMATS: [&str; 3] = ["pcap", "nsecpcap", "pcapng"];
 
 /// The names of the links that an expression can be compiled for.
-static LINKS: [&str; 2] = ["ether", "raw"];
+static LINKS: [&str; 3] = ["ether", "raw", "cooked"];
 
 /// What a line asks for.
 #[derive(Clone, Copy, Debug, PartialEq, Eq)]

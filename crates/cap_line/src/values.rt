@@ -54,6 +54,7 @@ pub fn link(matches: &ArgMatches<'_>, id: &str) -> Link
 {
     match text_if(matches, id) {
         Some("raw") => Link::Raw,
+        Some("cooked") => Link::Cooked,
         _ => Link::Ether,
     }
 }

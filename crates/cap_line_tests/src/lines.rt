@@ -327,6 +327,8 @@ fn compilations(rt: HostRuntime) -> Result<(), Fail> {
     let raw = ["capkit", "compile", "--link", "raw", "ip", "or", "ip6"];
     let compile = compile_of(&rt, &raw)?;
     assert!(rt; compile.expr.as_str() == "ip or ip6" && compile.link == Link::Raw);
+    let compile = compile_of(&rt, &["capkit", "compile", "--link", "cooked"])?;
+    assert!(rt; compile.expr.is_empty() && compile.link == Link::Cooked);
     let compile = compile_of(&rt, &["capkit", "compile"])?;
     assert!(rt; compile.expr.is_empty() && compile.link == Link::Ether);
     assert!(rt; has_names(&rt, &raw, (None, None, None))?);

@@ -10,7 +10,7 @@ use Rattle.flt_lang.specs.declared.node.Node.{Node}
 use Rattle.flt_lang.specs.contracts.node.Node as stored
 use Rattle.flt_lang.specs.Nodes.{expr_nodes, tree_of, tree_back}
 use Rattle.flt_gen.specs.declared.link.Link.{Link}
-use Rattle.flt_gen.specs.declared.link.Link.TheVariants.{Ether, Raw}
+use Rattle.flt_gen.specs.declared.link.Link.TheVariants.{Ether, Raw, Cooked}
 use Rattle.flt_gen.specs.Correct.{IsProgramOf}
 
 -- an expression, and the program for each link where it was made
@@ -18,6 +18,7 @@ pub record CompiledView : Type 0 where
   pub tree : Expression
   pub ether : Option Content
   pub raw : Option Content
+  pub cooked : Option Content
 
 -- an expression is stored as its nodes
 abbrev pub expression_code : Coded Expression
@@ -34,10 +35,11 @@ IsMade None e link = Unit {0}
 IsMade (Some program) e link = IsProgramOf program.insns e link
 
 -- the expression isn't empty, and its programs are programs for it
-pub record IsSound (e : Expression) (ether raw : Option Content) : Type 0 where
+pub record IsSound (e : Expression) (ether raw cooked : Option Content) : Type 0 where
   pub some : IsTruth e
   pub on_ether : IsMade ether e Ether
   pub on_raw : IsMade raw e Raw
+  pub on_cooked : IsMade cooked e Cooked
 
 -- a program for a run: the one that is there, or a new one, that met no instruction yet
 abbrev pub Supplies : Option Content → Content → Type 0

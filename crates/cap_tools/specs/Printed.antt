@@ -11,7 +11,7 @@ use Rattle.flt_bpf.specs.Refusal as listing
 use Rattle.flt_bpf.specs.Valid.{IsValid, BreaksFirst}
 use Rattle.flt_lang.specs.Tree.{Expression, empty, truth}
 use Rattle.flt_gen.specs.declared.link.Link.{Link}
-use Rattle.flt_gen.specs.declared.link.Link.TheVariants.{Ether, Raw}
+use Rattle.flt_gen.specs.declared.link.Link.TheVariants.{Ether, Raw, Cooked}
 use Rattle.flt_gen.specs.Elementary.{Reading, Yes, No, Rejected}
 use Rattle.flt_gen.specs.Reading.{holds}
 use Rattle.cap_tools.specs.declared.command.Print.{Print}
@@ -31,7 +31,7 @@ pub data Rule : Type 0 where
 
 -- the link types whose packets expressions are read on
 abbrev pub link_of : ℕ → Option Link
-link_of n = if n == 1 then Some Ether else (if n == 101 then Some Raw else None)
+link_of n = if n == 1 then Some Ether else (if n == 101 then Some Raw else (if n == 113 then Some Cooked else None))
 
 -- a packet passes where an expression reads yes; one that is rejected doesn't
 abbrev pub passing : Reading → Decision

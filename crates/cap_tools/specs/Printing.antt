@@ -7,7 +7,7 @@ use Rattle.cap_io.specs.Source.{SourceView}
 use Rattle.flt_bpf.specs.Content.{Content}
 use Rattle.flt_lang.specs.Tree.{empty, truth}
 use Rattle.flt_gen.specs.declared.link.Link.{Link}
-use Rattle.flt_gen.specs.declared.link.Link.TheVariants.{Ether, Raw}
+use Rattle.flt_gen.specs.declared.link.Link.TheVariants.{Ether, Raw, Cooked}
 use Rattle.cap_tools.specs.declared.filter.Filter.{Filter}
 use Rattle.cap_tools.specs.declared.filter.Filter.TheVariants as filter
 use Rattle.cap_tools.specs.declared.progress.Progress.{Progress}
@@ -28,26 +28,28 @@ rule_of (filter.Listing program) = by_answer program.insns
 pub record Programs : Type 0 where
   pub ether : Option Content
   pub raw : Option Content
+  pub cooked : Option Content
   pub listing : Option Content
 
 abbrev pub compiled_programs : CompiledView → Programs
-compiled_programs compiled = record { ether = compiled.ether; raw = compiled.raw; listing = None }
+compiled_programs compiled = record { ether = compiled.ether; raw = compiled.raw; cooked = compiled.cooked; listing = None }
 
 abbrev pub programs_of : {Z : Type 0} → Filter Z → Programs
-programs_of filter.All = record { ether = None; raw = None; listing = None }
+programs_of filter.All = record { ether = None; raw = None; cooked = None; listing = None }
 programs_of (filter.Expression compiled) = compiled_programs compiled
-programs_of (filter.Listing program) = record { ether = None; raw = None; listing = Some program }
+programs_of (filter.Listing program) = record { ether = None; raw = None; cooked = None; listing = Some program }
 
 -- what deciding a packet costs: one run of the program of its link, or of the listing's; the empty expression costs none
 abbrev pub SpendsOn : Option Link → Captured → Programs → Programs → Type 0
 SpendsOn None p old new = new ≡ old
-SpendsOn (Some Ether) p old new = RunsOnce p old.ether new.ether × (new.raw ≡ old.raw) × (new.listing ≡ old.listing)
-SpendsOn (Some Raw) p old new = RunsOnce p old.raw new.raw × (new.ether ≡ old.ether) × (new.listing ≡ old.listing)
+SpendsOn (Some Ether) p old new = RunsOnce p old.ether new.ether × (new.raw ≡ old.raw) × (new.cooked ≡ old.cooked) × (new.listing ≡ old.listing)
+SpendsOn (Some Raw) p old new = RunsOnce p old.raw new.raw × (new.ether ≡ old.ether) × (new.cooked ≡ old.cooked) × (new.listing ≡ old.listing)
+SpendsOn (Some Cooked) p old new = RunsOnce p old.cooked new.cooked × (new.ether ≡ old.ether) × (new.raw ≡ old.raw) × (new.listing ≡ old.listing)
 
 abbrev pub Spends : Rule → Captured → Programs → Programs → Type 0
 Spends (by_reading empty) p old new = new ≡ old
 Spends (by_reading (truth a)) p old new = SpendsOn (link_of p.link) p old new
-Spends (by_answer prog) p old new = RunsOnce p old.listing new.listing × (new.ether ≡ old.ether) × (new.raw ≡ old.raw)
+Spends (by_answer prog) p old new = RunsOnce p old.listing new.listing × (new.ether ≡ old.ether) × (new.raw ≡ old.raw) × (new.cooked ≡ old.cooked)
 
 -- a packet that isn't decided costs nothing
 abbrev pub SpendsIf : Rule → Captured → Result Bool Fault → Programs → Programs → Type 0

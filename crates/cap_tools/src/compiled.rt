@@ -22,6 +22,7 @@ pub(crate) struct Compiled<A: Allocator> {
     pub(crate) tree: Checked<A>,
     pub(crate) ether: Option<Program<A>>,
     pub(crate) raw: Option<Program<A>>,
+    pub(crate) cooked: Option<Program<A>>,
 }
 
 impl<A: Allocator> Model for Compiled<A> {
@@ -32,22 +33,23 @@ impl<A: Allocator> Model for Compiled<A> {
 
     ghost coded = { Prim.hlevel (codes, expression_code) };
 
-    ghost view = { λ c. record { tree = c.tree.expr; ether = c.ether; raw = c.raw } };
+    ghost view = { λ c. record { tree = c.tree.expr; ether = c.ether; raw = c.raw; cooked = c.cooked } };
 
-    ghost invariant = { λ c. IsSound c.tree.expr c.ether c.raw };
+    ghost invariant = { λ c. IsSound c.tree.expr c.ether c.raw c.cooked };
 }
 
 impl<A: Allocator> Compiled<A> {
     /// No program is made yet.
     pub(crate) fn new(alloc: A, tree: Checked<A>) -> Self
         requires { IsTruth tree.expr }
-        ensures { result ≡ record { tree = tree.expr; ether = None; raw = None } }
+        ensures { result ≡ record { tree = tree.expr; ether = None; raw = None; cooked = None } }
     {
         Compiled {
             alloc,
             tree,
             ether: None,
             raw: None,
+            cooked: None,
         }
     }
 }

@@ -30,6 +30,7 @@ fn link_of(number: u16) -> Option<Link>
     match number {
         1 => Some(Link::Ether),
         101 => Some(Link::Raw),
+        113 => Some(Link::Cooked),
         _ => None,
     }
 }
@@ -41,8 +42,8 @@ impl<A: Allocator> Compiled<A> {
     ghost use Rattle.cap_tools.specs.Printed.{by_reading, expression_decides};
     ghost use Rattle.cap_tools.specs.Printing.{SpendsIf, compiled_programs};
 
-    /// Whether a packet passes. `LinkTypeNotFiltered` comes for one of another link than Ethernet and raw IP, else
-    /// `NoMemory` where a program could not be made.
+    /// Whether a packet passes. `LinkTypeNotFiltered` comes for one of another link than Ethernet, raw IP and
+    /// Linux cooked capture, else `NoMemory` where a program could not be made.
     fn passes(&mut self, packet: &Packet<'_>) -> Result<bool, Fault>
     where
         A: Copy + Drop,
@@ -55,6 +56,15 @@ impl<A: Allocator> Compiled<A> {
                 run_on(self.alloc, &self.tree, Link::Ether, &mut self.ether, packet)
             }
             Some(Link::Raw) => run_on(self.alloc, &self.tree, Link::Raw, &mut self.raw, packet),
+            Some(Link::Cooked) => {
+                run_on(
+                    self.alloc,
+                    &self.tree,
+                    Link::Cooked,
+                    &mut self.cooked,
+                    packet,
+                )
+            }
             None => Err(Fault::LinkTypeNotFiltered),
         }
     }

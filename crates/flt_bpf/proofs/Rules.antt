@@ -9,7 +9,7 @@ use Rattle.flt_bpf.specs.declared.operation.Operation.{Operation}
 use Rattle.flt_bpf.specs.declared.operation.Operation.TheVariants.{Load, Store, Compute, Jump, JumpIf}
 use Rattle.flt_bpf.specs.declared.operation.Source.TheVariants.{Memory}
 use Rattle.flt_bpf.specs.declared.operation.Operator.{Operator}
-use Rattle.flt_bpf.specs.declared.operation.Operator.TheVariants.{Divide, ShiftLeft, ShiftRight}
+use Rattle.flt_bpf.specs.declared.operation.Operator.TheVariants.{Divide, Remainder, ShiftLeft, ShiftRight}
 use Rattle.flt_bpf.specs.declared.operation.Operand.TheVariants.{Constant, IndexRegister}
 use Rattle.flt_bpf.specs.Instructions.{operation_of}
 use Rattle.flt_bpf.specs.Check.{unless, constant_fault, fault_if_known, fault_of}
@@ -40,6 +40,11 @@ constant_breaks Divide i at len f e =
     let h = t.0 in
     let out : i.k ≡ 0 = grind (arith, nat_tests) in
     subst (λ g. OperationBreaks g (Some (Compute Divide Constant)) i at len) t.1 (tt, out)
+constant_breaks Remainder i at len f e =
+    let t = zero_failed (i.k == 0) f e in
+    let h = t.0 in
+    let out : i.k ≡ 0 = grind (arith, nat_tests) in
+    subst (λ g. OperationBreaks g (Some (Compute Remainder Constant)) i at len) t.1 (tt, out)
 constant_breaks ShiftLeft i at len f e =
     let t = unless_failed (nat_lt i.k 32) ShiftTooFar f e in
     let h = t.failed in
@@ -119,6 +124,8 @@ breaks_found_if NoSuchWord (Some (Store register)) i at len l h =
     let above = h.1 in unless_found (nat_lt i.k WORDS) NoSuchWord (grind (arith, nat_tests))
 breaks_found_if NoSuchWord _ i at len l h = absurd h.0
 breaks_found_if DivisionByZero (Some (Compute Divide Constant)) i at len l h =
+    let zero = h.1 in let t : (i.k == 0) ≡ true = grind (arith, nat_tests) in ap (λ b. if b then Some DivisionByZero else None) t
+breaks_found_if DivisionByZero (Some (Compute Remainder Constant)) i at len l h =
     let zero = h.1 in let t : (i.k == 0) ≡ true = grind (arith, nat_tests) in ap (λ b. if b then Some DivisionByZero else None) t
 breaks_found_if DivisionByZero _ i at len l h = absurd h.0
 breaks_found_if ShiftTooFar (Some (Compute ShiftLeft Constant)) i at len l h =

@@ -42,6 +42,8 @@ pub enum Operator {
     And,
     ShiftLeft,
     ShiftRight,
+    Remainder,
+    ExclusiveOr,
 }
 
 /// What a conditional jump asks of A and an operand.
@@ -140,6 +142,10 @@ pub fn decode(code: u16) -> Option<Operation>
         92 => Compute(And, IndexRegister),
         108 => Compute(ShiftLeft, IndexRegister),
         124 => Compute(ShiftRight, IndexRegister),
+        148 => Compute(Remainder, Constant),
+        156 => Compute(Remainder, IndexRegister),
+        164 => Compute(ExclusiveOr, Constant),
+        172 => Compute(ExclusiveOr, IndexRegister),
         132 => Negate,
         5 => Jump,
         21 => JumpIf(Equal, Constant),

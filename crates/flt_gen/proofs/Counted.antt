@@ -14,10 +14,11 @@ use Rattle.flt_lang.specs.declared.quals.Direction.{Direction}
 use Rattle.flt_lang.specs.declared.quals.Direction.TheVariants as direction
 use Rattle.flt_lang.specs.declared.value.Value.{Value}
 use Rattle.flt_lang.specs.declared.value.Value.TheVariants as value
-use Rattle.flt_lang.specs.Tree.{NumberTree, literal, len, load, negated, applied, TruthTree, check, cast, sized, bare, valued, qualified, compared, denied, joined}
+use Rattle.flt_lang.specs.Tree.{NumberTree, literal, len, named, load, negated, applied, TruthTree, check, cast, sized, bare, valued, qualified, compared, denied, joined}
 use Rattle.flt_lang.specs.Counts as count
 use Rattle.flt_lang.specs.Resolved.{is_unfilled, any_primitive}
 use Rattle.flt_gen.specs.declared.link.Link.{Link}
+use Rattle.flt_gen.specs.declared.link.Link.TheVariants.{Ether, Raw, Cooked}
 use Rattle.flt_gen.specs.declared.elementary.Kind.{Kind}
 use Rattle.flt_gen.specs.declared.elementary.Kind.TheVariants as kind
 use Rattle.flt_gen.specs.declared.elementary.Place.{Place}
@@ -25,9 +26,9 @@ use Rattle.flt_gen.specs.declared.elementary.Elementary.{Elementary}
 use Rattle.flt_gen.specs.declared.elementary.Ports.{Ports}
 use Rattle.flt_gen.specs.declared.elementary.Ports.TheVariants.{One, Between}
 use Rattle.flt_gen.specs.declared.elementary.Place.TheVariants.{At, Past}
-use Rattle.flt_gen.specs.Elementary.{network, has_ip_proto, has_ip6_proto}
+use Rattle.flt_gen.specs.Elementary.{network, has_ip_proto, has_ip6_proto, first_fragment}
 use Rattle.flt_gen.specs.Numbers.{accessors, accessor_tests}
-use Rattle.flt_gen.specs.Formula.{Formula, Single, Compare, Both, Either, all_of, sides, checked, guarded}
+use Rattle.flt_gen.specs.Formula.{Formula, Single, Compare, Both, Either, Guard, Fork, all_of, sides, checked, guarded}
 use Rattle.flt_gen.specs.Primitives.{ip_proto, ip6_proto, any_proto, mac_tests, check_formula, cast_formula, proto_formula, net_of_kind, net_formula, ip6_formula, ether_host, port_formula, port_tests, transport, value_formula}
 use Rattle.flt_gen.specs.Reading.{formula}
 use Rattle.flt_gen.specs.Counts.{tests, nodes, words}
@@ -57,7 +58,9 @@ proto_tests_fit : (link : Link) (p : Option Protocol) (n : ℕ) → tests (proto
 proto_tests_fit link None n = omega arith
 proto_tests_fit link (Some protocol.Ip) n = omega arith
 proto_tests_fit link (Some protocol.Ip6) n = omega arith
-proto_tests_fit link (Some protocol.Ether) n = omega arith
+proto_tests_fit Ether (Some protocol.Ether) n = omega arith
+proto_tests_fit Raw (Some protocol.Ether) n = omega arith
+proto_tests_fit Cooked (Some protocol.Ether) n = omega arith
 proto_tests_fit link (Some _) n = omega arith
 
 ether_tests_are : (link : Link) (d : Direction) (a : ℕ) → tests (ether_host link d a) ≡ count.ether_tests d
@@ -101,11 +104,17 @@ net_tests_fit link (Some protocol.Arp) d mask a = kind_tests_fit link kind.Arp d
 net_tests_fit link (Some protocol.Rarp) d mask a = kind_tests_fit link kind.Rarp d mask a
 net_tests_fit link (Some _) d mask a = omega arith
 
-transport_tests_fit : (p : Option Protocol) (s t : Elementary) → tests (transport p s t) ≤ count.transport_tests p
-transport_tests_fit None s t = omega arith
-transport_tests_fit (Some protocol.Tcp) s t = omega arith
-transport_tests_fit (Some protocol.Udp) s t = omega arith
-transport_tests_fit (Some _) s t = omega arith
+transport_tests_fit : (p : Option Protocol) (s t : Elementary) (f : Formula) → tests (transport p s t f) ≤ count.transport_tests p + tests f
+transport_tests_fit None s t f = omega arith
+transport_tests_fit (Some protocol.Tcp) s t f = omega arith
+transport_tests_fit (Some protocol.Udp) s t f = omega arith
+transport_tests_fit (Some protocol.Ether) s t f = omega arith
+transport_tests_fit (Some protocol.Ip) s t f = omega arith
+transport_tests_fit (Some protocol.Ip6) s t f = omega arith
+transport_tests_fit (Some protocol.Arp) s t f = omega arith
+transport_tests_fit (Some protocol.Rarp) s t f = omega arith
+transport_tests_fit (Some protocol.Icmp) s t f = omega arith
+transport_tests_fit (Some protocol.Icmp6) s t f = omega arith
 
 -- how many tests a side has
 abbrev a_side : Ports → ℕ
@@ -127,8 +136,10 @@ port_tests_fit link p d ports =
     let l = network link in
     let a = sides_tests d ports (Past l l) (Past l (l + 2)) in
     let b = sides_tests d ports (At (l + 40)) (At (l + 42)) in
-    let t = transport_tests_fit p (has_ip_proto link 6) (has_ip_proto link 17) in
-    let u = transport_tests_fit p (has_ip6_proto link 6) (has_ip6_proto link 17) in
+    let f = sides d (port_tests ports (Past l l)) (port_tests ports (Past l (l + 2))) in
+    let g = sides d (port_tests ports (At (l + 40))) (port_tests ports (At (l + 42))) in
+    let t = transport_tests_fit p (has_ip_proto link 6) (has_ip_proto link 17) (Guard (first_fragment link) f) in
+    let u = transport_tests_fit p (has_ip6_proto link 6) (has_ip6_proto link 17) g in
     omega arith
 
 some_ip4 : (p : Option Protocol) (d : Direction) → 1 ≤ count.ip4_tests p d
@@ -170,6 +181,7 @@ accessor_tests_are link protocol.Icmp6 f = refl
 
 checked_tests : (link : Link) (a : NumberTree) (rest : List Protocol) (f : Formula) → tests (checked link (accessors a rest) f) ≡ count.number_tests a + tests (checked link rest f)
 checked_tests link (literal n) rest f = omega arith
+checked_tests link (named n) rest f = omega arith
 checked_tests link len rest f = omega arith
 checked_tests link (load p s a) rest f =
     let h = checked_tests link a rest f in
@@ -240,8 +252,11 @@ bare_sides (direction.Both And) s t = bare_both (all_of s) (all_of t) (bare_all 
 bare_pair : (t u : Elementary) → Bare (Both (Single t) (Single u))
 bare_pair t u = bare_both (Single t) (Single u) (bare_one t) (bare_one u)
 
+bare_guard : (t : Elementary) (a : Formula) → Bare a → Bare (Guard t a)
+bare_guard t a h = record { no_nodes = h.no_nodes; no_words = h.no_words }
+
 bare_proto : (link : Link) (n : ℕ) → Bare (any_proto link n)
-bare_proto link n = bare_either (ip_proto link n) (ip6_proto link n) (bare_pair _ _) (bare_pair _ _)
+bare_proto link n = bare_either (ip_proto link n) (ip6_proto link n) (bare_guard _ _ (bare_one _)) (bare_guard _ _ (bare_one _))
 
 bare_check : (link : Link) (p : Protocol) → Bare (check_formula link p)
 bare_check link protocol.Ether = bare_one _
@@ -251,8 +266,8 @@ bare_check link protocol.Arp = bare_one _
 bare_check link protocol.Rarp = bare_one _
 bare_check link protocol.Tcp = bare_proto link 6
 bare_check link protocol.Udp = bare_proto link 17
-bare_check link protocol.Icmp = bare_pair _ _
-bare_check link protocol.Icmp6 = bare_pair _ _
+bare_check link protocol.Icmp = bare_guard _ _ (bare_one _)
+bare_check link protocol.Icmp6 = bare_guard _ _ (bare_one _)
 
 bare_ether : (link : Link) (d : Direction) (a : ℕ) → Bare (ether_host link d a)
 bare_ether link d a = bare_both _ _ (bare_one _) (bare_sides d (mac_tests 6 a) (mac_tests 0 a))
@@ -269,13 +284,15 @@ bare_cast link (Some _) Multicast = bare_one _
 
 bare_proto_value : (link : Link) (p : Option Protocol) (n : ℕ) → Bare (proto_formula link p n)
 bare_proto_value link None n = bare_proto link n
-bare_proto_value link (Some protocol.Ip) n = bare_pair _ _
-bare_proto_value link (Some protocol.Ip6) n = bare_pair _ _
-bare_proto_value link (Some protocol.Ether) n = bare_pair _ _
+bare_proto_value link (Some protocol.Ip) n = bare_guard _ _ (bare_one _)
+bare_proto_value link (Some protocol.Ip6) n = bare_guard _ _ (bare_one _)
+bare_proto_value Ether (Some protocol.Ether) n = bare_pair _ _
+bare_proto_value Raw (Some protocol.Ether) n = bare_pair _ _
+bare_proto_value Cooked (Some protocol.Ether) n = bare_one _
 bare_proto_value link (Some _) n = bare_one _
 
 bare_kind : (link : Link) (k : Kind) (d : Direction) (mask : Option ℕ) (a : ℕ) → Bare (net_of_kind link k d mask a)
-bare_kind link k d mask a = bare_both _ _ (bare_one _) (bare_sides d _ _)
+bare_kind link k d mask a = bare_guard _ _ (bare_sides d _ _)
 
 bare_net : (link : Link) (p : Option Protocol) (d : Direction) (mask : Option ℕ) (a : ℕ) → Bare (net_formula link p d mask a)
 bare_net link None d mask a =
@@ -286,19 +303,19 @@ bare_net link (Some protocol.Rarp) d mask a = bare_kind link kind.Rarp d mask a
 bare_net link (Some _) d mask a = bare_one _
 
 bare_ip6 : (link : Link) (d : Direction) (prefix : Option ℕ) (a : ℕ) → Bare (ip6_formula link d prefix a)
-bare_ip6 link d prefix a = bare_both _ _ (bare_one _) (bare_sides d _ _)
+bare_ip6 link d prefix a = bare_guard _ _ (bare_sides d _ _)
 
-bare_transport : (p : Option Protocol) (s t : Elementary) → Bare (transport p s t)
-bare_transport None s t = bare_either _ _ (bare_one s) (bare_one t)
-bare_transport (Some protocol.Tcp) s t = bare_one s
-bare_transport (Some protocol.Udp) s t = bare_one t
-bare_transport (Some _) s t = bare_one _
+bare_transport : (p : Option Protocol) (s t : Elementary) (f : Formula) → Bare f → Bare (transport p s t f)
+bare_transport None s t f h = record { no_nodes = h.no_nodes; no_words = h.no_words }
+bare_transport (Some protocol.Tcp) s t f h = bare_guard s f h
+bare_transport (Some protocol.Udp) s t f h = bare_guard t f h
+bare_transport (Some _) s t f h = bare_one _
 
 bare_ports : (link : Link) (p : Option Protocol) (d : Direction) (ports : Ports) → Bare (port_formula link p d ports)
 bare_ports link p d ports =
     bare_either _ _
-    (bare_both _ _ (bare_one _) (bare_both _ _ (bare_transport p _ _) (bare_both _ _ (bare_one _) (bare_sides d _ _))))
-    (bare_both _ _ (bare_one _) (bare_both _ _ (bare_transport p _ _) (bare_sides d _ _)))
+    (bare_guard _ _ (bare_transport p _ _ _ (bare_guard _ _ (bare_sides d _ _))))
+    (bare_guard _ _ (bare_transport p _ _ _ (bare_sides d _ _)))
 
 bare_value : (link : Link) (k : ValueType) (p : Option Protocol) (d : Direction) (v : Value) → Bare (value_formula link k p d v)
 bare_value link Host p d (value.Dotted a m) = bare_net link p d None a.address

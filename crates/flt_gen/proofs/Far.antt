@@ -12,10 +12,10 @@ use Rattle.flt_bpf.specs.declared.operation.Operand.TheVariants.{Constant, Index
 use Rattle.flt_words.specs.declared.token.Comparison.{Comparison}
 use Rattle.flt_words.specs.declared.token.Comparison.TheVariants.{Equal, NotEqual, Less, AtMost, Greater, AtLeast}
 use Rattle.flt_words.specs.declared.token.Operator.{Operator}
-use Rattle.flt_words.specs.declared.token.Operator.TheVariants.{Or, And, ShiftLeft, ShiftRight, Add, Subtract, Multiply, Divide}
+use Rattle.flt_words.specs.declared.token.Operator.TheVariants.{Or, And, ShiftLeft, ShiftRight, Add, Subtract, Multiply, Divide, Remainder, ExclusiveOr}
 use Rattle.flt_words.specs.declared.token.Protocol.{Protocol}
 use Rattle.flt_words.specs.declared.token.Protocol.TheVariants.{Ether, Tcp, Udp, Icmp}
-use Rattle.flt_lang.specs.Tree.{NumberTree, literal, len, load, negated, applied}
+use Rattle.flt_lang.specs.Tree.{NumberTree, literal, len, named, load, negated, applied}
 use Rattle.flt_gen.specs.declared.link.Link.{Link}
 use Rattle.flt_gen.specs.declared.elementary.Place.{Place}
 use Rattle.flt_gen.specs.declared.elementary.Place.TheVariants.{At, Past}
@@ -23,8 +23,10 @@ use Rattle.flt_gen.specs.declared.elementary.Elementary.TheVariants.{Known, Fiel
 use Rattle.flt_bpf.specs.Instructions.{operation_of}
 use Rattle.flt_gen.specs.Elementary.{network}
 use Rattle.flt_gen.specs.Numbers.{width_of}
-use Rattle.flt_gen.specs.Formula.{Formula, Single, Compare, Both, Either, Except}
-use Rattle.flt_gen.specs.Code.{plain, load_code, indirect_code, operator_code, test_code, branch_insn, jump_before, branch_before, comparison_before, field_before, mask_before, base_before, transport_before, accessor_before, number_before, Entered, at_top, emitted, NEAR}
+use Rattle.flt_gen.specs.Formula.{Formula, Single, Compare, Both, Either, Except, Guard, Fork}
+use Rattle.flt_gen.specs.Code.{plain, indirect_code, operator_code, test_code, branch_insn, jump_before, branch_before, comparison_before, field_before, mask_before, base_before, transport_before, accessor_before, number_before, Entered, at_top, elementary_before, fork_before, and_fork, emitted, NEAR}
+use Rattle.flt_gen.specs.Follow.{load_code, Knowledge, fact, and_fact}
+use Rattle.flt_gen.specs.declared.elementary.Elementary.{Elementary}
 use Rattle.flt_gen.specs.Layout.{is_branch, JUMP, IsNeeded, JumpsAreNeeded}
 use Rattle.flt_gen.proofs.Tails.{tail, Extends, extends_none, extends_on, test_extends, relation_extends}
 
@@ -47,6 +49,8 @@ operator_no_jump Or = λ e. absurd (omega arith)
 operator_no_jump And = λ e. absurd (omega arith)
 operator_no_jump ShiftLeft = λ e. absurd (omega arith)
 operator_no_jump ShiftRight = λ e. absurd (omega arith)
+operator_no_jump Remainder = λ e. absurd (omega arith)
+operator_no_jump ExclusiveOr = λ e. absurd (omega arith)
 
 pub branch_no_jump : (t : Test) (o : Operand) → test_code t o ≢ JUMP
 branch_no_jump test.Equal Constant = λ e. absurd (omega arith)
@@ -171,6 +175,7 @@ accessor_needed link _ w c h = base_needed (network link) w c h
 
 number_needed : (link : Link) (e : NumberTree) (slot : ℕ) (c : List Insn) → JumpsAreNeeded c → JumpsAreNeeded (number_before link e slot c)
 number_needed link (literal k) slot c h = needed_put c _ (λ e. absurd (omega arith)) h
+number_needed link (named k) slot c h = needed_put c _ (λ e. absurd (omega arith)) h
 number_needed link len slot c h = needed_put c _ (λ e. absurd (omega arith)) h
 number_needed link (negated a) slot c h = number_needed link a slot _ (needed_put c _ (λ e. absurd (omega arith)) h)
 number_needed link (load protocol size i) slot c h = number_needed link i slot _ (accessor_needed link protocol (width_of size) c h)
@@ -195,31 +200,54 @@ pub record Placed (e : Entered) (c : List Insn) : Type 0 where
   pub inside : e.entry ≤ length e.code
   pub extends : Extends c e.code
 
-pub emitted_needed : (link : Link) (f : Formula) (hit miss : ℕ) (c : List Insn) → hit ≤ length c → miss ≤ length c → JumpsAreNeeded c → JumpsAreNeeded (tail c hit) → JumpsAreNeeded (tail c miss) → Placed (emitted link f hit miss c) c
-emitted_needed link (Single (Known true)) hit miss c lh lm n h m = record { needed = record { code = n; entered = h }; inside = lh; extends = extends_none c }
-emitted_needed link (Single (Known false)) hit miss c lh lm n h m = record { needed = record { code = n; entered = m }; inside = lm; extends = extends_none c }
-emitted_needed link (Single (Field k)) hit miss c lh lm n h m =
+elementary_needed : (known : Knowledge) (t : Elementary) (hit miss : ℕ) (c : List Insn) → hit ≤ length c → miss ≤ length c → JumpsAreNeeded c → JumpsAreNeeded (tail c hit) → JumpsAreNeeded (tail c miss) → Placed (elementary_before known t hit miss c) c
+elementary_needed known (Known true) hit miss c lh lm n h m = record { needed = record { code = n; entered = h }; inside = lh; extends = extends_none c }
+elementary_needed known (Known false) hit miss c lh lm n h m = record { needed = record { code = n; entered = m }; inside = lm; extends = extends_none c }
+elementary_needed known (Field k) hit miss c lh lm n h m =
     record {
-      needed = needed_top _ (field_needed k.place k.width _ (mask_needed k.mask _ (comparison_needed k.comparison Constant k.value hit miss c n)));
+      needed = needed_top _ (field_needed k.place k.width _ (mask_needed k.mask _ (comparison_needed k.comparison Constant k.value _ _ c n)));
       inside = omega arith;
-      extends = test_extends k hit miss c;
+      extends = test_extends k _ _ c;
     }
-emitted_needed link (Compare comparison l r) hit miss c lh lm n h m =
+
+fork_needed : (known : Knowledge) (t u : Elementary) (hit miss : ℕ) (c : List Insn) → hit ≤ length c → miss ≤ length c → JumpsAreNeeded c → JumpsAreNeeded (tail c hit) → JumpsAreNeeded (tail c miss) → Placed (fork_before known t u hit miss c) c
+fork_needed known t u hit miss c lh lm n h m =
+    let e = elementary_before (and_fact (fact t false) known) u hit miss c in
+    let pb = elementary_needed (and_fact (fact t false) known) u hit miss c lh lm n h m in
+    let lh' : hit ≤ length e.code = omega (arith, pb.extends.longer) in
+    let pa = elementary_needed known t hit e.entry e.code lh' pb.inside pb.needed.code (needed_on c e.code hit lh pb.extends h) pb.needed.entered in
+    record { needed = pa.needed; inside = pa.inside; extends = extends_on c e.code _ pb.extends pa.extends }
+
+pub emitted_needed : (link : Link) (known : Knowledge) (f : Formula) (hit miss : ℕ) (c : List Insn) → hit ≤ length c → miss ≤ length c → JumpsAreNeeded c → JumpsAreNeeded (tail c hit) → JumpsAreNeeded (tail c miss) → Placed (emitted link known f hit miss c) c
+emitted_needed link known (Single t) hit miss c lh lm n h m = elementary_needed known t hit miss c lh lm n h m
+emitted_needed link known (Compare comparison l r) hit miss c lh lm n h m =
     record {
       needed = needed_top _ (number_needed link l 0 _ (needed_put _ _ (λ e. absurd (omega arith)) (number_needed link r 1 _ (needed_put _ _ (λ e. absurd (omega arith)) (needed_put _ _ (λ e. absurd (omega arith)) (comparison_needed comparison IndexRegister 0 hit miss c n))))));
       inside = omega arith;
       extends = relation_extends link comparison l r hit miss c;
     }
-emitted_needed link (Both a b) hit miss c lh lm n h m =
-    let e = emitted link b hit miss c in
-    let pb = emitted_needed link b hit miss c lh lm n h m in
+emitted_needed link known (Both a b) hit miss c lh lm n h m =
+    let e = emitted link known b hit miss c in
+    let pb = emitted_needed link known b hit miss c lh lm n h m in
     let lm' : miss ≤ length e.code = omega (arith, pb.extends.longer) in
-    let pa = emitted_needed link a e.entry miss e.code pb.inside lm' pb.needed.code pb.needed.entered (needed_on c e.code miss lm pb.extends m) in
+    let pa = emitted_needed link known a e.entry miss e.code pb.inside lm' pb.needed.code pb.needed.entered (needed_on c e.code miss lm pb.extends m) in
     record { needed = pa.needed; inside = pa.inside; extends = extends_on c e.code _ pb.extends pa.extends }
-emitted_needed link (Either a b) hit miss c lh lm n h m =
-    let e = emitted link b hit miss c in
-    let pb = emitted_needed link b hit miss c lh lm n h m in
+emitted_needed link known (Either a b) hit miss c lh lm n h m =
+    let e = emitted link known b hit miss c in
+    let pb = emitted_needed link known b hit miss c lh lm n h m in
     let lh' : hit ≤ length e.code = omega (arith, pb.extends.longer) in
-    let pa = emitted_needed link a hit e.entry e.code lh' pb.inside pb.needed.code (needed_on c e.code hit lh pb.extends h) pb.needed.entered in
+    let pa = emitted_needed link known a hit e.entry e.code lh' pb.inside pb.needed.code (needed_on c e.code hit lh pb.extends h) pb.needed.entered in
     record { needed = pa.needed; inside = pa.inside; extends = extends_on c e.code _ pb.extends pa.extends }
-emitted_needed link (Except a) hit miss c lh lm n h m = emitted_needed link a miss hit c lm lh n m h
+emitted_needed link known (Except a) hit miss c lh lm n h m = emitted_needed link known a miss hit c lm lh n m h
+emitted_needed link known (Guard t a) hit miss c lh lm n h m =
+    let e = emitted link (and_fact (fact t true) known) a hit miss c in
+    let pb = emitted_needed link (and_fact (fact t true) known) a hit miss c lh lm n h m in
+    let lm' : miss ≤ length e.code = omega (arith, pb.extends.longer) in
+    let pa = elementary_needed known t e.entry miss e.code pb.inside lm' pb.needed.code pb.needed.entered (needed_on c e.code miss lm pb.extends m) in
+    record { needed = pa.needed; inside = pa.inside; extends = extends_on c e.code _ pb.extends pa.extends }
+emitted_needed link known (Fork t u a) hit miss c lh lm n h m =
+    let e = emitted link (and_fork t u known) a hit miss c in
+    let pb = emitted_needed link (and_fork t u known) a hit miss c lh lm n h m in
+    let lm' : miss ≤ length e.code = omega (arith, pb.extends.longer) in
+    let pa = fork_needed known t u e.entry miss e.code pb.inside lm' pb.needed.code pb.needed.entered (needed_on c e.code miss lm pb.extends m) in
+    record { needed = pa.needed; inside = pa.inside; extends = extends_on c e.code _ pb.extends pa.extends }

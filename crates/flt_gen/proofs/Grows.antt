@@ -12,10 +12,10 @@ use Rattle.flt_bpf.specs.declared.operation.Operand.TheVariants.{Constant, Index
 use Rattle.flt_words.specs.declared.token.Comparison.{Comparison}
 use Rattle.flt_words.specs.declared.token.Comparison.TheVariants.{Equal, NotEqual, Less, AtMost, Greater, AtLeast}
 use Rattle.flt_words.specs.declared.token.Operator.{Operator}
-use Rattle.flt_words.specs.declared.token.Operator.TheVariants.{Or, And, ShiftLeft, ShiftRight, Add, Subtract, Multiply, Divide}
+use Rattle.flt_words.specs.declared.token.Operator.TheVariants.{Or, And, ShiftLeft, ShiftRight, Add, Subtract, Multiply, Divide, Remainder, ExclusiveOr}
 use Rattle.flt_words.specs.declared.token.Protocol.{Protocol}
 use Rattle.flt_words.specs.declared.token.Protocol.TheVariants.{Ether, Tcp, Udp, Icmp}
-use Rattle.flt_lang.specs.Tree.{NumberTree, literal, len, load, negated, applied}
+use Rattle.flt_lang.specs.Tree.{NumberTree, literal, len, named, load, negated, applied}
 use Rattle.flt_gen.specs.declared.link.Link.{Link}
 use Rattle.flt_gen.specs.declared.elementary.Place.{Place}
 use Rattle.flt_gen.specs.declared.elementary.Place.TheVariants.{At, Past}
@@ -26,10 +26,13 @@ use Rattle.flt_bpf.specs.Instructions.{operation_of}
 use Rattle.flt_bpf.specs.Check.{fault_of, unless, ends_in_return}
 use Rattle.flt_gen.specs.Elementary.{network}
 use Rattle.flt_gen.specs.Numbers.{width_of}
-use Rattle.flt_gen.specs.Formula.{Formula, Single, Compare, Both, Either, Except}
+use Rattle.flt_gen.specs.Formula.{Formula, Single, Compare, Both, Either, Except, Guard, Fork}
 use Rattle.flt_lang.specs.Counts.{number_words, number_size}
 use Rattle.flt_gen.specs.Counts.{words, nodes, tests}
-use Rattle.flt_gen.specs.Code.{plain, load_code, indirect_code, operator_code, branch_insn, jump_before, branch_before, comparison_before, field_before, mask_before, base_before, transport_before, accessor_before, number_before, Entered, at_top, emitted, NEAR}
+use Rattle.flt_gen.specs.Code.{plain, indirect_code, operator_code, branch_insn, jump_before, branch_before, comparison_before, field_before, mask_before, base_before, transport_before, accessor_before, number_before, Entered, at_top, elementary_before, fork_before, and_fork, emitted, NEAR}
+use Rattle.flt_gen.specs.Follow.{load_code, Knowledge, fact, and_fact}
+use Rattle.flt_gen.specs.declared.elementary.Elementary.{Elementary}
+use Rattle.flt_gen.proofs.Onward.{followed_inside}
 use Rattle.flt_bpf.proofs.Suffix.{IsFaultless}
 use Rattle.flt_gen.proofs.Tails.{one_of_four}
 
@@ -116,6 +119,8 @@ operator_fine Or k m = refl
 operator_fine And k m = refl
 operator_fine ShiftLeft k m = refl
 operator_fine ShiftRight k m = refl
+operator_fine Remainder k m = refl
+operator_fine ExclusiveOr k m = refl
 
 ends_put : (i : Insn) (c : List Insn) → ends_in_return c ≡ true → ends_in_return (i ∷ c) ≡ true
 ends_put i [] e = cc
@@ -191,6 +196,7 @@ accessor_grows link _ w c d m g = base_grows (network link) w c d m g
 
 number_grows : (link : Link) (e : NumberTree) (slot : ℕ) (c d : List Insn) (m : ℕ) → slot + number_words e ≤ 16 → Grows c d m → Grows c (number_before link e slot d) (m + 6 * number_size e)
 number_grows link (literal k) slot c d m few g = grows_put c d m _ _ g (literal_fine k (length d)) (omega arith)
+number_grows link (named k) slot c d m few g = grows_put c d m _ _ g (literal_fine k (length d)) (omega arith)
 number_grows link len slot c d m few g = grows_put c d m _ _ g (length_fine 0 (length d)) (omega arith)
 number_grows link (negated a) slot c d m few g =
     grows_more c _ (m + 1 + 6 * number_size a) _ (omega arith) (number_grows link a slot c (plain 132 0 ∷ d) (m + 1) few (grows_put c d m (m + 1) _ g (minus_fine 0 (length d)) (omega arith)))
@@ -213,28 +219,57 @@ pub record Sits (e : Entered) (c : List Insn) (m : ℕ) : Type 0 where
 sits_top : (c d : List Insn) (m m' : ℕ) → m ≤ m' → Grows c d m → Sits (at_top d) c m'
 sits_top c d m m' l g = record { grows = grows_more c d m m' l g; low = ends_some d g.ends; inside = omega arith }
 
-pub emitted_sits : (link : Link) (f : Formula) (hit miss : ℕ) (c : List Insn) → words f ≤ 16 → IsFaultless c → ends_in_return c ≡ true → 0 < hit → hit ≤ length c → 0 < miss → miss ≤ length c → Sits (emitted link f hit miss c) c (6 * (tests f + nodes f))
-emitted_sits link (Single (Known true)) hit miss c few s e ph lh pm lm = record { grows = grows_more c c 0 6 (omega arith) (grows_none c s e); low = ph; inside = lh }
-emitted_sits link (Single (Known false)) hit miss c few s e ph lh pm lm = record { grows = grows_more c c 0 6 (omega arith) (grows_none c s e); low = pm; inside = lm }
-emitted_sits link (Single (Field k)) hit miss c few s e ph lh pm lm =
-    sits_top c _ 6 _ (omega arith) (field_grows k.place k.width c _ 4 (mask_grows k.mask c _ 3 (comparison_grows k.comparison Constant k.value hit miss c s e ph lh pm lm)))
-emitted_sits link (Compare comparison l r) hit miss c few s e ph lh pm lm =
+elementary_sits : (known : Knowledge) (t : Elementary) (hit miss : ℕ) (c : List Insn) → IsFaultless c → ends_in_return c ≡ true → 0 < hit → hit ≤ length c → 0 < miss → miss ≤ length c → Sits (elementary_before known t hit miss c) c 6
+elementary_sits known (Known true) hit miss c s e ph lh pm lm = record { grows = grows_more c c 0 6 (omega arith) (grows_none c s e); low = ph; inside = lh }
+elementary_sits known (Known false) hit miss c s e ph lh pm lm = record { grows = grows_more c c 0 6 (omega arith) (grows_none c s e); low = pm; inside = lm }
+elementary_sits known (Field k) hit miss c s e ph lh pm lm =
+    let h = followed_inside c known (fact (Field k) true) hit ph lh in
+    let m = followed_inside c known (fact (Field k) false) miss pm lm in
+    sits_top c _ 6 _ (omega arith) (field_grows k.place k.width c _ 4 (mask_grows k.mask c _ 3 (comparison_grows k.comparison Constant k.value _ _ c s e h.0 h.1 m.0 m.1)))
+
+-- one part of the code in front of another
+sits_on : (d f : Entered) (c : List Insn) (m m' k : ℕ) → Sits d c m → Sits f d.code m' → m + m' ≤ k → Sits f c k
+sits_on d f c m m' k a b l = record { grows = grows_more c f.code (m + m') k l (grows_on c d.code f.code m m' a.grows b.grows); low = b.low; inside = b.inside }
+
+fork_sits : (known : Knowledge) (t u : Elementary) (hit miss : ℕ) (c : List Insn) → IsFaultless c → ends_in_return c ≡ true → 0 < hit → hit ≤ length c → 0 < miss → miss ≤ length c → Sits (fork_before known t u hit miss c) c 12
+fork_sits known t u hit miss c s e ph lh pm lm =
+    let d = elementary_before (and_fact (fact t false) known) u hit miss c in
+    let sb = elementary_sits (and_fact (fact t false) known) u hit miss c s e ph lh pm lm in
+    let lh' : hit ≤ length d.code = omega (arith, sb.grows.longer) in
+    let sa = elementary_sits known t hit d.entry d.code sb.grows.sound sb.grows.ends ph lh' sb.low sb.inside in
+    sits_on d (elementary_before known t hit d.entry d.code) c 6 6 12 sb sa (omega arith)
+
+pub emitted_sits : (link : Link) (known : Knowledge) (f : Formula) (hit miss : ℕ) (c : List Insn) → words f ≤ 16 → IsFaultless c → ends_in_return c ≡ true → 0 < hit → hit ≤ length c → 0 < miss → miss ≤ length c → Sits (emitted link known f hit miss c) c (6 * (tests f + nodes f))
+emitted_sits link known (Single t) hit miss c few s e ph lh pm lm = elementary_sits known t hit miss c s e ph lh pm lm
+emitted_sits link known (Compare comparison l r) hit miss c few s e ph lh pm lm =
     let g0 = comparison_grows comparison IndexRegister 0 hit miss c s e ph lh pm lm in
     let g1 = grows_put c _ 3 4 (plain 96 0) g0 (word_fine 0 _ (omega arith)) (omega arith) in
     let g2 = grows_put c _ 4 5 (plain 7 0) g1 (to_x_fine 0 _) (omega arith) in
     let g3 = number_grows link r 1 c _ 5 (omega arith) g2 in
     let g4 = grows_put c _ (5 + 6 * number_size r) (6 + 6 * number_size r) (plain 2 0) g3 (store_fine 0 _ (omega arith)) (omega arith) in
     sits_top c _ (6 + 6 * number_size r + 6 * number_size l) _ (omega arith) (number_grows link l 0 c _ (6 + 6 * number_size r) (omega arith) g4)
-emitted_sits link (Both a b) hit miss c few s e ph lh pm lm =
-    let d = emitted link b hit miss c in
-    let sb = emitted_sits link b hit miss c (omega arith) s e ph lh pm lm in
+emitted_sits link known (Both a b) hit miss c few s e ph lh pm lm =
+    let d = emitted link known b hit miss c in
+    let sb = emitted_sits link known b hit miss c (omega arith) s e ph lh pm lm in
     let lm' : miss ≤ length d.code = omega (arith, sb.grows.longer) in
-    let sa = emitted_sits link a d.entry miss d.code (omega arith) sb.grows.sound sb.grows.ends sb.low sb.inside pm lm' in
+    let sa = emitted_sits link known a d.entry miss d.code (omega arith) sb.grows.sound sb.grows.ends sb.low sb.inside pm lm' in
     record { grows = grows_more c _ (6 * (tests b + nodes b) + 6 * (tests a + nodes a)) _ (omega arith) (grows_on c d.code _ _ _ sb.grows sa.grows); low = sa.low; inside = sa.inside }
-emitted_sits link (Either a b) hit miss c few s e ph lh pm lm =
-    let d = emitted link b hit miss c in
-    let sb = emitted_sits link b hit miss c (omega arith) s e ph lh pm lm in
+emitted_sits link known (Either a b) hit miss c few s e ph lh pm lm =
+    let d = emitted link known b hit miss c in
+    let sb = emitted_sits link known b hit miss c (omega arith) s e ph lh pm lm in
     let lh' : hit ≤ length d.code = omega (arith, sb.grows.longer) in
-    let sa = emitted_sits link a hit d.entry d.code (omega arith) sb.grows.sound sb.grows.ends ph lh' sb.low sb.inside in
+    let sa = emitted_sits link known a hit d.entry d.code (omega arith) sb.grows.sound sb.grows.ends ph lh' sb.low sb.inside in
     record { grows = grows_more c _ (6 * (tests b + nodes b) + 6 * (tests a + nodes a)) _ (omega arith) (grows_on c d.code _ _ _ sb.grows sa.grows); low = sa.low; inside = sa.inside }
-emitted_sits link (Except a) hit miss c few s e ph lh pm lm = emitted_sits link a miss hit c few s e pm lm ph lh
+emitted_sits link known (Except a) hit miss c few s e ph lh pm lm = emitted_sits link known a miss hit c few s e pm lm ph lh
+emitted_sits link known (Guard t a) hit miss c few s e ph lh pm lm =
+    let d = emitted link (and_fact (fact t true) known) a hit miss c in
+    let sb = emitted_sits link (and_fact (fact t true) known) a hit miss c few s e ph lh pm lm in
+    let lm' : miss ≤ length d.code = omega (arith, sb.grows.longer) in
+    let sa = elementary_sits known t d.entry miss d.code sb.grows.sound sb.grows.ends sb.low sb.inside pm lm' in
+    sits_on d (elementary_before known t d.entry miss d.code) c (6 * (tests a + nodes a)) 6 _ sb sa (omega arith)
+emitted_sits link known (Fork t u a) hit miss c few s e ph lh pm lm =
+    let d = emitted link (and_fork t u known) a hit miss c in
+    let sb = emitted_sits link (and_fork t u known) a hit miss c few s e ph lh pm lm in
+    let lm' : miss ≤ length d.code = omega (arith, sb.grows.longer) in
+    let sa = fork_sits known t u d.entry miss d.code sb.grows.sound sb.grows.ends sb.low sb.inside pm lm' in
+    sits_on d (fork_before known t u d.entry miss d.code) c (6 * (tests a + nodes a)) 12 _ sb sa (omega arith)

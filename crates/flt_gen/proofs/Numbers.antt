@@ -19,15 +19,16 @@ use Rattle.flt_bpf.specs.declared.operation.Operand.TheVariants.{Constant, Index
 use Rattle.flt_bpf.specs.Instructions.{operation_of}
 use Rattle.flt_bpf.specs.Machine.{Goes, Lost, step, field, holds, value_of, into, header_length}
 use Rattle.flt_words.specs.declared.token.Operator.{Operator}
-use Rattle.flt_words.specs.declared.token.Operator.TheVariants.{Or, And, ShiftLeft, ShiftRight, Add, Subtract, Multiply, Divide}
+use Rattle.flt_words.specs.declared.token.Operator.TheVariants.{Or, And, ShiftLeft, ShiftRight, Add, Subtract, Multiply, Divide, Remainder, ExclusiveOr}
 use Rattle.flt_words.specs.declared.token.Protocol.{Protocol}
 use Rattle.flt_words.specs.declared.token.Protocol.TheVariants.{Ether, Tcp, Udp, Icmp}
-use Rattle.flt_lang.specs.Tree.{NumberTree, literal, len, load, negated, applied}
+use Rattle.flt_lang.specs.Tree.{NumberTree, literal, len, named, load, negated, applied}
 use Rattle.flt_gen.specs.declared.link.Link.{Link}
 use Rattle.flt_gen.specs.Elementary.{with, network}
 use Rattle.flt_gen.specs.Numbers.{width_of, base, result_of, number}
 use Rattle.flt_lang.specs.Counts.{number_words}
-use Rattle.flt_gen.specs.Code.{plain, load_code, indirect_code, operator_code, branch_insn, base_before, transport_before, accessor_before, operands_before, number_before}
+use Rattle.flt_gen.specs.Code.{plain, indirect_code, operator_code, branch_insn, base_before, transport_before, accessor_before, operands_before, number_before}
+use Rattle.flt_gen.specs.Follow.{load_code}
 use Rattle.flt_bpf.proofs.Suffix.{answer_of, answer_after}
 
 get_set_same : (xs : List ℕ) (i v : ℕ) → i < length xs → slice_get (slice_set xs i v) i ≡ Some v
@@ -68,6 +69,8 @@ module _ (p : List ℕ) (n : ℕ) where
   run_operator And k c s = refl
   run_operator ShiftLeft k c s = refl
   run_operator ShiftRight k c s = refl
+  run_operator Remainder k c s = refl
+  run_operator ExclusiveOr k c s = refl
 
   pub run_load : (w : Width) (k : ℕ) (c : List Insn) (s : State) → answer_of (plain (load_code w) k ∷ c) p n 0 s ≡ answer_after (answer_of c p n) (into Accumulator (field p k w) s)
   unfolding step operation_of
@@ -224,6 +227,7 @@ module _ (p : List ℕ) (n : ℕ) where
   -- the code of arithmetic gives its value
   pub number_runs : (link : Link) (e : NumberTree) (slot : ℕ) (c : List Insn) (s : State) → length s.memory ≡ 16 → slot + number_words e ≤ 16 → NumberRuns (number_before link e slot c) c slot s (number link e p n)
   number_runs link (literal k) slot c s long few = (record s { accumulator = k }, record { long = long; kept = λ j l. refl }, refl, run_literal k c s)
+  number_runs link (named k) slot c s long few = (record s { accumulator = k }, record { long = long; kept = λ j l. refl }, refl, run_literal k c s)
   number_runs link len slot c s long few = (record s { accumulator = n }, record { long = long; kept = λ j l. refl }, refl, run_length 0 c s)
   number_runs link (load protocol size i) slot c s long few =
       number_then _ (accessor_before link protocol (width_of size) c) c slot s (number link i p n) _ (number_runs link i slot (accessor_before link protocol (width_of size) c) s long few) (λ v t l a. accessor_runs link protocol (width_of size) c slot v t l a)

@@ -9,6 +9,7 @@ use Rattle.flt_gen.specs.declared.waiting.Waiting.{Waiting}
 use Rattle.flt_gen.specs.declared.waiting.Waiting.TheVariants.{Index, Left}
 use Rattle.flt_gen.specs.Numbers.{width_of}
 use Rattle.flt_gen.specs.Primitives.{check_formula, cast_formula, sized_formula, qualified_formula}
+use Rattle.flt_gen.specs.Follow.{nothing}
 use Rattle.flt_gen.specs.Code.{plain}
 use Rattle.flt_gen.specs.Walk.{Walk, relation_put, number_put, with_code, operands_put, with_node, walked}
 use Rattle.flt_gen.proofs.Tails.{extends_none, comparison_extends, accessor_extends, emitted_extends, accessors_extend}
@@ -78,16 +79,17 @@ operands_grown w slot c s l h =
     }
 
 node_grown : (link : Link) (w : Walk) (n : Node) → IsLow w → Grown w (with_node link w n)
-node_grown link w (node.Check p) h = grown_on w _ h (emitted_extends link (check_formula link p) w.to.yes w.to.no w.code).longer refl refl
-node_grown link w (node.Cast p c) h = grown_on w _ h (emitted_extends link (cast_formula link p c) w.to.yes w.to.no w.code).longer refl refl
-node_grown link w (node.Sized s n) h = grown_on w _ h (emitted_extends link (sized_formula s n) w.to.yes w.to.no w.code).longer refl refl
+node_grown link w (node.Check p) h = grown_on w _ h (emitted_extends link nothing (check_formula link p) w.to.yes w.to.no w.code).longer refl refl
+node_grown link w (node.Cast p c) h = grown_on w _ h (emitted_extends link nothing (cast_formula link p c) w.to.yes w.to.no w.code).longer refl refl
+node_grown link w (node.Sized s n) h = grown_on w _ h (emitted_extends link nothing (sized_formula s n) w.to.yes w.to.no w.code).longer refl refl
 node_grown link w (node.Bare v) h = grown_on w _ h (omega arith) refl refl
 node_grown link w (node.Valued q v) h = grown_on w _ h (omega arith) refl refl
-node_grown link w (node.Qualified q v) h = grown_on w _ h (emitted_extends link (qualified_formula link q v) w.to.yes w.to.no w.code).longer refl refl
+node_grown link w (node.Qualified q v) h = grown_on w _ h (emitted_extends link nothing (qualified_formula link q v) w.to.yes w.to.no w.code).longer refl refl
 node_grown link w (node.Compare c) h = operands_grown w 0 _ (omega arith) (comparison_extends c IndexRegister 0 w.to.yes w.to.no w.code).longer h
 node_grown link w node.Not h = grown_on w _ h (omega arith) refl refl
 node_grown link w (node.Join j) h = grown_on w _ h (omega arith) refl refl
 node_grown link w (node.Literal n) h = code_grown link w (plain 0 n ∷ w.code) (omega arith) h
+node_grown link w (node.Named n) h = code_grown link w (plain 0 n ∷ w.code) (omega arith) h
 node_grown link w node.Len h = code_grown link w (plain 128 0 ∷ w.code) (omega arith) h
 node_grown link w (node.Load p s) h =
     let l = (accessor_extends link p (width_of s) w.code w.code (extends_none w.code)).longer in

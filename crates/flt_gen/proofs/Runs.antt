@@ -1,17 +1,27 @@
 -- The code of a formula goes on where the formula's reading says.
-use Rattle.std.proofs.Common.{◌≡◌, ℕ, suc, ◌+◌, ◌-◌, ◌%◌, ◌^◌, ◌≤◌, List, ◌∷◌, length, Bool, true, false, Option, Some, None, refl, sym, ap, ◌∙◌, subst, arith}
-use Rattle.std.specs.Prelude.{nat_le, nat_lt, not, ◌&&◌, if◌then◌else◌, bit_and}
+use Rattle.std.proofs.Common.{◌≡◌, ℕ, suc, ◌+◌, ◌-◌, ◌%◌, ◌^◌, ◌≤◌, List, ◌∷◌, length, Bool, true, false, Option, Some, None, refl, sym, ap, ◌∙◌, subst, arith, ◌⊎◌, inl, inr}
+use Rattle.std.specs.Prelude.{◌≢◌, nat_le, nat_lt, not, ◌&&◌, if◌then◌else◌, bit_and}
 use Rattle.std.specs.Option.{option_map}
 use Rattle.std.proofs.lemmas.Bool.Decides.{nat_tests}
 use Rattle.flt_bpf.specs.declared.insn.Insn.{Insn}
-use Rattle.flt_bpf.specs.declared.operation.Width.TheVariants.{Byte}
+use Rattle.flt_bpf.specs.declared.operation.Width.{Width}
+use Rattle.flt_bpf.specs.declared.operation.Width.TheVariants.{Word, HalfWord, Byte}
+use Rattle.flt_words.specs.declared.token.Operator.{Operator}
+use Rattle.flt_words.specs.declared.token.Operator.TheVariants.{Or, And, ShiftLeft, ShiftRight, Add, Subtract, Multiply, Divide, Remainder, ExclusiveOr}
+use Rattle.flt_words.specs.declared.token.Protocol.{Protocol}
+use Rattle.flt_words.specs.declared.token.Protocol.TheVariants.{Ether, Tcp, Udp, Icmp}
+use Rattle.flt_gen.specs.declared.elementary.Elementary.{Elementary}
+use Rattle.flt_gen.specs.Elementary.{network}
+use Rattle.flt_gen.specs.Numbers.{width_of}
+use Rattle.flt_gen.specs.Follow.{load_code, Knowledge, fact, and_fact, followed}
+use Rattle.flt_gen.proofs.Onward.{Leads, leads_on, Settles, Settled, KnowledgeHolds, followed_leads}
 use Rattle.flt_bpf.specs.declared.operation.Test.{Test}
 use Rattle.flt_bpf.specs.declared.operation.Test.TheVariants as test
 use Rattle.flt_bpf.specs.declared.operation.Operand.{Operand}
 use Rattle.flt_bpf.specs.declared.operation.Operand.TheVariants.{Constant, IndexRegister}
 use Rattle.flt_words.specs.declared.token.Comparison.{Comparison}
 use Rattle.flt_words.specs.declared.token.Comparison.TheVariants.{Equal, NotEqual, Less, AtMost, Greater, AtLeast}
-use Rattle.flt_lang.specs.Tree.{NumberTree}
+use Rattle.flt_lang.specs.Tree.{NumberTree, literal, len, named, load, negated, applied}
 use Rattle.flt_gen.specs.declared.link.Link.{Link}
 use Rattle.flt_gen.specs.declared.elementary.Place.{Place}
 use Rattle.flt_gen.specs.declared.elementary.Place.TheVariants.{At, Past}
@@ -20,12 +30,12 @@ use Rattle.flt_gen.specs.declared.elementary.Elementary.TheVariants.{Known, Fiel
 use Rattle.flt_bpf.specs.declared.machine.State.{State}
 use Rattle.flt_bpf.specs.declared.operation.Register.TheVariants.{Accumulator, Index}
 use Rattle.flt_bpf.specs.Machine.{field, holds, value_of, into, header_length}
-use Rattle.flt_gen.specs.Elementary.{Reading, Yes, No, Rejected, reading_of, with, compares, field_at, masked}
+use Rattle.flt_gen.specs.Elementary.{Reading, Yes, No, Rejected, reading_of, with, compares, field_at, masked, elementary_reads}
 use Rattle.flt_gen.specs.Numbers.{number}
-use Rattle.flt_gen.specs.Formula.{Formula, Single, Compare, Both, Either, Except, relation_reads, both, either, negated as exchanged, reads}
+use Rattle.flt_gen.specs.Formula.{Formula, Single, Compare, Both, Either, Except, Guard, Fork, relation_reads, both, either, negated as exchanged, reads}
 use Rattle.flt_lang.specs.Counts.{number_words}
 use Rattle.flt_gen.specs.Counts.{words}
-use Rattle.flt_gen.specs.Code.{plain, indirect_code, jump_before, branch_before, comparison_before, field_before, mask_before, test_before, operands_before, number_before, relation_before, Entered, emitted, NEAR}
+use Rattle.flt_gen.specs.Code.{plain, indirect_code, operator_code, base_before, transport_before, accessor_before, elementary_before, and_fork, jump_before, branch_before, comparison_before, field_before, mask_before, test_before, operands_before, number_before, relation_before, Entered, emitted, NEAR}
 use Rattle.flt_bpf.proofs.Suffix.{answer_of, answer_after, answer_drop}
 use Rattle.flt_gen.proofs.Tails.{Extends, extends_none, extends_put, extends_on, one_of_four, test_extends, relation_extends}
 use Rattle.flt_gen.proofs.Numbers.{TwoRuns, run_load, run_indirect, run_header, run_mask, run_jump, run_branch, number_runs, two_runs}
@@ -52,16 +62,8 @@ pick_negated No v w = refl
 pick_negated Rejected v w = refl
 
 module _ (p : List ℕ) (n : ℕ) where
-  -- from a place on, whatever the state, the code gives this answer
-  pub record Leads (c : List Insn) (place v : ℕ) : Type 0 where
-    pub by : (s : State) → length s.memory ≡ 16 → answer_of c p n (length c - place) s ≡ Some v
-
-  leads_on : (c d : List Insn) (place v : ℕ) → place ≤ length c → Extends c d → Leads c place v → Leads d place v
-  leads_on c d place v l e h =
-      record { by = λ s long. sym (answer_drop d p n (length d - place) s) ∙ ap (λ is. answer_of is p n 0 s) (e.same place l) ∙ answer_drop c p n (length c - place) s ∙ h.by s long }
-
   -- the top of the code
-  leads_top : (c : List Insn) (v : ℕ) → ((s : State) → length s.memory ≡ 16 → answer_of c p n 0 s ≡ Some v) → Leads c (length c) v
+  leads_top : (c : List Insn) (v : ℕ) → ((s : State) → length s.memory ≡ 16 → answer_of c p n 0 s ≡ Some v) → Leads p n c (length c) v
   leads_top c v h = record { by = λ s long. (let none : length c - length c ≡ 0 = omega arith in ap (λ k. answer_of c p n k s) none) ∙ h s long }
 
   -- a conditional jump whose two ways have these answers
@@ -70,13 +72,13 @@ module _ (p : List ℕ) (n : ℕ) where
   two_ways c jt jf v w s false e f = f
 
   -- what a long jump's code does from its top, and from behind it
-  jump_top : (c : List Insn) (to v : ℕ) (s : State) → length s.memory ≡ 16 → Leads c to v → answer_of (jump_before to c) p n 0 s ≡ Some v
+  jump_top : (c : List Insn) (to v : ℕ) (s : State) → length s.memory ≡ 16 → Leads p n c to v → answer_of (jump_before to c) p n 0 s ≡ Some v
   jump_top c to v s long h = run_jump p n (length c - to) c s ∙ h.by s long
 
-  past_jump : (c : List Insn) (i : Insn) (to v : ℕ) (s : State) → length s.memory ≡ 16 → to ≤ length c → Leads c to v → answer_of (i ∷ c) p n (length c + 1 - to) s ≡ Some v
+  past_jump : (c : List Insn) (i : Insn) (to v : ℕ) (s : State) → length s.memory ≡ 16 → to ≤ length c → Leads p n c to v → answer_of (i ∷ c) p n (length c + 1 - to) s ≡ Some v
   past_jump c i to v s long l h = (let more : length c + 1 - to ≡ suc (length c - to) = omega arith in ap (λ k. answer_of (i ∷ c) p n k s) more) ∙ h.by s long
 
-  branch_runs : (t : Test) (operand : Operand) (k hit miss v w : ℕ) (c : List Insn) (s : State) → length s.memory ≡ 16 → hit ≤ length c → miss ≤ length c → Leads c hit v → Leads c miss w → answer_of (branch_before t operand k hit miss c) p n 0 s ≡ Some (if holds t s.accumulator (value_of operand k s.index) then v else w)
+  branch_runs : (t : Test) (operand : Operand) (k hit miss v w : ℕ) (c : List Insn) (s : State) → length s.memory ≡ 16 → hit ≤ length c → miss ≤ length c → Leads p n c hit v → Leads p n c miss w → answer_of (branch_before t operand k hit miss c) p n 0 s ≡ Some (if holds t s.accumulator (value_of operand k s.index) then v else w)
   branch_runs t operand k hit miss v w c s long lh lm h m =
       one_of_four Fine (nat_le (length c - hit) NEAR && nat_le (length c - miss) NEAR) (nat_le (length c + 1 - miss) NEAR) (nat_le (length c + 1 - hit) NEAR) _ _ _ _
       (run_branch p n t operand k (length c - hit) (length c - miss) c s ∙ two_ways c _ _ v w s truth (h.by s long) (m.by s long))
@@ -90,8 +92,8 @@ module _ (p : List ℕ) (n : ℕ) where
       Fine : List Insn → Type 0
       Fine d = answer_of d p n 0 s ≡ Some (if truth then v else w)
 
-      far : Leads (jump_before miss c) hit v
-      far = leads_on c (jump_before miss c) hit v lh (extends_put c c _ (extends_none c)) h
+      far : Leads p n (jump_before miss c) hit v
+      far = leads_on p n c (jump_before miss c) hit v lh (extends_put c c _ (extends_none c)) h
 
   -- the machine's three tests and the six comparisons
   exchanged_if : (a b : Bool) (v w : ℕ) → b ≡ not a → (if a then w else v) ≡ (if b then v else w)
@@ -104,7 +106,7 @@ module _ (p : List ℕ) (n : ℕ) where
   at_most_is : (a b : ℕ) → nat_le a b ≡ not (nat_lt b a)
   at_most_is a b = grind (arith, nat_tests)
 
-  comparison_runs : (comparison : Comparison) (operand : Operand) (k hit miss v w : ℕ) (c : List Insn) (s : State) → length s.memory ≡ 16 → hit ≤ length c → miss ≤ length c → Leads c hit v → Leads c miss w → answer_of (comparison_before comparison operand k hit miss c) p n 0 s ≡ Some (if compares comparison s.accumulator (value_of operand k s.index) then v else w)
+  comparison_runs : (comparison : Comparison) (operand : Operand) (k hit miss v w : ℕ) (c : List Insn) (s : State) → length s.memory ≡ 16 → hit ≤ length c → miss ≤ length c → Leads p n c hit v → Leads p n c miss w → answer_of (comparison_before comparison operand k hit miss c) p n 0 s ≡ Some (if compares comparison s.accumulator (value_of operand k s.index) then v else w)
   comparison_runs Equal operand k hit miss v w c s long lh lm h m = branch_runs test.Equal operand k hit miss v w c s long lh lm h m
   comparison_runs NotEqual operand k hit miss v w c s long lh lm h m =
       branch_runs test.Equal operand k miss hit w v c s long lm lh m h ∙ ap Some (exchanged_if _ _ v w refl)
@@ -120,87 +122,261 @@ module _ (p : List ℕ) (n : ℕ) where
   reading_picks true v w = refl
   reading_picks false v w = refl
 
-  masked_runs : (k : FieldTest) (hit miss v w x : ℕ) (c : List Insn) (s : State) → length s.memory ≡ 16 → hit ≤ length c → miss ≤ length c → Leads c hit v → Leads c miss w → (mask : Option ℕ) → s.accumulator ≡ x → answer_of (mask_before mask (comparison_before k.comparison Constant k.value hit miss c)) p n 0 s ≡ Some (if compares k.comparison (masked mask x) k.value then v else w)
+  masked_runs : (k : FieldTest) (hit miss v w x : ℕ) (c : List Insn) (s : State) → length s.memory ≡ 16 → hit ≤ length c → miss ≤ length c → Leads p n c hit v → Leads p n c miss w → (mask : Option ℕ) → s.accumulator ≡ x → answer_of (mask_before mask (comparison_before k.comparison Constant k.value hit miss c)) p n 0 s ≡ Some (if compares k.comparison (masked mask x) k.value then v else w)
   masked_runs k hit miss v w x c s long lh lm h m None e =
       comparison_runs k.comparison Constant k.value hit miss v w c s long lh lm h m ∙ ap (λ y. Some (if compares k.comparison y k.value then v else w)) e
   masked_runs k hit miss v w x c s long lh lm h m (Some mask) e =
       run_mask p n mask (comparison_before k.comparison Constant k.value hit miss c) s ∙ comparison_runs k.comparison Constant k.value hit miss v w c (record s { accumulator = bit_and s.accumulator mask }) long lh lm h m ∙ ap (λ y. Some (if compares k.comparison (bit_and y mask) k.value then v else w)) e
 
   -- what loads a field ends the run where there is none
-  loaded_runs : (k : FieldTest) (hit miss v w : ℕ) (c : List Insn) (s : State) → length s.memory ≡ 16 → hit ≤ length c → miss ≤ length c → Leads c hit v → Leads c miss w → (o : Option ℕ) → answer_after (answer_of (mask_before k.mask (comparison_before k.comparison Constant k.value hit miss c)) p n) (into Accumulator o s) ≡ Some (pick (reading_of (with o (λ x. Some (compares k.comparison (masked k.mask x) k.value)))) v w)
+  loaded_runs : (k : FieldTest) (hit miss v w : ℕ) (c : List Insn) (s : State) → length s.memory ≡ 16 → hit ≤ length c → miss ≤ length c → Leads p n c hit v → Leads p n c miss w → (o : Option ℕ) → answer_after (answer_of (mask_before k.mask (comparison_before k.comparison Constant k.value hit miss c)) p n) (into Accumulator o s) ≡ Some (pick (reading_of (with o (λ x. Some (compares k.comparison (masked k.mask x) k.value)))) v w)
   loaded_runs k hit miss v w c s long lh lm h m None = refl
   loaded_runs k hit miss v w c s long lh lm h m (Some x) =
       masked_runs k hit miss v w x c (record s { accumulator = x }) long lh lm h m k.mask refl ∙ ap Some (reading_picks (compares k.comparison (masked k.mask x) k.value) v w)
 
-  past_runs : (k : FieldTest) (header at : ℕ) (hit miss v w : ℕ) (c : List Insn) (s : State) → length s.memory ≡ 16 → hit ≤ length c → miss ≤ length c → Leads c hit v → Leads c miss w → (o : Option ℕ) → answer_after (answer_of (plain (indirect_code k.width) at ∷ mask_before k.mask (comparison_before k.comparison Constant k.value hit miss c)) p n) (into Index (option_map header_length o) s) ≡ Some (pick (reading_of (with (with (with o (λ b. Some (header_length b))) (λ x. field p ((x + at) % 2 ^ 32) k.width)) (λ x. Some (compares k.comparison (masked k.mask x) k.value)))) v w)
+  past_runs : (k : FieldTest) (header at : ℕ) (hit miss v w : ℕ) (c : List Insn) (s : State) → length s.memory ≡ 16 → hit ≤ length c → miss ≤ length c → Leads p n c hit v → Leads p n c miss w → (o : Option ℕ) → answer_after (answer_of (plain (indirect_code k.width) at ∷ mask_before k.mask (comparison_before k.comparison Constant k.value hit miss c)) p n) (into Index (option_map header_length o) s) ≡ Some (pick (reading_of (with (with (with o (λ b. Some (header_length b))) (λ x. field p ((x + at) % 2 ^ 32) k.width)) (λ x. Some (compares k.comparison (masked k.mask x) k.value)))) v w)
   past_runs k header at hit miss v w c s long lh lm h m None = refl
   past_runs k header at hit miss v w c s long lh lm h m (Some b) =
       run_indirect p n k.width at _ (record s { index = header_length b }) ∙ loaded_runs k hit miss v w c (record s { index = header_length b }) long lh lm h m (field p ((header_length b + at) % 2 ^ 32) k.width)
 
-  field_runs : (k : FieldTest) (hit miss v w : ℕ) (c : List Insn) (s : State) → length s.memory ≡ 16 → hit ≤ length c → miss ≤ length c → Leads c hit v → Leads c miss w → (place : Place) → answer_of (field_before place k.width (mask_before k.mask (comparison_before k.comparison Constant k.value hit miss c))) p n 0 s ≡ Some (pick (reading_of (with (field_at place k.width p) (λ x. Some (compares k.comparison (masked k.mask x) k.value)))) v w)
+  field_runs : (k : FieldTest) (hit miss v w : ℕ) (c : List Insn) (s : State) → length s.memory ≡ 16 → hit ≤ length c → miss ≤ length c → Leads p n c hit v → Leads p n c miss w → (place : Place) → answer_of (field_before place k.width (mask_before k.mask (comparison_before k.comparison Constant k.value hit miss c))) p n 0 s ≡ Some (pick (reading_of (with (field_at place k.width p) (λ x. Some (compares k.comparison (masked k.mask x) k.value)))) v w)
   field_runs k hit miss v w c s long lh lm h m (At at) =
       run_load p n k.width at _ s ∙ loaded_runs k hit miss v w c s long lh lm h m (field p at k.width)
   field_runs k hit miss v w c s long lh lm h m (Past header at) =
       run_header p n header (plain (indirect_code k.width) at ∷ mask_before k.mask (comparison_before k.comparison Constant k.value hit miss c)) s ∙ past_runs k header at hit miss v w c s long lh lm h m (field p header Byte)
 
   -- both numbers of a relation, and its test
-  compared_runs : (comparison : Comparison) (hit miss v w : ℕ) (c c' : List Insn) (s : State) → hit ≤ length c → miss ≤ length c → Leads c hit v → Leads c miss w → (ox oy : Option ℕ) → TwoRuns p n c' (comparison_before comparison IndexRegister 0 hit miss c) 0 s ox oy → answer_of c' p n 0 s ≡ Some (pick (reading_of (with ox (λ x. with oy (λ y. Some (compares comparison x y))))) v w)
+  compared_runs : (comparison : Comparison) (hit miss v w : ℕ) (c c' : List Insn) (s : State) → hit ≤ length c → miss ≤ length c → Leads p n c hit v → Leads p n c miss w → (ox oy : Option ℕ) → TwoRuns p n c' (comparison_before comparison IndexRegister 0 hit miss c) 0 s ox oy → answer_of c' p n 0 s ≡ Some (pick (reading_of (with ox (λ x. with oy (λ y. Some (compares comparison x y))))) v w)
   compared_runs comparison hit miss v w c c' s lh lm h m None oy r = r
   compared_runs comparison hit miss v w c c' s lh lm h m (Some x) None r = r
   compared_runs comparison hit miss v w c c' s lh lm h m (Some x) (Some y) r =
       let t = r.0 in
       r.4 ∙ comparison_runs comparison IndexRegister 0 hit miss v w c t r.1.long lh lm h m ∙ ap (λ a. Some (if compares comparison a t.index then v else w)) r.2 ∙ ap (λ b. Some (if compares comparison x b then v else w)) r.3 ∙ ap Some (reading_picks (compares comparison x y) v w)
 
-  relation_runs : (link : Link) (comparison : Comparison) (l r : NumberTree) (hit miss v w : ℕ) (c : List Insn) (s : State) → length s.memory ≡ 16 → hit ≤ length c → miss ≤ length c → Leads c hit v → Leads c miss w → number_words l ≤ 16 → 1 + number_words r ≤ 16 → answer_of (relation_before link comparison l r hit miss c) p n 0 s ≡ Some (pick (relation_reads link comparison l r p n) v w)
+  relation_runs : (link : Link) (comparison : Comparison) (l r : NumberTree) (hit miss v w : ℕ) (c : List Insn) (s : State) → length s.memory ≡ 16 → hit ≤ length c → miss ≤ length c → Leads p n c hit v → Leads p n c miss w → number_words l ≤ 16 → 1 + number_words r ≤ 16 → answer_of (relation_before link comparison l r hit miss c) p n 0 s ≡ Some (pick (relation_reads link comparison l r p n) v w)
   relation_runs link comparison l r hit miss v w c s long lh lm h m few_l few_r =
       compared_runs comparison hit miss v w c _ s lh lm h m (number link l p n) (number link r p n)
       (two_runs p n _ (number_before link r 1 (operands_before 0 (comparison_before comparison IndexRegister 0 hit miss c))) (comparison_before comparison IndexRegister 0 hit miss c) 0 s (number link l p n) (number link r p n) (omega arith)
       (number_runs p n link l 0 _ s long (omega arith))
       (λ t lt. number_runs p n link r 1 _ t lt few_r))
 
-  -- the code of a formula, entered at its entry, goes on by the formula's reading
-  pub record Works (e : Entered) (c : List Insn) (v : ℕ) : Type 0 where
+  -- each test whether A is a number goes on where there is an answer
+  pub record Calm (c : List Insn) : Type 0 where
+    pub by : Settled p n c
+
+  -- instructions in front that aren't a test whether A is a number
+  settled_put : (c : List Insn) (i : Insn) → i.code ≢ 21 → Calm c → Calm (i ∷ c)
+  settled_put c i other h = record { by = (λ e. absurd (other e), h.by) }
+
+  settles_at : (c : List Insn) (place v : ℕ) → Leads p n c place v → Settles p n c (length c - place)
+  settles_at c place v h = record { v = v; by = h.by }
+
+  settles_past : (c : List Insn) (i : Insn) (place v : ℕ) → place ≤ length c → Leads p n c place v → Settles p n (i ∷ c) (length c + 1 - place)
+  settles_past c i place v l h = record { v = v; by = λ s long. past_jump c i place v s long l h }
+
+  settles_jump : (c : List Insn) (to v : ℕ) → Leads p n c to v → Settles p n (jump_before to c) 0
+  settles_jump c to v h = record { v = v; by = λ s long. jump_top c to v s long h }
+
+  branch_settled : (t : Test) (operand : Operand) (k hit miss v w : ℕ) (c : List Insn) → hit ≤ length c → miss ≤ length c → Calm c → Leads p n c hit v → Leads p n c miss w → Calm (branch_before t operand k hit miss c)
+  branch_settled t operand k hit miss v w c lh lm z h m =
+      one_of_four (λ d. Calm d) (nat_le (length c - hit) NEAR && nat_le (length c - miss) NEAR) (nat_le (length c + 1 - miss) NEAR) (nat_le (length c + 1 - hit) NEAR) _ _ _ _
+      (record { by = (λ e. (settles_at c hit v h, settles_at c miss w m), z.by) })
+      (record { by = (λ e. (settles_jump c hit v h, settles_past c (plain 5 (length c - hit)) miss w lm m), hit_jump.by) })
+      (record { by = (λ e. (settles_past c (plain 5 (length c - miss)) hit v lh h, settles_jump c miss w m), miss_jump.by) })
+      (record { by = (λ e. (settles_jump (jump_before miss c) hit v far, behind), (settled_put (jump_before miss c) (plain 5 (length (jump_before miss c) - hit)) (λ e. absurd (omega arith)) miss_jump).by) })
+    where
+      hit_jump : Calm (jump_before hit c)
+      hit_jump = settled_put c (plain 5 (length c - hit)) (λ e. absurd (omega arith)) z
+
+      miss_jump : Calm (jump_before miss c)
+      miss_jump = settled_put c (plain 5 (length c - miss)) (λ e. absurd (omega arith)) z
+
+      far : Leads p n (jump_before miss c) hit v
+      far = leads_on p n c (jump_before miss c) hit v lh (extends_put c c _ (extends_none c)) h
+
+      behind : Settles p n (jump_before hit (jump_before miss c)) 1
+      behind = record { v = w; by = λ s long. jump_top c miss w s long m }
+
+  load_no_test : (w : Width) → load_code w ≢ 21
+  load_no_test Word = λ e. absurd (omega arith)
+  load_no_test HalfWord = λ e. absurd (omega arith)
+  load_no_test Byte = λ e. absurd (omega arith)
+
+  indirect_no_test : (w : Width) → indirect_code w ≢ 21
+  indirect_no_test Word = λ e. absurd (omega arith)
+  indirect_no_test HalfWord = λ e. absurd (omega arith)
+  indirect_no_test Byte = λ e. absurd (omega arith)
+
+  operator_no_test : (a : Operator) → operator_code a ≢ 21
+  operator_no_test Add = λ e. absurd (omega arith)
+  operator_no_test Subtract = λ e. absurd (omega arith)
+  operator_no_test Multiply = λ e. absurd (omega arith)
+  operator_no_test Divide = λ e. absurd (omega arith)
+  operator_no_test Remainder = λ e. absurd (omega arith)
+  operator_no_test ExclusiveOr = λ e. absurd (omega arith)
+  operator_no_test Or = λ e. absurd (omega arith)
+  operator_no_test And = λ e. absurd (omega arith)
+  operator_no_test ShiftLeft = λ e. absurd (omega arith)
+  operator_no_test ShiftRight = λ e. absurd (omega arith)
+
+  field_settled : (place : Place) (w : Width) (c : List Insn) → Calm c → Calm (field_before place w c)
+  field_settled (At k) w c h = settled_put c _ (load_no_test w) h
+  field_settled (Past header k) w c h = settled_put _ _ (λ e. absurd (omega arith)) (settled_put c _ (indirect_no_test w) h)
+
+  mask_settled : (mask : Option ℕ) (c : List Insn) → Calm c → Calm (mask_before mask c)
+  mask_settled None c h = h
+  mask_settled (Some mask) c h = settled_put c _ (λ e. absurd (omega arith)) h
+
+  comparison_settled : (comparison : Comparison) (o : Operand) (k hit miss v w : ℕ) (c : List Insn) → hit ≤ length c → miss ≤ length c → Calm c → Leads p n c hit v → Leads p n c miss w → Calm (comparison_before comparison o k hit miss c)
+  comparison_settled Equal o k hit miss v w c lh lm z h m = branch_settled test.Equal o k hit miss v w c lh lm z h m
+  comparison_settled NotEqual o k hit miss v w c lh lm z h m = branch_settled test.Equal o k miss hit w v c lm lh z m h
+  comparison_settled Less o k hit miss v w c lh lm z h m = branch_settled test.AtLeast o k miss hit w v c lm lh z m h
+  comparison_settled AtMost o k hit miss v w c lh lm z h m = branch_settled test.Greater o k miss hit w v c lm lh z m h
+  comparison_settled Greater o k hit miss v w c lh lm z h m = branch_settled test.Greater o k hit miss v w c lh lm z h m
+  comparison_settled AtLeast o k hit miss v w c lh lm z h m = branch_settled test.AtLeast o k hit miss v w c lh lm z h m
+
+  base_settled : (at : ℕ) (w : Width) (c : List Insn) → Calm c → Calm (base_before at w c)
+  base_settled at w c h = settled_put _ _ (λ e. absurd (omega arith)) (settled_put c _ (indirect_no_test w) h)
+
+  transport_settled : (link : Link) (w : Width) (c : List Insn) → Calm c → Calm (transport_before link w c)
+  transport_settled link w c h =
+      settled_put _ _ (λ e. absurd (omega arith)) (settled_put _ _ (λ e. absurd (omega arith)) (settled_put _ _ (λ e. absurd (omega arith)) (settled_put c _ (indirect_no_test w) h)))
+
+  accessor_settled : (link : Link) (protocol : Protocol) (w : Width) (c : List Insn) → Calm c → Calm (accessor_before link protocol w c)
+  accessor_settled link Ether w c h = base_settled 0 w c h
+  accessor_settled link Tcp w c h = transport_settled link w c h
+  accessor_settled link Udp w c h = transport_settled link w c h
+  accessor_settled link Icmp w c h = transport_settled link w c h
+  accessor_settled link _ w c h = base_settled (network link) w c h
+
+  number_settled : (link : Link) (e : NumberTree) (slot : ℕ) (c : List Insn) → Calm c → Calm (number_before link e slot c)
+  number_settled link (literal k) slot c h = settled_put c _ (λ e. absurd (omega arith)) h
+  number_settled link (named k) slot c h = settled_put c _ (λ e. absurd (omega arith)) h
+  number_settled link len slot c h = settled_put c _ (λ e. absurd (omega arith)) h
+  number_settled link (negated a) slot c h = number_settled link a slot _ (settled_put c _ (λ e. absurd (omega arith)) h)
+  number_settled link (load protocol size i) slot c h = number_settled link i slot _ (accessor_settled link protocol (width_of size) c h)
+  number_settled link (applied operator l r) slot c h =
+      number_settled link l slot _ (settled_put _ _ (λ e. absurd (omega arith)) (number_settled link r (slot + 1) _ (settled_put _ _ (λ e. absurd (omega arith)) (settled_put _ _ (λ e. absurd (omega arith)) (settled_put c _ (operator_no_test operator) h)))))
+
+  -- the code of a formula, entered at its entry, has an answer, which is the formula's where what is known holds
+  pub record Works (e : Entered) (c : List Insn) (known : Knowledge) (v : ℕ) : Type 0 where
     pub inside : e.entry ≤ length e.code
     pub extends : Extends c e.code
-    pub leads : Leads e.code e.entry v
+    pub settled : Calm e.code
+    pub u : ℕ
+    pub leads : Leads p n e.code e.entry u
+    pub right : KnowledgeHolds p n known → u ≡ v
 
-  pub emitted_works : (link : Link) (f : Formula) (hit miss v w : ℕ) (c : List Insn) → words f ≤ 16 → hit ≤ length c → miss ≤ length c → Leads c hit v → Leads c miss w → Works (emitted link f hit miss c) c (pick (reads link f p n) v w)
-  emitted_works link (Single (Known true)) hit miss v w c few lh lm h m = record { inside = lh; extends = extends_none c; leads = h }
-  emitted_works link (Single (Known false)) hit miss v w c few lh lm h m = record { inside = lm; extends = extends_none c; leads = m }
-  emitted_works link (Single (Field k)) hit miss v w c few lh lm h m =
+  pick_same : (r : Reading) (a b v w : ℕ) → (r ≡ Yes → a ≡ v) → (r ≡ No → b ≡ w) → pick r a b ≡ pick r v w
+  pick_same Yes a b v w h m = h refl
+  pick_same No a b v w h m = m refl
+  pick_same Rejected a b v w h m = refl
+
+  pick_guard : (r s : Reading) (x v w : ℕ) → (r ≡ Yes → x ≡ pick s v w) → pick r x w ≡ pick (both r s) v w
+  pick_guard Yes s x v w h = h refl
+  pick_guard No s x v w h = refl
+  pick_guard Rejected s x v w h = refl
+
+  pick_fork : (q r s : Reading) (x y v w : ℕ) → ((q ≡ Yes) ⊎ (r ≡ Yes) → x ≡ pick s v w) → (q ≡ No → y ≡ pick r x w) → pick q x y ≡ pick (both (either q r) s) v w
+  pick_fork Yes r s x y v w h g = h (inl refl)
+  pick_fork No r s x y v w h g = g refl ∙ pick_guard r s x v w (λ e. h (inr e))
+  pick_fork Rejected r s x y v w h g = refl
+
+  elementary_works : (known : Knowledge) (t : Elementary) (hit miss v w : ℕ) (c : List Insn) → hit ≤ length c → miss ≤ length c → Calm c → Leads p n c hit v → Leads p n c miss w → Works (elementary_before known t hit miss c) c known (pick (elementary_reads t p) v w)
+  elementary_works known (Known true) hit miss v w c lh lm z h m = record { inside = lh; extends = extends_none c; settled = z; u = v; leads = h; right = λ k. refl }
+  elementary_works known (Known false) hit miss v w c lh lm z h m = record { inside = lm; extends = extends_none c; settled = z; u = w; leads = m; right = λ k. refl }
+  elementary_works known (Field k) hit miss v w c lh lm z h m =
+      let own = fact (Field k) true in
+      let other = fact (Field k) false in
+      let fh = followed_leads p n c known own v hit z.by lh h in
+      let fm = followed_leads p n c known other w miss z.by lm m in
+      let hit' = followed c known own hit in
+      let miss' = followed c known other miss in
       record {
         inside = omega arith;
-        extends = test_extends k hit miss c;
-        leads = leads_top (test_before k hit miss c) _ (λ s long. field_runs k hit miss v w c s long lh lm h m k.place);
+        extends = test_extends k hit' miss' c;
+        settled = field_settled k.place k.width _ (mask_settled k.mask _ (comparison_settled k.comparison Constant k.value hit' miss' fh.v fm.v c fh.inside fm.inside z fh.leads fm.leads));
+        u = pick (elementary_reads (Field k) p) fh.v fm.v;
+        leads = leads_top (test_before k hit' miss' c) _ (λ s long. field_runs k hit' miss' fh.v fm.v c s long fh.inside fm.inside fh.leads fm.leads k.place);
+        right = λ known_holds. pick_same (elementary_reads (Field k) p) fh.v fm.v v w (λ e. fh.right known_holds e) (λ e. fm.right known_holds e);
       }
-  emitted_works link (Compare comparison l r) hit miss v w c few lh lm h m =
+
+  pub emitted_works : (link : Link) (known : Knowledge) (f : Formula) (hit miss v w : ℕ) (c : List Insn) → words f ≤ 16 → hit ≤ length c → miss ≤ length c → Calm c → Leads p n c hit v → Leads p n c miss w → Works (emitted link known f hit miss c) c known (pick (reads link f p n) v w)
+  emitted_works link known (Single t) hit miss v w c few lh lm z h m = elementary_works known t hit miss v w c lh lm z h m
+  emitted_works link known (Compare comparison l r) hit miss v w c few lh lm z h m =
       record {
         inside = omega arith;
         extends = relation_extends link comparison l r hit miss c;
+        settled = number_settled link l 0 _ (settled_put _ _ (λ e. absurd (omega arith)) (number_settled link r 1 _ (settled_put _ _ (λ e. absurd (omega arith)) (settled_put _ _ (λ e. absurd (omega arith)) (comparison_settled comparison IndexRegister 0 hit miss v w c lh lm z h m)))));
+        u = pick (relation_reads link comparison l r p n) v w;
         leads = leads_top (relation_before link comparison l r hit miss c) _ (λ s long. relation_runs link comparison l r hit miss v w c s long lh lm h m (omega arith) (omega arith));
+        right = λ k. refl;
       }
-  emitted_works link (Both a b) hit miss v w c few lh lm h m =
-      let e = emitted link b hit miss c in
-      let wb = emitted_works link b hit miss v w c (omega arith) lh lm h m in
+  emitted_works link known (Both a b) hit miss v w c few lh lm z h m =
+      let e = emitted link known b hit miss c in
+      let wb = emitted_works link known b hit miss v w c (omega arith) lh lm z h m in
       let lm' : miss ≤ length e.code = omega (arith, wb.extends.longer) in
-      let wa = emitted_works link a e.entry miss (pick (reads link b p n) v w) w e.code (omega arith) wb.inside lm' wb.leads (leads_on c e.code miss w lm wb.extends m) in
-      let f = emitted link a e.entry miss e.code in
+      let wa = emitted_works link known a e.entry miss wb.u w e.code (omega arith) wb.inside lm' wb.settled wb.leads (leads_on p n c e.code miss w lm wb.extends m) in
+      let f = emitted link known a e.entry miss e.code in
       record {
         inside = wa.inside;
         extends = extends_on c e.code f.code wb.extends wa.extends;
-        leads = subst (λ x. Leads f.code f.entry x) (pick_both (reads link a p n) (reads link b p n) v w) wa.leads;
+        settled = wa.settled;
+        u = wa.u;
+        leads = wa.leads;
+        right = λ k. wa.right k ∙ ap (λ x. pick (reads link a p n) x w) (wb.right k) ∙ pick_both (reads link a p n) (reads link b p n) v w;
       }
-  emitted_works link (Either a b) hit miss v w c few lh lm h m =
-      let e = emitted link b hit miss c in
-      let wb = emitted_works link b hit miss v w c (omega arith) lh lm h m in
+  emitted_works link known (Either a b) hit miss v w c few lh lm z h m =
+      let e = emitted link known b hit miss c in
+      let wb = emitted_works link known b hit miss v w c (omega arith) lh lm z h m in
       let lh' : hit ≤ length e.code = omega (arith, wb.extends.longer) in
-      let wa = emitted_works link a hit e.entry v (pick (reads link b p n) v w) e.code (omega arith) lh' wb.inside (leads_on c e.code hit v lh wb.extends h) wb.leads in
-      let f = emitted link a hit e.entry e.code in
+      let wa = emitted_works link known a hit e.entry v wb.u e.code (omega arith) lh' wb.inside wb.settled (leads_on p n c e.code hit v lh wb.extends h) wb.leads in
+      let f = emitted link known a hit e.entry e.code in
       record {
         inside = wa.inside;
         extends = extends_on c e.code f.code wb.extends wa.extends;
-        leads = subst (λ x. Leads f.code f.entry x) (pick_either (reads link a p n) (reads link b p n) v w) wa.leads;
+        settled = wa.settled;
+        u = wa.u;
+        leads = wa.leads;
+        right = λ k. wa.right k ∙ ap (λ x. pick (reads link a p n) v x) (wb.right k) ∙ pick_either (reads link a p n) (reads link b p n) v w;
       }
-  emitted_works link (Except a) hit miss v w c few lh lm h m =
-      let wa = emitted_works link a miss hit w v c few lm lh m h in
-      record { inside = wa.inside; extends = wa.extends; leads = subst (λ x. Leads (emitted link a miss hit c).code (emitted link a miss hit c).entry x) (pick_negated (reads link a p n) v w) wa.leads }
+  emitted_works link known (Except a) hit miss v w c few lh lm z h m =
+      let wa = emitted_works link known a miss hit w v c few lm lh z m h in
+      record { inside = wa.inside; extends = wa.extends; settled = wa.settled; u = wa.u; leads = wa.leads; right = λ k. wa.right k ∙ pick_negated (reads link a p n) v w }
+  emitted_works link known (Guard t a) hit miss v w c few lh lm z h m =
+      let inner = and_fact (fact t true) known in
+      let e = emitted link inner a hit miss c in
+      let wb = emitted_works link inner a hit miss v w c few lh lm z h m in
+      let lm' : miss ≤ length e.code = omega (arith, wb.extends.longer) in
+      let wa = elementary_works known t e.entry miss wb.u w e.code wb.inside lm' wb.settled wb.leads (leads_on p n c e.code miss w lm wb.extends m) in
+      let f = elementary_before known t e.entry miss e.code in
+      record {
+        inside = wa.inside;
+        extends = extends_on c e.code f.code wb.extends wa.extends;
+        settled = wa.settled;
+        u = wa.u;
+        leads = wa.leads;
+        right = λ k. wa.right k ∙ pick_guard (elementary_reads t p) (reads link a p n) wb.u v w (λ y. wb.right (record { facts = (y, k.facts); either = k.either }));
+      }
+  emitted_works link known (Fork t u a) hit miss v w c few lh lm z h m =
+      let inner = and_fork t u known in
+      let second = and_fact (fact t false) known in
+      let e = emitted link inner a hit miss c in
+      let wb = emitted_works link inner a hit miss v w c few lh lm z h m in
+      let lm' : miss ≤ length e.code = omega (arith, wb.extends.longer) in
+      let miss_leads = leads_on p n c e.code miss w lm wb.extends m in
+      let d = elementary_before second u e.entry miss e.code in
+      let wu = elementary_works second u e.entry miss wb.u w e.code wb.inside lm' wb.settled wb.leads miss_leads in
+      let le : e.entry ≤ length d.code = (let l = wb.inside in omega (arith, wu.extends.longer)) in
+      let wa = elementary_works known t e.entry d.entry wb.u wu.u d.code le wu.inside wu.settled (leads_on p n e.code d.code e.entry wb.u wb.inside wu.extends wb.leads) wu.leads in
+      let f = elementary_before known t e.entry d.entry d.code in
+      record {
+        inside = wa.inside;
+        extends = extends_on c e.code f.code wb.extends (extends_on e.code d.code f.code wu.extends wa.extends);
+        settled = wa.settled;
+        u = wa.u;
+        leads = wa.leads;
+        right = λ k. wa.right k ∙ pick_fork (elementary_reads t p) (elementary_reads u p) (reads link a p n) wb.u wu.u v w
+            (λ y. wb.right (record { facts = k.facts; either = y }))
+            (λ y. wu.right (record { facts = (y, k.facts); either = k.either }));
+      }

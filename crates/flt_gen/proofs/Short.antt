@@ -12,17 +12,19 @@ use Rattle.flt_words.specs.declared.token.Comparison.{Comparison}
 use Rattle.flt_words.specs.declared.token.Comparison.TheVariants.{Equal, NotEqual, Less, AtMost, Greater, AtLeast}
 use Rattle.flt_words.specs.declared.token.Protocol.{Protocol}
 use Rattle.flt_words.specs.declared.token.Protocol.TheVariants.{Ether, Tcp, Udp, Icmp}
-use Rattle.flt_lang.specs.Tree.{NumberTree, literal, len, load, negated, applied}
+use Rattle.flt_lang.specs.Tree.{NumberTree, literal, len, named, load, negated, applied}
 use Rattle.flt_gen.specs.declared.link.Link.{Link}
 use Rattle.flt_gen.specs.declared.elementary.Place.{Place}
 use Rattle.flt_gen.specs.declared.elementary.Place.TheVariants.{At, Past}
 use Rattle.flt_gen.specs.declared.elementary.Elementary.TheVariants.{Known, Field}
 use Rattle.flt_gen.specs.Elementary.{network}
 use Rattle.flt_gen.specs.Numbers.{width_of}
-use Rattle.flt_gen.specs.Formula.{Formula, Single, Compare, Both, Either, Except}
+use Rattle.flt_gen.specs.Formula.{Formula, Single, Compare, Both, Either, Except, Guard, Fork}
 use Rattle.flt_lang.specs.Counts.{number_size}
 use Rattle.flt_gen.specs.Counts.{nodes, tests}
-use Rattle.flt_gen.specs.Code.{plain, branch_insn, branch_before, comparison_before, field_before, mask_before, base_before, transport_before, accessor_before, number_before, emitted, NEAR}
+use Rattle.flt_gen.specs.Code.{plain, branch_insn, branch_before, comparison_before, field_before, mask_before, base_before, transport_before, accessor_before, number_before, elementary_before, fork_before, and_fork, emitted, NEAR}
+use Rattle.flt_gen.specs.Follow.{Knowledge, fact, and_fact}
+use Rattle.flt_gen.specs.declared.elementary.Elementary.{Elementary}
 use Rattle.flt_gen.specs.Layout.{JUMP}
 use Rattle.flt_gen.proofs.Far.{load_no_jump, indirect_no_jump, operator_no_jump, branch_no_jump}
 
@@ -84,6 +86,7 @@ accessor_slim link _ w c d m s = base_slim (network link) w c d m s
 
 number_slim : (link : Link) (e : NumberTree) (slot : ℕ) (c d : List Insn) (m : ℕ) → Slim c d m → Slim c (number_before link e slot d) (m + 6 * number_size e)
 number_slim link (literal k) slot c d m s = slim_put c d m _ _ s (λ e. absurd (omega arith)) (omega arith)
+number_slim link (named k) slot c d m s = slim_put c d m _ _ s (λ e. absurd (omega arith)) (omega arith)
 number_slim link len slot c d m s = slim_put c d m _ _ s (λ e. absurd (omega arith)) (omega arith)
 number_slim link (negated a) slot c d m s =
     slim_more c _ (m + 1 + 6 * number_size a) _ (omega arith) (number_slim link a slot c (plain 132 0 ∷ d) (m + 1) (slim_put c d m (m + 1) _ s (λ e. absurd (omega arith)) (omega arith)))
@@ -97,26 +100,46 @@ number_slim link (applied operator l r) slot c d m s =
     let s5 = slim_put c _ (m + 3 + 6 * number_size r) (m + 4 + 6 * number_size r) (plain 2 slot) s4 (λ e. absurd (omega arith)) (omega arith) in
     slim_more c _ (m + 4 + 6 * number_size r + 6 * number_size l) _ (omega arith) (number_slim link l slot c _ (m + 4 + 6 * number_size r) s5)
 
-pub emitted_slim : (link : Link) (f : Formula) (hit miss : ℕ) (c : List Insn) → length c + 4 * tests f + 6 * nodes f ≤ 256 → All (λ i. i.code ≢ JUMP) c → Slim c (emitted link f hit miss c).code (4 * tests f + 6 * nodes f)
-emitted_slim link (Single (Known true)) hit miss c l n = record { none = n; longer = omega arith; shorter = omega arith }
-emitted_slim link (Single (Known false)) hit miss c l n = record { none = n; longer = omega arith; shorter = omega arith }
-emitted_slim link (Single (Field k)) hit miss c l n =
-    slim_more c _ 4 _ (omega arith) (field_slim k.place k.width c _ 2 (mask_slim k.mask c _ 1 (comparison_slim k.comparison Constant k.value hit miss c (omega arith) n)))
-emitted_slim link (Compare comparison x y) hit miss c l n =
+elementary_slim : (known : Knowledge) (t : Elementary) (hit miss : ℕ) (c : List Insn) → length c + 4 ≤ 256 → All (λ i. i.code ≢ JUMP) c → Slim c (elementary_before known t hit miss c).code 4
+elementary_slim known (Known true) hit miss c l n = record { none = n; longer = omega arith; shorter = omega arith }
+elementary_slim known (Known false) hit miss c l n = record { none = n; longer = omega arith; shorter = omega arith }
+elementary_slim known (Field k) hit miss c l n =
+    slim_more c _ 4 _ (omega arith) (field_slim k.place k.width c _ 2 (mask_slim k.mask c _ 1 (comparison_slim k.comparison Constant k.value _ _ c (omega arith) n)))
+
+fork_slim : (known : Knowledge) (t u : Elementary) (hit miss : ℕ) (c : List Insn) → length c + 8 ≤ 256 → All (λ i. i.code ≢ JUMP) c → Slim c (fork_before known t u hit miss c).code 8
+fork_slim known t u hit miss c l n =
+    let e = elementary_before (and_fact (fact t false) known) u hit miss c in
+    let sb = elementary_slim (and_fact (fact t false) known) u hit miss c (omega arith) n in
+    let sa = elementary_slim known t hit e.entry e.code (omega (arith, sb.shorter)) sb.none in
+    record { none = sa.none; longer = omega (arith, sa.longer, sb.longer); shorter = omega (arith, sa.shorter, sb.shorter) }
+
+pub emitted_slim : (link : Link) (known : Knowledge) (f : Formula) (hit miss : ℕ) (c : List Insn) → length c + 4 * tests f + 6 * nodes f ≤ 256 → All (λ i. i.code ≢ JUMP) c → Slim c (emitted link known f hit miss c).code (4 * tests f + 6 * nodes f)
+emitted_slim link known (Single t) hit miss c l n = elementary_slim known t hit miss c (omega arith) n
+emitted_slim link known (Compare comparison x y) hit miss c l n =
     let s1 = comparison_slim comparison IndexRegister 0 hit miss c (omega arith) n in
     let s2 = slim_put c _ 1 2 (plain 96 0) s1 (λ e. absurd (omega arith)) (omega arith) in
     let s3 = slim_put c _ 2 3 (plain 7 0) s2 (λ e. absurd (omega arith)) (omega arith) in
     let s4 = number_slim link y 1 c _ 3 s3 in
     let s5 = slim_put c _ (3 + 6 * number_size y) (4 + 6 * number_size y) (plain 2 0) s4 (λ e. absurd (omega arith)) (omega arith) in
     slim_more c _ (4 + 6 * number_size y + 6 * number_size x) _ (omega arith) (number_slim link x 0 c _ (4 + 6 * number_size y) s5)
-emitted_slim link (Both a b) hit miss c l n =
-    let e = emitted link b hit miss c in
-    let sb = emitted_slim link b hit miss c (omega arith) n in
-    let sa = emitted_slim link a e.entry miss e.code (omega (arith, sb.shorter)) sb.none in
+emitted_slim link known (Both a b) hit miss c l n =
+    let e = emitted link known b hit miss c in
+    let sb = emitted_slim link known b hit miss c (omega arith) n in
+    let sa = emitted_slim link known a e.entry miss e.code (omega (arith, sb.shorter)) sb.none in
     record { none = sa.none; longer = omega (arith, sa.longer, sb.longer); shorter = omega (arith, sa.shorter, sb.shorter) }
-emitted_slim link (Either a b) hit miss c l n =
-    let e = emitted link b hit miss c in
-    let sb = emitted_slim link b hit miss c (omega arith) n in
-    let sa = emitted_slim link a hit e.entry e.code (omega (arith, sb.shorter)) sb.none in
+emitted_slim link known (Either a b) hit miss c l n =
+    let e = emitted link known b hit miss c in
+    let sb = emitted_slim link known b hit miss c (omega arith) n in
+    let sa = emitted_slim link known a hit e.entry e.code (omega (arith, sb.shorter)) sb.none in
     record { none = sa.none; longer = omega (arith, sa.longer, sb.longer); shorter = omega (arith, sa.shorter, sb.shorter) }
-emitted_slim link (Except a) hit miss c l n = emitted_slim link a miss hit c l n
+emitted_slim link known (Except a) hit miss c l n = emitted_slim link known a miss hit c l n
+emitted_slim link known (Guard t a) hit miss c l n =
+    let e = emitted link (and_fact (fact t true) known) a hit miss c in
+    let sb = emitted_slim link (and_fact (fact t true) known) a hit miss c (omega arith) n in
+    let sa = elementary_slim known t e.entry miss e.code (omega (arith, sb.shorter)) sb.none in
+    record { none = sa.none; longer = omega (arith, sa.longer, sb.longer); shorter = omega (arith, sa.shorter, sb.shorter) }
+emitted_slim link known (Fork t u a) hit miss c l n =
+    let e = emitted link (and_fork t u known) a hit miss c in
+    let sb = emitted_slim link (and_fork t u known) a hit miss c (omega arith) n in
+    let sa = fork_slim known t u e.entry miss e.code (omega (arith, sb.shorter)) sb.none in
+    record { none = sa.none; longer = omega (arith, sa.longer, sb.longer); shorter = omega (arith, sa.shorter, sb.shorter) }

@@ -11,7 +11,7 @@ use Rattle.flt_words.specs.declared.token.Comparison.{Comparison}
 use Rattle.flt_words.specs.declared.token.Comparison.TheVariants.{Equal, NotEqual, Less, AtMost, Greater, AtLeast}
 use Rattle.flt_words.specs.declared.token.Protocol.{Protocol}
 use Rattle.flt_words.specs.declared.token.Protocol.TheVariants.{Ether, Tcp, Udp, Icmp}
-use Rattle.flt_lang.specs.Tree.{NumberTree, literal, len, load, negated, applied}
+use Rattle.flt_lang.specs.Tree.{NumberTree, literal, len, named, load, negated, applied}
 use Rattle.flt_gen.specs.declared.link.Link.{Link}
 use Rattle.flt_gen.specs.declared.elementary.Place.{Place}
 use Rattle.flt_gen.specs.declared.elementary.Place.TheVariants.{At, Past}
@@ -20,8 +20,9 @@ use Rattle.flt_gen.specs.declared.elementary.Elementary.{Elementary}
 use Rattle.flt_gen.specs.declared.elementary.Elementary.TheVariants.{Known, Field}
 use Rattle.flt_gen.specs.Elementary.{network}
 use Rattle.flt_gen.specs.Numbers.{width_of, accessor_tests}
-use Rattle.flt_gen.specs.Formula.{Formula, Single, Compare, Both, Either, Except}
-use Rattle.flt_gen.specs.Code.{plain, branch_before, comparison_before, field_before, mask_before, test_before, accessor_before, number_before, relation_before, elementary_before, emitted, all_before, accessors_before, base_before, transport_before, NEAR}
+use Rattle.flt_gen.specs.Formula.{Formula, Single, Compare, Both, Either, Except, Guard, Fork}
+use Rattle.flt_gen.specs.Code.{plain, branch_before, comparison_before, field_before, mask_before, test_before, accessor_before, number_before, relation_before, elementary_before, fork_before, and_fork, emitted, all_before, accessors_before, base_before, transport_before, NEAR}
+use Rattle.flt_gen.specs.Follow.{Knowledge, fact, nothing, and_fact}
 
 -- the code from a place on
 abbrev pub tail : List Insn → ℕ → List Insn
@@ -94,6 +95,7 @@ accessor_extends link _ w c d e = base_extends (network link) w c d e
 
 pub number_extends : (link : Link) (e : NumberTree) (slot : ℕ) (c d : List Insn) → Extends c d → Extends c (number_before link e slot d)
 number_extends link (literal k) slot c d e = extends_put c d _ e
+number_extends link (named k) slot c d e = extends_put c d _ e
 number_extends link len slot c d e = extends_put c d _ e
 number_extends link (load protocol size i) slot c d e = number_extends link i slot c _ (accessor_extends link protocol (width_of size) c d e)
 number_extends link (negated a) slot c d e = number_extends link a slot c (plain 132 0 ∷ d) (extends_put c d _ e)
@@ -103,30 +105,41 @@ number_extends link (applied operator l r) slot c d e =
 pub test_extends : (t : FieldTest) (hit miss : ℕ) (c : List Insn) → Extends c (test_before t hit miss c)
 test_extends t hit miss c = field_extends t.place t.width c _ (mask_extends t.mask c _ (comparison_extends t.comparison Constant t.value hit miss c))
 
-pub elementary_extends : (t : Elementary) (hit miss : ℕ) (c : List Insn) → Extends c (elementary_before t hit miss c).code
-elementary_extends (Known true) hit miss c = extends_none c
-elementary_extends (Known false) hit miss c = extends_none c
-elementary_extends (Field t) hit miss c = test_extends t hit miss c
+pub elementary_extends : (known : Knowledge) (t : Elementary) (hit miss : ℕ) (c : List Insn) → Extends c (elementary_before known t hit miss c).code
+elementary_extends known (Known true) hit miss c = extends_none c
+elementary_extends known (Known false) hit miss c = extends_none c
+elementary_extends known (Field t) hit miss c = test_extends t _ _ c
+
+pub fork_extends : (known : Knowledge) (t u : Elementary) (hit miss : ℕ) (c : List Insn) → Extends c (fork_before known t u hit miss c).code
+fork_extends known t u hit miss c =
+    let e = elementary_before (and_fact (fact t false) known) u hit miss c in
+    extends_on c e.code _ (elementary_extends (and_fact (fact t false) known) u hit miss c) (elementary_extends known t hit e.entry e.code)
 
 pub relation_extends : (link : Link) (comparison : Comparison) (l r : NumberTree) (hit miss : ℕ) (c : List Insn) → Extends c (relation_before link comparison l r hit miss c)
 relation_extends link comparison l r hit miss c =
     number_extends link l 0 c _ (extends_put c _ _ (number_extends link r 1 c _ (extends_put c _ _ (extends_put c _ _ (comparison_extends comparison IndexRegister 0 hit miss c)))))
 
-pub emitted_extends : (link : Link) (f : Formula) (hit miss : ℕ) (c : List Insn) → Extends c (emitted link f hit miss c).code
-emitted_extends link (Single t) hit miss c = elementary_extends t hit miss c
-emitted_extends link (Compare comparison l r) hit miss c = relation_extends link comparison l r hit miss c
-emitted_extends link (Both a b) hit miss c =
-    let e = emitted link b hit miss c in extends_on c e.code _ (emitted_extends link b hit miss c) (emitted_extends link a e.entry miss e.code)
-emitted_extends link (Either a b) hit miss c =
-    let e = emitted link b hit miss c in extends_on c e.code _ (emitted_extends link b hit miss c) (emitted_extends link a hit e.entry e.code)
-emitted_extends link (Except a) hit miss c = emitted_extends link a miss hit c
+pub emitted_extends : (link : Link) (known : Knowledge) (f : Formula) (hit miss : ℕ) (c : List Insn) → Extends c (emitted link known f hit miss c).code
+emitted_extends link known (Single t) hit miss c = elementary_extends known t hit miss c
+emitted_extends link known (Compare comparison l r) hit miss c = relation_extends link comparison l r hit miss c
+emitted_extends link known (Both a b) hit miss c =
+    let e = emitted link known b hit miss c in extends_on c e.code _ (emitted_extends link known b hit miss c) (emitted_extends link known a e.entry miss e.code)
+emitted_extends link known (Either a b) hit miss c =
+    let e = emitted link known b hit miss c in extends_on c e.code _ (emitted_extends link known b hit miss c) (emitted_extends link known a hit e.entry e.code)
+emitted_extends link known (Except a) hit miss c = emitted_extends link known a miss hit c
+emitted_extends link known (Guard t a) hit miss c =
+    let e = emitted link (and_fact (fact t true) known) a hit miss c in
+    extends_on c e.code _ (emitted_extends link (and_fact (fact t true) known) a hit miss c) (elementary_extends known t e.entry miss e.code)
+emitted_extends link known (Fork t u a) hit miss c =
+    let e = emitted link (and_fork t u known) a hit miss c in
+    extends_on c e.code _ (emitted_extends link (and_fork t u known) a hit miss c) (fork_extends known t u e.entry miss e.code)
 
-pub all_extends : (ts : List Elementary) (hit miss : ℕ) (c : List Insn) → Extends c (all_before ts hit miss c).code
-all_extends [] hit miss c = extends_none c
-all_extends (t ∷ ts) hit miss c =
-    let e = all_before ts hit miss c in extends_on c e.code _ (all_extends ts hit miss c) (elementary_extends t e.entry miss e.code)
+pub all_extends : (known : Knowledge) (ts : List Elementary) (hit miss : ℕ) (c : List Insn) → Extends c (all_before known ts hit miss c).code
+all_extends known [] hit miss c = extends_none c
+all_extends known (t ∷ ts) hit miss c =
+    let e = all_before known ts hit miss c in extends_on c e.code _ (all_extends known ts hit miss c) (elementary_extends known t e.entry miss e.code)
 
 pub accessors_extend : (link : Link) (ps : List Protocol) (hit miss : ℕ) (c : List Insn) → Extends c (accessors_before link ps hit miss c).code
 accessors_extend link [] hit miss c = extends_none c
 accessors_extend link (p ∷ ps) hit miss c =
-    let e = accessors_before link ps hit miss c in extends_on c e.code _ (accessors_extend link ps hit miss c) (all_extends (accessor_tests link p) e.entry miss e.code)
+    let e = accessors_before link ps hit miss c in extends_on c e.code _ (accessors_extend link ps hit miss c) (all_extends nothing (accessor_tests link p) e.entry miss e.code)

@@ -3,7 +3,7 @@ use Rattle.std.proofs.Common.{◌≡◌, List, [], refl, sym, ap, ◌∙◌}
 use Rattle.flt_bpf.specs.declared.insn.Insn.{Insn}
 use Rattle.flt_words.specs.declared.token.Join.TheVariants.{And, Or}
 use Rattle.flt_lang.specs.declared.node.Node.{Node}
-use Rattle.flt_lang.specs.Tree.{NumberTree, literal, len, load, negated, applied, TruthTree, check, cast, sized, bare, valued, qualified, compared, denied, joined, Expression, empty, truth}
+use Rattle.flt_lang.specs.Tree.{NumberTree, literal, len, named, load, negated, applied, TruthTree, check, cast, sized, bare, valued, qualified, compared, denied, joined, Expression, empty, truth}
 use Rattle.flt_lang.specs.Machine.{number_onto, truth_onto, expr_onto}
 use Rattle.flt_gen.specs.declared.link.Link.{Link}
 use Rattle.flt_gen.specs.declared.code.Targets.{Targets}
@@ -11,6 +11,7 @@ use Rattle.flt_gen.specs.declared.waiting.LeftTruth.{LeftTruth}
 use Rattle.flt_gen.specs.Numbers.{accessors}
 use Rattle.flt_gen.specs.Formula.{Compare}
 use Rattle.flt_gen.specs.Reading.{formula}
+use Rattle.flt_gen.specs.Follow.{nothing}
 use Rattle.flt_gen.specs.Code.{number_before, Entered, emitted, expression_code}
 use Rattle.flt_gen.specs.Walk.{Walk, truth_put, number_put, start, walked}
 use Rattle.flt_gen.proofs.Joined.{checked_emitted}
@@ -21,6 +22,7 @@ with_number link a w = record w { code = number_before link a w.slot w.code; acc
 
 number_walked : (link : Link) (a : NumberTree) (w : Walk) (d : List Node) → walked link w (number_onto a d) ≡ walked link (number_put link w.numbers (with_number link a w)) d
 number_walked link (literal n) w d = refl
+number_walked link (named n) w d = refl
 number_walked link len w d = refl
 number_walked link (load p s a) w d = number_walked link a _ d
 number_walked link (negated a) w d = number_walked link a _ d
@@ -30,7 +32,7 @@ number_walked link (applied o a b) w d = number_walked link b _ (number_onto a d
 abbrev pub between : List Insn → Targets → List LeftTruth → Walk
 between c to ts = record { code = c; to = to; slot = 0; truths = ts; numbers = []; accessors = [] }
 
-pub truth_walked : (link : Link) (a : TruthTree) (c : List Insn) (to : Targets) (ts : List LeftTruth) (d : List Node) → walked link (between c to ts) (truth_onto a d) ≡ walked link (truth_put (emitted link (formula link a) to.yes to.no c) (between c to ts)) d
+pub truth_walked : (link : Link) (a : TruthTree) (c : List Insn) (to : Targets) (ts : List LeftTruth) (d : List Node) → walked link (between c to ts) (truth_onto a d) ≡ walked link (truth_put (emitted link nothing (formula link a) to.yes to.no c) (between c to ts)) d
 truth_walked link (check p) c to ts d = refl
 truth_walked link (cast p k) c to ts d = refl
 truth_walked link (sized s n) c to ts d = refl

@@ -1,5 +1,5 @@
 -- The program of an expression is valid and decides it, its jumps are needed, and a short one has none.
-use Rattle.std.proofs.Common.{◌≡◌, ℕ, ◌+◌, ◌-◌, ◌*◌, ◌<◌, ◌≤◌, List, [], ◌∷◌, length, drop, true, false, refl, ap, ◌∙◌, subst, arith, length-drop}
+use Rattle.std.proofs.Common.{◌≡◌, ℕ, ◌+◌, ◌-◌, ◌*◌, ◌<◌, ◌≤◌, List, [], ◌∷◌, length, drop, true, false, refl, ap, ◌∙◌, subst, arith, length-drop, inl}
 use Rattle.std.specs.Prelude.{◌≢◌, ◌↔◌, All}
 use Rattle.std.proofs.lemmas.Option.{slice_get_within, get_or_from_slice_get}
 use Rattle.std.proofs.lemmas.List.Elements.{All-drop, All-nil}
@@ -17,11 +17,13 @@ use Rattle.flt_gen.specs.Elementary.{Reading, Yes, No, Rejected}
 use Rattle.flt_gen.specs.Formula.{Formula, Single, reads}
 use Rattle.flt_gen.specs.Reading.{formula, holds}
 use Rattle.flt_gen.specs.Counts.{words, tests, nodes, short_bound_of}
+use Rattle.flt_gen.specs.Follow.{nothing}
 use Rattle.flt_gen.specs.Code.{plain, emitted, Entered, returns_code, expression_code, from_entry, program_code}
 use Rattle.flt_gen.specs.Correct.{Decides, IsProgramOf}
 use Rattle.flt_gen.specs.Layout.{JUMP, JumpsAreNeeded, IsShort}
 use Rattle.flt_bpf.proofs.Suffix.{IsFaultless, valid_if_faultless, faultless_drop, ends_drop, answer_drop, machine_answers}
-use Rattle.flt_gen.proofs.Runs.{pick, Leads, emitted_works}
+use Rattle.flt_gen.proofs.Onward.{Leads, Settled}
+use Rattle.flt_gen.proofs.Runs.{pick, emitted_works}
 use Rattle.flt_gen.proofs.Far.{emitted_needed}
 use Rattle.flt_gen.proofs.Short.{emitted_slim, all_put}
 use Rattle.flt_gen.proofs.Grows.{Sits, emitted_sits}
@@ -32,7 +34,7 @@ abbrev pub formula_of : Link → Expression → Formula
 formula_of link empty = Single (Known true)
 formula_of link (truth a) = formula link a
 
-code_of : (link : Link) (e : Expression) → emitted link (formula_of link e) 2 1 returns_code ≡ expression_code link e
+code_of : (link : Link) (e : Expression) → emitted link nothing (formula_of link e) 2 1 returns_code ≡ expression_code link e
 code_of link empty = refl
 code_of link (truth a) = refl
 
@@ -56,6 +58,9 @@ miss_leads : (p : List ℕ) (n : ℕ) → Leads p n returns_code 1 0
 unfolding step operation_of
 miss_leads p n = record { by = λ s long. refl }
 
+returns_settled : {p : List ℕ} {n : ℕ} → Settled p n returns_code
+returns_settled = (λ e. absurd (omega arith), (λ e. absurd (omega arith), tt))
+
 pick_right : (r : Reading) → (pick r 262144 0 ≢ 0) ↔ (r ≡ Yes)
 pick_right Yes = (λ h. refl, λ e z. absurd (omega arith))
 pick_right No = (λ h. absurd (h refl), λ e. cc)
@@ -69,7 +74,7 @@ sits : (link : Link) (e : Expression) → words_of e ≤ 16 → Sits (expression
 sits link e few =
     let f = formula_of link e in
     let w : words f ≤ 16 = words_of_formula e few in
-    subst (λ (x : Entered). Sits x returns_code (6 * (tests f + nodes f))) (code_of link e) (emitted_sits link f 2 1 returns_code w returns_sound returns_end (omega arith) (omega arith) (omega arith) (omega arith))
+    subst (λ (x : Entered). Sits x returns_code (6 * (tests f + nodes f))) (code_of link e) (emitted_sits link nothing f 2 1 returns_code w returns_sound returns_end (omega arith) (omega arith) (omega arith) (omega arith))
   where
     words_of_formula : (e : Expression) → words_of e ≤ 16 → words (formula_of link e) ≤ 16
     words_of_formula empty few = omega arith
@@ -118,8 +123,9 @@ program_decides link e filled few short =
     decided : (p : List ℕ) (n : ℕ) → Decides (program_code link e) e link p n
     decided p n =
         let v = pick (reads link f p n) 262144 0 in
-        let w = emitted_works p n link f 2 1 262144 0 returns_code (few_words e few) (omega arith) (omega arith) (hit_leads p n) (miss_leads p n) in
-        let l : Leads p n x.code x.entry v = subst (λ (y : Entered). Leads p n y.code y.entry v) (code_of link e) w.leads in
+        let w = emitted_works p n link nothing f 2 1 262144 0 returns_code (few_words e few) (omega arith) (omega arith) (record { by = returns_settled }) (hit_leads p n) (miss_leads p n) in
+        let same : w.u ≡ v = w.right (record { facts = tt; either = inl refl }) in
+        let l : Leads p n x.code x.entry v = subst (λ (y : Entered). Leads p n y.code y.entry v) (code_of link e) (subst (λ a. Leads p n (emitted link nothing f 2 1 returns_code).code (emitted link nothing f 2 1 returns_code).entry a) same w.leads) in
         let c = machine_answers (from_entry x) p n v (answer_drop x.code p n (length x.code - x.entry) start ∙ l.by start refl) in
         record {
           answer = v;
@@ -141,17 +147,17 @@ pub program_layout : (link : Link) (e : Expression) → JumpsAreNeeded (program_
 program_layout link e =
     let all = none_needed returns_code returns_no_jump in
     let last = none_needed (drop 1 returns_code) (All-drop (λ i. i.code ≢ JUMP) 1 returns_code returns_no_jump) in
-    let n = (emitted_needed link (formula_of link e) 2 1 returns_code (omega arith) (omega arith) all all last).needed.entered in
+    let n = (emitted_needed link nothing (formula_of link e) 2 1 returns_code (omega arith) (omega arith) all all last).needed.entered in
     subst (λ (x : Entered). JumpsAreNeeded (from_entry x)) (code_of link e) n
 
 pub program_short : (link : Link) (e : Expression) → some_primitive is_unfilled e ≡ false → short_bound_of e ≤ 256 → IsShort (program_code link e) (short_bound_of e)
 program_short link empty filled l = record { no_jump = returns_no_jump; short = omega arith }
 program_short link (truth a) filled l =
     let f = formula link a in
-    let e = emitted link f 2 1 returns_code in
+    let e = emitted link nothing f 2 1 returns_code in
     let t = tests_fit link a filled in
     let n = nodes_fit link a in
-    let s = emitted_slim link f 2 1 returns_code (omega arith) returns_no_jump in
+    let s = emitted_slim link nothing f 2 1 returns_code (omega arith) returns_no_jump in
     record {
       no_jump = All-drop (λ i. i.code ≢ JUMP) (length e.code - e.entry) e.code s.none;
       short = omega (arith, length-drop (length e.code - e.entry) e.code, s.shorter);

@@ -8,7 +8,7 @@ use Rattle.flt_bpf.specs.declared.operation.Test.TheVariants as test
 use Rattle.flt_bpf.specs.declared.operation.Operand.{Operand}
 use Rattle.flt_bpf.specs.declared.operation.Operand.TheVariants.{Constant, IndexRegister}
 use Rattle.flt_words.specs.declared.token.Operator.{Operator}
-use Rattle.flt_words.specs.declared.token.Operator.TheVariants.{Or, And, ShiftLeft, ShiftRight, Add, Subtract, Multiply, Divide}
+use Rattle.flt_words.specs.declared.token.Operator.TheVariants.{Or, And, ShiftLeft, ShiftRight, Add, Subtract, Multiply, Divide, Remainder, ExclusiveOr}
 use Rattle.flt_words.specs.declared.token.Comparison.{Comparison}
 use Rattle.flt_words.specs.declared.token.Comparison.TheVariants.{Equal, NotEqual, Less, AtMost, Greater, AtLeast}
 use Rattle.flt_words.specs.declared.token.Size.{Size}
@@ -19,7 +19,7 @@ use Rattle.flt_words.specs.declared.token.Side.TheVariants.{Source, Destination}
 use Rattle.flt_words.specs.declared.token.Join.TheVariants as join
 use Rattle.flt_lang.specs.declared.quals.Direction.{Direction}
 use Rattle.flt_lang.specs.declared.quals.Direction.TheVariants as direction
-use Rattle.flt_lang.specs.Tree.{NumberTree, literal, len, load, negated, applied, Expression, empty, truth}
+use Rattle.flt_lang.specs.Tree.{NumberTree, literal, len, named, load, negated, applied, Expression, empty, truth}
 use Rattle.flt_gen.specs.declared.link.Link.{Link}
 use Rattle.flt_gen.specs.declared.elementary.Place.{Place}
 use Rattle.flt_gen.specs.declared.elementary.Place.TheVariants.{At, Past}
@@ -27,18 +27,14 @@ use Rattle.flt_gen.specs.declared.elementary.FieldTest.{FieldTest}
 use Rattle.flt_gen.specs.declared.elementary.Elementary.{Elementary}
 use Rattle.flt_gen.specs.declared.elementary.Elementary.TheVariants.{Known, Field}
 use Rattle.flt_gen.specs.Elementary.{network}
+use Rattle.flt_gen.specs.Follow.{load_code, Knowledge, fact, nothing, and_fact, followed}
 use Rattle.flt_gen.specs.Numbers.{width_of, accessor_tests}
-use Rattle.flt_gen.specs.Formula.{Formula, Single, Compare, Both, Either, Except}
+use Rattle.flt_gen.specs.Formula.{Formula, Single, Compare, Both, Either, Except, Guard, Fork}
 use Rattle.flt_gen.specs.Reading.{formula}
 
 -- an instruction that isn't a test
 abbrev pub plain : ℕ → ℕ → Insn
 plain code k = record { code = code; jt = 0; jf = 0; k = k }
-
-abbrev pub load_code : Width → ℕ
-load_code Word = 32
-load_code HalfWord = 40
-load_code Byte = 48
 
 abbrev pub indirect_code : Width → ℕ
 indirect_code Word = 64
@@ -55,6 +51,8 @@ operator_code Or = 76
 operator_code And = 92
 operator_code ShiftLeft = 108
 operator_code ShiftRight = 124
+operator_code Remainder = 156
+operator_code ExclusiveOr = 172
 
 abbrev pub test_code : Test → Operand → ℕ
 test_code test.Equal Constant = 21
@@ -132,6 +130,7 @@ operands_before slot c = plain 7 0 ∷ plain 96 slot ∷ c
 -- arithmetic's value goes into A; the words from slot on are free for it
 abbrev pub number_before : Link → NumberTree → ℕ → List Insn → List Insn
 number_before link (literal k) slot c = plain 0 k ∷ c
+number_before link (named k) slot c = plain 0 k ∷ c
 number_before link len slot c = plain 128 0 ∷ c
 number_before link (load protocol size i) slot c = number_before link i slot (accessor_before link protocol (width_of size) c)
 number_before link (negated a) slot c = number_before link a slot (plain 132 0 ∷ c)
@@ -162,37 +161,51 @@ entered c entry = record { code = c; entry = entry }
 abbrev pub at_top : List Insn → Entered
 at_top c = record { code = c; entry = length c }
 
--- a test that is known takes no code
-abbrev pub elementary_before : Elementary → ℕ → ℕ → List Insn → Entered
-elementary_before (Known true) hit miss c = record { code = c; entry = hit }
-elementary_before (Known false) hit miss c = record { code = c; entry = miss }
-elementary_before (Field t) hit miss c = at_top (test_before t hit miss c)
+-- a test that is known takes no code; the targets of another are followed under what is known
+abbrev pub elementary_before : Knowledge → Elementary → ℕ → ℕ → List Insn → Entered
+elementary_before known (Known true) hit miss c = record { code = c; entry = hit }
+elementary_before known (Known false) hit miss c = record { code = c; entry = miss }
+elementary_before known (Field t) hit miss c =
+    at_top (test_before t (followed c known (fact (Field t) true) hit) (followed c known (fact (Field t) false) miss) c)
+
+-- the code of one of two tests
+abbrev pub fork_before : Knowledge → Elementary → Elementary → ℕ → ℕ → List Insn → Entered
+fork_before known t u hit miss c =
+    let e = elementary_before (and_fact (fact t false) known) u hit miss c in elementary_before known t hit e.entry e.code
+
+-- one of two tests is yes
+abbrev pub and_fork : Elementary → Elementary → Knowledge → Knowledge
+and_fork t u known = record known { either = record { first = t; second = u } }
 
 -- the code of a formula that goes on at one of two places
-abbrev pub emitted : Link → Formula → ℕ → ℕ → List Insn → Entered
-emitted link (Single t) hit miss c = elementary_before t hit miss c
-emitted link (Compare comparison l r) hit miss c = at_top (relation_before link comparison l r hit miss c)
-emitted link (Both a b) hit miss c = let e = emitted link b hit miss c in emitted link a e.entry miss e.code
-emitted link (Either a b) hit miss c = let e = emitted link b hit miss c in emitted link a hit e.entry e.code
-emitted link (Except a) hit miss c = emitted link a miss hit c
+abbrev pub emitted : Link → Knowledge → Formula → ℕ → ℕ → List Insn → Entered
+emitted link known (Single t) hit miss c = elementary_before known t hit miss c
+emitted link known (Compare comparison l r) hit miss c = at_top (relation_before link comparison l r hit miss c)
+emitted link known (Both a b) hit miss c = let e = emitted link known b hit miss c in emitted link known a e.entry miss e.code
+emitted link known (Either a b) hit miss c = let e = emitted link known b hit miss c in emitted link known a hit e.entry e.code
+emitted link known (Except a) hit miss c = emitted link known a miss hit c
+emitted link known (Guard t a) hit miss c =
+    let e = emitted link (and_fact (fact t true) known) a hit miss c in elementary_before known t e.entry miss e.code
+emitted link known (Fork t u a) hit miss c =
+    let e = emitted link (and_fork t u known) a hit miss c in fork_before known t u e.entry miss e.code
 
 -- all of some tests, from the last to the first
-abbrev pub all_before : List Elementary → ℕ → ℕ → List Insn → Entered
-all_before [] hit miss c = record { code = c; entry = hit }
-all_before (t ∷ ts) hit miss c = let e = all_before ts hit miss c in elementary_before t e.entry miss e.code
+abbrev pub all_before : Knowledge → List Elementary → ℕ → ℕ → List Insn → Entered
+all_before known [] hit miss c = record { code = c; entry = hit }
+all_before known (t ∷ ts) hit miss c = let e = all_before known ts hit miss c in elementary_before known t e.entry miss e.code
 
 -- the tests of a direction
-abbrev pub sides_before : Direction → List Elementary → List Elementary → ℕ → ℕ → List Insn → Entered
-sides_before (direction.One Source) source destination hit miss c = all_before source hit miss c
-sides_before (direction.One Destination) source destination hit miss c = all_before destination hit miss c
-sides_before (direction.Both join.Or) source destination hit miss c = let e = all_before destination hit miss c in all_before source hit e.entry e.code
-sides_before (direction.Both join.And) source destination hit miss c = let e = all_before destination hit miss c in all_before source e.entry miss e.code
+abbrev pub sides_before : Knowledge → Direction → List Elementary → List Elementary → ℕ → ℕ → List Insn → Entered
+sides_before known (direction.One Source) source destination hit miss c = all_before known source hit miss c
+sides_before known (direction.One Destination) source destination hit miss c = all_before known destination hit miss c
+sides_before known (direction.Both join.Or) source destination hit miss c = let e = all_before known destination hit miss c in all_before known source hit e.entry e.code
+sides_before known (direction.Both join.And) source destination hit miss c = let e = all_before known destination hit miss c in all_before known source e.entry miss e.code
 
 -- the tests of accessors, from the last to the first
 abbrev pub accessors_before : Link → List Protocol → ℕ → ℕ → List Insn → Entered
 accessors_before link [] hit miss c = record { code = c; entry = hit }
 accessors_before link (p ∷ ps) hit miss c =
-    let e = accessors_before link ps hit miss c in all_before (accessor_tests link p) e.entry miss e.code
+    let e = accessors_before link ps hit miss c in all_before nothing (accessor_tests link p) e.entry miss e.code
 
 -- the two returns at the end
 abbrev pub returns_code : List Insn
@@ -201,7 +214,7 @@ returns_code = plain 6 262144 ∷ plain 6 0 ∷ []
 -- the code of an expression, in front of the two returns; the empty expression has none
 abbrev pub expression_code : Link → Expression → Entered
 expression_code link empty = record { code = returns_code; entry = 2 }
-expression_code link (truth a) = emitted link (formula link a) 2 1 returns_code
+expression_code link (truth a) = emitted link nothing (formula link a) 2 1 returns_code
 
 -- the instructions from the entry on
 abbrev pub from_entry : Entered → List Insn

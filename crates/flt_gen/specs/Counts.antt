@@ -2,7 +2,7 @@
 use Rattle.std.specs.Prelude.{ℕ, ◌+◌, ◌*◌, max}
 use Rattle.flt_lang.specs.Tree.{Expression}
 use Rattle.flt_lang.specs.Counts.{number_words, number_size, tests_of, nodes_of}
-use Rattle.flt_gen.specs.Formula.{Formula, Single, Compare, Both, Either, Except}
+use Rattle.flt_gen.specs.Formula.{Formula, Single, Compare, Both, Either, Except, Guard, Fork}
 
 abbrev pub words : Formula → ℕ
 words (Single t) = 0
@@ -10,6 +10,8 @@ words (Compare c l r) = max (number_words l) (1 + number_words r)
 words (Both a b) = max (words a) (words b)
 words (Either a b) = max (words a) (words b)
 words (Except a) = words a
+words (Guard t a) = words a
+words (Fork t u a) = words a
 
 abbrev pub nodes : Formula → ℕ
 nodes (Single t) = 0
@@ -17,6 +19,8 @@ nodes (Compare c l r) = number_size l + number_size r
 nodes (Both a b) = nodes a + nodes b
 nodes (Either a b) = nodes a + nodes b
 nodes (Except a) = nodes a
+nodes (Guard t a) = nodes a
+nodes (Fork t u a) = nodes a
 
 abbrev pub tests : Formula → ℕ
 tests (Single t) = 1
@@ -24,6 +28,8 @@ tests (Compare c l r) = 1
 tests (Both a b) = tests a + tests b
 tests (Either a b) = tests a + tests b
 tests (Except a) = tests a
+tests (Guard t a) = 1 + tests a
+tests (Fork t u a) = 2 + tests a
 
 -- the most instructions of an expression's program where no jump is needed
 abbrev pub short_bound_of : Expression → ℕ

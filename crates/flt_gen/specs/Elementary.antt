@@ -6,7 +6,7 @@ use Rattle.flt_bpf.specs.Machine.{field, header_length}
 use Rattle.flt_words.specs.declared.token.Comparison.{Comparison}
 use Rattle.flt_words.specs.declared.token.Comparison.TheVariants.{Equal, NotEqual, Less, AtMost, Greater, AtLeast}
 use Rattle.flt_gen.specs.declared.link.Link.{Link}
-use Rattle.flt_gen.specs.declared.link.Link.TheVariants.{Ether, Raw}
+use Rattle.flt_gen.specs.declared.link.Link.TheVariants.{Ether, Raw, Cooked}
 use Rattle.flt_gen.specs.declared.elementary.Kind.{Kind}
 use Rattle.flt_gen.specs.declared.elementary.Kind.TheVariants.{Ethernet, Ip, Ip6, Arp, Rarp}
 use Rattle.flt_gen.specs.declared.elementary.Place.{Place}
@@ -76,6 +76,7 @@ compares_at place width comparison value = Field (record { place = place; width 
 abbrev pub network : Link → ℕ
 network Ether = 14
 network Raw = 0
+network Cooked = 16
 
 -- a frame is of a kind: by the type in its Ethernet header, else by the version in its first byte
 abbrev pub kind_test : Link → Kind → Elementary
@@ -89,6 +90,11 @@ kind_test Raw Ip = is_masked 0 Byte 0xf0 0x40
 kind_test Raw Ip6 = is_masked 0 Byte 0xf0 0x60
 kind_test Raw Arp = Known false
 kind_test Raw Rarp = Known false
+kind_test Cooked Ethernet = Known false
+kind_test Cooked Ip = is_at 14 HalfWord 0x0800
+kind_test Cooked Ip6 = is_at 14 HalfWord 0x86dd
+kind_test Cooked Arp = is_at 14 HalfWord 0x0806
+kind_test Cooked Rarp = is_at 14 HalfWord 0x8035
 
 -- an IPv4 packet is no fragment but the first
 abbrev pub first_fragment : Link → Elementary

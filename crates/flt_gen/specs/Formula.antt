@@ -19,6 +19,10 @@ pub data Formula : Type 0 where
   Both : Formula → Formula → Formula
   Either : Formula → Formula → Formula
   Except : Formula → Formula
+  -- a test and then a formula: where the test was yes is known to the formula's code
+  Guard : Elementary → Formula → Formula
+  -- one of two tests and then a formula
+  Fork : Elementary → Elementary → Formula → Formula
 
 -- the second is read only where the first is yes; only where it is no
 abbrev pub both : Reading → Reading → Reading
@@ -48,6 +52,8 @@ reads link (Compare c l r) p n = relation_reads link c l r p n
 reads link (Both a b) p n = both (reads link a p n) (reads link b p n)
 reads link (Either a b) p n = either (reads link a p n) (reads link b p n)
 reads link (Except a) p n = negated (reads link a p n)
+reads link (Guard t a) p n = both (elementary_reads t p) (reads link a p n)
+reads link (Fork t u a) p n = both (either (elementary_reads t p) (elementary_reads u p)) (reads link a p n)
 
 -- all of some tests
 abbrev pub all_of : List Elementary → Formula

@@ -8,3 +8,4 @@ pub mod Counts
 pub mod Layout
 pub mod Walk
 pub mod Correct
+pub mod Follow

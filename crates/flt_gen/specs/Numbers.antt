@@ -1,13 +1,13 @@
 -- The value of arithmetic on a packet.
-use Rattle.std.specs.Prelude.{ℕ, ◌+◌, ◌-◌, ◌*◌, ◌/◌, ◌%◌, ◌^◌, ◌==◌, nat_lt, if◌then◌else◌, List, [], ◌∷◌, Option, Some, None, bit_and, bit_or}
+use Rattle.std.specs.Prelude.{ℕ, ◌+◌, ◌-◌, ◌*◌, ◌/◌, ◌%◌, ◌^◌, ◌==◌, nat_lt, if◌then◌else◌, List, [], ◌∷◌, Option, Some, None, bit_and, bit_or, bit_xor}
 use Rattle.flt_bpf.specs.declared.operation.Width.{Width}
 use Rattle.flt_bpf.specs.declared.operation.Width.TheVariants.{Word, HalfWord, Byte}
 use Rattle.flt_bpf.specs.Machine.{field}
 use Rattle.flt_words.specs.declared.token.Operator.{Operator}
-use Rattle.flt_words.specs.declared.token.Operator.TheVariants.{Or, And, ShiftLeft, ShiftRight, Add, Subtract, Multiply, Divide}
+use Rattle.flt_words.specs.declared.token.Operator.TheVariants.{Or, And, ShiftLeft, ShiftRight, Add, Subtract, Multiply, Divide, Remainder, ExclusiveOr}
 use Rattle.flt_words.specs.declared.token.Protocol.{Protocol}
 use Rattle.flt_words.specs.declared.token.Protocol.TheVariants.{Ether, Ip, Ip6, Arp, Rarp, Tcp, Udp, Icmp, Icmp6}
-use Rattle.flt_lang.specs.Tree.{NumberTree, literal, len, load, negated, applied}
+use Rattle.flt_lang.specs.Tree.{NumberTree, literal, len, named, load, negated, applied}
 use Rattle.flt_gen.specs.declared.link.Link.{Link}
 use Rattle.flt_gen.specs.declared.elementary.Kind.TheVariants as kind
 use Rattle.flt_gen.specs.declared.elementary.Elementary.{Elementary}
@@ -31,6 +31,8 @@ result_of Add a b = Some ((a + b) % 2 ^ 32)
 result_of Subtract a b = Some ((a + 2 ^ 32 - b) % 2 ^ 32)
 result_of Multiply a b = Some ((a * b) % 2 ^ 32)
 result_of Divide a b = if b == 0 then None else Some (a / b)
+result_of Remainder a b = if b == 0 then None else Some (a % b)
+result_of ExclusiveOr a b = Some (bit_xor a b)
 result_of Or a b = Some (bit_or a b)
 result_of And a b = Some (bit_and a b)
 result_of ShiftLeft a b = Some (if nat_lt b 32 then (a * 2 ^ b) % 2 ^ 32 else 0)
@@ -39,6 +41,7 @@ result_of ShiftRight a b = Some (if nat_lt b 32 then a / 2 ^ b else 0)
 -- the value of arithmetic on a packet of original length n, or none where it is rejected
 abbrev pub number : Link → NumberTree → List ℕ → ℕ → Option ℕ
 number link (literal k) p n = Some k
+number link (named k) p n = Some k
 number link len p n = Some n
 number link (load protocol size i) p n =
     with (number link i p n) (λ v. with (base link protocol p) (λ at. field p ((at + v) % 2 ^ 32) (width_of size)))
@@ -61,6 +64,7 @@ accessor_tests link Icmp6 = kind_test link kind.Ip6 ∷ []
 -- the protocols of the accessors of arithmetic, in the order of their words, and then the rest
 abbrev pub accessors : NumberTree → List Protocol → List Protocol
 accessors (literal k) rest = rest
+accessors (named k) rest = rest
 accessors len rest = rest
 accessors (load protocol size i) rest = protocol ∷ accessors i rest
 accessors (negated a) rest = accessors a rest

@@ -21,6 +21,7 @@ use Rattle.flt_lang.specs.declared.net.Ip4Net.{Ip4Net}
 use Rattle.flt_lang.specs.Nets.{first_bits, ip4_net}
 use Rattle.flt_lang.specs.Tree.{literal, len}
 use Rattle.flt_gen.specs.declared.link.Link.{Link}
+use Rattle.flt_gen.specs.declared.link.Link.TheVariants.{Cooked}
 use Rattle.flt_gen.specs.declared.elementary.Kind.{Kind}
 use Rattle.flt_gen.specs.declared.elementary.Kind.TheVariants.{Ethernet, Ip, Ip6, Arp, Rarp}
 use Rattle.flt_gen.specs.declared.elementary.Place.{Place}
@@ -30,20 +31,21 @@ use Rattle.flt_gen.specs.declared.elementary.Elementary.TheVariants.{Known, Fiel
 use Rattle.flt_gen.specs.declared.elementary.Ports.{Ports}
 use Rattle.flt_gen.specs.declared.elementary.Ports.TheVariants.{One, Between}
 use Rattle.flt_gen.specs.Elementary.{is_at, compares_at, network, kind_test, first_fragment, has_ip_proto, has_ip6_proto}
-use Rattle.flt_gen.specs.Formula.{Formula, Single, Compare, Both, Either, all_of, guarded, sides}
+use Rattle.flt_gen.specs.Formula.{Formula, Single, Compare, Both, Either, Guard, Fork, all_of, guarded, sides}
 
 -- protocols
 
 abbrev pub ip_proto : Link → ℕ → Formula
-ip_proto link n = all_of (kind_test link Ip ∷ has_ip_proto link n ∷ [])
+ip_proto link n = Guard (kind_test link Ip) (Single (has_ip_proto link n))
 
 abbrev pub ip6_proto : Link → ℕ → Formula
-ip6_proto link n = all_of (kind_test link Ip6 ∷ has_ip6_proto link n ∷ [])
+ip6_proto link n = Guard (kind_test link Ip6) (Single (has_ip6_proto link n))
 
 abbrev pub any_proto : Link → ℕ → Formula
 any_proto link n = Either (ip_proto link n) (ip6_proto link n)
 
 abbrev pub ether_proto : Link → ℕ → Formula
+ether_proto Cooked n = Single (is_at 14 HalfWord n)
 ether_proto link n = all_of (kind_test link Ethernet ∷ is_at 12 HalfWord n ∷ [])
 
 abbrev pub check_formula : Link → Protocol → Formula
@@ -103,7 +105,7 @@ destination_offset _ = 24
 
 abbrev pub net_of_kind : Link → Kind → Direction → Option ℕ → ℕ → Formula
 net_of_kind link kind direction mask address =
-    guarded (kind_test link kind ∷ []) (sides direction (address_test mask address (network link + source_offset kind) ∷ []) (address_test mask address (network link + destination_offset kind) ∷ []))
+    Guard (kind_test link kind) (sides direction (address_test mask address (network link + source_offset kind) ∷ []) (address_test mask address (network link + destination_offset kind) ∷ []))
 
 abbrev pub net_formula : Link → Option Protocol → Direction → Option ℕ → ℕ → Formula
 net_formula link (Some protocol.Ip) direction mask address = net_of_kind link Ip direction mask address
@@ -125,7 +127,7 @@ ip6_tests prefix address at =
 
 abbrev pub ip6_formula : Link → Direction → Option ℕ → ℕ → Formula
 ip6_formula link direction prefix address =
-    guarded (kind_test link Ip6 ∷ []) (sides direction (ip6_tests prefix address (network link + 8)) (ip6_tests prefix address (network link + 24)))
+    Guard (kind_test link Ip6) (sides direction (ip6_tests prefix address (network link + 8)) (ip6_tests prefix address (network link + 24)))
 
 -- ports
 
@@ -133,23 +135,23 @@ abbrev pub port_tests : Ports → Place → List Elementary
 port_tests (One n) place = compares_at place HalfWord Equal n ∷ []
 port_tests (Between a b) place = compares_at place HalfWord AtLeast a ∷ compares_at place HalfWord AtMost b ∷ []
 
--- the test of TCP, that of UDP, or either
-abbrev pub transport : Option Protocol → Elementary → Elementary → Formula
-transport (Some protocol.Tcp) tcp udp = Single tcp
-transport (Some protocol.Udp) tcp udp = Single udp
-transport None tcp udp = Either (Single tcp) (Single udp)
-transport (Some _) tcp udp = Single (Known false)
+-- the test of TCP, that of UDP, or either, and then a formula
+abbrev pub transport : Option Protocol → Elementary → Elementary → Formula → Formula
+transport (Some protocol.Tcp) tcp udp f = Guard tcp f
+transport (Some protocol.Udp) tcp udp f = Guard udp f
+transport None tcp udp f = Fork tcp udp f
+transport (Some _) tcp udp f = Single (Known false)
 
 -- behind an IPv4 header, which has no fixed length
 abbrev pub ip_ports : Link → Option Protocol → Direction → Ports → Formula
 ip_ports link protocol direction ports =
-    Both (Single (kind_test link Ip)) (Both (transport protocol (has_ip_proto link 6) (has_ip_proto link 17)) (Both (Single (first_fragment link))
+    Guard (kind_test link Ip) (transport protocol (has_ip_proto link 6) (has_ip_proto link 17) (Guard (first_fragment link)
     (sides direction (port_tests ports (Past (network link) (network link))) (port_tests ports (Past (network link) (network link + 2))))))
 
 -- behind an IPv6 header
 abbrev pub ip6_ports : Link → Option Protocol → Direction → Ports → Formula
 ip6_ports link protocol direction ports =
-    Both (Single (kind_test link Ip6)) (Both (transport protocol (has_ip6_proto link 6) (has_ip6_proto link 17))
+    Guard (kind_test link Ip6) (transport protocol (has_ip6_proto link 6) (has_ip6_proto link 17)
     (sides direction (port_tests ports (At (network link + 40))) (port_tests ports (At (network link + 42)))))
 
 abbrev pub port_formula : Link → Option Protocol → Direction → Ports → Formula

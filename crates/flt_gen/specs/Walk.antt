@@ -14,6 +14,7 @@ use Rattle.flt_gen.specs.declared.waiting.Waiting.{Waiting}
 use Rattle.flt_gen.specs.declared.waiting.Waiting.TheVariants.{Index, Left}
 use Rattle.flt_gen.specs.Numbers.{width_of}
 use Rattle.flt_gen.specs.Primitives.{check_formula, cast_formula, sized_formula, qualified_formula}
+use Rattle.flt_gen.specs.Follow.{nothing}
 use Rattle.flt_gen.specs.Code.{plain, comparison_before, accessor_before, operator_code, operands_before, Entered, entered, emitted, accessors_before, returns_code}
 
 -- how far the walk has come: the code so far, the targets of the next truth, the word for the next left operand; what
@@ -69,16 +70,17 @@ operands_put slot c w = record w { code = operands_before slot c; slot = slot + 
 
 -- one more node
 abbrev pub with_node : Link → Walk → Node → Walk
-with_node link w (node.Check protocol) = truth_put (emitted link (check_formula link protocol) w.to.yes w.to.no w.code) w
-with_node link w (node.Cast protocol c) = truth_put (emitted link (cast_formula link protocol c) w.to.yes w.to.no w.code) w
-with_node link w (node.Sized size n) = truth_put (emitted link (sized_formula size n) w.to.yes w.to.no w.code) w
+with_node link w (node.Check protocol) = truth_put (emitted link nothing (check_formula link protocol) w.to.yes w.to.no w.code) w
+with_node link w (node.Cast protocol c) = truth_put (emitted link nothing (cast_formula link protocol c) w.to.yes w.to.no w.code) w
+with_node link w (node.Sized size n) = truth_put (emitted link nothing (sized_formula size n) w.to.yes w.to.no w.code) w
 with_node link w (node.Bare v) = truth_put (entered w.code w.to.no) w
 with_node link w (node.Valued quals v) = truth_put (entered w.code w.to.no) w
-with_node link w (node.Qualified quals v) = truth_put (emitted link (qualified_formula link quals v) w.to.yes w.to.no w.code) w
+with_node link w (node.Qualified quals v) = truth_put (emitted link nothing (qualified_formula link quals v) w.to.yes w.to.no w.code) w
 with_node link w (node.Compare comparison) = operands_put 0 (comparison_before comparison IndexRegister 0 w.to.yes w.to.no w.code) w
 with_node link w node.Not = record w { to = targets w.to.no w.to.yes }
 with_node link w (node.Join join) = record w { truths = record { join = join; to = w.to } ∷ w.truths }
 with_node link w (node.Literal n) = number_put link w.numbers (with_code (plain 0 n ∷ w.code) w)
+with_node link w (node.Named n) = number_put link w.numbers (with_code (plain 0 n ∷ w.code) w)
 with_node link w node.Len = number_put link w.numbers (with_code (plain 128 0 ∷ w.code) w)
 with_node link w (node.Load protocol size) =
     record w { code = accessor_before link protocol (width_of size) w.code; numbers = Index protocol ∷ w.numbers }
@@ -88,6 +90,7 @@ with_node link w (node.Apply operator) = operands_put w.slot (plain (operator_co
 -- a node of arithmetic
 abbrev pub is_number_node : Node → Bool
 is_number_node (node.Literal n) = true
+is_number_node (node.Named n) = true
 is_number_node node.Len = true
 is_number_node (node.Load protocol size) = true
 is_number_node node.Negate = true

@@ -2,11 +2,13 @@
 
 ghost use Rattle.std.specs.Prelude.{◌≡◌, ◌+◌, ◌^◌, ◌<◌, ◌≤◌, length, OnOk, IfOk};
 ghost use Rattle.flt_lang.specs.Nets.{first_bits};
+ghost use Rattle.flt_gen.specs.Follow.{nothing};
 ghost use Rattle.flt_gen.specs.Code.{emitted, entered};
 ghost use Rattle.flt_gen.specs.Primitives.{address_test, source_offset, destination_offset, net_of_kind, net_formula, ip6_test, ip6_tests, ip6_formula};
 
 use crate::code::{Code, Targets};
-use crate::elementary::{Elementary, FieldTest, Kind, Place};
+use crate::elementary::{Alternatives, Elementary, Fact, FieldTest, Kind, Place};
+use crate::follow::Known;
 use crate::link::Link;
 use crate::put::{put_elementary, put_sides};
 use crate::table::{kind_test, network};
@@ -60,14 +62,30 @@ fn put_net_of_kind<A: Allocator>(
 ) -> Result<usize, AllocError>
     requires { length code.old + 18 < 2 ^ 31 }
     ensures code { IfOk result
-        (λ entry. emitted link (net_of_kind link kind direction mask address) to.yes to.no code.old ≡ entered code.new entry) }
+        (λ entry. emitted link nothing (net_of_kind link kind direction mask address) to.yes to.no code.old ≡ entered code.new entry) }
     ensures room { OnOk result (length code.new ≤ length code.old + 18) }
 {
     let start = network(link);
     let source = address_test(mask, address, start + source_offset(kind));
     let destination = address_test(mask, address, start + destination_offset(kind));
-    let yes = put_sides(code, direction, &[source], &[destination], to)?;
-    put_elementary(code, kind_test(link, kind), Targets { yes, no: to.no })
+    let kind = kind_test(link, kind);
+    let facts = &[Fact {
+        test: kind,
+        truth: true,
+    }];
+    let always = Elementary::Known(true);
+    let either = Alternatives {
+        first: always,
+        second: always,
+    };
+    let known = Known { facts, either };
+    let yes = put_sides(code, known, direction, &[source], &[destination], to)?;
+    put_elementary(
+        code,
+        Known { facts: &[], either },
+        kind,
+        Targets { yes, no: to.no },
+    )
 }
 
 /// `host` and `net` of IPv4.
@@ -82,7 +100,7 @@ pub fn put_net<A: Allocator>(
 ) -> Result<usize, AllocError>
     requires { length code.old + 54 < 2 ^ 31 }
     ensures code { IfOk result
-        (λ entry. emitted link (net_formula link protocol direction mask address) to.yes to.no code.old ≡ entered code.new entry) }
+        (λ entry. emitted link nothing (net_formula link protocol direction mask address) to.yes to.no code.old ≡ entered code.new entry) }
     ensures room { OnOk result (length code.new ≤ length code.old + 54) }
 {
     match protocol {
@@ -113,7 +131,7 @@ fn prefix_mask(bits: u32) -> u32
 
 // One of the four words of an IPv6 address that begins at a place.
 fn ip6_test(prefix: Option<u32>, address: u128, at: u32, word: u32) -> Elementary
-    requires { (at ≤ 38) × (word ≤ 3) }
+    requires { (at ≤ 40) × (word ≤ 3) }
     ensures { result ≡ ip6_test prefix address at word }
 {
     let mask = match prefix {
@@ -125,7 +143,7 @@ fn ip6_test(prefix: Option<u32>, address: u128, at: u32, word: u32) -> Elementar
 }
 
 fn ip6_tests(prefix: Option<u32>, address: u128, at: u32) -> [Elementary; 4]
-    requires { at ≤ 38 }
+    requires { at ≤ 40 }
     ensures { result ≡ ip6_tests prefix address at }
 {
     [
@@ -147,12 +165,28 @@ pub fn put_ip6<A: Allocator>(
 ) -> Result<usize, AllocError>
     requires { length code.old + 54 < 2 ^ 31 }
     ensures code { IfOk result
-        (λ entry. emitted link (ip6_formula link direction prefix address) to.yes to.no code.old ≡ entered code.new entry) }
+        (λ entry. emitted link nothing (ip6_formula link direction prefix address) to.yes to.no code.old ≡ entered code.new entry) }
     ensures room { OnOk result (length code.new ≤ length code.old + 54) }
 {
     let start = network(link);
     let source = ip6_tests(prefix, address, start + 8);
     let destination = ip6_tests(prefix, address, start + 24);
-    let yes = put_sides(code, direction, &source, &destination, to)?;
-    put_elementary(code, kind_test(link, Kind::Ip6), Targets { yes, no: to.no })
+    let kind = kind_test(link, Kind::Ip6);
+    let facts = &[Fact {
+        test: kind,
+        truth: true,
+    }];
+    let always = Elementary::Known(true);
+    let either = Alternatives {
+        first: always,
+        second: always,
+    };
+    let known = Known { facts, either };
+    let yes = put_sides(code, known, direction, &source, &destination, to)?;
+    put_elementary(
+        code,
+        Known { facts: &[], either },
+        kind,
+        Targets { yes, no: to.no },
+    )
 }

@@ -1,8 +1,11 @@
 //! Code that grows from its end to its beginning.
 
 ghost use Rattle.std.specs.Prelude.{◌≡◌, ◌+◌, ◌-◌, ◌^◌, ◌<◌, ◌≤◌, List, [], ◌∷◌, length, drop, OnOk};
+ghost use Rattle.flt_gen.specs.Follow.{one_on, two_on, four_on, eight_on, followed, knowing};
 ghost use Rattle.flt_gen.specs.Code.{plain, jump_before, branch_before, test_code};
 
+use crate::elementary::Fact;
+use crate::follow::{Here, Known, onward};
 use flt_bpf::insn::Insn;
 use flt_bpf::operation::{Operand, Test};
 use std::alloc::{AllocError, Allocator};
@@ -137,6 +140,50 @@ impl<A: Allocator> Code<A> {
             self.put_jump(to.yes)?;
             let (jt, jf) = (0, 1);
             self.put(Insn { code, jt, jf, k })
+        }
+    }
+
+    // One step from a place.
+    fn one_on(&self, here: Here<'_>, place: usize) -> usize
+        ensures { result ≡ one_on self.now (here.entry.own ∷ here.entry.more ∷ here.entry.facts.now) place }
+    {
+        let within = place.min(self.top());
+        onward(&self.backwards[..within], here, place)
+    }
+
+    fn two_on(&self, here: Here<'_>, place: usize) -> usize
+        ensures { result ≡ two_on self.now (here.entry.own ∷ here.entry.more ∷ here.entry.facts.now) place }
+    {
+        self.one_on(here, self.one_on(here, place))
+    }
+
+    fn four_on(&self, here: Here<'_>, place: usize) -> usize
+        ensures { result ≡ four_on self.now (here.entry.own ∷ here.entry.more ∷ here.entry.facts.now) place }
+    {
+        self.two_on(here, self.two_on(here, place))
+    }
+
+    fn eight_on(&self, here: Here<'_>, place: usize) -> usize
+        ensures { result ≡ eight_on self.now (here.entry.own ∷ here.entry.more ∷ here.entry.facts.now) place }
+    {
+        self.four_on(here, self.four_on(here, place))
+    }
+
+    /// The target of a jump that is taken where a fact holds, followed as far as what is known leads.
+    #[tactic(auto, unfolding(crate::specs::Follow::followed))]
+    pub fn followed(&self, known: Known<'_>, own: Fact, place: usize) -> usize
+        ensures { result ≡ followed self.now (knowing known.entry.facts.now known.entry.either) own place }
+    {
+        let facts = known.facts;
+        let more = Fact::yes(known.either.first);
+        let one = self.eight_on(Here { own, more, facts }, place);
+        let more = Fact::yes(known.either.second);
+        let other = self.eight_on(Here { own, more, facts }, place);
+        if one == other {
+            one
+        } else {
+            let more = own;
+            self.eight_on(Here { own, more, facts }, place)
         }
     }
 

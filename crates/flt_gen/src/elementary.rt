@@ -1,5 +1,8 @@
 //! The tests that primitives are made of: each looks at one field of a packet.
 
+ghost use Rattle.std.specs.Prelude.{◌≡◌, true, false};
+ghost use Rattle.flt_gen.specs.Follow.{fact, trivial};
+
 use flt_bpf::operation::Width;
 use flt_words::Comparison;
 
@@ -45,4 +48,47 @@ pub enum Elementary {
 pub enum Ports {
     One(u32),
     Between(u32, u32),
+}
+
+/// A test with its outcome, where that is known of a packet.
+#[derive(Clone, Copy, Debug, PartialEq, Eq)]
+pub struct Fact {
+    pub test: Elementary,
+    pub truth: bool,
+}
+
+impl Fact {
+    /// The test was yes.
+    pub fn yes(test: Elementary) -> Self
+        ensures { result ≡ fact test true }
+    {
+        Fact { test, truth: true }
+    }
+
+    /// The test was no.
+    pub fn no(test: Elementary) -> Self
+        ensures { result ≡ fact test false }
+    {
+        Fact { test, truth: false }
+    }
+}
+
+/// Two tests of which one is yes.
+#[derive(Clone, Copy, Debug, PartialEq, Eq)]
+pub struct Alternatives {
+    pub first: Elementary,
+    pub second: Elementary,
+}
+
+impl Alternatives {
+    /// Those of every packet.
+    pub fn trivial() -> Self
+        ensures { result ≡ trivial }
+    {
+        let first = Elementary::Known(true);
+        Alternatives {
+            first,
+            second: first,
+        }
+    }
 }

@@ -4,6 +4,7 @@
 mod address;
 mod code;
 mod elementary;
+mod follow;
 mod link;
 mod number;
 mod port;

@@ -7,4 +7,6 @@ pub enum Link {
     Ether,
     /// Raw IP, link type 101: packets begin with the network header.
     Raw,
+    /// Linux cooked capture, link type 113: a header of 16 bytes stands before the network header.
+    Cooked,
 }

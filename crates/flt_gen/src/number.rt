@@ -2,10 +2,12 @@
 
 ghost use Rattle.std.specs.Prelude.{◌≡◌, ◌+◌, ◌*◌, ◌^◌, ◌<◌, ◌≤◌, length, OnOk, IfOk, reverse};
 ghost use Rattle.flt_gen.specs.Code.{entered, base_before, transport_before, accessor_before, operator_code, operands_before, all_before, accessors_before};
+ghost use Rattle.flt_gen.specs.Follow.{nothing};
 ghost use Rattle.flt_gen.specs.Numbers.{accessor_tests, width_of};
 
 use crate::code::{Code, Targets};
 use crate::elementary::Kind;
+use crate::follow::Known;
 use crate::link::Link;
 use crate::put::{indirect_code, put_all};
 use crate::table::{first_fragment, has_ip_proto, kind_test, network};
@@ -26,6 +28,8 @@ pub fn operator_code(operator: Operator) -> u16
         Operator::And => 92,
         Operator::ShiftLeft => 108,
         Operator::ShiftRight => 124,
+        Operator::Remainder => 156,
+        Operator::ExclusiveOr => 172,
     }
 }
 
@@ -96,20 +100,21 @@ fn put_accessor_tests<A: Allocator>(
 ) -> Result<usize, AllocError>
     requires { length code.old + 18 < 2 ^ 31 }
     ensures code { IfOk result
-        (λ entry. all_before (accessor_tests link protocol) to.yes to.no code.old ≡ entered code.new entry) }
+        (λ entry. all_before nothing (accessor_tests link protocol) to.yes to.no code.old ≡ entered code.new entry) }
     ensures room { OnOk result (length code.new ≤ length code.old + 18) }
 {
+    let none = Known::nothing();
     let ip = kind_test(link, Kind::Ip);
     let first = first_fragment(link);
     match protocol {
-        Protocol::Ether => put_all(code, &[kind_test(link, Kind::Ethernet)], to),
-        Protocol::Ip => put_all(code, &[ip], to),
-        Protocol::Ip6 | Protocol::Icmp6 => put_all(code, &[kind_test(link, Kind::Ip6)], to),
-        Protocol::Arp => put_all(code, &[kind_test(link, Kind::Arp)], to),
-        Protocol::Rarp => put_all(code, &[kind_test(link, Kind::Rarp)], to),
-        Protocol::Tcp => put_all(code, &[ip, has_ip_proto(link, 6), first], to),
-        Protocol::Udp => put_all(code, &[ip, has_ip_proto(link, 17), first], to),
-        Protocol::Icmp => put_all(code, &[ip, has_ip_proto(link, 1), first], to),
+        Protocol::Ether => put_all(code, none, &[kind_test(link, Kind::Ethernet)], to),
+        Protocol::Ip => put_all(code, none, &[ip], to),
+        Protocol::Ip6 | Protocol::Icmp6 => put_all(code, none, &[kind_test(link, Kind::Ip6)], to),
+        Protocol::Arp => put_all(code, none, &[kind_test(link, Kind::Arp)], to),
+        Protocol::Rarp => put_all(code, none, &[kind_test(link, Kind::Rarp)], to),
+        Protocol::Tcp => put_all(code, none, &[ip, has_ip_proto(link, 6), first], to),
+        Protocol::Udp => put_all(code, none, &[ip, has_ip_proto(link, 17), first], to),
+        Protocol::Icmp => put_all(code, none, &[ip, has_ip_proto(link, 1), first], to),
     }
 }
 

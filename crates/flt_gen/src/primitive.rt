@@ -1,11 +1,13 @@
 //! The code of primitives, row by row of their table.
 
 ghost use Rattle.std.specs.Prelude.{◌≡◌, ◌+◌, ◌^◌, ◌<◌, ◌≤◌, length, OnOk, IfOk};
+ghost use Rattle.flt_gen.specs.Follow.{nothing};
 ghost use Rattle.flt_gen.specs.Code.{emitted, entered};
 ghost use Rattle.flt_gen.specs.Primitives.{ip_proto, ip6_proto, any_proto, ether_proto, check_formula, proto_formula, ether_host, mac_tests, is_group_address, cast_formula};
 
 use crate::code::{Code, Targets};
-use crate::elementary::{Elementary, FieldTest, Kind, Place};
+use crate::elementary::{Alternatives, Elementary, Fact, FieldTest, Kind, Place};
+use crate::follow::Known;
 use crate::link::Link;
 use crate::put::{put_all, put_elementary, put_sides};
 use crate::table::{compares_at, has_ip_proto, has_ip6_proto, is_at, kind_test, network};
@@ -22,11 +24,19 @@ fn put_ip_proto<A: Allocator>(
 ) -> Result<usize, AllocError>
     requires { length code.old + 12 < 2 ^ 31 }
     ensures code { IfOk result
-        (λ entry. emitted link (ip_proto link protocol) to.yes to.no code.old ≡ entered code.new entry) }
+        (λ entry. emitted link nothing (ip_proto link protocol) to.yes to.no code.old ≡ entered code.new entry) }
     ensures room { OnOk result (length code.new ≤ length code.old + 12) }
 {
-    let tests = [kind_test(link, Kind::Ip), has_ip_proto(link, protocol)];
-    put_all(code, &tests, to)
+    let kind = kind_test(link, Kind::Ip);
+    let facts = &[Fact::yes(kind)];
+    let either = Alternatives::trivial();
+    let yes = put_elementary(
+        code,
+        Known { facts, either },
+        has_ip_proto(link, protocol),
+        to,
+    )?;
+    put_elementary(code, Known::nothing(), kind, Targets { yes, no: to.no })
 }
 
 fn put_ip6_proto<A: Allocator>(
@@ -37,11 +47,19 @@ fn put_ip6_proto<A: Allocator>(
 ) -> Result<usize, AllocError>
     requires { length code.old + 12 < 2 ^ 31 }
     ensures code { IfOk result
-        (λ entry. emitted link (ip6_proto link protocol) to.yes to.no code.old ≡ entered code.new entry) }
+        (λ entry. emitted link nothing (ip6_proto link protocol) to.yes to.no code.old ≡ entered code.new entry) }
     ensures room { OnOk result (length code.new ≤ length code.old + 12) }
 {
-    let tests = [kind_test(link, Kind::Ip6), has_ip6_proto(link, protocol)];
-    put_all(code, &tests, to)
+    let kind = kind_test(link, Kind::Ip6);
+    let facts = &[Fact::yes(kind)];
+    let either = Alternatives::trivial();
+    let yes = put_elementary(
+        code,
+        Known { facts, either },
+        has_ip6_proto(link, protocol),
+        to,
+    )?;
+    put_elementary(code, Known::nothing(), kind, Targets { yes, no: to.no })
 }
 
 fn put_any_proto<A: Allocator>(
@@ -52,7 +70,7 @@ fn put_any_proto<A: Allocator>(
 ) -> Result<usize, AllocError>
     requires { length code.old + 24 < 2 ^ 31 }
     ensures code { IfOk result
-        (λ entry. emitted link (any_proto link protocol) to.yes to.no code.old ≡ entered code.new entry) }
+        (λ entry. emitted link nothing (any_proto link protocol) to.yes to.no code.old ≡ entered code.new entry) }
     ensures room { OnOk result (length code.new ≤ length code.old + 24) }
 {
     let no = put_ip6_proto(code, link, protocol, to)?;
@@ -67,14 +85,24 @@ fn put_ether_proto<A: Allocator>(
 ) -> Result<usize, AllocError>
     requires { length code.old + 12 < 2 ^ 31 }
     ensures code { IfOk result
-        (λ entry. emitted link (ether_proto link protocol) to.yes to.no code.old ≡ entered code.new entry) }
+        (λ entry. emitted link nothing (ether_proto link protocol) to.yes to.no code.old ≡ entered code.new entry) }
     ensures room { OnOk result (length code.new ≤ length code.old + 12) }
 {
-    let tests = [
-        kind_test(link, Kind::Ethernet),
-        is_at(12, Width::HalfWord, protocol),
-    ];
-    put_all(code, &tests, to)
+    match link {
+        Link::Cooked => put_elementary(
+            code,
+            Known::nothing(),
+            is_at(14, Width::HalfWord, protocol),
+            to,
+        ),
+        _ => {
+            let tests = [
+                kind_test(link, Kind::Ethernet),
+                is_at(12, Width::HalfWord, protocol),
+            ];
+            put_all(code, Known::nothing(), &tests, to)
+        }
+    }
 }
 
 /// A protocol alone.
@@ -86,15 +114,20 @@ pub fn put_check<A: Allocator>(
 ) -> Result<usize, AllocError>
     requires { length code.old + 24 < 2 ^ 31 }
     ensures code { IfOk result
-        (λ entry. emitted link (check_formula link protocol) to.yes to.no code.old ≡ entered code.new entry) }
+        (λ entry. emitted link nothing (check_formula link protocol) to.yes to.no code.old ≡ entered code.new entry) }
     ensures room { OnOk result (length code.new ≤ length code.old + 24) }
 {
     match protocol {
-        Protocol::Ether => put_elementary(code, kind_test(link, Kind::Ethernet), to),
-        Protocol::Ip => put_elementary(code, kind_test(link, Kind::Ip), to),
-        Protocol::Ip6 => put_elementary(code, kind_test(link, Kind::Ip6), to),
-        Protocol::Arp => put_elementary(code, kind_test(link, Kind::Arp), to),
-        Protocol::Rarp => put_elementary(code, kind_test(link, Kind::Rarp), to),
+        Protocol::Ether => put_elementary(
+            code,
+            Known::nothing(),
+            kind_test(link, Kind::Ethernet),
+            to,
+        ),
+        Protocol::Ip => put_elementary(code, Known::nothing(), kind_test(link, Kind::Ip), to),
+        Protocol::Ip6 => put_elementary(code, Known::nothing(), kind_test(link, Kind::Ip6), to),
+        Protocol::Arp => put_elementary(code, Known::nothing(), kind_test(link, Kind::Arp), to),
+        Protocol::Rarp => put_elementary(code, Known::nothing(), kind_test(link, Kind::Rarp), to),
         Protocol::Tcp => put_any_proto(code, link, 6, to),
         Protocol::Udp => put_any_proto(code, link, 17, to),
         Protocol::Icmp => put_ip_proto(code, link, 1, to),
@@ -112,7 +145,7 @@ pub fn put_proto<A: Allocator>(
 ) -> Result<usize, AllocError>
     requires { length code.old + 24 < 2 ^ 31 }
     ensures code { IfOk result
-        (λ entry. emitted link (proto_formula link below protocol) to.yes to.no code.old ≡ entered code.new entry) }
+        (λ entry. emitted link nothing (proto_formula link below protocol) to.yes to.no code.old ≡ entered code.new entry) }
     ensures room { OnOk result (length code.new ≤ length code.old + 24) }
 {
     match below {
@@ -147,13 +180,20 @@ pub fn put_ether_host<A: Allocator>(
 ) -> Result<usize, AllocError>
     requires { length code.old + 30 < 2 ^ 31 }
     ensures code { IfOk result
-        (λ entry. emitted link (ether_host link direction address) to.yes to.no code.old ≡ entered code.new entry) }
+        (λ entry. emitted link nothing (ether_host link direction address) to.yes to.no code.old ≡ entered code.new entry) }
     ensures room { OnOk result (length code.new ≤ length code.old + 30) }
 {
     let (source, destination) = (mac_tests(6, address), mac_tests(0, address));
-    let yes = put_sides(code, direction, &source, &destination, to)?;
+    let always = Elementary::Known(true);
+    let either = Alternatives {
+        first: always,
+        second: always,
+    };
+    let none = Known { facts: &[], either };
+    let yes = put_sides(code, none, direction, &source, &destination, to)?;
     put_elementary(
         code,
+        none,
         kind_test(link, Kind::Ethernet),
         Targets { yes, no: to.no },
     )
@@ -182,7 +222,7 @@ pub fn put_cast<A: Allocator>(
 ) -> Result<usize, AllocError>
     requires { length code.old + 30 < 2 ^ 31 }
     ensures code { IfOk result
-        (λ entry. emitted link (cast_formula link protocol cast) to.yes to.no code.old ≡ entered code.new entry) }
+        (λ entry. emitted link nothing (cast_formula link protocol cast) to.yes to.no code.old ≡ entered code.new entry) }
     ensures room { OnOk result (length code.new ≤ length code.old + 30) }
 {
     match (cast, protocol) {
@@ -197,15 +237,25 @@ pub fn put_cast<A: Allocator>(
         (Cast::Multicast, Some(Protocol::Ip)) => {
             let first = Place::At(network(link) + 16);
             let is_high = compares_at(first, Width::Byte, Comparison::AtLeast, 224);
-            put_all(code, &[kind_test(link, Kind::Ip), is_high], to)
+            put_all(
+                code,
+                Known::nothing(),
+                &[kind_test(link, Kind::Ip), is_high],
+                to,
+            )
         }
         (Cast::Multicast, Some(Protocol::Ip6)) => {
             let is_high = is_at(network(link) + 24, Width::Byte, 255);
-            put_all(code, &[kind_test(link, Kind::Ip6), is_high], to)
+            put_all(
+                code,
+                Known::nothing(),
+                &[kind_test(link, Kind::Ip6), is_high],
+                to,
+            )
         }
         (Cast::Multicast, None | Some(Protocol::Ether)) => {
             let tests = [kind_test(link, Kind::Ethernet), is_group_address()];
-            put_all(code, &tests, to)
+            put_all(code, Known::nothing(), &tests, to)
         }
         (Cast::Multicast, Some(_)) => Ok(to.no),
     }

@@ -1,24 +1,16 @@
 //! The code of elementary tests, and of several that are joined.
 
-ghost use Rattle.std.specs.Prelude.{◌≡◌, ◌+◌, ◌*◌, ◌^◌, ◌<◌, ◌≤◌, length, OnOk, IfOk};
-ghost use Rattle.flt_gen.specs.Code.{load_code, indirect_code, field_before, mask_before, comparison_before, test_before, elementary_before, all_before, sides_before, entered};
+ghost use Rattle.std.specs.Prelude.{◌≡◌, ◌+◌, ◌*◌, ◌^◌, ◌<◌, ◌≤◌, [], ◌∷◌, length, OnOk, IfOk};
+ghost use Rattle.flt_gen.specs.Follow.{knowing, trivial};
+ghost use Rattle.flt_gen.specs.Code.{indirect_code, field_before, mask_before, comparison_before, test_before, elementary_before, all_before, sides_before, fork_before, entered};
 
 use crate::code::{Code, Targets};
-use crate::elementary::{Elementary, FieldTest, Place};
+use crate::elementary::{Alternatives, Elementary, Fact, FieldTest, Place};
+use crate::follow::{Known, load_code};
 use flt_bpf::operation::{Operand, Test, Width};
 use flt_lang::Direction;
 use flt_words::{Comparison, Join, Side};
 use std::alloc::{AllocError, Allocator};
-
-fn load_code(width: Width) -> u16
-    ensures { result ≡ load_code width }
-{
-    match width {
-        Width::Word => 32,
-        Width::HalfWord => 40,
-        Width::Byte => 48,
-    }
-}
 
 /// The code of a load at X and an offset.
 pub fn indirect_code(width: Width) -> u16
@@ -93,18 +85,23 @@ fn put_test<A: Allocator>(
 /// One test. What the link type alone decides takes no code. The answer is where the test begins.
 pub fn put_elementary<A: Allocator>(
     code: &mut Code<A>,
+    known: Known<'_>,
     test: Elementary,
     to: Targets,
 ) -> Result<usize, AllocError>
     requires { length code.old < 2 ^ 31 }
-    ensures code { IfOk result (λ entry. elementary_before test to.yes to.no code.old ≡ entered code.new entry) }
+    ensures code { IfOk result (λ entry. elementary_before (knowing known.entry.facts.now known.entry.either) test to.yes to.no code.old ≡ entered code.new entry) }
     ensures room { OnOk result (length code.new ≤ length code.old + 6) }
 {
     match test {
         Elementary::Known(true) => Ok(to.yes),
         Elementary::Known(false) => Ok(to.no),
-        Elementary::Field(test) => {
-            put_test(code, test, to)?;
+        Elementary::Field(field) => {
+            let to = Targets {
+                yes: code.followed(known, Fact::yes(test), to.yes),
+                no: code.followed(known, Fact::no(test), to.no),
+            };
+            put_test(code, field, to)?;
             Ok(code.top())
         }
     }
@@ -113,18 +110,19 @@ pub fn put_elementary<A: Allocator>(
 /// All of some tests. There are few of them.
 pub fn put_all<A: Allocator>(
     code: &mut Code<A>,
+    known: Known<'_>,
     tests: &[Elementary],
     to: Targets,
 ) -> Result<usize, AllocError>
     requires { length code.old + 6 * length tests.now < 2 ^ 31 }
-    ensures code { IfOk result (λ entry. all_before tests.now to.yes to.no code.old ≡ entered code.new entry) }
+    ensures code { IfOk result (λ entry. all_before (knowing known.entry.facts.now known.entry.either) tests.now to.yes to.no code.old ≡ entered code.new entry) }
     ensures room { OnOk result (length code.new ≤ length code.old + 6 * length tests.now) }
 {
     match tests {
         [] => Ok(to.yes),
         [first, others @ ..] => {
-            let yes = put_all(code, others, to)?;
-            put_elementary(code, *first, Targets { yes, no: to.no })
+            let yes = put_all(code, known, others, to)?;
+            put_elementary(code, known, *first, Targets { yes, no: to.no })
         }
     }
 }
@@ -132,6 +130,7 @@ pub fn put_all<A: Allocator>(
 /// The tests of the source and of the destination, as a direction asks for them.
 pub fn put_sides<A: Allocator>(
     code: &mut Code<A>,
+    known: Known<'_>,
     direction: Direction,
     source: &[Elementary],
     destination: &[Elementary],
@@ -139,20 +138,43 @@ pub fn put_sides<A: Allocator>(
 ) -> Result<usize, AllocError>
     requires { length code.old + 6 * (length source.now + length destination.now) < 2 ^ 31 }
     ensures code { IfOk result
-        (λ entry. sides_before direction source.now destination.now to.yes to.no code.old ≡ entered code.new entry) }
+        (λ entry. sides_before (knowing known.entry.facts.now known.entry.either) direction source.now destination.now to.yes to.no code.old ≡ entered code.new entry) }
     ensures room { OnOk result
         (length code.new ≤ length code.old + 6 * (length source.now + length destination.now)) }
 {
     match direction {
-        Direction::One(Side::Source) => put_all(code, source, to),
-        Direction::One(Side::Destination) => put_all(code, destination, to),
+        Direction::One(Side::Source) => put_all(code, known, source, to),
+        Direction::One(Side::Destination) => put_all(code, known, destination, to),
         Direction::Both(Join::Or) => {
-            let no = put_all(code, destination, to)?;
-            put_all(code, source, Targets { yes: to.yes, no })
+            let no = put_all(code, known, destination, to)?;
+            put_all(code, known, source, Targets { yes: to.yes, no })
         }
         Direction::Both(Join::And) => {
-            let yes = put_all(code, destination, to)?;
-            put_all(code, source, Targets { yes, no: to.no })
+            let yes = put_all(code, known, destination, to)?;
+            put_all(code, known, source, Targets { yes, no: to.no })
         }
     }
+}
+
+/// One of two tests, where one fact is known.
+pub fn put_fork<A: Allocator>(
+    code: &mut Code<A>,
+    kind: Fact,
+    first: Elementary,
+    second: Elementary,
+    to: Targets,
+) -> Result<usize, AllocError>
+    requires { length code.old + 12 < 2 ^ 31 }
+    ensures code { IfOk result
+        (λ entry. fork_before (knowing (kind ∷ []) trivial) first second to.yes to.no code.old ≡ entered code.new entry) }
+    ensures room { OnOk result (length code.new ≤ length code.old + 12) }
+{
+    let either = Alternatives::trivial();
+    let facts = &[Fact::no(first), kind];
+    let no = put_elementary(code, Known { facts, either }, second, to)?;
+    let known = Known {
+        facts: &[kind],
+        either,
+    };
+    put_elementary(code, known, first, Targets { yes: to.yes, no })
 }

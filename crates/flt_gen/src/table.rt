@@ -11,11 +11,12 @@ use flt_words::Comparison;
 /// Where the network header begins.
 pub fn network(link: Link) -> u32
     ensures place { result ≡ network link }
-    ensures near { result ≤ 14 }
+    ensures near { result ≤ 16 }
 {
     match link {
         Link::Ether => 14,
         Link::Raw => 0,
+        Link::Cooked => 16,
     }
 }
 
@@ -65,6 +66,11 @@ pub fn kind_test(link: Link, kind: Kind) -> Elementary
         (Link::Raw, Kind::Ip) => is_masked(0, Width::Byte, 0xf0, 0x40),
         (Link::Raw, Kind::Ip6) => is_masked(0, Width::Byte, 0xf0, 0x60),
         (Link::Raw, Kind::Ethernet | Kind::Arp | Kind::Rarp) => Elementary::Known(false),
+        (Link::Cooked, Kind::Ethernet) => Elementary::Known(false),
+        (Link::Cooked, Kind::Ip) => is_at(14, Width::HalfWord, 0x0800),
+        (Link::Cooked, Kind::Ip6) => is_at(14, Width::HalfWord, 0x86dd),
+        (Link::Cooked, Kind::Arp) => is_at(14, Width::HalfWord, 0x0806),
+        (Link::Cooked, Kind::Rarp) => is_at(14, Width::HalfWord, 0x8035),
     }
 }
 

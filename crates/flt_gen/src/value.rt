@@ -1,6 +1,7 @@
 //! The code of values with their qualifiers.
 
 ghost use Rattle.std.specs.Prelude.{◌≡◌, ◌+◌, ◌^◌, ◌<◌, ◌≤◌, length, OnOk, IfOk};
+ghost use Rattle.flt_gen.specs.Follow.{nothing};
 ghost use Rattle.flt_gen.specs.Code.{emitted, entered, at_top, sized_before};
 ghost use Rattle.flt_gen.specs.Primitives.{host_formula, net_value_formula, qualified_formula};
 
@@ -27,7 +28,7 @@ fn put_host<A: Allocator>(
 ) -> Result<usize, AllocError>
     requires { length code.old + 54 < 2 ^ 31 }
     ensures code { IfOk result
-        (λ entry. emitted link (host_formula link protocol direction value) to.yes to.no code.old ≡ entered code.new entry) }
+        (λ entry. emitted link nothing (host_formula link protocol direction value) to.yes to.no code.old ≡ entered code.new entry) }
     ensures room { OnOk result (length code.new ≤ length code.old + 54) }
 {
     match value {
@@ -48,7 +49,7 @@ fn put_net_value<A: Allocator>(
 ) -> Result<usize, AllocError>
     requires { length code.old + 54 < 2 ^ 31 }
     ensures code { IfOk result
-        (λ entry. emitted link (net_value_formula link protocol direction value) to.yes to.no code.old ≡ entered code.new entry) }
+        (λ entry. emitted link nothing (net_value_formula link protocol direction value) to.yes to.no code.old ≡ entered code.new entry) }
     ensures room { OnOk result (length code.new ≤ length code.old + 54) }
 {
     match value {
@@ -73,7 +74,7 @@ pub fn put_qualified<A: Allocator>(
 ) -> Result<usize, AllocError>
     requires { length code.old + 90 < 2 ^ 31 }
     ensures code { IfOk result
-        (λ entry. emitted link (qualified_formula link quals value) to.yes to.no code.old ≡ entered code.new entry) }
+        (λ entry. emitted link nothing (qualified_formula link quals value) to.yes to.no code.old ≡ entered code.new entry) }
     ensures room { OnOk result (length code.new ≤ length code.old + 90) }
 {
     let (protocol, direction) = (quals.protocol, quals.direction);

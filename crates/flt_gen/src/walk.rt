@@ -128,7 +128,7 @@ impl<A: Allocator> Walk<A> {
         ensures { OnOk result (self.new ≡ with_node link self.old node.now) }
     {
         match node {
-            Node::Literal(n) => {
+            Node::Literal(n) | Node::Named(n) => {
                 self.code.put_plain(0, *n)?;
                 self.finish_number(link)
             }
@@ -189,9 +189,12 @@ impl<A: Allocator> Walk<A> {
                 put_comparison(&mut self.code, *comparison, operand, 0, to)?;
                 self.put_both(0)
             }
-            Node::Literal(_) | Node::Len | Node::Load(_, _) | Node::Negate | Node::Apply(_) => {
-                self.put_number_node(link, node)
-            }
+            Node::Literal(_)
+            | Node::Named(_)
+            | Node::Len
+            | Node::Load(_, _)
+            | Node::Negate
+            | Node::Apply(_) => { self.put_number_node(link, node) }
             _ => self.put_primitive(link, node),
         }
     }

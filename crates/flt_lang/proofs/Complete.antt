@@ -17,7 +17,7 @@ use Rattle.flt_lang.specs.declared.reading.frame.Operand.{Operand}
 use Rattle.flt_lang.specs.declared.reading.frame.Operand.TheVariants as operand
 use Rattle.flt_lang.specs.Tree.{NumberTree, literal, TruthTree, bare, Expression}
 use Rattle.flt_lang.specs.Values.{no_mask, prefix, dotted_mask, ReadsValue, number, dotted, ip6, ip6_prefix, mac, range}
-use Rattle.flt_lang.specs.Grammar.{level, is_accessor, is_check, has_casts, Number, of_literal, of_len, enclosed, of_load, of_sized_load, minus, single, chain, Truth, of_check, of_cast, of_protocol_cast, of_sized, of_valued, of_bare, relation, denial, enclosed_truth, term, terms, Reads, no_tokens, all_tokens}
+use Rattle.flt_lang.specs.Grammar.{level, is_accessor, is_check, has_casts, Number, of_literal, of_len, of_name, enclosed, of_load, of_sized_load, minus, single, chain, Truth, of_check, of_cast, of_protocol_cast, of_sized, of_valued, of_bare, relation, denial, enclosed_truth, term, terms, Reads, no_tokens, all_tokens}
 use Rattle.flt_lang.specs.Machine.{◌>>=◌, number_onto, truth_onto, expr_onto, looseness, room, reach_of, reach, as_number, as_truth, fill, run, all_run, enclosed_operand, prefix_len, next_of, go_on, IsLoose}
 use Rattle.flt_lang.proofs.Settling.{le_true, le_false, settle_stays}
 use Rattle.flt_lang.proofs.ValuesBack.{level_small}
@@ -138,6 +138,7 @@ record IsLiteral (m : ℕ) (b : NumberTree) (rest here : List TokenKind) : Type 
 literal_first : {k : ℕ} {ts rest : List TokenKind} {b : NumberTree} → Number k ts b rest → (m : ℕ) (here : List TokenKind) → k ≡ 0 → ts ≡ token.Number m ∷ here → IsLiteral m b rest here
 literal_first of_literal m here unary tokens = record { tree = cc; left = cc }
 literal_first of_len m here unary tokens = cc
+literal_first of_name m here unary tokens = cc
 literal_first (enclosed inner) m here unary tokens = cc
 literal_first (of_load accessor inner) m here unary tokens = cc
 literal_first (of_sized_load accessor inner) m here unary tokens = cc
@@ -167,6 +168,7 @@ as_prefix o ts mid rest fs d e nodes x b runs is_num right roomy is =
 reads_number : {k : ℕ} {ts rest : List TokenKind} {a : NumberTree} → Number k ts a rest → (fs : List Frame) (d : List Node) → k ≤ room fs → k ≤ reach rest → IsNoMask rest → ReadsNumber ts fs d (number_onto a d) rest
 reads_number (of_literal {n = n} {rest = rest}) fs d roomy reaches unmasked = record { operand = operand.Plain n; nodes = d; runs = plain_runs n rest fs d unmasked; is_number = refl }
 reads_number of_len fs d roomy reaches unmasked = record { operand = operand.Number; nodes = node.Len ∷ d; runs = refl; is_number = refl }
+reads_number of_name fs d roomy reaches unmasked = record { operand = operand.Number; nodes = node.Named _ ∷ d; runs = refl; is_number = refl }
 reads_number (enclosed {rest = rest} inner) fs d roomy reaches unmasked =
     let r = reads_number inner (frame.Open ∷ fs) d (lit≤ tt) (lit≤ tt) tt in
     record { operand = enclosed_operand r.operand; nodes = r.nodes; runs = r.runs ∙ close_step rest fs r.operand r.nodes; is_number = enclosed_number r.operand r.nodes ∙ r.is_number }

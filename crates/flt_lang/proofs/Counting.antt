@@ -3,7 +3,7 @@ use Rattle.std.proofs.Common.{◌≡◌, ℕ, ◌+◌, ◌≤◌, List, [], ◌�
 use Rattle.std.proofs.lemmas.List.Sums.{sum_by-cons}
 use Rattle.flt_lang.specs.declared.node.Node.{Node}
 use Rattle.flt_lang.specs.declared.node.Node.TheVariants as node
-use Rattle.flt_lang.specs.Tree.{NumberTree, literal, len, load, negated, applied, TruthTree, check, cast, sized, bare, valued, qualified, compared, denied, joined, Expression, empty, truth}
+use Rattle.flt_lang.specs.Tree.{NumberTree, literal, len, named, load, negated, applied, TruthTree, check, cast, sized, bare, valued, qualified, compared, denied, joined, Expression, empty, truth}
 use Rattle.flt_lang.specs.Nodes.{number_nodes, truth_nodes, expr_nodes, tree_of, IsTree}
 use Rattle.flt_lang.specs.Counts.{number_tests, truth_tests, tests_of, number_size, truth_size, nodes_of, number_words, truth_words, words_of, node_tests, node_size}
 use Rattle.flt_lang.specs.Heights.{climb}
@@ -14,6 +14,7 @@ one_more f n rest = sum_by-cons f n rest
 sum_number_tests : (a : NumberTree) (rest : List Node) → sum_by node_tests (number_nodes a rest) ≡ number_tests a + sum_by node_tests rest
 sum_number_tests (literal n) rest = one_more node_tests (node.Literal n) rest
 sum_number_tests len rest = one_more node_tests node.Len rest
+sum_number_tests (named n) rest = one_more node_tests (node.Named n) rest
 sum_number_tests (load p s a) rest = omega (arith, sum_number_tests a (node.Load p s ∷ rest), one_more node_tests (node.Load p s) rest)
 sum_number_tests (negated a) rest = omega (arith, sum_number_tests a (node.Negate ∷ rest), one_more node_tests node.Negate rest)
 sum_number_tests (applied o a b) rest = omega (arith, sum_number_tests a (number_nodes b (node.Apply o ∷ rest)), sum_number_tests b (node.Apply o ∷ rest), one_more node_tests (node.Apply o) rest)
@@ -39,6 +40,7 @@ tests_whole items whole = ap (λ l. sum_by node_tests l) (sym whole) ∙ sum_exp
 sum_number_sizes : (a : NumberTree) (rest : List Node) → sum_by node_size (number_nodes a rest) ≡ number_size a + sum_by node_size rest
 sum_number_sizes (literal n) rest = one_more node_size (node.Literal n) rest
 sum_number_sizes len rest = one_more node_size node.Len rest
+sum_number_sizes (named n) rest = one_more node_size (node.Named n) rest
 sum_number_sizes (load p s a) rest = omega (arith, sum_number_sizes a (node.Load p s ∷ rest), one_more node_size (node.Load p s) rest)
 sum_number_sizes (negated a) rest = omega (arith, sum_number_sizes a (node.Negate ∷ rest), one_more node_size node.Negate rest)
 sum_number_sizes (applied o a b) rest = omega (arith, sum_number_sizes a (number_nodes b (node.Apply o ∷ rest)), sum_number_sizes b (node.Apply o ∷ rest), one_more node_size (node.Apply o) rest)
@@ -68,6 +70,7 @@ moved_to h m i n rest e f = cc
 climb_number : (a : NumberTree) (h m : ℕ) (rest : List Node) → fold climb (h, m) (number_nodes a rest) ≡ fold climb (h + 1, max m (h + 1 + number_words a)) rest
 climb_number (literal n) h m rest = moved_to _ _ _ _ rest refl (omega arith)
 climb_number len h m rest = moved_to _ _ _ _ rest refl (omega arith)
+climb_number (named n) h m rest = moved_to _ _ _ _ rest refl (omega arith)
 climb_number (load p s a) h m rest = climb_number a h m (node.Load p s ∷ rest) ∙ moved_to _ _ _ _ rest refl (omega arith)
 climb_number (negated a) h m rest = climb_number a h m (node.Negate ∷ rest) ∙ moved_to _ _ _ _ rest refl (omega arith)
 climb_number (applied o a b) h m rest =

@@ -2,7 +2,7 @@
 use Rattle.std.proofs.Common.{◌≡◌, List, [], ◌∷◌, refl, sym, ap, ◌∙◌, Bool, false, ◌||◌}
 use Rattle.flt_lang.specs.declared.node.Node.{Node}
 use Rattle.flt_lang.specs.declared.node.Node.TheVariants as node
-use Rattle.flt_lang.specs.Tree.{NumberTree, literal, len, load, negated, applied, TruthTree, check, cast, sized, bare, valued, qualified, compared, denied, joined, Expression, empty, truth}
+use Rattle.flt_lang.specs.Tree.{NumberTree, literal, len, named, load, negated, applied, TruthTree, check, cast, sized, bare, valued, qualified, compared, denied, joined, Expression, empty, truth}
 use Rattle.flt_lang.specs.Nodes.{number_nodes, truth_nodes, expr_nodes, tree_of, IsTree}
 use Rattle.flt_lang.specs.Resolved.{any_primitive, some_primitive}
 use Rattle.flt_lang.specs.Checks.{is_zero, has_zero_divisor, divides_by_zero, zero_divided}
@@ -11,6 +11,7 @@ use Rattle.flt_lang.proofs.Primitives.{or_assoc, or_false}
 number_zero : (a : NumberTree) (q : Bool) (rest : List Node) → zero_divided q (number_nodes a rest) ≡ (has_zero_divisor a || zero_divided (is_zero a) rest)
 number_zero (literal n) q rest = refl
 number_zero len q rest = refl
+number_zero (named n) q rest = refl
 number_zero (load p s a) q rest = number_zero a q (node.Load p s ∷ rest)
 number_zero (negated a) q rest = number_zero a q (node.Negate ∷ rest)
 number_zero (applied o a b) q rest =

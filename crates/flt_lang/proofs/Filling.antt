@@ -2,13 +2,14 @@
 use Rattle.std.proofs.Common.{◌≡◌, List, [], refl, sym, ap, ◌∙◌, map}
 use Rattle.flt_lang.specs.declared.quals.Quals.{Quals}
 use Rattle.flt_lang.specs.declared.node.Node.{Node}
-use Rattle.flt_lang.specs.Tree.{NumberTree, literal, len, load, negated, applied, TruthTree, check, cast, sized, bare, valued, qualified, compared, denied, joined, Expression, empty, truth}
+use Rattle.flt_lang.specs.Tree.{NumberTree, literal, len, named, load, negated, applied, TruthTree, check, cast, sized, bare, valued, qualified, compared, denied, joined, Expression, empty, truth}
 use Rattle.flt_lang.specs.Nodes.{number_nodes, truth_nodes, expr_nodes, tree_of, tree_back, IsTree}
 use Rattle.flt_lang.specs.Filled.{latest, inherited, completed, only_host, expr_inherited, filled, inherited_nodes, completed_node}
 
 number_inherited : (a : NumberTree) (q : Quals) (rest : List Node) → inherited_nodes q (number_nodes a rest) ≡ number_nodes a (inherited_nodes q rest)
 number_inherited (literal n) q rest = refl
 number_inherited len q rest = refl
+number_inherited (named n) q rest = refl
 number_inherited (load p s a) q rest = number_inherited a q _
 number_inherited (negated a) q rest = number_inherited a q _
 number_inherited (applied o a b) q rest = number_inherited a q _ ∙ ap (number_nodes a) (number_inherited b q _)
@@ -31,6 +32,7 @@ expr_is_inherited (truth a) = truth_inherited a only_host []
 number_completed : (a : NumberTree) (rest : List Node) → map completed_node (number_nodes a rest) ≡ number_nodes a (map completed_node rest)
 number_completed (literal n) rest = refl
 number_completed len rest = refl
+number_completed (named n) rest = refl
 number_completed (load p s a) rest = number_completed a _
 number_completed (negated a) rest = number_completed a _
 number_completed (applied o a b) rest = number_completed a _ ∙ ap (number_nodes a) (number_completed b _)

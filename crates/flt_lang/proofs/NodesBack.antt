@@ -2,13 +2,14 @@
 use Rattle.std.proofs.Common.{◌≡◌, List, [], refl, sym, ap, ◌∙◌}
 use mathlib.Core.List.{reverse_aux}
 use Rattle.flt_lang.specs.declared.node.Node.{Node}
-use Rattle.flt_lang.specs.Tree.{NumberTree, literal, len, load, negated, applied, TruthTree, check, cast, sized, bare, valued, qualified, compared, denied, joined, Expression, empty, truth}
+use Rattle.flt_lang.specs.Tree.{NumberTree, literal, len, named, load, negated, applied, TruthTree, check, cast, sized, bare, valued, qualified, compared, denied, joined, Expression, empty, truth}
 use Rattle.flt_lang.specs.Nodes.{number_nodes, truth_nodes, expr_nodes, tree_of, tree_back}
 use Rattle.flt_lang.specs.Machine.{number_onto, truth_onto, expr_onto}
 
 number_turned : (a : NumberTree) (d rest : List Node) → reverse_aux (number_onto a d) rest ≡ reverse_aux d (number_nodes a rest)
 number_turned (literal n) d rest = refl
 number_turned len d rest = refl
+number_turned (named n) d rest = refl
 number_turned (load p s a) d rest = number_turned a d _
 number_turned (negated a) d rest = number_turned a d _
 number_turned (applied o a b) d rest = number_turned b _ _ ∙ number_turned a d _

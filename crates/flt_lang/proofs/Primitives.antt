@@ -6,7 +6,7 @@ use Rattle.flt_words.specs.declared.token.Operator.{Operator}
 use Rattle.flt_words.specs.declared.token.Join.{Join}
 use Rattle.flt_lang.specs.declared.node.Node.{Node}
 use Rattle.flt_lang.specs.declared.node.Node.TheVariants as node
-use Rattle.flt_lang.specs.Tree.{NumberTree, literal, len, load, negated, applied, TruthTree, check, cast, sized, bare, valued, qualified, compared, denied, joined, Expression, empty, truth}
+use Rattle.flt_lang.specs.Tree.{NumberTree, literal, len, named, load, negated, applied, TruthTree, check, cast, sized, bare, valued, qualified, compared, denied, joined, Expression, empty, truth}
 use Rattle.flt_lang.specs.Nodes.{number_nodes, truth_nodes, expr_nodes}
 use Rattle.flt_lang.specs.Fits.{is_size}
 use Rattle.flt_lang.specs.Resolved.{has_wrong_size, is_misfit, is_out_of_range, has_past_bits, any_primitive, some_primitive, tree_fault, is_misfit_node, is_out_of_range_node, has_past_bits_node, nodes_fault}
@@ -48,12 +48,13 @@ some_node g f s empty = refl
 some_node g f s (truth a) = any_nodes g f s a [] ∙ or_false (any_primitive f a)
 
 -- no number has a fault
-number_free : (g : Node → Bool) → ((n : ℕ) → g (node.Literal n) ≡ false) → g node.Len ≡ false → ((p : Protocol) (z : ℕ) → g (node.Load p z) ≡ false) → g node.Negate ≡ false → ((o : Operator) → g (node.Apply o) ≡ false) → (a : NumberTree) (rest : List Node) → list_any g (number_nodes a rest) ≡ list_any g rest
-number_free g l m p n o (literal k) rest = rw (l k) refl
-number_free g l m p n o len rest = rw m refl
-number_free g l m p n o (load q z a) rest = number_free g l m p n o a (node.Load q z ∷ rest) ∙ rw (p q z) refl
-number_free g l m p n o (negated a) rest = number_free g l m p n o a (node.Negate ∷ rest) ∙ rw n refl
-number_free g l m p n o (applied i a b) rest = number_free g l m p n o a (number_nodes b (node.Apply i ∷ rest)) ∙ number_free g l m p n o b (node.Apply i ∷ rest) ∙ rw (o i) refl
+number_free : (g : Node → Bool) → ((n : ℕ) → g (node.Literal n) ≡ false) → ((n : ℕ) → g (node.Named n) ≡ false) → g node.Len ≡ false → ((p : Protocol) (z : ℕ) → g (node.Load p z) ≡ false) → g node.Negate ≡ false → ((o : Operator) → g (node.Apply o) ≡ false) → (a : NumberTree) (rest : List Node) → list_any g (number_nodes a rest) ≡ list_any g rest
+number_free g l v m p n o (literal k) rest = rw (l k) refl
+number_free g l v m p n o len rest = rw m refl
+number_free g l v m p n o (named k) rest = rw (v k) refl
+number_free g l v m p n o (load q z a) rest = number_free g l v m p n o a (node.Load q z ∷ rest) ∙ rw (p q z) refl
+number_free g l v m p n o (negated a) rest = number_free g l v m p n o a (node.Negate ∷ rest) ∙ rw n refl
+number_free g l v m p n o (applied i a b) rest = number_free g l v m p n o a (number_nodes b (node.Apply i ∷ rest)) ∙ number_free g l v m p n o b (node.Apply i ∷ rest) ∙ rw (o i) refl
 
 misfit_primitive : (a : TruthTree) (rest : List Node) → is_primitive a ≡ true → list_any is_misfit_node (truth_nodes a rest) ≡ (is_misfit a || list_any is_misfit_node rest)
 misfit_primitive (check p) rest h = refl
@@ -63,7 +64,7 @@ misfit_primitive (bare v) rest h = refl
 misfit_primitive (valued q v) rest h = refl
 misfit_primitive (qualified q v) rest h = refl
 misfit_primitive (compared c a b) rest h =
-    number_free is_misfit_node (λ _. refl) refl (λ _ _. refl) refl (λ _. refl) a (number_nodes b (node.Compare c ∷ rest)) ∙ number_free is_misfit_node (λ _. refl) refl (λ _ _. refl) refl (λ _. refl) b (node.Compare c ∷ rest)
+    number_free is_misfit_node (λ _. refl) (λ _. refl) refl (λ _ _. refl) refl (λ _. refl) a (number_nodes b (node.Compare c ∷ rest)) ∙ number_free is_misfit_node (λ _. refl) (λ _. refl) refl (λ _ _. refl) refl (λ _. refl) b (node.Compare c ∷ rest)
 misfit_primitive (denied a) rest h = cc
 misfit_primitive (joined j a b) rest h = cc
 
@@ -75,7 +76,7 @@ past_primitive (bare v) rest h = refl
 past_primitive (valued q v) rest h = refl
 past_primitive (qualified q v) rest h = refl
 past_primitive (compared c a b) rest h =
-    number_free has_past_bits_node (λ _. refl) refl (λ _ _. refl) refl (λ _. refl) a (number_nodes b (node.Compare c ∷ rest)) ∙ number_free has_past_bits_node (λ _. refl) refl (λ _ _. refl) refl (λ _. refl) b (node.Compare c ∷ rest)
+    number_free has_past_bits_node (λ _. refl) (λ _. refl) refl (λ _ _. refl) refl (λ _. refl) a (number_nodes b (node.Compare c ∷ rest)) ∙ number_free has_past_bits_node (λ _. refl) (λ _. refl) refl (λ _ _. refl) refl (λ _. refl) b (node.Compare c ∷ rest)
 past_primitive (denied a) rest h = cc
 past_primitive (joined j a b) rest h = cc
 
@@ -83,6 +84,7 @@ past_primitive (joined j a b) rest h = cc
 number_sizes : (a : NumberTree) (rest : List Node) → list_any is_out_of_range_node (number_nodes a rest) ≡ (has_wrong_size a || list_any is_out_of_range_node rest)
 number_sizes (literal n) rest = refl
 number_sizes len rest = refl
+number_sizes (named n) rest = refl
 number_sizes (load p s a) rest = number_sizes a (node.Load p s ∷ rest) ∙ sym (or_assoc (has_wrong_size a) (not (is_size s)) (list_any is_out_of_range_node rest))
 number_sizes (negated a) rest = number_sizes a (node.Negate ∷ rest)
 number_sizes (applied o a b) rest =

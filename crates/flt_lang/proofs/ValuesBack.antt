@@ -20,6 +20,8 @@ use Rattle.flt_lang.specs.Machine.{reach}
 pub level_small : (o : Operator) → level o ≤ 3
 level_small operator.Multiply = lit≤ tt
 level_small operator.Divide = lit≤ tt
+level_small operator.Remainder = lit≤ tt
+level_small operator.ExclusiveOr = lit≤ tt
 level_small operator.Add = lit≤ tt
 level_small operator.Subtract = lit≤ tt
 level_small operator.ShiftLeft = lit≤ tt

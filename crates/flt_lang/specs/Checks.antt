@@ -1,18 +1,19 @@
 -- The faults of a resolved tree: a division by 0, too many words, too long a program.
 use Rattle.std.specs.Prelude.{Bool, true, false, ◌&&◌, ◌||◌, ◌==◌, nat_lt, List, [], ◌∷◌, Option, Some, None}
 use Rattle.flt_words.specs.declared.token.Operator.{Operator}
-use Rattle.flt_words.specs.declared.token.Operator.TheVariants.{Divide}
+use Rattle.flt_words.specs.declared.token.Operator.TheVariants.{Divide, Remainder}
 use Rattle.flt_words.specs.declared.fault.ExprFault.{ExprFault}
 use Rattle.flt_words.specs.declared.fault.ExprFault.TheVariants as fault
 use Rattle.flt_lang.specs.declared.node.Node.{Node}
 use Rattle.flt_lang.specs.declared.node.Node.TheVariants as node
-use Rattle.flt_lang.specs.Tree.{NumberTree, literal, len, load, negated, applied, TruthTree, compared, Expression}
+use Rattle.flt_lang.specs.Tree.{NumberTree, literal, len, named, load, negated, applied, TruthTree, compared, Expression}
 use Rattle.flt_lang.specs.Resolved.{some_primitive}
 use Rattle.flt_lang.specs.Counts.{words_of, bound_of}
 
 -- the operators whose right side may not be 0
 abbrev pub is_division : Operator → Bool
 is_division Divide = true
+is_division Remainder = true
 is_division _ = false
 
 abbrev pub is_zero : NumberTree → Bool
@@ -23,6 +24,7 @@ is_zero _ = false
 abbrev pub has_zero_divisor : NumberTree → Bool
 has_zero_divisor (literal n) = false
 has_zero_divisor len = false
+has_zero_divisor (named n) = false
 has_zero_divisor (load p s a) = has_zero_divisor a
 has_zero_divisor (negated a) = has_zero_divisor a
 has_zero_divisor (applied o a b) = has_zero_divisor a || (has_zero_divisor b || is_division o && is_zero b)

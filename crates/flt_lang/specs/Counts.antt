@@ -14,7 +14,7 @@ use Rattle.flt_lang.specs.declared.value.Value.{Value}
 use Rattle.flt_lang.specs.declared.value.Value.TheVariants as value
 use Rattle.flt_lang.specs.declared.node.Node.{Node}
 use Rattle.flt_lang.specs.declared.node.Node.TheVariants as node
-use Rattle.flt_lang.specs.Tree.{NumberTree, literal, len, load, negated, applied, TruthTree, check, cast, sized, bare, valued, qualified, compared, denied, joined, Expression, empty, truth}
+use Rattle.flt_lang.specs.Tree.{NumberTree, literal, len, named, load, negated, applied, TruthTree, check, cast, sized, bare, valued, qualified, compared, denied, joined, Expression, empty, truth}
 
 -- so many tests for the source, for the destination, or for each of them
 abbrev pub side_tests : Direction → ℕ → ℕ
@@ -88,6 +88,7 @@ accessor_tests _ = 1
 abbrev pub number_tests : NumberTree → ℕ
 number_tests (literal n) = 0
 number_tests len = 0
+number_tests (named n) = 0
 number_tests (load p s a) = number_tests a + accessor_tests p
 number_tests (negated a) = number_tests a
 number_tests (applied o a b) = number_tests a + number_tests b
@@ -108,6 +109,7 @@ truth_tests (joined j a b) = truth_tests a + truth_tests b
 abbrev pub number_size : NumberTree → ℕ
 number_size (literal n) = 1
 number_size len = 1
+number_size (named n) = 1
 number_size (load p s a) = number_size a + 1
 number_size (negated a) = number_size a + 1
 number_size (applied o a b) = number_size a + number_size b + 1
@@ -124,6 +126,7 @@ truth_size _ = 0
 abbrev pub number_words : NumberTree → ℕ
 number_words (literal n) = 0
 number_words len = 0
+number_words (named n) = 0
 number_words (load p s a) = number_words a
 number_words (negated a) = number_words a
 number_words (applied o a b) = max (number_words a) (1 + number_words b)
@@ -166,6 +169,7 @@ abbrev pub node_size : Node → ℕ
 node_size (node.Sized s n) = 2
 node_size (node.Literal n) = 1
 node_size node.Len = 1
+node_size (node.Named n) = 1
 node_size (node.Load p s) = 1
 node_size node.Negate = 1
 node_size (node.Apply o) = 1

@@ -14,18 +14,20 @@ use Rattle.flt_words.specs.declared.token.TokenKind.TheVariants as token
 use Rattle.flt_lang.specs.declared.value.Value.{Value}
 use Rattle.flt_lang.specs.declared.quals.Quals.{Quals}
 use Rattle.flt_lang.specs.Values.{ReadsQuals, is_written, ReadsValue}
-use Rattle.flt_lang.specs.Tree.{NumberTree, literal, len, load, negated, applied, TruthTree, check, cast, sized, bare, valued, compared, denied, joined, Expression, empty, truth}
+use Rattle.flt_lang.specs.Tree.{NumberTree, literal, len, named, load, negated, applied, TruthTree, check, cast, sized, bare, valued, compared, denied, joined, Expression, empty, truth}
 
 -- the level of an operator: its chains are of operands of this level
 abbrev pub level : Operator → ℕ
 level operator.Multiply = 0
 level operator.Divide = 0
+level operator.Remainder = 0
 level operator.Add = 1
 level operator.Subtract = 1
 level operator.ShiftLeft = 2
 level operator.ShiftRight = 2
 level operator.Or = 3
 level operator.And = 3
+level operator.ExclusiveOr = 3
 
 -- the protocols that may stand alone, before a bracket, and before `broadcast` or `multicast`
 abbrev pub is_check : Protocol → Bool
@@ -47,6 +49,7 @@ has_casts _ = false
 pub data Number : ℕ → List TokenKind → NumberTree → List TokenKind → Type 0 where
   of_literal : {n : ℕ} {rest : List TokenKind} → Number 0 (token.Number n ∷ rest) (literal n) rest
   of_len : {rest : List TokenKind} → Number 0 (token.Len ∷ rest) len rest
+  of_name : {n : ℕ} {rest : List TokenKind} → Number 0 (token.Name n ∷ rest) (named n) rest
   enclosed : {ts rest : List TokenKind} {a : NumberTree} → Number 4 ts a (token.Close ∷ rest) → Number 0 (token.Open ∷ ts) a rest
   of_load : {p : Protocol} {ts rest : List TokenKind} {a : NumberTree} → is_accessor p ≡ true → Number 4 ts a (token.CloseBracket ∷ rest) → Number 0 (token.Protocol p ∷ token.OpenBracket ∷ ts) (load p 1 a) rest
   of_sized_load : {p : Protocol} {n : ℕ} {ts rest : List TokenKind} {a : NumberTree} → is_accessor p ≡ true → Number 4 ts a (token.Colon ∷ token.Number n ∷ token.CloseBracket ∷ rest) → Number 0 (token.Protocol p ∷ token.OpenBracket ∷ ts) (load p n a) rest

@@ -7,6 +7,7 @@ use Rattle.flt_lang.specs.declared.node.Node.TheVariants as node
 abbrev pub height_after : ℕ → Node → ℕ
 height_after h (node.Literal n) = h + 1
 height_after h node.Len = h + 1
+height_after h (node.Named n) = h + 1
 height_after h (node.Apply o) = h - 1
 height_after h (node.Compare c) = h - 2
 height_after h _ = h

@@ -17,7 +17,7 @@ use Rattle.flt_lang.specs.declared.reading.protocols.Opening.{Opening}
 use Rattle.flt_lang.specs.declared.reading.protocols.Opening.TheVariants as opening
 use Rattle.flt_lang.specs.declared.reading.frame.Operand.{Operand}
 use Rattle.flt_lang.specs.declared.reading.frame.Operand.TheVariants as operand
-use Rattle.flt_lang.specs.Tree.{NumberTree, literal, len, load, negated, applied, TruthTree, check, cast, sized, bare, valued, qualified, compared, denied, joined, Expression, empty, truth}
+use Rattle.flt_lang.specs.Tree.{NumberTree, literal, len, named, load, negated, applied, TruthTree, check, cast, sized, bare, valued, qualified, compared, denied, joined, Expression, empty, truth}
 use Rattle.flt_lang.specs.Values.{quals_of, value_of}
 use Rattle.flt_lang.specs.Grammar.{level, is_check, is_accessor, has_casts}
 
@@ -29,6 +29,7 @@ o >>= f = option_and_then f o
 abbrev pub number_onto : NumberTree → List Node → List Node
 number_onto (literal n) d = node.Literal n ∷ d
 number_onto len d = node.Len ∷ d
+number_onto (named n) d = node.Named n ∷ d
 number_onto (load p s a) d = node.Load p s ∷ number_onto a d
 number_onto (negated a) d = node.Negate ∷ number_onto a d
 number_onto (applied o a b) d = node.Apply o ∷ number_onto b (number_onto a d)
@@ -225,6 +226,7 @@ begin (token.Ip6 a ∷ ts) fs d = with_frames fs (bare_of (token.Ip6 a ∷ ts) d
 begin (token.Mac a ∷ ts) fs d = with_frames fs (bare_of (token.Mac a ∷ ts) d)
 begin (token.Range a b ∷ ts) fs d = with_frames fs (bare_of (token.Range a b ∷ ts) d)
 begin (token.Len ∷ ts) fs d = Some (0, (fs, Some operand.Number, node.Len ∷ d))
+begin (token.Name n ∷ ts) fs d = Some (0, (fs, Some operand.Number, node.Named n ∷ d))
 begin (token.Not ∷ ts) fs d = if nat_le 6 (room fs) then Some (0, (frame.Not ∷ fs, None, d)) else None
 begin (token.Operator Subtract ∷ ts) fs d = Some (0, (frame.Negate ∷ fs, None, d))
 begin (token.Open ∷ ts) fs d = Some (0, (frame.Open ∷ fs, None, d))

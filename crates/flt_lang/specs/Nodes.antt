@@ -4,12 +4,13 @@ use Rattle.std.proofs.Common.{ap, ◌∙◌}
 use Rattle.flt_words.specs.declared.token.Comparison.{Comparison}
 use Rattle.flt_lang.specs.declared.node.Node.{Node}
 use Rattle.flt_lang.specs.declared.node.Node.TheVariants as node
-use Rattle.flt_lang.specs.Tree.{NumberTree, literal, len, load, negated, applied, TruthTree, check, cast, sized, bare, valued, qualified, compared, denied, joined, Expression, empty, truth}
+use Rattle.flt_lang.specs.Tree.{NumberTree, literal, len, named, load, negated, applied, TruthTree, check, cast, sized, bare, valued, qualified, compared, denied, joined, Expression, empty, truth}
 
 -- the nodes of a number, and then the rest
 abbrev pub number_nodes : NumberTree → List Node → List Node
 number_nodes (literal n) rest = node.Literal n ∷ rest
 number_nodes len rest = node.Len ∷ rest
+number_nodes (named n) rest = node.Named n ∷ rest
 number_nodes (load p s a) rest = number_nodes a (node.Load p s ∷ rest)
 number_nodes (negated a) rest = number_nodes a (node.Negate ∷ rest)
 number_nodes (applied o a b) rest = number_nodes a (number_nodes b (node.Apply o ∷ rest))
@@ -66,6 +67,7 @@ with_node t node.Not = record { truths = with_latest denied t.truths; numbers = 
 with_node t (node.Join j) = record { truths = with_two (joined j) t.truths; numbers = t.numbers }
 with_node t (node.Literal n) = with_number (literal n) t
 with_node t node.Len = with_number len t
+with_node t (node.Named n) = with_number (named n) t
 with_node t (node.Load p s) = record { truths = t.truths; numbers = with_latest (load p s) t.numbers }
 with_node t node.Negate = record { truths = t.truths; numbers = with_latest negated t.numbers }
 with_node t (node.Apply o) = record { truths = t.truths; numbers = with_two (applied o) t.numbers }
@@ -85,6 +87,7 @@ IsTree nodes = expr_nodes (tree_of nodes) ≡ nodes
 number_back : (a : NumberTree) (t : Trees) (rest : List Node) → fold with_node t (number_nodes a rest) ≡ fold with_node (with_number a t) rest
 number_back (literal n) t rest = refl
 number_back len t rest = refl
+number_back (named n) t rest = refl
 number_back (load p s a) t rest = number_back a t _
 number_back (negated a) t rest = number_back a t _
 number_back (applied o a b) t rest = number_back a t _ ∙ number_back b _ _

@@ -14,6 +14,7 @@ use Rattle.flt_lang.specs.declared.quals.FullQuals.{FullQuals}
 pub data NumberTree : Type 0 where
   literal : ℕ → NumberTree
   len : NumberTree
+  named : ℕ → NumberTree
   load : Protocol → ℕ → NumberTree → NumberTree
   negated : NumberTree → NumberTree
   applied : Operator → NumberTree → NumberTree → NumberTree

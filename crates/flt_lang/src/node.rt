@@ -30,6 +30,8 @@ pub enum Node {
     Literal(u32),
     /// The length of the packet.
     Len,
+    /// A name that stands for a number.
+    Named(u32),
     /// Takes a number, the place, and reads so many bytes there: 1 where no size is written.
     Load(Protocol, u32),
     /// Takes a number.

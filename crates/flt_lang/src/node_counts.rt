@@ -147,7 +147,12 @@ impl Node {
     {
         match self {
             Node::Sized(_, _) => 2,
-            Node::Literal(_) | Node::Len | Node::Load(_, _) | Node::Negate | Node::Apply(_) => 1,
+            Node::Literal(_)
+            | Node::Named(_)
+            | Node::Len
+            | Node::Load(_, _)
+            | Node::Negate
+            | Node::Apply(_) => 1,
             _ => 0,
         }
     }
@@ -158,7 +163,7 @@ impl Node {
         ensures { result ≡ height_after height self }
     {
         match self {
-            Node::Literal(_) | Node::Len => height + 1,
+            Node::Literal(_) | Node::Named(_) | Node::Len => height + 1,
             Node::Apply(_) => height.saturating_sub(1),
             Node::Compare(_) => height.saturating_sub(2),
             _ => height,
@@ -185,6 +190,6 @@ impl Node {
     pub(crate) fn is_division(self) -> bool
         ensures { result ≡ is_division_node self }
     {
-        matches!(self, Node::Apply(Operator::Divide))
+        matches!(self, Node::Apply(Operator::Divide | Operator::Remainder))
     }
 }

@@ -9,7 +9,8 @@ use Rattle.flt_words.specs.declared.token.TokenKind.{TokenKind}
 use Rattle.flt_words.specs.declared.token.TokenKind.TheVariants as token
 use Rattle.flt_words.specs.Addresses.{AreGroups, AreIp6Ends, IsDotted, IsGroup, IsIp6, IsMac, IsWholeIp6, group_values}
 use Rattle.flt_words.specs.Addresses.IsIp6.{shortened, whole}
-use Rattle.flt_words.specs.Numbers.{IsNumber, Writes}
+use Rattle.flt_words.specs.Numbers.{IsNumber, IsRange, Writes}
+use Rattle.flt_words.specs.Numbers.IsRange.{joined}
 use Rattle.flt_words.specs.Numbers.IsNumber.{decimal, octal, hexadecimal, capital_hexadecimal}
 use Rattle.flt_words.specs.Spellings.{keyword_of}
 use Rattle.flt_words.specs.Words.{Stands}
@@ -18,7 +19,7 @@ use Rattle.flt_words.proofs.AddressValues.{same_groups}
 use Rattle.flt_words.proofs.DoubleColons.{double_between, ends_from_ip6, no_double_colon, none_before_first}
 use Rattle.flt_words.proofs.OneNumber.{same_number, same_range}
 use Rattle.flt_words.proofs.Tables.{keyword_is_plain}
-use Rattle.flt_words.proofs.WordKinds.{kind_sign, sign_is}
+use Rattle.flt_words.proofs.WordKinds.{keyword_low, kind_sign, sign_is}
 
 same_dotted : {word : List ℕ} {a b m n : ℕ} → IsDotted word a m → IsDotted word b n → (a ≡ b) × (m ≡ n)
 same_dotted v w =
@@ -67,17 +68,28 @@ number_first (octal w) = lit< tt
 number_first (hexadecimal w) = lit< tt
 number_first (capital_hexadecimal w) = lit< tt
 
+range_first : {word : List ℕ} {first last : ℕ} → IsRange word first last → get_or word 0 0 < 58
+range_first (joined {front = []} v w) = absurd (omega (arith, v.writes.numeral.0))
+range_first (joined {front = d ∷ front} v w) = decimal_first (d ∷ front) v.writes
+
 letter_is_no_digit : (b : ℕ) → nat_lt 57 b ≡ true → b < 58 → ⊥
 letter_is_no_digit b letter digit = grind (arith, nat_tests)
 
 no_keyword_is_number : {word : List ℕ} {kind : TokenKind} {n : ℕ} → keyword_of word ≡ Some kind → IsNumber word n → ⊥
 no_keyword_is_number {word} {kind} v w = letter_is_no_digit (get_or word 0 0) (keyword_is_plain word kind v).letter (number_first w)
 
+no_keyword_is_range : {word : List ℕ} {kind : TokenKind} {first last : ℕ} → keyword_of word ≡ Some kind → IsRange word first last → ⊥
+no_keyword_is_range {word} {kind} v w = letter_is_no_digit (get_or word 0 0) (keyword_is_plain word kind v).letter (range_first w)
+
 pub same_kind : {word : List ℕ} {a b : TokenKind} → Stands word a → Stands word b → a ≡ b
 unfolding kind_sign
 same_kind (keyword v) (keyword w) = cc
 same_kind (keyword v) (number w) = absurd (no_keyword_is_number v w)
 same_kind (number v) (keyword w) = absurd (no_keyword_is_number w v)
+same_kind (keyword v) (range w) = absurd (no_keyword_is_range v w)
+same_kind (range v) (keyword w) = absurd (no_keyword_is_range w v)
+same_kind {word} {a} {b} (keyword v) w = absurd (omega (arith, keyword_low word a v, sign_is w))
+same_kind {word} {a} {b} v (keyword w) = absurd (omega (arith, sign_is v, keyword_low word b w))
 same_kind (number v) (number w) = ap token.Number (same_number v w)
 same_kind (dotted v) (dotted w) = let same = same_dotted v w in rw (same.0, same.1) refl
 same_kind (range v) (range w) = let same = same_range v w in rw (same.0, same.1) refl

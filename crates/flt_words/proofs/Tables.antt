@@ -27,7 +27,7 @@ found_passes p (entry ∷ table) piece kind all found =
     found_step p entry.0 entry.1 piece kind (look_up table piece) (bytes_eq entry.0 piece) refl parts.0 (found_passes p table piece kind parts.1) found
 
 keyword_test : List ℕ → TokenKind → Bool
-keyword_test word kind = fits kind && (nat_lt 57 (get_or word 0 0) && (not (has 58 word) && (not (has 46 word) && not (has 45 word))))
+keyword_test word kind = fits kind && (nat_lt 57 (get_or word 0 0) && (not (has 58 word) && not (has 46 word)))
 
 all_keywords : list_all (λ entry. keyword_test entry.0 entry.1) keywords ≡ true
 unfolding keyword_test keywords
@@ -37,26 +37,23 @@ pub is_false : (b : Bool) → not b ≡ true → b ≡ false
 is_false true h = sym h
 is_false false h = refl
 
--- a keyword is a token as it stands, begins with a letter, and has no colon, point or dash
+-- a keyword is a token as it stands, begins with a letter, and has no colon or point
 pub record IsPlainWord (word : List ℕ) (kind : TokenKind) : Type 0 where
   pub fitting : fits kind ≡ true
   pub letter : nat_lt 57 (get_or word 0 0) ≡ true
   pub no_colon : has 58 word ≡ false
   pub no_point : has 46 word ≡ false
-  pub no_dash : has 45 word ≡ false
 
 pub keyword_is_plain : (word : List ℕ) (kind : TokenKind) → keyword_of word ≡ Some kind → IsPlainWord word kind
 unfolding keyword_test
 keyword_is_plain word kind found =
     let pass = found_passes keyword_test keywords word kind all_keywords found in
-    let fit = both (fits kind) (nat_lt 57 (get_or word 0 0) && (not (has 58 word) && (not (has 46 word) && not (has 45 word)))) pass in
-    let letter = both (nat_lt 57 (get_or word 0 0)) (not (has 58 word) && (not (has 46 word) && not (has 45 word))) fit.1 in
-    let colon = both (not (has 58 word)) (not (has 46 word) && not (has 45 word)) letter.1 in
-    let point = both (not (has 46 word)) (not (has 45 word)) colon.1 in
+    let fit = both (fits kind) (nat_lt 57 (get_or word 0 0) && (not (has 58 word) && not (has 46 word))) pass in
+    let letter = both (nat_lt 57 (get_or word 0 0)) (not (has 58 word) && not (has 46 word)) fit.1 in
+    let colon = both (not (has 58 word)) (not (has 46 word)) letter.1 in
     record {
       fitting = fit.0;
       letter = letter.0;
       no_colon = is_false (has 58 word) colon.0;
-      no_point = is_false (has 46 word) point.0;
-      no_dash = is_false (has 45 word) point.1;
+      no_point = is_false (has 46 word) colon.1;
     }

@@ -1,5 +1,5 @@
 -- The colons, points and dashes of the kinds of words.
-use Rattle.std.proofs.Common.{◌≡◌, ℕ, ◌≤◌, List, [], ◌∷◌, ◌++◌, length, refl, ap, ◌∙◌, arith, Bool, true, false, ◌==◌, ◌||◌, cond, lit≤, None}
+use Rattle.std.proofs.Common.{◌≡◌, ℕ, ◌≤◌, List, [], ◌∷◌, ◌++◌, length, refl, ap, ◌∙◌, arith, Bool, true, false, ◌==◌, ◌||◌, cond, lit≤, None, Some}
 use Rattle.std.specs.Char.{digit_value}
 use Rattle.std.specs.List.{AllByRecursion, join_with_byte}
 use Rattle.flt_words.specs.declared.address.Group.{Group}
@@ -101,7 +101,7 @@ pub no_sign : (word : List ℕ) → has 58 word ≡ false → has 46 word ≡ fa
 no_sign word colon point dash = rw (colon, point, dash) refl
 
 unfoldable pub kind_sign : {word : List ℕ} {kind : TokenKind} → Stands word kind → ℕ
-kind_sign (keyword w) = 0
+kind_sign (keyword {word} w) = cond (has 45 word) 1 0
 kind_sign (number w) = 0
 kind_sign (range w) = 1
 kind_sign (dotted w) = 2
@@ -111,29 +111,41 @@ kind_sign (ip6 w) = 3
 -- which is that of its kind
 pub sign_is : {word : List ℕ} {kind : TokenKind} (s : Stands word kind) → sign_of word ≡ kind_sign s
 unfolding kind_sign
-sign_is {word} {kind} (keyword w) = let plain = keyword_is_plain word kind w in no_sign word plain.no_colon plain.no_point plain.no_dash
+sign_is {word} {kind} (keyword w) = let plain = keyword_is_plain word kind w in rw (plain.no_colon, plain.no_point) refl
 sign_is {word} {kind} (number w) = no_sign word (number_lacks 58 colon w) (number_lacks 46 point w) (number_lacks 45 dash w)
 sign_is {word} {kind} (range w) = dash_sign word (range_lacks 58 colon refl w) (range_lacks 46 point refl w) (range_has w)
 sign_is {word} {kind} (dotted w) = point_sign word (dotted_lacks 58 colon refl w) (groups_have w.are w.at_least_two)
 sign_is {word} {kind} (mac w) = colon_sign word (groups_have w.are (omega (arith, w.six)))
 sign_is {word} {kind} (ip6 w) = colon_sign word (ip6_has w)
 
+-- a keyword has a dash at most
+at_most_one : (b : Bool) → cond b 1 0 ≤ 1
+at_most_one true = lit≤ tt
+at_most_one false = lit≤ tt
+
+pub keyword_low : (word : List ℕ) (kind : TokenKind) → keyword_of word ≡ Some kind → sign_of word ≤ 1
+unfolding kind_sign
+keyword_low word kind w = omega (arith, sign_is (keyword w), at_most_one (has 45 word))
+
 -- what a word with a sign may stand for
 pub only_addresses : {word : List ℕ} → sign_of word ≡ 3 → ((a : ℕ) → IsMac word a → ⊥) → ((a : ℕ) → IsIp6 word a → ⊥) → (kind : TokenKind) → Stands word kind → ⊥
 unfolding kind_sign
+only_addresses {word} e no_mac no_ip6 kind (keyword w) = absurd (omega (arith, keyword_low word kind w))
 only_addresses e no_mac no_ip6 kind (mac w) = no_mac _ w
 only_addresses e no_mac no_ip6 kind (ip6 w) = no_ip6 _ w
 only_addresses e no_mac no_ip6 kind s = absurd (omega (arith, sign_is s))
 
 pub only_dotted : {word : List ℕ} → sign_of word ≡ 2 → ((a parts : ℕ) → IsDotted word a parts → ⊥) → (kind : TokenKind) → Stands word kind → ⊥
 unfolding kind_sign
+only_dotted {word} e none kind (keyword w) = absurd (omega (arith, keyword_low word kind w))
 only_dotted e none kind (dotted w) = none _ _ w
 only_dotted e none kind s = absurd (omega (arith, sign_is s))
 
-pub only_range : {word : List ℕ} → sign_of word ≡ 1 → ((numbers : ℕ × ℕ) → IsRange word numbers.0 numbers.1 → ⊥) → (kind : TokenKind) → Stands word kind → ⊥
+pub only_range : {word : List ℕ} → sign_of word ≡ 1 → keyword_of word ≡ None → ((numbers : ℕ × ℕ) → IsRange word numbers.0 numbers.1 → ⊥) → (kind : TokenKind) → Stands word kind → ⊥
 unfolding kind_sign
-only_range e none kind (range {word} {first} {last} w) = none (first, last) w
-only_range e none kind s = absurd (omega (arith, sign_is s))
+only_range e no_name none kind (keyword w) = cc
+only_range e no_name none kind (range {word} {first} {last} w) = none (first, last) w
+only_range e no_name none kind s = absurd (omega (arith, sign_is s))
 
 pub only_plain : {word : List ℕ} → sign_of word ≡ 0 → keyword_of word ≡ None → ((n : ℕ) → IsNumber word n → ⊥) → (kind : TokenKind) → Stands word kind → ⊥
 unfolding kind_sign

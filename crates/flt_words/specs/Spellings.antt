@@ -47,6 +47,15 @@ keywords =
     ∷ (codes "greater", token.Size size.Greater)
     ∷ (codes "broadcast", token.Cast cast.Broadcast)
     ∷ (codes "multicast", token.Cast cast.Multicast)
+    ∷ (codes "tcpflags", token.Name 13)
+    ∷ (codes "tcp-fin", token.Name 1)
+    ∷ (codes "tcp-syn", token.Name 2)
+    ∷ (codes "tcp-rst", token.Name 4)
+    ∷ (codes "tcp-push", token.Name 8)
+    ∷ (codes "tcp-ack", token.Name 16)
+    ∷ (codes "tcp-urg", token.Name 32)
+    ∷ (codes "icmptype", token.Name 0)
+    ∷ (codes "icmpcode", token.Name 1)
     ∷ []
 
 -- `&&`, `||`, `!` and `==` are other spellings of `and`, `or`, `not` and `=`
@@ -74,6 +83,8 @@ symbols =
     ∷ (codes "*", token.Operator operator.Multiply)
     ∷ (codes "&", token.Operator operator.And)
     ∷ (codes "|", token.Operator operator.Or)
+    ∷ (codes "%", token.Operator operator.Remainder)
+    ∷ (codes "^", token.Operator operator.ExclusiveOr)
     ∷ []
 
 abbrev pub keyword_of : List ℕ → Option TokenKind

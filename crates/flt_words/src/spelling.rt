@@ -5,7 +5,7 @@ ghost use Rattle.flt_words.specs.Spellings.{keyword_of, look_up, symbol_of};
 
 use crate::token::{Cast, Comparison, Join, Operator, Protocol, Side, Size, TokenKind, ValueType};
 
-const KEYWORDS: [(&str, TokenKind); 25] = [
+const KEYWORDS: [(&str, TokenKind); 34] = [
     ("and", TokenKind::Join(Join::And)),
     ("or", TokenKind::Join(Join::Or)),
     ("not", TokenKind::Not),
@@ -31,10 +31,19 @@ const KEYWORDS: [(&str, TokenKind); 25] = [
     ("greater", TokenKind::Size(Size::Greater)),
     ("broadcast", TokenKind::Cast(Cast::Broadcast)),
     ("multicast", TokenKind::Cast(Cast::Multicast)),
+    ("tcpflags", TokenKind::Name(13)),
+    ("tcp-fin", TokenKind::Name(1)),
+    ("tcp-syn", TokenKind::Name(2)),
+    ("tcp-rst", TokenKind::Name(4)),
+    ("tcp-push", TokenKind::Name(8)),
+    ("tcp-ack", TokenKind::Name(16)),
+    ("tcp-urg", TokenKind::Name(32)),
+    ("icmptype", TokenKind::Name(0)),
+    ("icmpcode", TokenKind::Name(1)),
 ];
 
 /// The colon is not among them, since it is a token of its own only inside brackets.
-const SYMBOLS: [(&str, TokenKind); 22] = [
+const SYMBOLS: [(&str, TokenKind); 24] = [
     ("&&", TokenKind::Join(Join::And)),
     ("||", TokenKind::Join(Join::Or)),
     ("!=", TokenKind::Comparison(Comparison::NotEqual)),
@@ -57,6 +66,8 @@ const SYMBOLS: [(&str, TokenKind); 22] = [
     ("*", TokenKind::Operator(Operator::Multiply)),
     ("&", TokenKind::Operator(Operator::And)),
     ("|", TokenKind::Operator(Operator::Or)),
+    ("%", TokenKind::Operator(Operator::Remainder)),
+    ("^", TokenKind::Operator(Operator::ExclusiveOr)),
 ];
 
 /// What a table has for a spelling.

@@ -74,6 +74,8 @@ pub enum Operator {
     Subtract,
     Multiply,
     Divide,
+    Remainder,
+    ExclusiveOr,
 }
 
 /// What a token is, with its value.
@@ -97,6 +99,8 @@ pub enum TokenKind {
     CloseBracket,
     Colon,
     Number(u32),
+    /// A name that stands for a number in arithmetic.
+    Name(u32),
     /// An IPv4 address or the front of one: two to four parts, the missing ones 0.
     Dotted { address: u32, parts: u8 },
     /// Two numbers joined by a dash, in the order in which they stand.

@@ -1,8 +1,9 @@
 //! What a word stands for.
 
-ghost use Rattle.std.specs.Prelude.{◌≡◌, false, true};
+ghost use Rattle.std.specs.Prelude.{◌≡◌, None, false, true};
 ghost use Rattle.flt_words.specs.Characters.{has};
 ghost use Rattle.flt_words.specs.Numbers.{Answers};
+ghost use Rattle.flt_words.specs.Spellings.{keyword_of};
 ghost use Rattle.flt_words.specs.Words.{Stands, WordMeans, fits};
 
 use crate::address::{dotted, ip6, mac};
@@ -37,14 +38,28 @@ fn with_point(word: &[u8]) -> Result<TokenKind, WordFault>
     }
 }
 
-/// A word with a dash and neither of these may be a range.
-fn with_dash(word: &[u8]) -> Result<TokenKind, WordFault>
+/// A word with a dash that is no name may be a range.
+fn dashed_range(word: &[u8]) -> Result<TokenKind, WordFault>
+    requires no_name { keyword_of word.now ≡ None }
     requires dash { has 45 word.now ≡ true }
     requires no_point { has 46 word.now ≡ false }
     requires no_colon { has 58 word.now ≡ false }
     ensures { Answers (Stands word.now) fits result }
 {
     range(word).map(|(first, last)| TokenKind::Range { first, last })
+}
+
+/// A word with a dash and neither of these may be a name or a range.
+fn with_dash(word: &[u8]) -> Result<TokenKind, WordFault>
+    requires dash { has 45 word.now ≡ true }
+    requires no_point { has 46 word.now ≡ false }
+    requires no_colon { has 58 word.now ≡ false }
+    ensures { Answers (Stands word.now) fits result }
+{
+    match keyword_of(word) {
+        Some(kind) => Ok(kind),
+        None => dashed_range(word),
+    }
 }
 
 /// Another word may be a keyword or a number.

@@ -59,6 +59,15 @@ fn keywords(rt: HostRuntime) -> Result<(), Fail> {
         ("greater", TokenKind::Size(Size::Greater)),
         ("broadcast", TokenKind::Cast(Cast::Broadcast)),
         ("multicast", TokenKind::Cast(Cast::Multicast)),
+        ("tcpflags", TokenKind::Name(13)),
+        ("tcp-fin", TokenKind::Name(1)),
+        ("tcp-syn", TokenKind::Name(2)),
+        ("tcp-rst", TokenKind::Name(4)),
+        ("tcp-push", TokenKind::Name(8)),
+        ("tcp-ack", TokenKind::Name(16)),
+        ("tcp-urg", TokenKind::Name(32)),
+        ("icmptype", TokenKind::Name(0)),
+        ("icmpcode", TokenKind::Name(1)),
     ] {
         expect_token(&rt, word, kind)?;
     }
@@ -90,6 +99,8 @@ fn symbols(rt: HostRuntime) -> Result<(), Fail> {
         ("*", TokenKind::Operator(Operator::Multiply)),
         ("&", TokenKind::Operator(Operator::And)),
         ("|", TokenKind::Operator(Operator::Or)),
+        ("%", TokenKind::Operator(Operator::Remainder)),
+        ("^", TokenKind::Operator(Operator::ExclusiveOr)),
     ] {
         expect_token(&rt, symbol, kind)?;
     }
@@ -211,10 +222,10 @@ fn refusals(rt: HostRuntime) {
         ("12345::", ExprFault::UnknownWord(1)),
         ("0:1:2:3:4:fff", ExprFault::UnknownWord(1)),
         ("::1.2.3.4", ExprFault::UnknownWord(1)),
-        ("tcpflags", ExprFault::UnknownWord(1)),
-        ("tcp-syn", ExprFault::UnknownWord(1)),
-        ("len % 2", ExprFault::UnknownCharacter(5)),
-        ("len ^ 2", ExprFault::UnknownCharacter(5)),
+        ("tcp-flags", ExprFault::UnknownWord(1)),
+        ("tcp-syn-1", ExprFault::UnknownWord(1)),
+        ("tcp-syn.", ExprFault::UnknownCharacter(8)),
+        ("tcp-syn.1", ExprFault::UnknownWord(1)),
         ("ip \u{e9}", ExprFault::UnknownCharacter(4)),
         ("ip\u{b}", ExprFault::UnknownCharacter(3)),
         ("? foo 4294967296", ExprFault::UnknownCharacter(1)),

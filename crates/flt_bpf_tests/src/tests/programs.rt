@@ -107,6 +107,33 @@ fn shifts_and_divisions_by_the_index_register(rt: HostRuntime) -> Result<(), Fai
 }
 
 #[test]
+fn remainders_and_exclusive_or(rt: HostRuntime) -> Result<(), Fail> {
+    answers(
+        &rt,
+        b"4\n128 0 0 0\n1 0 0 255\n172 0 0 0\n22 0 0 0\n",
+        &[],
+        60,
+        (195, 4),
+    )?;
+    answers(
+        &rt,
+        b"3\n128 0 0 0\n164 0 0 5\n22 0 0 0\n",
+        &[],
+        60,
+        (57, 3),
+    )?;
+    answers(&rt, b"3\n128 0 0 0\n148 0 0 7\n22 0 0 0\n", &[], 60, (4, 3))?;
+    answers(
+        &rt,
+        b"4\n128 0 0 0\n1 0 0 8\n156 0 0 0\n22 0 0 0\n",
+        &[],
+        60,
+        (4, 4),
+    )?;
+    answers(&rt, b"2\n156 0 0 0\n6 0 0 1\n", &[], 0, (0, 1))
+}
+
+#[test]
 fn arithmetic_wraps(rt: HostRuntime) -> Result<(), Fail> {
     answers(
         &rt,
@@ -238,7 +265,7 @@ fn each_rule_is_kept(rt: HostRuntime) -> Result<(), Fail> {
     refused(&rt, &[], (CheckFault::Empty, 0))?;
     refused(
         &rt,
-        &[end, insn(148, 0, 0, 1), end],
+        &[end, insn(180, 0, 0, 1), end],
         (CheckFault::UnknownCode, 1),
     )?;
     refused(
@@ -259,6 +286,11 @@ fn each_rule_is_kept(rt: HostRuntime) -> Result<(), Fail> {
         &rt,
         &[insn(52, 0, 0, 0), end],
         (CheckFault::DivisionByZero, 0),
+    )?;
+    refused(
+        &rt,
+        &[insn(128, 0, 0, 0), insn(148, 0, 0, 0), insn(22, 0, 0, 0)],
+        (CheckFault::DivisionByZero, 1),
     )?;
     refused(
         &rt,

@@ -1,5 +1,7 @@
 //! Which packets pass.
 
+ghost use Rattle.std.specs.Prelude.{◌≤◌, length};
+
 use super::{compiled, expect, repeated};
 use crate::tests::packets::{ARP, Packet, SYN, SYN_OF_IP6, fragment, tcp};
 use flt_bpf::{Program, run};
@@ -97,6 +99,15 @@ fn relations(rt: HostRuntime) -> Result<(), Fail> {
         ("not 10 / (len - 54) = 0", [NO, NO, NO, NO, NO]),
         ("2 * 3 + 4 << 1 | 1 = 21", [YES, YES, YES, YES, YES]),
         ("10 - 4 - 3 = 3", [YES, YES, YES, YES, YES]),
+        ("len % 54 = 0", [YES, YES, NO, NO, YES]),
+        ("not len % (len - 54) = 0", [NO, NO, YES, YES, NO]),
+        ("len ^ 1 & 3 = 3", [YES, YES, YES, YES, YES]),
+        (
+            "tcp[tcpflags] & (tcp-syn|tcp-ack) != 0",
+            [YES, NO, NO, NO, NO],
+        ),
+        ("tcp[tcpflags] = tcp-syn", [YES, NO, NO, NO, NO]),
+        ("not len / icmptype = 0", [NO, NO, NO, NO, NO]),
     ];
     expect_on_ethernet(&rt, &rows)
 }
@@ -124,6 +135,50 @@ fn raw_packets(rt: HostRuntime) -> Result<(), Fail> {
     ];
     for (text, wanted) in rows {
         expect(&rt, Link::Raw, text, &packets, &wanted)?;
+    }
+    Ok(())
+}
+
+/// A cooked header without its last byte.
+const COOKED_CUT: [u8; 15] = [0, 0, 0, 1, 0, 6, 0, 0x11, 0x22, 0x33, 0x44, 0x55, 0, 0, 8];
+
+/// A packet of Ethernet behind a cooked header, which has the type where Ethernet's stands.
+fn cooked(alloc: Global, bytes: &[u8]) -> Result<Vec<u8>, AllocError>
+    requires { 12 ≤ length bytes.now }
+{
+    let mut packet = [0, 0, 0, 1, 0, 6, 0, 0x11, 0x22, 0x33, 0x44, 0x55, 0, 0].to_vec(alloc)?;
+    packet.extend_from_slice(&bytes[12..])?;
+    Ok(packet)
+}
+
+#[test]
+fn cooked_packets(rt: HostRuntime) -> Result<(), Fail> {
+    let syn = cooked(rt.alloc(), &SYN)?;
+    let syn_of_ip6 = cooked(rt.alloc(), &SYN_OF_IP6)?;
+    let arp = cooked(rt.alloc(), &ARP)?;
+    let packets = [
+        packet("syn", &syn, 56),
+        packet("syn over IPv6", &syn_of_ip6, 76),
+        packet("arp", &arp, 44),
+        packet("15 bytes", &COOKED_CUT, 56),
+    ];
+    let rows = [
+        ("", [YES, YES, YES, YES]),
+        ("ip", [YES, NO, NO, NO]),
+        ("not ip", [NO, YES, YES, NO]),
+        ("ip6", [NO, YES, NO, NO]),
+        ("arp", [NO, NO, YES, NO]),
+        ("ether host 00:11:22:33:44:55", [NO, NO, NO, NO]),
+        ("not broadcast", [YES, YES, YES, YES]),
+        ("ether[0] = 0", [NO, NO, NO, NO]),
+        ("ether proto 0x0800", [YES, NO, NO, NO]),
+        ("ether proto 0x86dd or 0x0806", [NO, YES, YES, NO]),
+        ("tcp dst port 80 and tcp[13] & 2 != 0", [YES, NO, NO, NO]),
+        ("port 80", [YES, YES, NO, NO]),
+        ("host 10.0.0.2 or dst ff02::1", [YES, YES, YES, NO]),
+    ];
+    for (text, wanted) in rows {
+        expect(&rt, Link::Cooked, text, &packets, &wanted)?;
     }
     Ok(())
 }

@@ -64,10 +64,10 @@ pub fn level(operator: Operator) -> u8
     ensures { result ≡ level operator }
 {
     match operator {
-        Operator::Multiply | Operator::Divide => 0,
+        Operator::Multiply | Operator::Divide | Operator::Remainder => 0,
         Operator::Add | Operator::Subtract => 1,
         Operator::ShiftLeft | Operator::ShiftRight => 2,
-        Operator::Or | Operator::And => 3,
+        Operator::Or | Operator::And | Operator::ExclusiveOr => 3,
     }
 }
 

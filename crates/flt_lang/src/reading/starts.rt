@@ -43,6 +43,10 @@ pub fn begin<A: Allocator>(
             nodes.push(Node::Len)?;
             Ok((0, Some(Operand::Number)))
         }
+        [TokenKind::Name(number), ..] => {
+            nodes.push(Node::Named(*number))?;
+            Ok((0, Some(Operand::Number)))
+        }
         [TokenKind::Not, ..] if room(frames) >= Frame::Not.looseness() => wait(frames, Frame::Not),
         [TokenKind::Operator(Operator::Subtract), ..] => wait(frames, Frame::Negate),
         [TokenKind::Open, ..] => wait(frames, Frame::Open),

@@ -52,6 +52,9 @@ fn refuses(rt: HostRuntime) -> Result<(), Fail> {
         ("len / (0) = 1", ExprFault::DivisionByZero),
         ("len / 0x0 = 1", ExprFault::DivisionByZero),
         ("1 / 0 / 2 = 1", ExprFault::DivisionByZero),
+        ("len % 0 = 1", ExprFault::DivisionByZero),
+        ("port tcp-syn", ExprFault::NotAnExpression),
+        ("ip[0 : icmpcode] = 1", ExprFault::NotAnExpression),
     ];
     for (text, want) in rows {
         assert!(rt; compile(rt.alloc(), text).err() == Some(want), "{text}");

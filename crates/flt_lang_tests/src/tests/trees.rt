@@ -22,6 +22,8 @@ fn reads_as(rt: HostRuntime) -> Result<(), Fail> {
         ("! ip && tcp || udp", "((not ip) and tcp) or udp"),
         ("len - 1 - 2 = 3", "((len - 1) - 2) == 3"),
         ("len | 1 & 2 = 3", "(len | 1) & 2 = 3"),
+        ("len ^ 1 & 3 = 1", "(len ^ 1) & 3 = 1"),
+        ("len | 2 % 3 * 4 = 5", "len | ((2 % 3) * 4) = 5"),
         ("len << 1 + 2 * 3 = 4", "len << (1 + (2 * 3)) = 4"),
         ("len & 1 << 2 = 3", "len & (1 << 2) = 3"),
         ("-1 - -len = 0", "(-1) - (-len) = 0"),

@@ -1,20 +1,29 @@
--- The code of both sides is that of their formula.
-use Rattle.std.proofs.Common.{rules, ◌≡◌, ◌+◌, ap}
-use Rattle.flt_gen.specs.declared.elementary.Place.TheVariants.{Past}
-use Rattle.flt_gen.specs.Elementary.{network}
-use Rattle.flt_gen.specs.Formula.{sides}
-use Rattle.flt_gen.specs.Primitives.{port_tests}
-use Rattle.flt_gen.specs.Code.{entered, emitted}
-use Rattle.flt_gen.proofs.Joined.{sides_put}
+-- The ports stand where the table says.
+use Rattle.std.proofs.Common.{◌≡◌, ◌∙◌, ◌+◌, ap, sym, arith, true, [], ◌∷◌, rules}
+use Rattle.flt_gen.specs.declared.elementary.Kind.TheVariants.{Ip}
+use Rattle.flt_gen.specs.declared.elementary.Place.{Place}
+use Rattle.flt_gen.specs.declared.elementary.Place.TheVariants.{Past, At}
+use Rattle.flt_gen.specs.Elementary.{network, kind_test, has_ip_proto, first_fragment}
+use Rattle.flt_gen.specs.Formula.{Formula, Guard, sides}
+use Rattle.flt_gen.specs.Primitives.{port_tests, transport}
+use Rattle.flt_gen.specs.Follow.{knowing, trivial, nothing, fact}
+use Rattle.flt_gen.specs.Code.{Entered, entered, emitted}
+use Rattle.flt_gen.proofs.Joined.{guard_put}
 use Rattle.flt_gen.proofs.port.put_ip_ports.Goals as goal
 
 pub returns-clause-code : goal.returns-clause-code
 returns-clause-code g c =
-    let m = c.network-start.result in
-    let s = port_tests c.args.ports (Past (network c.args.link) (network c.args.link)) in
-    let d = port_tests c.args.ports (Past (network c.args.link) ((network c.args.link) + 2)) in
-    let p : port_tests c.args.ports (Past m m) ≡ s = ap (λ n. port_tests c.args.ports (Past n n)) c.network-start.ensures.place in
-    let q : port_tests c.args.ports (Past m (m + 2)) ≡ d = ap (λ n. port_tests c.args.ports (Past n (n + 2))) c.network-start.ensures.place in
-    let sides_are : emitted c.args.link (sides c.args.direction s d) c.args.to.yes c.args.to.no c.args.code.now ≡ entered c.put_port_sides.new.code c.in_ok-yes.yes =
-    sides_put c.args.link c.args.direction s _ d _ c.args.to.yes c.args.to.no c.args.code.now (entered c.put_port_sides.new.code c.in_ok-yes.yes) p q c.in_ok-yes.ensures.code in
-    search rules
+    let a = c.args in
+    let t = c.kind_test-kind.result in
+    let known = knowing (fact t true ∷ []) trivial in
+    let e = entered c.put_ip_transport.new.code c.in_ok-yes.yes in
+    let s : Place = Past (network a.link) (network a.link) in
+    let d : Place = Past (network a.link) (network a.link + 2) in
+    let f : Formula = transport a.protocol (has_ip_proto a.link 6) (has_ip_proto a.link 17) (Guard (first_fragment a.link) (sides a.direction (port_tests a.ports s) (port_tests a.ports d))) in
+    let none : network a.link + 0 ≡ network a.link = omega arith in
+    let p : c.port_past-source.result ≡ s = c.port_past-source.ensures ∙ ap (λ n. Past (network a.link) n) none in
+    let q : c.port_past-destination.result ≡ d = c.port_past-destination.ensures in
+    let whole : emitted a.link known f a.to.yes a.to.no a.code.now ≡ e =
+    sym (ap (λ (x : Place). emitted a.link known (transport a.protocol (has_ip_proto a.link 6) (has_ip_proto a.link 17) (Guard (first_fragment a.link) (sides a.direction (port_tests a.ports x) (port_tests a.ports c.port_past-destination.result)))) a.to.yes a.to.no a.code.now) p
+    ∙ ap (λ (y : Place). emitted a.link known (transport a.protocol (has_ip_proto a.link 6) (has_ip_proto a.link 17) (Guard (first_fragment a.link) (sides a.direction (port_tests a.ports s) (port_tests a.ports y)))) a.to.yes a.to.no a.code.now) q) ∙ c.in_ok-yes.ensures.code in
+    guard_put c.put_elementary.result a.link nothing (kind_test a.link Ip) t f a.to.yes a.to.no a.code.now c.put_elementary.new.code e c.kind_test-kind.ensures whole c.put_elementary.ensures.code

@@ -1,12 +1,10 @@
--- A word with a dash, and no colon or point.
-use Rattle.std.proofs.Common.{refl, rules}
-use Rattle.flt_words.specs.declared.token.TokenKind.TheVariants as token
-use Rattle.flt_words.specs.Words.Stands.{range}
-use Rattle.flt_words.proofs.Answering.{answers_mapped}
-use Rattle.flt_words.proofs.WordKinds.{dash_sign, only_range}
+-- A word with a dash may be a name.
+use Rattle.std.proofs.Common.{sym, ◌∙◌}
+use Rattle.flt_words.specs.Words.Stands.{keyword}
+use Rattle.flt_words.proofs.Tables.{keyword_is_plain}
 use Rattle.flt_words.proofs.word.with_dash.Goals as goal
 
-pub returns : goal.returns
-returns c =
-    let sign = dash_sign c.args.word.now c.requires.no_colon c.requires.no_point c.requires.dash in
-    answers_mapped _ _ (λ numbers. token.Range numbers.0 numbers.1) c.args.word.now (λ numbers. range) (λ numbers. refl) (only_range sign) _ (λ numbers kind post. search rules) _ _ c.range.ensures c.map.ensures.cases
+pub returns-in-Some : goal.returns-in-Some
+returns-in-Some c =
+    let found = sym c.keyword_of.ensures ∙ c.in-Some.is in
+    (keyword found, (keyword_is_plain c.args.word.now c.in-Some.kind found).fitting)

@@ -10,4 +10,5 @@ returns-in-Listing-clause-spends g c =
           refl c.run-answer.ensures.insns c.run-answer.ensures.answer c.run-answer.ensures.spent,
       refl,
       refl,
+      refl,
     )

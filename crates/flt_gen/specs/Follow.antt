@@ -1,0 +1,124 @@
+-- Where a jump may go on at once, since what is known of the packet decides the test at its target.
+use Rattle.std.specs.Prelude.{ℕ, ◌+◌, ◌-◌, ◌==◌, max, Bool, true, false, if◌then◌else◌, ◌&&◌, List, [], ◌∷◌, length, drop, Option, Some, None}
+use Rattle.flt_bpf.specs.declared.insn.Insn.{Insn}
+use Rattle.flt_bpf.specs.declared.operation.Width.{Width}
+use Rattle.flt_bpf.specs.declared.operation.Width.TheVariants.{Word, HalfWord, Byte}
+use Rattle.flt_words.specs.declared.token.Comparison.{Comparison}
+use Rattle.flt_words.specs.declared.token.Comparison.TheVariants.{Equal}
+use Rattle.flt_gen.specs.declared.elementary.Place.{Place}
+use Rattle.flt_gen.specs.declared.elementary.Place.TheVariants.{At, Past}
+use Rattle.flt_gen.specs.declared.elementary.FieldTest.{FieldTest}
+use Rattle.flt_gen.specs.declared.elementary.Elementary.{Elementary}
+use Rattle.flt_gen.specs.declared.elementary.Elementary.TheVariants.{Known, Field}
+use Rattle.flt_gen.specs.declared.elementary.Fact.{Fact}
+use Rattle.flt_gen.specs.declared.elementary.Alternatives.{Alternatives}
+
+abbrev pub load_code : Width → ℕ
+load_code Word = 32
+load_code HalfWord = 40
+load_code Byte = 48
+
+abbrev pub same_mask : Option ℕ → Option ℕ → Bool
+same_mask None None = true
+same_mask (Some a) (Some b) = a == b
+same_mask _ _ = false
+
+abbrev pub same_place : Place → ℕ → Bool
+same_place (At a) at = a == at
+same_place (Past header a) at = false
+
+abbrev pub is_equal : Comparison → Bool
+is_equal Equal = true
+is_equal _ = false
+
+-- a field is a number, or isn't: is it this one
+abbrev pub says_value : Bool → Bool → Option Bool
+says_value true same = Some same
+says_value false true = Some false
+says_value false false = None
+
+-- the test looks whether the field that a load and a mask give is a number
+abbrev pub looks_at : FieldTest → ℕ → ℕ → Option ℕ → Bool
+looks_at t load at mask = is_equal t.comparison && (same_place t.place at && (load_code t.width == load && same_mask t.mask mask))
+
+-- what a fact says of the test whether a field is a number
+abbrev pub test_says : Elementary → Bool → ℕ → ℕ → Option ℕ → ℕ → Option Bool
+test_says (Known b) truth load at mask k = None
+test_says (Field t) truth load at mask k = if looks_at t load at mask then says_value truth (t.value == k) else None
+
+abbrev pub first_of : Option Bool → Option Bool → Option Bool
+first_of (Some b) other = Some b
+first_of None other = other
+
+abbrev pub decided : List Fact → ℕ → ℕ → Option ℕ → ℕ → Option Bool
+decided [] load at mask k = None
+decided (f ∷ fs) load at mask k = first_of (test_says f.test f.truth load at mask k) (decided fs load at mask k)
+
+abbrev pub chosen : Option Bool → ℕ → ℕ → ℕ → ℕ
+chosen None place hit miss = place
+chosen (Some true) place hit miss = max 1 hit
+chosen (Some false) place hit miss = max 1 miss
+
+-- the code from a place on, past its load and its mask
+abbrev pub past_mask : List Fact → ℕ → ℕ → ℕ → Option ℕ → List Insn → ℕ
+past_mask facts place load at mask [] = place
+past_mask facts place load at mask (j ∷ is) =
+    if j.code == 21 then chosen (decided facts load at mask j.k) place (length is - j.jt) (length is - j.jf) else place
+
+-- the same past its load
+abbrev pub past_load : List Fact → ℕ → ℕ → ℕ → List Insn → ℕ
+past_load facts place load at [] = place
+past_load facts place load at (m ∷ is) =
+    if m.code == 84 then past_mask facts place load at (Some m.k) is else past_mask facts place load at None (m ∷ is)
+
+-- the place where the code behind a place goes on: past a jump, and past a test that is decided
+abbrev pub onward : List Fact → ℕ → List Insn → ℕ
+onward facts place [] = place
+onward facts place (i ∷ is) = if i.code == 5 then max 1 (length is - i.k) else past_load facts place i.code i.k is
+
+-- one step from a place, two, four, eight
+abbrev pub one_on : List Insn → List Fact → ℕ → ℕ
+one_on c facts place = onward facts place (drop (length c - place) c)
+
+abbrev pub two_on : List Insn → List Fact → ℕ → ℕ
+two_on c facts place = one_on c facts (one_on c facts place)
+
+abbrev pub four_on : List Insn → List Fact → ℕ → ℕ
+four_on c facts place = two_on c facts (two_on c facts place)
+
+abbrev pub eight_on : List Insn → List Fact → ℕ → ℕ
+eight_on c facts place = four_on c facts (four_on c facts place)
+
+abbrev pub fact : Elementary → Bool → Fact
+fact t b = record { test = t; truth = b }
+
+-- what is known at a place: facts, and two tests of which one is yes
+pub record Knowledge : Type 0 where
+  pub facts : List Fact
+  pub either : Alternatives
+
+abbrev pub knowing : List Fact → Alternatives → Knowledge
+knowing facts either = record { facts = facts; either = either }
+
+-- two tests of which one is yes, whatever the packet
+abbrev pub trivial : Alternatives
+trivial = record { first = Known true; second = Known true }
+
+-- nothing is known
+abbrev pub nothing : Knowledge
+nothing = knowing [] trivial
+
+-- one more fact is known
+abbrev pub and_fact : Fact → Knowledge → Knowledge
+and_fact f known = record known { facts = f ∷ known.facts }
+
+abbrev pub agreed : ℕ → ℕ → ℕ → ℕ
+agreed a b other = if a == b then a else other
+
+-- the target of a jump that is taken where a fact holds, followed as far as what is known leads; where the two
+-- alternatives lead apart, only as far as the facts lead
+unfoldable pub followed : List Insn → Knowledge → Fact → ℕ → ℕ
+followed c known own place =
+    agreed (eight_on c (own ∷ fact known.either.first true ∷ known.facts) place)
+    (eight_on c (own ∷ fact known.either.second true ∷ known.facts) place)
+    (eight_on c (own ∷ own ∷ known.facts) place)

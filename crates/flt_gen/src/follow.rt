@@ -1,0 +1,188 @@
+//! Where a jump goes on at once, since what is known of the packet decides the test at its target.
+
+ghost use Rattle.std.specs.Prelude.{◌≡◌, ◌∷◌, [], length, reverse, MatchOption};
+ghost use Rattle.flt_gen.specs.Follow.{load_code, same_mask, looks_at, test_says, decided, past_mask, past_load, onward, trivial};
+
+use crate::elementary::{Alternatives, Elementary, Fact, FieldTest, Place};
+use flt_bpf::insn::Insn;
+use flt_bpf::operation::Width;
+use flt_words::Comparison;
+
+/// The code of a load.
+pub fn load_code(width: Width) -> u16
+    ensures { result ≡ load_code width }
+{
+    match width {
+        Width::Word => 32,
+        Width::HalfWord => 40,
+        Width::Byte => 48,
+    }
+}
+
+fn same_mask(one: Option<u32>, other: Option<u32>) -> bool
+    ensures { result ≡ same_mask one other }
+{
+    match (one, other) {
+        (None, None) => true,
+        (Some(one), Some(other)) => one == other,
+        (None, Some(_)) | (Some(_), None) => false,
+    }
+}
+
+/// A field as the code looks at it: the load, its place, and the mask.
+#[derive(Clone, Copy)]
+pub struct Look {
+    pub load: u16,
+    pub at: u32,
+    pub mask: Option<u32>,
+}
+
+// The test looks whether the field is a number.
+fn looks_at(test: FieldTest, look: Look) -> bool
+    ensures { result ≡ looks_at test look.load look.at look.mask }
+{
+    match (test.comparison, test.place) {
+        (Comparison::Equal, Place::At(at)) => {
+            at == look.at && (load_code(test.width) == look.load && same_mask(test.mask, look.mask))
+        }
+        _ => false,
+    }
+}
+
+// What a fact says of the test whether the field is a number.
+fn says(fact: Fact, look: Look, value: u32) -> Option<bool>
+    ensures { result ≡ test_says fact.test fact.truth look.load look.at look.mask value }
+{
+    match fact.test {
+        Elementary::Known(_) => None,
+        Elementary::Field(test) => {
+            if looks_at(test, look) {
+                let same = test.value == value;
+                match (fact.truth, same) {
+                    (true, _) => Some(same),
+                    (false, true) => Some(false),
+                    (false, false) => None,
+                }
+            } else {
+                None
+            }
+        }
+    }
+}
+
+fn decided(facts: &[Fact], look: Look, value: u32) -> Option<bool>
+    ensures { result ≡ decided facts.now look.load look.at look.mask value }
+{
+    match facts {
+        [] => None,
+        [first, others @ ..] => match says(*first, look, value) {
+            Some(truth) => Some(truth),
+            None => decided(others, look, value),
+        },
+    }
+}
+
+// What the first fact says that says something.
+fn decided_here(here: Here<'_>, look: Look, value: u32) -> Option<bool>
+    ensures { result ≡ decided (here.entry.own ∷ here.entry.more ∷ here.entry.facts.now) look.load look.at look.mask value }
+{
+    match says(here.own, look, value) {
+        Some(truth) => Some(truth),
+        None => match says(here.more, look, value) {
+            Some(truth) => Some(truth),
+            None => decided(here.facts, look, value),
+        },
+    }
+}
+
+/// What is known where a jump is taken: two facts, and those that hold at the test before it.
+#[derive(Clone, Copy)]
+pub struct Here<'a> {
+    pub own: Fact,
+    pub more: Fact,
+    pub facts: &'a [Fact],
+}
+
+/// What is known at a place in the code: facts, and two tests of which one is yes.
+#[derive(Clone, Copy)]
+pub struct Known<'a> {
+    pub facts: &'a [Fact],
+    pub either: Alternatives,
+}
+
+impl Known<'_> {
+    /// Where nothing is known.
+    pub fn nothing() -> Self
+        ensures facts { result.facts.now ≡ [] }
+        ensures either { result.either ≡ trivial }
+    {
+        Known {
+            facts: &[],
+            either: Alternatives::trivial(),
+        }
+    }
+}
+
+// The instruction that stands first, of those that are given from the last to the first, and the others.
+fn first_insn(behind: &[Insn]) -> Option<(Insn, &[Insn])>
+    ensures { MatchOption result (reverse behind.now ≡ [])
+        (λ parts. (reverse behind.now ≡ parts.0 ∷ reverse parts.1.now) × (length (reverse parts.1.now) ≡ length parts.1.now)) }
+{
+    match behind {
+        [] => None,
+        [others @ .., first] => Some((*first, others)),
+    }
+}
+
+fn past_mask(behind: &[Insn], here: Here<'_>, look: Look, place: usize) -> usize
+    ensures { result ≡ past_mask (here.entry.own ∷ here.entry.more ∷ here.entry.facts.now) place look.load look.at look.mask (reverse behind.now) }
+{
+    match first_insn(behind) {
+        None => place,
+        Some((insn, others)) => {
+            if insn.code == 21 {
+                match decided_here(here, look, insn.k) {
+                    None => place,
+                    Some(true) => others.len().saturating_sub(insn.jt as usize).max(1),
+                    Some(false) => others.len().saturating_sub(insn.jf as usize).max(1),
+                }
+            } else {
+                place
+            }
+        }
+    }
+}
+
+fn past_load(behind: &[Insn], here: Here<'_>, load: u16, at: u32, place: usize) -> usize
+    ensures { result ≡ past_load (here.entry.own ∷ here.entry.more ∷ here.entry.facts.now) place load at (reverse behind.now) }
+{
+    match first_insn(behind) {
+        None => place,
+        Some((insn, others)) => {
+            if insn.code == 84 {
+                let mask = Some(insn.k);
+                past_mask(others, here, Look { load, at, mask }, place)
+            } else {
+                let mask = None;
+                past_mask(behind, here, Look { load, at, mask }, place)
+            }
+        }
+    }
+}
+
+/// The place where the code behind a place goes on: past a jump, and past a test that is decided. The instructions are
+/// given from the last to the first.
+pub fn onward(behind: &[Insn], here: Here<'_>, place: usize) -> usize
+    ensures { result ≡ onward (here.entry.own ∷ here.entry.more ∷ here.entry.facts.now) place (reverse behind.now) }
+{
+    match first_insn(behind) {
+        None => place,
+        Some((insn, others)) => {
+            if insn.code == 5 {
+                others.len().saturating_sub(insn.k as usize).max(1)
+            } else {
+                past_load(others, here, insn.code, insn.k, place)
+            }
+        }
+    }
+}
