@@ -1,5 +1,12 @@
-//! Tests of cap_io: worked examples over memory, and devices and memory that fail in turn.
+//! Tests of cap_io that no command line can show: how often a device is asked and memory is taken, and what a source or
+//! a sink returns after its end or its error.
 #![tactic(auto)]
 
 #[cfg(test)]
-mod tests;
+mod captures;
+#[cfg(test)]
+mod memory;
+#[cfg(test)]
+mod reading;
+#[cfg(test)]
+mod writing;

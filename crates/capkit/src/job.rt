@@ -19,13 +19,13 @@ const BUFFER: usize = 65_536;
 /// How many bytes of a listing are read at most: one more than it may have, by which a longer one is known.
 const LISTING_ROOM: u64 = 1_048_577;
 
-type Source = StdInput<BufReader<Opened>>;
+pub(crate) type Source = StdInput<BufReader<Opened>>;
 
-type Target = Watched<BufWriter<Created>>;
+pub(crate) type Target = Watched<BufWriter<Created>>;
 
 /// Why a command was not run to its end.
 #[derive(Drop)]
-enum Stop<'a> {
+pub(crate) enum Stop<'a> {
     /// The input of this name can't be opened.
     CannotOpen(&'a str),
     /// The output of this name can't be created.
@@ -65,7 +65,7 @@ impl<T: Drop> From<AllocFailed<T>> for Stop<'_> {
 }
 
 /// The first bytes of the listing of this name. One that can't be read to its end can't be opened.
-fn read_listing<'a>(rt: &HostRuntime, name: &'a str) -> Result<Vec<u8>, Stop<'a>> {
+pub(crate) fn read_listing<'a>(rt: &HostRuntime, name: &'a str) -> Result<Vec<u8>, Stop<'a>> {
     let Ok(opened) = Opened::open(rt, name) else {
         return Err(Stop::CannotOpen(name));
     };
@@ -95,7 +95,7 @@ fn with_listing<'a>(
 }
 
 /// Opens the inputs in order.
-fn open<'a>(rt: &HostRuntime, names: &'a [String]) -> Result<Vec<Source>, Stop<'a>>
+pub(crate) fn open<'a>(rt: &HostRuntime, names: &'a [String]) -> Result<Vec<Source>, Stop<'a>>
     ensures { IfOk result (λ inputs. vec_len inputs ≡ length names.entry.now) }
 {
     let mut inputs = Vec::new(rt.alloc());
@@ -111,7 +111,7 @@ fn open<'a>(rt: &HostRuntime, names: &'a [String]) -> Result<Vec<Source>, Stop<'
 }
 
 /// Creates the output.
-fn create<'a>(rt: &HostRuntime, name: &'a str) -> Result<Target, Stop<'a>> {
+pub(crate) fn create<'a>(rt: &HostRuntime, name: &'a str) -> Result<Target, Stop<'a>> {
     let Ok(created) = Created::create(rt, name) else {
         return Err(Stop::CannotCreate(name));
     };

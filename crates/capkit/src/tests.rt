@@ -1,6 +1,6 @@
 //! Files that are opened, read, created and left alone.
 
-use crate::job::run;
+use crate::job::{Stop, create, open, read_listing, run};
 use cap_line::command_of;
 use std::alloc::{AllocError, Global};
 use std::test::Fail;
@@ -92,6 +92,59 @@ fn nothing_is_created_where_an_input_is_missing(rt: HostRuntime) -> Result<(), F
         assert!(rt; status_of(&rt, &folder, words)? == 1, "{words:?}");
         assert!(rt; !fs::exists(&rt, &path(&rt, &folder, "out")?)?, "{words:?}");
     }
+    fs::remove_dir_all(&rt, &folder)?;
+    Ok(())
+}
+
+/// Whether this is the text of a stop.
+fn tells<T: Drop>(alloc: Global, stopped: Result<T, Stop<'_>>, text: &str) -> Result<bool, AllocError> {
+    let Err(stop) = stopped else {
+        return Ok(false);
+    };
+    Ok(format!(in alloc; "{stop}")?.as_str() == text)
+}
+
+/// The name that can't be opened or created stands in front of why.
+#[test]
+fn stops_have_their_texts(rt: HostRuntime) -> Result<(), Fail> {
+    let folder = folder(&rt, "stopped")?;
+    let none = path(&rt, &folder, "none/none")?;
+    let unopened = format!(in rt.alloc(); "{}: cannot open", none.as_str())?;
+    let uncreated = format!(in rt.alloc(); "{}: cannot create", none.as_str())?;
+    let listing = read_listing(&rt, &none);
+    assert!(rt; tells(rt.alloc(), listing, &unopened)?);
+    assert!(rt; tells(rt.alloc(), create(&rt, &none), &uncreated)?);
+    let names = vec![in rt.alloc(); path(&rt, &folder, "in")?, none]?;
+    assert!(rt; tells(rt.alloc(), open(&rt, names.as_slice()), &unopened)?);
+    fs::remove_dir_all(&rt, &folder)?;
+    Ok(())
+}
+
+/// The size of the long capture: past 1 MiB, so that it takes many calls of the reader and the writer.
+const LONG: usize = 24 + 5 * (16 + 262_144);
+
+/// A capture of five packets, each as long as a record may be.
+fn long_capture(alloc: Global) -> Result<Vec<u8>, AllocError> {
+    let mut bytes = Vec::from_slice(alloc, &capture()[..24])?;
+    for packet in 0u8..5 {
+        bytes.extend_from_slice(&[packet, 0, 0, 0, 0, 0, 0, 0, 0, 0, 4, 0, 0, 0, 4, 0])?;
+        let end = bytes.len().saturating_add(262_144);
+        bytes.resize(end, packet)?;
+    }
+    Ok(bytes)
+}
+
+/// More than 1 MiB goes through the readers and writers of std unchanged.
+#[test]
+fn long_files_are_copied(rt: HostRuntime) -> Result<(), Fail> {
+    let folder = folder(&rt, "long")?;
+    let bytes = long_capture(rt.alloc())?;
+    assert!(rt; bytes.len() == LONG);
+    fs::write(&rt, &path(&rt, &folder, "in")?, &bytes)?;
+    let edit = ["capkit", "edit", "-F", "pcap", "@in", "@out"];
+    assert!(rt; status_of(&rt, &folder, &edit)? == 0);
+    let written = fs::read(&rt, &path(&rt, &folder, "out")?)?;
+    assert!(rt; written == bytes);
     fs::remove_dir_all(&rt, &folder)?;
     Ok(())
 }

@@ -1,0 +1,81 @@
+//! What a source returns and reads after its end or its error.
+ghost use Rattle.std.specs.Prelude.{true};
+
+use crate::captures::{PACKET, SECTION, capture, joined, read_on};
+use cap_io::Source;
+use cap_octet::{DeviceFault, Fault, Input, MemInput};
+use std::alloc::Global;
+use std::cell::Cell;
+use std::process::Abort;
+use std::test::Fail;
+
+/// An input whose reads are counted outside of it.
+#[derive(Drop)]
+struct Counting<'a> {
+    inner: MemInput<'a>,
+    reads: &'a Cell<u64>,
+}
+
+impl Input for Counting<'_> {
+    ghost tells = { true };
+
+    ghost unread = { λ s. ⟦<MemInput<'static> as Input>⟧.unread s.inner };
+
+    ghost given = { λ s. ⟦<MemInput<'static> as Input>⟧.given s.inner };
+
+    ghost failures = { λ s. ⟦<MemInput<'static> as Input>⟧.failures s.inner };
+
+    fn read(&mut self, buf: &mut [u8]) -> Result<usize, DeviceFault> {
+        self.reads.set(self.reads.get().saturating_add(1));
+        self.inner.read(buf)
+    }
+}
+
+/// Reads to the end or error and then on: the result stays, and nothing more is read.
+fn check_reads(
+    rt: &impl Abort,
+    alloc: Global,
+    bytes: &[u8],
+    want: Result<bool, Fault>,
+    count: u64,
+) {
+    let reads = Cell::new(0);
+    let input = Counting {
+        inner: MemInput::new(bytes),
+        reads: &reads,
+    };
+    let mut source = Source::new(alloc, input);
+    for _ in 0..3 {
+        assert!(rt; read_on(&mut source).last == want);
+        assert!(rt; reads.get() == count, "{} bytes", bytes.len());
+    }
+}
+
+/// The length of a prefix of a capture with one record of 3 bytes, its last result, and how many reads give that.
+fn last_results() -> [(usize, Result<bool, Fault>, u64); 5] {
+    [
+        (3, Err(Fault::NotACaptureFile), 2),
+        (24, Ok(false), 3),
+        (30, Err(Fault::Truncated), 4),
+        (42, Err(Fault::Truncated), 5),
+        (43, Ok(false), 5),
+    ]
+}
+
+#[test]
+fn no_read_behind_an_end(rt: HostRuntime) -> Result<(), Fail> {
+    let bytes = capture(rt.alloc(), &[3])?;
+    for (length, want, count) in last_results() {
+        let prefix = bytes.get(..length).ok_or("too short")?;
+        check_reads(&rt, rt.alloc(), prefix, want, count);
+    }
+    Ok(())
+}
+
+/// A packet without its interface is an error that stays: the section, and the block's header and body, take four reads.
+#[test]
+fn no_read_behind_an_error_of_a_block(rt: HostRuntime) -> Result<(), Fail> {
+    let bytes = joined(rt.alloc(), &[&SECTION, &PACKET, &PACKET])?;
+    check_reads(&rt, rt.alloc(), &bytes, Err(Fault::UnknownInterface), 5);
+    Ok(())
+}

@@ -1,0 +1,46 @@
+//! What std's readers and writers give and take through capkit's devices, a few bytes a call and where they fail.
+use cap_octet::{DeviceFault, Input, Output, StdInput, StdOutput, read_full, write_all};
+use std::io::{Cursor, Read};
+
+/// Whether the next read, of at most two bytes, gives these.
+fn gives<I: Input>(input: &mut I, bytes: &[u8]) -> bool {
+    let mut buf = [0; 2];
+    input.read(&mut buf) == Ok(bytes.len()) && buf.get(..bytes.len()) == Some(bytes)
+}
+
+#[test]
+fn a_reader_is_read_to_its_end(rt: HostRuntime) {
+    let mut input = StdInput::new(b"abcde".as_slice());
+    for bytes in [b"ab".as_slice(), b"cd", b"e", b"", b""] {
+        assert!(rt; gives(&mut input, bytes), "{bytes:?}");
+    }
+}
+
+#[test]
+fn readers_in_pieces_fill_a_buffer(rt: HostRuntime) {
+    let mut input = StdInput::new(b"abc".as_slice().chain(b"de".as_slice()));
+    let mut buf = [0; 4];
+    assert!(rt; read_full(&mut input, &mut buf) == Ok(4));
+    assert!(rt; buf == *b"abcd");
+    assert!(rt; read_full(&mut input, &mut buf) == Ok(1));
+    assert!(rt; buf == *b"ebcd");
+}
+
+#[test]
+fn a_writer_takes_all(rt: HostRuntime) {
+    let mut output = StdOutput::new(Vec::new(rt.alloc()));
+    assert!(rt; output.write(b"abc") == Ok(3));
+    assert!(rt; output.write(b"") == Ok(0));
+    assert!(rt; write_all(&mut output, b"de") == Ok(()));
+    assert!(rt; output.into_inner().as_slice() == b"abcde".as_slice());
+}
+
+#[test]
+fn a_full_writer_takes_a_front(rt: HostRuntime) {
+    let mut output = StdOutput::new(Cursor::new([0; 5]));
+    for answer in [Ok(3), Ok(2), Err(DeviceFault)] {
+        assert!(rt; output.write(b"abc") == answer);
+    }
+    assert!(rt; output.write(b"") == Ok(0));
+    assert!(rt; output.into_inner().into_inner() == *b"abcab");
+}
