@@ -4,7 +4,7 @@ use flt_words::ExprFault;
 use std::alloc::{AllocError, AllocFailed};
 
 /// Why tokens are not read.
-#[derive(Clone, Copy, Debug, PartialEq, Eq)]
+#[derive(Clone, Copy)]
 pub enum ReadFault {
     NotAnExpression,
     Memory,
