@@ -28,8 +28,11 @@ pub fn parse<A: Allocator + Clone>(alloc: A, tokens: &[Token]) -> Result<Expr<A>
     if is_nested_too_deep(tokens) {
         return Err(ExprFault::NestedTooDeep);
     }
-    let kinds = kinds_of(alloc.clone()?, tokens)?;
-    Ok(read(alloc, &kinds)?)
+    match read(alloc, tokens) {
+        Ok(expr) => Ok(expr),
+        Err(ReadFault::NotAnExpression) => Err(ExprFault::NotAnExpression),
+        Err(ReadFault::Memory) => Err(ExprFault::Memory),
+    }
 }
 
 /// The tokens without their places.
@@ -41,12 +44,13 @@ fn kinds_of<A: Allocator>(alloc: A, tokens: &[Token]) -> Result<Vec<TokenKind, A
 
 /// The tree of the tokens.
 #[tactic(auto, using(crate::proofs::Parsing::no_tree, crate::proofs::Parsing::found_is_tree, crate::proofs::Parsing::found_reads))]
-fn read<A: Allocator + Clone>(alloc: A, tokens: &[TokenKind]) -> Result<Expr<A>, ReadFault>
-    ensures ok { IfOk result (λ tree. Reads tokens.now tree) }
+fn read<A: Allocator + Clone>(alloc: A, tokens: &[Token]) -> Result<Expr<A>, ReadFault>
+    ensures ok { IfOk result (λ tree. Reads (kinds_of tokens.now) tree) }
     ensures none { result ≡ Err ReadFault.NotAnExpression
-        → (tree : Expression) → Reads tokens.now tree → ⊥ }
+        → (tree : Expression) → Reads (kinds_of tokens.now) tree → ⊥ }
 {
+    let kinds = kinds_of(alloc.clone()?, tokens)?;
     let mut reader = Reader::new(alloc)?;
-    reader.read(tokens)?;
+    reader.read(&kinds)?;
     Ok(reader.into_expr())
 }
