@@ -1,6 +1,5 @@
 -- What the loop of the parser needs of the machine.
 use Rattle.std.proofs.Common.{◌≡◌, ℕ, ◌+◌, ◌-◌, ◌<◌, List, [], ◌∷◌, length, take, drop, get_or, reverse, refl, sym, ap, ◌∙◌, subst, arith, Some, None, one-add}
-use Rattle.std.proofs.lemmas.List.{take_rest}
 use Rattle.flt_words.specs.declared.token.TokenKind.{TokenKind}
 use Rattle.flt_lang.specs.declared.node.Node.{Node}
 use Rattle.flt_lang.specs.declared.reading.frame.Frame.{Frame}
@@ -9,15 +8,11 @@ use Rattle.flt_lang.specs.Tree.{Expression}
 use Rattle.flt_lang.specs.Nodes.{expr_nodes, tree_of, tree_back, IsTree}
 use Rattle.flt_lang.specs.Grammar.{Reads}
 use Rattle.flt_lang.specs.Machine.{State, run, all_run, go_on, begin, begin_at}
+use Rattle.flt_lang.proofs.Fronts.{first_and_rest}
 use Rattle.flt_lang.proofs.Valued.{run_begins, run_skip}
 use Rattle.flt_lang.proofs.Complete.{complete}
 use Rattle.flt_lang.proofs.Sound.{sound}
 use Rattle.flt_lang.proofs.NodesBack.{expr_turned}
-
--- the first token and those behind it
-pub first_and_rest : (ts : List TokenKind) (t : TokenKind) → 0 < length ts → get_or ts 0 t ∷ take (length ts - 1) (drop 1 ts) ≡ ts
-first_and_rest [] t h = absurd (omega arith)
-first_and_rest (u ∷ ts) t h = ap (λ us. u ∷ us) (take_rest (u ∷ ts) 1)
 
 -- what comes behind an operand
 pub run_goes_on : (ts : List TokenKind) (t : TokenKind) (fs : List Frame) (x : Operand) (d : List Node) (k : ℕ) (s : State) → 0 < length ts → go_on (get_or ts 0 t ∷ take (length ts - 1) (drop 1 ts)) fs x d ≡ Some (k, s) → run ts 0 fs (Some x) d ≡ run (drop (1 + k) ts) 0 s.0 s.1 s.2
