@@ -1,3 +1,4 @@
+pub mod Fronts
 pub mod Settling
 pub mod NodesBack
 pub mod ValuesBack

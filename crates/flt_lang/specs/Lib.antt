@@ -4,7 +4,6 @@ pub mod Grammar
 pub mod Nodes
 pub mod Machine
 pub mod Nesting
-pub mod Faults
 pub mod Nets
 pub mod Fits
 pub mod Filled

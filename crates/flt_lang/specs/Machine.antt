@@ -17,9 +17,16 @@ use Rattle.flt_lang.specs.declared.reading.protocols.Opening.{Opening}
 use Rattle.flt_lang.specs.declared.reading.protocols.Opening.TheVariants as opening
 use Rattle.flt_lang.specs.declared.reading.frame.Operand.{Operand}
 use Rattle.flt_lang.specs.declared.reading.frame.Operand.TheVariants as operand
+use Rattle.flt_lang.specs.declared.reading.frame.Sort.{Sort}
+use Rattle.flt_lang.specs.declared.reading.frame.Sort.TheVariants as sort
 use Rattle.flt_lang.specs.Tree.{NumberTree, literal, len, named, load, negated, applied, TruthTree, check, cast, sized, bare, valued, qualified, compared, denied, joined, Expression, empty, truth}
 use Rattle.flt_lang.specs.Values.{quals_of, value_of}
 use Rattle.flt_lang.specs.Grammar.{level, is_check, is_accessor, has_casts}
+
+-- what the parser keeps: the frames that wait and the nodes that are written
+pub record Reading : Type 0 where
+  pub frames : List Frame
+  pub nodes : List Node
 
 infixl 10 ◌>>=◌
 abbrev pub ◌>>=◌ : {A B : Type 0} → Option A → (A → Option B) → Option B
@@ -103,6 +110,10 @@ as_truth operand.Number d = None
 as_truth (operand.Plain n) d = Some (node.Bare (value.Number n mask.Unwritten) ∷ d)
 as_truth (operand.Either n m) d = Some (node.Bare (value.Number n (prefix_mask m)) ∷ d)
 
+abbrev pub as_sort : Sort → Operand → List Node → Option (List Node)
+as_sort sort.Truth x d = as_truth x d
+as_sort sort.Number x d = as_number x d
+
 abbrev pub Read : Type 0
 Read = Operand × List Node
 
@@ -110,15 +121,29 @@ Read = Operand × List Node
 abbrev pub written : Operand → Node → Option (List Node) → Option Read
 written y n o = o >>= λ e. Some (y, n ∷ e)
 
+-- of which sort the operands of a frame are
+abbrev pub sort_of : Frame → Sort
+sort_of frame.Negate = sort.Number
+sort_of (frame.Apply o) = sort.Number
+sort_of (frame.Compare c) = sort.Number
+sort_of frame.Not = sort.Truth
+sort_of (frame.Join j) = sort.Truth
+sort_of frame.Open = sort.Truth
+sort_of (frame.Load p) = sort.Number
+
+-- the node of a frame that no token closes, and the operand that it makes
+abbrev pub node_of : Frame → Option (Node × Operand)
+node_of frame.Negate = Some (node.Negate, operand.Number)
+node_of (frame.Apply o) = Some (node.Apply o, operand.Number)
+node_of (frame.Compare c) = Some (node.Compare c, operand.Truth)
+node_of frame.Not = Some (node.Not, operand.Truth)
+node_of (frame.Join j) = Some (node.Join j, operand.Truth)
+node_of frame.Open = None
+node_of (frame.Load p) = None
+
 -- what a frame makes of its operand
 abbrev pub fill : Frame → Operand → List Node → Option Read
-fill frame.Negate x d = written operand.Number node.Negate (as_number x d)
-fill (frame.Apply o) x d = written operand.Number (node.Apply o) (as_number x d)
-fill (frame.Compare c) x d = written operand.Truth (node.Compare c) (as_number x d)
-fill frame.Not x d = written operand.Truth node.Not (as_truth x d)
-fill (frame.Join j) x d = written operand.Truth (node.Join j) (as_truth x d)
-fill frame.Open x d = None
-fill (frame.Load p) x d = None
+fill f x d = node_of f >>= λ w. written w.1 w.0 (as_sort (sort_of f) x d)
 
 abbrev pub Settled : Type 0
 Settled = List Frame × Operand × List Node
@@ -146,27 +171,42 @@ abbrev pub enclosed_operand : Operand → Operand
 enclosed_operand (operand.Plain n) = operand.Either n None
 enclosed_operand x = x
 
--- a frame that waits for a number, or for a truth, behind an operand of the same sort
-abbrev pub number_waits : Frame → List Frame → Operand → List Node → Option Begun
-number_waits f fs x d = if nat_le (looseness f) (room fs) then (as_number x d >>= λ e. Some (0, (f ∷ fs, None, e))) else None
-
-abbrev pub truth_waits : Frame → List Frame → Operand → List Node → Option Begun
-truth_waits f fs x d = if nat_le (looseness f) (room fs) then (as_truth x d >>= λ e. Some (0, (f ∷ fs, None, e))) else None
+-- a frame that waits for its right operand, behind its left one of the same sort
+abbrev pub waits : Frame → List Frame → Operand → List Node → Option Begun
+waits f fs x d = if nat_le (looseness f) (room fs) then (as_sort (sort_of f) x d >>= λ e. Some (0, (f ∷ fs, None, e))) else None
 
 -- the load that waits takes its index and reads so many bytes; so many tokens more than one are used up
 abbrev pub load_ends : ℕ → ℕ → List Frame → Operand → List Node → Option Begun
 load_ends more size (frame.Load p ∷ fs) x d = as_number x d >>= λ e. Some (more, (fs, Some operand.Number, node.Load p size ∷ e))
 load_ends more size _ x d = None
 
--- the tokens behind an operand
+-- the size of an accessor behind its colon
+abbrev pub size_of : List TokenKind → Option ℕ
+size_of (token.Number n ∷ token.CloseBracket ∷ ts) = Some n
+size_of _ = None
+
+abbrev pub sized_load_ends : Option ℕ → List Frame → Operand → List Node → Option Begun
+sized_load_ends (Some n) fs x d = load_ends 2 n fs x d
+sized_load_ends None fs x d = None
+
+-- a parenthesis takes its operand
+abbrev pub closes : List Frame → Operand → List Node → Option Begun
+closes (frame.Open ∷ fs) x d = Some (0, (fs, Some (enclosed_operand x), d))
+closes _ x d = None
+
+-- a token behind an operand, and what comes after the token
+abbrev pub place_at : TokenKind → List TokenKind → List Frame → Operand → List Node → Option Begun
+place_at (token.Operator o) ts fs x d = waits (frame.Apply o) fs x d
+place_at (token.Comparison c) ts fs x d = waits (frame.Compare c) fs x d
+place_at (token.Join j) ts fs x d = waits (frame.Join j) fs x d
+place_at token.Close ts fs x d = closes fs x d
+place_at token.CloseBracket ts fs x d = load_ends 0 1 fs x d
+place_at token.Colon ts fs x d = sized_load_ends (size_of ts) fs x d
+place_at _ ts fs x d = None
+
 abbrev pub place : List TokenKind → List Frame → Operand → List Node → Option Begun
-place (token.Operator o ∷ ts) fs x d = number_waits (frame.Apply o) fs x d
-place (token.Comparison c ∷ ts) fs x d = number_waits (frame.Compare c) fs x d
-place (token.Join j ∷ ts) fs x d = truth_waits (frame.Join j) fs x d
-place (token.Close ∷ ts) (frame.Open ∷ fs) x d = Some (0, (fs, Some (enclosed_operand x), d))
-place (token.CloseBracket ∷ ts) fs x d = load_ends 0 1 fs x d
-place (token.Colon ∷ token.Number n ∷ token.CloseBracket ∷ ts) fs x d = load_ends 2 n fs x d
-place _ _ _ _ = None
+place [] fs x d = None
+place (t ∷ ts) fs x d = place_at t ts fs x d
 
 abbrev pub Primitive : Type 0
 Primitive = ℕ × Option Operand × List Node
@@ -188,6 +228,11 @@ primitive ts d = valued_or (valued_of ts) ts d
 
 abbrev pub bare_of : List TokenKind → List Node → Option Primitive
 bare_of ts d = value_of ts >>= λ r. Some (length ts - length r.1 - 1, Some operand.Truth, node.Bare r.0 ∷ d)
+
+-- a truth that is one node, and how many tokens more than one it takes
+abbrev pub one_node : List Node → Option (Node × ℕ) → Option Primitive
+one_node d None = None
+one_node d (Some r) = Some (r.1, Some operand.Truth, r.0 ∷ d)
 
 abbrev pub with_frames : List Frame → Option Primitive → Option Begun
 with_frames fs o = o >>= λ r. Some (r.0, (fs, r.1, r.2))
@@ -213,24 +258,28 @@ abbrev pub sized_of : List TokenKind → List Node → Option Primitive
 sized_of (token.Size s ∷ token.Number n ∷ ts) d = Some (1, Some operand.Truth, node.Sized s n ∷ d)
 sized_of _ d = None
 
--- the tokens where an operand begins
+-- a token where an operand begins, and the tokens from it on
+abbrev pub begin_at : TokenKind → List TokenKind → List Frame → List Node → Option Begun
+begin_at (token.Protocol p) ts fs d = protocol_begins p (opening_of ts) ts fs d
+begin_at (token.Side s) ts fs d = with_frames fs (primitive ts d)
+begin_at (token.ValueType k) ts fs d = with_frames fs (primitive ts d)
+begin_at (token.Cast c) ts fs d = Some (0, (fs, Some operand.Truth, node.Cast None c ∷ d))
+begin_at (token.Size s) ts fs d = with_frames fs (sized_of ts d)
+begin_at (token.Number n) ts fs d = with_frames fs (number_of ts d)
+begin_at (token.Dotted a p) ts fs d = with_frames fs (bare_of ts d)
+begin_at (token.Ip6 a) ts fs d = with_frames fs (bare_of ts d)
+begin_at (token.Mac a) ts fs d = with_frames fs (bare_of ts d)
+begin_at (token.Range a b) ts fs d = with_frames fs (bare_of ts d)
+begin_at token.Len ts fs d = Some (0, (fs, Some operand.Number, node.Len ∷ d))
+begin_at (token.Name n) ts fs d = Some (0, (fs, Some operand.Number, node.Named n ∷ d))
+begin_at token.Not ts fs d = if nat_le 6 (room fs) then Some (0, (frame.Not ∷ fs, None, d)) else None
+begin_at (token.Operator Subtract) ts fs d = Some (0, (frame.Negate ∷ fs, None, d))
+begin_at token.Open ts fs d = Some (0, (frame.Open ∷ fs, None, d))
+begin_at _ ts fs d = None
+
 abbrev pub begin : List TokenKind → List Frame → List Node → Option Begun
-begin (token.Protocol p ∷ ts) fs d = protocol_begins p (opening_of (token.Protocol p ∷ ts)) (token.Protocol p ∷ ts) fs d
-begin (token.Side s ∷ ts) fs d = with_frames fs (primitive (token.Side s ∷ ts) d)
-begin (token.ValueType k ∷ ts) fs d = with_frames fs (primitive (token.ValueType k ∷ ts) d)
-begin (token.Cast c ∷ ts) fs d = Some (0, (fs, Some operand.Truth, node.Cast None c ∷ d))
-begin (token.Size s ∷ ts) fs d = with_frames fs (sized_of (token.Size s ∷ ts) d)
-begin (token.Number n ∷ ts) fs d = with_frames fs (number_of (token.Number n ∷ ts) d)
-begin (token.Dotted a p ∷ ts) fs d = with_frames fs (bare_of (token.Dotted a p ∷ ts) d)
-begin (token.Ip6 a ∷ ts) fs d = with_frames fs (bare_of (token.Ip6 a ∷ ts) d)
-begin (token.Mac a ∷ ts) fs d = with_frames fs (bare_of (token.Mac a ∷ ts) d)
-begin (token.Range a b ∷ ts) fs d = with_frames fs (bare_of (token.Range a b ∷ ts) d)
-begin (token.Len ∷ ts) fs d = Some (0, (fs, Some operand.Number, node.Len ∷ d))
-begin (token.Name n ∷ ts) fs d = Some (0, (fs, Some operand.Number, node.Named n ∷ d))
-begin (token.Not ∷ ts) fs d = if nat_le 6 (room fs) then Some (0, (frame.Not ∷ fs, None, d)) else None
-begin (token.Operator Subtract ∷ ts) fs d = Some (0, (frame.Negate ∷ fs, None, d))
-begin (token.Open ∷ ts) fs d = Some (0, (frame.Open ∷ fs, None, d))
-begin _ fs d = None
+begin [] fs d = None
+begin (t ∷ ts) fs d = begin_at t (t ∷ ts) fs d
 
 -- the number and the length of a prefix
 abbrev pub prefix_len : Operand → List TokenKind → Option (ℕ × ℕ)

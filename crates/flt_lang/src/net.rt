@@ -6,14 +6,14 @@ ghost use Rattle.flt_lang.specs.Nets.{first_bits, ip4_mask, ip6_mask, ip4_net, i
 use crate::value::{NetMask, Value};
 
 /// A network of IPv4, or a host's address with the mask of all bits.
-#[derive(Clone, Copy, Debug, PartialEq, Eq)]
+#[derive(Clone, Copy)]
 pub struct Ip4Net {
     pub address: u32,
     pub mask: u32,
 }
 
 /// A network of IPv6, or a host's address with the mask of all bits.
-#[derive(Clone, Copy, Debug, PartialEq, Eq)]
+#[derive(Clone, Copy)]
 pub(crate) struct Ip6Net {
     pub address: u128,
     pub mask: u128,

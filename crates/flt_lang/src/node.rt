@@ -6,7 +6,7 @@ use flt_words::{Cast, Comparison, Join, Operator, Protocol, Size};
 
 /// A node of a tree. The nodes of an expression stand in the order in which a machine with a stack
 /// would work on them: operands first, then what takes them.
-#[derive(Clone, Copy, Debug, PartialEq, Eq)]
+#[derive(Clone, Copy, PartialEq, Eq)]
 pub enum Node {
     /// A protocol alone: the packet is of it.
     Check(Protocol),

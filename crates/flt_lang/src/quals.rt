@@ -3,7 +3,7 @@
 use flt_words::{Join, Protocol, Side, ValueType};
 
 /// Which address or port of a packet is meant.
-#[derive(Clone, Copy, Debug, PartialEq, Eq)]
+#[derive(Clone, Copy, PartialEq, Eq)]
 pub enum Direction {
     /// `src` or `dst`.
     One(Side),
@@ -12,7 +12,7 @@ pub enum Direction {
 }
 
 /// Qualifiers, as they are written.
-#[derive(Clone, Copy, Debug, PartialEq, Eq)]
+#[derive(Clone, Copy, PartialEq, Eq)]
 pub struct Quals {
     pub protocol: Option<Protocol>,
     pub direction: Option<Direction>,
@@ -21,7 +21,7 @@ pub struct Quals {
 
 /// The qualifiers of a value once those that were left out are filled in. A protocol may be missing
 /// still: then the value is looked for in each protocol that has such values.
-#[derive(Clone, Copy, Debug, PartialEq, Eq)]
+#[derive(Clone, Copy, PartialEq, Eq)]
 pub struct FullQuals {
     pub protocol: Option<Protocol>,
     pub direction: Direction,

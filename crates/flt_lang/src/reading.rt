@@ -6,6 +6,7 @@ mod machine;
 mod parser;
 mod primitive;
 mod protocols;
+mod reader;
 mod starts;
 
 pub use parser::parse;

@@ -8,7 +8,7 @@ ghost use Rattle.flt_words.specs.Addresses.{AreIp6Ends, Finds, IsDotted, IsDoubl
 use crate::number::{decimal, numeral};
 
 /// What stands between two separators.
-#[derive(Clone, Copy, Debug, PartialEq, Eq)]
+#[derive(Clone, Copy)]
 pub(crate) enum Group {
     /// A decimal number up to 255.
     Octet,
@@ -19,7 +19,7 @@ pub(crate) enum Group {
 }
 
 /// Groups, as one number in their base, the first the highest digit.
-#[derive(Clone, Copy, Debug, PartialEq, Eq)]
+#[derive(Clone, Copy)]
 pub(crate) struct Joined {
     value: u128,
     count: u32,

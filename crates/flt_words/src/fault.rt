@@ -4,7 +4,7 @@ use std::alloc::{AllocError, AllocFailed};
 use std::error::Error;
 use std::fmt;
 
-/// Why a text is no expression that can be compiled: E1 to E12 in this order, or want of memory.
+/// Why a text is not an expression that can be compiled: E1 to E12 in this order, or out of memory.
 /// A place counts bytes of the text from 1.
 #[derive(Clone, Copy, Debug, PartialEq, Eq)]
 pub enum ExprFault {
@@ -26,13 +26,13 @@ pub enum ExprFault {
     ValueOutOfRange,
     /// E9: a network's address has bits that its mask leaves out.
     BitsPastMask,
-    /// E10: a division by the number 0.
+    /// E10: a division or a remainder by the number 0.
     DivisionByZero,
     /// E11: the arithmetic needs more than 16 words of memory.
     TooManyWords,
     /// E12: the program would have more than 32,768 instructions.
     ProgramTooLong,
-    /// No memory was to be had.
+    /// An allocation failed.
     Memory,
 }
 

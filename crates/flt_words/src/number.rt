@@ -7,7 +7,7 @@ ghost use Rattle.std.specs.Str.Parse.{digits_value};
 ghost use Rattle.flt_words.specs.Numbers.{Answers, IsNumber, IsRange, Writes, WritesDecimal, both, is_word_sized};
 
 /// Why a word has no value.
-#[derive(Clone, Copy, Debug, PartialEq, Eq)]
+#[derive(Clone, Copy)]
 pub(crate) enum WordFault {
     /// The word is of no kind.
     Unknown,

@@ -5,6 +5,7 @@ ghost use Rattle.flt_words.specs.Spellings.{keyword_of, look_up, symbol_of};
 
 use crate::token::{Cast, Comparison, Join, Operator, Protocol, Side, Size, TokenKind, ValueType};
 
+/// Keywords, and from `tcpflags` on the names of header fields and TCP flags with their numbers.
 const KEYWORDS: [(&str, TokenKind); 34] = [
     ("and", TokenKind::Join(Join::And)),
     ("or", TokenKind::Join(Join::Or)),

@@ -1,7 +1,7 @@
 //! What a text is cut into.
 
 /// A protocol, as it is named before a value or in front of `[`.
-#[derive(Clone, Copy, Debug, PartialEq, Eq)]
+#[derive(Clone, Copy, PartialEq, Eq)]
 pub enum Protocol {
     Ether,
     Ip,
@@ -15,21 +15,21 @@ pub enum Protocol {
 }
 
 /// `and` or `&&`, `or` or `||`.
-#[derive(Clone, Copy, Debug, PartialEq, Eq)]
+#[derive(Clone, Copy, PartialEq, Eq)]
 pub enum Join {
     And,
     Or,
 }
 
 /// `src`, `dst`.
-#[derive(Clone, Copy, Debug, PartialEq, Eq)]
+#[derive(Clone, Copy, PartialEq, Eq)]
 pub enum Side {
     Source,
     Destination,
 }
 
 /// What a value stands for: `host`, `net`, `port`, `portrange`, `proto`.
-#[derive(Clone, Copy, Debug, PartialEq, Eq)]
+#[derive(Clone, Copy, PartialEq, Eq)]
 pub enum ValueType {
     Host,
     Net,
@@ -39,14 +39,14 @@ pub enum ValueType {
 }
 
 /// The primitives `less N` and `greater N`, on a packet's original length in bytes.
-#[derive(Clone, Copy, Debug, PartialEq, Eq)]
+#[derive(Clone, Copy, PartialEq, Eq)]
 pub enum Size {
     Less,
     Greater,
 }
 
 /// The primitives `broadcast` and `multicast`.
-#[derive(Clone, Copy, Debug, PartialEq, Eq)]
+#[derive(Clone, Copy, PartialEq, Eq)]
 pub enum Cast {
     Broadcast,
     Multicast,
@@ -63,8 +63,8 @@ pub enum Comparison {
     AtLeast,
 }
 
-/// `|`, `&`, `<<`, `>>`, `+`, `-`, `*`, `/`. A `-` may also be a sign.
-#[derive(Clone, Copy, Debug, PartialEq, Eq)]
+/// `|`, `&`, `<<`, `>>`, `+`, `-`, `*`, `/`, `%`, `^`. A `-` may also be a sign.
+#[derive(Clone, Copy, PartialEq, Eq)]
 pub enum Operator {
     Or,
     And,
@@ -79,7 +79,7 @@ pub enum Operator {
 }
 
 /// What a token is, with its value.
-#[derive(Clone, Copy, Debug, PartialEq, Eq)]
+#[derive(Clone, Copy, PartialEq, Eq)]
 pub enum TokenKind {
     Protocol(Protocol),
     Join(Join),
@@ -99,7 +99,7 @@ pub enum TokenKind {
     CloseBracket,
     Colon,
     Number(u32),
-    /// A name that stands for a number in arithmetic.
+    /// A name of a header field or of a TCP flag, as its number: `tcpflags` is 13.
     Name(u32),
     /// An IPv4 address or the front of one: two to four parts, the missing ones 0.
     Dotted { address: u32, parts: u8 },
@@ -112,7 +112,7 @@ pub enum TokenKind {
 }
 
 /// A token, and the place of its first byte in the text, counted from 1.
-#[derive(Clone, Copy, Debug, PartialEq, Eq)]
+#[derive(Clone, Copy, PartialEq, Eq)]
 pub struct Token {
     pub kind: TokenKind,
     pub place: u32,

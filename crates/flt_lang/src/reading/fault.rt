@@ -1,10 +1,9 @@
-//! Why tokens have no tree here.
+//! Why the parser stops.
 
-use flt_words::ExprFault;
 use std::alloc::{AllocError, AllocFailed};
 
-/// Why tokens are not read.
-#[derive(Clone, Copy, Debug, PartialEq, Eq)]
+/// Why the parser stops: the tokens have no tree, or an allocation failed.
+#[derive(Clone, Copy)]
 pub enum ReadFault {
     NotAnExpression,
     Memory,
@@ -29,19 +28,5 @@ impl<T: Drop> From<AllocFailed<T>> for ReadFault {
 
     fn from(_error: AllocFailed<T>) -> Self {
         ReadFault::Memory
-    }
-}
-
-impl From<ReadFault> for ExprFault {
-    ghost use Rattle.std.specs.Prelude.{◌≡◌};
-    ghost use Rattle.flt_lang.specs.Faults.{expr_fault};
-
-    ghost from_gives = { λ f e. e ≡ expr_fault f };
-
-    fn from(fault: ReadFault) -> Self {
-        match fault {
-            ReadFault::NotAnExpression => ExprFault::NotAnExpression,
-            ReadFault::Memory => ExprFault::Memory,
-        }
     }
 }

@@ -4,12 +4,13 @@
 
 ghost use Rattle.std.specs.Prelude.{◌≡◌, reverse};
 ghost use Rattle.flt_lang.specs.Grammar.{level};
-ghost use Rattle.flt_lang.specs.Machine.{looseness, room, reach, enclosed_operand};
+ghost use Rattle.flt_lang.specs.Machine.{looseness, room, reach_of, enclosed_operand, sort_of, node_of};
 
+use crate::node::Node;
 use flt_words::{Comparison, Join, Operator, Protocol, TokenKind};
 
 /// What waits for an operand on its right, or for its closing token.
-#[derive(Clone, Copy, PartialEq, Eq)]
+#[derive(Clone, Copy)]
 pub enum Frame {
     Negate,
     Apply(Operator),
@@ -23,12 +24,19 @@ pub enum Frame {
 /// An operand that was just read. The nodes of a truth and of a number are written. The others may
 /// still become either: a plain number, which may also be the front of a longer value, and a number
 /// in parentheses or with the length of a prefix behind it.
-#[derive(Clone, Copy, PartialEq, Eq)]
+#[derive(Clone, Copy)]
 pub enum Operand {
     Truth,
     Number,
     Plain(u32),
     Either(u32, Option<u32>),
+}
+
+/// The two sorts of operands.
+#[derive(Clone, Copy)]
+pub enum Sort {
+    Truth,
+    Number,
 }
 
 impl Operand {
@@ -57,6 +65,31 @@ impl Frame {
             Frame::Open | Frame::Load(_) => 9,
         }
     }
+
+    /// The sort of its operands.
+    pub fn sort(self) -> Sort
+        ensures { result ≡ sort_of self }
+    {
+        match self {
+            Frame::Negate | Frame::Apply(_) | Frame::Compare(_) | Frame::Load(_) => Sort::Number,
+            Frame::Not | Frame::Join(_) | Frame::Open => Sort::Truth,
+        }
+    }
+
+    /// Its node, and what that makes of its operands. A parenthesis and an accessor have none here:
+    /// a token closes them.
+    pub fn node(self) -> Option<(Node, Operand)>
+        ensures { result ≡ node_of self }
+    {
+        match self {
+            Frame::Negate => Some((Node::Negate, Operand::Number)),
+            Frame::Apply(operator) => Some((Node::Apply(operator), Operand::Number)),
+            Frame::Compare(comparison) => Some((Node::Compare(comparison), Operand::Truth)),
+            Frame::Not => Some((Node::Not, Operand::Truth)),
+            Frame::Join(join) => Some((Node::Join(join), Operand::Truth)),
+            Frame::Open | Frame::Load(_) => None,
+        }
+    }
 }
 
 /// The level of an operator: its chains are of operands of this level.
@@ -71,19 +104,15 @@ pub fn level(operator: Operator) -> u8
     }
 }
 
-/// How loosely the next token binds the operand before it.
-pub fn reach(tokens: &[TokenKind]) -> u8
-    ensures { result ≡ reach tokens.now }
+/// How loosely a token binds the operand before it.
+pub fn reach_of(token: TokenKind) -> u8
+    ensures { result ≡ reach_of token }
 {
-    match tokens {
-        [TokenKind::Operator(operator), ..] => level(*operator) + 1,
-        [TokenKind::Comparison(_), ..] => 5,
-        [TokenKind::Join(_), ..] => 7,
-        []
-        | [
-            TokenKind::Close | TokenKind::CloseBracket | TokenKind::Colon,
-            ..
-        ] => 8,
+    match token {
+        TokenKind::Operator(operator) => level(operator) + 1,
+        TokenKind::Comparison(_) => 5,
+        TokenKind::Join(_) => 7,
+        TokenKind::Close | TokenKind::CloseBracket | TokenKind::Colon => 8,
         _ => 1,
     }
 }

@@ -1,39 +1,16 @@
 //! The steps of the parser. It goes over the tokens once, by operator precedence with one stack of
 //! frames, and decides late which sort an operand is of.
 
-ghost use Rattle.std.specs.Prelude.{◌≡◌, reverse, ◌∷◌, Some, None, Err, IfOk, IfSome, IfNone, OnOk, length, vec_len, drop, ◌<◌, ◌≤◌};
-ghost use Rattle.flt_lang.specs.Machine.{as_number, as_truth, prefix_mask, written, fill, settle, looseness, IsLoose, number_waits, truth_waits, load_ends, place, prefix_len, go_on, run, finish};
+ghost use Rattle.std.specs.Prelude.{◌≡◌, [], ◌∷◌, ◌<◌, ◌≤◌, Some, None, Err, IfOk, IfSome, OnOk, length, drop};
+ghost use Rattle.flt_lang.specs.Machine.{as_number, as_truth, as_sort, prefix_mask, fill, settle, waits, load_ends, size_of, closes, place_at, prefix_len, go_on, run, finish, all_run};
 
 use crate::node::Node;
 use crate::reading::fault::ReadFault;
-use crate::reading::frame::{Frame, Operand, reach, room};
-use crate::reading::starts::begin;
+use crate::reading::frame::{Frame, Operand, Sort, reach_of};
+use crate::reading::reader::Reader;
 use crate::value::{NetMask, Value};
 use flt_words::{Operator, TokenKind};
 use std::alloc::Allocator;
-
-/// Takes the operand for a number.
-fn write_number<A: Allocator>(nodes: &mut Vec<Node, A>, operand: Operand) -> Result<(), ReadFault>
-    ensures ok { OnOk result (as_number operand (reverse nodes.old.items)
-        ≡ Some (reverse nodes.new.items)) }
-    ensures none { result ≡ Err ReadFault.NotAnExpression
-        → as_number operand (reverse nodes.old.items) ≡ None }
-{
-    match operand {
-        Operand::Number => Ok(()),
-        Operand::Plain(number) | Operand::Either(number, None) => {
-            nodes.push(Node::Literal(number))?;
-            Ok(())
-        }
-        Operand::Either(number, Some(len)) => {
-            nodes.push(Node::Literal(number))?;
-            nodes.push(Node::Literal(len))?;
-            nodes.push(Node::Apply(Operator::Divide))?;
-            Ok(())
-        }
-        Operand::Truth => Err(ReadFault::NotAnExpression),
-    }
-}
 
 fn prefix_mask(len: Option<u32>) -> NetMask
     ensures { result ≡ prefix_mask len }
@@ -44,316 +21,293 @@ fn prefix_mask(len: Option<u32>) -> NetMask
     }
 }
 
-/// Takes the operand for a truth.
-fn write_truth<A: Allocator>(nodes: &mut Vec<Node, A>, operand: Operand) -> Result<(), ReadFault>
-    ensures ok { OnOk result (as_truth operand (reverse nodes.old.items)
-        ≡ Some (reverse nodes.new.items)) }
-    ensures none { result ≡ Err ReadFault.NotAnExpression
-        → as_truth operand (reverse nodes.old.items) ≡ None }
-{
-    match operand {
-        Operand::Truth => Ok(()),
-        Operand::Plain(number) => {
-            nodes.push(Node::Bare(Value::Number(number, NetMask::Unwritten)))?;
-            Ok(())
-        }
-        Operand::Either(number, len) => {
-            nodes.push(Node::Bare(Value::Number(number, prefix_mask(len))))?;
-            Ok(())
-        }
-        Operand::Number => Err(ReadFault::NotAnExpression),
-    }
-}
-
-/// Writes a node behind its operand, a number. What the two are is answered.
-fn fill_number<A: Allocator>(
-    nodes: &mut Vec<Node, A>,
-    operand: Operand,
-    node: Node,
-    whole: Operand,
-) -> Result<Operand, ReadFault>
-    ensures ok { IfOk result (λ x. written whole node (as_number operand (reverse nodes.old.items))
-        ≡ Some (x, reverse nodes.new.items)) }
-    ensures none { result ≡ Err ReadFault.NotAnExpression → written whole node (as_number operand (reverse nodes.old.items)) ≡ None }
-{
-    write_number(nodes, operand)?;
-    nodes.push(node)?;
-    Ok(whole)
-}
-
-/// The same behind a truth.
-fn fill_truth<A: Allocator>(
-    nodes: &mut Vec<Node, A>,
-    operand: Operand,
-    node: Node,
-    whole: Operand,
-) -> Result<Operand, ReadFault>
-    ensures ok { IfOk result (λ x. written whole node (as_truth operand (reverse nodes.old.items))
-        ≡ Some (x, reverse nodes.new.items)) }
-    ensures none { result ≡ Err ReadFault.NotAnExpression → written whole node (as_truth operand (reverse nodes.old.items)) ≡ None }
-{
-    write_truth(nodes, operand)?;
-    nodes.push(node)?;
-    Ok(whole)
-}
-
-/// Writes a frame behind its operand.
-fn fill<A: Allocator>(
-    nodes: &mut Vec<Node, A>,
-    frame: Frame,
-    operand: Operand,
-) -> Result<Operand, ReadFault>
-    ensures ok { IfOk result (λ x. fill frame operand (reverse nodes.old.items)
-        ≡ Some (x, reverse nodes.new.items)) }
-    ensures none { result ≡ Err ReadFault.NotAnExpression
-        → fill frame operand (reverse nodes.old.items) ≡ None }
-{
-    match frame {
-        Frame::Negate => fill_number(nodes, operand, Node::Negate, Operand::Number),
-        Frame::Apply(operator) => {
-            fill_number(nodes, operand, Node::Apply(operator), Operand::Number)
-        }
-        Frame::Compare(comparison) => {
-            fill_number(nodes, operand, Node::Compare(comparison), Operand::Truth)
-        }
-        Frame::Not => fill_truth(nodes, operand, Node::Not, Operand::Truth),
-        Frame::Join(join) => fill_truth(nodes, operand, Node::Join(join), Operand::Truth),
-        Frame::Open | Frame::Load(_) => Err(ReadFault::NotAnExpression),
-    }
-}
-
-/// The frames that bind at least as tightly as `reach` take the operand.
-#[tactic(auto, using(crate::proofs::Settling::settle_taken, crate::proofs::Settling::settle_failed, crate::proofs::Settling::settle_stays))]
-fn settle<A: Allocator>(
-    frames: &mut Vec<Frame, A>,
-    nodes: &mut Vec<Node, A>,
-    operand: Operand,
-    reach: u8,
-) -> Result<Operand, ReadFault>
-    ensures ok { IfOk result (λ x.
-        settle reach (reverse frames.old.items) operand (reverse nodes.old.items)
-        ≡ Some (reverse frames.new.items, x, reverse nodes.new.items)) }
-    ensures none { result ≡ Err ReadFault.NotAnExpression
-        → settle reach (reverse frames.old.items) operand (reverse nodes.old.items) ≡ None }
-{
-    let mut operand = operand;
-    while let Some(frame) = pop_tight(frames, reach) {
-        operand = fill(nodes, frame, operand)?;
-    }
-    Ok(operand)
-}
-
-/// The latest frame, if it binds at least as tightly as `reach`.
-fn pop_tight<A: Allocator>(frames: &mut Vec<Frame, A>, reach: u8) -> Option<Frame>
-    ensures some { IfSome result (λ f. reverse frames.old.items ≡ f ∷ reverse frames.new.items) }
-    ensures tight { IfSome result (λ f. looseness f ≤ reach) }
-    ensures shorter { IfSome result (λ _. vec_len frames.new < vec_len frames.old) }
-    ensures kept { IfNone result (frames.new.items ≡ frames.old.items) }
-    ensures stays { IfNone result (IsLoose reach (reverse frames.old.items)) }
-{
-    match frames.last() {
-        Some(frame) if frame.looseness() <= reach => frames.pop(),
-        _ => None,
-    }
-}
-
-/// A frame that takes numbers waits behind a number.
-fn await_number<A: Allocator>(
-    frames: &mut Vec<Frame, A>,
-    nodes: &mut Vec<Node, A>,
-    frame: Frame,
-    operand: Operand,
-) -> Result<(usize, Option<Operand>), ReadFault>
-    ensures ok { IfOk result (λ r.
-        number_waits frame (reverse frames.old.items) operand (reverse nodes.old.items)
-        ≡ Some (r.0, (reverse frames.new.items, r.1, reverse nodes.new.items))) }
-    ensures used { IfOk result (λ r. r.0 ≡ 0) }
-    ensures none { result ≡ Err ReadFault.NotAnExpression
-        → number_waits frame (reverse frames.old.items) operand (reverse nodes.old.items) ≡ None }
-{
-    if room(frames) < frame.looseness() {
-        return Err(ReadFault::NotAnExpression);
-    }
-    write_number(nodes, operand)?;
-    frames.push(frame)?;
-    Ok((0, None))
-}
-
-/// A frame that takes truths waits behind a truth.
-fn await_truth<A: Allocator>(
-    frames: &mut Vec<Frame, A>,
-    nodes: &mut Vec<Node, A>,
-    frame: Frame,
-    operand: Operand,
-) -> Result<(usize, Option<Operand>), ReadFault>
-    ensures ok { IfOk result (λ r.
-        truth_waits frame (reverse frames.old.items) operand (reverse nodes.old.items)
-        ≡ Some (r.0, (reverse frames.new.items, r.1, reverse nodes.new.items))) }
-    ensures used { IfOk result (λ r. r.0 ≡ 0) }
-    ensures none { result ≡ Err ReadFault.NotAnExpression
-        → truth_waits frame (reverse frames.old.items) operand (reverse nodes.old.items) ≡ None }
-{
-    if room(frames) < frame.looseness() {
-        return Err(ReadFault::NotAnExpression);
-    }
-    write_truth(nodes, operand)?;
-    frames.push(frame)?;
-    Ok((0, None))
-}
-
-/// The load that waits takes its index, and reads so many bytes. So many tokens more than one are
-/// used up.
-fn end_load<A: Allocator>(
-    frames: &mut Vec<Frame, A>,
-    nodes: &mut Vec<Node, A>,
-    operand: Operand,
-    more: usize,
-    size: u32,
-) -> Result<(usize, Option<Operand>), ReadFault>
-    ensures ok { IfOk result (λ r.
-        load_ends more size (reverse frames.old.items) operand (reverse nodes.old.items)
-        ≡ Some (r.0, (reverse frames.new.items, r.1, reverse nodes.new.items))) }
-    ensures used { IfOk result (λ r. r.0 ≡ more) }
-    ensures none { result ≡ Err ReadFault.NotAnExpression
-        → load_ends more size (reverse frames.old.items) operand (reverse nodes.old.items) ≡ None }
-{
-    match frames.pop() {
-        Some(Frame::Load(protocol)) => {
-            write_number(nodes, operand)?;
-            nodes.push(Node::Load(protocol, size))?;
-            Ok((more, Some(Operand::Number)))
-        }
-        _ => Err(ReadFault::NotAnExpression),
-    }
-}
-
-/// Places the tokens behind an operand: how many more than one are used up, and the operand, if one
-/// is whole.
-fn place<A: Allocator>(
-    frames: &mut Vec<Frame, A>,
-    nodes: &mut Vec<Node, A>,
-    tokens: &[TokenKind],
-    operand: Operand,
-) -> Result<(usize, Option<Operand>), ReadFault>
-    ensures ok { IfOk result (λ r.
-        place tokens.now (reverse frames.old.items) operand (reverse nodes.old.items)
-        ≡ Some (r.0, (reverse frames.new.items, r.1, reverse nodes.new.items))) }
-    ensures within { IfOk result (λ r. r.0 < length tokens.now) }
-    ensures none { result ≡ Err ReadFault.NotAnExpression
-        → place tokens.now (reverse frames.old.items) operand (reverse nodes.old.items) ≡ None }
-{
-    match tokens {
-        [TokenKind::Operator(operator), ..] => {
-            await_number(frames, nodes, Frame::Apply(*operator), operand)
-        }
-        [TokenKind::Comparison(comparison), ..] => {
-            await_number(frames, nodes, Frame::Compare(*comparison), operand)
-        }
-        [TokenKind::Join(join), ..] => await_truth(frames, nodes, Frame::Join(*join), operand),
-        [TokenKind::Close, ..] => match frames.pop() {
-            Some(Frame::Open) => Ok((0, Some(operand.enclosed()))),
-            _ => Err(ReadFault::NotAnExpression),
-        },
-        [TokenKind::CloseBracket, ..] => end_load(frames, nodes, operand, 0, 1),
-        [
-            TokenKind::Colon,
-            TokenKind::Number(size),
-            TokenKind::CloseBracket,
-            ..
-        ] => end_load(frames, nodes, operand, 2, *size),
-        _ => Err(ReadFault::NotAnExpression),
-    }
-}
-
 /// The number and the length of a prefix, where a plain number has one behind it.
-fn prefix_len(operand: Operand, tokens: &[TokenKind]) -> Option<(u32, u32)>
-    ensures value { result ≡ prefix_len operand tokens.now }
-    ensures within { IfSome result (λ _. 1 < length tokens.now) }
+fn prefix_len(operand: Operand, first: TokenKind, rest: &[TokenKind]) -> Option<(u32, u32)>
+    ensures value { result ≡ prefix_len operand (first ∷ rest.now) }
+    ensures within { IfSome result (λ _. 0 < length rest.now) }
 {
-    match (operand, tokens) {
+    match (operand, first, rest) {
         (
             Operand::Plain(number),
-            [
-                TokenKind::Operator(Operator::Divide),
-                TokenKind::Number(len),
-                ..
-            ],
+            TokenKind::Operator(Operator::Divide),
+            [TokenKind::Number(len), ..],
         ) => Some((number, *len)),
         _ => None,
     }
 }
 
-/// Reads the tokens behind an operand, or the rest of a value: how many more than one are used up.
-fn go_on<A: Allocator>(
-    frames: &mut Vec<Frame, A>,
-    nodes: &mut Vec<Node, A>,
-    operand: Operand,
-    tokens: &[TokenKind],
-) -> Result<(usize, Option<Operand>), ReadFault>
-    ensures ok { IfOk result (λ r.
-        go_on tokens.now (reverse frames.old.items) operand (reverse nodes.old.items)
-        ≡ Some (r.0, (reverse frames.new.items, r.1, reverse nodes.new.items))) }
-    ensures within { IfOk result (λ r. r.0 < length tokens.now) }
-    ensures none { result ≡ Err ReadFault.NotAnExpression
-        → go_on tokens.now (reverse frames.old.items) operand (reverse nodes.old.items) ≡ None }
+/// The size of an accessor, behind its colon.
+fn size_of(tokens: &[TokenKind]) -> Option<u32>
+    ensures value { result ≡ size_of tokens.now }
+    ensures within { IfSome result (λ _. 1 < length tokens.now) }
 {
-    match prefix_len(operand, tokens) {
-        Some((number, len)) if room(frames) >= 1 => {
-            Ok((1, Some(Operand::Either(number, Some(len)))))
-        }
-        _ => {
-            let settled = settle(frames, nodes, operand, reach(tokens))?;
-            place(frames, nodes, tokens, settled)
-        }
+    match tokens {
+        [TokenKind::Number(size), TokenKind::CloseBracket, ..] => Some(*size),
+        _ => None,
     }
 }
 
-/// Goes on by at least one token: how many, and the operand that is read then.
-pub fn step<A: Allocator>(
-    frames: &mut Vec<Frame, A>,
-    nodes: &mut Vec<Node, A>,
-    operand: Option<Operand>,
-    tokens: &[TokenKind],
-) -> Result<(usize, Option<Operand>), ReadFault>
-    requires { 0 < length tokens.now }
-    ensures ok { IfOk result (λ r.
-        run tokens.now 0 (reverse frames.old.items) operand (reverse nodes.old.items)
-        ≡ run (drop r.0 tokens.now) 0 (reverse frames.new.items) r.1 (reverse nodes.new.items)) }
-    ensures used { IfOk result (λ r. 0 < r.0) }
-    ensures within { IfOk result (λ r. r.0 ≤ length tokens.now) }
-    ensures none { result ≡ Err ReadFault.NotAnExpression
-        → run tokens.now 0 (reverse frames.old.items) operand (reverse nodes.old.items) ≡ None }
-{
-    match operand {
-        None => {
-            let (more, next) = begin(frames, nodes, tokens)?;
-            Ok((1 + more, next))
-        }
-        Some(read) => {
-            let (more, next) = go_on(frames, nodes, read, tokens)?;
-            Ok((1 + more, next))
+impl<A: Allocator> Reader<A> {
+    /// Takes the operand for a number.
+    fn write_number(&mut self, operand: Operand) -> Result<(), ReadFault>
+        ensures ok { OnOk result (as_number operand self.old.nodes ≡ Some self.new.nodes) }
+        ensures frames { OnOk result (self.new.frames ≡ self.old.frames) }
+        ensures none { result ≡ Err ReadFault.NotAnExpression
+            → as_number operand self.old.nodes ≡ None }
+    {
+        match operand {
+            Operand::Number => Ok(()),
+            Operand::Plain(number) | Operand::Either(number, None) => {
+                self.write(Node::Literal(number))
+            }
+            Operand::Either(number, Some(len)) => {
+                self.write(Node::Literal(number))?;
+                self.write(Node::Literal(len))?;
+                self.write(Node::Apply(Operator::Divide))
+            }
+            Operand::Truth => Err(ReadFault::NotAnExpression),
         }
     }
-}
 
-/// What the tokens leave is one truth.
-pub fn finish<A: Allocator>(
-    frames: &mut Vec<Frame, A>,
-    nodes: &mut Vec<Node, A>,
-    operand: Option<Operand>,
-) -> Result<(), ReadFault>
-    ensures ok { OnOk result (finish operand (reverse frames.old.items) (reverse nodes.old.items)
-        ≡ Some (reverse nodes.new.items)) }
-    ensures none { result ≡ Err ReadFault.NotAnExpression
-        → finish operand (reverse frames.old.items) (reverse nodes.old.items) ≡ None }
-{
-    let Some(read) = operand else {
-        return Err(ReadFault::NotAnExpression);
-    };
-    let settled = settle(frames, nodes, read, 8)?;
-    if frames.is_empty() {
-        write_truth(nodes, settled)
-    } else {
-        Err(ReadFault::NotAnExpression)
+    /// Takes the operand for a truth.
+    fn write_truth(&mut self, operand: Operand) -> Result<(), ReadFault>
+        ensures ok { OnOk result (as_truth operand self.old.nodes ≡ Some self.new.nodes) }
+        ensures frames { OnOk result (self.new.frames ≡ self.old.frames) }
+        ensures none { result ≡ Err ReadFault.NotAnExpression
+            → as_truth operand self.old.nodes ≡ None }
+    {
+        match operand {
+            Operand::Truth => Ok(()),
+            Operand::Plain(number) => {
+                self.write(Node::Bare(Value::Number(number, NetMask::Unwritten)))
+            }
+            Operand::Either(number, len) => {
+                self.write(Node::Bare(Value::Number(number, prefix_mask(len))))
+            }
+            Operand::Number => Err(ReadFault::NotAnExpression),
+        }
+    }
+
+    /// Takes the operand for one of a sort.
+    fn write_operand(&mut self, sort: Sort, operand: Operand) -> Result<(), ReadFault>
+        ensures ok { OnOk result (as_sort sort operand self.old.nodes ≡ Some self.new.nodes) }
+        ensures frames { OnOk result (self.new.frames ≡ self.old.frames) }
+        ensures none { result ≡ Err ReadFault.NotAnExpression
+            → as_sort sort operand self.old.nodes ≡ None }
+    {
+        match sort {
+            Sort::Truth => self.write_truth(operand),
+            Sort::Number => self.write_number(operand),
+        }
+    }
+
+    /// Writes a frame behind its operand. What the two are is returned.
+    fn fill(&mut self, frame: Frame, operand: Operand) -> Result<Operand, ReadFault>
+        ensures ok { IfOk result (λ x.
+            fill frame operand self.old.nodes ≡ Some (x, self.new.nodes)) }
+        ensures frames { IfOk result (λ _. self.new.frames ≡ self.old.frames) }
+        ensures none { result ≡ Err ReadFault.NotAnExpression
+            → fill frame operand self.old.nodes ≡ None }
+    {
+        let Some((node, whole)) = frame.node() else {
+            return Err(ReadFault::NotAnExpression);
+        };
+        self.write_operand(frame.sort(), operand)?;
+        self.write(node)?;
+        Ok(whole)
+    }
+
+    /// The frames that bind at least as tightly as `reach` take the operand.
+    #[tactic(auto, using(crate::proofs::Settling::settle_taken, crate::proofs::Settling::settle_failed, crate::proofs::Settling::settle_stays))]
+    fn settle(&mut self, operand: Operand, reach: u8) -> Result<Operand, ReadFault>
+        ensures ok { IfOk result (λ x. settle reach self.old.frames operand self.old.nodes
+            ≡ Some (self.new.frames, x, self.new.nodes)) }
+        ensures none { result ≡ Err ReadFault.NotAnExpression
+            → settle reach self.old.frames operand self.old.nodes ≡ None }
+    {
+        let mut operand = operand;
+        while let Some(frame) = self.pop_tight(reach) {
+            operand = self.fill(frame, operand)?;
+        }
+        Ok(operand)
+    }
+
+    /// A frame waits for its right operand, behind its left one.
+    fn wait_behind(
+        &mut self,
+        frame: Frame,
+        operand: Operand,
+    ) -> Result<(usize, Option<Operand>), ReadFault>
+        ensures ok { IfOk result (λ r. waits frame self.old.frames operand self.old.nodes
+            ≡ Some (r.0, (self.new.frames, r.1, self.new.nodes))) }
+        ensures used { IfOk result (λ r. r.0 ≡ 0) }
+        ensures none { result ≡ Err ReadFault.NotAnExpression
+            → waits frame self.old.frames operand self.old.nodes ≡ None }
+    {
+        if self.room() < frame.looseness() {
+            return Err(ReadFault::NotAnExpression);
+        }
+        self.write_operand(frame.sort(), operand)?;
+        self.wait(frame)?;
+        Ok((0, None))
+    }
+
+    /// A parenthesis closes.
+    fn close(&mut self, operand: Operand) -> Result<(usize, Option<Operand>), ReadFault>
+        ensures ok { IfOk result (λ r. closes self.old.frames operand self.old.nodes
+            ≡ Some (r.0, (self.new.frames, r.1, self.new.nodes))) }
+        ensures used { IfOk result (λ r. r.0 ≡ 0) }
+        ensures none { result ≡ Err ReadFault.NotAnExpression
+            → closes self.old.frames operand self.old.nodes ≡ None }
+    {
+        match self.pop() {
+            Some(Frame::Open) => Ok((0, Some(operand.enclosed()))),
+            _ => Err(ReadFault::NotAnExpression),
+        }
+    }
+
+    /// The load that waits takes its index, and reads so many bytes. So many tokens more than one
+    /// are used up.
+    fn end_load(
+        &mut self,
+        operand: Operand,
+        more: usize,
+        size: u32,
+    ) -> Result<(usize, Option<Operand>), ReadFault>
+        ensures ok { IfOk result (λ r. load_ends more size self.old.frames operand self.old.nodes
+            ≡ Some (r.0, (self.new.frames, r.1, self.new.nodes))) }
+        ensures used { IfOk result (λ r. r.0 ≡ more) }
+        ensures none { result ≡ Err ReadFault.NotAnExpression
+            → load_ends more size self.old.frames operand self.old.nodes ≡ None }
+    {
+        match self.pop() {
+            Some(Frame::Load(protocol)) => {
+                self.write_number(operand)?;
+                self.write(Node::Load(protocol, size))?;
+                Ok((more, Some(Operand::Number)))
+            }
+            _ => Err(ReadFault::NotAnExpression),
+        }
+    }
+
+    /// Places a token behind an operand: how many more than this one are used up, and the operand,
+    /// if one is whole.
+    fn place(
+        &mut self,
+        operand: Operand,
+        first: TokenKind,
+        rest: &[TokenKind],
+    ) -> Result<(usize, Option<Operand>), ReadFault>
+        ensures ok { IfOk result (λ r. place_at first rest.now self.old.frames operand self.old.nodes
+            ≡ Some (r.0, (self.new.frames, r.1, self.new.nodes))) }
+        ensures within { IfOk result (λ r. r.0 ≤ length rest.now) }
+        ensures none { result ≡ Err ReadFault.NotAnExpression
+            → place_at first rest.now self.old.frames operand self.old.nodes ≡ None }
+    {
+        match first {
+            TokenKind::Operator(operator) => self.wait_behind(Frame::Apply(operator), operand),
+            TokenKind::Comparison(comparison) => {
+                self.wait_behind(Frame::Compare(comparison), operand)
+            }
+            TokenKind::Join(join) => self.wait_behind(Frame::Join(join), operand),
+            TokenKind::Close => self.close(operand),
+            TokenKind::CloseBracket => self.end_load(operand, 0, 1),
+            TokenKind::Colon => match size_of(rest) {
+                Some(size) => self.end_load(operand, 2, size),
+                None => Err(ReadFault::NotAnExpression),
+            },
+            _ => Err(ReadFault::NotAnExpression),
+        }
+    }
+
+    /// Reads the tokens behind an operand, or the rest of a value: how many more than one are used
+    /// up.
+    fn go_on(
+        &mut self,
+        operand: Operand,
+        first: TokenKind,
+        rest: &[TokenKind],
+    ) -> Result<(usize, Option<Operand>), ReadFault>
+        ensures ok { IfOk result (λ r. go_on (first ∷ rest.now) self.old.frames operand self.old.nodes
+            ≡ Some (r.0, (self.new.frames, r.1, self.new.nodes))) }
+        ensures within { IfOk result (λ r. r.0 ≤ length rest.now) }
+        ensures none { result ≡ Err ReadFault.NotAnExpression
+            → go_on (first ∷ rest.now) self.old.frames operand self.old.nodes ≡ None }
+    {
+        match prefix_len(operand, first, rest) {
+            Some((number, len)) if self.room() >= 1 => {
+                Ok((1, Some(Operand::Either(number, Some(len)))))
+            }
+            _ => {
+                let settled = self.settle(operand, reach_of(first))?;
+                self.place(settled, first, rest)
+            }
+        }
+    }
+
+    /// Goes on by at least one token: how many, and the operand that is read then.
+    pub fn step(
+        &mut self,
+        operand: Option<Operand>,
+        tokens: &[TokenKind],
+    ) -> Result<(usize, Option<Operand>), ReadFault>
+        requires { 0 < length tokens.now }
+        ensures ok { IfOk result (λ r. run tokens.now 0 self.old.frames operand self.old.nodes
+            ≡ run (drop r.0 tokens.now) 0 self.new.frames r.1 self.new.nodes) }
+        ensures used { IfOk result (λ r. 0 < r.0) }
+        ensures within { IfOk result (λ r. r.0 ≤ length tokens.now) }
+        ensures none { result ≡ Err ReadFault.NotAnExpression
+            → run tokens.now 0 self.old.frames operand self.old.nodes ≡ None }
+    {
+        let [first, rest @ ..] = tokens else {
+            return Err(ReadFault::NotAnExpression);
+        };
+        match operand {
+            None => {
+                let (more, next) = self.begin(*first, tokens)?;
+                Ok((1 + more, next))
+            }
+            Some(read) => {
+                let (more, next) = self.go_on(read, *first, rest)?;
+                Ok((1 + more, next))
+            }
+        }
+    }
+
+    /// What the tokens leave is one truth.
+    pub fn finish(&mut self, operand: Option<Operand>) -> Result<(), ReadFault>
+        ensures ok { OnOk result (finish operand self.old.frames self.old.nodes
+            ≡ Some self.new.nodes) }
+        ensures none { result ≡ Err ReadFault.NotAnExpression
+            → finish operand self.old.frames self.old.nodes ≡ None }
+    {
+        let Some(read) = operand else {
+            return Err(ReadFault::NotAnExpression);
+        };
+        let settled = self.settle(read, 8)?;
+        match self.pop() {
+            None => self.write_truth(settled),
+            Some(_) => Err(ReadFault::NotAnExpression),
+        }
+    }
+
+    /// Reads the tokens of a whole expression, where nothing is read yet.
+    pub fn read(&mut self, tokens: &[TokenKind]) -> Result<(), ReadFault>
+        requires frames { self.old.frames ≡ [] }
+        requires nodes { self.old.nodes ≡ [] }
+        ensures ok { OnOk result (all_run tokens.now ≡ Some self.new.nodes) }
+        ensures none { result ≡ Err ReadFault.NotAnExpression → all_run tokens.now ≡ None }
+    {
+        if tokens.is_empty() {
+            return Ok(());
+        }
+        let mut operand = None;
+        let mut at = 0;
+        while at < tokens.len() {
+            let (used, next) = self.step(operand, &tokens[at..])?;
+            operand = next;
+            at += used;
+        }
+        self.finish(operand)
     }
 }

@@ -8,7 +8,7 @@ ghost use Rattle.flt_lang.specs.Nesting.{IsTooDeep};
 use crate::expr::Expr;
 use crate::nesting::is_nested_too_deep;
 use crate::reading::fault::ReadFault;
-use crate::reading::machine::{finish, step};
+use crate::reading::reader::Reader;
 use flt_words::{ExprFault, Token, TokenKind};
 use std::alloc::{AllocError, Allocator};
 
@@ -28,8 +28,11 @@ pub fn parse<A: Allocator + Clone>(alloc: A, tokens: &[Token]) -> Result<Expr<A>
     if is_nested_too_deep(tokens) {
         return Err(ExprFault::NestedTooDeep);
     }
-    let kinds = kinds_of(alloc.clone()?, tokens)?;
-    Ok(read(alloc, &kinds)?)
+    match read(alloc, tokens) {
+        Ok(expr) => Ok(expr),
+        Err(ReadFault::NotAnExpression) => Err(ExprFault::NotAnExpression),
+        Err(ReadFault::Memory) => Err(ExprFault::Memory),
+    }
 }
 
 /// The tokens without their places.
@@ -39,23 +42,15 @@ fn kinds_of<A: Allocator>(alloc: A, tokens: &[Token]) -> Result<Vec<TokenKind, A
     tokens.iter().map(|token| token.kind).collect(alloc)
 }
 
-fn read<A: Allocator + Clone>(alloc: A, tokens: &[TokenKind]) -> Result<Expr<A>, ReadFault>
-    ensures ok { IfOk result (λ tree. Reads tokens.now tree) }
+/// The tree of the tokens.
+#[tactic(auto, using(crate::proofs::Parsing::no_tree, crate::proofs::Parsing::found_is_tree, crate::proofs::Parsing::found_reads))]
+fn read<A: Allocator + Clone>(alloc: A, tokens: &[Token]) -> Result<Expr<A>, ReadFault>
+    ensures ok { IfOk result (λ tree. Reads (kinds_of tokens.now) tree) }
     ensures none { result ≡ Err ReadFault.NotAnExpression
-        → (tree : Expression) → Reads tokens.now tree → ⊥ }
+        → (tree : Expression) → Reads (kinds_of tokens.now) tree → ⊥ }
 {
-    let mut nodes = Vec::new(alloc.clone()?);
-    if tokens.is_empty() {
-        return Ok(Expr { nodes });
-    }
-    let mut frames = Vec::new(alloc);
-    let mut operand = None;
-    let mut at = 0;
-    while at < tokens.len() {
-        let (used, next) = step(&mut frames, &mut nodes, operand, &tokens[at..])?;
-        operand = next;
-        at += used;
-    }
-    finish(&mut frames, &mut nodes, operand)?;
-    Ok(Expr { nodes })
+    let kinds = kinds_of(alloc.clone()?, tokens)?;
+    let mut reader = Reader::new(alloc)?;
+    reader.read(&kinds)?;
+    Ok(reader.into_expr())
 }

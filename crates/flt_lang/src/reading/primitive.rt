@@ -1,7 +1,7 @@
 //! Values and what stands before them. Each reader takes as many tokens as it can, and says how
 //! many.
 
-ghost use Rattle.std.specs.Prelude.{◌≡◌, List, IsTrue, IfSome, IfNone, Some, None, length, drop, ◌<◌, ◌≤◌};
+ghost use Rattle.std.specs.Prelude.{◌≡◌, ◌∷◌, List, IsTrue, IfSome, IfNone, Some, None, length, drop, ◌<◌, ◌≤◌};
 ghost use Rattle.flt_words.specs.declared.token.TokenKind.{TokenKind};
 ghost use Rattle.flt_lang.specs.declared.quals.Quals.{Quals};
 ghost use Rattle.flt_lang.specs.Values.{quals_of, protocol_of, direction_of, type_of, mask_of, prefix_of, value_of};
@@ -109,41 +109,44 @@ fn read_prefix(tokens: &[TokenKind]) -> (Option<u32>, usize)
     }
 }
 
-/// A value, with the mask behind it.
+/// The value that begins with a token, with the mask behind it, and how many more tokens it takes.
+fn value_at(first: TokenKind, rest: &[TokenKind]) -> Option<(Value, usize)>
+    ensures some { IfSome result (λ r. value_of (first ∷ rest.now) ≡ Some (r.0, drop r.1 rest.now)) }
+    ensures within { IfSome result (λ r. r.1 ≤ length rest.now) }
+    ensures none { IfNone result (value_of (first ∷ rest.now) ≡ None) }
+{
+    match first {
+        TokenKind::Ip6(address) => {
+            let (prefix, used) = read_prefix(rest);
+            Some((Value::Ip6(address, prefix), used))
+        }
+        TokenKind::Number(number) => {
+            let (mask, used) = read_mask(rest);
+            Some((Value::Number(number, mask), used))
+        }
+        TokenKind::Dotted { address, parts } => {
+            let (mask, used) = read_mask(rest);
+            Some((Value::Dotted(Dotted { address, parts }, mask), used))
+        }
+        TokenKind::Mac(address) => Some((Value::Mac(address), 0)),
+        TokenKind::Range { first, last } => Some((Value::Range { first, last }, 0)),
+        _ => None,
+    }
+}
+
+/// A value, with the mask behind it, and how many tokens it takes.
+#[tactic(auto, using(crate::proofs::Fronts::value_found, crate::proofs::Fronts::no_value_found))]
 pub fn read_value(tokens: &[TokenKind]) -> Option<(Value, usize)>
     ensures some { IfSome result (λ r. value_of tokens.now ≡ Some (r.0, drop r.1 tokens.now)) }
     ensures used { IfSome result (λ r. 0 < r.1) }
     ensures within { IfSome result (λ r. r.1 ≤ length tokens.now) }
     ensures none { IfNone result (value_of tokens.now ≡ None) }
 {
-    match tokens {
-        [] => None,
-        [TokenKind::Ip6(address), rest @ ..] => {
-            let (prefix, used) = read_prefix(rest);
-            Some((Value::Ip6(*address, prefix), 1 + used))
-        }
-        [TokenKind::Number(number), rest @ ..] => {
-            let (mask, used) = read_mask(rest);
-            Some((Value::Number(*number, mask), 1 + used))
-        }
-        [TokenKind::Dotted { address, parts }, rest @ ..] => {
-            let (mask, used) = read_mask(rest);
-            let dotted = Dotted {
-                address: *address,
-                parts: *parts,
-            };
-            Some((Value::Dotted(dotted, mask), 1 + used))
-        }
-        [TokenKind::Mac(address), ..] => Some((Value::Mac(*address), 1)),
-        [TokenKind::Range { first, last }, ..] => {
-            let range = Value::Range {
-                first: *first,
-                last: *last,
-            };
-            Some((range, 1))
-        }
-        _ => None,
-    }
+    let [first, rest @ ..] = tokens else {
+        return None;
+    };
+    let (value, more) = value_at(*first, rest)?;
+    Some((value, 1 + more))
 }
 
 /// A value with what stands before it, and how many tokens more than one they are.

@@ -7,7 +7,7 @@ ghost use Rattle.flt_lang.specs.Machine.{opening_of};
 use flt_words::{Cast, Protocol, TokenKind};
 
 /// What the token behind a protocol makes of it.
-#[derive(Clone, Copy, PartialEq, Eq)]
+#[derive(Clone, Copy)]
 pub enum Opening {
     Bracket,
     Cast(Cast),

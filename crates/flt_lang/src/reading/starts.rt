@@ -1,187 +1,174 @@
 //! Where an operand begins.
 
-ghost use Rattle.std.specs.Prelude.{◌≡◌, List, ◌∷◌, reverse, Some, None, Err, IfOk, IfErr, length, ◌<◌};
-ghost use Rattle.flt_lang.specs.declared.reading.frame.Frame.{Frame};
-ghost use Rattle.flt_lang.specs.Machine.{begin, protocol_begins, opening_of, number_of, sized_of, primitive, bare_of};
+ghost use Rattle.std.specs.Prelude.{◌≡◌, ◌<◌, List, ◌∷◌, Some, None, Err, IfErr, IfOk, IfSome, OnOk, length};
+ghost use Rattle.flt_words.specs.declared.token.TokenKind.{TokenKind};
+ghost use Rattle.flt_lang.specs.declared.node.Node.{Node};
+ghost use Rattle.flt_lang.specs.Machine.{begin_at, protocol_begins, opening_of, number_of, sized_of, primitive, bare_of, one_node, with_frames};
 
 use crate::node::Node;
 use crate::reading::fault::ReadFault;
-use crate::reading::frame::{Frame, Operand, room};
+use crate::reading::frame::{Frame, Operand};
 use crate::reading::primitive::{read_value, read_valued};
 use crate::reading::protocols::{Opening, has_casts, is_accessor, is_check, read_opening};
+use crate::reading::reader::Reader;
 use flt_words::{Operator, Protocol, TokenKind};
 use std::alloc::Allocator;
 
-/// Reads the tokens where an operand begins: how many more than one are used up, and the operand,
-/// if that is all of it.
-pub fn begin<A: Allocator>(
-    frames: &mut Vec<Frame, A>,
-    nodes: &mut Vec<Node, A>,
-    tokens: &[TokenKind],
-) -> Result<(usize, Option<Operand>), ReadFault>
-    ensures ok { IfOk result (λ r.
-        begin tokens.now (reverse frames.old.items) (reverse nodes.old.items)
-        ≡ Some (r.0, (reverse frames.new.items, r.1, reverse nodes.new.items))) }
-    ensures within { IfOk result (λ r. r.0 < length tokens.now) }
-    ensures none { result ≡ Err ReadFault.NotAnExpression
-        → begin tokens.now (reverse frames.old.items) (reverse nodes.old.items) ≡ None }
-{
-    match tokens {
-        [TokenKind::Protocol(protocol), ..] => begin_protocol(frames, nodes, *protocol, tokens),
-        [TokenKind::Side(_), ..] => begin_primitive(nodes, tokens),
-        [TokenKind::ValueType(_), ..] => begin_primitive(nodes, tokens),
-        [TokenKind::Cast(cast), ..] => {
-            nodes.push(Node::Cast(None, *cast))?;
-            Ok((0, Some(Operand::Truth)))
-        }
-        [TokenKind::Size(_), ..] => begin_sized(nodes, tokens),
-        [TokenKind::Number(_), ..] => begin_number(nodes, tokens),
-        [TokenKind::Dotted { .. }, ..] => begin_bare(nodes, tokens),
-        [TokenKind::Ip6(_) | TokenKind::Mac(_), ..] => begin_bare(nodes, tokens),
-        [TokenKind::Range { .. }, ..] => begin_bare(nodes, tokens),
-        [TokenKind::Len, ..] => {
-            nodes.push(Node::Len)?;
-            Ok((0, Some(Operand::Number)))
-        }
-        [TokenKind::Name(number), ..] => {
-            nodes.push(Node::Named(*number))?;
-            Ok((0, Some(Operand::Number)))
-        }
-        [TokenKind::Not, ..] if room(frames) >= Frame::Not.looseness() => wait(frames, Frame::Not),
-        [TokenKind::Operator(Operator::Subtract), ..] => wait(frames, Frame::Negate),
-        [TokenKind::Open, ..] => wait(frames, Frame::Open),
-        _ => Err(ReadFault::NotAnExpression),
-    }
-}
-
-/// A frame waits for an operand.
-fn wait<A: Allocator>(
-    frames: &mut Vec<Frame, A>,
-    frame: Frame,
-) -> Result<(usize, Option<Operand>), ReadFault>
-    ensures ok { IfOk result (λ r. r ≡ (0, None)) }
-    ensures waits { IfOk result (λ _. reverse frames.new.items ≡ frame ∷ reverse frames.old.items) }
-    ensures err { IfErr result (λ fault. fault ≡ ReadFault.Memory) }
-{
-    frames.push(frame)?;
-    Ok((0, None))
-}
-
-/// Reads an accessor up to its bracket, a cast, or another primitive that begins with a protocol.
-fn begin_protocol<A: Allocator>(
-    frames: &mut Vec<Frame, A>,
-    nodes: &mut Vec<Node, A>,
-    protocol: Protocol,
-    tokens: &[TokenKind],
-) -> Result<(usize, Option<Operand>), ReadFault>
-    ensures ok { IfOk result (λ r.
-        protocol_begins protocol (opening_of tokens.now) tokens.now
-        (reverse frames.old.items) (reverse nodes.old.items)
-        ≡ Some (r.0, (reverse frames.new.items, r.1, reverse nodes.new.items))) }
-    ensures within { IfOk result (λ r. r.0 < length tokens.now) }
-    ensures none { result ≡ Err ReadFault.NotAnExpression
-        → protocol_begins protocol (opening_of tokens.now) tokens.now
-        (reverse frames.old.items) (reverse nodes.old.items) ≡ None }
-{
-    match read_opening(tokens) {
-        Opening::Bracket if is_accessor(protocol) => {
-            frames.push(Frame::Load(protocol))?;
-            Ok((1, None))
-        }
-        Opening::Cast(cast) if has_casts(protocol) => {
-            nodes.push(Node::Cast(Some(protocol), cast))?;
-            Ok((1, Some(Operand::Truth)))
-        }
-        Opening::Other => begin_primitive(nodes, tokens),
-        _ => Err(ReadFault::NotAnExpression),
-    }
-}
-
-/// Reads a number, or a network's number with its mask.
-fn begin_number<A: Allocator>(
-    nodes: &mut Vec<Node, A>,
-    tokens: &[TokenKind],
-) -> Result<(usize, Option<Operand>), ReadFault>
-    ensures ok { IfOk result (λ r.
-        number_of tokens.now (reverse nodes.old.items) ≡ Some (r.0, r.1, reverse nodes.new.items)) }
-    ensures within { IfOk result (λ r. r.0 < length tokens.now) }
-    ensures none { result ≡ Err ReadFault.NotAnExpression
-        → number_of tokens.now (reverse nodes.old.items) ≡ None }
-{
-    match tokens {
-        [
-            TokenKind::Number(_),
-            TokenKind::Mask,
-            TokenKind::Dotted { .. },
-            ..
-        ] => begin_bare(nodes, tokens),
-        [TokenKind::Number(number), ..] => Ok((0, Some(Operand::Plain(*number)))),
-        _ => Err(ReadFault::NotAnExpression),
-    }
-}
-
-/// Reads `less N` or `greater N`.
-fn begin_sized<A: Allocator>(
-    nodes: &mut Vec<Node, A>,
-    tokens: &[TokenKind],
-) -> Result<(usize, Option<Operand>), ReadFault>
-    ensures ok { IfOk result (λ r.
-        sized_of tokens.now (reverse nodes.old.items) ≡ Some (r.0, r.1, reverse nodes.new.items)) }
-    ensures within { IfOk result (λ r. r.0 < length tokens.now) }
-    ensures none { result ≡ Err ReadFault.NotAnExpression
-        → sized_of tokens.now (reverse nodes.old.items) ≡ None }
+/// `less N` or `greater N`, and how many tokens more than one it takes.
+fn read_sized(tokens: &[TokenKind]) -> Option<(Node, usize)>
+    ensures value { (nodes : List Node) → one_node nodes result ≡ sized_of tokens.now nodes }
+    ensures within { IfSome result (λ r. r.1 < length tokens.now) }
 {
     match tokens {
         [TokenKind::Size(size), TokenKind::Number(number), ..] => {
-            nodes.push(Node::Sized(*size, *number))?;
-            Ok((1, Some(Operand::Truth)))
+            Some((Node::Sized(*size, *number), 1))
         }
-        _ => Err(ReadFault::NotAnExpression),
+        _ => None,
     }
 }
 
-/// Reads a value with what stands before it, or else a check.
-fn begin_primitive<A: Allocator>(
-    nodes: &mut Vec<Node, A>,
-    tokens: &[TokenKind],
-) -> Result<(usize, Option<Operand>), ReadFault>
-    ensures ok { IfOk result (λ r.
-        primitive tokens.now (reverse nodes.old.items) ≡ Some (r.0, r.1, reverse nodes.new.items)) }
-    ensures within { IfOk result (λ r. r.0 < length tokens.now) }
-    ensures none { result ≡ Err ReadFault.NotAnExpression
-        → primitive tokens.now (reverse nodes.old.items) ≡ None }
+/// A value with what stands before it, or else a check.
+fn read_primitive(tokens: &[TokenKind]) -> Option<(Node, usize)>
+    ensures value { (nodes : List Node) → one_node nodes result ≡ primitive tokens.now nodes }
+    ensures within { IfSome result (λ r. r.1 < length tokens.now) }
 {
-    match read_valued(tokens) {
-        Some((quals, value, more)) => {
-            nodes.push(Node::Valued(quals, value))?;
-            Ok((more, Some(Operand::Truth)))
+    if let Some((quals, value, more)) = read_valued(tokens) {
+        return Some((Node::Valued(quals, value), more));
+    }
+    match tokens {
+        [TokenKind::Protocol(protocol), ..] if is_check(*protocol) => {
+            Some((Node::Check(*protocol), 0))
         }
-        None => match tokens {
-            [TokenKind::Protocol(protocol), ..] if is_check(*protocol) => {
-                nodes.push(Node::Check(*protocol))?;
-                Ok((0, Some(Operand::Truth)))
-            }
+        _ => None,
+    }
+}
+
+/// A value with nothing before it.
+fn read_bare(tokens: &[TokenKind]) -> Option<(Node, usize)>
+    ensures value { (nodes : List Node) → one_node nodes result ≡ bare_of tokens.now nodes }
+    ensures within { IfSome result (λ r. r.1 < length tokens.now) }
+{
+    let (value, used) = read_value(tokens)?;
+    Some((Node::Bare(value), used - 1))
+}
+
+impl<A: Allocator> Reader<A> {
+    /// Reads the tokens where an operand begins, `first` among them: how many more than one are
+    /// used up, and the operand, if that is all of it.
+    pub fn begin(
+        &mut self,
+        first: TokenKind,
+        tokens: &[TokenKind],
+    ) -> Result<(usize, Option<Operand>), ReadFault>
+        requires { 0 < length tokens.now }
+        ensures ok { IfOk result (λ r. begin_at first tokens.now self.old.frames self.old.nodes
+            ≡ Some (r.0, (self.new.frames, r.1, self.new.nodes))) }
+        ensures within { IfOk result (λ r. r.0 < length tokens.now) }
+        ensures none { result ≡ Err ReadFault.NotAnExpression
+            → begin_at first tokens.now self.old.frames self.old.nodes ≡ None }
+    {
+        match first {
+            TokenKind::Protocol(protocol) => self.begin_protocol(protocol, tokens),
+            TokenKind::Side(_) | TokenKind::ValueType(_) => self.put_truth(read_primitive(tokens)),
+            TokenKind::Cast(cast) => self.put_truth(Some((Node::Cast(None, cast), 0))),
+            TokenKind::Size(_) => self.put_truth(read_sized(tokens)),
+            TokenKind::Number(_) => self.begin_number(tokens),
+            TokenKind::Dotted { .. }
+            | TokenKind::Ip6(_)
+            | TokenKind::Mac(_)
+            | TokenKind::Range { .. } => self.put_truth(read_bare(tokens)),
+            TokenKind::Len => self.put_number(Node::Len),
+            TokenKind::Name(number) => self.put_number(Node::Named(number)),
+            TokenKind::Not if self.room() >= 6 => self.begin_behind(Frame::Not),
+            TokenKind::Operator(Operator::Subtract) => self.begin_behind(Frame::Negate),
+            TokenKind::Open => self.begin_behind(Frame::Open),
             _ => Err(ReadFault::NotAnExpression),
-        },
-    }
-}
-
-/// Reads a value with nothing before it.
-fn begin_bare<A: Allocator>(
-    nodes: &mut Vec<Node, A>,
-    tokens: &[TokenKind],
-) -> Result<(usize, Option<Operand>), ReadFault>
-    ensures ok { IfOk result (λ r.
-        bare_of tokens.now (reverse nodes.old.items) ≡ Some (r.0, r.1, reverse nodes.new.items)) }
-    ensures within { IfOk result (λ r. r.0 < length tokens.now) }
-    ensures none { result ≡ Err ReadFault.NotAnExpression
-        → bare_of tokens.now (reverse nodes.old.items) ≡ None }
-{
-    match read_value(tokens) {
-        Some((value, used)) => {
-            nodes.push(Node::Bare(value))?;
-            Ok((used - 1, Some(Operand::Truth)))
         }
-        None => Err(ReadFault::NotAnExpression),
+    }
+
+    /// A frame waits for an operand.
+    fn begin_behind(&mut self, frame: Frame) -> Result<(usize, Option<Operand>), ReadFault>
+        ensures ok { IfOk result (λ r. r ≡ (0, None)) }
+        ensures frames { IfOk result (λ _. self.new.frames ≡ frame ∷ self.old.frames) }
+        ensures nodes { IfOk result (λ _. self.new.nodes ≡ self.old.nodes) }
+        ensures err { IfErr result (λ fault. fault ≡ ReadFault.Memory) }
+    {
+        self.wait(frame)?;
+        Ok((0, None))
+    }
+
+    /// A number is one node.
+    fn put_number(&mut self, node: Node) -> Result<(usize, Option<Operand>), ReadFault>
+        ensures ok { IfOk result (λ r. r ≡ (0, Some Operand.Number)) }
+        ensures frames { IfOk result (λ _. self.new.frames ≡ self.old.frames) }
+        ensures nodes { IfOk result (λ _. self.new.nodes ≡ node ∷ self.old.nodes) }
+        ensures err { IfErr result (λ fault. fault ≡ ReadFault.Memory) }
+    {
+        self.write(node)?;
+        Ok((0, Some(Operand::Number)))
+    }
+
+    /// A truth is one node, if there is one.
+    fn put_truth(
+        &mut self,
+        read: Option<(Node, usize)>,
+    ) -> Result<(usize, Option<Operand>), ReadFault>
+        ensures ok { IfOk result (λ r. with_frames self.old.frames (one_node self.old.nodes read)
+            ≡ Some (r.0, (self.new.frames, r.1, self.new.nodes))) }
+        ensures used { IfOk result (λ r. IfSome read (λ node. r.0 ≡ node.1)) }
+        ensures none { result ≡ Err ReadFault.NotAnExpression
+            → with_frames self.old.frames (one_node self.old.nodes read) ≡ None }
+    {
+        let Some((node, more)) = read else {
+            return Err(ReadFault::NotAnExpression);
+        };
+        self.write(node)?;
+        Ok((more, Some(Operand::Truth)))
+    }
+
+    /// Reads an accessor up to its bracket, a cast, or another primitive that begins with a protocol.
+    fn begin_protocol(
+        &mut self,
+        protocol: Protocol,
+        tokens: &[TokenKind],
+    ) -> Result<(usize, Option<Operand>), ReadFault>
+        ensures ok { IfOk result (λ r.
+            protocol_begins protocol (opening_of tokens.now) tokens.now self.old.frames self.old.nodes
+            ≡ Some (r.0, (self.new.frames, r.1, self.new.nodes))) }
+        ensures within { IfOk result (λ r. r.0 < length tokens.now) }
+        ensures none { result ≡ Err ReadFault.NotAnExpression
+            → protocol_begins protocol (opening_of tokens.now) tokens.now self.old.frames self.old.nodes ≡ None }
+    {
+        match read_opening(tokens) {
+            Opening::Bracket if is_accessor(protocol) => {
+                self.wait(Frame::Load(protocol))?;
+                Ok((1, None))
+            }
+            Opening::Cast(cast) if has_casts(protocol) => {
+                self.put_truth(Some((Node::Cast(Some(protocol), cast), 1)))
+            }
+            Opening::Other => self.put_truth(read_primitive(tokens)),
+            _ => Err(ReadFault::NotAnExpression),
+        }
+    }
+
+    /// Reads a number, or a network's number with its mask.
+    fn begin_number(&mut self, tokens: &[TokenKind]) -> Result<(usize, Option<Operand>), ReadFault>
+        ensures ok { IfOk result (λ r. with_frames self.old.frames (number_of tokens.now self.old.nodes)
+            ≡ Some (r.0, (self.new.frames, r.1, self.new.nodes))) }
+        ensures within { IfOk result (λ r. r.0 < length tokens.now) }
+        ensures none { result ≡ Err ReadFault.NotAnExpression
+            → with_frames self.old.frames (number_of tokens.now self.old.nodes) ≡ None }
+    {
+        match tokens {
+            [
+                TokenKind::Number(_),
+                TokenKind::Mask,
+                TokenKind::Dotted { .. },
+                ..
+            ] => self.put_truth(read_bare(tokens)),
+            [TokenKind::Number(number), ..] => Ok((0, Some(Operand::Plain(*number)))),
+            _ => Err(ReadFault::NotAnExpression),
+        }
     }
 }
