@@ -4,6 +4,7 @@ pub mod Checking
 pub mod Scan
 pub mod Steps
 pub mod Suffix
+pub mod Tests
 pub mod Cuts
 pub mod Digits
 pub mod Numbers

@@ -6,6 +6,7 @@ pub mod Instructions
 pub mod Listing
 pub mod Machine
 pub mod Message
+pub mod Position
 pub mod Reading
 pub mod Refusal
 pub mod Valid

@@ -6,12 +6,11 @@ use Rattle.flt_bpf.proofs.Wrong.{listing_not_refused}
 use Rattle.flt_bpf.proofs.laws.listing_back.Goals as goal
 
 pub returns-clause-back : goal.returns-clause-back
-returns-clause-back c = listing_written c.args.insns.now c.requires.few c.requires.in_range
+returns-clause-back c = λ insns few in_range. listing_written insns few in_range
 
 pub returns-clause-alone : goal.returns-clause-alone
-returns-clause-alone c =
-    λ others h. same_reading (listing c.args.insns.now) others c.args.insns.now h (listing_written c.args.insns.now c.requires.few c.requires.in_range)
+returns-clause-alone c = λ insns others few in_range h. same_reading (listing insns) others insns h (listing_written insns few in_range)
 
 pub returns-clause-not_refused : goal.returns-clause-not_refused
 returns-clause-not_refused c =
-    λ line r. listing_not_refused (listing c.args.insns.now) c.args.insns.now line (listing_written c.args.insns.now c.requires.few c.requires.in_range) r
+    λ insns line few in_range r. listing_not_refused (listing insns) insns line (listing_written insns few in_range) r
