@@ -32,7 +32,7 @@ use Rattle.flt_gen.specs.Counts.{words, nodes, tests}
 use Rattle.flt_gen.specs.Code.{plain, indirect_code, operator_code, branch_insn, jump_before, branch_before, comparison_before, field_before, mask_before, base_before, transport_before, accessor_before, number_before, Entered, at_top, elementary_before, fork_before, and_fork, emitted, NEAR}
 use Rattle.flt_gen.specs.Follow.{load_code, Knowledge, fact, and_fact}
 use Rattle.flt_gen.specs.declared.elementary.Elementary.{Elementary}
-use Rattle.flt_gen.proofs.Onward.{followed_inside}
+use Rattle.flt_gen.proofs.Onward.{target_inside}
 use Rattle.flt_bpf.proofs.Suffix.{IsFaultless}
 use Rattle.flt_gen.proofs.Tails.{one_of_four}
 
@@ -223,8 +223,8 @@ elementary_sits : (known : Knowledge) (t : Elementary) (hit miss : ℕ) (c : Lis
 elementary_sits known (Known true) hit miss c s e ph lh pm lm = record { grows = grows_more c c 0 6 (omega arith) (grows_none c s e); low = ph; inside = lh }
 elementary_sits known (Known false) hit miss c s e ph lh pm lm = record { grows = grows_more c c 0 6 (omega arith) (grows_none c s e); low = pm; inside = lm }
 elementary_sits known (Field k) hit miss c s e ph lh pm lm =
-    let h = followed_inside c known (fact (Field k) true) hit ph lh in
-    let m = followed_inside c known (fact (Field k) false) miss pm lm in
+    let h = target_inside c known k true hit ph lh in
+    let m = target_inside c known k false miss pm lm in
     sits_top c _ 6 _ (omega arith) (field_grows k.place k.width c _ 4 (mask_grows k.mask c _ 3 (comparison_grows k.comparison Constant k.value _ _ c s e h.0 h.1 m.0 m.1)))
 
 -- one part of the code in front of another

@@ -59,7 +59,7 @@ unfolding step operation_of
 miss_leads p n = record { by = λ s long. refl }
 
 returns_settled : {p : List ℕ} {n : ℕ} → Settled p n returns_code
-returns_settled = (λ e. absurd (omega arith), (λ e. absurd (omega arith), tt))
+returns_settled = (λ e. cc, (λ e. cc, tt))
 
 pick_right : (r : Reading) → (pick r 262144 0 ≢ 0) ↔ (r ≡ Yes)
 pick_right Yes = (λ h. refl, λ e z. absurd (omega arith))

@@ -27,7 +27,7 @@ use Rattle.flt_gen.specs.declared.elementary.FieldTest.{FieldTest}
 use Rattle.flt_gen.specs.declared.elementary.Elementary.{Elementary}
 use Rattle.flt_gen.specs.declared.elementary.Elementary.TheVariants.{Known, Field}
 use Rattle.flt_gen.specs.Elementary.{network}
-use Rattle.flt_gen.specs.Follow.{load_code, Knowledge, fact, nothing, and_fact, followed}
+use Rattle.flt_gen.specs.Follow.{load_code, Knowledge, fact, nothing, and_fact, target}
 use Rattle.flt_gen.specs.Numbers.{width_of, accessor_tests}
 use Rattle.flt_gen.specs.Formula.{Formula, Single, Compare, Both, Either, Except, Guard, Fork}
 use Rattle.flt_gen.specs.Reading.{formula}
@@ -161,12 +161,12 @@ entered c entry = record { code = c; entry = entry }
 abbrev pub at_top : List Insn → Entered
 at_top c = record { code = c; entry = length c }
 
--- a test that is known takes no code; the targets of another are followed under what is known
+-- a test that is known takes no code; the targets of another are followed under what is known, and past a load of X that it made
 abbrev pub elementary_before : Knowledge → Elementary → ℕ → ℕ → List Insn → Entered
 elementary_before known (Known true) hit miss c = record { code = c; entry = hit }
 elementary_before known (Known false) hit miss c = record { code = c; entry = miss }
 elementary_before known (Field t) hit miss c =
-    at_top (test_before t (followed c known (fact (Field t) true) hit) (followed c known (fact (Field t) false) miss) c)
+    at_top (test_before t (target c known t true hit) (target c known t false miss) c)
 
 -- the code of one of two tests
 abbrev pub fork_before : Knowledge → Elementary → Elementary → ℕ → ℕ → List Insn → Entered

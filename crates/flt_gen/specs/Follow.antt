@@ -122,3 +122,16 @@ followed c known own place =
     agreed (eight_on c (own ∷ fact known.either.first true ∷ known.facts) place)
     (eight_on c (own ∷ fact known.either.second true ∷ known.facts) place)
     (eight_on c (own ∷ own ∷ known.facts) place)
+
+-- behind a test past a header X holds the header's length: code that begins by loading it is entered past that load
+abbrev pub past_index : Place → ℕ → List Insn → ℕ
+past_index (At a) place c = place
+past_index (Past header a) place [] = place
+past_index (Past header a) place (i ∷ is) = if i.code == 177 && i.k == header then max 1 (length is) else place
+
+abbrev pub entered_at : Place → List Insn → ℕ → ℕ
+entered_at place c r = past_index place r (drop (length c - r) c)
+
+-- where a test's jump goes: its target followed, and past a load of X
+unfoldable pub target : List Insn → Knowledge → FieldTest → Bool → ℕ → ℕ
+target c known t truth place = entered_at t.place c (followed c known (fact (Field t) truth) place)

@@ -1,11 +1,11 @@
 //! Code that grows from its end to its beginning.
 
 ghost use Rattle.std.specs.Prelude.{◌≡◌, ◌+◌, ◌-◌, ◌^◌, ◌<◌, ◌≤◌, List, [], ◌∷◌, length, drop, OnOk};
-ghost use Rattle.flt_gen.specs.Follow.{one_on, two_on, four_on, eight_on, followed, knowing};
+ghost use Rattle.flt_gen.specs.Follow.{one_on, two_on, four_on, eight_on, followed, entered_at, target, knowing};
 ghost use Rattle.flt_gen.specs.Code.{plain, jump_before, branch_before, test_code};
 
-use crate::elementary::Fact;
-use crate::follow::{Here, Known, onward};
+use crate::elementary::{Elementary, Fact, FieldTest, Place};
+use crate::follow::{Here, Known, onward, past_index};
 use flt_bpf::insn::Insn;
 use flt_bpf::operation::{Operand, Test};
 use std::alloc::{AllocError, Allocator};
@@ -169,9 +169,9 @@ impl<A: Allocator> Code<A> {
         self.four_on(here, self.four_on(here, place))
     }
 
-    /// The target of a jump that is taken where a fact holds, followed as far as what is known leads.
+    // The target of a jump that is taken where a fact holds, followed as far as what is known leads.
     #[tactic(auto, unfolding(crate::specs::Follow::followed))]
-    pub fn followed(&self, known: Known<'_>, own: Fact, place: usize) -> usize
+    fn followed(&self, known: Known<'_>, own: Fact, place: usize) -> usize
         ensures { result ≡ followed self.now (knowing known.entry.facts.now known.entry.either) own place }
     {
         let facts = known.facts;
@@ -185,6 +185,26 @@ impl<A: Allocator> Code<A> {
             let more = own;
             self.eight_on(Here { own, more, facts }, place)
         }
+    }
+
+    // Where code is entered behind a test at a place.
+    fn entered_at(&self, tested: Place, place: usize) -> usize
+        ensures { result ≡ entered_at tested self.now place }
+    {
+        let within = place.min(self.top());
+        past_index(&self.backwards[..within], tested, place)
+    }
+
+    /// Where a test's jump goes: its target followed, and past a load of the header length that is in X already.
+    #[tactic(auto, unfolding(crate::specs::Follow::target))]
+    pub fn target(&self, known: Known<'_>, test: FieldTest, truth: bool, place: usize) -> usize
+        ensures { result ≡ target self.now (knowing known.entry.facts.now known.entry.either) test truth place }
+    {
+        let own = Fact {
+            test: Elementary::Field(test),
+            truth,
+        };
+        self.entered_at(test.place, self.followed(known, own, place))
     }
 
     /// The instructions from a place on, in their order.

@@ -1,7 +1,7 @@
 //! Where a jump goes on at once, since what is known of the packet decides the test at its target.
 
 ghost use Rattle.std.specs.Prelude.{◌≡◌, ◌∷◌, [], length, reverse, MatchOption};
-ghost use Rattle.flt_gen.specs.Follow.{load_code, same_mask, looks_at, test_says, decided, past_mask, past_load, onward, trivial};
+ghost use Rattle.flt_gen.specs.Follow.{load_code, same_mask, looks_at, test_says, decided, past_mask, past_load, onward, past_index, trivial};
 
 use crate::elementary::{Alternatives, Elementary, Fact, FieldTest, Place};
 use flt_bpf::insn::Insn;
@@ -184,5 +184,25 @@ pub fn onward(behind: &[Insn], here: Here<'_>, place: usize) -> usize
                 past_load(others, here, insn.code, insn.k, place)
             }
         }
+    }
+}
+
+/// Where code is entered behind a test at a place: past its first load if that loads the header length that the test
+/// left in X. The instructions are given from the last to the first.
+pub fn past_index(behind: &[Insn], tested: Place, place: usize) -> usize
+    ensures { result ≡ past_index tested place (reverse behind.now) }
+{
+    match tested {
+        Place::At(_) => place,
+        Place::Past(header, _) => match first_insn(behind) {
+            None => place,
+            Some((insn, others)) => {
+                if insn.code == 177 && insn.k == header {
+                    others.len().max(1)
+                } else {
+                    place
+                }
+            }
+        },
     }
 }

@@ -98,8 +98,8 @@ pub fn put_elementary<A: Allocator>(
         Elementary::Known(false) => Ok(to.no),
         Elementary::Field(field) => {
             let to = Targets {
-                yes: code.followed(known, Fact::yes(test), to.yes),
-                no: code.followed(known, Fact::no(test), to.no),
+                yes: code.target(known, field, true, to.yes),
+                no: code.target(known, field, false, to.no),
             };
             put_test(code, field, to)?;
             Ok(code.top())
