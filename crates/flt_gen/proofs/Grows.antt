@@ -26,11 +26,12 @@ use Rattle.flt_bpf.specs.Instructions.{operation_of}
 use Rattle.flt_bpf.specs.Check.{fault_of, unless, ends_in_return}
 use Rattle.flt_gen.specs.Elementary.{network}
 use Rattle.flt_gen.specs.Numbers.{width_of}
-use Rattle.flt_gen.specs.Formula.{Formula, Single, Compare, Both, Either, Except, Guard, Fork}
+use Rattle.flt_gen.specs.Formula.{Formula, Single, Compare, Both, Either, Except, Guard, Fork, Choose}
 use Rattle.flt_lang.specs.Counts.{number_words, number_size}
 use Rattle.flt_gen.specs.Counts.{words, nodes, tests}
-use Rattle.flt_gen.specs.Code.{plain, indirect_code, operator_code, branch_insn, jump_before, branch_before, comparison_before, field_before, mask_before, base_before, transport_before, accessor_before, number_before, Entered, at_top, elementary_before, fork_before, and_fork, emitted, NEAR}
-use Rattle.flt_gen.specs.Follow.{load_code, Knowledge, fact, and_fact}
+use Rattle.flt_gen.specs.Code.{plain, indirect_code, operator_code, branch_insn, jump_before, branch_before, comparison_before, field_before, mask_before, base_before, transport_before, accessor_before, number_before, Entered, at_top, elementary_before, fork_before, emitted, NEAR}
+use Rattle.flt_gen.specs.declared.follow.Knowledge.{Knowledge}
+use Rattle.flt_gen.specs.Follow.{and_fork, load_code, fact, and_fact}
 use Rattle.flt_gen.specs.declared.elementary.Elementary.{Elementary}
 use Rattle.flt_gen.proofs.Onward.{target_inside}
 use Rattle.flt_bpf.proofs.Suffix.{IsFaultless}
@@ -273,3 +274,13 @@ emitted_sits link known (Fork t u a) hit miss c few s e ph lh pm lm =
     let lm' : miss ≤ length d.code = omega (arith, sb.grows.longer) in
     let sa = fork_sits known t u d.entry miss d.code sb.grows.sound sb.grows.ends sb.low sb.inside pm lm' in
     sits_on d (fork_before known t u d.entry miss d.code) c (6 * (tests a + nodes a)) 12 _ sb sa (omega arith)
+emitted_sits link known (Choose t a b) hit miss c few s e ph lh pm lm =
+    let d = emitted link (and_fact (fact t false) known) b hit miss c in
+    let sb = emitted_sits link (and_fact (fact t false) known) b hit miss c (omega arith) s e ph lh pm lm in
+    let lh' : hit ≤ length d.code = omega (arith, sb.grows.longer) in
+    let lm' : miss ≤ length d.code = omega (arith, sb.grows.longer) in
+    let f = emitted link (and_fact (fact t true) known) a hit miss d.code in
+    let sa = emitted_sits link (and_fact (fact t true) known) a hit miss d.code (omega arith) sb.grows.sound sb.grows.ends ph lh' pm lm' in
+    let ld : d.entry ≤ length f.code = (let l = sb.inside in omega (arith, sa.grows.longer)) in
+    let st = elementary_sits known t f.entry d.entry f.code sa.grows.sound sa.grows.ends sa.low sa.inside sb.low ld in
+    sits_on f (elementary_before known t f.entry d.entry f.code) c (6 * (tests b + nodes b) + 6 * (tests a + nodes a)) 6 _ (sits_on d f c (6 * (tests b + nodes b)) (6 * (tests a + nodes a)) _ sb sa (omega arith)) st (omega arith)

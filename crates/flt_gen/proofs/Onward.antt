@@ -9,7 +9,7 @@ use Rattle.flt_bpf.specs.declared.operation.Register.TheVariants.{Accumulator, I
 use Rattle.flt_bpf.specs.declared.operation.Width.{Width}
 use Rattle.flt_bpf.specs.declared.operation.Width.TheVariants.{Word, HalfWord, Byte}
 use Rattle.flt_bpf.specs.Instructions.{operation_of}
-use Rattle.flt_bpf.specs.Machine.{Next, Goes, Ends, Lost, step, does_if_known, start, field, into, header_length}
+use Rattle.flt_bpf.specs.Machine.{step, does_if_known, start, field, into, header_length}
 use Rattle.flt_words.specs.declared.token.Comparison.{Comparison}
 use Rattle.flt_words.specs.declared.token.Comparison.TheVariants.{Equal, NotEqual, Less, AtMost, Greater, AtLeast}
 use Rattle.flt_gen.specs.declared.elementary.Place.{Place}
@@ -19,7 +19,8 @@ use Rattle.flt_gen.specs.declared.elementary.Elementary.{Elementary}
 use Rattle.flt_gen.specs.declared.elementary.Elementary.TheVariants.{Known, Field}
 use Rattle.flt_gen.specs.declared.elementary.Fact.{Fact}
 use Rattle.flt_gen.specs.Elementary.{Reading, Yes, No, Rejected, reading_of, with, compares, field_at, masked, elementary_reads}
-use Rattle.flt_gen.specs.Follow.{load_code, same_mask, same_place, is_equal, says_value, test_says, first_of, looks_at, decided, chosen, past_mask, past_load, onward, one_on, two_on, four_on, eight_on, fact, Knowledge, agreed, followed, past_index, entered_at, target}
+use Rattle.flt_gen.specs.declared.follow.Knowledge.{Knowledge}
+use Rattle.flt_gen.specs.Follow.{load_code, same_mask, same_place, is_equal, says_value, test_says, first_of, looks_at, decided, chosen, past_mask, past_load, onward, one_on, two_on, four_on, eight_on, fact, facts_of, agreed, followed, past_index, target}
 use Rattle.flt_bpf.proofs.Suffix.{answer_of, answer_after, answer_drop}
 use Rattle.flt_gen.proofs.Tails.{tail, Extends, extends_none, extends_put, extends_on}
 
@@ -354,7 +355,7 @@ module _ (p : List ℕ) (n : ℕ) where
 
   -- what is known at a place holds of the packet
   pub record KnowledgeHolds (known : Knowledge) : Type 0 where
-    pub facts : FactsHold known.facts
+    pub facts : FactsHold (facts_of known)
     pub either : (elementary_reads known.either.first p ≡ Yes) ⊎ (elementary_reads known.either.second p ≡ Yes)
 
   -- a followed target has an answer, which is that of the target where what is known holds
@@ -364,7 +365,7 @@ module _ (p : List ℕ) (n : ℕ) where
     pub inside : r ≤ length c
     pub right : KnowledgeHolds known → FactHolds own → v ≡ u
 
-  agreed_followed : (c : List Insn) (known : Knowledge) (own : Fact) (u a b other : ℕ) → Onward c (own ∷ fact known.either.first true ∷ known.facts) u a → Onward c (own ∷ fact known.either.second true ∷ known.facts) u b → Onward c (own ∷ own ∷ known.facts) u other → Followed c known own u (agreed a b other)
+  agreed_followed : (c : List Insn) (known : Knowledge) (own : Fact) (u a b other : ℕ) → Onward c (own ∷ fact known.either.first true ∷ facts_of known) u a → Onward c (own ∷ fact known.either.second true ∷ facts_of known) u b → Onward c (own ∷ facts_of known) u other → Followed c known own u (agreed a b other)
   agreed_followed c known own u a b other oa ob oo =
       by_bool (λ r. Followed c known own u r) (a == b) a other
       (λ e. let same : a ≡ b = grind (arith, nat_tests) in
@@ -377,7 +378,7 @@ module _ (p : List ℕ) (n : ℕ) where
             (λ y. leads_same c a oa.v ob.v oa.leads (subst (λ r. Leads c r ob.v) (sym same) ob.leads) ∙ ob.right (f, (y, k.facts)))
             k.either;
       })
-      (λ e. record { v = oo.v; leads = oo.leads; inside = oo.inside; right = λ k f. oo.right (f, (f, k.facts)) })
+      (λ e. record { v = oo.v; leads = oo.leads; inside = oo.inside; right = λ k f. oo.right (f, k.facts) })
 
   pub followed_leads : (c : List Insn) (known : Knowledge) (own : Fact) (u place : ℕ) → Settled c → place ≤ length c → Leads c place u → Followed c known own u (followed c known own place)
   unfolding followed
@@ -509,9 +510,9 @@ eight_inside c facts place p l = let i = four_inside c facts place p l in four_i
 followed_inside : (c : List Insn) (known : Knowledge) (own : Fact) (place : ℕ) → 0 < place → place ≤ length c → Inside (length c) (followed c known own place)
 unfolding followed
 followed_inside c known own place p l =
-    let a = eight_on c (own ∷ fact known.either.first true ∷ known.facts) place in
-    let b = eight_on c (own ∷ fact known.either.second true ∷ known.facts) place in
-    by_bool (λ r. Inside (length c) r) (a == b) _ _ (λ e. eight_inside c (own ∷ fact known.either.first true ∷ known.facts) place p l) (λ e. eight_inside c (own ∷ own ∷ known.facts) place p l)
+    let a = eight_on c (own ∷ fact known.either.first true ∷ facts_of known) place in
+    let b = eight_on c (own ∷ fact known.either.second true ∷ facts_of known) place in
+    by_bool (λ r. Inside (length c) r) (a == b) _ _ (λ e. eight_inside c (own ∷ fact known.either.first true ∷ facts_of known) place p l) (λ e. eight_inside c (own ∷ facts_of known) place p l)
 
 index_inside : (tested : Place) (place : ℕ) (d : List Insn) → 0 < place → length d ≤ place → Inside place (past_index tested place d)
 index_inside (At a) place d p l = (p, omega arith)

@@ -1,5 +1,5 @@
 -- The code of a formula goes on where the formula's reading says.
-use Rattle.std.proofs.Common.{◌≡◌, ℕ, suc, ◌+◌, ◌-◌, ◌%◌, ◌^◌, ◌≤◌, List, ◌∷◌, length, Bool, true, false, Option, Some, None, refl, sym, ap, ◌∙◌, subst, arith, ◌⊎◌, inl, inr}
+use Rattle.std.proofs.Common.{◌≡◌, ℕ, suc, ◌+◌, ◌-◌, ◌%◌, ◌^◌, ◌≤◌, List, ◌∷◌, length, Bool, true, false, Option, Some, None, refl, sym, ap, ◌∙◌, arith, ◌⊎◌, inl, inr}
 use Rattle.std.specs.Prelude.{◌≢◌, nat_le, nat_lt, not, ◌&&◌, if◌then◌else◌, bit_and}
 use Rattle.std.specs.Option.{option_map}
 use Rattle.std.proofs.lemmas.Bool.Decides.{nat_tests}
@@ -13,8 +13,11 @@ use Rattle.flt_words.specs.declared.token.Protocol.TheVariants.{Ether, Tcp, Udp,
 use Rattle.flt_gen.specs.declared.elementary.Elementary.{Elementary}
 use Rattle.flt_gen.specs.Elementary.{network}
 use Rattle.flt_gen.specs.Numbers.{width_of}
-use Rattle.flt_gen.specs.Follow.{load_code, Knowledge, fact, and_fact, target}
-use Rattle.flt_gen.proofs.Onward.{is_load, Leads, leads_on, Settles, Branches, MaskedBranches, Settled, KnowledgeHolds, Ready, LeadsReady, ready_anyhow, ready_on, target_leads}
+use Rattle.flt_gen.specs.declared.follow.Knowledge.{Knowledge}
+use Rattle.flt_gen.specs.Follow.{and_fork, fact, and_fact, target}
+use Rattle.flt_gen.specs.declared.elementary.Fact.{Fact}
+use Rattle.flt_gen.proofs.Exclusive.{Apt, excluded_no}
+use Rattle.flt_gen.proofs.Onward.{is_load, Leads, leads_on, Settles, Branches, MaskedBranches, Settled, FactHolds, KnowledgeHolds, Ready, LeadsReady, ready_anyhow, ready_on, target_leads}
 use Rattle.flt_bpf.specs.declared.operation.Test.{Test}
 use Rattle.flt_bpf.specs.declared.operation.Test.TheVariants as test
 use Rattle.flt_bpf.specs.declared.operation.Operand.{Operand}
@@ -32,11 +35,11 @@ use Rattle.flt_bpf.specs.declared.operation.Register.TheVariants.{Accumulator, I
 use Rattle.flt_bpf.specs.Machine.{field, holds, value_of, into, header_length}
 use Rattle.flt_gen.specs.Elementary.{Reading, Yes, No, Rejected, reading_of, with, compares, field_at, masked, elementary_reads}
 use Rattle.flt_gen.specs.Numbers.{number}
-use Rattle.flt_gen.specs.Formula.{Formula, Single, Compare, Both, Either, Except, Guard, Fork, relation_reads, both, either, negated as exchanged, reads}
+use Rattle.flt_gen.specs.Formula.{Formula, Single, Compare, Both, Either, Except, Guard, Fork, Choose, relation_reads, both, either, negated as exchanged, reads}
 use Rattle.flt_lang.specs.Counts.{number_words}
 use Rattle.flt_gen.specs.Counts.{words}
-use Rattle.flt_gen.specs.Code.{plain, indirect_code, operator_code, test_code, base_before, transport_before, accessor_before, elementary_before, and_fork, jump_before, branch_before, comparison_before, field_before, mask_before, test_before, operands_before, number_before, relation_before, Entered, emitted, NEAR}
-use Rattle.flt_bpf.proofs.Suffix.{answer_of, answer_after, answer_drop}
+use Rattle.flt_gen.specs.Code.{plain, indirect_code, operator_code, test_code, base_before, transport_before, accessor_before, elementary_before, jump_before, branch_before, comparison_before, field_before, mask_before, test_before, operands_before, number_before, relation_before, Entered, emitted, NEAR}
+use Rattle.flt_bpf.proofs.Suffix.{answer_of, answer_after}
 use Rattle.flt_gen.proofs.Tails.{Extends, extends_none, extends_put, extends_on, one_of_four, test_extends, relation_extends}
 use Rattle.flt_gen.proofs.Numbers.{TwoRuns, run_load, run_indirect, run_header, run_mask, run_jump, run_branch, number_runs, two_runs}
 
@@ -325,6 +328,20 @@ module _ (p : List ℕ) (n : ℕ) where
   pick_fork No r s x y v w h g = g refl ∙ pick_guard r s x v w (λ e. h (inr e))
   pick_fork Rejected r s x y v w h g = refl
 
+  -- a formula, or another one, that is no where the test before the first was yes
+  pick_choice : (r s q : Reading) (x y v w : ℕ) → (r ≡ Yes → q ≡ No) → (r ≡ Yes → x ≡ pick s v w) → (r ≡ No → y ≡ pick q v w) → pick r x y ≡ pick (either (both r s) q) v w
+  pick_choice Yes s q x y v w other h g = h refl ∙ sym (ap (λ z. pick z v w) (ap (λ z. either s z) (other refl) ∙ or_no s))
+    where
+      or_no : (s : Reading) → either s No ≡ s
+      or_no Yes = refl
+      or_no No = refl
+      or_no Rejected = refl
+  pick_choice No s q x y v w other h g = g refl
+  pick_choice Rejected s q x y v w other h g = refl
+
+  knows : (f : Fact) (known : Knowledge) → KnowledgeHolds p n known → FactHolds p n f → KnowledgeHolds p n (and_fact f known)
+  knows f known k h = record { facts = (h, (k.facts.0, (k.facts.1.0, tt))); either = k.either }
+
   elementary_works : (known : Knowledge) (t : Elementary) (hit miss v w : ℕ) (c : List Insn) → hit ≤ length c → miss ≤ length c → Calm c → Leads p n c hit v → Leads p n c miss w → Works (elementary_before known t hit miss c) c known (pick (elementary_reads t p) v w)
   elementary_works known (Known true) hit miss v w c lh lm z h m = record { inside = lh; extends = extends_none c; settled = z; u = v; leads = h; right = λ k. refl }
   elementary_works known (Known false) hit miss v w c lh lm z h m = record { inside = lm; extends = extends_none c; settled = z; u = w; leads = m; right = λ k. refl }
@@ -342,9 +359,9 @@ module _ (p : List ℕ) (n : ℕ) where
         right = λ known_holds. pick_same (elementary_reads (Field k) p) th.v tm.v v w (λ e. th.right known_holds e) (λ e. tm.right known_holds e);
       }
 
-  pub emitted_works : (link : Link) (known : Knowledge) (f : Formula) (hit miss v w : ℕ) (c : List Insn) → words f ≤ 16 → hit ≤ length c → miss ≤ length c → Calm c → Leads p n c hit v → Leads p n c miss w → Works (emitted link known f hit miss c) c known (pick (reads link f p n) v w)
-  emitted_works link known (Single t) hit miss v w c few lh lm z h m = elementary_works known t hit miss v w c lh lm z h m
-  emitted_works link known (Compare comparison l r) hit miss v w c few lh lm z h m =
+  pub emitted_works : (link : Link) (known : Knowledge) (f : Formula) (hit miss v w : ℕ) (c : List Insn) → words f ≤ 16 → Apt p f → hit ≤ length c → miss ≤ length c → Calm c → Leads p n c hit v → Leads p n c miss w → Works (emitted link known f hit miss c) c known (pick (reads link f p n) v w)
+  emitted_works link known (Single t) hit miss v w c few apt lh lm z h m = elementary_works known t hit miss v w c lh lm z h m
+  emitted_works link known (Compare comparison l r) hit miss v w c few apt lh lm z h m =
       record {
         inside = omega arith;
         extends = relation_extends link comparison l r hit miss c;
@@ -353,11 +370,11 @@ module _ (p : List ℕ) (n : ℕ) where
         leads = leads_top (relation_before link comparison l r hit miss c) _ (λ s long. relation_runs link comparison l r hit miss v w c s long lh lm h m (omega arith) (omega arith));
         right = λ k. refl;
       }
-  emitted_works link known (Both a b) hit miss v w c few lh lm z h m =
+  emitted_works link known (Both a b) hit miss v w c few apt lh lm z h m =
       let e = emitted link known b hit miss c in
-      let wb = emitted_works link known b hit miss v w c (omega arith) lh lm z h m in
+      let wb = emitted_works link known b hit miss v w c (omega arith) apt.1 lh lm z h m in
       let lm' : miss ≤ length e.code = omega (arith, wb.extends.longer) in
-      let wa = emitted_works link known a e.entry miss wb.u w e.code (omega arith) wb.inside lm' wb.settled wb.leads (leads_on p n c e.code miss w lm wb.extends m) in
+      let wa = emitted_works link known a e.entry miss wb.u w e.code (omega arith) apt.0 wb.inside lm' wb.settled wb.leads (leads_on p n c e.code miss w lm wb.extends m) in
       let f = emitted link known a e.entry miss e.code in
       record {
         inside = wa.inside;
@@ -367,11 +384,11 @@ module _ (p : List ℕ) (n : ℕ) where
         leads = wa.leads;
         right = λ k. wa.right k ∙ ap (λ x. pick (reads link a p n) x w) (wb.right k) ∙ pick_both (reads link a p n) (reads link b p n) v w;
       }
-  emitted_works link known (Either a b) hit miss v w c few lh lm z h m =
+  emitted_works link known (Either a b) hit miss v w c few apt lh lm z h m =
       let e = emitted link known b hit miss c in
-      let wb = emitted_works link known b hit miss v w c (omega arith) lh lm z h m in
+      let wb = emitted_works link known b hit miss v w c (omega arith) apt.1 lh lm z h m in
       let lh' : hit ≤ length e.code = omega (arith, wb.extends.longer) in
-      let wa = emitted_works link known a hit e.entry v wb.u e.code (omega arith) lh' wb.inside wb.settled (leads_on p n c e.code hit v lh wb.extends h) wb.leads in
+      let wa = emitted_works link known a hit e.entry v wb.u e.code (omega arith) apt.0 lh' wb.inside wb.settled (leads_on p n c e.code hit v lh wb.extends h) wb.leads in
       let f = emitted link known a hit e.entry e.code in
       record {
         inside = wa.inside;
@@ -381,13 +398,13 @@ module _ (p : List ℕ) (n : ℕ) where
         leads = wa.leads;
         right = λ k. wa.right k ∙ ap (λ x. pick (reads link a p n) v x) (wb.right k) ∙ pick_either (reads link a p n) (reads link b p n) v w;
       }
-  emitted_works link known (Except a) hit miss v w c few lh lm z h m =
-      let wa = emitted_works link known a miss hit w v c few lm lh z m h in
+  emitted_works link known (Except a) hit miss v w c few apt lh lm z h m =
+      let wa = emitted_works link known a miss hit w v c few apt lm lh z m h in
       record { inside = wa.inside; extends = wa.extends; settled = wa.settled; u = wa.u; leads = wa.leads; right = λ k. wa.right k ∙ pick_negated (reads link a p n) v w }
-  emitted_works link known (Guard t a) hit miss v w c few lh lm z h m =
+  emitted_works link known (Guard t a) hit miss v w c few apt lh lm z h m =
       let inner = and_fact (fact t true) known in
       let e = emitted link inner a hit miss c in
-      let wb = emitted_works link inner a hit miss v w c few lh lm z h m in
+      let wb = emitted_works link inner a hit miss v w c few apt lh lm z h m in
       let lm' : miss ≤ length e.code = omega (arith, wb.extends.longer) in
       let wa = elementary_works known t e.entry miss wb.u w e.code wb.inside lm' wb.settled wb.leads (leads_on p n c e.code miss w lm wb.extends m) in
       let f = elementary_before known t e.entry miss e.code in
@@ -397,13 +414,13 @@ module _ (p : List ℕ) (n : ℕ) where
         settled = wa.settled;
         u = wa.u;
         leads = wa.leads;
-        right = λ k. wa.right k ∙ pick_guard (elementary_reads t p) (reads link a p n) wb.u v w (λ y. wb.right (record { facts = (y, k.facts); either = k.either }));
+        right = λ k. wa.right k ∙ pick_guard (elementary_reads t p) (reads link a p n) wb.u v w (λ y. wb.right (knows (fact t true) known k y));
       }
-  emitted_works link known (Fork t u a) hit miss v w c few lh lm z h m =
+  emitted_works link known (Fork t u a) hit miss v w c few apt lh lm z h m =
       let inner = and_fork t u known in
       let second = and_fact (fact t false) known in
       let e = emitted link inner a hit miss c in
-      let wb = emitted_works link inner a hit miss v w c few lh lm z h m in
+      let wb = emitted_works link inner a hit miss v w c few apt lh lm z h m in
       let lm' : miss ≤ length e.code = omega (arith, wb.extends.longer) in
       let miss_leads = leads_on p n c e.code miss w lm wb.extends m in
       let d = elementary_before second u e.entry miss e.code in
@@ -419,5 +436,27 @@ module _ (p : List ℕ) (n : ℕ) where
         leads = wa.leads;
         right = λ k. wa.right k ∙ pick_fork (elementary_reads t p) (elementary_reads u p) (reads link a p n) wb.u wu.u v w
             (λ y. wb.right (record { facts = k.facts; either = y }))
-            (λ y. wu.right (record { facts = (y, k.facts); either = k.either }));
+            (λ y. wu.right (knows (fact t false) known k y));
+      }
+  emitted_works link known (Choose t a b) hit miss v w c few apt lh lm z h m =
+      let yes = and_fact (fact t true) known in
+      let no = and_fact (fact t false) known in
+      let e = emitted link no b hit miss c in
+      let wb = emitted_works link no b hit miss v w c (omega arith) apt.2 lh lm z h m in
+      let lh' : hit ≤ length e.code = omega (arith, wb.extends.longer) in
+      let lm' : miss ≤ length e.code = omega (arith, wb.extends.longer) in
+      let d = emitted link yes a hit miss e.code in
+      let wa = emitted_works link yes a hit miss v w e.code (omega arith) apt.1 lh' lm' wb.settled (leads_on p n c e.code hit v lh wb.extends h) (leads_on p n c e.code miss w lm wb.extends m) in
+      let le : e.entry ≤ length d.code = (let l = wb.inside in omega (arith, wa.extends.longer)) in
+      let wt = elementary_works known t d.entry e.entry wa.u wb.u d.code wa.inside le wa.settled wa.leads (leads_on p n e.code d.code e.entry wb.u wb.inside wa.extends wb.leads) in
+      let f = elementary_before known t d.entry e.entry d.code in
+      record {
+        inside = wt.inside;
+        extends = extends_on c e.code f.code wb.extends (extends_on e.code d.code f.code wa.extends wt.extends);
+        settled = wt.settled;
+        u = wt.u;
+        leads = wt.leads;
+        right = λ k. wt.right k ∙ pick_choice (elementary_reads t p) (reads link a p n) (reads link b p n) wa.u wb.u v w (excluded_no p n link t b apt.0)
+            (λ y. wa.right (knows (fact t true) known k y))
+            (λ y. wb.right (knows (fact t false) known k y));
       }

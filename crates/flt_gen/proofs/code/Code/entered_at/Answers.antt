@@ -1,5 +1,5 @@
 -- The instructions before a place, turned round, are the code from there on.
-use Rattle.std.proofs.Common.{◌≡◌, ◌-◌, ◌≤◌, ◌∙◌, ap, sym, drop, length, take, arith}
+use Rattle.std.proofs.Common.{◌≡◌, ◌-◌, ◌∙◌, ap, sym, drop, length, take}
 use Rattle.std.specs.Prelude.{reverse, min}
 use Rattle.std.proofs.lemmas.List.{length-reverse}
 use Rattle.flt_gen.specs.Follow.{past_index}
