@@ -26,12 +26,15 @@ use Rattle.flt_gen.specs.declared.elementary.Elementary.{Elementary}
 use Rattle.flt_gen.specs.declared.elementary.Ports.{Ports}
 use Rattle.flt_gen.specs.declared.elementary.Ports.TheVariants.{One, Between}
 use Rattle.flt_gen.specs.declared.elementary.Place.TheVariants.{At, Past}
-use Rattle.flt_gen.specs.Elementary.{network, has_ip_proto, has_ip6_proto, first_fragment}
+use Rattle.flt_gen.specs.Elementary.{network, has_ip_proto, has_ip6_proto}
 use Rattle.flt_gen.specs.Numbers.{accessors, accessor_tests}
-use Rattle.flt_gen.specs.Formula.{Formula, Single, Compare, Both, Either, Guard, Fork, all_of, sides, checked, guarded}
-use Rattle.flt_gen.specs.Primitives.{ip_proto, ip6_proto, any_proto, mac_tests, check_formula, cast_formula, proto_formula, net_of_kind, net_formula, ip6_formula, ether_host, port_formula, port_tests, transport, value_formula}
+use Rattle.flt_gen.specs.Formula.{Formula, Single, Compare, Both, Either, Guard, Choose, all_of, sides, checked, guarded}
+use Rattle.flt_gen.specs.Primitives.{any_proto, mac_tests, check_formula, cast_formula, proto_formula, net_of_kind, net_formula, net_test, ip6_formula, ether_host, port_formula, port_test, port_tests, ports_behind, ip_transport, ip6_transport, transport, value_formula}
 use Rattle.flt_gen.specs.Reading.{formula}
 use Rattle.flt_gen.specs.Counts.{tests, nodes, words}
+use Rattle.flt_gen.specs.declared.elementary.NetTest.{NetTest}
+use Rattle.flt_gen.specs.declared.elementary.PortTest.{PortTest}
+use Rattle.flt_gen.proofs.Exclusive.{Excluded, Apt, ip_no_ip6, ip_no_arp, ip_no_rarp, arp_no_rarp}
 
 check_tests_are : (link : Link) (p : Protocol) → tests (check_formula link p) ≡ count.check_tests p
 check_tests_are link protocol.Ether = refl
@@ -88,13 +91,13 @@ two_a_side (direction.One Destination) s s' t t' = refl
 two_a_side (direction.Both Or) s s' t t' = refl
 two_a_side (direction.Both And) s s' t t' = refl
 
-kind_tests_fit : (link : Link) (k : Kind) (d : Direction) (mask : Option ℕ) (a : ℕ) → tests (net_of_kind link k d mask a) ≤ 1 + count.side_tests d 1
+kind_tests_fit : (link : Link) (k : Kind) (d : Direction) (mask : Option ℕ) (a : ℕ) → tests (net_of_kind link k (net_test d mask a)) ≤ 1 + count.side_tests d 1
 kind_tests_fit link k (direction.One Source) mask a = omega arith
 kind_tests_fit link k (direction.One Destination) mask a = omega arith
 kind_tests_fit link k (direction.Both Or) mask a = omega arith
 kind_tests_fit link k (direction.Both And) mask a = omega arith
 
-net_tests_fit : (link : Link) (p : Option Protocol) (d : Direction) (mask : Option ℕ) (a : ℕ) → tests (net_formula link p d mask a) ≤ count.ip4_tests p d
+net_tests_fit : (link : Link) (p : Option Protocol) (d : Direction) (mask : Option ℕ) (a : ℕ) → tests (net_formula link p (net_test d mask a)) ≤ count.ip4_tests p d
 net_tests_fit link None (direction.One Source) mask a = omega arith
 net_tests_fit link None (direction.One Destination) mask a = omega arith
 net_tests_fit link None (direction.Both Or) mask a = omega arith
@@ -131,15 +134,14 @@ sides_tests (direction.One Destination) (Between a b) s t = refl
 sides_tests (direction.Both Or) (Between a b) s t = refl
 sides_tests (direction.Both And) (Between a b) s t = refl
 
-port_tests_fit : (link : Link) (p : Option Protocol) (d : Direction) (ports : Ports) → tests (port_formula link p d ports) ≤ count.port_tests p d (a_side ports)
+port_tests_fit : (link : Link) (p : Option Protocol) (d : Direction) (ports : Ports) → tests (port_formula link (port_test p d ports)) ≤ count.port_tests p d (a_side ports)
 port_tests_fit link p d ports =
     let l = network link in
+    let wanted = port_test p d ports in
     let a = sides_tests d ports (Past l l) (Past l (l + 2)) in
     let b = sides_tests d ports (At (l + 40)) (At (l + 42)) in
-    let f = sides d (port_tests ports (Past l l)) (port_tests ports (Past l (l + 2))) in
-    let g = sides d (port_tests ports (At (l + 40))) (port_tests ports (At (l + 42))) in
-    let t = transport_tests_fit p (has_ip_proto link 6) (has_ip_proto link 17) (Guard (first_fragment link) f) in
-    let u = transport_tests_fit p (has_ip6_proto link 6) (has_ip6_proto link 17) g in
+    let t = transport_tests_fit p (has_ip_proto link 6) (has_ip_proto link 17) (ports_behind (ip_transport link) wanted) in
+    let u = transport_tests_fit p (has_ip6_proto link 6) (has_ip6_proto link 17) (ports_behind (ip6_transport link) wanted) in
     omega arith
 
 some_ip4 : (p : Option Protocol) (d : Direction) → 1 ≤ count.ip4_tests p d
@@ -224,19 +226,20 @@ tests_fit link (joined Or a b) e =
     let k = tests_fit link b (right_false _ _ e) in
     omega arith
 
--- a formula without comparisons
+-- a formula without comparisons, whose choices are between what excludes one another
 record Bare (f : Formula) : Type 0 where
   no_nodes : nodes f ≡ 0
   no_words : words f ≡ 0
+  apt : (p : List ℕ) → Apt p f
 
 bare_one : (t : Elementary) → Bare (Single t)
-bare_one t = record { no_nodes = refl; no_words = refl }
+bare_one t = record { no_nodes = refl; no_words = refl; apt = λ p. tt }
 
 bare_both : (a b : Formula) → Bare a → Bare b → Bare (Both a b)
-bare_both a b h k = let n = h.no_nodes in let m = k.no_nodes in let v = h.no_words in let w = k.no_words in record { no_nodes = omega arith; no_words = omega arith }
+bare_both a b h k = let n = h.no_nodes in let m = k.no_nodes in let v = h.no_words in let w = k.no_words in record { no_nodes = omega arith; no_words = omega arith; apt = λ p. (h.apt p, k.apt p) }
 
 bare_either : (a b : Formula) → Bare a → Bare b → Bare (Either a b)
-bare_either a b h k = let n = h.no_nodes in let m = k.no_nodes in let v = h.no_words in let w = k.no_words in record { no_nodes = omega arith; no_words = omega arith }
+bare_either a b h k = let n = h.no_nodes in let m = k.no_nodes in let v = h.no_words in let w = k.no_words in record { no_nodes = omega arith; no_words = omega arith; apt = λ p. (h.apt p, k.apt p) }
 
 bare_all : (ts : List Elementary) → Bare (all_of ts)
 bare_all [] = bare_one _
@@ -253,10 +256,18 @@ bare_pair : (t u : Elementary) → Bare (Both (Single t) (Single u))
 bare_pair t u = bare_both (Single t) (Single u) (bare_one t) (bare_one u)
 
 bare_guard : (t : Elementary) (a : Formula) → Bare a → Bare (Guard t a)
-bare_guard t a h = record { no_nodes = h.no_nodes; no_words = h.no_words }
+bare_guard t a h = record { no_nodes = h.no_nodes; no_words = h.no_words; apt = λ p. h.apt p }
+
+bare_choice : (t : Elementary) (a b : Formula) → ((p : List ℕ) → Excluded p t b) → Bare a → Bare b → Bare (Choose t a b)
+bare_choice t a b other h k =
+    let n = h.no_nodes in
+    let m = k.no_nodes in
+    let v = h.no_words in
+    let w = k.no_words in
+    record { no_nodes = omega arith; no_words = omega arith; apt = λ p. (other p, h.apt p, k.apt p) }
 
 bare_proto : (link : Link) (n : ℕ) → Bare (any_proto link n)
-bare_proto link n = bare_either (ip_proto link n) (ip6_proto link n) (bare_guard _ _ (bare_one _)) (bare_guard _ _ (bare_one _))
+bare_proto link n = bare_choice _ _ _ (λ p. ip_no_ip6 p link) (bare_one _) (bare_guard _ _ (bare_one _))
 
 bare_check : (link : Link) (p : Protocol) → Bare (check_formula link p)
 bare_check link protocol.Ether = bare_one _
@@ -291,44 +302,45 @@ bare_proto_value Raw (Some protocol.Ether) n = bare_pair _ _
 bare_proto_value Cooked (Some protocol.Ether) n = bare_one _
 bare_proto_value link (Some _) n = bare_one _
 
-bare_kind : (link : Link) (k : Kind) (d : Direction) (mask : Option ℕ) (a : ℕ) → Bare (net_of_kind link k d mask a)
-bare_kind link k d mask a = bare_guard _ _ (bare_sides d _ _)
+bare_kind : (link : Link) (k : Kind) (net : NetTest) → Bare (net_of_kind link k net)
+bare_kind link k net = bare_guard _ _ (bare_sides net.direction _ _)
 
-bare_net : (link : Link) (p : Option Protocol) (d : Direction) (mask : Option ℕ) (a : ℕ) → Bare (net_formula link p d mask a)
-bare_net link None d mask a =
-    bare_either _ _ (bare_kind link kind.Ip d mask a) (bare_either _ _ (bare_kind link kind.Arp d mask a) (bare_kind link kind.Rarp d mask a))
-bare_net link (Some protocol.Ip) d mask a = bare_kind link kind.Ip d mask a
-bare_net link (Some protocol.Arp) d mask a = bare_kind link kind.Arp d mask a
-bare_net link (Some protocol.Rarp) d mask a = bare_kind link kind.Rarp d mask a
-bare_net link (Some _) d mask a = bare_one _
+bare_net : (link : Link) (p : Option Protocol) (net : NetTest) → Bare (net_formula link p net)
+bare_net link None net =
+    bare_choice _ _ _ (λ p. (ip_no_arp p link, ip_no_rarp p link)) (bare_sides net.direction _ _)
+    (bare_choice _ _ _ (λ p. arp_no_rarp p link) (bare_sides net.direction _ _) (bare_kind link kind.Rarp net))
+bare_net link (Some protocol.Ip) net = bare_kind link kind.Ip net
+bare_net link (Some protocol.Arp) net = bare_kind link kind.Arp net
+bare_net link (Some protocol.Rarp) net = bare_kind link kind.Rarp net
+bare_net link (Some _) net = bare_one _
 
 bare_ip6 : (link : Link) (d : Direction) (prefix : Option ℕ) (a : ℕ) → Bare (ip6_formula link d prefix a)
 bare_ip6 link d prefix a = bare_guard _ _ (bare_sides d _ _)
 
 bare_transport : (p : Option Protocol) (s t : Elementary) (f : Formula) → Bare f → Bare (transport p s t f)
-bare_transport None s t f h = record { no_nodes = h.no_nodes; no_words = h.no_words }
+bare_transport None s t f h = record { no_nodes = h.no_nodes; no_words = h.no_words; apt = λ p. h.apt p }
 bare_transport (Some protocol.Tcp) s t f h = bare_guard s f h
 bare_transport (Some protocol.Udp) s t f h = bare_guard t f h
 bare_transport (Some _) s t f h = bare_one _
 
-bare_ports : (link : Link) (p : Option Protocol) (d : Direction) (ports : Ports) → Bare (port_formula link p d ports)
-bare_ports link p d ports =
-    bare_either _ _
-    (bare_guard _ _ (bare_transport p _ _ _ (bare_guard _ _ (bare_sides d _ _))))
-    (bare_guard _ _ (bare_transport p _ _ _ (bare_sides d _ _)))
+bare_ports : (link : Link) (wanted : PortTest) → Bare (port_formula link wanted)
+bare_ports link wanted =
+    bare_choice _ _ _ (λ p. ip_no_ip6 p link)
+    (bare_transport wanted.protocol _ _ _ (bare_guard _ _ (bare_sides wanted.direction _ _)))
+    (bare_guard _ _ (bare_transport wanted.protocol _ _ _ (bare_sides wanted.direction _ _)))
 
 bare_value : (link : Link) (k : ValueType) (p : Option Protocol) (d : Direction) (v : Value) → Bare (value_formula link k p d v)
-bare_value link Host p d (value.Dotted a m) = bare_net link p d None a.address
+bare_value link Host p d (value.Dotted a m) = bare_net link p (net_test d None a.address)
 bare_value link Host p d (value.Ip6 a n) = bare_ip6 link d None a
 bare_value link Host p d (value.Mac a) = bare_ether link d a
 bare_value link Host p d _ = bare_one _
-bare_value link Net p d (value.Number n m) = bare_net link p d _ _
-bare_value link Net p d (value.Dotted a m) = bare_net link p d _ _
+bare_value link Net p d (value.Number n m) = bare_net link p (net_test d _ _)
+bare_value link Net p d (value.Dotted a m) = bare_net link p (net_test d _ _)
 bare_value link Net p d (value.Ip6 a n) = bare_ip6 link d n a
 bare_value link Net p d _ = bare_one _
-bare_value link Port p d (value.Number n m) = bare_ports link p d (One n)
+bare_value link Port p d (value.Number n m) = bare_ports link (port_test p d (One n))
 bare_value link Port p d _ = bare_one _
-bare_value link PortRange p d (value.Range a b) = bare_ports link p d (Between (min a b) (max a b))
+bare_value link PortRange p d (value.Range a b) = bare_ports link (port_test p d (Between (min a b) (max a b)))
 bare_value link PortRange p d _ = bare_one _
 bare_value link Proto p d (value.Number n m) = bare_proto_value link p n
 bare_value link Proto p d _ = bare_one _
@@ -370,3 +382,25 @@ words_fit link (compared c l r) = (same_sizes link (accessors l (accessors r [])
 words_fit link (denied a) = words_fit link a
 words_fit link (joined And a b) = let h = words_fit link a in let k = words_fit link b in omega arith
 words_fit link (joined Or a b) = let h = words_fit link a in let k = words_fit link b in omega arith
+
+-- the tests of accessors leave the choices as they are
+checked_apt : (p : List ℕ) (link : Link) (ps : List Protocol) (f : Formula) → Apt p f → Apt p (checked link ps f)
+checked_apt p link [] f h = h
+checked_apt p link (q ∷ ps) f h = guarded_apt (accessor_tests link q) (checked link ps f) (checked_apt p link ps f h)
+  where
+    guarded_apt : (ts : List Elementary) (f : Formula) → Apt p f → Apt p (guarded ts f)
+    guarded_apt [] f h = h
+    guarded_apt (t ∷ ts) f h = (tt, guarded_apt ts f h)
+
+pub formula_apt : (p : List ℕ) (link : Link) (a : TruthTree) → Apt p (formula link a)
+formula_apt p link (check q) = (bare_check link q).apt p
+formula_apt p link (cast q c) = (bare_cast link q c).apt p
+formula_apt p link (sized size.Less n) = tt
+formula_apt p link (sized size.Greater n) = tt
+formula_apt p link (bare v) = tt
+formula_apt p link (valued q v) = tt
+formula_apt p link (qualified q v) = (bare_value link q.value_type q.protocol q.direction v).apt p
+formula_apt p link (compared c l r) = checked_apt p link (accessors l (accessors r [])) (Compare c l r) tt
+formula_apt p link (denied a) = formula_apt p link a
+formula_apt p link (joined And a b) = (formula_apt p link a, formula_apt p link b)
+formula_apt p link (joined Or a b) = (formula_apt p link a, formula_apt p link b)

@@ -23,9 +23,10 @@ use Rattle.flt_gen.specs.declared.elementary.Elementary.TheVariants.{Known, Fiel
 use Rattle.flt_bpf.specs.Instructions.{operation_of}
 use Rattle.flt_gen.specs.Elementary.{network}
 use Rattle.flt_gen.specs.Numbers.{width_of}
-use Rattle.flt_gen.specs.Formula.{Formula, Single, Compare, Both, Either, Except, Guard, Fork}
-use Rattle.flt_gen.specs.Code.{plain, indirect_code, operator_code, test_code, branch_insn, jump_before, branch_before, comparison_before, field_before, mask_before, base_before, transport_before, accessor_before, number_before, Entered, at_top, elementary_before, fork_before, and_fork, emitted, NEAR}
-use Rattle.flt_gen.specs.Follow.{load_code, Knowledge, fact, and_fact}
+use Rattle.flt_gen.specs.Formula.{Formula, Single, Compare, Both, Either, Except, Guard, Fork, Choose}
+use Rattle.flt_gen.specs.Code.{plain, indirect_code, operator_code, test_code, branch_insn, jump_before, branch_before, comparison_before, field_before, mask_before, base_before, transport_before, accessor_before, number_before, Entered, at_top, elementary_before, fork_before, emitted, NEAR}
+use Rattle.flt_gen.specs.declared.follow.Knowledge.{Knowledge}
+use Rattle.flt_gen.specs.Follow.{and_fork, load_code, fact, and_fact}
 use Rattle.flt_gen.specs.declared.elementary.Elementary.{Elementary}
 use Rattle.flt_gen.specs.Layout.{is_branch, JUMP, IsNeeded, JumpsAreNeeded}
 use Rattle.flt_gen.proofs.Tails.{tail, Extends, extends_none, extends_on, test_extends, relation_extends}
@@ -251,3 +252,13 @@ emitted_needed link known (Fork t u a) hit miss c lh lm n h m =
     let lm' : miss ≤ length e.code = omega (arith, pb.extends.longer) in
     let pa = fork_needed known t u e.entry miss e.code pb.inside lm' pb.needed.code pb.needed.entered (needed_on c e.code miss lm pb.extends m) in
     record { needed = pa.needed; inside = pa.inside; extends = extends_on c e.code _ pb.extends pa.extends }
+emitted_needed link known (Choose t a b) hit miss c lh lm n h m =
+    let e = emitted link (and_fact (fact t false) known) b hit miss c in
+    let pb = emitted_needed link (and_fact (fact t false) known) b hit miss c lh lm n h m in
+    let lh' : hit ≤ length e.code = omega (arith, pb.extends.longer) in
+    let lm' : miss ≤ length e.code = omega (arith, pb.extends.longer) in
+    let d = emitted link (and_fact (fact t true) known) a hit miss e.code in
+    let pa = emitted_needed link (and_fact (fact t true) known) a hit miss e.code lh' lm' pb.needed.code (needed_on c e.code hit lh pb.extends h) (needed_on c e.code miss lm pb.extends m) in
+    let le : e.entry ≤ length d.code = (let l = pb.inside in omega (arith, pa.extends.longer)) in
+    let pt = elementary_needed known t d.entry e.entry d.code pa.inside le pa.needed.code pa.needed.entered (needed_on e.code d.code e.entry pb.inside pa.extends pb.needed.entered) in
+    record { needed = pt.needed; inside = pt.inside; extends = extends_on c e.code _ pb.extends (extends_on e.code d.code _ pa.extends pt.extends) }

@@ -26,13 +26,14 @@ use Rattle.flt_bpf.specs.Instructions.{operation_of}
 use Rattle.flt_bpf.specs.Check.{fault_of, unless, ends_in_return}
 use Rattle.flt_gen.specs.Elementary.{network}
 use Rattle.flt_gen.specs.Numbers.{width_of}
-use Rattle.flt_gen.specs.Formula.{Formula, Single, Compare, Both, Either, Except, Guard, Fork}
+use Rattle.flt_gen.specs.Formula.{Formula, Single, Compare, Both, Either, Except, Guard, Fork, Choose}
 use Rattle.flt_lang.specs.Counts.{number_words, number_size}
 use Rattle.flt_gen.specs.Counts.{words, nodes, tests}
-use Rattle.flt_gen.specs.Code.{plain, indirect_code, operator_code, branch_insn, jump_before, branch_before, comparison_before, field_before, mask_before, base_before, transport_before, accessor_before, number_before, Entered, at_top, elementary_before, fork_before, and_fork, emitted, NEAR}
-use Rattle.flt_gen.specs.Follow.{load_code, Knowledge, fact, and_fact}
+use Rattle.flt_gen.specs.Code.{plain, indirect_code, operator_code, branch_insn, jump_before, branch_before, comparison_before, field_before, mask_before, base_before, transport_before, accessor_before, number_before, Entered, at_top, elementary_before, fork_before, emitted, NEAR}
+use Rattle.flt_gen.specs.declared.follow.Knowledge.{Knowledge}
+use Rattle.flt_gen.specs.Follow.{and_fork, load_code, fact, and_fact}
 use Rattle.flt_gen.specs.declared.elementary.Elementary.{Elementary}
-use Rattle.flt_gen.proofs.Onward.{followed_inside}
+use Rattle.flt_gen.proofs.Onward.{target_inside}
 use Rattle.flt_bpf.proofs.Suffix.{IsFaultless}
 use Rattle.flt_gen.proofs.Tails.{one_of_four}
 
@@ -223,8 +224,8 @@ elementary_sits : (known : Knowledge) (t : Elementary) (hit miss : ℕ) (c : Lis
 elementary_sits known (Known true) hit miss c s e ph lh pm lm = record { grows = grows_more c c 0 6 (omega arith) (grows_none c s e); low = ph; inside = lh }
 elementary_sits known (Known false) hit miss c s e ph lh pm lm = record { grows = grows_more c c 0 6 (omega arith) (grows_none c s e); low = pm; inside = lm }
 elementary_sits known (Field k) hit miss c s e ph lh pm lm =
-    let h = followed_inside c known (fact (Field k) true) hit ph lh in
-    let m = followed_inside c known (fact (Field k) false) miss pm lm in
+    let h = target_inside c known k true hit ph lh in
+    let m = target_inside c known k false miss pm lm in
     sits_top c _ 6 _ (omega arith) (field_grows k.place k.width c _ 4 (mask_grows k.mask c _ 3 (comparison_grows k.comparison Constant k.value _ _ c s e h.0 h.1 m.0 m.1)))
 
 -- one part of the code in front of another
@@ -273,3 +274,13 @@ emitted_sits link known (Fork t u a) hit miss c few s e ph lh pm lm =
     let lm' : miss ≤ length d.code = omega (arith, sb.grows.longer) in
     let sa = fork_sits known t u d.entry miss d.code sb.grows.sound sb.grows.ends sb.low sb.inside pm lm' in
     sits_on d (fork_before known t u d.entry miss d.code) c (6 * (tests a + nodes a)) 12 _ sb sa (omega arith)
+emitted_sits link known (Choose t a b) hit miss c few s e ph lh pm lm =
+    let d = emitted link (and_fact (fact t false) known) b hit miss c in
+    let sb = emitted_sits link (and_fact (fact t false) known) b hit miss c (omega arith) s e ph lh pm lm in
+    let lh' : hit ≤ length d.code = omega (arith, sb.grows.longer) in
+    let lm' : miss ≤ length d.code = omega (arith, sb.grows.longer) in
+    let f = emitted link (and_fact (fact t true) known) a hit miss d.code in
+    let sa = emitted_sits link (and_fact (fact t true) known) a hit miss d.code (omega arith) sb.grows.sound sb.grows.ends ph lh' pm lm' in
+    let ld : d.entry ≤ length f.code = (let l = sb.inside in omega (arith, sa.grows.longer)) in
+    let st = elementary_sits known t f.entry d.entry f.code sa.grows.sound sa.grows.ends sa.low sa.inside sb.low ld in
+    sits_on f (elementary_before known t f.entry d.entry f.code) c (6 * (tests b + nodes b) + 6 * (tests a + nodes a)) 6 _ (sits_on d f c (6 * (tests b + nodes b)) (6 * (tests a + nodes a)) _ sb sa (omega arith)) st (omega arith)

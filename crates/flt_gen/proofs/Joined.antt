@@ -1,5 +1,5 @@
 -- The code of joined tests is that of their formula.
-use Rattle.std.proofs.Common.{◌≡◌, ℕ, List, [], ◌∷◌, true, refl, sym, ap, ◌∙◌, subst, Result, Option, Some, None}
+use Rattle.std.proofs.Common.{◌≡◌, ℕ, List, [], ◌∷◌, refl, sym, ap, ◌∙◌, subst, Result, Option}
 use Rattle.std.specs.Prelude.{IfOk}
 use Rattle.std.specs.declared.alloc.AllocError.{AllocError}
 use Rattle.flt_bpf.specs.declared.insn.Insn.{Insn}
@@ -11,11 +11,11 @@ use Rattle.flt_lang.specs.declared.quals.Direction.TheVariants as direction
 use Rattle.flt_gen.specs.declared.link.Link.{Link}
 use Rattle.flt_gen.specs.declared.elementary.Elementary.{Elementary}
 use Rattle.flt_gen.specs.Numbers.{accessor_tests}
-use Rattle.flt_gen.specs.Formula.{Formula, Single, Both, Guard, Fork, all_of, guarded, checked, sides}
-use Rattle.flt_gen.specs.Follow.{Knowledge, nothing, fact, and_fact}
-use Rattle.flt_words.specs.declared.token.Protocol.TheVariants as protocol
+use Rattle.flt_gen.specs.Formula.{Formula, Single, Both, all_of, guarded, checked, sides}
+use Rattle.flt_gen.specs.declared.follow.Knowledge.{Knowledge}
+use Rattle.flt_gen.specs.Follow.{nothing}
 use Rattle.flt_gen.specs.Primitives.{transport}
-use Rattle.flt_gen.specs.Code.{Entered, entered, elementary_before, fork_before, and_fork, emitted, all_before, sides_before, accessors_before}
+use Rattle.flt_gen.specs.Code.{Entered, entered, elementary_before, emitted, all_before, sides_before, accessors_before}
 
 pub all_emitted : (link : Link) (known : Knowledge) (ts : List Elementary) (hit miss : ℕ) (c : List Insn) → emitted link known (all_of ts) hit miss c ≡ all_before known ts hit miss c
 all_emitted link known [] hit miss c = refl
@@ -52,27 +52,15 @@ checked_emitted link [] f hit miss c = refl
 checked_emitted link (p ∷ ps) f hit miss c =
     guarded_emitted link nothing (accessor_tests link p) (checked link ps f) hit miss c ∙ ap (λ (e : Entered). all_before nothing (accessor_tests link p) e.entry miss e.code) (checked_emitted link ps f hit miss c)
 
--- code in front of which a test stands that is a guard
-pub guard_in : (link : Link) (known : Knowledge) (t : Elementary) (f : Formula) (hit miss : ℕ) (c : List Insn) (d e : Entered) → emitted link (and_fact (fact t true) known) f hit miss c ≡ e → elementary_before known t e.entry miss e.code ≡ d → emitted link known (Guard t f) hit miss c ≡ d
-guard_in link known t f hit miss c d e q h = ap (λ (x : Entered). elementary_before known t x.entry miss x.code) q ∙ h
+-- code in front of code that is known by an equation
+pub put_on : (r : Result ℕ AllocError) (front : Entered → Entered) (d e : Entered) (new : List Insn) → d ≡ e → IfOk r (λ entry. front e ≡ entered new entry) → IfOk r (λ entry. front d ≡ entered new entry)
+put_on r front d e new q h = subst (λ (x : Entered). IfOk r (λ entry. front x ≡ entered new entry)) (sym q) h
 
-pub guard_put : (r : Result ℕ AllocError) (link : Link) (known : Knowledge) (t t' : Elementary) (f : Formula) (hit miss : ℕ) (c new : List Insn) (e : Entered) → t' ≡ t → emitted link (and_fact (fact t' true) known) f hit miss c ≡ e → IfOk r (λ entry. elementary_before known t' e.entry miss e.code ≡ entered new entry) → IfOk r (λ entry. emitted link known (Guard t f) hit miss c ≡ entered new entry)
-guard_put r link known t t' f hit miss c new e p q h =
-    subst (λ (u : Elementary). IfOk r (λ entry. emitted link known (Guard u f) hit miss c ≡ entered new entry)) p (subst (λ (x : Entered). IfOk r (λ entry. elementary_before known t' x.entry miss x.code ≡ entered new entry)) (sym q) h)
-
-pub fork_put : (r : Result ℕ AllocError) (link : Link) (known : Knowledge) (t u : Elementary) (f : Formula) (hit miss : ℕ) (c new : List Insn) (e : Entered) → emitted link (and_fork t u known) f hit miss c ≡ e → IfOk r (λ entry. fork_before known t u e.entry miss e.code ≡ entered new entry) → IfOk r (λ entry. emitted link known (Fork t u f) hit miss c ≡ entered new entry)
-fork_put r link known t u f hit miss c new e q h =
-    subst (λ (x : Entered). IfOk r (λ entry. fork_before known t u x.entry miss x.code ≡ entered new entry)) (sym q) h
+-- the same under knowledge that is known by an equation
+pub known_on : (r : Result ℕ AllocError) (front : Knowledge → Entered) (k known : Knowledge) (new : List Insn) → k ≡ known → IfOk r (λ entry. front k ≡ entered new entry) → IfOk r (λ entry. front known ≡ entered new entry)
+known_on r front k known new q h = subst (λ (x : Knowledge). IfOk r (λ entry. front x ≡ entered new entry)) q h
 
 -- the tests of ports stand behind the protocol that is asked for
-pub tcp_put : (r : Result ℕ AllocError) (link : Link) (known : Knowledge) (p : Option Protocol) (t t' u : Elementary) (f f' : Formula) (hit miss : ℕ) (c new : List Insn) → p ≡ Some protocol.Tcp → t' ≡ t → f' ≡ f → IfOk r (λ entry. emitted link known (Guard t' f') hit miss c ≡ entered new entry) → IfOk r (λ entry. emitted link known (transport p t u f) hit miss c ≡ entered new entry)
-tcp_put r link known p t t' u f f' hit miss c new is e q h =
-    subst (λ (x : Option Protocol). IfOk r (λ entry. emitted link known (transport x t u f) hit miss c ≡ entered new entry)) (sym is) (subst (λ (x : Formula). IfOk r (λ entry. emitted link known (Guard t x) hit miss c ≡ entered new entry)) q (subst (λ (x : Elementary). IfOk r (λ entry. emitted link known (Guard x f') hit miss c ≡ entered new entry)) e h))
-
-pub udp_put : (r : Result ℕ AllocError) (link : Link) (known : Knowledge) (p : Option Protocol) (t u u' : Elementary) (f f' : Formula) (hit miss : ℕ) (c new : List Insn) → p ≡ Some protocol.Udp → u' ≡ u → f' ≡ f → IfOk r (λ entry. emitted link known (Guard u' f') hit miss c ≡ entered new entry) → IfOk r (λ entry. emitted link known (transport p t u f) hit miss c ≡ entered new entry)
-udp_put r link known p t u u' f f' hit miss c new is e q h =
-    subst (λ (x : Option Protocol). IfOk r (λ entry. emitted link known (transport x t u f) hit miss c ≡ entered new entry)) (sym is) (subst (λ (x : Formula). IfOk r (λ entry. emitted link known (Guard u x) hit miss c ≡ entered new entry)) q (subst (λ (x : Elementary). IfOk r (λ entry. emitted link known (Guard x f') hit miss c ≡ entered new entry)) e h))
-
-pub any_put : (r : Result ℕ AllocError) (link : Link) (known : Knowledge) (p : Option Protocol) (t t' u u' : Elementary) (f f' : Formula) (hit miss : ℕ) (c new : List Insn) → p ≡ None → t' ≡ t → u' ≡ u → f' ≡ f → IfOk r (λ entry. emitted link known (Fork t' u' f') hit miss c ≡ entered new entry) → IfOk r (λ entry. emitted link known (transport p t u f) hit miss c ≡ entered new entry)
-any_put r link known p t t' u u' f f' hit miss c new is e d q h =
-    subst (λ (x : Option Protocol). IfOk r (λ entry. emitted link known (transport x t u f) hit miss c ≡ entered new entry)) (sym is) (subst (λ (x : Formula). IfOk r (λ entry. emitted link known (Fork t u x) hit miss c ≡ entered new entry)) q (subst (λ (x : Elementary). IfOk r (λ entry. emitted link known (Fork t x f') hit miss c ≡ entered new entry)) d (subst (λ (x : Elementary). IfOk r (λ entry. emitted link known (Fork x u' f') hit miss c ≡ entered new entry)) e h)))
+pub transport_on : (r : Result ℕ AllocError) (link : Link) (known : Knowledge) (p q : Option Protocol) (t u : Elementary) (f : Formula) (hit miss : ℕ) (c new : List Insn) → p ≡ q → IfOk r (λ entry. emitted link known (transport q t u f) hit miss c ≡ entered new entry) → IfOk r (λ entry. emitted link known (transport p t u f) hit miss c ≡ entered new entry)
+transport_on r link known p q t u f hit miss c new is h =
+    subst (λ (x : Option Protocol). IfOk r (λ entry. emitted link known (transport x t u f) hit miss c ≡ entered new entry)) (sym is) h

@@ -2,6 +2,7 @@ pub mod Backwards
 pub mod Joined
 pub mod Tails
 pub mod Onward
+pub mod Exclusive
 pub mod Numbers
 pub mod Runs
 pub mod Grows

@@ -1,14 +1,15 @@
 -- Where a jump goes on at once, the code has the same answer.
 use Rattle.std.proofs.Common.{◌≡◌, ℕ, zero, suc, ◌+◌, ◌-◌, ◌<◌, ◌≤◌, List, [], ◌∷◌, length, drop, Bool, true, false, Option, Some, None, refl, sym, ap, ◌∙◌, subst, arith, ◌⊎◌, inl, inr, length-drop, drop-drop}
-use Rattle.std.specs.Prelude.{◌==◌, max, ◌&&◌, if◌then◌else◌, bit_and}
+use Rattle.std.specs.Prelude.{◌==◌, max, ◌&&◌, ◌||◌, if◌then◌else◌, bit_and}
+use Rattle.std.specs.Option.{option_map}
 use Rattle.std.proofs.lemmas.Bool.Decides.{nat_tests}
 use Rattle.flt_bpf.specs.declared.insn.Insn.{Insn}
 use Rattle.flt_bpf.specs.declared.machine.State.{State}
-use Rattle.flt_bpf.specs.declared.operation.Register.TheVariants.{Accumulator}
+use Rattle.flt_bpf.specs.declared.operation.Register.TheVariants.{Accumulator, Index}
 use Rattle.flt_bpf.specs.declared.operation.Width.{Width}
 use Rattle.flt_bpf.specs.declared.operation.Width.TheVariants.{Word, HalfWord, Byte}
 use Rattle.flt_bpf.specs.Instructions.{operation_of}
-use Rattle.flt_bpf.specs.Machine.{Next, Goes, Ends, Lost, step, does_if_known, start, field, into}
+use Rattle.flt_bpf.specs.Machine.{step, does_if_known, start, field, into, header_length}
 use Rattle.flt_words.specs.declared.token.Comparison.{Comparison}
 use Rattle.flt_words.specs.declared.token.Comparison.TheVariants.{Equal, NotEqual, Less, AtMost, Greater, AtLeast}
 use Rattle.flt_gen.specs.declared.elementary.Place.{Place}
@@ -18,7 +19,8 @@ use Rattle.flt_gen.specs.declared.elementary.Elementary.{Elementary}
 use Rattle.flt_gen.specs.declared.elementary.Elementary.TheVariants.{Known, Field}
 use Rattle.flt_gen.specs.declared.elementary.Fact.{Fact}
 use Rattle.flt_gen.specs.Elementary.{Reading, Yes, No, Rejected, reading_of, with, compares, field_at, masked, elementary_reads}
-use Rattle.flt_gen.specs.Follow.{load_code, same_mask, same_place, is_equal, says_value, test_says, first_of, decided, chosen, past_mask, past_load, onward, one_on, two_on, four_on, eight_on, fact, Knowledge, agreed, followed}
+use Rattle.flt_gen.specs.declared.follow.Knowledge.{Knowledge}
+use Rattle.flt_gen.specs.Follow.{load_code, same_mask, same_place, is_equal, says_value, test_says, first_of, looks_at, decided, chosen, past_mask, past_load, onward, one_on, two_on, four_on, eight_on, fact, facts_of, agreed, followed, past_index, target}
 use Rattle.flt_bpf.proofs.Suffix.{answer_of, answer_after, answer_drop}
 use Rattle.flt_gen.proofs.Tails.{tail, Extends, extends_none, extends_put, extends_on}
 
@@ -37,6 +39,10 @@ both_true false b e = cc
 first_case : (o r : Option Bool) (b : Bool) → first_of o r ≡ Some b → (o ≡ Some b) ⊎ (r ≡ Some b)
 first_case None r b e = inr e
 first_case (Some a) r b e = inl e
+
+one_of_two : {A B C : Type 0} → (A → C) → (B → C) → A ⊎ B → C
+one_of_two f g (inl a) = f a
+one_of_two f g (inr b) = g b
 
 masks_are : (m mask : Option ℕ) → same_mask m mask ≡ true → m ≡ mask
 masks_are None None e = refl
@@ -77,6 +83,32 @@ value_says false y value k b e h = denied (value == k) refl e
         ap (λ z. y == z) (sym same) ∙ h ∙ no
     denied false ec ed = cc
 
+-- the code of a load of a field at a place
+abbrev pub is_load : ℕ → Bool
+is_load code = code == 32 || (code == 40 || code == 48)
+
+load_is : (w : Width) (load : ℕ) → load ≡ load_code w → is_load load ≡ true
+load_is Word load e = ap is_load e
+load_is HalfWord load e = ap is_load e
+load_is Byte load e = ap is_load e
+
+-- a test that says something of a field looks at what an instruction loads
+test_loads : (t : Elementary) (truth : Bool) (load at : ℕ) (mask : Option ℕ) (k : ℕ) (b : Bool) → test_says t truth load at mask k ≡ Some b → is_load load ≡ true
+test_loads (Known a) truth load at mask k b e = cc
+test_loads (Field t) truth load at mask k b e =
+    let looks = then_some (looks_at t load at mask) (says_value truth (t.value == k)) b e in
+    let q = both_true (is_equal t.comparison) (same_place t.place at && (load_code t.width == load && same_mask t.mask mask)) looks.0 in
+    let r = both_true (same_place t.place at) (load_code t.width == load && same_mask t.mask mask) q.1 in
+    let s = both_true (load_code t.width == load) (same_mask t.mask mask) r.1 in
+    let sa = s.0 in
+    let code : load ≡ load_code t.width = grind (arith, nat_tests) in
+    load_is t.width load code
+
+decided_loads : (facts : List Fact) (load at : ℕ) (mask : Option ℕ) (k : ℕ) (b : Bool) → decided facts load at mask k ≡ Some b → is_load load ≡ true
+decided_loads [] load at mask k b e = cc
+decided_loads (f ∷ fs) load at mask k b e =
+    one_of_two (λ g. test_loads f.test f.truth load at mask k b g) (λ g. decided_loads fs load at mask k b g) (first_case (test_says f.test f.truth load at mask k) (decided fs load at mask k) b e)
+
 module _ (p : List ℕ) (n : ℕ) where
   -- from a place on, whatever the state, the code gives this answer
   pub record Leads (c : List Insn) (place v : ℕ) : Type 0 where
@@ -91,10 +123,20 @@ module _ (p : List ℕ) (n : ℕ) where
     pub v : ℕ
     pub by : (s : State) → length s.memory ≡ 16 → answer_of c p n k s ≡ Some v
 
-  -- each test whether A is a number goes on where there is an answer, whatever the state
+  -- code that begins with a test whether A is a number goes on where there is an answer, whatever the state
+  abbrev pub Branches : List Insn → Type 0
+  Branches [] = Unit {0}
+  Branches (j ∷ is) = j.code ≡ 21 → Settles is j.jt × Settles is j.jf
+
+  -- the same behind a mask
+  abbrev pub MaskedBranches : List Insn → Type 0
+  MaskedBranches [] = Unit {0}
+  MaskedBranches (m ∷ is) = m.code ≡ 84 → Branches is
+
+  -- each test of a field at a place does so. One past a header does not: the code behind it may need the length in X
   abbrev pub Settled : List Insn → Type 0
   Settled [] = Unit {0}
-  Settled (i ∷ is) = (i.code ≡ 21 → Settles is i.jt × Settles is i.jf) × Settled is
+  Settled (i ∷ is) = (is_load i.code ≡ true → Branches is × MaskedBranches is) × Settled is
 
   settled_drop : (c : List Insn) (k : ℕ) → Settled c → Settled (drop k c)
   settled_drop [] zero h = tt
@@ -145,10 +187,6 @@ module _ (p : List ℕ) (n : ℕ) where
   test_right : (t : Elementary) (truth : Bool) (load at : ℕ) (mask : Option ℕ) (k : ℕ) (b : Bool) → elementary_reads t p ≡ outcome truth → test_says t truth load at mask k ≡ Some b → Says load at mask k b
   test_right (Known a) truth load at mask k b r g = cc
   test_right (Field t) truth load at mask k b r g = field_says t.comparison t.place t.width t.mask t.value truth load at mask k b g r
-
-  one_of_two : {A B C : Type 0} → (A → C) → (B → C) → A ⊎ B → C
-  one_of_two f g (inl a) = f a
-  one_of_two f g (inr b) = g b
 
   decided_says : (facts : List Fact) (load at : ℕ) (mask : Option ℕ) (k : ℕ) (b : Bool) → FactsHold facts → decided facts load at mask k ≡ Some b → Says load at mask k b
   decided_says [] load at mask k b h e = cc
@@ -212,9 +250,9 @@ module _ (p : List ℕ) (n : ℕ) where
       (w : Width) (x : ℕ) (s : State) → length s.memory ≡ 16 → load ≡ load_code w → field p at w ≡ Some x → answer_of d p n 0 s ≡ answer_of e p n 0 (record s { accumulator = masked mask x })
 
   -- a test that is decided
-  chosen_leads : (facts : List Fact) (load at : ℕ) (mask : Option ℕ) (j : Insn) (is d : List Insn) (u : ℕ) → Extends is d → Leads d (length d) u → Settles is j.jt → Settles is j.jf → j.code ≡ 21 → RunsInto d (j ∷ is) load at mask → (o : Option Bool) → decided facts load at mask j.k ≡ o → Onward d facts u (chosen o (length d) (length is - j.jt) (length is - j.jf))
-  chosen_leads facts load at mask j is d u e h t f code runs None g = stays d facts u (length d) (omega arith) h
-  chosen_leads facts load at mask j is d u e h t f code runs (Some b) g = by_truth b g
+  chosen_leads : (facts : List Fact) (load at : ℕ) (mask : Option ℕ) (j : Insn) (is d : List Insn) (u : ℕ) → Extends is d → Leads d (length d) u → (is_load load ≡ true → Settles is j.jt × Settles is j.jf) → j.code ≡ 21 → RunsInto d (j ∷ is) load at mask → (o : Option Bool) → decided facts load at mask j.k ≡ o → Onward d facts u (chosen o (length d) (length is - j.jt) (length is - j.jf))
+  chosen_leads facts load at mask j is d u e h settles code runs None g = stays d facts u (length d) (omega arith) h
+  chosen_leads facts load at mask j is d u e h settles code runs (Some b) g = by_truth b g
     where
       -- where the facts hold the whole code runs to the branch that they say
       reached : (b : Bool) (says : Says load at mask j.k b) (s : State) → length s.memory ≡ 16 → answer_of d p n 0 s ≡ answer_of is p n (if b then j.jt else j.jf) (record s { accumulator = masked mask says.x })
@@ -226,6 +264,7 @@ module _ (p : List ℕ) (n : ℕ) where
 
       by_truth : (b : Bool) → decided facts load at mask j.k ≡ Some b → Onward d facts u (chosen (Some b) (length d) (length is - j.jt) (length is - j.jf))
       by_truth true g =
+          let t = (settles (decided_loads facts load at mask j.k true g)).0 in
           let l = settled_inside is j.jt t in
           let longer = e.longer in
           record {
@@ -235,6 +274,7 @@ module _ (p : List ℕ) (n : ℕ) where
             right = λ hold. let says = decided_says facts load at mask j.k true hold g in some_is t.v u (sym (t.by (record start { accumulator = masked mask says.x }) refl) ∙ sym (reached true says start refl) ∙ top);
           }
       by_truth false g =
+          let f = (settles (decided_loads facts load at mask j.k false g)).1 in
           let l = settled_inside is j.jf f in
           let longer = e.longer in
           record {
@@ -244,22 +284,21 @@ module _ (p : List ℕ) (n : ℕ) where
             right = λ hold. let says = decided_says facts load at mask j.k false hold g in some_is f.v u (sym (f.by (record start { accumulator = masked mask says.x }) refl) ∙ sym (reached false says start refl) ∙ top);
           }
 
-  past_mask_leads : (facts : List Fact) (load at : ℕ) (mask : Option ℕ) (d e : List Insn) (u : ℕ) → Extends e d → Leads d (length d) u → Settled e → RunsInto d e load at mask → Onward d facts u (past_mask facts (length d) load at mask e)
+  past_mask_leads : (facts : List Fact) (load at : ℕ) (mask : Option ℕ) (d e : List Insn) (u : ℕ) → Extends e d → Leads d (length d) u → (is_load load ≡ true → Branches e) → RunsInto d e load at mask → Onward d facts u (past_mask facts (length d) load at mask e)
   past_mask_leads facts load at mask d [] u x h s runs = stays d facts u (length d) (omega arith) h
   past_mask_leads facts load at mask d (j ∷ is) u x h s runs =
       by_bool (λ r. Onward d facts u r) (j.code == 21) _ _
       (λ e. let code : j.code ≡ 21 = grind (arith, nat_tests) in
-      let both = s.0 code in
-      chosen_leads facts load at mask j is d u (extends_on is (j ∷ is) d (extends_put is is j (extends_none is)) x) h both.0 both.1 code runs (decided facts load at mask j.k) refl)
+      chosen_leads facts load at mask j is d u (extends_on is (j ∷ is) d (extends_put is is j (extends_none is)) x) h (λ l. s l code) code runs (decided facts load at mask j.k) refl)
       (λ e. stays d facts u (length d) (omega arith) h)
 
-  past_load_leads : (facts : List Fact) (i : Insn) (is : List Insn) (u : ℕ) → Leads (i ∷ is) (length (i ∷ is)) u → Settled is → Onward (i ∷ is) facts u (past_load facts (length (i ∷ is)) i.code i.k is)
+  past_load_leads : (facts : List Fact) (i : Insn) (is : List Insn) (u : ℕ) → Leads (i ∷ is) (length (i ∷ is)) u → (is_load i.code ≡ true → Branches is × MaskedBranches is) → Onward (i ∷ is) facts u (past_load facts (length (i ∷ is)) i.code i.k is)
   past_load_leads facts i [] u h s = stays (i ∷ []) facts u (length (i ∷ [])) (omega arith) h
   past_load_leads facts i (m ∷ is) u h s =
       by_bool (λ r. Onward (i ∷ m ∷ is) facts u r) (m.code == 84) _ _
       (λ e. let code : m.code ≡ 84 = grind (arith, nat_tests) in
-      past_mask_leads facts i.code i.k (Some m.k) (i ∷ m ∷ is) is u (extends_put is (m ∷ is) i (extends_put is is m (extends_none is))) h s.1 (λ w x t long loads there. loaded w x t (m ∷ is) loads there ∙ run_masks m is (record t { accumulator = x }) code))
-      (λ e. past_mask_leads facts i.code i.k None (i ∷ m ∷ is) (m ∷ is) u (extends_put (m ∷ is) (m ∷ is) i (extends_none (m ∷ is))) h s (λ w x t long loads there. loaded w x t (m ∷ is) loads there))
+      past_mask_leads facts i.code i.k (Some m.k) (i ∷ m ∷ is) is u (extends_put is (m ∷ is) i (extends_put is is m (extends_none is))) h (λ l. (s l).1 code) (λ w x t long loads there. loaded w x t (m ∷ is) loads there ∙ run_masks m is (record t { accumulator = x }) code))
+      (λ e. past_mask_leads facts i.code i.k None (i ∷ m ∷ is) (m ∷ is) u (extends_put (m ∷ is) (m ∷ is) i (extends_none (m ∷ is))) h (λ l. (s l).0) (λ w x t long loads there. loaded w x t (m ∷ is) loads there))
     where
       loaded : (w : Width) (x : ℕ) (t : State) (c : List Insn) → i.code ≡ load_code w → field p i.k w ≡ Some x → answer_of (i ∷ c) p n 0 t ≡ answer_of c p n 0 (record t { accumulator = x })
       loaded w x t c loads there = run_loads i w c t loads ∙ ap (λ o. answer_after (answer_of c p n) (into Accumulator o t)) there
@@ -272,7 +311,7 @@ module _ (p : List ℕ) (n : ℕ) where
       let t : Settles is i.k = record { v = u; by = λ t long. sym (run_jumps i is t code) ∙ top t long } in
       let l = settled_inside is i.k t in
       record { v = u; leads = leads_on is (i ∷ is) (max 1 (length is - i.k)) u l (extends_put is is i (extends_none is)) (settled_leads is i.k t); inside = omega arith; right = λ f. refl })
-      (λ e. past_load_leads facts i is u h s.1)
+      (λ e. past_load_leads facts i is u h s.0)
     where
       top : (t : State) → length t.memory ≡ 16 → answer_of (i ∷ is) p n 0 t ≡ Some u
       top t long = (let none : 0 ≡ length (i ∷ is) - length (i ∷ is) = omega arith in ap (λ k. answer_of (i ∷ is) p n k t) none) ∙ h.by t long
@@ -316,7 +355,7 @@ module _ (p : List ℕ) (n : ℕ) where
 
   -- what is known at a place holds of the packet
   pub record KnowledgeHolds (known : Knowledge) : Type 0 where
-    pub facts : FactsHold known.facts
+    pub facts : FactsHold (facts_of known)
     pub either : (elementary_reads known.either.first p ≡ Yes) ⊎ (elementary_reads known.either.second p ≡ Yes)
 
   -- a followed target has an answer, which is that of the target where what is known holds
@@ -326,7 +365,7 @@ module _ (p : List ℕ) (n : ℕ) where
     pub inside : r ≤ length c
     pub right : KnowledgeHolds known → FactHolds own → v ≡ u
 
-  agreed_followed : (c : List Insn) (known : Knowledge) (own : Fact) (u a b other : ℕ) → Onward c (own ∷ fact known.either.first true ∷ known.facts) u a → Onward c (own ∷ fact known.either.second true ∷ known.facts) u b → Onward c (own ∷ own ∷ known.facts) u other → Followed c known own u (agreed a b other)
+  agreed_followed : (c : List Insn) (known : Knowledge) (own : Fact) (u a b other : ℕ) → Onward c (own ∷ fact known.either.first true ∷ facts_of known) u a → Onward c (own ∷ fact known.either.second true ∷ facts_of known) u b → Onward c (own ∷ facts_of known) u other → Followed c known own u (agreed a b other)
   agreed_followed c known own u a b other oa ob oo =
       by_bool (λ r. Followed c known own u r) (a == b) a other
       (λ e. let same : a ≡ b = grind (arith, nat_tests) in
@@ -339,12 +378,88 @@ module _ (p : List ℕ) (n : ℕ) where
             (λ y. leads_same c a oa.v ob.v oa.leads (subst (λ r. Leads c r ob.v) (sym same) ob.leads) ∙ ob.right (f, (y, k.facts)))
             k.either;
       })
-      (λ e. record { v = oo.v; leads = oo.leads; inside = oo.inside; right = λ k f. oo.right (f, (f, k.facts)) })
+      (λ e. record { v = oo.v; leads = oo.leads; inside = oo.inside; right = λ k f. oo.right (f, k.facts) })
 
   pub followed_leads : (c : List Insn) (known : Knowledge) (own : Fact) (u place : ℕ) → Settled c → place ≤ length c → Leads c place u → Followed c known own u (followed c known own place)
   unfolding followed
   followed_leads c known own u place s l h =
       agreed_followed c known own u _ _ _ (eight_leads c _ u place s l h) (eight_leads c _ u place s l h) (eight_leads c _ u place s l h)
+
+  -- X is ready for code behind a test at a place: past a header it holds that header's length
+  abbrev pub Ready : Place → ℕ → Type 0
+  Ready (At a) x = Unit {0}
+  Ready (Past header a) x = option_map header_length (field p header Byte) ≡ Some x
+
+  -- from a place on the code gives this answer, wherever X is ready
+  pub record LeadsReady (tested : Place) (c : List Insn) (place v : ℕ) : Type 0 where
+    pub by : (s : State) → length s.memory ≡ 16 → Ready tested s.index → answer_of c p n (length c - place) s ≡ Some v
+
+  pub ready_anyhow : (tested : Place) (c : List Insn) (place v : ℕ) → Leads c place v → LeadsReady tested c place v
+  ready_anyhow tested c place v h = record { by = λ s long ready. h.by s long }
+
+  pub ready_on : (tested : Place) (c d : List Insn) (place v : ℕ) → place ≤ length c → Extends c d → LeadsReady tested c place v → LeadsReady tested d place v
+  ready_on tested c d place v l e h =
+      record { by = λ s long ready. sym (answer_drop d p n (length d - place) s) ∙ ap (λ is. answer_of is p n 0 s) (e.same place l) ∙ answer_drop c p n (length c - place) s ∙ h.by s long ready }
+
+  run_index : (i : Insn) (c : List Insn) (s : State) → i.code ≡ 177 → answer_of (i ∷ c) p n 0 s ≡ answer_after (answer_of c p n) (into Index (option_map header_length (field p i.k Byte)) s)
+  unfolding step operation_of
+  run_index i c s e = ap (λ code. answer_after (answer_of c p n) (does_if_known (operation_of code) i p n s)) e
+
+  index_leads : (tested : Place) (d : List Insn) (v : ℕ) → Leads d (length d) v → LeadsReady tested d (past_index tested (length d) d) v
+  index_leads (At a) d v h = ready_anyhow (At a) d (length d) v h
+  index_leads (Past header a) [] v h = ready_anyhow (Past header a) [] 0 v h
+  index_leads (Past header a) (i ∷ is) v h =
+      by_bool (λ r. LeadsReady (Past header a) (i ∷ is) r v) (i.code == 177 && i.k == header) _ _
+      (λ e. let q = both_true (i.code == 177) (i.k == header) e in
+      let qa = q.0 in
+      let qb = q.1 in
+      let code : i.code ≡ 177 = grind (arith, nat_tests) in
+      let same : i.k ≡ header = grind (arith, nat_tests) in
+      record { by = λ s long ready. skipped code same s long ready })
+      (λ e. ready_anyhow (Past header a) (i ∷ is) (length (i ∷ is)) v h)
+    where
+      behind : i.code ≡ 177 → i.k ≡ header → (s : State) → length s.memory ≡ 16 → Ready (Past header a) s.index → answer_of is p n 0 s ≡ Some v
+      behind code same s long ready =
+          sym (run_index i is s code ∙ ap (λ k. answer_after (answer_of is p n) (into Index (option_map header_length (field p k Byte)) s)) same ∙ ap (λ o. answer_after (answer_of is p n) (into Index o s)) ready)
+          ∙ (let none : 0 ≡ length (i ∷ is) - length (i ∷ is) = omega arith in ap (λ k. answer_of (i ∷ is) p n k s) none) ∙ h.by s long
+
+      skipped : i.code ≡ 177 → i.k ≡ header → (s : State) → length s.memory ≡ 16 → Ready (Past header a) s.index → answer_of (i ∷ is) p n (length (i ∷ is) - max 1 (length is)) s ≡ Some v
+      skipped code same s long ready =
+          let there = behind code same s long ready in
+          let some = answer_within is 0 s v there in
+          let one : length (i ∷ is) - max 1 (length is) ≡ suc 0 = omega arith in
+          ap (λ k. answer_of (i ∷ is) p n k s) one ∙ there
+
+  -- a test's target has an answer wherever X is ready, which is that of the place where what is known holds
+  pub record Reached (c : List Insn) (known : Knowledge) (t : FieldTest) (truth : Bool) (u r : ℕ) : Type 0 where
+    pub v : ℕ
+    pub leads : LeadsReady t.place c r v
+    pub inside : r ≤ length c
+    pub right : KnowledgeHolds known → elementary_reads (Field t) p ≡ outcome truth → v ≡ u
+
+  pub target_leads : (c : List Insn) (known : Knowledge) (t : FieldTest) (truth : Bool) (u place : ℕ) → Settled c → place ≤ length c → Leads c place u → Reached c known t truth u (target c known t truth place)
+  unfolding target
+  target_leads c known t truth u place s l h =
+      let own = fact (Field t) truth in
+      let f = followed_leads c known own u place s l h in
+      let r = followed c known own place in
+      let d = tail c r in
+      let x = tail_extends c r f.inside in
+      let long_is : length d ≡ r = omega (arith, length-drop (length c - r) c) in
+      let top : Leads d (length d) f.v = record { by = λ t long. (let none : length d - length d ≡ 0 = omega arith in ap (λ k. answer_of d p n k t) none) ∙ answer_drop c p n (length c - r) t ∙ f.leads.by t long } in
+      let o : LeadsReady t.place d (past_index t.place r d) f.v = subst (λ m. LeadsReady t.place d (past_index t.place m d) f.v) long_is (index_leads t.place d f.v top) in
+      let i : past_index t.place r d ≤ length d = subst (λ m. past_index t.place r d ≤ m) (sym long_is) (index_most t.place r d (omega arith)) in
+      record {
+        v = f.v;
+        leads = ready_on t.place d c (past_index t.place r d) f.v i x o;
+        inside = omega (arith, i, x.longer);
+        right = λ k o. f.right k o;
+      }
+    where
+      index_most : (tested : Place) (r : ℕ) (d : List Insn) → length d ≤ r → past_index tested r d ≤ r
+      index_most (At a) r d l = omega arith
+      index_most (Past header a) r [] l = omega arith
+      index_most (Past header a) r (i ∷ is) l = by_bool (λ m. m ≤ r) (i.code == 177 && i.k == header) _ _ (λ e. omega arith) (λ e. omega arith)
 
 -- a followed place is inside
 abbrev Inside : ℕ → ℕ → Type 0
@@ -392,9 +507,26 @@ four_inside c facts place p l = let i = two_inside c facts place p l in two_insi
 eight_inside : (c : List Insn) (facts : List Fact) (place : ℕ) → 0 < place → place ≤ length c → Inside (length c) (eight_on c facts place)
 eight_inside c facts place p l = let i = four_inside c facts place p l in four_inside c facts _ i.0 i.1
 
-pub followed_inside : (c : List Insn) (known : Knowledge) (own : Fact) (place : ℕ) → 0 < place → place ≤ length c → Inside (length c) (followed c known own place)
+followed_inside : (c : List Insn) (known : Knowledge) (own : Fact) (place : ℕ) → 0 < place → place ≤ length c → Inside (length c) (followed c known own place)
 unfolding followed
 followed_inside c known own place p l =
-    let a = eight_on c (own ∷ fact known.either.first true ∷ known.facts) place in
-    let b = eight_on c (own ∷ fact known.either.second true ∷ known.facts) place in
-    by_bool (λ r. Inside (length c) r) (a == b) _ _ (λ e. eight_inside c (own ∷ fact known.either.first true ∷ known.facts) place p l) (λ e. eight_inside c (own ∷ own ∷ known.facts) place p l)
+    let a = eight_on c (own ∷ fact known.either.first true ∷ facts_of known) place in
+    let b = eight_on c (own ∷ fact known.either.second true ∷ facts_of known) place in
+    by_bool (λ r. Inside (length c) r) (a == b) _ _ (λ e. eight_inside c (own ∷ fact known.either.first true ∷ facts_of known) place p l) (λ e. eight_inside c (own ∷ facts_of known) place p l)
+
+index_inside : (tested : Place) (place : ℕ) (d : List Insn) → 0 < place → length d ≤ place → Inside place (past_index tested place d)
+index_inside (At a) place d p l = (p, omega arith)
+index_inside (Past header a) place [] p l = (p, omega arith)
+index_inside (Past header a) place (i ∷ is) p l =
+    by_bool (λ r. Inside place r) (i.code == 177 && i.k == header) _ _ (λ e. (omega arith, omega arith)) (λ e. (p, omega arith))
+
+pub target_inside : (c : List Insn) (known : Knowledge) (t : FieldTest) (truth : Bool) (place : ℕ) → 0 < place → place ≤ length c → Inside (length c) (target c known t truth place)
+unfolding target
+target_inside c known t truth place p l =
+    let f = followed_inside c known (fact (Field t) truth) place p l in
+    let r = followed c known (fact (Field t) truth) place in
+    let fi = f.1 in
+    let long_is = length-drop (length c - r) c in
+    let i = index_inside t.place r (drop (length c - r) c) f.0 (omega arith) in
+    let j = i.1 in
+    (i.0, omega arith)

@@ -1,5 +1,5 @@
 -- The code of a formula goes on where the formula's reading says.
-use Rattle.std.proofs.Common.{◌≡◌, ℕ, suc, ◌+◌, ◌-◌, ◌%◌, ◌^◌, ◌≤◌, List, ◌∷◌, length, Bool, true, false, Option, Some, None, refl, sym, ap, ◌∙◌, subst, arith, ◌⊎◌, inl, inr}
+use Rattle.std.proofs.Common.{◌≡◌, ℕ, suc, ◌+◌, ◌-◌, ◌%◌, ◌^◌, ◌≤◌, List, ◌∷◌, length, Bool, true, false, Option, Some, None, refl, sym, ap, ◌∙◌, arith, ◌⊎◌, inl, inr}
 use Rattle.std.specs.Prelude.{◌≢◌, nat_le, nat_lt, not, ◌&&◌, if◌then◌else◌, bit_and}
 use Rattle.std.specs.Option.{option_map}
 use Rattle.std.proofs.lemmas.Bool.Decides.{nat_tests}
@@ -13,8 +13,11 @@ use Rattle.flt_words.specs.declared.token.Protocol.TheVariants.{Ether, Tcp, Udp,
 use Rattle.flt_gen.specs.declared.elementary.Elementary.{Elementary}
 use Rattle.flt_gen.specs.Elementary.{network}
 use Rattle.flt_gen.specs.Numbers.{width_of}
-use Rattle.flt_gen.specs.Follow.{load_code, Knowledge, fact, and_fact, followed}
-use Rattle.flt_gen.proofs.Onward.{Leads, leads_on, Settles, Settled, KnowledgeHolds, followed_leads}
+use Rattle.flt_gen.specs.declared.follow.Knowledge.{Knowledge}
+use Rattle.flt_gen.specs.Follow.{and_fork, fact, and_fact, target}
+use Rattle.flt_gen.specs.declared.elementary.Fact.{Fact}
+use Rattle.flt_gen.proofs.Exclusive.{Apt, excluded_no}
+use Rattle.flt_gen.proofs.Onward.{is_load, Leads, leads_on, Settles, Branches, MaskedBranches, Settled, FactHolds, KnowledgeHolds, Ready, LeadsReady, ready_anyhow, ready_on, target_leads}
 use Rattle.flt_bpf.specs.declared.operation.Test.{Test}
 use Rattle.flt_bpf.specs.declared.operation.Test.TheVariants as test
 use Rattle.flt_bpf.specs.declared.operation.Operand.{Operand}
@@ -32,11 +35,11 @@ use Rattle.flt_bpf.specs.declared.operation.Register.TheVariants.{Accumulator, I
 use Rattle.flt_bpf.specs.Machine.{field, holds, value_of, into, header_length}
 use Rattle.flt_gen.specs.Elementary.{Reading, Yes, No, Rejected, reading_of, with, compares, field_at, masked, elementary_reads}
 use Rattle.flt_gen.specs.Numbers.{number}
-use Rattle.flt_gen.specs.Formula.{Formula, Single, Compare, Both, Either, Except, Guard, Fork, relation_reads, both, either, negated as exchanged, reads}
+use Rattle.flt_gen.specs.Formula.{Formula, Single, Compare, Both, Either, Except, Guard, Fork, Choose, relation_reads, both, either, negated as exchanged, reads}
 use Rattle.flt_lang.specs.Counts.{number_words}
 use Rattle.flt_gen.specs.Counts.{words}
-use Rattle.flt_gen.specs.Code.{plain, indirect_code, operator_code, base_before, transport_before, accessor_before, elementary_before, and_fork, jump_before, branch_before, comparison_before, field_before, mask_before, test_before, operands_before, number_before, relation_before, Entered, emitted, NEAR}
-use Rattle.flt_bpf.proofs.Suffix.{answer_of, answer_after, answer_drop}
+use Rattle.flt_gen.specs.Code.{plain, indirect_code, operator_code, test_code, base_before, transport_before, accessor_before, elementary_before, jump_before, branch_before, comparison_before, field_before, mask_before, test_before, operands_before, number_before, relation_before, Entered, emitted, NEAR}
+use Rattle.flt_bpf.proofs.Suffix.{answer_of, answer_after}
 use Rattle.flt_gen.proofs.Tails.{Extends, extends_none, extends_put, extends_on, one_of_four, test_extends, relation_extends}
 use Rattle.flt_gen.proofs.Numbers.{TwoRuns, run_load, run_indirect, run_header, run_mask, run_jump, run_branch, number_runs, two_runs}
 
@@ -72,19 +75,19 @@ module _ (p : List ℕ) (n : ℕ) where
   two_ways c jt jf v w s false e f = f
 
   -- what a long jump's code does from its top, and from behind it
-  jump_top : (c : List Insn) (to v : ℕ) (s : State) → length s.memory ≡ 16 → Leads p n c to v → answer_of (jump_before to c) p n 0 s ≡ Some v
-  jump_top c to v s long h = run_jump p n (length c - to) c s ∙ h.by s long
+  jump_top : (tested : Place) (c : List Insn) (to v : ℕ) (s : State) → length s.memory ≡ 16 → Ready p n tested s.index → LeadsReady p n tested c to v → answer_of (jump_before to c) p n 0 s ≡ Some v
+  jump_top tested c to v s long ready h = run_jump p n (length c - to) c s ∙ h.by s long ready
 
-  past_jump : (c : List Insn) (i : Insn) (to v : ℕ) (s : State) → length s.memory ≡ 16 → to ≤ length c → Leads p n c to v → answer_of (i ∷ c) p n (length c + 1 - to) s ≡ Some v
-  past_jump c i to v s long l h = (let more : length c + 1 - to ≡ suc (length c - to) = omega arith in ap (λ k. answer_of (i ∷ c) p n k s) more) ∙ h.by s long
+  past_jump : (tested : Place) (c : List Insn) (i : Insn) (to v : ℕ) (s : State) → length s.memory ≡ 16 → Ready p n tested s.index → to ≤ length c → LeadsReady p n tested c to v → answer_of (i ∷ c) p n (length c + 1 - to) s ≡ Some v
+  past_jump tested c i to v s long ready l h = (let more : length c + 1 - to ≡ suc (length c - to) = omega arith in ap (λ k. answer_of (i ∷ c) p n k s) more) ∙ h.by s long ready
 
-  branch_runs : (t : Test) (operand : Operand) (k hit miss v w : ℕ) (c : List Insn) (s : State) → length s.memory ≡ 16 → hit ≤ length c → miss ≤ length c → Leads p n c hit v → Leads p n c miss w → answer_of (branch_before t operand k hit miss c) p n 0 s ≡ Some (if holds t s.accumulator (value_of operand k s.index) then v else w)
-  branch_runs t operand k hit miss v w c s long lh lm h m =
+  branch_runs : (tested : Place) (t : Test) (operand : Operand) (k hit miss v w : ℕ) (c : List Insn) (s : State) → length s.memory ≡ 16 → Ready p n tested s.index → hit ≤ length c → miss ≤ length c → LeadsReady p n tested c hit v → LeadsReady p n tested c miss w → answer_of (branch_before t operand k hit miss c) p n 0 s ≡ Some (if holds t s.accumulator (value_of operand k s.index) then v else w)
+  branch_runs tested t operand k hit miss v w c s long ready lh lm h m =
       one_of_four Fine (nat_le (length c - hit) NEAR && nat_le (length c - miss) NEAR) (nat_le (length c + 1 - miss) NEAR) (nat_le (length c + 1 - hit) NEAR) _ _ _ _
-      (run_branch p n t operand k (length c - hit) (length c - miss) c s ∙ two_ways c _ _ v w s truth (h.by s long) (m.by s long))
-      (run_branch p n t operand k 0 (length c + 1 - miss) (jump_before hit c) s ∙ two_ways (jump_before hit c) _ _ v w s truth (jump_top c hit v s long h) (past_jump c _ miss w s long lm m))
-      (run_branch p n t operand k (length c + 1 - hit) 0 (jump_before miss c) s ∙ two_ways (jump_before miss c) _ _ v w s truth (past_jump c _ hit v s long lh h) (jump_top c miss w s long m))
-      (run_branch p n t operand k 0 1 (jump_before hit (jump_before miss c)) s ∙ two_ways (jump_before hit (jump_before miss c)) _ _ v w s truth (jump_top (jump_before miss c) hit v s long far) (jump_top c miss w s long m))
+      (run_branch p n t operand k (length c - hit) (length c - miss) c s ∙ two_ways c _ _ v w s truth (h.by s long ready) (m.by s long ready))
+      (run_branch p n t operand k 0 (length c + 1 - miss) (jump_before hit c) s ∙ two_ways (jump_before hit c) _ _ v w s truth (jump_top tested c hit v s long ready h) (past_jump tested c _ miss w s long ready lm m))
+      (run_branch p n t operand k (length c + 1 - hit) 0 (jump_before miss c) s ∙ two_ways (jump_before miss c) _ _ v w s truth (past_jump tested c _ hit v s long ready lh h) (jump_top tested c miss w s long ready m))
+      (run_branch p n t operand k 0 1 (jump_before hit (jump_before miss c)) s ∙ two_ways (jump_before hit (jump_before miss c)) _ _ v w s truth (jump_top tested (jump_before miss c) hit v s long ready far) (jump_top tested c miss w s long ready m))
     where
       truth : Bool
       truth = holds t s.accumulator (value_of operand k s.index)
@@ -92,8 +95,8 @@ module _ (p : List ℕ) (n : ℕ) where
       Fine : List Insn → Type 0
       Fine d = answer_of d p n 0 s ≡ Some (if truth then v else w)
 
-      far : Leads p n (jump_before miss c) hit v
-      far = leads_on p n c (jump_before miss c) hit v lh (extends_put c c _ (extends_none c)) h
+      far : LeadsReady p n tested (jump_before miss c) hit v
+      far = ready_on p n tested c (jump_before miss c) hit v lh (extends_put c c _ (extends_none c)) h
 
   -- the machine's three tests and the six comparisons
   exchanged_if : (a b : Bool) (v w : ℕ) → b ≡ not a → (if a then w else v) ≡ (if b then v else w)
@@ -106,44 +109,44 @@ module _ (p : List ℕ) (n : ℕ) where
   at_most_is : (a b : ℕ) → nat_le a b ≡ not (nat_lt b a)
   at_most_is a b = grind (arith, nat_tests)
 
-  comparison_runs : (comparison : Comparison) (operand : Operand) (k hit miss v w : ℕ) (c : List Insn) (s : State) → length s.memory ≡ 16 → hit ≤ length c → miss ≤ length c → Leads p n c hit v → Leads p n c miss w → answer_of (comparison_before comparison operand k hit miss c) p n 0 s ≡ Some (if compares comparison s.accumulator (value_of operand k s.index) then v else w)
-  comparison_runs Equal operand k hit miss v w c s long lh lm h m = branch_runs test.Equal operand k hit miss v w c s long lh lm h m
-  comparison_runs NotEqual operand k hit miss v w c s long lh lm h m =
-      branch_runs test.Equal operand k miss hit w v c s long lm lh m h ∙ ap Some (exchanged_if _ _ v w refl)
-  comparison_runs Less operand k hit miss v w c s long lh lm h m =
-      branch_runs test.AtLeast operand k miss hit w v c s long lm lh m h ∙ ap Some (exchanged_if _ _ v w (less_is s.accumulator (value_of operand k s.index)))
-  comparison_runs AtMost operand k hit miss v w c s long lh lm h m =
-      branch_runs test.Greater operand k miss hit w v c s long lm lh m h ∙ ap Some (exchanged_if _ _ v w (at_most_is s.accumulator (value_of operand k s.index)))
-  comparison_runs Greater operand k hit miss v w c s long lh lm h m = branch_runs test.Greater operand k hit miss v w c s long lh lm h m
-  comparison_runs AtLeast operand k hit miss v w c s long lh lm h m = branch_runs test.AtLeast operand k hit miss v w c s long lh lm h m
+  comparison_runs : (tested : Place) (comparison : Comparison) (operand : Operand) (k hit miss v w : ℕ) (c : List Insn) (s : State) → length s.memory ≡ 16 → Ready p n tested s.index → hit ≤ length c → miss ≤ length c → LeadsReady p n tested c hit v → LeadsReady p n tested c miss w → answer_of (comparison_before comparison operand k hit miss c) p n 0 s ≡ Some (if compares comparison s.accumulator (value_of operand k s.index) then v else w)
+  comparison_runs tested Equal operand k hit miss v w c s long ready lh lm h m = branch_runs tested test.Equal operand k hit miss v w c s long ready lh lm h m
+  comparison_runs tested NotEqual operand k hit miss v w c s long ready lh lm h m =
+      branch_runs tested test.Equal operand k miss hit w v c s long ready lm lh m h ∙ ap Some (exchanged_if _ _ v w refl)
+  comparison_runs tested Less operand k hit miss v w c s long ready lh lm h m =
+      branch_runs tested test.AtLeast operand k miss hit w v c s long ready lm lh m h ∙ ap Some (exchanged_if _ _ v w (less_is s.accumulator (value_of operand k s.index)))
+  comparison_runs tested AtMost operand k hit miss v w c s long ready lh lm h m =
+      branch_runs tested test.Greater operand k miss hit w v c s long ready lm lh m h ∙ ap Some (exchanged_if _ _ v w (at_most_is s.accumulator (value_of operand k s.index)))
+  comparison_runs tested Greater operand k hit miss v w c s long ready lh lm h m = branch_runs tested test.Greater operand k hit miss v w c s long ready lh lm h m
+  comparison_runs tested AtLeast operand k hit miss v w c s long ready lh lm h m = branch_runs tested test.AtLeast operand k hit miss v w c s long ready lh lm h m
 
   -- a field, its mask and a test
   reading_picks : (b : Bool) (v w : ℕ) → (if b then v else w) ≡ pick (reading_of (Some b)) v w
   reading_picks true v w = refl
   reading_picks false v w = refl
 
-  masked_runs : (k : FieldTest) (hit miss v w x : ℕ) (c : List Insn) (s : State) → length s.memory ≡ 16 → hit ≤ length c → miss ≤ length c → Leads p n c hit v → Leads p n c miss w → (mask : Option ℕ) → s.accumulator ≡ x → answer_of (mask_before mask (comparison_before k.comparison Constant k.value hit miss c)) p n 0 s ≡ Some (if compares k.comparison (masked mask x) k.value then v else w)
-  masked_runs k hit miss v w x c s long lh lm h m None e =
-      comparison_runs k.comparison Constant k.value hit miss v w c s long lh lm h m ∙ ap (λ y. Some (if compares k.comparison y k.value then v else w)) e
-  masked_runs k hit miss v w x c s long lh lm h m (Some mask) e =
-      run_mask p n mask (comparison_before k.comparison Constant k.value hit miss c) s ∙ comparison_runs k.comparison Constant k.value hit miss v w c (record s { accumulator = bit_and s.accumulator mask }) long lh lm h m ∙ ap (λ y. Some (if compares k.comparison (bit_and y mask) k.value then v else w)) e
+  masked_runs : (tested : Place) (k : FieldTest) (hit miss v w x : ℕ) (c : List Insn) (s : State) → length s.memory ≡ 16 → Ready p n tested s.index → hit ≤ length c → miss ≤ length c → LeadsReady p n tested c hit v → LeadsReady p n tested c miss w → (mask : Option ℕ) → s.accumulator ≡ x → answer_of (mask_before mask (comparison_before k.comparison Constant k.value hit miss c)) p n 0 s ≡ Some (if compares k.comparison (masked mask x) k.value then v else w)
+  masked_runs tested k hit miss v w x c s long ready lh lm h m None e =
+      comparison_runs tested k.comparison Constant k.value hit miss v w c s long ready lh lm h m ∙ ap (λ y. Some (if compares k.comparison y k.value then v else w)) e
+  masked_runs tested k hit miss v w x c s long ready lh lm h m (Some mask) e =
+      run_mask p n mask (comparison_before k.comparison Constant k.value hit miss c) s ∙ comparison_runs tested k.comparison Constant k.value hit miss v w c (record s { accumulator = bit_and s.accumulator mask }) long ready lh lm h m ∙ ap (λ y. Some (if compares k.comparison (bit_and y mask) k.value then v else w)) e
 
   -- what loads a field ends the run where there is none
-  loaded_runs : (k : FieldTest) (hit miss v w : ℕ) (c : List Insn) (s : State) → length s.memory ≡ 16 → hit ≤ length c → miss ≤ length c → Leads p n c hit v → Leads p n c miss w → (o : Option ℕ) → answer_after (answer_of (mask_before k.mask (comparison_before k.comparison Constant k.value hit miss c)) p n) (into Accumulator o s) ≡ Some (pick (reading_of (with o (λ x. Some (compares k.comparison (masked k.mask x) k.value)))) v w)
-  loaded_runs k hit miss v w c s long lh lm h m None = refl
-  loaded_runs k hit miss v w c s long lh lm h m (Some x) =
-      masked_runs k hit miss v w x c (record s { accumulator = x }) long lh lm h m k.mask refl ∙ ap Some (reading_picks (compares k.comparison (masked k.mask x) k.value) v w)
+  loaded_runs : (tested : Place) (k : FieldTest) (hit miss v w : ℕ) (c : List Insn) (s : State) → length s.memory ≡ 16 → Ready p n tested s.index → hit ≤ length c → miss ≤ length c → LeadsReady p n tested c hit v → LeadsReady p n tested c miss w → (o : Option ℕ) → answer_after (answer_of (mask_before k.mask (comparison_before k.comparison Constant k.value hit miss c)) p n) (into Accumulator o s) ≡ Some (pick (reading_of (with o (λ x. Some (compares k.comparison (masked k.mask x) k.value)))) v w)
+  loaded_runs tested k hit miss v w c s long ready lh lm h m None = refl
+  loaded_runs tested k hit miss v w c s long ready lh lm h m (Some x) =
+      masked_runs tested k hit miss v w x c (record s { accumulator = x }) long ready lh lm h m k.mask refl ∙ ap Some (reading_picks (compares k.comparison (masked k.mask x) k.value) v w)
 
-  past_runs : (k : FieldTest) (header at : ℕ) (hit miss v w : ℕ) (c : List Insn) (s : State) → length s.memory ≡ 16 → hit ≤ length c → miss ≤ length c → Leads p n c hit v → Leads p n c miss w → (o : Option ℕ) → answer_after (answer_of (plain (indirect_code k.width) at ∷ mask_before k.mask (comparison_before k.comparison Constant k.value hit miss c)) p n) (into Index (option_map header_length o) s) ≡ Some (pick (reading_of (with (with (with o (λ b. Some (header_length b))) (λ x. field p ((x + at) % 2 ^ 32) k.width)) (λ x. Some (compares k.comparison (masked k.mask x) k.value)))) v w)
-  past_runs k header at hit miss v w c s long lh lm h m None = refl
-  past_runs k header at hit miss v w c s long lh lm h m (Some b) =
-      run_indirect p n k.width at _ (record s { index = header_length b }) ∙ loaded_runs k hit miss v w c (record s { index = header_length b }) long lh lm h m (field p ((header_length b + at) % 2 ^ 32) k.width)
+  past_runs : (header at : ℕ) (k : FieldTest) (hit miss v w : ℕ) (c : List Insn) (s : State) → length s.memory ≡ 16 → hit ≤ length c → miss ≤ length c → LeadsReady p n (Past header at) c hit v → LeadsReady p n (Past header at) c miss w → (o : Option ℕ) → field p header Byte ≡ o → answer_after (answer_of (plain (indirect_code k.width) at ∷ mask_before k.mask (comparison_before k.comparison Constant k.value hit miss c)) p n) (into Index (option_map header_length o) s) ≡ Some (pick (reading_of (with (with (with o (λ b. Some (header_length b))) (λ x. field p ((x + at) % 2 ^ 32) k.width)) (λ x. Some (compares k.comparison (masked k.mask x) k.value)))) v w)
+  past_runs header at k hit miss v w c s long lh lm h m None e = refl
+  past_runs header at k hit miss v w c s long lh lm h m (Some b) e =
+      run_indirect p n k.width at _ (record s { index = header_length b }) ∙ loaded_runs (Past header at) k hit miss v w c (record s { index = header_length b }) long (ap (option_map header_length) e) lh lm h m (field p ((header_length b + at) % 2 ^ 32) k.width)
 
-  field_runs : (k : FieldTest) (hit miss v w : ℕ) (c : List Insn) (s : State) → length s.memory ≡ 16 → hit ≤ length c → miss ≤ length c → Leads p n c hit v → Leads p n c miss w → (place : Place) → answer_of (field_before place k.width (mask_before k.mask (comparison_before k.comparison Constant k.value hit miss c))) p n 0 s ≡ Some (pick (reading_of (with (field_at place k.width p) (λ x. Some (compares k.comparison (masked k.mask x) k.value)))) v w)
-  field_runs k hit miss v w c s long lh lm h m (At at) =
-      run_load p n k.width at _ s ∙ loaded_runs k hit miss v w c s long lh lm h m (field p at k.width)
-  field_runs k hit miss v w c s long lh lm h m (Past header at) =
-      run_header p n header (plain (indirect_code k.width) at ∷ mask_before k.mask (comparison_before k.comparison Constant k.value hit miss c)) s ∙ past_runs k header at hit miss v w c s long lh lm h m (field p header Byte)
+  field_runs : (place : Place) (k : FieldTest) (hit miss v w : ℕ) (c : List Insn) (s : State) → length s.memory ≡ 16 → hit ≤ length c → miss ≤ length c → LeadsReady p n place c hit v → LeadsReady p n place c miss w → answer_of (field_before place k.width (mask_before k.mask (comparison_before k.comparison Constant k.value hit miss c))) p n 0 s ≡ Some (pick (reading_of (with (field_at place k.width p) (λ x. Some (compares k.comparison (masked k.mask x) k.value)))) v w)
+  field_runs (At at) k hit miss v w c s long lh lm h m =
+      run_load p n k.width at _ s ∙ loaded_runs (At at) k hit miss v w c s long tt lh lm h m (field p at k.width)
+  field_runs (Past header at) k hit miss v w c s long lh lm h m =
+      run_header p n header (plain (indirect_code k.width) at ∷ mask_before k.mask (comparison_before k.comparison Constant k.value hit miss c)) s ∙ past_runs header at k hit miss v w c s long lh lm h m (field p header Byte) refl
 
   -- both numbers of a relation, and its test
   compared_runs : (comparison : Comparison) (hit miss v w : ℕ) (c c' : List Insn) (s : State) → hit ≤ length c → miss ≤ length c → Leads p n c hit v → Leads p n c miss w → (ox oy : Option ℕ) → TwoRuns p n c' (comparison_before comparison IndexRegister 0 hit miss c) 0 s ox oy → answer_of c' p n 0 s ≡ Some (pick (reading_of (with ox (λ x. with oy (λ y. Some (compares comparison x y))))) v w)
@@ -151,7 +154,7 @@ module _ (p : List ℕ) (n : ℕ) where
   compared_runs comparison hit miss v w c c' s lh lm h m (Some x) None r = r
   compared_runs comparison hit miss v w c c' s lh lm h m (Some x) (Some y) r =
       let t = r.0 in
-      r.4 ∙ comparison_runs comparison IndexRegister 0 hit miss v w c t r.1.long lh lm h m ∙ ap (λ a. Some (if compares comparison a t.index then v else w)) r.2 ∙ ap (λ b. Some (if compares comparison x b then v else w)) r.3 ∙ ap Some (reading_picks (compares comparison x y) v w)
+      r.4 ∙ comparison_runs (At 0) comparison IndexRegister 0 hit miss v w c t r.1.long tt lh lm (ready_anyhow p n (At 0) c hit v h) (ready_anyhow p n (At 0) c miss w m) ∙ ap (λ a. Some (if compares comparison a t.index then v else w)) r.2 ∙ ap (λ b. Some (if compares comparison x b then v else w)) r.3 ∙ ap Some (reading_picks (compares comparison x y) v w)
 
   relation_runs : (link : Link) (comparison : Comparison) (l r : NumberTree) (hit miss v w : ℕ) (c : List Insn) (s : State) → length s.memory ≡ 16 → hit ≤ length c → miss ≤ length c → Leads p n c hit v → Leads p n c miss w → number_words l ≤ 16 → 1 + number_words r ≤ 16 → answer_of (relation_before link comparison l r hit miss c) p n 0 s ≡ Some (pick (relation_reads link comparison l r p n) v w)
   relation_runs link comparison l r hit miss v w c s long lh lm h m few_l few_r =
@@ -160,87 +163,130 @@ module _ (p : List ℕ) (n : ℕ) where
       (number_runs p n link l 0 _ s long (omega arith))
       (λ t lt. number_runs p n link r 1 _ t lt few_r))
 
-  -- each test whether A is a number goes on where there is an answer
+  -- each test of a field at a place goes on where there is an answer
   pub record Calm (c : List Insn) : Type 0 where
     pub by : Settled p n c
 
-  -- instructions in front that aren't a test whether A is a number
-  settled_put : (c : List Insn) (i : Insn) → i.code ≢ 21 → Calm c → Calm (i ∷ c)
-  settled_put c i other h = record { by = (λ e. absurd (other e), h.by) }
+  not_both : (b : Bool) {A : Type 0} → b ≡ false → b ≡ true → A
+  not_both true e f = cc
+  not_both false e f = cc
+
+  -- an instruction in front that loads no field at a place
+  settled_put : (c : List Insn) (i : Insn) → is_load i.code ≡ false → Calm c → Calm (i ∷ c)
+  settled_put c i other h = record { by = (λ e. not_both (is_load i.code) other e, h.by) }
 
   settles_at : (c : List Insn) (place v : ℕ) → Leads p n c place v → Settles p n c (length c - place)
   settles_at c place v h = record { v = v; by = h.by }
 
   settles_past : (c : List Insn) (i : Insn) (place v : ℕ) → place ≤ length c → Leads p n c place v → Settles p n (i ∷ c) (length c + 1 - place)
-  settles_past c i place v l h = record { v = v; by = λ s long. past_jump c i place v s long l h }
+  settles_past c i place v l h = record { v = v; by = λ s long. past_jump (At 0) c i place v s long tt l (ready_anyhow p n (At 0) c place v h) }
 
   settles_jump : (c : List Insn) (to v : ℕ) → Leads p n c to v → Settles p n (jump_before to c) 0
-  settles_jump c to v h = record { v = v; by = λ s long. jump_top c to v s long h }
+  settles_jump c to v h = record { v = v; by = λ s long. jump_top (At 0) c to v s long tt (ready_anyhow p n (At 0) c to v h) }
 
-  branch_settled : (t : Test) (operand : Operand) (k hit miss v w : ℕ) (c : List Insn) → hit ≤ length c → miss ≤ length c → Calm c → Leads p n c hit v → Leads p n c miss w → Calm (branch_before t operand k hit miss c)
-  branch_settled t operand k hit miss v w c lh lm z h m =
+  test_no_load : (t : Test) (o : Operand) → is_load (test_code t o) ≡ false
+  test_no_load test.Equal Constant = refl
+  test_no_load test.Greater Constant = refl
+  test_no_load test.AtLeast Constant = refl
+  test_no_load test.AnyBit Constant = refl
+  test_no_load test.Equal IndexRegister = refl
+  test_no_load test.Greater IndexRegister = refl
+  test_no_load test.AtLeast IndexRegister = refl
+  test_no_load test.AnyBit IndexRegister = refl
+
+  test_no_mask : (t : Test) (o : Operand) → test_code t o ≢ 84
+  test_no_mask test.Equal Constant = λ e. absurd (omega arith)
+  test_no_mask test.Greater Constant = λ e. absurd (omega arith)
+  test_no_mask test.AtLeast Constant = λ e. absurd (omega arith)
+  test_no_mask test.AnyBit Constant = λ e. absurd (omega arith)
+  test_no_mask test.Equal IndexRegister = λ e. absurd (omega arith)
+  test_no_mask test.Greater IndexRegister = λ e. absurd (omega arith)
+  test_no_mask test.AtLeast IndexRegister = λ e. absurd (omega arith)
+  test_no_mask test.AnyBit IndexRegister = λ e. absurd (omega arith)
+
+  branch_settled : (t : Test) (operand : Operand) (k hit miss : ℕ) (c : List Insn) → Calm c → Calm (branch_before t operand k hit miss c)
+  branch_settled t operand k hit miss c z =
       one_of_four (λ d. Calm d) (nat_le (length c - hit) NEAR && nat_le (length c - miss) NEAR) (nat_le (length c + 1 - miss) NEAR) (nat_le (length c + 1 - hit) NEAR) _ _ _ _
-      (record { by = (λ e. (settles_at c hit v h, settles_at c miss w m), z.by) })
-      (record { by = (λ e. (settles_jump c hit v h, settles_past c (plain 5 (length c - hit)) miss w lm m), hit_jump.by) })
-      (record { by = (λ e. (settles_past c (plain 5 (length c - miss)) hit v lh h, settles_jump c miss w m), miss_jump.by) })
-      (record { by = (λ e. (settles_jump (jump_before miss c) hit v far, behind), (settled_put (jump_before miss c) (plain 5 (length (jump_before miss c) - hit)) (λ e. absurd (omega arith)) miss_jump).by) })
+      (settled_put c _ (test_no_load t operand) z)
+      (settled_put (jump_before hit c) _ (test_no_load t operand) (settled_put c _ refl z))
+      (settled_put (jump_before miss c) _ (test_no_load t operand) (settled_put c _ refl z))
+      (settled_put (jump_before hit (jump_before miss c)) _ (test_no_load t operand) (settled_put (jump_before miss c) _ refl (settled_put c _ refl z)))
+
+  -- what may stand behind the load of a field at a place: a test that goes on where there is an answer
+  record Behind (c : List Insn) : Type 0 where
+    branches : Branches p n c
+    masked : MaskedBranches p n c
+
+  branch_behind : (t : Test) (operand : Operand) (k hit miss v w : ℕ) (c : List Insn) → hit ≤ length c → miss ≤ length c → Leads p n c hit v → Leads p n c miss w → Behind (branch_before t operand k hit miss c)
+  branch_behind t operand k hit miss v w c lh lm h m =
+      one_of_four (λ d. Behind d) (nat_le (length c - hit) NEAR && nat_le (length c - miss) NEAR) (nat_le (length c + 1 - miss) NEAR) (nat_le (length c + 1 - hit) NEAR) _ _ _ _
+      (record { branches = λ e. (settles_at c hit v h, settles_at c miss w m); masked = λ e. absurd (test_no_mask t operand e) })
+      (record { branches = λ e. (settles_jump c hit v h, settles_past c (plain 5 (length c - hit)) miss w lm m); masked = λ e. absurd (test_no_mask t operand e) })
+      (record { branches = λ e. (settles_past c (plain 5 (length c - miss)) hit v lh h, settles_jump c miss w m); masked = λ e. absurd (test_no_mask t operand e) })
+      (record { branches = λ e. (settles_jump (jump_before miss c) hit v far, behind); masked = λ e. absurd (test_no_mask t operand e) })
     where
-      hit_jump : Calm (jump_before hit c)
-      hit_jump = settled_put c (plain 5 (length c - hit)) (λ e. absurd (omega arith)) z
-
-      miss_jump : Calm (jump_before miss c)
-      miss_jump = settled_put c (plain 5 (length c - miss)) (λ e. absurd (omega arith)) z
-
       far : Leads p n (jump_before miss c) hit v
       far = leads_on p n c (jump_before miss c) hit v lh (extends_put c c _ (extends_none c)) h
 
       behind : Settles p n (jump_before hit (jump_before miss c)) 1
-      behind = record { v = w; by = λ s long. jump_top c miss w s long m }
+      behind = record { v = w; by = λ s long. jump_top (At 0) c miss w s long tt (ready_anyhow p n (At 0) c miss w m) }
 
-  load_no_test : (w : Width) → load_code w ≢ 21
-  load_no_test Word = λ e. absurd (omega arith)
-  load_no_test HalfWord = λ e. absurd (omega arith)
-  load_no_test Byte = λ e. absurd (omega arith)
+  indirect_no_load : (w : Width) → is_load (indirect_code w) ≡ false
+  indirect_no_load Word = refl
+  indirect_no_load HalfWord = refl
+  indirect_no_load Byte = refl
 
-  indirect_no_test : (w : Width) → indirect_code w ≢ 21
-  indirect_no_test Word = λ e. absurd (omega arith)
-  indirect_no_test HalfWord = λ e. absurd (omega arith)
-  indirect_no_test Byte = λ e. absurd (omega arith)
-
-  operator_no_test : (a : Operator) → operator_code a ≢ 21
-  operator_no_test Add = λ e. absurd (omega arith)
-  operator_no_test Subtract = λ e. absurd (omega arith)
-  operator_no_test Multiply = λ e. absurd (omega arith)
-  operator_no_test Divide = λ e. absurd (omega arith)
-  operator_no_test Remainder = λ e. absurd (omega arith)
-  operator_no_test ExclusiveOr = λ e. absurd (omega arith)
-  operator_no_test Or = λ e. absurd (omega arith)
-  operator_no_test And = λ e. absurd (omega arith)
-  operator_no_test ShiftLeft = λ e. absurd (omega arith)
-  operator_no_test ShiftRight = λ e. absurd (omega arith)
-
-  field_settled : (place : Place) (w : Width) (c : List Insn) → Calm c → Calm (field_before place w c)
-  field_settled (At k) w c h = settled_put c _ (load_no_test w) h
-  field_settled (Past header k) w c h = settled_put _ _ (λ e. absurd (omega arith)) (settled_put c _ (indirect_no_test w) h)
+  operator_no_load : (a : Operator) → is_load (operator_code a) ≡ false
+  operator_no_load Add = refl
+  operator_no_load Subtract = refl
+  operator_no_load Multiply = refl
+  operator_no_load Divide = refl
+  operator_no_load Remainder = refl
+  operator_no_load ExclusiveOr = refl
+  operator_no_load Or = refl
+  operator_no_load And = refl
+  operator_no_load ShiftLeft = refl
+  operator_no_load ShiftRight = refl
 
   mask_settled : (mask : Option ℕ) (c : List Insn) → Calm c → Calm (mask_before mask c)
   mask_settled None c h = h
-  mask_settled (Some mask) c h = settled_put c _ (λ e. absurd (omega arith)) h
+  mask_settled (Some mask) c h = settled_put c _ refl h
 
-  comparison_settled : (comparison : Comparison) (o : Operand) (k hit miss v w : ℕ) (c : List Insn) → hit ≤ length c → miss ≤ length c → Calm c → Leads p n c hit v → Leads p n c miss w → Calm (comparison_before comparison o k hit miss c)
-  comparison_settled Equal o k hit miss v w c lh lm z h m = branch_settled test.Equal o k hit miss v w c lh lm z h m
-  comparison_settled NotEqual o k hit miss v w c lh lm z h m = branch_settled test.Equal o k miss hit w v c lm lh z m h
-  comparison_settled Less o k hit miss v w c lh lm z h m = branch_settled test.AtLeast o k miss hit w v c lm lh z m h
-  comparison_settled AtMost o k hit miss v w c lh lm z h m = branch_settled test.Greater o k miss hit w v c lm lh z m h
-  comparison_settled Greater o k hit miss v w c lh lm z h m = branch_settled test.Greater o k hit miss v w c lh lm z h m
-  comparison_settled AtLeast o k hit miss v w c lh lm z h m = branch_settled test.AtLeast o k hit miss v w c lh lm z h m
+  mask_behind : (mask : Option ℕ) (c : List Insn) → Behind c → Behind (mask_before mask c)
+  mask_behind None c h = h
+  mask_behind (Some mask) c h = record { branches = λ e. absurd (omega arith); masked = λ e. h.branches }
+
+  comparison_settled : (comparison : Comparison) (o : Operand) (k hit miss : ℕ) (c : List Insn) → Calm c → Calm (comparison_before comparison o k hit miss c)
+  comparison_settled Equal o k hit miss c z = branch_settled test.Equal o k hit miss c z
+  comparison_settled NotEqual o k hit miss c z = branch_settled test.Equal o k miss hit c z
+  comparison_settled Less o k hit miss c z = branch_settled test.AtLeast o k miss hit c z
+  comparison_settled AtMost o k hit miss c z = branch_settled test.Greater o k miss hit c z
+  comparison_settled Greater o k hit miss c z = branch_settled test.Greater o k hit miss c z
+  comparison_settled AtLeast o k hit miss c z = branch_settled test.AtLeast o k hit miss c z
+
+  comparison_behind : (comparison : Comparison) (o : Operand) (k hit miss v w : ℕ) (c : List Insn) → hit ≤ length c → miss ≤ length c → Leads p n c hit v → Leads p n c miss w → Behind (comparison_before comparison o k hit miss c)
+  comparison_behind Equal o k hit miss v w c lh lm h m = branch_behind test.Equal o k hit miss v w c lh lm h m
+  comparison_behind NotEqual o k hit miss v w c lh lm h m = branch_behind test.Equal o k miss hit w v c lm lh m h
+  comparison_behind Less o k hit miss v w c lh lm h m = branch_behind test.AtLeast o k miss hit w v c lm lh m h
+  comparison_behind AtMost o k hit miss v w c lh lm h m = branch_behind test.Greater o k miss hit w v c lm lh m h
+  comparison_behind Greater o k hit miss v w c lh lm h m = branch_behind test.Greater o k hit miss v w c lh lm h m
+  comparison_behind AtLeast o k hit miss v w c lh lm h m = branch_behind test.AtLeast o k hit miss v w c lh lm h m
+
+  -- a test of a field: its targets need X only where it is past a header
+  field_settled : (place : Place) (k : FieldTest) (hit miss v w : ℕ) (c : List Insn) → hit ≤ length c → miss ≤ length c → Calm c → LeadsReady p n place c hit v → LeadsReady p n place c miss w → Calm (field_before place k.width (mask_before k.mask (comparison_before k.comparison Constant k.value hit miss c)))
+  field_settled (At a) k hit miss v w c lh lm z h m =
+      let behind = mask_behind k.mask _ (comparison_behind k.comparison Constant k.value hit miss v w c lh lm (record { by = λ s long. h.by s long tt }) (record { by = λ s long. m.by s long tt })) in
+      let z' = mask_settled k.mask _ (comparison_settled k.comparison Constant k.value hit miss c z) in
+      record { by = (λ e. (behind.branches, behind.masked), z'.by) }
+  field_settled (Past header a) k hit miss v w c lh lm z h m =
+      settled_put _ _ refl (settled_put _ _ (indirect_no_load k.width) (mask_settled k.mask _ (comparison_settled k.comparison Constant k.value hit miss c z)))
 
   base_settled : (at : ℕ) (w : Width) (c : List Insn) → Calm c → Calm (base_before at w c)
-  base_settled at w c h = settled_put _ _ (λ e. absurd (omega arith)) (settled_put c _ (indirect_no_test w) h)
+  base_settled at w c h = settled_put _ _ refl (settled_put c _ (indirect_no_load w) h)
 
   transport_settled : (link : Link) (w : Width) (c : List Insn) → Calm c → Calm (transport_before link w c)
   transport_settled link w c h =
-      settled_put _ _ (λ e. absurd (omega arith)) (settled_put _ _ (λ e. absurd (omega arith)) (settled_put _ _ (λ e. absurd (omega arith)) (settled_put c _ (indirect_no_test w) h)))
+      settled_put _ _ refl (settled_put _ _ refl (settled_put _ _ refl (settled_put c _ (indirect_no_load w) h)))
 
   accessor_settled : (link : Link) (protocol : Protocol) (w : Width) (c : List Insn) → Calm c → Calm (accessor_before link protocol w c)
   accessor_settled link Ether w c h = base_settled 0 w c h
@@ -250,13 +296,13 @@ module _ (p : List ℕ) (n : ℕ) where
   accessor_settled link _ w c h = base_settled (network link) w c h
 
   number_settled : (link : Link) (e : NumberTree) (slot : ℕ) (c : List Insn) → Calm c → Calm (number_before link e slot c)
-  number_settled link (literal k) slot c h = settled_put c _ (λ e. absurd (omega arith)) h
-  number_settled link (named k) slot c h = settled_put c _ (λ e. absurd (omega arith)) h
-  number_settled link len slot c h = settled_put c _ (λ e. absurd (omega arith)) h
-  number_settled link (negated a) slot c h = number_settled link a slot _ (settled_put c _ (λ e. absurd (omega arith)) h)
+  number_settled link (literal k) slot c h = settled_put c _ refl h
+  number_settled link (named k) slot c h = settled_put c _ refl h
+  number_settled link len slot c h = settled_put c _ refl h
+  number_settled link (negated a) slot c h = number_settled link a slot _ (settled_put c _ refl h)
   number_settled link (load protocol size i) slot c h = number_settled link i slot _ (accessor_settled link protocol (width_of size) c h)
   number_settled link (applied operator l r) slot c h =
-      number_settled link l slot _ (settled_put _ _ (λ e. absurd (omega arith)) (number_settled link r (slot + 1) _ (settled_put _ _ (λ e. absurd (omega arith)) (settled_put _ _ (λ e. absurd (omega arith)) (settled_put c _ (operator_no_test operator) h)))))
+      number_settled link l slot _ (settled_put _ _ refl (number_settled link r (slot + 1) _ (settled_put _ _ refl (settled_put _ _ refl (settled_put c _ (operator_no_load operator) h)))))
 
   -- the code of a formula, entered at its entry, has an answer, which is the formula's where what is known holds
   pub record Works (e : Entered) (c : List Insn) (known : Knowledge) (v : ℕ) : Type 0 where
@@ -282,41 +328,53 @@ module _ (p : List ℕ) (n : ℕ) where
   pick_fork No r s x y v w h g = g refl ∙ pick_guard r s x v w (λ e. h (inr e))
   pick_fork Rejected r s x y v w h g = refl
 
+  -- a formula, or another one, that is no where the test before the first was yes
+  pick_choice : (r s q : Reading) (x y v w : ℕ) → (r ≡ Yes → q ≡ No) → (r ≡ Yes → x ≡ pick s v w) → (r ≡ No → y ≡ pick q v w) → pick r x y ≡ pick (either (both r s) q) v w
+  pick_choice Yes s q x y v w other h g = h refl ∙ sym (ap (λ z. pick z v w) (ap (λ z. either s z) (other refl) ∙ or_no s))
+    where
+      or_no : (s : Reading) → either s No ≡ s
+      or_no Yes = refl
+      or_no No = refl
+      or_no Rejected = refl
+  pick_choice No s q x y v w other h g = g refl
+  pick_choice Rejected s q x y v w other h g = refl
+
+  knows : (f : Fact) (known : Knowledge) → KnowledgeHolds p n known → FactHolds p n f → KnowledgeHolds p n (and_fact f known)
+  knows f known k h = record { facts = (h, (k.facts.0, (k.facts.1.0, tt))); either = k.either }
+
   elementary_works : (known : Knowledge) (t : Elementary) (hit miss v w : ℕ) (c : List Insn) → hit ≤ length c → miss ≤ length c → Calm c → Leads p n c hit v → Leads p n c miss w → Works (elementary_before known t hit miss c) c known (pick (elementary_reads t p) v w)
   elementary_works known (Known true) hit miss v w c lh lm z h m = record { inside = lh; extends = extends_none c; settled = z; u = v; leads = h; right = λ k. refl }
   elementary_works known (Known false) hit miss v w c lh lm z h m = record { inside = lm; extends = extends_none c; settled = z; u = w; leads = m; right = λ k. refl }
   elementary_works known (Field k) hit miss v w c lh lm z h m =
-      let own = fact (Field k) true in
-      let other = fact (Field k) false in
-      let fh = followed_leads p n c known own v hit z.by lh h in
-      let fm = followed_leads p n c known other w miss z.by lm m in
-      let hit' = followed c known own hit in
-      let miss' = followed c known other miss in
+      let th = target_leads p n c known k true v hit z.by lh h in
+      let tm = target_leads p n c known k false w miss z.by lm m in
+      let hit' = target c known k true hit in
+      let miss' = target c known k false miss in
       record {
         inside = omega arith;
         extends = test_extends k hit' miss' c;
-        settled = field_settled k.place k.width _ (mask_settled k.mask _ (comparison_settled k.comparison Constant k.value hit' miss' fh.v fm.v c fh.inside fm.inside z fh.leads fm.leads));
-        u = pick (elementary_reads (Field k) p) fh.v fm.v;
-        leads = leads_top (test_before k hit' miss' c) _ (λ s long. field_runs k hit' miss' fh.v fm.v c s long fh.inside fm.inside fh.leads fm.leads k.place);
-        right = λ known_holds. pick_same (elementary_reads (Field k) p) fh.v fm.v v w (λ e. fh.right known_holds e) (λ e. fm.right known_holds e);
+        settled = field_settled k.place k hit' miss' th.v tm.v c th.inside tm.inside z th.leads tm.leads;
+        u = pick (elementary_reads (Field k) p) th.v tm.v;
+        leads = leads_top (test_before k hit' miss' c) _ (λ s long. field_runs k.place k hit' miss' th.v tm.v c s long th.inside tm.inside th.leads tm.leads);
+        right = λ known_holds. pick_same (elementary_reads (Field k) p) th.v tm.v v w (λ e. th.right known_holds e) (λ e. tm.right known_holds e);
       }
 
-  pub emitted_works : (link : Link) (known : Knowledge) (f : Formula) (hit miss v w : ℕ) (c : List Insn) → words f ≤ 16 → hit ≤ length c → miss ≤ length c → Calm c → Leads p n c hit v → Leads p n c miss w → Works (emitted link known f hit miss c) c known (pick (reads link f p n) v w)
-  emitted_works link known (Single t) hit miss v w c few lh lm z h m = elementary_works known t hit miss v w c lh lm z h m
-  emitted_works link known (Compare comparison l r) hit miss v w c few lh lm z h m =
+  pub emitted_works : (link : Link) (known : Knowledge) (f : Formula) (hit miss v w : ℕ) (c : List Insn) → words f ≤ 16 → Apt p f → hit ≤ length c → miss ≤ length c → Calm c → Leads p n c hit v → Leads p n c miss w → Works (emitted link known f hit miss c) c known (pick (reads link f p n) v w)
+  emitted_works link known (Single t) hit miss v w c few apt lh lm z h m = elementary_works known t hit miss v w c lh lm z h m
+  emitted_works link known (Compare comparison l r) hit miss v w c few apt lh lm z h m =
       record {
         inside = omega arith;
         extends = relation_extends link comparison l r hit miss c;
-        settled = number_settled link l 0 _ (settled_put _ _ (λ e. absurd (omega arith)) (number_settled link r 1 _ (settled_put _ _ (λ e. absurd (omega arith)) (settled_put _ _ (λ e. absurd (omega arith)) (comparison_settled comparison IndexRegister 0 hit miss v w c lh lm z h m)))));
+        settled = number_settled link l 0 _ (settled_put _ _ refl (number_settled link r 1 _ (settled_put _ _ refl (settled_put _ _ refl (comparison_settled comparison IndexRegister 0 hit miss c z)))));
         u = pick (relation_reads link comparison l r p n) v w;
         leads = leads_top (relation_before link comparison l r hit miss c) _ (λ s long. relation_runs link comparison l r hit miss v w c s long lh lm h m (omega arith) (omega arith));
         right = λ k. refl;
       }
-  emitted_works link known (Both a b) hit miss v w c few lh lm z h m =
+  emitted_works link known (Both a b) hit miss v w c few apt lh lm z h m =
       let e = emitted link known b hit miss c in
-      let wb = emitted_works link known b hit miss v w c (omega arith) lh lm z h m in
+      let wb = emitted_works link known b hit miss v w c (omega arith) apt.1 lh lm z h m in
       let lm' : miss ≤ length e.code = omega (arith, wb.extends.longer) in
-      let wa = emitted_works link known a e.entry miss wb.u w e.code (omega arith) wb.inside lm' wb.settled wb.leads (leads_on p n c e.code miss w lm wb.extends m) in
+      let wa = emitted_works link known a e.entry miss wb.u w e.code (omega arith) apt.0 wb.inside lm' wb.settled wb.leads (leads_on p n c e.code miss w lm wb.extends m) in
       let f = emitted link known a e.entry miss e.code in
       record {
         inside = wa.inside;
@@ -326,11 +384,11 @@ module _ (p : List ℕ) (n : ℕ) where
         leads = wa.leads;
         right = λ k. wa.right k ∙ ap (λ x. pick (reads link a p n) x w) (wb.right k) ∙ pick_both (reads link a p n) (reads link b p n) v w;
       }
-  emitted_works link known (Either a b) hit miss v w c few lh lm z h m =
+  emitted_works link known (Either a b) hit miss v w c few apt lh lm z h m =
       let e = emitted link known b hit miss c in
-      let wb = emitted_works link known b hit miss v w c (omega arith) lh lm z h m in
+      let wb = emitted_works link known b hit miss v w c (omega arith) apt.1 lh lm z h m in
       let lh' : hit ≤ length e.code = omega (arith, wb.extends.longer) in
-      let wa = emitted_works link known a hit e.entry v wb.u e.code (omega arith) lh' wb.inside wb.settled (leads_on p n c e.code hit v lh wb.extends h) wb.leads in
+      let wa = emitted_works link known a hit e.entry v wb.u e.code (omega arith) apt.0 lh' wb.inside wb.settled (leads_on p n c e.code hit v lh wb.extends h) wb.leads in
       let f = emitted link known a hit e.entry e.code in
       record {
         inside = wa.inside;
@@ -340,13 +398,13 @@ module _ (p : List ℕ) (n : ℕ) where
         leads = wa.leads;
         right = λ k. wa.right k ∙ ap (λ x. pick (reads link a p n) v x) (wb.right k) ∙ pick_either (reads link a p n) (reads link b p n) v w;
       }
-  emitted_works link known (Except a) hit miss v w c few lh lm z h m =
-      let wa = emitted_works link known a miss hit w v c few lm lh z m h in
+  emitted_works link known (Except a) hit miss v w c few apt lh lm z h m =
+      let wa = emitted_works link known a miss hit w v c few apt lm lh z m h in
       record { inside = wa.inside; extends = wa.extends; settled = wa.settled; u = wa.u; leads = wa.leads; right = λ k. wa.right k ∙ pick_negated (reads link a p n) v w }
-  emitted_works link known (Guard t a) hit miss v w c few lh lm z h m =
+  emitted_works link known (Guard t a) hit miss v w c few apt lh lm z h m =
       let inner = and_fact (fact t true) known in
       let e = emitted link inner a hit miss c in
-      let wb = emitted_works link inner a hit miss v w c few lh lm z h m in
+      let wb = emitted_works link inner a hit miss v w c few apt lh lm z h m in
       let lm' : miss ≤ length e.code = omega (arith, wb.extends.longer) in
       let wa = elementary_works known t e.entry miss wb.u w e.code wb.inside lm' wb.settled wb.leads (leads_on p n c e.code miss w lm wb.extends m) in
       let f = elementary_before known t e.entry miss e.code in
@@ -356,13 +414,13 @@ module _ (p : List ℕ) (n : ℕ) where
         settled = wa.settled;
         u = wa.u;
         leads = wa.leads;
-        right = λ k. wa.right k ∙ pick_guard (elementary_reads t p) (reads link a p n) wb.u v w (λ y. wb.right (record { facts = (y, k.facts); either = k.either }));
+        right = λ k. wa.right k ∙ pick_guard (elementary_reads t p) (reads link a p n) wb.u v w (λ y. wb.right (knows (fact t true) known k y));
       }
-  emitted_works link known (Fork t u a) hit miss v w c few lh lm z h m =
+  emitted_works link known (Fork t u a) hit miss v w c few apt lh lm z h m =
       let inner = and_fork t u known in
       let second = and_fact (fact t false) known in
       let e = emitted link inner a hit miss c in
-      let wb = emitted_works link inner a hit miss v w c few lh lm z h m in
+      let wb = emitted_works link inner a hit miss v w c few apt lh lm z h m in
       let lm' : miss ≤ length e.code = omega (arith, wb.extends.longer) in
       let miss_leads = leads_on p n c e.code miss w lm wb.extends m in
       let d = elementary_before second u e.entry miss e.code in
@@ -378,5 +436,27 @@ module _ (p : List ℕ) (n : ℕ) where
         leads = wa.leads;
         right = λ k. wa.right k ∙ pick_fork (elementary_reads t p) (elementary_reads u p) (reads link a p n) wb.u wu.u v w
             (λ y. wb.right (record { facts = k.facts; either = y }))
-            (λ y. wu.right (record { facts = (y, k.facts); either = k.either }));
+            (λ y. wu.right (knows (fact t false) known k y));
+      }
+  emitted_works link known (Choose t a b) hit miss v w c few apt lh lm z h m =
+      let yes = and_fact (fact t true) known in
+      let no = and_fact (fact t false) known in
+      let e = emitted link no b hit miss c in
+      let wb = emitted_works link no b hit miss v w c (omega arith) apt.2 lh lm z h m in
+      let lh' : hit ≤ length e.code = omega (arith, wb.extends.longer) in
+      let lm' : miss ≤ length e.code = omega (arith, wb.extends.longer) in
+      let d = emitted link yes a hit miss e.code in
+      let wa = emitted_works link yes a hit miss v w e.code (omega arith) apt.1 lh' lm' wb.settled (leads_on p n c e.code hit v lh wb.extends h) (leads_on p n c e.code miss w lm wb.extends m) in
+      let le : e.entry ≤ length d.code = (let l = wb.inside in omega (arith, wa.extends.longer)) in
+      let wt = elementary_works known t d.entry e.entry wa.u wb.u d.code wa.inside le wa.settled wa.leads (leads_on p n e.code d.code e.entry wb.u wb.inside wa.extends wb.leads) in
+      let f = elementary_before known t d.entry e.entry d.code in
+      record {
+        inside = wt.inside;
+        extends = extends_on c e.code f.code wb.extends (extends_on e.code d.code f.code wa.extends wt.extends);
+        settled = wt.settled;
+        u = wt.u;
+        leads = wt.leads;
+        right = λ k. wt.right k ∙ pick_choice (elementary_reads t p) (reads link a p n) (reads link b p n) wa.u wb.u v w (excluded_no p n link t b apt.0)
+            (λ y. wa.right (knows (fact t true) known k y))
+            (λ y. wb.right (knows (fact t false) known k y));
       }

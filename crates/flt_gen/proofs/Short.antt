@@ -19,11 +19,12 @@ use Rattle.flt_gen.specs.declared.elementary.Place.TheVariants.{At, Past}
 use Rattle.flt_gen.specs.declared.elementary.Elementary.TheVariants.{Known, Field}
 use Rattle.flt_gen.specs.Elementary.{network}
 use Rattle.flt_gen.specs.Numbers.{width_of}
-use Rattle.flt_gen.specs.Formula.{Formula, Single, Compare, Both, Either, Except, Guard, Fork}
+use Rattle.flt_gen.specs.Formula.{Formula, Single, Compare, Both, Either, Except, Guard, Fork, Choose}
 use Rattle.flt_lang.specs.Counts.{number_size}
 use Rattle.flt_gen.specs.Counts.{nodes, tests}
-use Rattle.flt_gen.specs.Code.{plain, branch_insn, branch_before, comparison_before, field_before, mask_before, base_before, transport_before, accessor_before, number_before, elementary_before, fork_before, and_fork, emitted, NEAR}
-use Rattle.flt_gen.specs.Follow.{Knowledge, fact, and_fact}
+use Rattle.flt_gen.specs.Code.{plain, branch_insn, branch_before, comparison_before, field_before, mask_before, base_before, transport_before, accessor_before, number_before, elementary_before, fork_before, emitted, NEAR}
+use Rattle.flt_gen.specs.declared.follow.Knowledge.{Knowledge}
+use Rattle.flt_gen.specs.Follow.{and_fork, fact, and_fact}
 use Rattle.flt_gen.specs.declared.elementary.Elementary.{Elementary}
 use Rattle.flt_gen.specs.Layout.{JUMP}
 use Rattle.flt_gen.proofs.Far.{load_no_jump, indirect_no_jump, operator_no_jump, branch_no_jump}
@@ -143,3 +144,10 @@ emitted_slim link known (Fork t u a) hit miss c l n =
     let sb = emitted_slim link (and_fork t u known) a hit miss c (omega arith) n in
     let sa = fork_slim known t u e.entry miss e.code (omega (arith, sb.shorter)) sb.none in
     record { none = sa.none; longer = omega (arith, sa.longer, sb.longer); shorter = omega (arith, sa.shorter, sb.shorter) }
+emitted_slim link known (Choose t a b) hit miss c l n =
+    let e = emitted link (and_fact (fact t false) known) b hit miss c in
+    let sb = emitted_slim link (and_fact (fact t false) known) b hit miss c (omega arith) n in
+    let d = emitted link (and_fact (fact t true) known) a hit miss e.code in
+    let sa = emitted_slim link (and_fact (fact t true) known) a hit miss e.code (omega (arith, sb.shorter)) sb.none in
+    let st = elementary_slim known t d.entry e.entry d.code (omega (arith, sa.shorter, sb.shorter)) sa.none in
+    record { none = st.none; longer = omega (arith, st.longer, sa.longer, sb.longer); shorter = omega (arith, st.shorter, sa.shorter, sb.shorter) }

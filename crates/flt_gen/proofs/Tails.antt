@@ -20,9 +20,10 @@ use Rattle.flt_gen.specs.declared.elementary.Elementary.{Elementary}
 use Rattle.flt_gen.specs.declared.elementary.Elementary.TheVariants.{Known, Field}
 use Rattle.flt_gen.specs.Elementary.{network}
 use Rattle.flt_gen.specs.Numbers.{width_of, accessor_tests}
-use Rattle.flt_gen.specs.Formula.{Formula, Single, Compare, Both, Either, Except, Guard, Fork}
-use Rattle.flt_gen.specs.Code.{plain, branch_before, comparison_before, field_before, mask_before, test_before, accessor_before, number_before, relation_before, elementary_before, fork_before, and_fork, emitted, all_before, accessors_before, base_before, transport_before, NEAR}
-use Rattle.flt_gen.specs.Follow.{Knowledge, fact, nothing, and_fact}
+use Rattle.flt_gen.specs.Formula.{Formula, Single, Compare, Both, Either, Except, Guard, Fork, Choose}
+use Rattle.flt_gen.specs.Code.{plain, branch_before, comparison_before, field_before, mask_before, test_before, accessor_before, number_before, relation_before, elementary_before, fork_before, emitted, all_before, accessors_before, base_before, transport_before, NEAR}
+use Rattle.flt_gen.specs.declared.follow.Knowledge.{Knowledge}
+use Rattle.flt_gen.specs.Follow.{and_fork, fact, nothing, and_fact}
 
 -- the code from a place on
 abbrev pub tail : List Insn → ℕ → List Insn
@@ -133,6 +134,10 @@ emitted_extends link known (Guard t a) hit miss c =
 emitted_extends link known (Fork t u a) hit miss c =
     let e = emitted link (and_fork t u known) a hit miss c in
     extends_on c e.code _ (emitted_extends link (and_fork t u known) a hit miss c) (fork_extends known t u e.entry miss e.code)
+emitted_extends link known (Choose t a b) hit miss c =
+    let e = emitted link (and_fact (fact t false) known) b hit miss c in
+    let d = emitted link (and_fact (fact t true) known) a hit miss e.code in
+    extends_on c e.code _ (emitted_extends link (and_fact (fact t false) known) b hit miss c) (extends_on e.code d.code _ (emitted_extends link (and_fact (fact t true) known) a hit miss e.code) (elementary_extends known t d.entry e.entry d.code))
 
 pub all_extends : (known : Knowledge) (ts : List Elementary) (hit miss : ℕ) (c : List Insn) → Extends c (all_before known ts hit miss c).code
 all_extends known [] hit miss c = extends_none c

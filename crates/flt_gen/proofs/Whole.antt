@@ -23,11 +23,12 @@ use Rattle.flt_gen.specs.Correct.{Decides, IsProgramOf}
 use Rattle.flt_gen.specs.Layout.{JUMP, JumpsAreNeeded, IsShort}
 use Rattle.flt_bpf.proofs.Suffix.{IsFaultless, valid_if_faultless, faultless_drop, ends_drop, answer_drop, machine_answers}
 use Rattle.flt_gen.proofs.Onward.{Leads, Settled}
+use Rattle.flt_gen.proofs.Exclusive.{Apt}
 use Rattle.flt_gen.proofs.Runs.{pick, emitted_works}
 use Rattle.flt_gen.proofs.Far.{emitted_needed}
 use Rattle.flt_gen.proofs.Short.{emitted_slim, all_put}
 use Rattle.flt_gen.proofs.Grows.{Sits, emitted_sits}
-use Rattle.flt_gen.proofs.Counted.{tests_fit, nodes_fit, words_fit}
+use Rattle.flt_gen.proofs.Counted.{tests_fit, nodes_fit, words_fit, formula_apt}
 
 -- the empty expression as a formula, which has no code either
 abbrev pub formula_of : Link → Expression → Formula
@@ -59,7 +60,7 @@ unfolding step operation_of
 miss_leads p n = record { by = λ s long. refl }
 
 returns_settled : {p : List ℕ} {n : ℕ} → Settled p n returns_code
-returns_settled = (λ e. absurd (omega arith), (λ e. absurd (omega arith), tt))
+returns_settled = (λ e. cc, (λ e. cc, tt))
 
 pick_right : (r : Reading) → (pick r 262144 0 ≢ 0) ↔ (r ≡ Yes)
 pick_right Yes = (λ h. refl, λ e z. absurd (omega arith))
@@ -116,6 +117,10 @@ program_decides link e filled few short =
     x : Entered
     x = expression_code link e
 
+    apt : (p : List ℕ) (e : Expression) → Apt p (formula_of link e)
+    apt p empty = tt
+    apt p (truth a) = formula_apt p link a
+
     few_words : (e : Expression) → words_of e ≤ 16 → words (formula_of link e) ≤ 16
     few_words empty h = omega arith
     few_words (truth a) h = omega (arith, words_fit link a)
@@ -123,8 +128,8 @@ program_decides link e filled few short =
     decided : (p : List ℕ) (n : ℕ) → Decides (program_code link e) e link p n
     decided p n =
         let v = pick (reads link f p n) 262144 0 in
-        let w = emitted_works p n link nothing f 2 1 262144 0 returns_code (few_words e few) (omega arith) (omega arith) (record { by = returns_settled }) (hit_leads p n) (miss_leads p n) in
-        let same : w.u ≡ v = w.right (record { facts = tt; either = inl refl }) in
+        let w = emitted_works p n link nothing f 2 1 262144 0 returns_code (few_words e few) (apt p e) (omega arith) (omega arith) (record { by = returns_settled }) (hit_leads p n) (miss_leads p n) in
+        let same : w.u ≡ v = w.right (record { facts = (refl, (refl, (refl, tt))); either = inl refl }) in
         let l : Leads p n x.code x.entry v = subst (λ (y : Entered). Leads p n y.code y.entry v) (code_of link e) (subst (λ a. Leads p n (emitted link nothing f 2 1 returns_code).code (emitted link nothing f 2 1 returns_code).entry a) same w.leads) in
         let c = machine_answers (from_entry x) p n v (answer_drop x.code p n (length x.code - x.entry) start ∙ l.by start refl) in
         record {

@@ -21,15 +21,16 @@ use Rattle.flt_lang.specs.declared.quals.Direction.{Direction}
 use Rattle.flt_lang.specs.declared.quals.Direction.TheVariants as direction
 use Rattle.flt_lang.specs.Tree.{NumberTree, literal, len, named, load, negated, applied, Expression, empty, truth}
 use Rattle.flt_gen.specs.declared.link.Link.{Link}
+use Rattle.flt_gen.specs.declared.follow.Knowledge.{Knowledge}
 use Rattle.flt_gen.specs.declared.elementary.Place.{Place}
 use Rattle.flt_gen.specs.declared.elementary.Place.TheVariants.{At, Past}
 use Rattle.flt_gen.specs.declared.elementary.FieldTest.{FieldTest}
 use Rattle.flt_gen.specs.declared.elementary.Elementary.{Elementary}
 use Rattle.flt_gen.specs.declared.elementary.Elementary.TheVariants.{Known, Field}
 use Rattle.flt_gen.specs.Elementary.{network}
-use Rattle.flt_gen.specs.Follow.{load_code, Knowledge, fact, nothing, and_fact, followed}
+use Rattle.flt_gen.specs.Follow.{load_code, fact, nothing, and_fact, and_fork, target}
 use Rattle.flt_gen.specs.Numbers.{width_of, accessor_tests}
-use Rattle.flt_gen.specs.Formula.{Formula, Single, Compare, Both, Either, Except, Guard, Fork}
+use Rattle.flt_gen.specs.Formula.{Formula, Single, Compare, Both, Either, Except, Guard, Fork, Choose}
 use Rattle.flt_gen.specs.Reading.{formula}
 
 -- an instruction that isn't a test
@@ -161,21 +162,21 @@ entered c entry = record { code = c; entry = entry }
 abbrev pub at_top : List Insn → Entered
 at_top c = record { code = c; entry = length c }
 
--- a test that is known takes no code; the targets of another are followed under what is known
+-- a test that is known takes no code; the targets of another are followed under what is known, and past a load of X that it made
 abbrev pub elementary_before : Knowledge → Elementary → ℕ → ℕ → List Insn → Entered
 elementary_before known (Known true) hit miss c = record { code = c; entry = hit }
 elementary_before known (Known false) hit miss c = record { code = c; entry = miss }
 elementary_before known (Field t) hit miss c =
-    at_top (test_before t (followed c known (fact (Field t) true) hit) (followed c known (fact (Field t) false) miss) c)
+    at_top (test_before t (target c known t true hit) (target c known t false miss) c)
 
 -- the code of one of two tests
 abbrev pub fork_before : Knowledge → Elementary → Elementary → ℕ → ℕ → List Insn → Entered
 fork_before known t u hit miss c =
     let e = elementary_before (and_fact (fact t false) known) u hit miss c in elementary_before known t hit e.entry e.code
 
--- one of two tests is yes
-abbrev pub and_fork : Elementary → Elementary → Knowledge → Knowledge
-and_fork t u known = record known { either = record { first = t; second = u } }
+-- a test in front of code, which is entered where the test is yes
+abbrev pub behind_test : Knowledge → Elementary → ℕ → Entered → Entered
+behind_test known t miss e = elementary_before known t e.entry miss e.code
 
 -- the code of a formula that goes on at one of two places
 abbrev pub emitted : Link → Knowledge → Formula → ℕ → ℕ → List Insn → Entered
@@ -185,9 +186,12 @@ emitted link known (Both a b) hit miss c = let e = emitted link known b hit miss
 emitted link known (Either a b) hit miss c = let e = emitted link known b hit miss c in emitted link known a hit e.entry e.code
 emitted link known (Except a) hit miss c = emitted link known a miss hit c
 emitted link known (Guard t a) hit miss c =
-    let e = emitted link (and_fact (fact t true) known) a hit miss c in elementary_before known t e.entry miss e.code
+    behind_test known t miss (emitted link (and_fact (fact t true) known) a hit miss c)
 emitted link known (Fork t u a) hit miss c =
     let e = emitted link (and_fork t u known) a hit miss c in fork_before known t u e.entry miss e.code
+emitted link known (Choose t a b) hit miss c =
+    let e = emitted link (and_fact (fact t false) known) b hit miss c in
+    behind_test known t e.entry (emitted link (and_fact (fact t true) known) a hit miss e.code)
 
 -- all of some tests, from the last to the first
 abbrev pub all_before : Knowledge → List Elementary → ℕ → ℕ → List Insn → Entered

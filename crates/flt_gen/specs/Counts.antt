@@ -2,7 +2,7 @@
 use Rattle.std.specs.Prelude.{ℕ, ◌+◌, ◌*◌, max}
 use Rattle.flt_lang.specs.Tree.{Expression}
 use Rattle.flt_lang.specs.Counts.{number_words, number_size, tests_of, nodes_of}
-use Rattle.flt_gen.specs.Formula.{Formula, Single, Compare, Both, Either, Except, Guard, Fork}
+use Rattle.flt_gen.specs.Formula.{Formula, Single, Compare, Both, Either, Except, Guard, Fork, Choose}
 
 abbrev pub words : Formula → ℕ
 words (Single t) = 0
@@ -12,6 +12,7 @@ words (Either a b) = max (words a) (words b)
 words (Except a) = words a
 words (Guard t a) = words a
 words (Fork t u a) = words a
+words (Choose t a b) = max (words a) (words b)
 
 abbrev pub nodes : Formula → ℕ
 nodes (Single t) = 0
@@ -21,6 +22,7 @@ nodes (Either a b) = nodes a + nodes b
 nodes (Except a) = nodes a
 nodes (Guard t a) = nodes a
 nodes (Fork t u a) = nodes a
+nodes (Choose t a b) = nodes a + nodes b
 
 abbrev pub tests : Formula → ℕ
 tests (Single t) = 1
@@ -30,6 +32,7 @@ tests (Either a b) = tests a + tests b
 tests (Except a) = tests a
 tests (Guard t a) = 1 + tests a
 tests (Fork t u a) = 2 + tests a
+tests (Choose t a b) = 1 + tests a + tests b
 
 -- the most instructions of an expression's program where no jump is needed
 abbrev pub short_bound_of : Expression → ℕ

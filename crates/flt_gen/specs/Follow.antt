@@ -1,5 +1,5 @@
 -- Where a jump may go on at once, since what is known of the packet decides the test at its target.
-use Rattle.std.specs.Prelude.{ℕ, ◌+◌, ◌-◌, ◌==◌, max, Bool, true, false, if◌then◌else◌, ◌&&◌, List, [], ◌∷◌, length, drop, Option, Some, None}
+use Rattle.std.specs.Prelude.{ℕ, ◌-◌, ◌==◌, max, Bool, true, false, if◌then◌else◌, ◌&&◌, List, [], ◌∷◌, length, drop, Option, Some, None}
 use Rattle.flt_bpf.specs.declared.insn.Insn.{Insn}
 use Rattle.flt_bpf.specs.declared.operation.Width.{Width}
 use Rattle.flt_bpf.specs.declared.operation.Width.TheVariants.{Word, HalfWord, Byte}
@@ -12,6 +12,7 @@ use Rattle.flt_gen.specs.declared.elementary.Elementary.{Elementary}
 use Rattle.flt_gen.specs.declared.elementary.Elementary.TheVariants.{Known, Field}
 use Rattle.flt_gen.specs.declared.elementary.Fact.{Fact}
 use Rattle.flt_gen.specs.declared.elementary.Alternatives.{Alternatives}
+use Rattle.flt_gen.specs.declared.follow.Knowledge.{Knowledge}
 
 abbrev pub load_code : Width → ℕ
 load_code Word = 32
@@ -92,25 +93,27 @@ eight_on c facts place = four_on c facts (four_on c facts place)
 abbrev pub fact : Elementary → Bool → Fact
 fact t b = record { test = t; truth = b }
 
--- what is known at a place: facts, and two tests of which one is yes
-pub record Knowledge : Type 0 where
-  pub facts : List Fact
-  pub either : Alternatives
-
-abbrev pub knowing : List Fact → Alternatives → Knowledge
-knowing facts either = record { facts = facts; either = either }
-
 -- two tests of which one is yes, whatever the packet
 abbrev pub trivial : Alternatives
 trivial = record { first = Known true; second = Known true }
 
--- nothing is known
-abbrev pub nothing : Knowledge
-nothing = knowing [] trivial
+-- a fact that says nothing
+abbrev pub always : Fact
+always = fact (Known true) true
 
--- one more fact is known
+abbrev pub nothing : Knowledge
+nothing = record { latest = always; earlier = always; earliest = always; either = trivial }
+
+abbrev pub facts_of : Knowledge → List Fact
+facts_of known = known.latest ∷ known.earlier ∷ known.earliest ∷ []
+
+-- one more fact is known, and the earliest forgotten
 abbrev pub and_fact : Fact → Knowledge → Knowledge
-and_fact f known = record known { facts = f ∷ known.facts }
+and_fact f known = record known { latest = f; earlier = known.latest; earliest = known.earlier }
+
+-- one of two tests is yes
+abbrev pub and_fork : Elementary → Elementary → Knowledge → Knowledge
+and_fork t u known = record known { either = record { first = t; second = u } }
 
 abbrev pub agreed : ℕ → ℕ → ℕ → ℕ
 agreed a b other = if a == b then a else other
@@ -119,6 +122,19 @@ agreed a b other = if a == b then a else other
 -- alternatives lead apart, only as far as the facts lead
 unfoldable pub followed : List Insn → Knowledge → Fact → ℕ → ℕ
 followed c known own place =
-    agreed (eight_on c (own ∷ fact known.either.first true ∷ known.facts) place)
-    (eight_on c (own ∷ fact known.either.second true ∷ known.facts) place)
-    (eight_on c (own ∷ own ∷ known.facts) place)
+    agreed (eight_on c (own ∷ fact known.either.first true ∷ facts_of known) place)
+    (eight_on c (own ∷ fact known.either.second true ∷ facts_of known) place)
+    (eight_on c (own ∷ facts_of known) place)
+
+-- behind a test past a header X holds the header's length: code that begins by loading it is entered past that load
+abbrev pub past_index : Place → ℕ → List Insn → ℕ
+past_index (At a) place c = place
+past_index (Past header a) place [] = place
+past_index (Past header a) place (i ∷ is) = if i.code == 177 && i.k == header then max 1 (length is) else place
+
+abbrev pub entered_at : Place → List Insn → ℕ → ℕ
+entered_at place c r = past_index place r (drop (length c - r) c)
+
+-- where a test's jump goes: its target followed, and past a load of X
+unfoldable pub target : List Insn → Knowledge → FieldTest → Bool → ℕ → ℕ
+target c known t truth place = entered_at t.place c (followed c known (fact (Field t) truth) place)

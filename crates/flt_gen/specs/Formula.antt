@@ -23,6 +23,9 @@ pub data Formula : Type 0 where
   Guard : Elementary → Formula → Formula
   -- one of two tests and then a formula
   Fork : Elementary → Elementary → Formula → Formula
+  -- a test and then a formula, or another formula. It is for a test that excludes the other formula: where the test was
+  -- yes the code goes past that
+  Choose : Elementary → Formula → Formula → Formula
 
 -- the second is read only where the first is yes; only where it is no
 abbrev pub both : Reading → Reading → Reading
@@ -54,6 +57,7 @@ reads link (Either a b) p n = either (reads link a p n) (reads link b p n)
 reads link (Except a) p n = negated (reads link a p n)
 reads link (Guard t a) p n = both (elementary_reads t p) (reads link a p n)
 reads link (Fork t u a) p n = both (either (elementary_reads t p) (elementary_reads u p)) (reads link a p n)
+reads link (Choose t a b) p n = either (both (elementary_reads t p) (reads link a p n)) (reads link b p n)
 
 -- all of some tests
 abbrev pub all_of : List Elementary → Formula

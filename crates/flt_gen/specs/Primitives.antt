@@ -29,11 +29,14 @@ use Rattle.flt_gen.specs.declared.elementary.Place.TheVariants.{At, Past}
 use Rattle.flt_gen.specs.declared.elementary.Elementary.{Elementary}
 use Rattle.flt_gen.specs.declared.elementary.Elementary.TheVariants.{Known, Field}
 use Rattle.flt_gen.specs.declared.elementary.Ports.{Ports}
+use Rattle.flt_gen.specs.declared.elementary.NetTest.{NetTest}
+use Rattle.flt_gen.specs.declared.elementary.PortTest.{PortTest}
+use Rattle.flt_gen.specs.declared.elementary.Transport.{Transport}
 use Rattle.flt_gen.specs.declared.elementary.Ports.TheVariants.{One, Between}
 use Rattle.flt_gen.specs.Elementary.{is_at, compares_at, network, kind_test, first_fragment, has_ip_proto, has_ip6_proto}
-use Rattle.flt_gen.specs.Formula.{Formula, Single, Compare, Both, Either, Guard, Fork, all_of, guarded, sides}
+use Rattle.flt_gen.specs.Formula.{Formula, Single, Compare, Guard, Fork, Choose, all_of, guarded, sides}
 
--- protocols
+-- protocols; of the kinds of frames at most one is yes
 
 abbrev pub ip_proto : Link → ℕ → Formula
 ip_proto link n = Guard (kind_test link Ip) (Single (has_ip_proto link n))
@@ -42,7 +45,7 @@ abbrev pub ip6_proto : Link → ℕ → Formula
 ip6_proto link n = Guard (kind_test link Ip6) (Single (has_ip6_proto link n))
 
 abbrev pub any_proto : Link → ℕ → Formula
-any_proto link n = Either (ip_proto link n) (ip6_proto link n)
+any_proto link n = Choose (kind_test link Ip) (Single (has_ip_proto link n)) (ip6_proto link n)
 
 abbrev pub ether_proto : Link → ℕ → Formula
 ether_proto Cooked n = Single (is_at 14 HalfWord n)
@@ -103,17 +106,23 @@ abbrev pub destination_offset : Kind → ℕ
 destination_offset Ip = 16
 destination_offset _ = 24
 
-abbrev pub net_of_kind : Link → Kind → Direction → Option ℕ → ℕ → Formula
-net_of_kind link kind direction mask address =
-    Guard (kind_test link kind) (sides direction (address_test mask address (network link + source_offset kind) ∷ []) (address_test mask address (network link + destination_offset kind) ∷ []))
+abbrev pub net_sides : Link → Kind → NetTest → Formula
+net_sides link kind net =
+    sides net.direction (address_test net.mask net.address (network link + source_offset kind) ∷ []) (address_test net.mask net.address (network link + destination_offset kind) ∷ [])
 
-abbrev pub net_formula : Link → Option Protocol → Direction → Option ℕ → ℕ → Formula
-net_formula link (Some protocol.Ip) direction mask address = net_of_kind link Ip direction mask address
-net_formula link (Some protocol.Arp) direction mask address = net_of_kind link Arp direction mask address
-net_formula link (Some protocol.Rarp) direction mask address = net_of_kind link Rarp direction mask address
-net_formula link None direction mask address =
-    Either (net_of_kind link Ip direction mask address) (Either (net_of_kind link Arp direction mask address) (net_of_kind link Rarp direction mask address))
-net_formula link (Some _) direction mask address = Single (Known false)
+abbrev pub net_of_kind : Link → Kind → NetTest → Formula
+net_of_kind link kind net = Guard (kind_test link kind) (net_sides link kind net)
+
+abbrev pub net_formula : Link → Option Protocol → NetTest → Formula
+net_formula link (Some protocol.Ip) net = net_of_kind link Ip net
+net_formula link (Some protocol.Arp) net = net_of_kind link Arp net
+net_formula link (Some protocol.Rarp) net = net_of_kind link Rarp net
+net_formula link None net =
+    Choose (kind_test link Ip) (net_sides link Ip net) (Choose (kind_test link Arp) (net_sides link Arp net) (net_of_kind link Rarp net))
+net_formula link (Some _) net = Single (Known false)
+
+abbrev pub net_test : Direction → Option ℕ → ℕ → NetTest
+net_test direction mask address = record { direction = direction; mask = mask; address = address }
 
 -- IPv6 addresses and networks: four words
 
@@ -142,32 +151,57 @@ transport (Some protocol.Udp) tcp udp f = Guard udp f
 transport None tcp udp f = Fork tcp udp f
 transport (Some _) tcp udp f = Single (Known false)
 
--- behind an IPv4 header, which has no fixed length
-abbrev pub ip_ports : Link → Option Protocol → Direction → Ports → Formula
-ip_ports link protocol direction ports =
-    Guard (kind_test link Ip) (transport protocol (has_ip_proto link 6) (has_ip_proto link 17) (Guard (first_fragment link)
-    (sides direction (port_tests ports (Past (network link) (network link))) (port_tests ports (Past (network link) (network link + 2))))))
+-- a test, if there is one, and then a formula
+abbrev pub behind : Option Elementary → Formula → Formula
+behind None f = f
+behind (Some t) f = Guard t f
+
+abbrev pub ports_behind : Transport → PortTest → Formula
+ports_behind header wanted =
+    behind header.whole (sides wanted.direction (port_tests wanted.ports header.source) (port_tests wanted.ports header.destination))
+
+abbrev pub transport_ports : Transport → PortTest → Formula
+transport_ports header wanted = transport wanted.protocol header.tcp header.udp (ports_behind header wanted)
+
+-- behind an IPv4 header, which has no fixed length; no later fragment has ports
+abbrev pub ip_transport : Link → Transport
+ip_transport link = record {
+  tcp = has_ip_proto link 6;
+  udp = has_ip_proto link 17;
+  whole = Some (first_fragment link);
+  source = Past (network link) (network link);
+  destination = Past (network link) (network link + 2);
+}
 
 -- behind an IPv6 header
-abbrev pub ip6_ports : Link → Option Protocol → Direction → Ports → Formula
-ip6_ports link protocol direction ports =
-    Guard (kind_test link Ip6) (transport protocol (has_ip6_proto link 6) (has_ip6_proto link 17)
-    (sides direction (port_tests ports (At (network link + 40))) (port_tests ports (At (network link + 42)))))
+abbrev pub ip6_transport : Link → Transport
+ip6_transport link = record {
+  tcp = has_ip6_proto link 6;
+  udp = has_ip6_proto link 17;
+  whole = None;
+  source = At (network link + 40);
+  destination = At (network link + 42);
+}
 
-abbrev pub port_formula : Link → Option Protocol → Direction → Ports → Formula
-port_formula link protocol direction ports = Either (ip_ports link protocol direction ports) (ip6_ports link protocol direction ports)
+abbrev pub port_formula : Link → PortTest → Formula
+port_formula link wanted =
+    Choose (kind_test link Ip) (transport_ports (ip_transport link) wanted)
+    (Guard (kind_test link Ip6) (transport_ports (ip6_transport link) wanted))
+
+abbrev pub port_test : Option Protocol → Direction → Ports → PortTest
+port_test protocol direction ports = record { protocol = protocol; direction = direction; ports = ports }
 
 -- values with their qualifiers; what doesn't fit is no, here and above
 
 abbrev pub host_formula : Link → Option Protocol → Direction → Value → Formula
-host_formula link protocol direction (value.Dotted dotted mask) = net_formula link protocol direction None dotted.address
+host_formula link protocol direction (value.Dotted dotted mask) = net_formula link protocol (net_test direction None dotted.address)
 host_formula link protocol direction (value.Ip6 address prefix) = ip6_formula link direction None address
 host_formula link protocol direction (value.Mac address) = ether_host link direction address
 host_formula link protocol direction _ = Single (Known false)
 
 -- the network of IPv4 that a value stands for, if it does
 abbrev pub ip4_formula : Link → Option Protocol → Direction → Option Ip4Net → Formula
-ip4_formula link protocol direction (Some net) = net_formula link protocol direction (Some net.mask) net.address
+ip4_formula link protocol direction (Some net) = net_formula link protocol (net_test direction (Some net.mask) net.address)
 ip4_formula link protocol direction None = Single (Known false)
 
 abbrev pub net_value_formula : Link → Option Protocol → Direction → Value → Formula
@@ -175,11 +209,11 @@ net_value_formula link protocol direction (value.Ip6 address prefix) = ip6_formu
 net_value_formula link protocol direction v = ip4_formula link protocol direction (ip4_net v)
 
 abbrev pub port_value_formula : Link → Option Protocol → Direction → Value → Formula
-port_value_formula link protocol direction (value.Number n mask) = port_formula link protocol direction (One n)
+port_value_formula link protocol direction (value.Number n mask) = port_formula link (port_test protocol direction (One n))
 port_value_formula link protocol direction _ = Single (Known false)
 
 abbrev pub range_value_formula : Link → Option Protocol → Direction → Value → Formula
-range_value_formula link protocol direction (value.Range a b) = port_formula link protocol direction (Between (min a b) (max a b))
+range_value_formula link protocol direction (value.Range a b) = port_formula link (port_test protocol direction (Between (min a b) (max a b)))
 range_value_formula link protocol direction _ = Single (Known false)
 
 abbrev pub proto_value_formula : Link → Option Protocol → Value → Formula

@@ -1,14 +1,15 @@
 //! The code of hosts and networks of IPv4 and IPv6.
 
-ghost use Rattle.std.specs.Prelude.{◌≡◌, ◌+◌, ◌^◌, ◌<◌, ◌≤◌, length, OnOk, IfOk};
+ghost use Rattle.std.specs.Prelude.{◌≡◌, true, None, ◌+◌, ◌^◌, ◌<◌, ◌≤◌, length, OnOk, IfOk};
 ghost use Rattle.flt_lang.specs.Nets.{first_bits};
-ghost use Rattle.flt_gen.specs.Follow.{nothing};
-ghost use Rattle.flt_gen.specs.Code.{emitted, entered};
-ghost use Rattle.flt_gen.specs.Primitives.{address_test, source_offset, destination_offset, net_of_kind, net_formula, ip6_test, ip6_tests, ip6_formula};
+ghost use Rattle.flt_gen.specs.Elementary.{kind_test};
+ghost use Rattle.flt_gen.specs.Follow.{nothing, fact, and_fact};
+ghost use Rattle.flt_gen.specs.Code.{emitted, entered, behind_test};
+ghost use Rattle.flt_gen.specs.Primitives.{address_test, source_offset, destination_offset, net_sides, net_formula, ip6_test, ip6_tests, ip6_formula};
 
 use crate::code::{Code, Targets};
-use crate::elementary::{Alternatives, Elementary, Fact, FieldTest, Kind, Place};
-use crate::follow::Known;
+use crate::elementary::{Elementary, FieldTest, Kind, NetTest, Place};
+use crate::follow::Knowledge;
 use crate::link::Link;
 use crate::put::{put_elementary, put_sides};
 use crate::table::{kind_test, network};
@@ -51,41 +52,48 @@ fn destination_offset(kind: Kind) -> u32
     }
 }
 
-fn put_net_of_kind<A: Allocator>(
+// The sides behind a header of a kind. A frame of another kind goes on at `other`.
+fn put_net_behind<A: Allocator>(
     code: &mut Code<A>,
     link: Link,
+    known: Knowledge,
     kind: Kind,
-    direction: Direction,
-    mask: Option<u32>,
-    address: u32,
+    net: NetTest,
     to: Targets,
+    other: usize,
 ) -> Result<usize, AllocError>
     requires { length code.old + 18 < 2 ^ 31 }
     ensures code { IfOk result
-        (λ entry. emitted link nothing (net_of_kind link kind direction mask address) to.yes to.no code.old ≡ entered code.new entry) }
+        (λ entry. behind_test known (kind_test link kind) other (emitted link (and_fact (fact (kind_test link kind) true) known) (net_sides link kind net) to.yes to.no code.old) ≡ entered code.new entry) }
     ensures room { OnOk result (length code.new ≤ length code.old + 18) }
 {
     let start = network(link);
-    let source = address_test(mask, address, start + source_offset(kind));
-    let destination = address_test(mask, address, start + destination_offset(kind));
+    let source = address_test(net.mask, net.address, start + source_offset(kind));
+    let destination = address_test(net.mask, net.address, start + destination_offset(kind));
     let kind = kind_test(link, kind);
-    let facts = &[Fact {
-        test: kind,
-        truth: true,
-    }];
-    let always = Elementary::Known(true);
-    let either = Alternatives {
-        first: always,
-        second: always,
-    };
-    let known = Known { facts, either };
-    let yes = put_sides(code, known, direction, &[source], &[destination], to)?;
-    put_elementary(
-        code,
-        Known { facts: &[], either },
-        kind,
-        Targets { yes, no: to.no },
-    )
+    let behind = known.and_yes(kind);
+    let yes = put_sides(code, behind, net.direction, &[source], &[destination], to)?;
+    put_elementary(code, known, kind, Targets { yes, no: other })
+}
+
+// The form of IPv4, or else that of ARP, or else that of RARP.
+fn put_any_net<A: Allocator>(
+    code: &mut Code<A>,
+    link: Link,
+    net: NetTest,
+    to: Targets,
+) -> Result<usize, AllocError>
+    requires { length code.old + 54 < 2 ^ 31 }
+    ensures code { IfOk result
+        (λ entry. emitted link nothing (net_formula link None net) to.yes to.no code.old ≡ entered code.new entry) }
+    ensures room { OnOk result (length code.new ≤ length code.old + 54) }
+{
+    let none = Knowledge::nothing();
+    let not_ip = none.and_no(kind_test(link, Kind::Ip));
+    let neither = not_ip.and_no(kind_test(link, Kind::Arp));
+    let rarp = put_net_behind(code, link, neither, Kind::Rarp, net, to, to.no)?;
+    let arp = put_net_behind(code, link, not_ip, Kind::Arp, net, to, rarp)?;
+    put_net_behind(code, link, none, Kind::Ip, net, to, arp)
 }
 
 /// `host` and `net` of IPv4.
@@ -93,31 +101,21 @@ pub fn put_net<A: Allocator>(
     code: &mut Code<A>,
     link: Link,
     protocol: Option<Protocol>,
-    direction: Direction,
-    mask: Option<u32>,
-    address: u32,
+    net: NetTest,
     to: Targets,
 ) -> Result<usize, AllocError>
     requires { length code.old + 54 < 2 ^ 31 }
     ensures code { IfOk result
-        (λ entry. emitted link nothing (net_formula link protocol direction mask address) to.yes to.no code.old ≡ entered code.new entry) }
+        (λ entry. emitted link nothing (net_formula link protocol net) to.yes to.no code.old ≡ entered code.new entry) }
     ensures room { OnOk result (length code.new ≤ length code.old + 54) }
 {
+    let none = Knowledge::nothing();
     match protocol {
-        Some(Protocol::Ip) => put_net_of_kind(code, link, Kind::Ip, direction, mask, address, to),
-        Some(Protocol::Arp) => put_net_of_kind(code, link, Kind::Arp, direction, mask, address, to),
-        Some(Protocol::Rarp) => {
-            put_net_of_kind(code, link, Kind::Rarp, direction, mask, address, to)
-        }
+        Some(Protocol::Ip) => put_net_behind(code, link, none, Kind::Ip, net, to, to.no),
+        Some(Protocol::Arp) => put_net_behind(code, link, none, Kind::Arp, net, to, to.no),
+        Some(Protocol::Rarp) => put_net_behind(code, link, none, Kind::Rarp, net, to, to.no),
         Some(_) => Ok(to.no),
-        None => {
-            let yes = to.yes;
-            let no = put_net_of_kind(code, link, Kind::Rarp, direction, mask, address, to)?;
-            let to = Targets { yes, no };
-            let no = put_net_of_kind(code, link, Kind::Arp, direction, mask, address, to)?;
-            let to = Targets { yes, no };
-            put_net_of_kind(code, link, Kind::Ip, direction, mask, address, to)
-        }
+        None => put_any_net(code, link, net, to),
     }
 }
 
@@ -172,21 +170,14 @@ pub fn put_ip6<A: Allocator>(
     let source = ip6_tests(prefix, address, start + 8);
     let destination = ip6_tests(prefix, address, start + 24);
     let kind = kind_test(link, Kind::Ip6);
-    let facts = &[Fact {
-        test: kind,
-        truth: true,
-    }];
-    let always = Elementary::Known(true);
-    let either = Alternatives {
-        first: always,
-        second: always,
-    };
-    let known = Known { facts, either };
-    let yes = put_sides(code, known, direction, &source, &destination, to)?;
-    put_elementary(
+    let none = Knowledge::nothing();
+    let yes = put_sides(
         code,
-        Known { facts: &[], either },
-        kind,
-        Targets { yes, no: to.no },
-    )
+        none.and_yes(kind),
+        direction,
+        &source,
+        &destination,
+        to,
+    )?;
+    put_elementary(code, none, kind, Targets { yes, no: to.no })
 }

@@ -1,11 +1,11 @@
 //! Code that grows from its end to its beginning.
 
 ghost use Rattle.std.specs.Prelude.{◌≡◌, ◌+◌, ◌-◌, ◌^◌, ◌<◌, ◌≤◌, List, [], ◌∷◌, length, drop, OnOk};
-ghost use Rattle.flt_gen.specs.Follow.{one_on, two_on, four_on, eight_on, followed, knowing};
+ghost use Rattle.flt_gen.specs.Follow.{one_on, two_on, four_on, eight_on, followed, entered_at, target};
 ghost use Rattle.flt_gen.specs.Code.{plain, jump_before, branch_before, test_code};
 
-use crate::elementary::Fact;
-use crate::follow::{Here, Known, onward};
+use crate::elementary::{Elementary, Fact, FieldTest, Place};
+use crate::follow::{Knowledge, onward, past_index};
 use flt_bpf::insn::Insn;
 use flt_bpf::operation::{Operand, Test};
 use std::alloc::{AllocError, Allocator};
@@ -144,47 +144,72 @@ impl<A: Allocator> Code<A> {
     }
 
     // One step from a place.
-    fn one_on(&self, here: Here<'_>, place: usize) -> usize
-        ensures { result ≡ one_on self.now (here.entry.own ∷ here.entry.more ∷ here.entry.facts.now) place }
+    fn one_on(&self, facts: &[Fact], place: usize) -> usize
+        ensures { result ≡ one_on self.now facts.now place }
     {
         let within = place.min(self.top());
-        onward(&self.backwards[..within], here, place)
+        onward(&self.backwards[..within], facts, place)
     }
 
-    fn two_on(&self, here: Here<'_>, place: usize) -> usize
-        ensures { result ≡ two_on self.now (here.entry.own ∷ here.entry.more ∷ here.entry.facts.now) place }
+    fn two_on(&self, facts: &[Fact], place: usize) -> usize
+        ensures { result ≡ two_on self.now facts.now place }
     {
-        self.one_on(here, self.one_on(here, place))
+        self.one_on(facts, self.one_on(facts, place))
     }
 
-    fn four_on(&self, here: Here<'_>, place: usize) -> usize
-        ensures { result ≡ four_on self.now (here.entry.own ∷ here.entry.more ∷ here.entry.facts.now) place }
+    fn four_on(&self, facts: &[Fact], place: usize) -> usize
+        ensures { result ≡ four_on self.now facts.now place }
     {
-        self.two_on(here, self.two_on(here, place))
+        self.two_on(facts, self.two_on(facts, place))
     }
 
-    fn eight_on(&self, here: Here<'_>, place: usize) -> usize
-        ensures { result ≡ eight_on self.now (here.entry.own ∷ here.entry.more ∷ here.entry.facts.now) place }
+    fn eight_on(&self, facts: &[Fact], place: usize) -> usize
+        ensures { result ≡ eight_on self.now facts.now place }
     {
-        self.four_on(here, self.four_on(here, place))
+        self.four_on(facts, self.four_on(facts, place))
     }
 
-    /// The target of a jump that is taken where a fact holds, followed as far as what is known leads.
+    // The target of a jump that is taken where a fact holds, followed as far as what is known leads.
     #[tactic(auto, unfolding(crate::specs::Follow::followed))]
-    pub fn followed(&self, known: Known<'_>, own: Fact, place: usize) -> usize
-        ensures { result ≡ followed self.now (knowing known.entry.facts.now known.entry.either) own place }
+    fn followed(&self, known: Knowledge, own: Fact, place: usize) -> usize
+        ensures { result ≡ followed self.now known own place }
     {
-        let facts = known.facts;
-        let more = Fact::yes(known.either.first);
-        let one = self.eight_on(Here { own, more, facts }, place);
-        let more = Fact::yes(known.either.second);
-        let other = self.eight_on(Here { own, more, facts }, place);
+        let (latest, earlier, earliest) = (known.latest, known.earlier, known.earliest);
+        let first = Fact {
+            test: known.either.first,
+            truth: true,
+        };
+        let second = Fact {
+            test: known.either.second,
+            truth: true,
+        };
+        let one = self.eight_on(&[own, first, latest, earlier, earliest], place);
+        let other = self.eight_on(&[own, second, latest, earlier, earliest], place);
         if one == other {
             one
         } else {
-            let more = own;
-            self.eight_on(Here { own, more, facts }, place)
+            self.eight_on(&[own, latest, earlier, earliest], place)
         }
+    }
+
+    // Where code is entered behind a test at a place.
+    fn entered_at(&self, tested: Place, place: usize) -> usize
+        ensures { result ≡ entered_at tested self.now place }
+    {
+        let within = place.min(self.top());
+        past_index(&self.backwards[..within], tested, place)
+    }
+
+    /// Where a test's jump goes: its target followed, and past a load of the header length that is in X already.
+    #[tactic(auto, unfolding(crate::specs::Follow::target))]
+    pub fn target(&self, known: Knowledge, test: FieldTest, truth: bool, place: usize) -> usize
+        ensures { result ≡ target self.now known test truth place }
+    {
+        let own = Fact {
+            test: Elementary::Field(test),
+            truth,
+        };
+        self.entered_at(test.place, self.followed(known, own, place))
     }
 
     /// The instructions from a place on, in their order.

@@ -1,13 +1,11 @@
 //! The tests that primitives are made of: each looks at one field of a packet.
 
-ghost use Rattle.std.specs.Prelude.{◌≡◌, true, false};
-ghost use Rattle.flt_gen.specs.Follow.{fact, trivial};
-
 use flt_bpf::operation::Width;
-use flt_words::Comparison;
+use flt_lang::Direction;
+use flt_words::{Comparison, Protocol};
 
 /// What a frame is by its link header, or by its version where there is none.
-#[derive(Clone, Copy, Debug, PartialEq, Eq)]
+#[derive(Clone, Copy)]
 pub enum Kind {
     Ethernet,
     Ip,
@@ -17,7 +15,7 @@ pub enum Kind {
 }
 
 /// Where a field stands.
-#[derive(Clone, Copy, Debug, PartialEq, Eq)]
+#[derive(Clone, Copy)]
 pub enum Place {
     /// So many bytes behind the start of the packet.
     At(u32),
@@ -27,7 +25,7 @@ pub enum Place {
 }
 
 /// A test of a field: the field, of which only the bits of the mask count, is compared with a number.
-#[derive(Clone, Copy, Debug, PartialEq, Eq)]
+#[derive(Clone, Copy)]
 pub struct FieldTest {
     pub place: Place,
     pub width: Width,
@@ -37,58 +35,56 @@ pub struct FieldTest {
 }
 
 /// A test that the link type alone decides, or a test of a field.
-#[derive(Clone, Copy, Debug, PartialEq, Eq)]
+#[derive(Clone, Copy)]
 pub enum Elementary {
     Known(bool),
     Field(FieldTest),
 }
 
 /// The ports that are looked for: one, or those from the first to the second.
-#[derive(Clone, Copy, Debug, PartialEq, Eq)]
+#[derive(Clone, Copy)]
 pub enum Ports {
     One(u32),
     Between(u32, u32),
 }
 
+/// A test of ports: the protocol, if one is asked for, the sides, and the ports.
+#[derive(Clone, Copy)]
+pub struct PortTest {
+    pub protocol: Option<Protocol>,
+    pub direction: Direction,
+    pub ports: Ports,
+}
+
+/// What stands behind a network header: the tests of TCP and UDP, the test that no later fragment is there, where there
+/// are fragments, and the places of both ports.
+#[derive(Clone, Copy)]
+pub struct Transport {
+    pub tcp: Elementary,
+    pub udp: Elementary,
+    pub whole: Option<Elementary>,
+    pub source: Place,
+    pub destination: Place,
+}
+
+/// A test of IPv4 addresses: the sides, the mask where not the whole address counts, and the address.
+#[derive(Clone, Copy)]
+pub struct NetTest {
+    pub direction: Direction,
+    pub mask: Option<u32>,
+    pub address: u32,
+}
+
 /// A test with its outcome, where that is known of a packet.
-#[derive(Clone, Copy, Debug, PartialEq, Eq)]
+#[derive(Clone, Copy)]
 pub struct Fact {
     pub test: Elementary,
     pub truth: bool,
 }
 
-impl Fact {
-    /// The test was yes.
-    pub fn yes(test: Elementary) -> Self
-        ensures { result ≡ fact test true }
-    {
-        Fact { test, truth: true }
-    }
-
-    /// The test was no.
-    pub fn no(test: Elementary) -> Self
-        ensures { result ≡ fact test false }
-    {
-        Fact { test, truth: false }
-    }
-}
-
 /// Two tests of which one is yes.
-#[derive(Clone, Copy, Debug, PartialEq, Eq)]
+#[derive(Clone, Copy)]
 pub struct Alternatives {
     pub first: Elementary,
     pub second: Elementary,
-}
-
-impl Alternatives {
-    /// Those of every packet.
-    pub fn trivial() -> Self
-        ensures { result ≡ trivial }
-    {
-        let first = Elementary::Known(true);
-        Alternatives {
-            first,
-            second: first,
-        }
-    }
 }

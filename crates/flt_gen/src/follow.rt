@@ -1,7 +1,7 @@
 //! Where a jump goes on at once, since what is known of the packet decides the test at its target.
 
-ghost use Rattle.std.specs.Prelude.{◌≡◌, ◌∷◌, [], length, reverse, MatchOption};
-ghost use Rattle.flt_gen.specs.Follow.{load_code, same_mask, looks_at, test_says, decided, past_mask, past_load, onward, trivial};
+ghost use Rattle.std.specs.Prelude.{◌≡◌, ◌∷◌, [], length, reverse, MatchOption, true, false};
+ghost use Rattle.flt_gen.specs.Follow.{load_code, same_mask, looks_at, test_says, decided, past_mask, past_load, onward, past_index, nothing, fact, and_fact, and_fork};
 
 use crate::elementary::{Alternatives, Elementary, Fact, FieldTest, Place};
 use flt_bpf::insn::Insn;
@@ -82,43 +82,68 @@ fn decided(facts: &[Fact], look: Look, value: u32) -> Option<bool>
     }
 }
 
-// What the first fact says that says something.
-fn decided_here(here: Here<'_>, look: Look, value: u32) -> Option<bool>
-    ensures { result ≡ decided (here.entry.own ∷ here.entry.more ∷ here.entry.facts.now) look.load look.at look.mask value }
-{
-    match says(here.own, look, value) {
-        Some(truth) => Some(truth),
-        None => match says(here.more, look, value) {
-            Some(truth) => Some(truth),
-            None => decided(here.facts, look, value),
-        },
-    }
-}
-
-/// What is known where a jump is taken: two facts, and those that hold at the test before it.
+/// What is known of a packet at a place in the code: three facts, and two tests of which one is yes. Where less is
+/// known, a fact is that a test is yes which always is.
 #[derive(Clone, Copy)]
-pub struct Here<'a> {
-    pub own: Fact,
-    pub more: Fact,
-    pub facts: &'a [Fact],
-}
-
-/// What is known at a place in the code: facts, and two tests of which one is yes.
-#[derive(Clone, Copy)]
-pub struct Known<'a> {
-    pub facts: &'a [Fact],
+pub struct Knowledge {
+    pub latest: Fact,
+    pub earlier: Fact,
+    pub earliest: Fact,
     pub either: Alternatives,
 }
 
-impl Known<'_> {
-    /// Where nothing is known.
+impl Knowledge {
+    /// Nothing is known.
     pub fn nothing() -> Self
-        ensures facts { result.facts.now ≡ [] }
-        ensures either { result.either ≡ trivial }
+        ensures { result ≡ nothing }
     {
-        Known {
-            facts: &[],
-            either: Alternatives::trivial(),
+        let test = Elementary::Known(true);
+        let always = Fact { test, truth: true };
+        Knowledge {
+            latest: always,
+            earlier: always,
+            earliest: always,
+            either: Alternatives {
+                first: test,
+                second: test,
+            },
+        }
+    }
+
+    fn and(self, fact: Fact) -> Self
+        ensures { result ≡ and_fact fact self }
+    {
+        Knowledge {
+            latest: fact,
+            earlier: self.latest,
+            earliest: self.earlier,
+            either: self.either,
+        }
+    }
+
+    /// A test was yes. The earliest fact is forgotten.
+    pub fn and_yes(self, test: Elementary) -> Self
+        ensures { result ≡ and_fact (fact test true) self }
+    {
+        self.and(Fact { test, truth: true })
+    }
+
+    /// A test was no. The earliest fact is forgotten.
+    pub fn and_no(self, test: Elementary) -> Self
+        ensures { result ≡ and_fact (fact test false) self }
+    {
+        self.and(Fact { test, truth: false })
+    }
+
+    /// One of two tests was yes.
+    pub fn and_one_of(self, first: Elementary, second: Elementary) -> Self
+        ensures { result ≡ and_fork first second self }
+    {
+        Knowledge {
+            latest: self.latest,
+            earlier: self.earlier,
+            earliest: self.earliest,
+            either: Alternatives { first, second },
         }
     }
 }
@@ -134,14 +159,14 @@ fn first_insn(behind: &[Insn]) -> Option<(Insn, &[Insn])>
     }
 }
 
-fn past_mask(behind: &[Insn], here: Here<'_>, look: Look, place: usize) -> usize
-    ensures { result ≡ past_mask (here.entry.own ∷ here.entry.more ∷ here.entry.facts.now) place look.load look.at look.mask (reverse behind.now) }
+fn past_mask(behind: &[Insn], facts: &[Fact], look: Look, place: usize) -> usize
+    ensures { result ≡ past_mask facts.now place look.load look.at look.mask (reverse behind.now) }
 {
     match first_insn(behind) {
         None => place,
         Some((insn, others)) => {
             if insn.code == 21 {
-                match decided_here(here, look, insn.k) {
+                match decided(facts, look, insn.k) {
                     None => place,
                     Some(true) => others.len().saturating_sub(insn.jt as usize).max(1),
                     Some(false) => others.len().saturating_sub(insn.jf as usize).max(1),
@@ -153,18 +178,18 @@ fn past_mask(behind: &[Insn], here: Here<'_>, look: Look, place: usize) -> usize
     }
 }
 
-fn past_load(behind: &[Insn], here: Here<'_>, load: u16, at: u32, place: usize) -> usize
-    ensures { result ≡ past_load (here.entry.own ∷ here.entry.more ∷ here.entry.facts.now) place load at (reverse behind.now) }
+fn past_load(behind: &[Insn], facts: &[Fact], load: u16, at: u32, place: usize) -> usize
+    ensures { result ≡ past_load facts.now place load at (reverse behind.now) }
 {
     match first_insn(behind) {
         None => place,
         Some((insn, others)) => {
             if insn.code == 84 {
                 let mask = Some(insn.k);
-                past_mask(others, here, Look { load, at, mask }, place)
+                past_mask(others, facts, Look { load, at, mask }, place)
             } else {
                 let mask = None;
-                past_mask(behind, here, Look { load, at, mask }, place)
+                past_mask(behind, facts, Look { load, at, mask }, place)
             }
         }
     }
@@ -172,8 +197,8 @@ fn past_load(behind: &[Insn], here: Here<'_>, load: u16, at: u32, place: usize) 
 
 /// The place where the code behind a place goes on: past a jump, and past a test that is decided. The instructions are
 /// given from the last to the first.
-pub fn onward(behind: &[Insn], here: Here<'_>, place: usize) -> usize
-    ensures { result ≡ onward (here.entry.own ∷ here.entry.more ∷ here.entry.facts.now) place (reverse behind.now) }
+pub fn onward(behind: &[Insn], facts: &[Fact], place: usize) -> usize
+    ensures { result ≡ onward facts.now place (reverse behind.now) }
 {
     match first_insn(behind) {
         None => place,
@@ -181,8 +206,28 @@ pub fn onward(behind: &[Insn], here: Here<'_>, place: usize) -> usize
             if insn.code == 5 {
                 others.len().saturating_sub(insn.k as usize).max(1)
             } else {
-                past_load(others, here, insn.code, insn.k, place)
+                past_load(others, facts, insn.code, insn.k, place)
             }
         }
+    }
+}
+
+/// Where code is entered behind a test at a place: past its first load if that loads the header length that the test
+/// left in X. The instructions are given from the last to the first.
+pub fn past_index(behind: &[Insn], tested: Place, place: usize) -> usize
+    ensures { result ≡ past_index tested place (reverse behind.now) }
+{
+    match tested {
+        Place::At(_) => place,
+        Place::Past(header, _) => match first_insn(behind) {
+            None => place,
+            Some((insn, others)) => {
+                if insn.code == 177 && insn.k == header {
+                    others.len().max(1)
+                } else {
+                    place
+                }
+            }
+        },
     }
 }

@@ -7,7 +7,7 @@ ghost use Rattle.flt_gen.specs.Numbers.{accessor_tests, width_of};
 
 use crate::code::{Code, Targets};
 use crate::elementary::Kind;
-use crate::follow::Known;
+use crate::follow::Knowledge;
 use crate::link::Link;
 use crate::put::{indirect_code, put_all};
 use crate::table::{first_fragment, has_ip_proto, kind_test, network};
@@ -103,7 +103,7 @@ fn put_accessor_tests<A: Allocator>(
         (λ entry. all_before nothing (accessor_tests link protocol) to.yes to.no code.old ≡ entered code.new entry) }
     ensures room { OnOk result (length code.new ≤ length code.old + 18) }
 {
-    let none = Known::nothing();
+    let none = Knowledge::nothing();
     let ip = kind_test(link, Kind::Ip);
     let first = first_fragment(link);
     match protocol {

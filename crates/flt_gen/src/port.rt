@@ -1,463 +1,189 @@
 //! The code of ports.
 
-ghost use Rattle.std.specs.Prelude.{◌≡◌, ◌+◌, ◌^◌, ◌<◌, ◌≤◌, [], ◌∷◌, length, OnOk, IfOk};
-ghost use Rattle.flt_gen.specs.Follow.{nothing, knowing, trivial};
-ghost use Rattle.flt_gen.specs.Formula.{Guard, Fork, sides};
-ghost use Rattle.flt_gen.specs.declared.elementary.Place.TheVariants.{Past, At};
-ghost use Rattle.flt_gen.specs.Code.{emitted, entered, sides_before};
-ghost use Rattle.flt_gen.specs.Elementary.{network, first_fragment, has_ip_proto, has_ip6_proto};
-ghost use Rattle.flt_gen.specs.Primitives.{port_tests, transport, ip_ports, ip6_ports, port_formula};
+ghost use Rattle.std.specs.Prelude.{◌≡◌, ◌+◌, ◌^◌, ◌<◌, ◌≤◌, true, length, OnOk, IfOk};
+ghost use Rattle.flt_gen.specs.Follow.{nothing, fact, and_fact};
+ghost use Rattle.flt_gen.specs.Formula.{Guard};
+ghost use Rattle.flt_gen.specs.Code.{emitted, entered, sides_before, behind_test};
+ghost use Rattle.flt_gen.specs.Primitives.{port_tests, ports_behind, transport_ports, ip_transport, ip6_transport, port_formula};
 
 use crate::code::{Code, Targets};
-use crate::elementary::{Alternatives, Elementary, Fact, Kind, Place, Ports};
-use crate::follow::Known;
+use crate::elementary::{Elementary, Kind, Place, PortTest, Ports, Transport};
+use crate::follow::Knowledge;
 use crate::link::Link;
 use crate::put::{put_elementary, put_fork, put_sides};
 use crate::table::{compares_at, first_fragment, has_ip_proto, has_ip6_proto, kind_test, network};
 use flt_bpf::operation::Width;
-use flt_lang::Direction;
 use flt_words::{Comparison, Protocol};
 use std::alloc::{AllocError, Allocator};
 
 // The source port at one place, the destination port at another.
 fn put_port_sides<A: Allocator>(
     code: &mut Code<A>,
-    known: Known<'_>,
-    direction: Direction,
-    ports: Ports,
-    source: Place,
-    destination: Place,
+    known: Knowledge,
+    header: Transport,
+    wanted: PortTest,
     to: Targets,
 ) -> Result<usize, AllocError>
     requires { length code.old + 24 < 2 ^ 31 }
     ensures code { IfOk result
-        (λ entry. sides_before (knowing known.entry.facts.now known.entry.either) direction (port_tests ports source) (port_tests ports destination) to.yes to.no code.old ≡ entered code.new entry) }
+        (λ entry. sides_before known wanted.direction (port_tests wanted.ports header.source) (port_tests wanted.ports header.destination) to.yes to.no code.old ≡ entered code.new entry) }
     ensures room { OnOk result (length code.new ≤ length code.old + 24) }
 {
     let compares = |place: Place, comparison: Comparison, value: u32| {
         compares_at(place, Width::HalfWord, comparison, value)
     };
-    match ports {
+    match wanted.ports {
         Ports::One(port) => {
-            let source = [compares(source, Comparison::Equal, port)];
-            let destination = [compares(destination, Comparison::Equal, port)];
-            put_sides(code, known, direction, &source, &destination, to)
+            let source = [compares(header.source, Comparison::Equal, port)];
+            let destination = [compares(header.destination, Comparison::Equal, port)];
+            put_sides(code, known, wanted.direction, &source, &destination, to)
         }
         Ports::Between(first, last) => {
             let (low, high) = (Comparison::AtLeast, Comparison::AtMost);
-            let source = [compares(source, low, first), compares(source, high, last)];
-            let destination = [
-                compares(destination, low, first),
-                compares(destination, high, last),
+            let source = [
+                compares(header.source, low, first),
+                compares(header.source, high, last),
             ];
-            put_sides(code, known, direction, &source, &destination, to)
+            let destination = [
+                compares(header.destination, low, first),
+                compares(header.destination, high, last),
+            ];
+            put_sides(code, known, wanted.direction, &source, &destination, to)
         }
     }
 }
 
-// Ports behind an IPv4 header and one protocol. Fragments but the first have none.
-fn put_ip_one<A: Allocator>(
+// The ports of a header that isn't a later fragment's.
+fn put_ports_behind<A: Allocator>(
     code: &mut Code<A>,
     link: Link,
-    kind: Fact,
-    transport: Elementary,
-    whole: Elementary,
-    direction: Direction,
-    ports: Ports,
-    source: Place,
-    destination: Place,
-    to: Targets,
-) -> Result<usize, AllocError>
-    requires { length code.old + 36 < 2 ^ 31 }
-    ensures code { IfOk result
-        (λ entry. emitted link (knowing (kind ∷ []) trivial) (Guard transport (Guard whole (sides direction (port_tests ports source) (port_tests ports destination)))) to.yes to.no code.old ≡ entered code.new entry) }
-    ensures room { OnOk result (length code.new ≤ length code.old + 36) }
-{
-    let no = to.no;
-    let facts = &[
-        Fact {
-            test: whole,
-            truth: true,
-        },
-        Fact {
-            test: transport,
-            truth: true,
-        },
-        kind,
-    ];
-    let always = Elementary::Known(true);
-    let either = Alternatives {
-        first: always,
-        second: always,
-    };
-    let known = Known { facts, either };
-    let yes = put_port_sides(code, known, direction, ports, source, destination, to)?;
-    let facts = &[
-        Fact {
-            test: transport,
-            truth: true,
-        },
-        kind,
-    ];
-    let yes = put_elementary(code, Known { facts, either }, whole, Targets { yes, no })?;
-    let facts = &[kind];
-    put_elementary(
-        code,
-        Known { facts, either },
-        transport,
-        Targets { yes, no },
-    )
-}
-
-// The same behind TCP or UDP.
-fn put_ip_any<A: Allocator>(
-    code: &mut Code<A>,
-    link: Link,
-    kind: Fact,
-    tcp: Elementary,
-    udp: Elementary,
-    whole: Elementary,
-    direction: Direction,
-    ports: Ports,
-    source: Place,
-    destination: Place,
-    to: Targets,
-) -> Result<usize, AllocError>
-    requires { length code.old + 42 < 2 ^ 31 }
-    ensures code { IfOk result
-        (λ entry. emitted link (knowing (kind ∷ []) trivial) (Fork tcp udp (Guard whole (sides direction (port_tests ports source) (port_tests ports destination)))) to.yes to.no code.old ≡ entered code.new entry) }
-    ensures room { OnOk result (length code.new ≤ length code.old + 42) }
-{
-    let no = to.no;
-    let facts = &[
-        Fact {
-            test: whole,
-            truth: true,
-        },
-        kind,
-    ];
-    let either = Alternatives {
-        first: tcp,
-        second: udp,
-    };
-    let known = Known { facts, either };
-    let yes = put_port_sides(code, known, direction, ports, source, destination, to)?;
-    let facts = &[kind];
-    let yes = put_elementary(code, Known { facts, either }, whole, Targets { yes, no })?;
-    put_fork(code, kind, tcp, udp, Targets { yes, no })
-}
-
-// Ports behind an IPv6 header and one protocol.
-fn put_ip6_one<A: Allocator>(
-    code: &mut Code<A>,
-    link: Link,
-    kind: Fact,
-    transport: Elementary,
-    direction: Direction,
-    ports: Ports,
-    source: Place,
-    destination: Place,
+    known: Knowledge,
+    header: Transport,
+    wanted: PortTest,
     to: Targets,
 ) -> Result<usize, AllocError>
     requires { length code.old + 30 < 2 ^ 31 }
     ensures code { IfOk result
-        (λ entry. emitted link (knowing (kind ∷ []) trivial) (Guard transport (sides direction (port_tests ports source) (port_tests ports destination))) to.yes to.no code.old ≡ entered code.new entry) }
+        (λ entry. emitted link known (ports_behind header wanted) to.yes to.no code.old ≡ entered code.new entry) }
     ensures room { OnOk result (length code.new ≤ length code.old + 30) }
 {
-    let facts = &[
-        Fact {
-            test: transport,
-            truth: true,
-        },
-        kind,
-    ];
-    let always = Elementary::Known(true);
-    let either = Alternatives {
-        first: always,
-        second: always,
-    };
-    let known = Known { facts, either };
-    let yes = put_port_sides(code, known, direction, ports, source, destination, to)?;
-    let facts = &[kind];
-    put_elementary(
-        code,
-        Known { facts, either },
-        transport,
-        Targets { yes, no: to.no },
-    )
+    match header.whole {
+        None => put_port_sides(code, known, header, wanted, to),
+        Some(whole) => {
+            let yes = put_port_sides(code, known.and_yes(whole), header, wanted, to)?;
+            put_elementary(code, known, whole, Targets { yes, no: to.no })
+        }
+    }
 }
 
-// The same behind TCP or UDP.
-fn put_ip6_any<A: Allocator>(
+// The same behind one protocol.
+fn put_ports_of_protocol<A: Allocator>(
     code: &mut Code<A>,
     link: Link,
-    kind: Fact,
-    tcp: Elementary,
-    udp: Elementary,
-    direction: Direction,
-    ports: Ports,
-    source: Place,
-    destination: Place,
+    known: Knowledge,
+    protocol: Elementary,
+    header: Transport,
+    wanted: PortTest,
     to: Targets,
 ) -> Result<usize, AllocError>
     requires { length code.old + 36 < 2 ^ 31 }
     ensures code { IfOk result
-        (λ entry. emitted link (knowing (kind ∷ []) trivial) (Fork tcp udp (sides direction (port_tests ports source) (port_tests ports destination))) to.yes to.no code.old ≡ entered code.new entry) }
+        (λ entry. emitted link known (Guard protocol (ports_behind header wanted)) to.yes to.no code.old ≡ entered code.new entry) }
     ensures room { OnOk result (length code.new ≤ length code.old + 36) }
 {
-    let facts = &[kind];
-    let either = Alternatives {
-        first: tcp,
-        second: udp,
-    };
-    let known = Known { facts, either };
-    let yes = put_port_sides(code, known, direction, ports, source, destination, to)?;
-    put_fork(code, kind, tcp, udp, Targets { yes, no: to.no })
+    let yes = put_ports_behind(code, link, known.and_yes(protocol), header, wanted, to)?;
+    put_elementary(code, known, protocol, Targets { yes, no: to.no })
 }
 
-// The same behind the protocol that is asked for.
-fn put_ip_transport<A: Allocator>(
+// The same behind the protocol that is asked for, or else TCP or UDP.
+fn put_transport_ports<A: Allocator>(
     code: &mut Code<A>,
     link: Link,
-    kind: Fact,
-    protocol: Option<Protocol>,
-    direction: Direction,
-    ports: Ports,
-    source: Place,
-    destination: Place,
+    known: Knowledge,
+    header: Transport,
+    wanted: PortTest,
     to: Targets,
 ) -> Result<usize, AllocError>
     requires { length code.old + 42 < 2 ^ 31 }
     ensures code { IfOk result
-        (λ entry. emitted link (knowing (kind ∷ []) trivial) (transport protocol (has_ip_proto link 6) (has_ip_proto link 17) (Guard (first_fragment link) (sides direction (port_tests ports source) (port_tests ports destination)))) to.yes to.no code.old ≡ entered code.new entry) }
+        (λ entry. emitted link known (transport_ports header wanted) to.yes to.no code.old ≡ entered code.new entry) }
     ensures room { OnOk result (length code.new ≤ length code.old + 42) }
 {
-    let (tcp, udp) = (has_ip_proto(link, 6), has_ip_proto(link, 17));
-    let whole = first_fragment(link);
-    match protocol {
-        Some(Protocol::Tcp) => put_ip_one(
-            code,
-            link,
-            kind,
-            tcp,
-            whole,
-            direction,
-            ports,
-            source,
-            destination,
-            to,
-        ),
-        Some(Protocol::Udp) => put_ip_one(
-            code,
-            link,
-            kind,
-            udp,
-            whole,
-            direction,
-            ports,
-            source,
-            destination,
-            to,
-        ),
+    let (tcp, udp) = (header.tcp, header.udp);
+    match wanted.protocol {
+        Some(Protocol::Tcp) => put_ports_of_protocol(code, link, known, tcp, header, wanted, to),
+        Some(Protocol::Udp) => put_ports_of_protocol(code, link, known, udp, header, wanted, to),
         Some(_) => Ok(to.no),
-        None => put_ip_any(
-            code,
-            link,
-            kind,
-            tcp,
-            udp,
-            whole,
-            direction,
-            ports,
-            source,
-            destination,
-            to,
-        ),
+        None => {
+            let behind = known.and_one_of(tcp, udp);
+            let yes = put_ports_behind(code, link, behind, header, wanted, to)?;
+            put_fork(code, known, tcp, udp, Targets { yes, no: to.no })
+        }
     }
 }
 
-// The same behind an IPv6 header.
-fn put_ip6_transport<A: Allocator>(
+// The same behind a header of a kind. A frame of another kind goes on at `other`.
+fn put_ports_of_kind<A: Allocator>(
     code: &mut Code<A>,
     link: Link,
-    kind: Fact,
-    protocol: Option<Protocol>,
-    direction: Direction,
-    ports: Ports,
-    source: Place,
-    destination: Place,
+    known: Knowledge,
+    kind: Elementary,
+    header: Transport,
+    wanted: PortTest,
     to: Targets,
-) -> Result<usize, AllocError>
-    requires { length code.old + 36 < 2 ^ 31 }
-    ensures code { IfOk result
-        (λ entry. emitted link (knowing (kind ∷ []) trivial) (transport protocol (has_ip6_proto link 6) (has_ip6_proto link 17) (sides direction (port_tests ports source) (port_tests ports destination))) to.yes to.no code.old ≡ entered code.new entry) }
-    ensures room { OnOk result (length code.new ≤ length code.old + 36) }
-{
-    let (tcp, udp) = (has_ip6_proto(link, 6), has_ip6_proto(link, 17));
-    match protocol {
-        Some(Protocol::Tcp) => put_ip6_one(
-            code,
-            link,
-            kind,
-            tcp,
-            direction,
-            ports,
-            source,
-            destination,
-            to,
-        ),
-        Some(Protocol::Udp) => put_ip6_one(
-            code,
-            link,
-            kind,
-            udp,
-            direction,
-            ports,
-            source,
-            destination,
-            to,
-        ),
-        Some(_) => Ok(to.no),
-        None => put_ip6_any(
-            code,
-            link,
-            kind,
-            tcp,
-            udp,
-            direction,
-            ports,
-            source,
-            destination,
-            to,
-        ),
-    }
-}
-
-// Where the ports stand behind an IPv4 header, whose length varies: so far behind the place that the header's length leads to.
-fn port_past(link: Link, offset: u32) -> Place
-    requires { offset ≤ 2 }
-    ensures { result ≡ Past (network link) (network link + offset) }
-{
-    let start = network(link);
-    Place::Past(start, start + offset)
-}
-
-fn port_at(link: Link, offset: u32) -> Place
-    requires { offset ≤ 42 }
-    ensures { result ≡ At (network link + offset) }
-{
-    Place::At(network(link) + offset)
-}
-
-// Ports behind an IPv4 header.
-fn put_ip_ports<A: Allocator>(
-    code: &mut Code<A>,
-    link: Link,
-    protocol: Option<Protocol>,
-    direction: Direction,
-    ports: Ports,
-    to: Targets,
+    other: usize,
 ) -> Result<usize, AllocError>
     requires { length code.old + 48 < 2 ^ 31 }
     ensures code { IfOk result
-        (λ entry. emitted link nothing (ip_ports link protocol direction ports) to.yes to.no code.old ≡ entered code.new entry) }
+        (λ entry. behind_test known kind other (emitted link (and_fact (fact kind true) known) (transport_ports header wanted) to.yes to.no code.old) ≡ entered code.new entry) }
     ensures room { OnOk result (length code.new ≤ length code.old + 48) }
 {
-    let kind = kind_test(link, Kind::Ip);
-    let (source, destination) = (port_past(link, 0), port_past(link, 2));
-    let known = Fact {
-        test: kind,
-        truth: true,
-    };
-    let yes = put_ip_transport(
-        code,
-        link,
-        known,
-        protocol,
-        direction,
-        ports,
-        source,
-        destination,
-        to,
-    )?;
-    let always = Elementary::Known(true);
-    let either = Alternatives {
-        first: always,
-        second: always,
-    };
-    put_elementary(
-        code,
-        Known { facts: &[], either },
-        kind,
-        Targets { yes, no: to.no },
-    )
+    let yes = put_transport_ports(code, link, known.and_yes(kind), header, wanted, to)?;
+    put_elementary(code, known, kind, Targets { yes, no: other })
 }
 
-// Ports behind an IPv6 header.
-fn put_ip6_ports<A: Allocator>(
-    code: &mut Code<A>,
-    link: Link,
-    protocol: Option<Protocol>,
-    direction: Direction,
-    ports: Ports,
-    to: Targets,
-) -> Result<usize, AllocError>
-    requires { length code.old + 42 < 2 ^ 31 }
-    ensures code { IfOk result
-        (λ entry. emitted link nothing (ip6_ports link protocol direction ports) to.yes to.no code.old ≡ entered code.new entry) }
-    ensures room { OnOk result (length code.new ≤ length code.old + 42) }
+// An IPv4 header has no fixed length: the ports stand behind the place that it leads to.
+fn ip_transport(link: Link) -> Transport
+    ensures { result ≡ ip_transport link }
 {
-    let kind = kind_test(link, Kind::Ip6);
-    let (source, destination) = (port_at(link, 40), port_at(link, 42));
-    let known = Fact {
-        test: kind,
-        truth: true,
-    };
-    let yes = put_ip6_transport(
-        code,
-        link,
-        known,
-        protocol,
-        direction,
-        ports,
-        source,
-        destination,
-        to,
-    )?;
-    let always = Elementary::Known(true);
-    let either = Alternatives {
-        first: always,
-        second: always,
-    };
-    put_elementary(
-        code,
-        Known { facts: &[], either },
-        kind,
-        Targets { yes, no: to.no },
-    )
+    let start = network(link);
+    Transport {
+        tcp: has_ip_proto(link, 6),
+        udp: has_ip_proto(link, 17),
+        whole: Some(first_fragment(link)),
+        source: Place::Past(start, start),
+        destination: Place::Past(start, start + 2),
+    }
+}
+
+fn ip6_transport(link: Link) -> Transport
+    ensures { result ≡ ip6_transport link }
+{
+    let start = network(link);
+    Transport {
+        tcp: has_ip6_proto(link, 6),
+        udp: has_ip6_proto(link, 17),
+        whole: None,
+        source: Place::At(start + 40),
+        destination: Place::At(start + 42),
+    }
 }
 
 /// `port` and `portrange`.
 pub fn put_ports<A: Allocator>(
     code: &mut Code<A>,
     link: Link,
-    protocol: Option<Protocol>,
-    direction: Direction,
-    ports: Ports,
+    wanted: PortTest,
     to: Targets,
 ) -> Result<usize, AllocError>
-    requires { length code.old + 90 < 2 ^ 31 }
+    requires { length code.old + 96 < 2 ^ 31 }
     ensures code { IfOk result
-        (λ entry. emitted link nothing (port_formula link protocol direction ports) to.yes to.no code.old ≡ entered code.new entry) }
-    ensures room { OnOk result (length code.new ≤ length code.old + 90) }
+        (λ entry. emitted link nothing (port_formula link wanted) to.yes to.no code.old ≡ entered code.new entry) }
+    ensures room { OnOk result (length code.new ≤ length code.old + 96) }
 {
-    let no = put_ip6_ports(code, link, protocol, direction, ports, to)?;
-    put_ip_ports(
-        code,
-        link,
-        protocol,
-        direction,
-        ports,
-        Targets { yes: to.yes, no },
-    )
+    let (none, ip) = (Knowledge::nothing(), kind_test(link, Kind::Ip));
+    let (not_ip, ip6) = (none.and_no(ip), kind_test(link, Kind::Ip6));
+    let header = ip6_transport(link);
+    let other = put_ports_of_kind(code, link, not_ip, ip6, header, wanted, to, to.no)?;
+    put_ports_of_kind(code, link, none, ip, ip_transport(link), wanted, to, other)
 }

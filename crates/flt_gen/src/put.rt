@@ -1,12 +1,11 @@
 //! The code of elementary tests, and of several that are joined.
 
 ghost use Rattle.std.specs.Prelude.{◌≡◌, ◌+◌, ◌*◌, ◌^◌, ◌<◌, ◌≤◌, [], ◌∷◌, length, OnOk, IfOk};
-ghost use Rattle.flt_gen.specs.Follow.{knowing, trivial};
 ghost use Rattle.flt_gen.specs.Code.{indirect_code, field_before, mask_before, comparison_before, test_before, elementary_before, all_before, sides_before, fork_before, entered};
 
 use crate::code::{Code, Targets};
-use crate::elementary::{Alternatives, Elementary, Fact, FieldTest, Place};
-use crate::follow::{Known, load_code};
+use crate::elementary::{Elementary, FieldTest, Place};
+use crate::follow::{Knowledge, load_code};
 use flt_bpf::operation::{Operand, Test, Width};
 use flt_lang::Direction;
 use flt_words::{Comparison, Join, Side};
@@ -85,12 +84,12 @@ fn put_test<A: Allocator>(
 /// One test. What the link type alone decides takes no code. The answer is where the test begins.
 pub fn put_elementary<A: Allocator>(
     code: &mut Code<A>,
-    known: Known<'_>,
+    known: Knowledge,
     test: Elementary,
     to: Targets,
 ) -> Result<usize, AllocError>
     requires { length code.old < 2 ^ 31 }
-    ensures code { IfOk result (λ entry. elementary_before (knowing known.entry.facts.now known.entry.either) test to.yes to.no code.old ≡ entered code.new entry) }
+    ensures code { IfOk result (λ entry. elementary_before known test to.yes to.no code.old ≡ entered code.new entry) }
     ensures room { OnOk result (length code.new ≤ length code.old + 6) }
 {
     match test {
@@ -98,8 +97,8 @@ pub fn put_elementary<A: Allocator>(
         Elementary::Known(false) => Ok(to.no),
         Elementary::Field(field) => {
             let to = Targets {
-                yes: code.followed(known, Fact::yes(test), to.yes),
-                no: code.followed(known, Fact::no(test), to.no),
+                yes: code.target(known, field, true, to.yes),
+                no: code.target(known, field, false, to.no),
             };
             put_test(code, field, to)?;
             Ok(code.top())
@@ -110,12 +109,12 @@ pub fn put_elementary<A: Allocator>(
 /// All of some tests. There are few of them.
 pub fn put_all<A: Allocator>(
     code: &mut Code<A>,
-    known: Known<'_>,
+    known: Knowledge,
     tests: &[Elementary],
     to: Targets,
 ) -> Result<usize, AllocError>
     requires { length code.old + 6 * length tests.now < 2 ^ 31 }
-    ensures code { IfOk result (λ entry. all_before (knowing known.entry.facts.now known.entry.either) tests.now to.yes to.no code.old ≡ entered code.new entry) }
+    ensures code { IfOk result (λ entry. all_before known tests.now to.yes to.no code.old ≡ entered code.new entry) }
     ensures room { OnOk result (length code.new ≤ length code.old + 6 * length tests.now) }
 {
     match tests {
@@ -130,7 +129,7 @@ pub fn put_all<A: Allocator>(
 /// The tests of the source and of the destination, as a direction asks for them.
 pub fn put_sides<A: Allocator>(
     code: &mut Code<A>,
-    known: Known<'_>,
+    known: Knowledge,
     direction: Direction,
     source: &[Elementary],
     destination: &[Elementary],
@@ -138,7 +137,7 @@ pub fn put_sides<A: Allocator>(
 ) -> Result<usize, AllocError>
     requires { length code.old + 6 * (length source.now + length destination.now) < 2 ^ 31 }
     ensures code { IfOk result
-        (λ entry. sides_before (knowing known.entry.facts.now known.entry.either) direction source.now destination.now to.yes to.no code.old ≡ entered code.new entry) }
+        (λ entry. sides_before known direction source.now destination.now to.yes to.no code.old ≡ entered code.new entry) }
     ensures room { OnOk result
         (length code.new ≤ length code.old + 6 * (length source.now + length destination.now)) }
 {
@@ -156,25 +155,19 @@ pub fn put_sides<A: Allocator>(
     }
 }
 
-/// One of two tests, where one fact is known.
+/// One of two tests.
 pub fn put_fork<A: Allocator>(
     code: &mut Code<A>,
-    kind: Fact,
+    known: Knowledge,
     first: Elementary,
     second: Elementary,
     to: Targets,
 ) -> Result<usize, AllocError>
     requires { length code.old + 12 < 2 ^ 31 }
     ensures code { IfOk result
-        (λ entry. fork_before (knowing (kind ∷ []) trivial) first second to.yes to.no code.old ≡ entered code.new entry) }
+        (λ entry. fork_before known first second to.yes to.no code.old ≡ entered code.new entry) }
     ensures room { OnOk result (length code.new ≤ length code.old + 12) }
 {
-    let either = Alternatives::trivial();
-    let facts = &[Fact::no(first), kind];
-    let no = put_elementary(code, Known { facts, either }, second, to)?;
-    let known = Known {
-        facts: &[kind],
-        either,
-    };
+    let no = put_elementary(code, known.and_no(first), second, to)?;
     put_elementary(code, known, first, Targets { yes: to.yes, no })
 }

@@ -7,7 +7,7 @@ ghost use Rattle.flt_gen.specs.Primitives.{host_formula, net_value_formula, qual
 
 use crate::address::{put_ip6, put_net};
 use crate::code::{Code, Targets};
-use crate::elementary::Ports;
+use crate::elementary::{NetTest, PortTest, Ports};
 use crate::link::Link;
 use crate::number::put_operands;
 use crate::port::put_ports;
@@ -32,7 +32,15 @@ fn put_host<A: Allocator>(
     ensures room { OnOk result (length code.new ≤ length code.old + 54) }
 {
     match value {
-        Value::Dotted(host, _) => put_net(code, link, protocol, direction, None, host.address, to),
+        Value::Dotted(host, _) => {
+            let (mask, address) = (None, host.address);
+            let net = NetTest {
+                direction,
+                mask,
+                address,
+            };
+            put_net(code, link, protocol, net, to)
+        },
         Value::Ip6(address, _) => put_ip6(code, link, direction, None, address, to),
         Value::Mac(address) => put_ether_host(code, link, direction, address, to),
         _ => Ok(to.no),
@@ -56,8 +64,13 @@ fn put_net_value<A: Allocator>(
         Value::Ip6(address, prefix) => put_ip6(code, link, direction, prefix, address, to),
         _ => match value.ip4_net() {
             Some(net) => {
-                let mask = Some(net.mask);
-                put_net(code, link, protocol, direction, mask, net.address, to)
+                let (mask, address) = (Some(net.mask), net.address);
+                let net = NetTest {
+                    direction,
+                    mask,
+                    address,
+                };
+                put_net(code, link, protocol, net, to)
             }
             None => Ok(to.no),
         },
@@ -72,21 +85,32 @@ pub fn put_qualified<A: Allocator>(
     value: Value,
     to: Targets,
 ) -> Result<usize, AllocError>
-    requires { length code.old + 90 < 2 ^ 31 }
+    requires { length code.old + 96 < 2 ^ 31 }
     ensures code { IfOk result
         (λ entry. emitted link nothing (qualified_formula link quals value) to.yes to.no code.old ≡ entered code.new entry) }
-    ensures room { OnOk result (length code.new ≤ length code.old + 90) }
+    ensures room { OnOk result (length code.new ≤ length code.old + 96) }
 {
     let (protocol, direction) = (quals.protocol, quals.direction);
     match (quals.value_type, value) {
         (ValueType::Host, value) => put_host(code, link, protocol, direction, value, to),
         (ValueType::Net, value) => put_net_value(code, link, protocol, direction, value, to),
         (ValueType::Port, Value::Number(port, _)) => {
-            put_ports(code, link, protocol, direction, Ports::One(port), to)
+            let ports = Ports::One(port);
+            let wanted = PortTest {
+                protocol,
+                direction,
+                ports,
+            };
+            put_ports(code, link, wanted, to)
         }
         (ValueType::PortRange, Value::Range { first, last }) => {
             let ports = Ports::Between(first.min(last), first.max(last));
-            put_ports(code, link, protocol, direction, ports, to)
+            let wanted = PortTest {
+                protocol,
+                direction,
+                ports,
+            };
+            put_ports(code, link, wanted, to)
         }
         (ValueType::Proto, Value::Number(number, _)) => put_proto(code, link, protocol, number, to),
         _ => Ok(to.no),

@@ -1,5 +1,5 @@
 -- The instructions before a place, turned round, are the code from there on.
-use Rattle.std.proofs.Common.{◌≡◌, ◌∷◌, ◌-◌, ◌≤◌, ◌∙◌, ap, sym, drop, length, take, arith}
+use Rattle.std.proofs.Common.{◌≡◌, ◌-◌, ◌∙◌, ap, sym, drop, length, take}
 use Rattle.std.specs.Prelude.{reverse, min}
 use Rattle.std.proofs.lemmas.List.{length-reverse}
 use Rattle.flt_gen.specs.Follow.{onward}
@@ -9,7 +9,7 @@ use Rattle.flt_gen.proofs.code.Code.one_on.Goals as goal
 pub returns : goal.returns
 returns g c =
     let items = c.self.inside.backwards.items in
-    let facts = c.args.here.own ∷ c.args.here.more ∷ c.args.here.facts.now in
+    let facts = c.args.facts.now in
     let place = c.args.place in
     let within : c.min-within.result ≡ min place (length items) = c.min-within.ensures ∙ ap (min place) (c.top.ensures ∙ sym (ap length c.self.view_is) ∙ length-reverse items) in
     c.onward.ensures

@@ -1,0 +1,77 @@
+-- A frame is of one kind at most.
+use Rattle.std.proofs.Common.{◌≡◌, ℕ, List, Bool, true, false, Option, Some, None, refl, ap, ◌∙◌, arith}
+use Rattle.std.specs.Prelude.{◌==◌}
+use Rattle.std.proofs.lemmas.Bool.Decides.{nat_tests}
+use Rattle.flt_bpf.specs.declared.operation.Width.TheVariants.{HalfWord, Byte}
+use Rattle.flt_bpf.specs.Machine.{field}
+use Rattle.flt_gen.specs.declared.link.Link.{Link}
+use Rattle.flt_gen.specs.declared.link.Link.TheVariants.{Ether, Raw, Cooked}
+use Rattle.flt_gen.specs.declared.elementary.Kind.TheVariants.{Ip, Ip6, Arp, Rarp}
+use Rattle.flt_gen.specs.declared.elementary.Elementary.{Elementary}
+use Rattle.flt_gen.specs.Elementary.{Yes, No, reading_of, with, masked, elementary_reads, kind_test}
+use Rattle.flt_gen.specs.Formula.{Formula, Single, Compare, Both, Either, Except, Guard, Fork, Choose, both, either, reads}
+
+-- a field that is one number is no other
+other_value : (o : Option ℕ) (mask : Option ℕ) (a b : ℕ) → (a == b) ≡ false → reading_of (with o (λ v. Some (masked mask v == a))) ≡ Yes → reading_of (with o (λ v. Some (masked mask v == b))) ≡ No
+other_value None mask a b apart e = cc
+other_value (Some x) mask a b apart e =
+    let yes : (masked mask x == a) ≡ true = is_yes (masked mask x == a) e in
+    let same : masked mask x ≡ a = grind (arith, nat_tests) in
+    ap (λ y. reading_of (Some (y == b))) same ∙ ap (λ c. reading_of (Some c)) apart
+  where
+    is_yes : (c : Bool) → reading_of (Some c) ≡ Yes → c ≡ true
+    is_yes true e = refl
+    is_yes false e = cc
+
+module _ (p : List ℕ) where
+  -- where the first test is yes the second is no
+  abbrev pub Excludes : Elementary → Elementary → Type 0
+  Excludes t u = elementary_reads t p ≡ Yes → elementary_reads u p ≡ No
+
+  -- where the test is yes the formula is no, by its kinds
+  abbrev pub Excluded : Elementary → Formula → Type 0
+  Excluded t (Guard u a) = Excludes t u
+  Excluded t (Choose u a b) = Excludes t u × Excluded t b
+  Excluded t _ = ⊥
+
+  -- a choice is made only between what excludes one another
+  abbrev pub Apt : Formula → Type 0
+  Apt (Single t) = Unit {0}
+  Apt (Compare c l r) = Unit {0}
+  Apt (Both a b) = Apt a × Apt b
+  Apt (Either a b) = Apt a × Apt b
+  Apt (Except a) = Apt a
+  Apt (Guard t a) = Apt a
+  Apt (Fork t u a) = Apt a
+  Apt (Choose t a b) = Excluded t b × Apt a × Apt b
+
+  pub excluded_no : (n : ℕ) (link : Link) (t : Elementary) (f : Formula) → Excluded t f → elementary_reads t p ≡ Yes → reads link f p n ≡ No
+  excluded_no n link t (Guard u a) h e = ap (λ r. both r (reads link a p n)) (h e)
+  excluded_no n link t (Choose u a b) h e =
+      ap (λ r. either (both r (reads link a p n)) (reads link b p n)) (h.0 e) ∙ excluded_no n link t b h.1 e
+  excluded_no n link t (Single u) h e = absurd h
+  excluded_no n link t (Compare c l r) h e = absurd h
+  excluded_no n link t (Both a b) h e = absurd h
+  excluded_no n link t (Either a b) h e = absurd h
+  excluded_no n link t (Except a) h e = absurd h
+  excluded_no n link t (Fork u v a) h e = absurd h
+
+  pub ip_no_ip6 : (link : Link) → Excludes (kind_test link Ip) (kind_test link Ip6)
+  ip_no_ip6 Ether = other_value (field p 12 HalfWord) None 0x0800 0x86dd refl
+  ip_no_ip6 Raw = other_value (field p 0 Byte) (Some 0xf0) 0x40 0x60 refl
+  ip_no_ip6 Cooked = other_value (field p 14 HalfWord) None 0x0800 0x86dd refl
+
+  pub ip_no_arp : (link : Link) → Excludes (kind_test link Ip) (kind_test link Arp)
+  ip_no_arp Ether = other_value (field p 12 HalfWord) None 0x0800 0x0806 refl
+  ip_no_arp Raw = λ e. refl
+  ip_no_arp Cooked = other_value (field p 14 HalfWord) None 0x0800 0x0806 refl
+
+  pub ip_no_rarp : (link : Link) → Excludes (kind_test link Ip) (kind_test link Rarp)
+  ip_no_rarp Ether = other_value (field p 12 HalfWord) None 0x0800 0x8035 refl
+  ip_no_rarp Raw = λ e. refl
+  ip_no_rarp Cooked = other_value (field p 14 HalfWord) None 0x0800 0x8035 refl
+
+  pub arp_no_rarp : (link : Link) → Excludes (kind_test link Arp) (kind_test link Rarp)
+  arp_no_rarp Ether = other_value (field p 12 HalfWord) None 0x0806 0x8035 refl
+  arp_no_rarp Raw = λ e. refl
+  arp_no_rarp Cooked = other_value (field p 14 HalfWord) None 0x0806 0x8035 refl
