@@ -1,0 +1,222 @@
+//! Runs of a command line over memory.
+
+use crate::case::Case;
+use cap_line::Line;
+use cap_octet::{TrialInput, TrialOutput};
+use cap_tools::{Command, Compile, Edit, Print, run};
+use cap_trial::Trial;
+use std::alloc::{AllocError, Global};
+use std::test::Fail;
+
+/// More than any call moves.
+pub const WHOLE: usize = 4_000_000;
+
+/// How many bytes an output takes besides those that a case states.
+const SPARE: usize = 1_000;
+
+/// How many bytes a listing takes at most that no case states.
+const LISTING: usize = 300_000;
+
+/// How many bytes of a listing an expression comes to at most, for each of its own.
+const EXPANSION: usize = 200;
+
+/// How many bytes of messages are taken.
+const MESSAGES: usize = 1_000;
+
+/// An allocator that counts what is asked of it, and fails where it is told to.
+type Memory = Trial<Global>;
+
+/// What devices over memory do.
+#[derive(Clone, Copy)]
+pub struct Devices {
+    /// How many bytes a call moves at most.
+    pub piece: usize,
+    /// The number of each input's read that fails, from 1 on, if there is one.
+    pub failed_read: Option<u64>,
+    /// The number of the allocation that fails, from 1 on; none at 0.
+    pub failed_allocation: u64,
+    /// How many bytes the output takes.
+    pub output: usize,
+    /// How many bytes of messages are taken.
+    pub messages: usize,
+}
+
+/// How many bytes the listing of the case's expression takes.
+fn listing_room(case: &Case<'_>) -> usize {
+    let mut size = SPARE;
+    for word in case.words.iter() {
+        size = size.saturating_add(word.len().saturating_mul(EXPANSION));
+    }
+    size.min(LISTING)
+}
+
+/// Devices that move so many bytes a call, with room for so much output, and don't fail.
+pub fn roomy(piece: usize, output: usize) -> Devices {
+    Devices {
+        piece,
+        failed_read: None,
+        failed_allocation: 0,
+        output,
+        messages: MESSAGES,
+    }
+}
+
+/// Devices that move so many bytes a call, take all that the case states, and don't fail.
+pub fn sound(case: &Case<'_>, piece: usize) -> Devices {
+    roomy(piece, case.written.len().saturating_add(SPARE))
+}
+
+/// Devices that take the listing of the case's expression.
+pub fn for_listing(case: &Case<'_>) -> Devices {
+    roomy(WHOLE, listing_room(case))
+}
+
+/// What a run leaves.
+#[derive(Drop)]
+pub struct Outcome {
+    pub status: u8,
+    pub written: Vec<u8>,
+    pub messages: Vec<u8>,
+    /// How many allocations were asked for.
+    pub allocations: u64,
+}
+
+impl Outcome {
+    /// Whether the run did what the case states.
+    pub fn is_of(&self, case: &Case<'_>) -> bool {
+        self.is(&case.written, &case.messages, case.status)
+    }
+
+    /// Whether the run wrote these bytes and reported this, with this status.
+    pub fn is(&self, written: &[u8], messages: &[u8], status: u8) -> bool {
+        self.status == status
+            && self.written.as_slice() == written
+            && self.messages.as_slice() == messages
+    }
+}
+
+/// The command of the line over other memory, with the bytes of its listing.
+fn command_over<'m>(
+    memory: &'m Memory,
+    line: &Line,
+    case: &Case<'_>,
+) -> Result<Command<&'m Memory>, AllocError> {
+    match &line.command {
+        Command::Edit(edit) => {
+            let ranges = Vec::from_slice(memory, &edit.ranges)?;
+            let (keep, format) = (edit.keep, edit.format);
+            Ok(Command::Edit(Edit {
+                ranges,
+                keep,
+                format,
+            }))
+        }
+        Command::Print(print) => {
+            let code = listing_over(memory, line, case)?;
+            let expr = String::from_str(memory, &print.expr)?;
+            let write = print.write;
+            Ok(Command::Print(Print { expr, code, write }))
+        }
+        Command::Compile(compile) => {
+            let expr = String::from_str(memory, &compile.expr)?;
+            let link = compile.link;
+            Ok(Command::Compile(Compile { expr, link }))
+        }
+    }
+}
+
+/// The bytes of the listing that the line names.
+fn listing_over<'m>(
+    memory: &'m Memory,
+    line: &Line,
+    case: &Case<'_>,
+) -> Result<Option<Vec<u8, &'m Memory>>, AllocError> {
+    match &line.code {
+        Some(name) => {
+            let bytes = case.file(name, &case.listing);
+            Ok(Some(Vec::from_slice(memory, bytes)?))
+        }
+        None => Ok(None),
+    }
+}
+
+/// The names of the line's inputs and then of its output.
+fn names_over<'m>(
+    memory: &'m Memory,
+    line: &Line,
+) -> Result<Vec<String<&'m Memory>, &'m Memory>, AllocError> {
+    let mut names = Vec::new(memory);
+    for name in line.inputs.iter() {
+        names.push(String::from_str(memory, name)?)?;
+    }
+    names.push(String::from_str(memory, output_name(line))?)?;
+    Ok(names)
+}
+
+/// The name of the line's output.
+pub fn output_name(line: &Line) -> &str {
+    match &line.output {
+        Some(name) => name,
+        None => "-",
+    }
+}
+
+/// The line's inputs.
+fn inputs_over<'m, 'c>(
+    memory: &'m Memory,
+    line: &Line,
+    case: &'c Case<'_>,
+    devices: Devices,
+) -> Result<Vec<TrialInput<'c>, &'m Memory>, AllocError> {
+    let mut inputs = Vec::new(memory);
+    for name in line.inputs.iter() {
+        let bytes = case.file(name, &case.input);
+        let piece = devices.piece.max(1);
+        inputs.push(TrialInput::new(bytes, piece, devices.failed_read))?;
+    }
+    Ok(inputs)
+}
+
+/// Runs the line's command, and returns its status and how many bytes it wrote and reported.
+fn run_in(
+    memory: &Memory,
+    line: &Line,
+    case: &Case<'_>,
+    devices: Devices,
+    (output, messages): (&mut [u8], &mut [u8]),
+) -> Result<(u8, usize, usize), Fail> {
+    let command = command_over(memory, line, case)?;
+    let names = names_over(memory, line)?;
+    let inputs = inputs_over(memory, line, case, devices)?;
+    if !command.is_proper(inputs.len()) || names.len() != inputs.len() + 1 {
+        return Err(Fail::from("the command may not be run"));
+    }
+    let piece = devices.piece.max(1);
+    let out = TrialOutput::new(output, piece);
+    let err = TrialOutput::new(messages, piece);
+    memory.refuse(devices.failed_allocation);
+    let (status, out, err) = run(memory, command, names, inputs, out, err);
+    Ok((status, out.written().len(), err.written().len()))
+}
+
+/// Runs the line's command over devices, with the case's inputs and listing.
+pub fn run_line(
+    alloc: Global,
+    line: &Line,
+    case: &Case<'_>,
+    devices: Devices,
+) -> Result<Outcome, Fail> {
+    let mut written = vec![in alloc; 0u8; devices.output]?;
+    let mut messages = vec![in alloc; 0u8; devices.messages]?;
+    let memory = Trial::new(alloc);
+    let room = (written.as_mut_slice(), messages.as_mut_slice());
+    let (status, size, reported) = run_in(&memory, line, case, devices, room)?;
+    written.truncate(size);
+    messages.truncate(reported);
+    Ok(Outcome {
+        status,
+        written,
+        messages,
+        allocations: memory.growths(),
+    })
+}
