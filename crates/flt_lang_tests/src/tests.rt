@@ -29,6 +29,8 @@ fn counts(rt: HostRuntime) -> Result<(), Fail> {
         ("tcp[13] & 2 != 0", 4, 5, 1, 56),
         ("tcp[tcpflags] & (tcp-syn|tcp-ack) != 0", 4, 7, 2, 68),
         ("len % 60 = 0", 1, 4, 1, 32),
+        ("len ^ 1 & 3 = 1", 1, 6, 1, 44),
+        ("len / icmptype = 0", 1, 4, 1, 32),
         ("1 + 2 * 3 = 0", 1, 6, 2, 44),
         ("-len = 1", 1, 3, 1, 26),
         ("port 1", 11, 0, 0, 68),

@@ -198,7 +198,8 @@ impl<A: Allocator> Reader<A> {
         first: TokenKind,
         rest: &[TokenKind],
     ) -> Result<(usize, Option<Operand>), ReadFault>
-        ensures ok { IfOk result (λ r. place_at first rest.now self.old.frames operand self.old.nodes
+        ensures ok { IfOk result (λ r.
+            place_at first rest.now self.old.frames operand self.old.nodes
             ≡ Some (r.0, (self.new.frames, r.1, self.new.nodes))) }
         ensures within { IfOk result (λ r. r.0 ≤ length rest.now) }
         ensures none { result ≡ Err ReadFault.NotAnExpression
@@ -228,7 +229,8 @@ impl<A: Allocator> Reader<A> {
         first: TokenKind,
         rest: &[TokenKind],
     ) -> Result<(usize, Option<Operand>), ReadFault>
-        ensures ok { IfOk result (λ r. go_on (first ∷ rest.now) self.old.frames operand self.old.nodes
+        ensures ok { IfOk result (λ r.
+            go_on (first ∷ rest.now) self.old.frames operand self.old.nodes
             ≡ Some (r.0, (self.new.frames, r.1, self.new.nodes))) }
         ensures within { IfOk result (λ r. r.0 ≤ length rest.now) }
         ensures none { result ≡ Err ReadFault.NotAnExpression

@@ -111,7 +111,8 @@ fn read_prefix(tokens: &[TokenKind]) -> (Option<u32>, usize)
 
 /// The value that begins with a token, with the mask behind it, and how many more tokens it takes.
 fn value_at(first: TokenKind, rest: &[TokenKind]) -> Option<(Value, usize)>
-    ensures some { IfSome result (λ r. value_of (first ∷ rest.now) ≡ Some (r.0, drop r.1 rest.now)) }
+    ensures some { IfSome result (λ r.
+        value_of (first ∷ rest.now) ≡ Some (r.0, drop r.1 rest.now)) }
     ensures within { IfSome result (λ r. r.1 ≤ length rest.now) }
     ensures none { IfNone result (value_of (first ∷ rest.now) ≡ None) }
 {

@@ -27,7 +27,10 @@ impl<A: Allocator> Model for Reader<A> {
 
     ghost Value = { Reading };
 
-    ghost view = { λ r. record { frames = reverse r.frames.items; nodes = reverse r.nodes.items } };
+    ghost view = { λ r. record {
+      frames = reverse r.frames.items;
+      nodes = reverse r.nodes.items;
+    } };
 }
 
 impl<A: Allocator> Reader<A> {
@@ -73,7 +76,8 @@ impl<A: Allocator> Reader<A> {
 
     /// Takes the latest frame off.
     pub fn pop(&mut self) -> Option<Frame>
-        ensures frames { MatchOption result (self.old.frames ≡ []) (λ f. self.old.frames ≡ f ∷ self.new.frames) }
+        ensures frames { MatchOption result (self.old.frames ≡ [])
+            (λ f. self.old.frames ≡ f ∷ self.new.frames) }
         ensures nodes { self.new.nodes ≡ self.old.nodes }
     {
         self.frames.pop()

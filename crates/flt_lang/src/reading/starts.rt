@@ -126,18 +126,19 @@ impl<A: Allocator> Reader<A> {
         Ok((more, Some(Operand::Truth)))
     }
 
-    /// Reads an accessor up to its bracket, a cast, or another primitive that begins with a protocol.
+    /// Reads an accessor up to its bracket, a cast, or another primitive that has a protocol first.
     fn begin_protocol(
         &mut self,
         protocol: Protocol,
         tokens: &[TokenKind],
     ) -> Result<(usize, Option<Operand>), ReadFault>
-        ensures ok { IfOk result (λ r.
-            protocol_begins protocol (opening_of tokens.now) tokens.now self.old.frames self.old.nodes
+        ensures ok { IfOk result (λ r. protocol_begins protocol (opening_of tokens.now) tokens.now
+            self.old.frames self.old.nodes
             ≡ Some (r.0, (self.new.frames, r.1, self.new.nodes))) }
         ensures within { IfOk result (λ r. r.0 < length tokens.now) }
         ensures none { result ≡ Err ReadFault.NotAnExpression
-            → protocol_begins protocol (opening_of tokens.now) tokens.now self.old.frames self.old.nodes ≡ None }
+            → protocol_begins protocol (opening_of tokens.now) tokens.now
+            self.old.frames self.old.nodes ≡ None }
     {
         match read_opening(tokens) {
             Opening::Bracket if is_accessor(protocol) => {
@@ -154,7 +155,8 @@ impl<A: Allocator> Reader<A> {
 
     /// Reads a number, or a network's number with its mask.
     fn begin_number(&mut self, tokens: &[TokenKind]) -> Result<(usize, Option<Operand>), ReadFault>
-        ensures ok { IfOk result (λ r. with_frames self.old.frames (number_of tokens.now self.old.nodes)
+        ensures ok { IfOk result (λ r.
+            with_frames self.old.frames (number_of tokens.now self.old.nodes)
             ≡ Some (r.0, (self.new.frames, r.1, self.new.nodes))) }
         ensures within { IfOk result (λ r. r.0 < length tokens.now) }
         ensures none { result ≡ Err ReadFault.NotAnExpression

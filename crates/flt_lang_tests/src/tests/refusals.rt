@@ -53,6 +53,9 @@ fn refuses(rt: HostRuntime) -> Result<(), Fail> {
         ("len / 0x0 = 1", ExprFault::DivisionByZero),
         ("1 / 0 / 2 = 1", ExprFault::DivisionByZero),
         ("len % 0 = 1", ExprFault::DivisionByZero),
+        ("len % (00) = 1", ExprFault::DivisionByZero),
+        ("80 % 8", ExprFault::NotAnExpression),
+        ("less tcp-fin", ExprFault::NotAnExpression),
         ("port tcp-syn", ExprFault::NotAnExpression),
         ("ip[0 : icmpcode] = 1", ExprFault::NotAnExpression),
     ];
@@ -73,6 +76,8 @@ fn accepts(rt: HostRuntime) -> Result<(), Fail> {
         "net 0/0",
         "ether proto 2048 or 65535",
         "len / -0 = 1 or len / (1 - 1) = 1",
+        "len / icmptype = 0 or len % icmptype = 0",
+        "not len % (len - 60) = 0",
         "ether broadcast or ip6 multicast or less 0x40",
         "tcp src and dst port 80 or udp dst or src port 53",
         "ip[0] = 1 or ip[0:2] = 1 or ip[0:4] = 1",

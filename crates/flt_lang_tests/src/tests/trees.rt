@@ -20,12 +20,8 @@ fn reads_as(rt: HostRuntime) -> Result<(), Fail> {
         ("ip or arp and tcp", "(ip or arp) and tcp"),
         ("not ip and tcp", "(not ip) and tcp"),
         ("! ip && tcp || udp", "((not ip) and tcp) or udp"),
-        ("len - 1 - 2 = 3", "((len - 1) - 2) == 3"),
-        ("len | 1 & 2 = 3", "(len | 1) & 2 = 3"),
-        ("len ^ 1 & 3 = 1", "(len ^ 1) & 3 = 1"),
-        ("len | 2 % 3 * 4 = 5", "len | ((2 % 3) * 4) = 5"),
-        ("len << 1 + 2 * 3 = 4", "len << (1 + (2 * 3)) = 4"),
-        ("len & 1 << 2 = 3", "len & (1 << 2) = 3"),
+        ("len ^ 1 & 3 == 1", "(len ^ 1) & 3 = 1"),
+        ("len << 1 + 2 % 3 = 4", "len << (1 + (2 % 3)) = 4"),
         ("-1 - -len = 0", "(-1) - (-len) = 0"),
         ("ip[9] = 6", "ip[9:1] = 6"),
         ("((ip))", "ip"),
@@ -34,6 +30,45 @@ fn reads_as(rt: HostRuntime) -> Result<(), Fail> {
         let left = compile(rt.alloc(), text)?;
         let right = compile(rt.alloc(), same)?;
         assert!(rt; left.expr.nodes() == right.expr.nodes(), "{text} is {same}");
+    }
+    Ok(())
+}
+
+/// The operators, each with its level: a lower one binds more tightly.
+const OPERATORS: [(u8, &str); 10] = [
+    (0, "*"),
+    (0, "/"),
+    (0, "%"),
+    (1, "+"),
+    (1, "-"),
+    (2, "<<"),
+    (2, ">>"),
+    (3, "&"),
+    (3, "|"),
+    (3, "^"),
+];
+
+/// Each operator beside each: the tighter one first, and of one level the left one.
+#[test]
+fn levels(rt: HostRuntime) -> Result<(), Fail> {
+    for (level, left) in OPERATORS {
+        for (other, right) in OPERATORS {
+            let text = format!(in rt.alloc(); "len {left} 2 {right} 3 = 4")?;
+            let (same, apart) = (
+                format!(in rt.alloc(); "(len {left} 2) {right} 3 = 4")?,
+                format!(in rt.alloc(); "len {left} (2 {right} 3) = 4")?,
+            );
+            let (same, apart) = if other < level {
+                (apart, same)
+            } else {
+                (same, apart)
+            };
+            let tree = compile(rt.alloc(), text.as_str())?;
+            let same = compile(rt.alloc(), same.as_str())?;
+            let apart = compile(rt.alloc(), apart.as_str())?;
+            assert!(rt; tree.expr.nodes() == same.expr.nodes(), "{text}");
+            assert!(rt; tree.expr.nodes() != apart.expr.nodes(), "{text}");
+        }
     }
     Ok(())
 }
