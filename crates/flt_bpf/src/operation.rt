@@ -37,11 +37,15 @@ pub enum Operator {
     Add,
     Subtract,
     Multiply,
+    /// Unsigned. By X = 0 it ends the run with 0.
     Divide,
     Or,
     And,
+    /// By 32 or more it gives 0.
     ShiftLeft,
+    /// By 32 or more it gives 0.
     ShiftRight,
+    /// Unsigned. By X = 0 it ends the run with 0.
     Remainder,
     ExclusiveOr,
 }
@@ -82,9 +86,9 @@ pub enum Operation {
     Compute(Operator, Operand),
     /// A = 0 - A.
     Negate,
-    /// Pass over k instructions.
+    /// Skip k instructions.
     Jump,
-    /// Pass over jt instructions where the test holds, else over jf.
+    /// Skip jt instructions if the test holds, else jf.
     JumpIf(Test, Operand),
     /// The answer is k.
     ReturnConstant,
@@ -96,7 +100,7 @@ pub enum Operation {
     CopyToAccumulator,
 }
 
-/// What a code stands for, or none where it stands for nothing.
+/// The operation that a code stands for, or `None` if it stands for nothing.
 // Where this is inlined, the compiler makes one jump of this match and of the one on its result.
 #[inline(always)]
 #[tactic(auto, unfolding(crate::specs::Instructions::operation_of))]
