@@ -20,7 +20,7 @@ pub enum CheckFault {
     JumpOut,
     /// C5: an instruction names a word of memory above 15.
     NoSuchWord,
-    /// C6: an instruction divides by the constant 0.
+    /// C6: an instruction divides, or takes a remainder, by the constant 0.
     DivisionByZero,
     /// C7: an instruction shifts by a constant above 31.
     ShiftTooFar,

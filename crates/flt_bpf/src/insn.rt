@@ -6,10 +6,10 @@
 pub struct Insn {
     /// What the instruction does.
     pub code: u16,
-    /// How many instructions a test that holds passes over.
+    /// Instructions to skip if the test holds.
     pub jt: u8,
-    /// How many instructions a test that does not hold passes over.
+    /// Instructions to skip if the test does not hold.
     pub jf: u8,
-    /// A number, a place in the packet, the number of a word, or how many instructions a jump passes over.
+    /// A number, a place in the packet, the number of a word, or the instructions that a jump skips.
     pub k: u32,
 }

@@ -1,7 +1,7 @@
 //! What the codes of instructions stand for.
 
-ghost use Rattle.std.specs.Prelude.{◌≡◌};
-ghost use Rattle.flt_bpf.specs.Instructions.{operation_of};
+ghost use Rattle.std.specs.Prelude.{◌≡◌, Some};
+ghost use Rattle.flt_bpf.specs.Instructions.{code_of, operation_of};
 
 /// A register of 32 bits.
 #[derive(Clone, Copy, PartialEq, Eq, Debug)]
@@ -37,11 +37,15 @@ pub enum Operator {
     Add,
     Subtract,
     Multiply,
+    /// Unsigned. By X = 0 it ends the run with 0.
     Divide,
     Or,
     And,
+    /// By 32 or more it gives 0.
     ShiftLeft,
+    /// By 32 or more it gives 0.
     ShiftRight,
+    /// Unsigned. By X = 0 it ends the run with 0.
     Remainder,
     ExclusiveOr,
 }
@@ -82,9 +86,9 @@ pub enum Operation {
     Compute(Operator, Operand),
     /// A = 0 - A.
     Negate,
-    /// Pass over k instructions.
+    /// Skip k instructions.
     Jump,
-    /// Pass over jt instructions where the test holds, else over jf.
+    /// Skip jt instructions if the test holds, else jf.
     JumpIf(Test, Operand),
     /// The answer is k.
     ReturnConstant,
@@ -96,7 +100,7 @@ pub enum Operation {
     CopyToAccumulator,
 }
 
-/// What a code stands for, or none where it stands for nothing.
+/// The operation that a code stands for, or `None` if it stands for nothing.
 // Where this is inlined, the compiler makes one jump of this match and of the one on its result.
 #[inline(always)]
 #[tactic(auto, unfolding(crate::specs::Instructions::operation_of))]
@@ -162,4 +166,72 @@ pub fn decode(code: u16) -> Option<Operation>
         135 => CopyToAccumulator,
         _ => return None,
     })
+}
+
+impl Operation {
+    /// The code that stands for the operation. `decode` gives the operation back.
+    #[tactic(auto, unfolding(crate::specs::Instructions::operation_of))]
+    pub fn code(self) -> u16
+        ensures code { result ≡ code_of self }
+        ensures back { operation_of result ≡ Some self }
+    {
+        use Operand::{Constant, IndexRegister};
+        use Operation::*;
+        use Operator::*;
+        use Register::{Accumulator, Index};
+        use Source::{Immediate, Length, Memory};
+        use Test::{AnyBit, AtLeast, Equal, Greater};
+        use Width::{Byte, HalfWord, Word};
+        match self {
+            LoadAbsolute(Word) => 32,
+            LoadAbsolute(HalfWord) => 40,
+            LoadAbsolute(Byte) => 48,
+            LoadIndirect(Word) => 64,
+            LoadIndirect(HalfWord) => 72,
+            LoadIndirect(Byte) => 80,
+            Load(Accumulator, Immediate) => 0,
+            Load(Accumulator, Memory) => 96,
+            Load(Accumulator, Length) => 128,
+            Load(Index, Immediate) => 1,
+            Load(Index, Memory) => 97,
+            Load(Index, Length) => 129,
+            LoadHeaderLength => 177,
+            Store(Accumulator) => 2,
+            Store(Index) => 3,
+            Compute(Add, Constant) => 4,
+            Compute(Subtract, Constant) => 20,
+            Compute(Multiply, Constant) => 36,
+            Compute(Divide, Constant) => 52,
+            Compute(Or, Constant) => 68,
+            Compute(And, Constant) => 84,
+            Compute(ShiftLeft, Constant) => 100,
+            Compute(ShiftRight, Constant) => 116,
+            Compute(Add, IndexRegister) => 12,
+            Compute(Subtract, IndexRegister) => 28,
+            Compute(Multiply, IndexRegister) => 44,
+            Compute(Divide, IndexRegister) => 60,
+            Compute(Or, IndexRegister) => 76,
+            Compute(And, IndexRegister) => 92,
+            Compute(ShiftLeft, IndexRegister) => 108,
+            Compute(ShiftRight, IndexRegister) => 124,
+            Compute(Remainder, Constant) => 148,
+            Compute(Remainder, IndexRegister) => 156,
+            Compute(ExclusiveOr, Constant) => 164,
+            Compute(ExclusiveOr, IndexRegister) => 172,
+            Negate => 132,
+            Jump => 5,
+            JumpIf(Equal, Constant) => 21,
+            JumpIf(Greater, Constant) => 37,
+            JumpIf(AtLeast, Constant) => 53,
+            JumpIf(AnyBit, Constant) => 69,
+            JumpIf(Equal, IndexRegister) => 29,
+            JumpIf(Greater, IndexRegister) => 45,
+            JumpIf(AtLeast, IndexRegister) => 61,
+            JumpIf(AnyBit, IndexRegister) => 77,
+            ReturnConstant => 6,
+            ReturnAccumulator => 22,
+            CopyToIndex => 7,
+            CopyToAccumulator => 135,
+        }
+    }
 }

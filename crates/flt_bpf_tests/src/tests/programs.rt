@@ -1,6 +1,7 @@
 //! What is refused as a program, and what runs answer.
 
 use super::{IPV4, insn, program_of};
+use flt_bpf::operation::decode;
 use flt_bpf::{CheckFault, Insn, check, read_listing, run};
 use std::process::Abort;
 use std::test::Fail;
@@ -230,6 +231,26 @@ fn tests_choose_the_way(rt: HostRuntime) -> Result<(), Fail> {
         0,
         (3, 2),
     )
+}
+
+#[test]
+fn tests_for_equality_follow_one_another(rt: HostRuntime) -> Result<(), Fail> {
+    let listing = b"7\n48 0 0 0\n21 3 0 4\n21 0 1 5\n6 0 0 1\n6 0 0 2\n21 0 0 4\n6 0 0 3\n";
+    answers(&rt, listing, &[4], 1, (3, 4))?;
+    answers(&rt, listing, &[5], 1, (1, 4))?;
+    answers(&rt, listing, &[6], 1, (2, 4))
+}
+
+#[test]
+fn codes_stand_for_their_operations(rt: HostRuntime) {
+    let mut count = 0;
+    for code in 0..=255u16 {
+        if let Some(operation) = decode(code) {
+            assert_eq!(rt; operation.code(), code);
+            count += 1;
+        }
+    }
+    assert_eq!(rt; count, 49);
 }
 
 #[test]
