@@ -64,7 +64,11 @@ fn put_net_behind<A: Allocator>(
 ) -> Result<usize, AllocError>
     requires { length code.old + 18 < 2 ^ 31 }
     ensures code { IfOk result
-        (λ entry. behind_test known (kind_test link kind) other (emitted link (and_fact (fact (kind_test link kind) true) known) (net_sides link kind net) to.yes to.no code.old) ≡ entered code.new entry) }
+        (λ entry. behind_test known (kind_test link kind) other
+        (emitted link (and_fact (fact (kind_test link kind) true) known)
+        (net_sides link kind net)
+        to.yes to.no code.old)
+        ≡ entered code.new entry) }
     ensures room { OnOk result (length code.new ≤ length code.old + 18) }
 {
     let start = network(link);
@@ -85,7 +89,8 @@ fn put_any_net<A: Allocator>(
 ) -> Result<usize, AllocError>
     requires { length code.old + 54 < 2 ^ 31 }
     ensures code { IfOk result
-        (λ entry. emitted link nothing (net_formula link None net) to.yes to.no code.old ≡ entered code.new entry) }
+        (λ entry. emitted link nothing (net_formula link None net) to.yes to.no code.old
+        ≡ entered code.new entry) }
     ensures room { OnOk result (length code.new ≤ length code.old + 54) }
 {
     let none = Knowledge::nothing();
@@ -106,7 +111,8 @@ pub fn put_net<A: Allocator>(
 ) -> Result<usize, AllocError>
     requires { length code.old + 54 < 2 ^ 31 }
     ensures code { IfOk result
-        (λ entry. emitted link nothing (net_formula link protocol net) to.yes to.no code.old ≡ entered code.new entry) }
+        (λ entry. emitted link nothing (net_formula link protocol net) to.yes to.no code.old
+        ≡ entered code.new entry) }
     ensures room { OnOk result (length code.new ≤ length code.old + 54) }
 {
     let none = Knowledge::nothing();
@@ -163,7 +169,9 @@ pub fn put_ip6<A: Allocator>(
 ) -> Result<usize, AllocError>
     requires { length code.old + 54 < 2 ^ 31 }
     ensures code { IfOk result
-        (λ entry. emitted link nothing (ip6_formula link direction prefix address) to.yes to.no code.old ≡ entered code.new entry) }
+        (λ entry. emitted link nothing (ip6_formula link direction prefix address)
+        to.yes to.no code.old
+        ≡ entered code.new entry) }
     ensures room { OnOk result (length code.new ≤ length code.old + 54) }
 {
     let start = network(link);

@@ -14,7 +14,8 @@ use std::marker::Model;
 /// The greatest offset of a conditional jump.
 pub const NEAR: usize = 255;
 
-/// The code from some place to the end. A place is named by the number of instructions from there on.
+/// The code from some place to the end. A place is named by the number of instructions from there
+/// on.
 #[derive(Drop)]
 pub struct Code<A: Allocator> {
     backwards: Vec<Insn, A>,
@@ -169,7 +170,8 @@ impl<A: Allocator> Code<A> {
         self.four_on(facts, self.four_on(facts, place))
     }
 
-    // The target of a jump that is taken where a fact holds, followed as far as what is known leads.
+    // The target of a jump that is taken where a fact holds, followed as far as what is known
+    // leads.
     #[tactic(auto, unfolding(crate::specs::Follow::followed))]
     fn followed(&self, known: Knowledge, own: Fact, place: usize) -> usize
         ensures { result ≡ followed self.now known own place }
@@ -200,7 +202,8 @@ impl<A: Allocator> Code<A> {
         past_index(&self.backwards[..within], tested, place)
     }
 
-    /// Where a test's jump goes: its target followed, and past a load of the header length that is in X already.
+    /// Where a test's jump goes: its target followed, and past a load of the header length that is
+    /// in X already.
     #[tactic(auto, unfolding(crate::specs::Follow::target))]
     pub fn target(&self, known: Knowledge, test: FieldTest, truth: bool, place: usize) -> usize
         ensures { result ≡ target self.now known test truth place }

@@ -19,12 +19,13 @@ pub enum Kind {
 pub enum Place {
     /// So many bytes behind the start of the packet.
     At(u32),
-    /// Behind the header that begins at the first place: the second number and the header's length are added up,
-    /// which the low half of its first byte gives in words of 4 bytes.
+    /// Behind the header that begins at the first place: the second number and the header's length
+    /// are added up, which the low half of its first byte gives in words of 4 bytes.
     Past(u32, u32),
 }
 
-/// A test of a field: the field, of which only the bits of the mask count, is compared with a number.
+/// A test of a field: the field, of which only the bits of the mask count, is compared with a
+/// number.
 #[derive(Clone, Copy)]
 pub struct FieldTest {
     pub place: Place,
@@ -56,8 +57,8 @@ pub struct PortTest {
     pub ports: Ports,
 }
 
-/// What stands behind a network header: the tests of TCP and UDP, the test that no later fragment is there, where there
-/// are fragments, and the places of both ports.
+/// What stands behind a network header: the tests of TCP and UDP, the test that no later fragment
+/// is there, where there are fragments, and the places of both ports.
 #[derive(Clone, Copy)]
 pub struct Transport {
     pub tcp: Elementary,
@@ -67,7 +68,8 @@ pub struct Transport {
     pub destination: Place,
 }
 
-/// A test of IPv4 addresses: the sides, the mask where not the whole address counts, and the address.
+/// A test of IPv4 addresses: the sides, the mask where not the whole address counts, and the
+/// address.
 #[derive(Clone, Copy)]
 pub struct NetTest {
     pub direction: Direction,

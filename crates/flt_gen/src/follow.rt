@@ -82,8 +82,8 @@ fn decided(facts: &[Fact], look: Look, value: u32) -> Option<bool>
     }
 }
 
-/// What is known of a packet at a place in the code: three facts, and two tests of which one is yes. Where less is
-/// known, a fact is that a test is yes which always is.
+/// What is known of a packet at a place in the code: three facts, and two tests of which one is
+/// yes. Where less is known, a fact is that a test is yes which always is.
 #[derive(Clone, Copy)]
 pub struct Knowledge {
     pub latest: Fact,
@@ -148,10 +148,12 @@ impl Knowledge {
     }
 }
 
-// The instruction that stands first, of those that are given from the last to the first, and the others.
+// The instruction that stands first, of those that are given from the last to the first, and the
+// others.
 fn first_insn(behind: &[Insn]) -> Option<(Insn, &[Insn])>
     ensures { MatchOption result (reverse behind.now ≡ [])
-        (λ parts. (reverse behind.now ≡ parts.0 ∷ reverse parts.1.now) × (length (reverse parts.1.now) ≡ length parts.1.now)) }
+        (λ parts. (reverse behind.now ≡ parts.0 ∷ reverse parts.1.now)
+        × (length (reverse parts.1.now) ≡ length parts.1.now)) }
 {
     match behind {
         [] => None,
@@ -195,8 +197,8 @@ fn past_load(behind: &[Insn], facts: &[Fact], load: u16, at: u32, place: usize) 
     }
 }
 
-/// The place where the code behind a place goes on: past a jump, and past a test that is decided. The instructions are
-/// given from the last to the first.
+/// The place where the code behind a place goes on: past a jump, and past a test that is decided.
+/// The instructions are given from the last to the first.
 pub fn onward(behind: &[Insn], facts: &[Fact], place: usize) -> usize
     ensures { result ≡ onward facts.now place (reverse behind.now) }
 {
@@ -212,8 +214,8 @@ pub fn onward(behind: &[Insn], facts: &[Fact], place: usize) -> usize
     }
 }
 
-/// Where code is entered behind a test at a place: past its first load if that loads the header length that the test
-/// left in X. The instructions are given from the last to the first.
+/// Where code is entered behind a test at a place: past its first load if that loads the header
+/// length that the test left in X. The instructions are given from the last to the first.
 pub fn past_index(behind: &[Insn], tested: Place, place: usize) -> usize
     ensures { result ≡ past_index tested place (reverse behind.now) }
 {

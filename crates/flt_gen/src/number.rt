@@ -100,7 +100,8 @@ fn put_accessor_tests<A: Allocator>(
 ) -> Result<usize, AllocError>
     requires { length code.old + 18 < 2 ^ 31 }
     ensures code { IfOk result
-        (λ entry. all_before nothing (accessor_tests link protocol) to.yes to.no code.old ≡ entered code.new entry) }
+        (λ entry. all_before nothing (accessor_tests link protocol) to.yes to.no code.old
+        ≡ entered code.new entry) }
     ensures room { OnOk result (length code.new ≤ length code.old + 18) }
 {
     let none = Knowledge::nothing();
@@ -125,9 +126,11 @@ pub fn put_accessors<A: Allocator>(
     protocols: &[Protocol],
     to: Targets,
 ) -> Result<usize, AllocError>
-    requires { length (accessors_before link (reverse protocols.now) to.yes to.no code.old).code < 2 ^ 30 }
+    requires { length (accessors_before link (reverse protocols.now)
+        to.yes to.no code.old).code < 2 ^ 30 }
     ensures { IfOk result
-        (λ entry. accessors_before link (reverse protocols.now) to.yes to.no code.old ≡ entered code.new entry) }
+        (λ entry. accessors_before link (reverse protocols.now) to.yes to.no code.old
+        ≡ entered code.new entry) }
 {
     let mut yes = to.yes;
     for protocol in protocols {

@@ -26,7 +26,10 @@ fn put_port_sides<A: Allocator>(
 ) -> Result<usize, AllocError>
     requires { length code.old + 24 < 2 ^ 31 }
     ensures code { IfOk result
-        (λ entry. sides_before known wanted.direction (port_tests wanted.ports header.source) (port_tests wanted.ports header.destination) to.yes to.no code.old ≡ entered code.new entry) }
+        (λ entry. sides_before known wanted.direction
+        (port_tests wanted.ports header.source) (port_tests wanted.ports header.destination)
+        to.yes to.no code.old
+        ≡ entered code.new entry) }
     ensures room { OnOk result (length code.new ≤ length code.old + 24) }
 {
     let compares = |place: Place, comparison: Comparison, value: u32| {
@@ -64,7 +67,8 @@ fn put_ports_behind<A: Allocator>(
 ) -> Result<usize, AllocError>
     requires { length code.old + 30 < 2 ^ 31 }
     ensures code { IfOk result
-        (λ entry. emitted link known (ports_behind header wanted) to.yes to.no code.old ≡ entered code.new entry) }
+        (λ entry. emitted link known (ports_behind header wanted) to.yes to.no code.old
+        ≡ entered code.new entry) }
     ensures room { OnOk result (length code.new ≤ length code.old + 30) }
 {
     match header.whole {
@@ -88,7 +92,9 @@ fn put_ports_of_protocol<A: Allocator>(
 ) -> Result<usize, AllocError>
     requires { length code.old + 36 < 2 ^ 31 }
     ensures code { IfOk result
-        (λ entry. emitted link known (Guard protocol (ports_behind header wanted)) to.yes to.no code.old ≡ entered code.new entry) }
+        (λ entry. emitted link known (Guard protocol (ports_behind header wanted))
+        to.yes to.no code.old
+        ≡ entered code.new entry) }
     ensures room { OnOk result (length code.new ≤ length code.old + 36) }
 {
     let yes = put_ports_behind(code, link, known.and_yes(protocol), header, wanted, to)?;
@@ -106,7 +112,8 @@ fn put_transport_ports<A: Allocator>(
 ) -> Result<usize, AllocError>
     requires { length code.old + 42 < 2 ^ 31 }
     ensures code { IfOk result
-        (λ entry. emitted link known (transport_ports header wanted) to.yes to.no code.old ≡ entered code.new entry) }
+        (λ entry. emitted link known (transport_ports header wanted) to.yes to.no code.old
+        ≡ entered code.new entry) }
     ensures room { OnOk result (length code.new ≤ length code.old + 42) }
 {
     let (tcp, udp) = (header.tcp, header.udp);
@@ -135,7 +142,10 @@ fn put_ports_of_kind<A: Allocator>(
 ) -> Result<usize, AllocError>
     requires { length code.old + 48 < 2 ^ 31 }
     ensures code { IfOk result
-        (λ entry. behind_test known kind other (emitted link (and_fact (fact kind true) known) (transport_ports header wanted) to.yes to.no code.old) ≡ entered code.new entry) }
+        (λ entry. behind_test known kind other
+        (emitted link (and_fact (fact kind true) known) (transport_ports header wanted)
+        to.yes to.no code.old)
+        ≡ entered code.new entry) }
     ensures room { OnOk result (length code.new ≤ length code.old + 48) }
 {
     let yes = put_transport_ports(code, link, known.and_yes(kind), header, wanted, to)?;
@@ -178,7 +188,8 @@ pub fn put_ports<A: Allocator>(
 ) -> Result<usize, AllocError>
     requires { length code.old + 96 < 2 ^ 31 }
     ensures code { IfOk result
-        (λ entry. emitted link nothing (port_formula link wanted) to.yes to.no code.old ≡ entered code.new entry) }
+        (λ entry. emitted link nothing (port_formula link wanted) to.yes to.no code.old
+        ≡ entered code.new entry) }
     ensures room { OnOk result (length code.new ≤ length code.old + 96) }
 {
     let (none, ip) = (Knowledge::nothing(), kind_test(link, Kind::Ip));

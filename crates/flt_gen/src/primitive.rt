@@ -27,7 +27,10 @@ fn put_proto_behind<A: Allocator>(
 ) -> Result<usize, AllocError>
     requires { length code.old + 12 < 2 ^ 31 }
     ensures code { IfOk result
-        (λ entry. behind_test known kind other (elementary_before (and_fact (fact kind true) known) has_proto to.yes to.no code.old) ≡ entered code.new entry) }
+        (λ entry. behind_test known kind other
+        (elementary_before (and_fact (fact kind true) known) has_proto
+        to.yes to.no code.old)
+        ≡ entered code.new entry) }
     ensures room { OnOk result (length code.new ≤ length code.old + 12) }
 {
     let yes = put_elementary(code, known.and_yes(kind), has_proto, to)?;
@@ -42,7 +45,8 @@ fn put_ip_proto<A: Allocator>(
 ) -> Result<usize, AllocError>
     requires { length code.old + 12 < 2 ^ 31 }
     ensures code { IfOk result
-        (λ entry. emitted link nothing (ip_proto link protocol) to.yes to.no code.old ≡ entered code.new entry) }
+        (λ entry. emitted link nothing (ip_proto link protocol) to.yes to.no code.old
+        ≡ entered code.new entry) }
     ensures room { OnOk result (length code.new ≤ length code.old + 12) }
 {
     let (nothing, kind) = (Knowledge::nothing(), kind_test(link, Kind::Ip));
@@ -58,7 +62,8 @@ fn put_ip6_proto<A: Allocator>(
 ) -> Result<usize, AllocError>
     requires { length code.old + 12 < 2 ^ 31 }
     ensures code { IfOk result
-        (λ entry. emitted link known (ip6_proto link protocol) to.yes to.no code.old ≡ entered code.new entry) }
+        (λ entry. emitted link known (ip6_proto link protocol) to.yes to.no code.old
+        ≡ entered code.new entry) }
     ensures room { OnOk result (length code.new ≤ length code.old + 12) }
 {
     let kind = kind_test(link, Kind::Ip6);
@@ -73,7 +78,8 @@ fn put_any_proto<A: Allocator>(
 ) -> Result<usize, AllocError>
     requires { length code.old + 24 < 2 ^ 31 }
     ensures code { IfOk result
-        (λ entry. emitted link nothing (any_proto link protocol) to.yes to.no code.old ≡ entered code.new entry) }
+        (λ entry. emitted link nothing (any_proto link protocol) to.yes to.no code.old
+        ≡ entered code.new entry) }
     ensures room { OnOk result (length code.new ≤ length code.old + 24) }
 {
     let (nothing, kind) = (Knowledge::nothing(), kind_test(link, Kind::Ip));
@@ -89,7 +95,8 @@ fn put_ether_proto<A: Allocator>(
 ) -> Result<usize, AllocError>
     requires { length code.old + 12 < 2 ^ 31 }
     ensures code { IfOk result
-        (λ entry. emitted link nothing (ether_proto link protocol) to.yes to.no code.old ≡ entered code.new entry) }
+        (λ entry. emitted link nothing (ether_proto link protocol) to.yes to.no code.old
+        ≡ entered code.new entry) }
     ensures room { OnOk result (length code.new ≤ length code.old + 12) }
 {
     match link {
@@ -118,7 +125,8 @@ pub fn put_check<A: Allocator>(
 ) -> Result<usize, AllocError>
     requires { length code.old + 24 < 2 ^ 31 }
     ensures code { IfOk result
-        (λ entry. emitted link nothing (check_formula link protocol) to.yes to.no code.old ≡ entered code.new entry) }
+        (λ entry. emitted link nothing (check_formula link protocol) to.yes to.no code.old
+        ≡ entered code.new entry) }
     ensures room { OnOk result (length code.new ≤ length code.old + 24) }
 {
     match protocol {
@@ -154,7 +162,8 @@ pub fn put_proto<A: Allocator>(
 ) -> Result<usize, AllocError>
     requires { length code.old + 24 < 2 ^ 31 }
     ensures code { IfOk result
-        (λ entry. emitted link nothing (proto_formula link below protocol) to.yes to.no code.old ≡ entered code.new entry) }
+        (λ entry. emitted link nothing (proto_formula link below protocol) to.yes to.no code.old
+        ≡ entered code.new entry) }
     ensures room { OnOk result (length code.new ≤ length code.old + 24) }
 {
     match below {
@@ -189,7 +198,8 @@ pub fn put_ether_host<A: Allocator>(
 ) -> Result<usize, AllocError>
     requires { length code.old + 30 < 2 ^ 31 }
     ensures code { IfOk result
-        (λ entry. emitted link nothing (ether_host link direction address) to.yes to.no code.old ≡ entered code.new entry) }
+        (λ entry. emitted link nothing (ether_host link direction address) to.yes to.no code.old
+        ≡ entered code.new entry) }
     ensures room { OnOk result (length code.new ≤ length code.old + 30) }
 {
     let (source, destination) = (mac_tests(6, address), mac_tests(0, address));
@@ -226,7 +236,8 @@ pub fn put_cast<A: Allocator>(
 ) -> Result<usize, AllocError>
     requires { length code.old + 30 < 2 ^ 31 }
     ensures code { IfOk result
-        (λ entry. emitted link nothing (cast_formula link protocol cast) to.yes to.no code.old ≡ entered code.new entry) }
+        (λ entry. emitted link nothing (cast_formula link protocol cast) to.yes to.no code.old
+        ≡ entered code.new entry) }
     ensures room { OnOk result (length code.new ≤ length code.old + 30) }
 {
     match (cast, protocol) {

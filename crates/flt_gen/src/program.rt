@@ -22,7 +22,8 @@ fn program_insns<A: Allocator + Clone + Drop>(
     requires room { length (walked link start (reverse nodes.now)).code ≤ 32768 }
     requires inside { (walked link start (reverse nodes.now)).to.yes
         ≤ length (walked link start (reverse nodes.now)).code }
-    ensures { IfOk result (λ insns. insns.items ≡ insns_of (walked link start (reverse nodes.now))) }
+    ensures { IfOk result
+        (λ insns. insns.items ≡ insns_of (walked link start (reverse nodes.now))) }
 {
     let mut walk = Walk::new(alloc)?;
     let mut left = nodes.len();
@@ -33,11 +34,13 @@ fn program_insns<A: Allocator + Clone + Drop>(
     Ok(walk.into_insns())
 }
 
-/// A program that answers other than 0 exactly on the packets that the expression, read on the link, says yes to. It
-/// has at most as many instructions as the expression's bound, and none of them is met twice in a run.
+/// A program that answers other than 0 exactly on the packets that the expression, read on the
+/// link, says yes to. It has at most as many instructions as the expression's bound, and none of
+/// them is met twice in a run.
 ///
-/// A jump (`ja`) stands only where a conditional jump's target is more than 255 instructions past the one after it, and
-/// nowhere where a program without jumps has at most 256 instructions by the expression's counts.
+/// A jump (`ja`) stands only where a conditional jump's target is more than 255 instructions past
+/// the one after it, and nowhere where a program without jumps has at most 256 instructions by the
+/// expression's counts.
 ///
 /// An error is want of memory: for the instructions, or for what waits while the tree is walked.
 pub fn generate<A: Allocator + Clone + Drop, B: Allocator>(

@@ -44,7 +44,8 @@ fn put_mask<A: Allocator>(code: &mut Code<A>, mask: Option<u32>) -> Result<(), A
     }
 }
 
-/// A comparison of A with an operand. The machine has three of the six; the others exchange the targets.
+/// A comparison of A with an operand. The machine has three of the six; the others exchange the
+/// targets.
 pub fn put_comparison<A: Allocator>(
     code: &mut Code<A>,
     comparison: Comparison,
@@ -53,7 +54,8 @@ pub fn put_comparison<A: Allocator>(
     to: Targets,
 ) -> Result<(), AllocError>
     requires { length code.old < 2 ^ 31 }
-    ensures code { OnOk result (code.new ≡ comparison_before comparison operand k to.yes to.no code.old) }
+    ensures code { OnOk result (code.new ≡ comparison_before comparison operand k
+        to.yes to.no code.old) }
     ensures room { OnOk result (length code.new ≤ length code.old + 3) }
 {
     let back = to.exchanged();
@@ -89,7 +91,8 @@ pub fn put_elementary<A: Allocator>(
     to: Targets,
 ) -> Result<usize, AllocError>
     requires { length code.old < 2 ^ 31 }
-    ensures code { IfOk result (λ entry. elementary_before known test to.yes to.no code.old ≡ entered code.new entry) }
+    ensures code { IfOk result
+        (λ entry. elementary_before known test to.yes to.no code.old ≡ entered code.new entry) }
     ensures room { OnOk result (length code.new ≤ length code.old + 6) }
 {
     match test {
@@ -114,7 +117,8 @@ pub fn put_all<A: Allocator>(
     to: Targets,
 ) -> Result<usize, AllocError>
     requires { length code.old + 6 * length tests.now < 2 ^ 31 }
-    ensures code { IfOk result (λ entry. all_before known tests.now to.yes to.no code.old ≡ entered code.new entry) }
+    ensures code { IfOk result
+        (λ entry. all_before known tests.now to.yes to.no code.old ≡ entered code.new entry) }
     ensures room { OnOk result (length code.new ≤ length code.old + 6 * length tests.now) }
 {
     match tests {
@@ -137,7 +141,8 @@ pub fn put_sides<A: Allocator>(
 ) -> Result<usize, AllocError>
     requires { length code.old + 6 * (length source.now + length destination.now) < 2 ^ 31 }
     ensures code { IfOk result
-        (λ entry. sides_before known direction source.now destination.now to.yes to.no code.old ≡ entered code.new entry) }
+        (λ entry. sides_before known direction source.now destination.now to.yes to.no code.old
+        ≡ entered code.new entry) }
     ensures room { OnOk result
         (length code.new ≤ length code.old + 6 * (length source.now + length destination.now)) }
 {

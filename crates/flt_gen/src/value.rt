@@ -28,7 +28,9 @@ fn put_host<A: Allocator>(
 ) -> Result<usize, AllocError>
     requires { length code.old + 54 < 2 ^ 31 }
     ensures code { IfOk result
-        (λ entry. emitted link nothing (host_formula link protocol direction value) to.yes to.no code.old ≡ entered code.new entry) }
+        (λ entry. emitted link nothing (host_formula link protocol direction value)
+        to.yes to.no code.old
+        ≡ entered code.new entry) }
     ensures room { OnOk result (length code.new ≤ length code.old + 54) }
 {
     match value {
@@ -57,7 +59,9 @@ fn put_net_value<A: Allocator>(
 ) -> Result<usize, AllocError>
     requires { length code.old + 54 < 2 ^ 31 }
     ensures code { IfOk result
-        (λ entry. emitted link nothing (net_value_formula link protocol direction value) to.yes to.no code.old ≡ entered code.new entry) }
+        (λ entry. emitted link nothing (net_value_formula link protocol direction value)
+        to.yes to.no code.old
+        ≡ entered code.new entry) }
     ensures room { OnOk result (length code.new ≤ length code.old + 54) }
 {
     match value {
@@ -87,7 +91,8 @@ pub fn put_qualified<A: Allocator>(
 ) -> Result<usize, AllocError>
     requires { length code.old + 96 < 2 ^ 31 }
     ensures code { IfOk result
-        (λ entry. emitted link nothing (qualified_formula link quals value) to.yes to.no code.old ≡ entered code.new entry) }
+        (λ entry. emitted link nothing (qualified_formula link quals value) to.yes to.no code.old
+        ≡ entered code.new entry) }
     ensures room { OnOk result (length code.new ≤ length code.old + 96) }
 {
     let (protocol, direction) = (quals.protocol, quals.direction);
@@ -125,7 +130,9 @@ pub fn put_sized<A: Allocator>(
     to: Targets,
 ) -> Result<usize, AllocError>
     requires { length code.old < 2 ^ 31 }
-    ensures { IfOk result (λ entry. at_top (sized_before size number to.yes to.no code.old) ≡ entered code.new entry) }
+    ensures { IfOk result
+        (λ entry. at_top (sized_before size number to.yes to.no code.old)
+        ≡ entered code.new entry) }
 {
     let comparison = match size {
         Size::Less => Comparison::AtMost,

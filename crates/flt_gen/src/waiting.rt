@@ -7,7 +7,8 @@ use flt_words::{Join, Protocol};
 use std::alloc::{AllocError, Allocator};
 use std::marker::Model;
 
-/// The left operand of `and` or `or`, which comes after the right one, and the targets of the whole.
+/// The left operand of `and` or `or`, which comes after the right one, and the targets of the
+/// whole.
 #[derive(Clone, Copy)]
 pub struct LeftTruth {
     pub join: Join,
@@ -19,7 +20,8 @@ pub struct LeftTruth {
 pub enum Waiting {
     /// An accessor: the number is its index.
     Index(Protocol),
-    /// A left operand comes after the number, which is the right one. It goes into this word of memory.
+    /// A left operand comes after the number, which is the right one. It goes into this word of
+    /// memory.
     Left(u32),
 }
 
@@ -55,7 +57,8 @@ impl<A: Allocator> Truths<A> {
     }
 
     pub fn pop(&mut self) -> Option<LeftTruth>
-        ensures { MatchOption result ((self.old ≡ []) × (self.new ≡ [])) (λ truth. self.old ≡ truth ∷ self.new) }
+        ensures { MatchOption result ((self.old ≡ []) × (self.new ≡ []))
+            (λ truth. self.old ≡ truth ∷ self.new) }
     {
         self.entries.pop()
     }
@@ -93,7 +96,8 @@ impl<A: Allocator> Numbers<A> {
     }
 
     pub fn pop(&mut self) -> Option<Waiting>
-        ensures { MatchOption result ((self.old ≡ []) × (self.new ≡ [])) (λ waiting. self.old ≡ waiting ∷ self.new) }
+        ensures { MatchOption result ((self.old ≡ []) × (self.new ≡ []))
+            (λ waiting. self.old ≡ waiting ∷ self.new) }
     {
         self.entries.pop()
     }

@@ -1,5 +1,6 @@
-//! The walk over an expression's nodes from the last to the first, which puts code in front of code. What comes later
-//! waits in lists, so that a long chain of operands needs no more of the processor's stack than a short one.
+//! The walk over an expression's nodes from the last to the first, which puts code in front of
+//! code. What comes later waits in lists, so that a long chain of operands needs no more of the
+//! processor's stack than a short one.
 
 ghost use Rattle.std.specs.Prelude.{◌≡◌, ◌+◌, ◌^◌, ◌<◌, ◌≤◌, true, length, OnOk, IfOk};
 ghost use Rattle.flt_gen.specs.Code.{entered};
@@ -93,7 +94,8 @@ impl<A: Allocator> Walk<A> {
         Ok(())
     }
 
-    // A number's code is put: the accessors whose index it is are complete, and then the left operand that waits is next.
+    // A number's code is put: the accessors whose index it is are complete, and then the left
+    // operand that waits is next.
     fn finish_number(&mut self, link: Link) -> Result<(), AllocError>
         requires { length (number_put link self.old.numbers self.old).code < 2 ^ 30 }
         ensures { OnOk result (self.new ≡ number_put link self.old.numbers self.old) }

@@ -26,13 +26,6 @@ pub const SYN_OF_IP6: [u8; 74] = [
     0x04, 0x00, 0, 80, 0, 0, 0, 0, 0, 0, 0, 0, 0x50, 0x02, 0x20, 0, 0, 0, 0, 0, // TCP
 ];
 
-/// 10.0.0.1 asks for the hardware address of 10.0.0.2.
-pub const ARP: [u8; 42] = [
-    0xff, 0xff, 0xff, 0xff, 0xff, 0xff, 0, 0x11, 0x22, 0x33, 0x44, 0x55, 0x08, 0x06, // Ethernet
-    0, 1, 0x08, 0, 6, 4, 0, 1, 0, 0x11, 0x22, 0x33, 0x44, 0x55, 10, 0, 0, 1, // sender
-    0, 0, 0, 0, 0, 0, 10, 0, 0, 2, // target
-];
-
 /// `SYN` with other ports, below 256.
 pub fn tcp(source: u8, destination: u8) -> [u8; 54] {
     let mut packet = SYN;
