@@ -1,5 +1,5 @@
 //! Worked examples over memory, and devices and memory that fail in turn.
-ghost use Rattle.std.specs.Prelude.{◌<◌, ◌^◌, true};
+ghost use Rattle.std.specs.Prelude.{◌<◌, ◌^◌, refl, true};
 
 use cap_io::{Kind, Sink, Source};
 use cap_octet::{
@@ -318,10 +318,14 @@ impl Input for Counting<'_> {
 
     ghost failures = { λ s. ⟦<MemInput<'static> as Input>⟧.failures s.inner };
 
+    ghost never_fails = { λ s. ⟦<MemInput<'static> as Input>⟧.never_fails s.inner };
+
     fn read(&mut self, buf: &mut [u8]) -> Result<usize, DeviceFault> {
         self.reads.set(self.reads.get().saturating_add(1));
         self.inner.read(buf)
     }
+
+    ghost unfailed = { λ _ _. refl };
 }
 
 /// Reads to the last answer and then on, and counts the reads.

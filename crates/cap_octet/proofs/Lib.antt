@@ -1,4 +1,5 @@
 pub mod Checks
 pub mod Numbers
 pub mod Reading
+pub mod Streams
 pub mod Writing
