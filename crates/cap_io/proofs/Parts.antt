@@ -1,5 +1,5 @@
 -- Parts that are written one after another, and what a sink answers of it.
-use Rattle.std.proofs.Common.{◌≡◌, ◌⊎◌, inl, inr, ℕ, ◌+◌, ◌<◌, Bool, true, false, not, if◌then◌else◌, List, [], ◌∷◌, ◌++◌, length, take, None, Result, Ok, Err, OnOk, refl, sym, ap, ap₂, subst, ◌∙◌, arith, length-append}
+use Rattle.std.proofs.Common.{◌≡◌, ◌⊎◌, inl, inr, ℕ, ◌+◌, ◌<◌, Bool, true, false, not, if◌then◌else◌, List, [], ◌∷◌, ◌++◌, length, take, None, Result, Ok, Err, refl, sym, ap, ap₂, subst, ◌∙◌, arith, length-append}
 use Rattle.std.proofs.Math.Seq.{take-append-add}
 use Rattle.std.proofs.lemmas.List.{append_assoc, append-nil, take-append-le}
 use Rattle.cap_octet.specs.Device.{AppendsOrStops, Stops, WritesAll, failures_of}
@@ -13,7 +13,7 @@ use Rattle.cap_pcap.specs.Written.{IsPcap, resolution_of}
 use Rattle.cap_pcapng.specs.Written.{interface_text, packet_text as pcapng_packet}
 use Rattle.cap_io.specs.declared.numbering.Place.{Place}
 use Rattle.cap_io.specs.Numbering.{HasPlace}
-use Rattle.cap_io.specs.Sink.{IsPutAnswer, WritesPacket, answer_of, block_text, description_text, interfaces_behind, packet_in, write_failures}
+use Rattle.cap_io.specs.Sink.{IsPutAnswer, WritesPacket, answer_of, block_text, description_text, interfaces_behind, interfaces_left, packet_in, write_failures}
 use Rattle.cap_io.specs.Text.{Interface, interface_of, is_among, number_among, descriptions, record_text}
 
 pub appends-as : {E : Type 0} (r : Result (Unit {0}) E) (written bytes bytes' written' : List ℕ) → bytes ≡ bytes' → AppendsOrStops r written bytes written' → AppendsOrStops r written bytes' written'
@@ -95,6 +95,7 @@ block-place old p place new has =
     ap₂ (λ (b : Bool) (n : ℕ). description_text b p ++ pcapng_packet n p) has.is_new has.number
     ∙ ap (λ (l : List ℕ). l ++ pcapng_packet (number_among old (interface_of p)) p) (described (is_among old (interface_of p)) p)
 
-pub on-ok : {X E : Type 0} (r : Result X E) (P : Type 0) → P → OnOk r P
-on-ok (Ok value) P fact = fact
-on-ok (Err fault) P fact = tt
+-- where the device was called, the packet's interface is numbered
+pub left-answer : (outcome : Result (Unit {0}) DeviceFault) (before behind : List Interface) → behind ≡ interfaces_left (answer_of outcome) before behind
+left-answer (Ok done) before behind = refl
+left-answer (Err fault) before behind = refl

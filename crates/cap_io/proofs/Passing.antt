@@ -15,7 +15,7 @@ use Rattle.cap_io.specs.Capture.{Declared, PcapFile, PcapngFile, AreUnits, no_un
 use Rattle.cap_io.proofs.Items.{AreUnits-append}
 use Rattle.cap_io.proofs.Units.{one_unit}
 use Rattle.cap_io.specs.Reading.{EndCame, PacketCame, Refuses, UnitPassed, data_held, packet_held}
-use Rattle.cap_io.specs.Source.{SourceView, Reading, Ended, Passes, IsBetween, IsBroken, FindsPacket, FindsEnd, HoldsIfAny, block_at, left, phase_at}
+use Rattle.cap_io.specs.Source.{SourceView, Reading, Ended, Passes, IsBetween, IsBroken, FindsPacket, FindsEnd, HoldsIfAny, behind, block_at, left, phase_at}
 
 -- ---- no unit is gone over
 
@@ -83,6 +83,9 @@ IsBetween-left old mid phase is = record {
   block = ap (λ (s : SourceView). s.block) is;
   packet = ap (λ (s : SourceView). s.packet) is;
 }
+
+pub leaves-counted : (old mid : SourceView) → mid ≡ left old → mid.given + behind old ≡ old.given + behind mid
+leaves-counted old mid is = rw is (omega arith)
 
 pub Passes-then : (old mid new : SourceView) (rest : List ℕ) → Passes old mid mid.unread → mid.block ≡ [] → Passes mid new rest → Passes old new rest
 Passes-then old mid new rest first none more =

@@ -16,8 +16,8 @@ failed_twice : (fault : Fault) → Reading ≡ Failed fault → ⊥
 failed_twice fault e = (cc)
 
 -- nothing is read yet
-pub IsAt-start : (text : List ℕ) (given failures : ℕ) → IsAt text [] [] false (source_at text given failures)
-IsAt-start text given failures = record {
+pub IsAt-start : (text : List ℕ) (given failures : ℕ) (never_fails : Bool) → IsAt text [] [] false (source_at text given failures never_fails)
+IsAt-start text given failures never_fails = record {
   whole = refl;
   units = no_unit;
   place = refl;

@@ -14,8 +14,8 @@ use Rattle.cap_pcapng.specs.Padding.{padded}
 use Rattle.cap_pcapng.specs.Written as pcapng
 use Rattle.cap_io.specs.declared.sink.SinkState.{SinkState}
 use Rattle.cap_io.specs.declared.sink.SinkState.TheVariants.{Empty, Started, Broken}
-use Rattle.cap_io.specs.Text.{Interface, interface_of, interfaces_of, number_among, descriptions, most_output_interfaces, heading, packet_text, packets_text, text, added, has_first_link, put_checks, refused}
-use Rattle.cap_io.specs.Sink.{SinkView, sink_at, state_after, kept_interfaces, HasPut, HasPackets, takes_memory, PutsAfter, WritesPacket, Puts, PutWrites, IsPutAnswer, Finishes, FinishWrites, FinishesEmpty, link_or_ethernet, Adds, checks_in, refusal_in, takes_memory_in, heading_in, packet_in, added_in, state_behind, interfaces_behind}
+use Rattle.cap_io.specs.Text.{AreFew, Interface, interface_of, interfaces_of, number_among, descriptions, most_output_interfaces, heading, packet_text, packets_text, text, added, has_first_link, put_checks, refused}
+use Rattle.cap_io.specs.Sink.{SinkView, sink_at, state_after, kept_interfaces, HasPut, HasPackets, takes_memory, PutsAfter, WritesPacket, Puts, PutWrites, IsPutAnswer, Finishes, FinishWrites, FinishesEmpty, link_or_ethernet, Adds, checks_in, refusal_in, takes_memory_in, heading_in, packet_in, added_in, state_behind, interfaces_behind, interfaces_left}
 use Rattle.cap_io.proofs.Interfaces.{interfaces_of-push, among-interfaces_of, new-interfaces_of}
 
 -- ---- faults that refuse no packet
@@ -82,8 +82,8 @@ kept-none NsecPcap = refl
 kept-none Pcapng = refl
 
 -- a new sink has none
-pub HasPackets-none : (format : Format) (written : List ℕ) (failures : ℕ) → HasPackets written (sink_at format written failures) []
-HasPackets-none format written failures =
+pub HasPackets-none : (format : Format) (written : List ℕ) (failures room : ℕ) → HasPackets written (sink_at format written failures room) []
+HasPackets-none format written failures room =
     record { written = sym (append-nil written); put = record { state = refl; interfaces = kept-none format } }
 
 -- ---- by what a sink keeps
@@ -135,25 +135,32 @@ takes-put : (sink : SinkView) (ps : List Captured) (p : Captured) → HasPut sin
 takes-put sink ps p has = ap (λ (l : List Interface). takes_memory_in sink.format l p) has.interfaces ∙ takes-after sink.format ps p
 
 -- a packet is added
-pub puts-ok : (ps : List Captured) (old : SinkView) (p : Captured) (new : SinkView) → HasPut old ps → Adds old p (Ok tt) new → PutsAfter ps old p (Ok tt) new
-puts-ok ps old p new has adds = record {
+pub puts-ok : (ps : List Captured) (old : SinkView) (p : Captured) (new : SinkView) → HasPut old ps → Adds old p (Ok tt) new → AreFew new.interfaces → PutsAfter ps old p (Ok tt) new
+puts-ok ps old p new has adds few = record {
   answer = rw (← refusal-put old ps p has, ← takes-put old ps p has) adds.answer;
   state = adds.state ∙ ap (λ (s : SinkState). state_behind s p) has.state ∙ state-after ps p;
   interfaces = adds.interfaces ∙ ap (λ (l : List Interface). interfaces_behind old.format l p) has.interfaces ∙ interfaces-after old.format ps p;
   format = adds.format;
+  few = few;
   failures = adds.failures;
+  room = adds.room;
+  filled = adds.filled;
 }
 
 -- it isn't
 pub puts-err : (ps : List Captured) (old : SinkView) (p : Captured) (fault : Fault) (mid new : SinkView) → HasPut old ps → Adds old p (Err fault) mid
-    → new ≡ record { format = mid.format; state = Broken fault; interfaces = mid.interfaces; written = mid.written; failures = mid.failures }
-    → PutsAfter ps old p (Err fault) new
-puts-err ps old p fault mid new has adds is = record {
+    → new ≡ record { format = mid.format; state = Broken fault; interfaces = mid.interfaces; written = mid.written; failures = mid.failures; room = mid.room }
+    → AreFew new.interfaces → PutsAfter ps old p (Err fault) new
+puts-err ps old p fault mid new has adds is few = record {
   answer = rw (← refusal-put old ps p has, ← takes-put old ps p has) adds.answer;
   state = ap (λ (s : SinkView). s.state) is;
-  interfaces = tt;
+  interfaces = ap (λ (s : SinkView). s.interfaces) is ∙ adds.interfaces
+      ∙ ap₂ (interfaces_left (Err fault)) has.interfaces (ap (λ (l : List Interface). interfaces_behind old.format l p) has.interfaces ∙ interfaces-after old.format ps p);
+  few = few;
   format = ap (λ (s : SinkView). s.format) is ∙ adds.format;
   failures = ap (λ (s : SinkView). s.failures) is ∙ adds.failures;
+  room = ap (λ (s : SinkView). s.room) is ∙ adds.room;
+  filled = λ failed. rw (ap (λ (s : SinkView). s.written) is) (adds.filled failed);
 }
 
 -- what is written of it

@@ -1,5 +1,5 @@
 -- What reading one block of a pcapng file does, from its first bytes to its place in the table of interfaces.
-use Rattle.std.specs.Prelude.{◌≡◌, ℕ, ◌+◌, ◌^◌, ◌<◌, ◌≤◌, ◌⊎◌, List, [], ◌∷◌, ◌++◌, length, take, drop, Option, None, Some}
+use Rattle.std.specs.Prelude.{◌≡◌, ℕ, ◌+◌, ◌^◌, ◌<◌, ◌≤◌, ◌⊎◌, List, [], ◌∷◌, ◌++◌, length, take, drop, Option, None, Some, true, is_some}
 use Rattle.std.specs.List.{slice_get}
 use Rattle.std.specs.Option.{option_map}
 use Rattle.cap_octet.specs.Checks.{first_failing}
@@ -82,6 +82,11 @@ IsEntryFault frame interfaces block fault =
 abbrev pub FitsIfAny : Option Held → ℕ → Type 0
 FitsIfAny None size = Unit {0}
 FitsIfAny (Some held) size = (held.size ≡ size) × (held.from + held.captured ≤ size) × (held.time < 2 ^ 63)
+
+-- and the interface of its packet is known
+abbrev pub KnowsIfAny : List Described → Option Held → Type 0
+KnowsIfAny interfaces None = Unit {0}
+KnowsIfAny interfaces (Some held) = is_some (slice_get interfaces held.interface) ≡ true
 
 -- ---- both
 

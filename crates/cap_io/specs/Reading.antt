@@ -132,6 +132,17 @@ packet_held (PcapFile head) held block = Some (record {
 packet_held (PcapngFile first section) held block =
     option_map (λ (i : Described). packet_of i held.time held.orig (data_held held block)) (slice_get section.interfaces held.interface)
 
+-- its interface is known
+abbrev pub HasInterface : Declared → Held → Type 0
+HasInterface Nothing held = ⊥
+HasInterface (PcapFile head) held = Unit {0}
+HasInterface (PcapngFile first section) held = is_some (slice_get section.interfaces held.interface) ≡ true
+
+abbrev pub HasInterfaceIfAny : Declared → Came → Type 0
+HasInterfaceIfAny declared (came.Passed size) = Unit {0}
+HasInterfaceIfAny declared (came.Packet held) = HasInterface declared held
+HasInterfaceIfAny declared came.End = Unit {0}
+
 -- ---- a unit
 
 -- a unit without a packet came

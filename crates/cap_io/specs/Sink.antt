@@ -1,5 +1,5 @@
 -- What a contract sees of a sink, and what its calls do.
-use Rattle.std.specs.Prelude.{◌≡◌, ◌⊎◌, ◌==◌, ℕ, Bool, true, false, not, ◌+◌, List, [], ◌∷◌, ◌++◌, length, map, nat_le, Option, None, Some, Result, Ok, Err, OnOk, unwrap_or}
+use Rattle.std.specs.Prelude.{◌≡◌, ◌⊎◌, ◌==◌, ℕ, Bool, true, false, not, ◌+◌, ◌≤◌, List, [], ◌∷◌, ◌++◌, length, map, nat_le, Option, None, Some, Result, Ok, Err, OnOk, unwrap_or}
 use Rattle.cap_octet.specs.Device.{AppendsOrStops, Stops}
 use Rattle.cap_octet.specs.Packet.{Captured}
 use Rattle.cap_octet.specs.declared.fault.Fault.{Fault}
@@ -14,21 +14,22 @@ use Rattle.cap_octet.specs.declared.device.DeviceFault.{DeviceFault}
 use Rattle.cap_io.specs.declared.numbering.Place.{Place}
 use Rattle.cap_io.specs.declared.sink.SinkState.{SinkState}
 use Rattle.cap_io.specs.declared.sink.SinkState.TheVariants.{Empty, Started, Broken}
-use Rattle.cap_io.specs.Text.{Interface, interface_of, interfaces_of, is_among, new_among, number_among, most_output_interfaces, heading, record_text, descriptions, text, added, refused}
+use Rattle.cap_io.specs.Text.{AreFew, Interface, interface_of, interfaces_of, is_among, new_among, number_among, most_output_interfaces, heading, record_text, descriptions, text, added, refused}
 
 pub record SinkView : Type 0 where
   pub format : Format
   pub state : SinkState
   -- the interfaces of a pcapng file so far; pcap forms have none
   pub interfaces : List Interface
-  -- the bytes that the output took, and a count of its failures
+  -- the bytes that the output took, a count of its failures, and how many bytes it takes in all before it fails
   pub written : List ℕ
   pub failures : ℕ
+  pub room : ℕ
 
 -- a sink to which nothing was put
-abbrev pub sink_at : Format → List ℕ → ℕ → SinkView
-sink_at format written failures =
-    record { format = format; state = Empty; interfaces = []; written = written; failures = failures }
+abbrev pub sink_at : Format → List ℕ → ℕ → ℕ → SinkView
+sink_at format written failures room =
+    record { format = format; state = Empty; interfaces = []; written = written; failures = failures; room = room }
 
 -- ---- which packets were put
 
@@ -77,13 +78,23 @@ abbrev pub state_put : List Captured → Captured → Result (Unit {0}) Fault �
 state_put packets p (Ok done) = state_after (packets ++ p ∷ [])
 state_put packets p (Err fault) = Broken fault
 
+-- The interfaces that are left of those before a packet and those behind it: it is numbered before its bytes are
+-- written, so where the device fails they are those behind it.
+abbrev pub interfaces_left : Result (Unit {0}) Fault → (before behind : List Interface) → List Interface
+interfaces_left (Ok done) before behind = behind
+interfaces_left (Err WriteFailed) before behind = behind
+interfaces_left (Err fault) before behind = before
+
 -- what a put does to a sink that these packets were put to, whatever the device
 pub record PutsAfter (packets : List Captured) (old : SinkView) (p : Captured) (r : Result (Unit {0}) Fault) (new : SinkView) : Type 0 where
   pub answer : IsPutAnswer (refused old.format packets p) (takes_memory old.format packets p) r
   pub state : new.state ≡ state_put packets p r
-  pub interfaces : OnOk r (new.interfaces ≡ kept_interfaces old.format (packets ++ p ∷ []))
+  pub interfaces : new.interfaces ≡ interfaces_left r (kept_interfaces old.format packets) (kept_interfaces old.format (packets ++ p ∷ []))
+  pub few : AreFew new.interfaces
   pub format : new.format ≡ old.format
   pub failures : new.failures ≡ old.failures + write_failures r
+  pub room : new.room ≡ old.room
+  pub filled : r ≡ Err WriteFailed → old.room ≤ length new.written
 
 -- what is written where a call ends by a fault: nothing where there was no memory, else a beginning, not the whole
 abbrev pub BreaksOff : Fault → List ℕ → List ℕ → List ℕ → Type 0
@@ -123,8 +134,11 @@ state_finished link (Err fault) = Broken fault
 pub record FinishesEmpty (old : SinkView) (link : ℕ) (r : Result (Unit {0}) Fault) (new : SinkView) : Type 0 where
   pub answer : IsFinishAnswer r
   pub state : new.state ≡ state_finished link r
+  pub interfaces : new.interfaces ≡ old.interfaces
   pub format : new.format ≡ old.format
   pub failures : new.failures ≡ old.failures + write_failures r
+  pub room : new.room ≡ old.room
+  pub filled : r ≡ Err WriteFailed → old.room ≤ length new.written
 
 -- the link type of a heading where nothing was put: 1 where none is declared
 abbrev pub link_or_ethernet : Option ℕ → ℕ
@@ -213,6 +227,8 @@ interfaces_behind Pcapng interfaces p = interfaces ++ new_among interfaces (inte
 pub record Adds (old : SinkView) (p : Captured) (r : Result (Unit {0}) Fault) (new : SinkView) : Type 0 where
   pub answer : IsPutAnswer (refusal_in old p) (takes_memory_in old.format old.interfaces p) r
   pub state : OnOk r (new.state ≡ state_behind old.state p)
-  pub interfaces : OnOk r (new.interfaces ≡ interfaces_behind old.format old.interfaces p)
+  pub interfaces : new.interfaces ≡ interfaces_left r old.interfaces (interfaces_behind old.format old.interfaces p)
   pub format : new.format ≡ old.format
   pub failures : new.failures ≡ old.failures + write_failures r
+  pub room : new.room ≡ old.room
+  pub filled : r ≡ Err WriteFailed → old.room ≤ length new.written

@@ -1,14 +1,14 @@
 -- What a contract sees of a source, and what its calls do.
-use Rattle.std.specs.Prelude.{◌≡◌, ℕ, ◌+◌, ◌^◌, ◌<◌, ◌≤◌, Bool, true, false, List, [], ◌∷◌, ◌++◌, length, take, Option, None, Some, Result, Ok, Err}
+use Rattle.std.specs.Prelude.{◌≡◌, ℕ, ◌+◌, ◌^◌, ◌<◌, ◌≤◌, Bool, true, false, IsTrue, List, [], ◌∷◌, ◌++◌, length, take, Option, None, Some, Result, Ok, Err, OnOk, OnErr, is_some}
 use Rattle.cap_octet.specs.Packet.{Captured}
 use Rattle.cap_octet.specs.declared.fault.Fault.{Fault}
-use Rattle.cap_pcapng.specs.Interface.{Described}
+use Rattle.cap_pcapng.specs.Interface.{AreFew, Described}
 use Rattle.cap_io.specs.declared.source.Next.{Next}
 use Rattle.cap_io.specs.declared.source.Next.TheVariants as next
 use Rattle.cap_io.specs.declared.source.Stage.{Stage}
 use Rattle.cap_io.specs.declared.source.Stage.TheVariants as stage
 use Rattle.cap_io.specs.declared.unit.Savefile.{Savefile}
-use Rattle.cap_io.specs.Capture.{Declared, Nothing, IsUnit, AreUnits, Stops, front_of}
+use Rattle.cap_io.specs.Capture.{Declared, Nothing, PcapFile, PcapngFile, IsUnit, AreUnits, Stops, front_of}
 use Rattle.cap_io.specs.Reading.{most_in_unit, failures_told, IsReason, IsTaken, IsHeld, IsTold, declared_by, packet_held}
 
 -- ---- the view
@@ -32,10 +32,12 @@ pub record SourceView : Type 0 where
   pub unread : List ℕ
   pub given : ℕ
   pub failures : ℕ
+  -- whether the device never fails
+  pub never_fails : Bool
 
 -- a source of which nothing is read yet
-abbrev pub source_at : List ℕ → ℕ → ℕ → SourceView
-source_at unread given failures = record {
+abbrev pub source_at : List ℕ → ℕ → ℕ → Bool → SourceView
+source_at unread given failures never_fails = record {
   phase = Reading;
   declared = Nothing;
   packet = None;
@@ -44,6 +46,7 @@ source_at unread given failures = record {
   unread = unread;
   given = given;
   failures = failures;
+  never_fails = never_fails;
 }
 
 -- ---- the view of the fields
@@ -66,8 +69,8 @@ packet_at (stage.InHand held) declared buffer = packet_held declared held (take 
 packet_at stage.Ended declared buffer = None
 packet_at (stage.Failed fault) declared buffer = None
 
-abbrev pub view_of : Stage → Savefile → List Described → List ℕ → ℕ → List ℕ → ℕ → ℕ → SourceView
-view_of stage savefile interfaces buffer offset unread given failures = record {
+abbrev pub view_of : Stage → Savefile → List Described → List ℕ → ℕ → List ℕ → ℕ → ℕ → Bool → SourceView
+view_of stage savefile interfaces buffer offset unread given failures never_fails = record {
   phase = phase_at stage;
   declared = declared_by savefile interfaces;
   packet = packet_at stage (declared_by savefile interfaces) buffer;
@@ -76,6 +79,7 @@ view_of stage savefile interfaces buffer offset unread given failures = record {
   unread = unread;
   given = given;
   failures = failures;
+  never_fails = never_fails;
 }
 
 abbrev pub HoldsIfAny : Stage → List ℕ → Type 0
@@ -146,15 +150,39 @@ Advances Reading old r new = Finds old r new
 Advances Ended old r new = (r ≡ Ok false) × (new ≡ old)
 Advances (Failed fault) old r new = (r ≡ Err fault) × (new ≡ old)
 
+-- how far an answer brings a source
+abbrev pub phase_told : Result Bool Fault → Phase
+phase_told (Ok true) = Reading
+phase_told (Ok false) = Ended
+phase_told (Err fault) = Failed fault
+
+-- the offset behind the unit in hand
+abbrev pub behind : SourceView → ℕ
+behind s = s.offset + length s.block
+
+-- the section in hand has at most 256 interfaces, with names of at most 255 bytes
+abbrev pub HasFew : Declared → Type 0
+HasFew Nothing = Unit {0}
+HasFew (PcapFile head) = Unit {0}
+HasFew (PcapngFile first section) = AreFew section.interfaces
+
 -- what holds of any device
 pub record KeepsBounds (old : SourceView) (r : Result Bool Fault) (new : SourceView) : Type 0 where
   pub given : old.given ≤ new.given
   -- a failed read is told exactly where the device failed in this call
   pub failures : new.failures ≡ old.failures + failures_told r
+  -- and a device that never fails didn't
+  pub never : new.never_fails ≡ old.never_fails
+  pub unfailed : IsTrue old.never_fails → new.failures ≡ old.failures
   -- at most one unit is held
   pub block : length new.block ≤ most_in_unit
   pub progress : r ≡ Ok true → old.given < new.given
   pub bounded : r ≡ Ok true → new.given < 2 ^ 63
+  -- a packet is in hand
+  pub packet : r ≡ Ok true → is_some new.packet ≡ true
+  -- All bytes that the device gave are gone over or in hand, but for those of a broken unit: at most one unit's bytes.
+  pub counted : OnOk r (new.given + behind old ≡ old.given + behind new)
+  pub broken : OnErr r ((old.given + behind new ≤ new.given + behind old) × (new.given + behind old ≤ old.given + behind new + most_in_unit))
 
 abbrev pub Steps : Phase → SourceView → Result Bool Fault → SourceView → Type 0
 Steps Reading old r new = KeepsBounds old r new
@@ -174,6 +202,7 @@ left s = record {
   unread = s.unread;
   given = s.given;
   failures = s.failures;
+  never_fails = s.never_fails;
 }
 
 -- no packet is in hand
@@ -193,6 +222,12 @@ FindsNext old (Err fault) new = IsBroken old new fault
 pub record NextBounds (old : SourceView) (r : Result Next Fault) (new : SourceView) : Type 0 where
   pub given : old.given ≤ new.given
   pub failures : new.failures ≡ old.failures + failures_told r
+  pub never : new.never_fails ≡ old.never_fails
+  pub unfailed : IsTrue old.never_fails → new.failures ≡ old.failures
   pub block : length new.block ≤ most_in_unit
-  pub packet : r ≡ Ok next.Packet → (old.given < new.given) × (new.given < 2 ^ 63)
+  pub packet : r ≡ Ok next.Packet → (old.given < new.given) × (new.given < 2 ^ 63) × (is_some new.packet ≡ true)
+  pub counted : OnOk r (new.given + behind old ≡ old.given + behind new)
+  pub broken : OnErr r ((old.given + behind new ≤ new.given + behind old) × (new.given + behind old ≤ old.given + behind new + most_in_unit))
+  pub ended : r ≡ Ok next.End → new.phase ≡ Ended
+  pub found : r ≡ Ok next.Packet → new.phase ≡ Reading
   pub passed : r ≡ Ok next.Passed → (old.given < new.given) × (new.given < 2 ^ 63) × IsBetween new

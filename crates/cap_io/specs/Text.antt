@@ -1,5 +1,5 @@
 -- The text of a capture file that is written, and which packets are refused.
-use Rattle.std.specs.Prelude.{◌==◌, ◌&&◌, if◌then◌else◌, ℕ, Bool, true, List, [], ◌∷◌, ◌++◌, Option, length, map, nat_eq, nat_le}
+use Rattle.std.specs.Prelude.{◌==◌, ◌&&◌, ◌≤◌, if◌then◌else◌, All, ℕ, Bool, true, List, [], ◌∷◌, ◌++◌, Option, length, map, nat_eq, nat_le}
 use Rattle.std.specs.Cmp.Lexicographic.{pointwise}
 use Rattle.std.specs.List.{list_any, position_or_len}
 use Rattle.cap_octet.specs.Checks.{first_failing}
@@ -50,6 +50,11 @@ number_among interfaces i = position_or_len (is_same i) interfaces
 -- how many interfaces a file may have
 abbrev pub most_output_interfaces : ℕ
 most_output_interfaces = 4096
+
+-- what holds of the interfaces of each file
+pub record AreFew (interfaces : List Interface) : Type 0 where
+  pub count : length interfaces ≤ most_output_interfaces
+  pub names : All (λ i. length i.name ≤ 255) interfaces
 
 -- ---- texts
 

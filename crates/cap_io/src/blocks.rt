@@ -1,10 +1,11 @@
 //! One block of a pcapng file, read from a device.
-ghost use Rattle.std.specs.Prelude.{◌≡◌, ◌+◌, ◌^◌, ◌<◌, ◌≤◌, ◌++◌, ◌∷◌, ◌⊎◌, IsTrue, IfOk, IfErr, OnOk, OnErr, Option, [], length, vec_len, None, Some};
+ghost use Rattle.std.specs.Prelude.{◌≡◌, ◌+◌, ◌^◌, ◌<◌, ◌≤◌, ◌++◌, ◌∷◌, ◌⊎◌, IsTrue, IfOk, IfErr, OnOk, OnErr, Option, [], length, vec_len, None, Some, true, is_some};
+ghost use Rattle.std.specs.List.{slice_get};
 ghost use Rattle.cap_octet.specs.Checks.{first_failing};
 ghost use Rattle.cap_pcapng.specs.Block.{EnhancedParts, InterfaceParts, SimpleParts};
 ghost use Rattle.cap_pcapng.specs.Interface.{described_in};
 ghost use Rattle.cap_pcapng.specs.Unit.{Section, checks_among, interfaces_before, order_before};
-ghost use Rattle.cap_io.specs.Blocks.{BlockCame, BlockMissing, Enters, FitsIfAny, IsEntryFault, PacketFound, WholeCame};
+ghost use Rattle.cap_io.specs.Blocks.{BlockCame, BlockMissing, Enters, FitsIfAny, IsEntryFault, KnowsIfAny, PacketFound, WholeCame};
 ghost use Rattle.cap_io.specs.Reading.{failures_told, most_in_unit};
 
 use crate::reading::{make_room, read_data};
@@ -38,7 +39,9 @@ fn read_whole<I: Input, A: Allocator>(
     ensures counted { IfOk result (λ frame. I.given input.new + 12 ≡ I.given input.old + frame.length) }
     ensures grown { I.given input.old ≤ I.given input.new }
     ensures bounded { IfOk result (λ frame. 12 < frame.length → I.given input.new < 2 ^ 63) }
+    ensures few { IfErr result (λ _. I.given input.new + 12 ≤ I.given input.old + most_in_unit) }
     ensures failed { I.failures input.new ≡ I.failures input.old + failures_told result }
+    ensures never { I.never_fails input.new ≡ I.never_fails input.old }
     ensures least { IfOk result (λ frame. 12 ≤ frame.length) }
     ensures most { IfOk result (λ frame. frame.length ≤ most_in_unit) }
     ensures there { IfOk result (λ frame. frame.length ≤ vec_len buffer.new) }
@@ -83,6 +86,7 @@ fn enhanced_packet<A: Allocator>(
     ensures found { IfOk result (PacketFound table.now
         (EnhancedParts block.now.interface block.now.ticks block.now.captured block.now.orig block.now.rest.now) block.now.rest.now) }
     ensures size { IfOk result (λ held. held.size ≡ size) }
+    ensures known { IfOk result (λ held. is_some (slice_get table.now held.interface) ≡ true) }
     ensures from { IfOk result (λ held. held.from ≡ 28) }
     ensures refused { IfErr result (λ fault. first_failing (checks_among table.now
         (EnhancedParts block.now.interface block.now.ticks block.now.captured block.now.orig block.now.rest.now)) ≡ Some fault) }
@@ -110,6 +114,7 @@ fn simple_packet<A: Allocator>(
 ) -> Result<Held, Fault>
     ensures found { IfOk result (PacketFound table.now (SimpleParts block.now.orig block.now.rest.now) block.now.rest.now) }
     ensures size { IfOk result (λ held. held.size ≡ size) }
+    ensures known { IfOk result (λ held. is_some (slice_get table.now held.interface) ≡ true) }
     ensures from { IfOk result (λ held. held.from ≡ 12) }
     ensures refused { IfErr result (λ fault.
         first_failing (checks_among table.now (SimpleParts block.now.orig block.now.rest.now)) ≡ Some fault) }
@@ -138,6 +143,7 @@ fn enter<A: Allocator>(
     requires shortest { 12 ≤ frame.now.length }
     ensures ok { IfOk result (λ held. Enters frame.now table.old bytes.now held table.new) }
     ensures fits { IfOk result (λ held. FitsIfAny held frame.now.length) }
+    ensures known { IfOk result (KnowsIfAny table.new) }
     ensures err { IfErr result (IsEntryFault frame.now table.old bytes.now) }
     ensures kept { OnErr result (table.new ≡ table.old) }
 {
@@ -168,11 +174,14 @@ pub(crate) fn read_block<I: Input, A: Allocator>(
     ensures counted { IfOk result (λ read. I.given input.new + 12 ≡ I.given input.old + read.size) }
     ensures grown { I.given input.old ≤ I.given input.new }
     ensures bounded { IfOk result (λ read. 12 < read.size → I.given input.new < 2 ^ 63) }
+    ensures few { IfErr result (λ _. I.given input.new + 12 ≤ I.given input.old + most_in_unit) }
     ensures failed { I.failures input.new ≡ I.failures input.old + failures_told result }
+    ensures never { I.never_fails input.new ≡ I.never_fails input.old }
     ensures least { IfOk result (λ read. 12 ≤ read.size) }
     ensures most { IfOk result (λ read. read.size ≤ most_in_unit) }
     ensures there { IfOk result (λ read. read.size ≤ vec_len buffer.new) }
     ensures fits { IfOk result (λ read. FitsIfAny read.packet read.size) }
+    ensures known { IfOk result (λ read. KnowsIfAny table.new read.packet) }
     ensures ok { IfOk result (λ read. IsTrue I.tells → (before : Option Section) → order_before before ≡ section → interfaces_before before ≡ table.old
         → BlockCame before (front.now ++ I.unread input.old) buffer.new.items read table.new (I.unread input.new)) }
     ensures err { IfErr result (λ fault. IsTrue I.tells → (before : Option Section) → order_before before ≡ section → interfaces_before before ≡ table.old

@@ -6,7 +6,7 @@ ghost use Rattle.cap_pcapng.specs.Frame.{is_section};
 ghost use Rattle.cap_pcapng.specs.Interface.{Described};
 ghost use Rattle.cap_io.specs.Capture.{Nothing, PcapngFile};
 ghost use Rattle.cap_io.specs.Blocks.{BlockCame, section_of};
-ghost use Rattle.cap_io.specs.Reading.{failures_told, size_of, came_by, declared_by, IsSized, IsTold, Refuses, UnitCame};
+ghost use Rattle.cap_io.specs.Reading.{failures_told, most_in_unit, size_of, came_by, declared_by, HasInterfaceIfAny, IsSized, IsTold, Refuses, UnitCame};
 ghost use Rattle.cap_io.specs.declared.unit.Savefile.TheVariants as file;
 
 use crate::blocks::{BlockRead, read_block};
@@ -27,7 +27,9 @@ fn read_first<I: Input>(input: &mut I) -> Result<[u8; 4], Fault>
     ensures counted { OnOk result (I.given input.new ≡ I.given input.old + 4) }
     ensures grown { I.given input.old ≤ I.given input.new }
     ensures bounded { OnOk result (I.given input.new < 2 ^ 63) }
+    ensures few { IfErr result (λ _. I.given input.new ≤ I.given input.old + 4) }
     ensures failed { I.failures input.new ≡ I.failures input.old + failures_told result }
+    ensures never { I.never_fails input.new ≡ I.never_fails input.old }
     ensures ok { IfOk result (λ first. IsTrue I.tells → I.unread input.old ≡ first ++ I.unread input.new) }
     ensures err { IfErr result (λ fault. IsTrue I.tells → Refuses Nothing (I.unread input.old) (I.unread input.new) fault) }
 {
@@ -53,7 +55,9 @@ fn first_block<I: Input, A: Allocator>(
     ensures counted { IfOk result (λ read. I.given input.new + 4 ≡ I.given input.old + read.size) }
     ensures grown { I.given input.old ≤ I.given input.new }
     ensures bounded { OnOk result (I.given input.new < 2 ^ 63) }
+    ensures few { IfErr result (λ _. I.given input.new + 4 ≤ I.given input.old + most_in_unit) }
     ensures failed { I.failures input.new ≡ I.failures input.old + failures_told result }
+    ensures never { I.never_fails input.new ≡ I.never_fails input.old }
     ensures least { IfOk result (λ read. 12 ≤ read.size) }
     ensures there { IfOk result (λ read. read.size ≤ vec_len buffer.new) }
     ensures ok { IfOk result (λ read. IsTrue I.tells
@@ -86,9 +90,12 @@ fn first_unit<I: Input, A: Allocator>(
     requires { table.old ≡ [] }
     ensures counted { IfOk result (λ r. I.given input.new ≡ I.given input.old + size_of r.1) }
     ensures grown { I.given input.old ≤ I.given input.new }
+    ensures few { IfErr result (λ _. I.given input.new ≤ I.given input.old + most_in_unit) }
     ensures failed { I.failures input.new ≡ I.failures input.old + failures_told result }
+    ensures never { I.never_fails input.new ≡ I.never_fails input.old }
     ensures sized { IfOk result (λ r. IsSized r.1 buffer.new.items (I.given input.new)) }
     ensures told { IfOk result (λ r. IsTold r.0 table.new) }
+    ensures known { IfOk result (λ r. HasInterfaceIfAny (declared_by r.0 table.new) r.1) }
     ensures ok { IfOk result (λ r. IsTrue I.tells
         → UnitCame Nothing (I.unread input.old) buffer.new.items r.1 (declared_by r.0 table.new) (I.unread input.new)) }
     ensures err { IfErr result (λ fault. IsTrue I.tells → Refuses Nothing (I.unread input.old) (I.unread input.new) fault) }
@@ -125,9 +132,12 @@ fn next_block<I: Input, A: Allocator>(
     requires { IsTold (file.Pcapng order first) table.old }
     ensures counted { IfOk result (λ r. I.given input.new ≡ I.given input.old + size_of r.1) }
     ensures grown { I.given input.old ≤ I.given input.new }
+    ensures few { IfErr result (λ _. I.given input.new ≤ I.given input.old + most_in_unit) }
     ensures failed { I.failures input.new ≡ I.failures input.old + failures_told result }
+    ensures never { I.never_fails input.new ≡ I.never_fails input.old }
     ensures sized { IfOk result (λ r. IsSized r.1 buffer.new.items (I.given input.new)) }
     ensures told { IfOk result (λ r. IsTold r.0 table.new) }
+    ensures known { IfOk result (λ r. HasInterfaceIfAny (declared_by r.0 table.new) r.1) }
     ensures ok { IfOk result (λ r. IsTrue I.tells → UnitCame (PcapngFile first (section_of order table.old)) (I.unread input.old)
         buffer.new.items r.1 (declared_by r.0 table.new) (I.unread input.new)) }
     ensures err { IfErr result (λ fault. IsTrue I.tells
@@ -154,9 +164,12 @@ pub(crate) fn read_unit<I: Input, A: Allocator>(
     requires { IsTold savefile table.old }
     ensures counted { IfOk result (λ r. I.given input.new ≡ I.given input.old + size_of r.1) }
     ensures grown { I.given input.old ≤ I.given input.new }
+    ensures few { IfErr result (λ _. I.given input.new ≤ I.given input.old + most_in_unit) }
     ensures failed { I.failures input.new ≡ I.failures input.old + failures_told result }
+    ensures never { I.never_fails input.new ≡ I.never_fails input.old }
     ensures sized { IfOk result (λ r. IsSized r.1 buffer.new.items (I.given input.new)) }
     ensures told { IfOk result (λ r. IsTold r.0 table.new) }
+    ensures known { IfOk result (λ r. HasInterfaceIfAny (declared_by r.0 table.new) r.1) }
     ensures ok { IfOk result (λ r. IsTrue I.tells → UnitCame (declared_by savefile table.old) (I.unread input.old)
         buffer.new.items r.1 (declared_by r.0 table.new) (I.unread input.new)) }
     ensures err { IfErr result (λ fault. IsTrue I.tells

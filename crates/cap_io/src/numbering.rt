@@ -111,15 +111,15 @@ pub(crate) struct OutputInterfaces<A: Allocator> {
 }
 
 impl<A: Allocator> Model for OutputInterfaces<A> {
-    ghost use Rattle.std.specs.Prelude.{◌≤◌, List, length, map};
-    ghost use Rattle.cap_io.specs.Text.{Interface, most_output_interfaces};
+    ghost use Rattle.std.specs.Prelude.{List, map};
+    ghost use Rattle.cap_io.specs.Text.{AreFew, Interface};
     ghost use Rattle.cap_io.specs.Numbering.{interface_in};
 
     ghost Value = { List Interface };
 
     ghost view = { λ s. map interface_in s.keys.keys };
 
-    ghost invariant = { λ s. length s.keys.keys ≤ most_output_interfaces };
+    ghost invariant = { λ s. AreFew (map interface_in s.keys.keys) };
 }
 
 impl<A: Allocator + Copy> OutputInterfaces<A> {
@@ -134,6 +134,15 @@ impl<A: Allocator + Copy> OutputInterfaces<A> {
 }
 
 impl<A: Allocator> OutputInterfaces<A> {
+    ghost use Rattle.cap_io.specs.Text.{AreFew};
+
+    /// Tells the caller's proof that there are at most 4,096, with names of at most 255 bytes. Nothing happens at run time.
+    pub fn is_bounded(&self)
+        ensures { AreFew self.now }
+    {
+        let _ = &self.keys;
+    }
+
     /// Whether a packet's interface is one of these, or one more may be had.
     pub fn has_room(&self, packet: &Packet<'_>) -> bool
         ensures { result ≡ nat_le (length (self.now ++ new_among self.now (interface_of (captured packet.now)))) most_output_interfaces }

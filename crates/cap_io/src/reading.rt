@@ -2,7 +2,7 @@
 ghost use Rattle.std.specs.Prelude.{◌≡◌, ℕ, ◌+◌, ◌^◌, ◌<◌, ◌≤◌, ◌++◌, true, false, IsTrue, IfOk, IfErr, OnOk, if◌then◌else◌, length, take, drop, vec_len};
 ghost use Rattle.cap_pcapng.specs.Frame.{is_section};
 ghost use Rattle.cap_io.specs.Capture.{Nothing, PcapFile};
-ghost use Rattle.cap_io.specs.Reading.{failures_told, size_of, FrontCame, FrontMissing, HeaderCame, IsSized, Refuses, RestMissing, UnitCame};
+ghost use Rattle.cap_io.specs.Reading.{failures_told, most_in_unit, size_of, FrontCame, FrontMissing, HasInterfaceIfAny, HeaderCame, IsSized, Refuses, RestMissing, UnitCame};
 
 use crate::unit::{Came, Held};
 use cap_octet::{Fault, Input, read_full};
@@ -20,7 +20,9 @@ pub(crate) fn read_rest<I: Input>(input: &mut I, bytes: &mut [u8], from: usize) 
     ensures counted { OnOk result (I.given input.new + from ≡ I.given input.old + length bytes.old) }
     ensures grown { I.given input.old ≤ I.given input.new }
     ensures bounded { OnOk result (from < length bytes.old → I.given input.new < 2 ^ 63) }
+    ensures few { IfErr result (λ _. I.given input.new + from < I.given input.old + length bytes.old) }
     ensures failed { I.failures input.new ≡ I.failures input.old + failures_told result }
+    ensures never { I.never_fails input.new ≡ I.never_fails input.old }
     ensures same { OnOk result (take from bytes.new ≡ take from bytes.old) }
     ensures ok { OnOk result (IsTrue I.tells → I.unread input.old ≡ drop from bytes.new ++ I.unread input.new) }
     ensures err { IfErr result (λ fault. IsTrue I.tells → RestMissing from (length bytes.old) (I.unread input.old) (I.unread input.new) fault) }
@@ -42,7 +44,9 @@ pub(crate) fn read_front<I: Input>(input: &mut I, front: &mut [u8]) -> Result<bo
     ensures counted { IfOk result (λ found. I.given input.new ≡ I.given input.old + (if found then length front.old else 0)) }
     ensures grown { I.given input.old ≤ I.given input.new }
     ensures bounded { IfOk result (λ found. found ≡ true → I.given input.new < 2 ^ 63) }
+    ensures few { IfErr result (λ _. I.given input.new < I.given input.old + length front.old) }
     ensures failed { I.failures input.new ≡ I.failures input.old + failures_told result }
+    ensures never { I.never_fails input.new ≡ I.never_fails input.old }
     ensures ok { IfOk result (λ found. IsTrue I.tells → FrontCame (I.unread input.old) front.new found (I.unread input.new)) }
     ensures err { IfErr result (λ fault. IsTrue I.tells → FrontMissing (length front.old) (I.unread input.old) (I.unread input.new) fault) }
 {
@@ -82,7 +86,9 @@ pub(crate) fn read_data<I: Input>(
     ensures counted { OnOk result (I.given input.new + length front.now ≡ I.given input.old + size) }
     ensures grown { I.given input.old ≤ I.given input.new }
     ensures bounded { OnOk result (length front.now < size → I.given input.new < 2 ^ 63) }
+    ensures few { IfErr result (λ _. I.given input.new + length front.now < I.given input.old + size) }
     ensures failed { I.failures input.new ≡ I.failures input.old + failures_told result }
+    ensures never { I.never_fails input.new ≡ I.never_fails input.old }
     ensures same { OnOk result (take (length front.now) (take size buffer.new) ≡ front.now) }
     ensures ok { OnOk result (IsTrue I.tells → I.unread input.old ≡ drop (length front.now) (take size buffer.new) ++ I.unread input.new) }
     ensures err { IfErr result (λ fault. IsTrue I.tells → RestMissing (length front.now) size (I.unread input.old) (I.unread input.new) fault) }
@@ -101,7 +107,9 @@ pub(crate) fn read_header<I: Input>(input: &mut I, first: &[u8; 4]) -> Result<He
     ensures counted { OnOk result (I.given input.new ≡ I.given input.old + 20) }
     ensures grown { I.given input.old ≤ I.given input.new }
     ensures bounded { OnOk result (I.given input.new < 2 ^ 63) }
+    ensures few { IfErr result (λ _. I.given input.new ≤ I.given input.old + 20) }
     ensures failed { I.failures input.new ≡ I.failures input.old + failures_told result }
+    ensures never { I.never_fails input.new ≡ I.never_fails input.old }
     ensures ok { IfOk result (λ head. IsTrue I.tells → HeaderCame (first.now ++ I.unread input.old) head (I.unread input.new)) }
     ensures err { IfErr result (λ fault. IsTrue I.tells → Refuses Nothing (first.now ++ I.unread input.old) (I.unread input.new) fault) }
 {
@@ -122,8 +130,11 @@ pub(crate) fn next_record<I: Input, A: Allocator>(
 ) -> Result<Came, Fault>
     ensures counted { IfOk result (λ came. I.given input.new ≡ I.given input.old + size_of came) }
     ensures grown { I.given input.old ≤ I.given input.new }
+    ensures few { IfErr result (λ _. I.given input.new ≤ I.given input.old + most_in_unit) }
     ensures failed { I.failures input.new ≡ I.failures input.old + failures_told result }
+    ensures never { I.never_fails input.new ≡ I.never_fails input.old }
     ensures sized { IfOk result (λ came. IsSized came buffer.new.items (I.given input.new)) }
+    ensures known { IfOk result (HasInterfaceIfAny (PcapFile head.now)) }
     ensures ok { IfOk result (λ came. IsTrue I.tells
         → UnitCame (PcapFile head.now) (I.unread input.old) buffer.new.items came (PcapFile head.now) (I.unread input.new)) }
     ensures err { IfErr result (λ fault. IsTrue I.tells → Refuses (PcapFile head.now) (I.unread input.old) (I.unread input.new) fault) }

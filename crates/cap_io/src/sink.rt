@@ -35,7 +35,7 @@ impl<O: Output, A: Allocator> Model for Sink<O, A> {
 
     ghost Value = { SinkView };
 
-    ghost view = { λ s. record { format = s.format; state = s.state; interfaces = s.interfaces; written = O.written s.output; failures = O.failures s.output } };
+    ghost view = { λ s. record { format = s.format; state = s.state; interfaces = s.interfaces; written = O.written s.output; failures = O.failures s.output; room = O.room s.output } };
 }
 
 impl<O: Output, A: Allocator + Copy> Sink<O, A> {
@@ -43,7 +43,7 @@ impl<O: Output, A: Allocator + Copy> Sink<O, A> {
 
     /// A sink to which nothing was put. It takes no memory.
     pub fn new(alloc: A, output: O, format: Format) -> Self
-        ensures { result ≡ sink_at format (O.written output) (O.failures output) }
+        ensures { result ≡ sink_at format (O.written output) (O.failures output) (O.room output) }
     {
         Sink {
             output,
@@ -73,7 +73,9 @@ impl<O: Output, A: Allocator> Sink<O, A> {
         if let SinkState::Broken(fault) = self.state {
             return Err(fault);
         }
-        let Err(fault) = self.add(packet) else {
+        let result = self.add(packet);
+        self.interfaces.is_bounded();
+        let Err(fault) = result else {
             return Ok(());
         };
         self.state = SinkState::Broken(fault);
@@ -98,6 +100,7 @@ impl<O: Output, A: Allocator> Sink<O, A> {
     pub fn into_output(self) -> O
         ensures written { O.written result ≡ self.written }
         ensures failures { O.failures result ≡ self.failures }
+        ensures room { O.room result ≡ self.room }
     {
         let Sink {
             output,

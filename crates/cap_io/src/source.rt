@@ -56,7 +56,7 @@ impl<I: Input, A: Allocator> Model for Source<I, A> {
 
     ghost Value = { SourceView };
 
-    ghost view = { λ s. view_of s.stage s.savefile s.table s.buffer.items s.offset (I.unread s.input) (I.given s.input) (I.failures s.input) };
+    ghost view = { λ s. view_of s.stage s.savefile s.table s.buffer.items s.offset (I.unread s.input) (I.given s.input) (I.failures s.input) (I.never_fails s.input) };
 
     ghost invariant = { λ s. IsSound s.stage s.savefile s.table s.offset s.buffer.items (I.given s.input) };
 }
@@ -66,13 +66,13 @@ impl<I: Input, A: Allocator> Source<I, A> {
     ghost use Rattle.std.specs.Option.{option_map};
     ghost use Rattle.cap_octet.specs.Packet.{captured};
     ghost use Rattle.cap_io.specs.Capture.{kind_of, first_link_of};
-    ghost use Rattle.cap_io.specs.Source.{Reading, Advances, Continues, FindsNext, IsBetween, KeepsBounds, NextBounds, Steps, left, source_at};
+    ghost use Rattle.cap_io.specs.Source.{Reading, Advances, Continues, FindsNext, IsBetween, KeepsBounds, HasFew, NextBounds, Steps, left, phase_told, source_at};
 
     /// A source of which nothing is read yet. It takes no memory.
     pub fn new(alloc: A, input: I) -> Self
     where
         A: Copy,
-        ensures { result ≡ source_at (I.unread input) (I.given input) (I.failures input) }
+        ensures { result ≡ source_at (I.unread input) (I.given input) (I.failures input) (I.never_fails input) }
     {
         Source {
             input,
@@ -91,12 +91,16 @@ impl<I: Input, A: Allocator> Source<I, A> {
     pub fn advance(&mut self) -> Result<bool, Fault>
         ensures told { IsTrue I.tells → Advances self.old.phase self.old result self.new }
         ensures bounds { Steps self.old.phase self.old result self.new }
+        ensures phase { self.new.phase ≡ phase_told result }
+        ensures few { HasFew self.new.declared }
     {
+        self.table.is_bounded();
         match self.stage {
             Stage::Ended => Ok(false),
             Stage::Failed(fault) => Err(fault),
             Stage::Between | Stage::InHand(_) => {
                 let answer = self.go_on();
+                self.table.is_bounded();
                 if let Err(fault) = answer {
                     self.stage = Stage::Failed(fault);
                 }
@@ -175,6 +179,7 @@ impl<I: Input, A: Allocator> Source<I, A> {
     where
         A: Drop,
         ensures failures { I.failures result ≡ self.failures }
+        ensures never { I.never_fails result ≡ self.never_fails }
         ensures given { I.given result ≡ self.given }
         ensures unread { I.unread result ≡ self.unread }
     {
@@ -194,6 +199,7 @@ impl<I: Input, A: Allocator> Source<I, A> {
         requires { self.old.phase ≡ Reading }
         ensures told { IsTrue I.tells → Continues self.old result self.new }
         ensures bounds { KeepsBounds self.old result self.new }
+        ensures phase { OnOk result (self.new.phase ≡ phase_told result) }
         ensures err { IfErr result (λ _. self.new.block ≡ []) }
     {
         self.leave();

@@ -6,7 +6,7 @@ ghost use Rattle.cap_octet.specs.Packet.{captured};
 ghost use Rattle.cap_pcap.specs.Written.{IsPcap, fit_checks, resolution_of};
 ghost use Rattle.cap_pcapng.specs.Written.{fit_checks as block_fit_checks};
 ghost use Rattle.cap_io.specs.Text.{heading, record_text};
-ghost use Rattle.cap_io.specs.Sink.{IsPutAnswer, WritesPacket, answer_of, block_checks, block_text, description_text, checks_in, heading_in, interfaces_behind, packet_in, record_checks, takes_memory_in, write_failures};
+ghost use Rattle.cap_io.specs.Sink.{IsPutAnswer, WritesPacket, answer_of, block_checks, block_text, description_text, checks_in, heading_in, interfaces_behind, interfaces_left, packet_in, record_checks, takes_memory_in, write_failures};
 
 use crate::numbering::{OutputInterfaces, Place};
 use crate::sink::SinkState;
@@ -65,6 +65,7 @@ pub(crate) fn write_heading<O: Output>(
 ) -> Result<(), DeviceFault>
     ensures told { IsTrue O.tells → AppendsOrStops result (O.written output.old) (heading format link) (O.written output.new) }
     ensures failed { O.failures output.new ≡ O.failures output.old + failures_of result }
+    ensures room { O.room output.new ≡ O.room output.old }
 {
     match format {
         Format::Pcap => write_parts(output, &[&head_bytes(Format::Pcap, link)]),
@@ -82,6 +83,7 @@ fn start<O: Output>(
 ) -> Result<(), DeviceFault>
     ensures told { IsTrue O.tells → AppendsOrStops result (O.written output.old) (heading_in format state link) (O.written output.new) }
     ensures failed { O.failures output.new ≡ O.failures output.old + failures_of result }
+    ensures room { O.room output.new ≡ O.room output.old }
 {
     match state {
         SinkState::Empty => write_heading(output, format, link),
@@ -99,6 +101,7 @@ fn write_record<O: Output>(
     requires fits { first_failing (fit_checks (captured packet.now)) ≡ None }
     ensures told { IsTrue O.tells → AppendsOrStops result (O.written output.old) (record_text (resolution_of format) (captured packet.now)) (O.written output.new) }
     ensures failed { O.failures output.new ≡ O.failures output.old + failures_of result }
+    ensures room { O.room output.new ≡ O.room output.old }
 {
     write_parts(output, &[&record_bytes(format, packet), packet.bytes])
 }
@@ -108,6 +111,7 @@ fn describe<O: Output>(output: &mut O, is_new: bool, packet: &Packet<'_>) -> Res
     ensures told { IsTrue O.tells → AppendsOrStops result (O.written output.old)
         (description_text is_new (captured packet.now)) (O.written output.new) }
     ensures failed { O.failures output.new ≡ O.failures output.old + failures_of result }
+    ensures room { O.room output.new ≡ O.room output.old }
 {
     if !is_new {
         return Ok(());
@@ -128,6 +132,7 @@ fn write_block<O: Output>(
     ensures told { IsTrue O.tells → AppendsOrStops result (O.written output.old)
         (block_text place (captured packet.now)) (O.written output.new) }
     ensures failed { O.failures output.new ≡ O.failures output.old + failures_of result }
+    ensures room { O.room output.new ≡ O.room output.old }
 {
     let Ok(()) = describe(output, place.is_new, packet) else {
         return Err(DeviceFault);
@@ -150,6 +155,7 @@ fn add_record<O: Output>(
     ensures told { IsTrue O.tells → AppendsOrStops result (O.written output.old)
         (heading_in format state packet.now.link ++ record_text (resolution_of format) (captured packet.now)) (O.written output.new) }
     ensures failed { O.failures output.new ≡ O.failures output.old + failures_of result }
+    ensures room { O.room output.new ≡ O.room output.old }
 {
     let Ok(()) = start(output, format, state, packet.link) else {
         return Err(DeviceFault);
@@ -168,6 +174,7 @@ fn add_block<O: Output>(
     ensures told { IsTrue O.tells → AppendsOrStops result (O.written output.old)
         (heading_in Format.Pcapng state packet.now.link ++ block_text place (captured packet.now)) (O.written output.new) }
     ensures failed { O.failures output.new ≡ O.failures output.old + failures_of result }
+    ensures room { O.room output.new ≡ O.room output.old }
 {
     let Ok(()) = start(output, Format::Pcapng, state, packet.link) else {
         return Err(DeviceFault);
@@ -196,8 +203,9 @@ fn number_and_add<O: Output, A: Allocator>(
     requires { first_failing (block_checks interfaces.old (captured packet.now)) ≡ None }
     ensures told { IsTrue O.tells → WritesPacket None (heading_in Format.Pcapng state packet.now.link ++ packet_in Format.Pcapng interfaces.old (captured packet.now)) (O.written output.old) result (O.written output.new) }
     ensures answer { IsPutAnswer None (takes_memory_in Format.Pcapng interfaces.old (captured packet.now)) result }
-    ensures interfaces { OnOk result (interfaces.new ≡ interfaces_behind Format.Pcapng interfaces.old (captured packet.now)) }
+    ensures interfaces { interfaces.new ≡ interfaces_left result interfaces.old (interfaces_behind Format.Pcapng interfaces.old (captured packet.now)) }
     ensures failures { O.failures output.new ≡ O.failures output.old + write_failures result }
+    ensures room { O.room output.new ≡ O.room output.old }
 {
     let place = interfaces.place(packet)?;
     as_fault(add_block(output, state, place, packet))
@@ -214,8 +222,9 @@ pub(crate) fn write<O: Output, A: Allocator>(
     requires { first_failing (checks_in format state interfaces.old (captured packet.now)) ≡ None }
     ensures told { IsTrue O.tells → WritesPacket None (heading_in format state packet.now.link ++ packet_in format interfaces.old (captured packet.now)) (O.written output.old) result (O.written output.new) }
     ensures answer { IsPutAnswer None (takes_memory_in format interfaces.old (captured packet.now)) result }
-    ensures interfaces { OnOk result (interfaces.new ≡ interfaces_behind format interfaces.old (captured packet.now)) }
+    ensures interfaces { interfaces.new ≡ interfaces_left result interfaces.old (interfaces_behind format interfaces.old (captured packet.now)) }
     ensures failures { O.failures output.new ≡ O.failures output.old + write_failures result }
+    ensures room { O.room output.new ≡ O.room output.old }
 {
     match format {
         Format::Pcap | Format::NsecPcap => as_fault(add_record(output, format, state, packet)),

@@ -1,5 +1,5 @@
 //! What a source returns and reads after its end or its error.
-ghost use Rattle.std.specs.Prelude.{true};
+ghost use Rattle.std.specs.Prelude.{refl, true};
 
 use crate::captures::{PACKET, SECTION, capture, joined, read_on};
 use cap_io::Source;
@@ -25,10 +25,14 @@ impl Input for Counting<'_> {
 
     ghost failures = { λ s. ⟦<MemInput<'static> as Input>⟧.failures s.inner };
 
+    ghost never_fails = { λ s. ⟦<MemInput<'static> as Input>⟧.never_fails s.inner };
+
     fn read(&mut self, buf: &mut [u8]) -> Result<usize, DeviceFault> {
         self.reads.set(self.reads.get().saturating_add(1));
         self.inner.read(buf)
     }
+
+    ghost unfailed = { λ _ _. refl };
 }
 
 /// Reads to the end or error and then on: the result stays, and nothing more is read.

@@ -1,5 +1,5 @@
 -- What the calls of a device do to its bytes and to the counts that contracts see.
-use Rattle.std.specs.Prelude.{◌≡◌, ℕ, ◌<◌, ◌≤◌, List, [], ◌++◌, length, take, drop, Result, Ok, Err, min}
+use Rattle.std.specs.Prelude.{◌≡◌, ℕ, ◌+◌, ◌<◌, ◌≤◌, List, [], ◌++◌, length, take, drop, Result, Ok, Err, min}
 use Rattle.cap_octet.specs.declared.device.DeviceFault.{DeviceFault}
 use Rattle.cap_octet.specs.declared.device.Stopped.{Stopped}
 
@@ -34,16 +34,17 @@ pub record TakesFull (unread buf : List ℕ) (n : ℕ) (unread' buf' : List ℕ)
   pub taken : Takes unread buf n unread' buf'
   pub full : n ≡ min (length buf) (length unread)
 
--- Where the device failed, it had given the first k bytes, fewer than the buffer has room for.
-pub record TakesFront (unread buf unread' : List ℕ) : Type 0 where
+-- Where the device failed, it had given the first k bytes, fewer than the buffer has room for. They stand in its front,
+-- and are counted.
+pub record TakesFront (unread buf : List ℕ) (given : ℕ) (unread' buf' : List ℕ) (given' : ℕ) : Type 0 where
   pub k : ℕ
   pub short : k < length buf
-  pub there : k ≤ length unread
-  pub rest : unread' ≡ drop k unread
+  pub counted : given' ≡ given + k
+  pub taken : Takes unread buf k unread' buf'
 
-abbrev pub Fills : List ℕ → List ℕ → Result ℕ DeviceFault → List ℕ → List ℕ → Type 0
-Fills unread buf (Ok n) unread' buf' = TakesFull unread buf n unread' buf'
-Fills unread buf (Err fault) unread' buf' = TakesFront unread buf unread'
+abbrev pub Fills : (unread buf : List ℕ) (given : ℕ) → Result ℕ DeviceFault → (unread' buf' : List ℕ) (given' : ℕ) → Type 0
+Fills unread buf given (Ok n) unread' buf' given' = TakesFull unread buf n unread' buf'
+Fills unread buf given (Err fault) unread' buf' given' = TakesFront unread buf given unread' buf' given'
 
 -- one write: the first n bytes are appended to what was written, or nothing is
 abbrev pub Writes : List ℕ → List ℕ → Result ℕ DeviceFault → List ℕ → Type 0

@@ -3,3 +3,4 @@ pub mod Device
 pub mod Fault
 pub mod Number
 pub mod Packet
+pub mod Stream

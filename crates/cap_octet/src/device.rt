@@ -27,6 +27,9 @@ pub trait Input {
     /// How often it failed. Contracts alone see this, and it has no greatest value.
     ghost failures: { Self → ℕ };
 
+    /// Whether it never fails, whatever is read. No call changes that.
+    ghost never_fails: { Self → Bool };
+
     /// Reads into the front of the buffer and answers how many bytes came. None for a buffer that isn't empty
     /// means the end. An error is a failure of the device in this call: it gave nothing and left the buffer.
     fn read(&mut self, buf: &mut [u8]) -> Result<usize, DeviceFault>
@@ -34,7 +37,11 @@ pub trait Input {
         ensures counted { given self.new ≡ given self.old + count_of result }
         ensures bounded { given self.new < 2 ^ 63 }
         ensures failed { failures self.new ≡ failures self.old + failures_of result }
+        ensures never { never_fails self.new ≡ never_fails self.old }
         ensures told { IsTrue tells → Reads (unread self.old) buf.old result (unread self.new) buf.new };
+
+    /// A device that never fails did not fail before.
+    ghost unfailed: { (s : Self) → IsTrue (never_fails s) → failures s ≡ 0 };
 }
 
 /// A device that takes bytes.
@@ -48,25 +55,35 @@ pub trait Output {
     /// How often it failed. Contracts alone see this, and it has no greatest value.
     ghost failures: { Self → ℕ };
 
+    /// How many bytes in all it takes at least before it fails. No call changes that.
+    ghost room: { Self → ℕ };
+
     /// Writes a front of the bytes, at least one where there is one, and answers how many. An error is a failure of
     /// the device in this call: it took nothing.
     fn write(&mut self, buf: &[u8]) -> Result<usize, DeviceFault>
         ensures within { IfOk result (λ n. n ≤ length buf.now) }
         ensures some { IfOk result (λ n. 0 < length buf.now → 0 < n) }
         ensures failed { failures self.new ≡ failures self.old + failures_of result }
+        ensures room { room self.new ≡ room self.old }
         ensures told { IsTrue tells → Writes (written self.old) buf.now result (written self.new) };
+
+    /// A device that failed had taken as many bytes as it has room for.
+    ghost filled: { (s : Self) → 0 < failures s → room s ≤ length (written s) };
 }
 
 /// Fills the buffer from its front and answers how many bytes came: fewer than it has room for only at the end.
-/// An error is a failure of the device in this call.
+/// An error is a failure of the device in this call, after fewer bytes than the buffer has room for; these stand in its
+/// front.
 pub fn read_full<I: Input>(input: &mut I, buf: &mut [u8]) -> Result<usize, DeviceFault>
     ensures within { IfOk result (λ n. n ≤ length buf.old) }
     ensures counted { IfOk result (λ n. I.given input.new ≡ I.given input.old + n) }
     ensures grown { I.given input.old ≤ I.given input.new }
     ensures bounded { IfOk result (λ n. 0 < n → I.given input.new < 2 ^ 63) }
     ensures stopped { IfErr result (λ _. I.given input.new < 2 ^ 63) }
+    ensures few { IfErr result (λ _. I.given input.new < I.given input.old + length buf.old) }
     ensures failed { I.failures input.new ≡ I.failures input.old + failures_of result }
-    ensures told { IsTrue I.tells → Fills (I.unread input.old) buf.old result (I.unread input.new) buf.new }
+    ensures never { I.never_fails input.new ≡ I.never_fails input.old }
+    ensures told { IsTrue I.tells → Fills (I.unread input.old) buf.old (I.given input.old) result (I.unread input.new) buf.new (I.given input.new) }
 {
     let mut count = 0;
     while count < buf.len() {
@@ -84,6 +101,7 @@ pub fn read_full<I: Input>(input: &mut I, buf: &mut [u8]) -> Result<usize, Devic
 pub fn write_all<O: Output>(output: &mut O, buf: &[u8]) -> Result<(), Stopped>
     ensures front { IfErr result (λ stopped. stopped.written < length buf.now) }
     ensures failed { O.failures output.new ≡ O.failures output.old + failures_of result }
+    ensures room { O.room output.new ≡ O.room output.old }
     ensures told { IsTrue O.tells → WritesAll (O.written output.old) buf.now result (O.written output.new) }
 {
     let mut written = 0;
@@ -101,6 +119,7 @@ pub fn write_all<O: Output>(output: &mut O, buf: &[u8]) -> Result<(), Stopped>
 pub fn write_parts<O: Output>(output: &mut O, parts: &[&[u8]]) -> Result<(), DeviceFault>
     ensures told { IsTrue O.tells → AppendsOrStops result (O.written output.old) (flat_map (λ part. part.now) parts.now) (O.written output.new) }
     ensures failed { O.failures output.new ≡ O.failures output.old + failures_of result }
+    ensures room { O.room output.new ≡ O.room output.old }
 {
     for part in parts {
         let Ok(()) = write_all(output, part) else {

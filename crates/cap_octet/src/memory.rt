@@ -1,5 +1,5 @@
 //! Devices over memory, which tell their bytes.
-ghost use Rattle.std.specs.Prelude.{◌≡◌, ℕ, ◌+◌, ◌≤◌, ◌<◌, ◌^◌, IsTrue, List, [], length, take, drop, true, IfOk, OnErr, IsOk};
+ghost use Rattle.std.specs.Prelude.{◌≡◌, ℕ, ◌+◌, ◌≤◌, ◌<◌, ◌^◌, IsTrue, List, [], length, take, drop, true, IfOk, OnErr, IsOk, refl};
 ghost use Rattle.cap_octet.specs.Device.{Reads, Writes, count_of, failures_of};
 
 use crate::device::{DeviceFault, Input, Output};
@@ -42,12 +42,15 @@ impl Input for MemInput<'_> {
 
     ghost failures = { λ _. 0 };
 
+    ghost never_fails = { λ _. true };
+
     /// Never fails.
     fn read(&mut self, buf: &mut [u8]) -> Result<usize, DeviceFault>
         ensures within { IfOk result (λ n. n ≤ length buf.old) }
         ensures counted { self.new.given ≡ self.old.given + count_of result }
         ensures bounded { self.new.given < 2 ^ 63 }
         ensures failed { 0 ≡ 0 + failures_of result }
+        ensures never { true ≡ true }
         ensures told { IsTrue true → Reads self.old.rest.now buf.old result self.new.rest.now buf.new }
         ensures never_fails { IsOk result }
     {
@@ -58,6 +61,8 @@ impl Input for MemInput<'_> {
         self.given += count;
         Ok(count)
     }
+
+    ghost unfailed = { λ _ _. refl };
 }
 
 /// Writes into a slice that it was lent, and fails only where that is full.
@@ -67,6 +72,7 @@ pub struct MemOutput<'a> {
     len: usize,
     failures: FailureCount,
     ghost inside: { len ≤ length bytes.now },
+    ghost filled: { 0 < failures.count → length bytes.now ≤ length (take len bytes.now) },
 }
 
 impl<'a> MemOutput<'a> {
@@ -74,7 +80,7 @@ impl<'a> MemOutput<'a> {
     pub fn new(bytes: &'a mut [u8]) -> Self
         ensures written { ⟦<MemOutput<'a> as Output>⟧.written result ≡ [] }
         ensures failures { ⟦<MemOutput<'a> as Output>⟧.failures result ≡ 0 }
-        ensures room { length result.bytes.now ≡ length bytes.entry.now }
+        ensures room { ⟦<MemOutput<'a> as Output>⟧.room result ≡ length bytes.entry.now }
     {
         MemOutput {
             bytes,
@@ -98,14 +104,17 @@ impl Output for MemOutput<'_> {
 
     ghost failures = { λ s. s.failures.count };
 
+    /// All bytes of the slice.
+    ghost room = { λ s. length s.bytes.now };
+
     /// Fails only where the slice is full.
     fn write(&mut self, buf: &[u8]) -> Result<usize, DeviceFault>
         ensures within { IfOk result (λ n. n ≤ length buf.now) }
         ensures some { IfOk result (λ n. 0 < length buf.now → 0 < n) }
         ensures failed { self.new.failures.count ≡ self.old.failures.count + failures_of result }
+        ensures room { length self.new.bytes.now ≡ length self.old.bytes.now }
         ensures told { IsTrue true → Writes (take self.old.len self.old.bytes.now) buf.now result (take self.new.len self.new.bytes.now) }
         ensures full { OnErr result (self.old.len ≡ length self.old.bytes.now) }
-        ensures room { length self.new.bytes.now ≡ length self.old.bytes.now }
     {
         let room = self.bytes.len() - self.len;
         let count = buf.len().min(room);
@@ -118,4 +127,6 @@ impl Output for MemOutput<'_> {
         self.len = end;
         Ok(count)
     }
+
+    ghost filled = { λ s failed. s.filled failed };
 }

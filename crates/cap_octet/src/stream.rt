@@ -1,14 +1,38 @@
 //! Devices over std's readers and writers.
-ghost use Rattle.std.specs.Prelude.{◌≡◌, ℕ, ◌+◌, ◌≤◌, ◌<◌, ◌^◌, IsTrue, IfOk, OnOk, false, [], length};
-ghost use Rattle.std.specs.Io.KnownBytes.{ReadConsumes, WriteAppends};
+ghost use Rattle.std.specs.Prelude.{◌≡◌, ℕ, ◌+◌, ◌≤◌, ◌<◌, ◌^◌, IsTrue, IfOk, false, [], length};
+ghost use Rattle.std.proofs.Common.{rules};
 ghost use Rattle.cap_octet.specs.Device.{Reads, Writes, count_of, failures_of};
+ghost use Rattle.cap_octet.specs.Stream.{HandsOver, IsOneRead, IsOneWrite, TakesOver};
 
 use crate::device::{DeviceFault, Input, Output};
 use crate::failures::FailureCount;
-use std::io::{Read, Write};
+use std::io::{self, Read, Write};
 
 /// Fewer bytes than this are read from one input.
 const MOST_GIVEN: u64 = 0x8000_0000_0000_0000;
+
+/// What an input that has given so many bytes makes of its reader's answer.
+fn handed_over(given: u64, answer: io::Result<usize>) -> Result<usize, DeviceFault>
+    requires { given < 2 ^ 63 }
+    ensures hands { HandsOver given answer result }
+    ensures bounded { IfOk result (λ n. given + n < 2 ^ 63) }
+{
+    match answer {
+        Ok(count) if (count as u64) < MOST_GIVEN - given => Ok(count),
+        _ => Err(DeviceFault),
+    }
+}
+
+/// What an output makes of its writer's answer to these bytes.
+fn taken_over(buf: &[u8], answer: io::Result<usize>) -> Result<usize, DeviceFault>
+    ensures hands { TakesOver buf.now answer result }
+    ensures some { IfOk result (λ n. 0 < length buf.now → 0 < n) }
+{
+    match answer {
+        Ok(count) if 0 < count || buf.is_empty() => Ok(count),
+        _ => Err(DeviceFault),
+    }
+}
 
 /// Over a reader, as a file or standard input. A read that would reach 2^63 bytes in all is a failure.
 #[derive(Drop)]
@@ -22,6 +46,7 @@ pub struct StdInput<R> {
 impl<R: Read> StdInput<R> {
     /// An input that has given nothing yet.
     pub fn new(reader: R) -> Self
+        ensures reader { result.reader ≡ reader }
         ensures given { ⟦<StdInput<R> as Input>⟧.given result ≡ 0 }
         ensures failures { ⟦<StdInput<R> as Input>⟧.failures result ≡ 0 }
     {
@@ -42,26 +67,27 @@ impl<R: Read> Input for StdInput<R> {
 
     ghost failures = { λ s. s.failures.count };
 
-    /// What it hands over is what the reader gave.
+    ghost never_fails = { λ _. false };
+
+    /// One read of the reader with this buffer, whose answer it hands over.
     fn read(&mut self, buf: &mut [u8]) -> Result<usize, DeviceFault>
         ensures within { IfOk result (λ n. n ≤ length buf.old) }
         ensures counted { self.new.given ≡ self.old.given + count_of result }
         ensures bounded { self.new.given < 2 ^ 63 }
         ensures failed { self.new.failures.count ≡ self.old.failures.count + failures_of result }
+        ensures never { false ≡ false }
         ensures told { IsTrue false → Reads [] buf.old result [] buf.new }
-        ensures passes { OnOk result (ReadConsumes (R.remaining self.old.reader) (R.remaining self.new.reader) result buf.new) }
+        ensures passes { IsOneRead (R.remaining self.old.reader) self.old.given result (R.remaining self.new.reader) buf.new }
     {
-        match self.reader.read(buf) {
-            Ok(count) if (count as u64) < MOST_GIVEN - self.given => {
-                self.given += count as u64;
-                Ok(count)
-            }
-            _ => {
-                self.failures.add_one();
-                Err(DeviceFault)
-            }
+        let result = handed_over(self.given, self.reader.read(buf));
+        match result {
+            Ok(count) => self.given += count as u64,
+            Err(_) => self.failures.add_one(),
         }
+        result
     }
+
+    ghost unfailed = { Prim.search rules };
 }
 
 /// Over a writer, as a file or standard output. A write that takes nothing of some bytes is a failure.
@@ -102,20 +128,23 @@ impl<W: Write> Output for StdOutput<W> {
 
     ghost failures = { λ s. s.failures.count };
 
-    /// What it counts is what the writer took.
+    ghost room = { λ _. 0 };
+
+    /// One write of the writer with these bytes, whose answer it hands over.
     fn write(&mut self, buf: &[u8]) -> Result<usize, DeviceFault>
         ensures within { IfOk result (λ n. n ≤ length buf.now) }
         ensures some { IfOk result (λ n. 0 < length buf.now → 0 < n) }
         ensures failed { self.new.failures.count ≡ self.old.failures.count + failures_of result }
+        ensures room { (λ (n : ℕ). n) 0 ≡ 0 }
         ensures told { IsTrue false → Writes [] buf.now result [] }
-        ensures passes { WriteAppends (W.contents self.old.writer) (W.contents self.new.writer) result buf.now }
+        ensures passes { IsOneWrite (W.contents self.old.writer) buf.now result (W.contents self.new.writer) }
     {
-        match self.writer.write(buf) {
-            Ok(count) if 0 < count || buf.is_empty() => Ok(count),
-            _ => {
-                self.failures.add_one();
-                Err(DeviceFault)
-            }
+        let result = taken_over(buf, self.writer.write(buf));
+        if result.is_err() {
+            self.failures.add_one();
         }
+        result
     }
+
+    ghost filled = { Prim.search rules };
 }

@@ -1,5 +1,5 @@
 //! Devices for tests: over memory, a few bytes a call, failing where they are told to, counting what was asked.
-ghost use Rattle.std.specs.Prelude.{◌≡◌, ℕ, ◌+◌, ◌-◌, ◌≤◌, ◌<◌, ◌^◌, IsTrue, List, [], length, Some, None, true, IfOk, IsErr, OnErr, OnOk, min};
+ghost use Rattle.std.specs.Prelude.{◌≡◌, ℕ, ◌+◌, ◌-◌, ◌≤◌, ◌<◌, ◌^◌, IsTrue, List, [], length, Some, None, true, IfOk, IsErr, OnErr, OnOk, min, not, is_some};
 ghost use Rattle.cap_octet.specs.Device.{Reads, Writes, count_of, failures_of};
 
 use crate::device::{DeviceFault, Input, Output};
@@ -15,6 +15,7 @@ pub struct TrialInput<'a> {
     reads: u64,
     failures: FailureCount,
     ghost moves: { 0 < piece },
+    ghost unfailed: { IsTrue (not (is_some at)) → failures.count ≡ 0 },
 }
 
 impl<'a> TrialInput<'a> {
@@ -59,12 +60,16 @@ impl Input for TrialInput<'_> {
 
     ghost failures = { λ s. s.failures.count };
 
+    /// Where no read is to fail.
+    ghost never_fails = { λ s. not (is_some s.at) };
+
     /// Fails at its read number `at`, and there alone.
     fn read(&mut self, buf: &mut [u8]) -> Result<usize, DeviceFault>
         ensures within { IfOk result (λ n. n ≤ length buf.old) }
         ensures counted { ⟦<MemInput<'static> as Input>⟧.given self.new.inner ≡ ⟦<MemInput<'static> as Input>⟧.given self.old.inner + count_of result }
         ensures bounded { ⟦<MemInput<'static> as Input>⟧.given self.new.inner < 2 ^ 63 }
         ensures failed { self.new.failures.count ≡ self.old.failures.count + failures_of result }
+        ensures never { not (is_some self.new.at) ≡ not (is_some self.old.at) }
         ensures told { IsTrue true → Reads (⟦<MemInput<'static> as Input>⟧.unread self.old.inner) buf.old result (⟦<MemInput<'static> as Input>⟧.unread self.new.inner) buf.new }
         ensures piece { IfOk result (λ n. n ≤ self.old.piece) }
         ensures fails { OnErr result (self.old.at ≡ Some self.new.reads) }
@@ -80,6 +85,8 @@ impl Input for TrialInput<'_> {
         let most = buf.len().min(self.piece);
         self.inner.read(&mut buf[..most])
     }
+
+    ghost unfailed = { λ s never. s.unfailed never };
 }
 
 /// Writes into a slice that it was lent, at most `piece` bytes a write, and fails only where that is full.
@@ -97,7 +104,7 @@ impl<'a> TrialOutput<'a> {
         ensures written { ⟦<TrialOutput<'a> as Output>⟧.written result ≡ [] }
         ensures failures { ⟦<TrialOutput<'a> as Output>⟧.failures result ≡ 0 }
         ensures settings { result.piece ≡ piece }
-        ensures room { length result.inner.bytes.now ≡ length bytes.entry.now }
+        ensures room { ⟦<TrialOutput<'a> as Output>⟧.room result ≡ length bytes.entry.now }
     {
         TrialOutput {
             inner: MemOutput::new(bytes),
@@ -120,17 +127,22 @@ impl Output for TrialOutput<'_> {
 
     ghost failures = { λ s. ⟦<MemOutput<'static> as Output>⟧.failures s.inner };
 
+    ghost room = { λ s. ⟦<MemOutput<'static> as Output>⟧.room s.inner };
+
     /// Fails only where the slice is full.
     fn write(&mut self, buf: &[u8]) -> Result<usize, DeviceFault>
         ensures within { IfOk result (λ n. n ≤ length buf.now) }
         ensures some { IfOk result (λ n. 0 < length buf.now → 0 < n) }
         ensures failed { ⟦<MemOutput<'static> as Output>⟧.failures self.new.inner ≡ ⟦<MemOutput<'static> as Output>⟧.failures self.old.inner + failures_of result }
+        ensures room { ⟦<MemOutput<'static> as Output>⟧.room self.new.inner ≡ ⟦<MemOutput<'static> as Output>⟧.room self.old.inner }
         ensures told { IsTrue true → Writes (⟦<MemOutput<'static> as Output>⟧.written self.old.inner) buf.now result (⟦<MemOutput<'static> as Output>⟧.written self.new.inner) }
         ensures piece { IfOk result (λ n. n ≤ self.old.piece) }
         ensures full { OnErr result (self.old.inner.len ≡ length self.old.inner.bytes.now) }
-        ensures settings { (self.new.piece ≡ self.old.piece) × (length self.new.inner.bytes.now ≡ length self.old.inner.bytes.now) }
+        ensures settings { self.new.piece ≡ self.old.piece }
     {
         let most = buf.len().min(self.piece);
         self.inner.write(&buf[..most])
     }
+
+    ghost filled = { λ s failed. s.inner.filled failed };
 }

@@ -1,5 +1,5 @@
 -- An interface by its values, and what is found of it while its options are read.
-use Rattle.std.specs.Prelude.{◌≡◌, ◌≤◌, ◌<◌, ℕ, length, IfSome, ◌==◌, if◌then◌else◌, Bool, false, ℤ, pos, List, [], is_some, unwrap_or}
+use Rattle.std.specs.Prelude.{◌≡◌, ◌≤◌, ◌<◌, ℕ, length, IfSome, ◌==◌, if◌then◌else◌, All, Bool, false, ℤ, pos, List, [], is_some, unwrap_or}
 use Rattle.std.specs.Option.{option_map, option_map_or, option_copied}
 use Rattle.cap_octet.specs.declared.number.Order.{Order}
 use Rattle.cap_pcapng.specs.InterfaceOptions.{first_value, given, name_code, offset_code, offset_told, resolution_code, units_told}
@@ -20,6 +20,11 @@ pub record Described : Type 0 where
 
 abbrev pub described : Interface → Described
 described i = record { link = i.link; snap = i.snap; name = i.name.now; units = i.clock.units; offset = i.clock.offset }
+
+-- what holds of the interfaces of each section
+pub record AreFew (interfaces : List Described) : Type 0 where
+  pub count : length interfaces ≤ 256
+  pub names : All (λ i. length i.name ≤ 255) interfaces
 
 -- the interface of this link type and snap length that options describe
 abbrev pub described_by : (link snap : ℕ) → Order → List CodedValue → Described

@@ -72,20 +72,20 @@ pub struct Table<A: Allocator = Global> {
 }
 
 impl<A: Allocator> Model for Table<A> {
-    ghost use Rattle.std.specs.Prelude.{◌≤◌, List, length};
-    ghost use Rattle.cap_pcapng.specs.Interface.{Described};
+    ghost use Rattle.std.specs.Prelude.{List};
+    ghost use Rattle.cap_pcapng.specs.Interface.{AreFew, Described};
 
     ghost Value = { List Described };
 
     ghost view = { λ t. t.entries.items };
 
-    ghost invariant = { λ t. length t.entries.items ≤ 256 };
+    ghost invariant = { λ t. AreFew t.entries.items };
 }
 
 impl<A: Allocator> Table<A> {
     ghost use Rattle.std.specs.Prelude.{slice_get};
     ghost use Rattle.std.specs.Option.{option_map};
-    ghost use Rattle.cap_pcapng.specs.Interface.{described};
+    ghost use Rattle.cap_pcapng.specs.Interface.{AreFew, described};
 
     /// A table without interfaces. It takes no memory.
     pub fn new(alloc: A) -> Self
@@ -102,6 +102,14 @@ impl<A: Allocator> Table<A> {
         ensures bounded { length self.now ≤ 256 }
     {
         self.entries.len() == MOST_INTERFACES
+    }
+
+    /// Tells the caller's proof that there are at most 256 interfaces, with names of at most 255 bytes. Nothing happens at
+    /// run time.
+    pub fn is_bounded(&self)
+        ensures { AreFew self.now }
+    {
+        let _ = &self.entries;
     }
 
     /// Forgets all interfaces, and keeps the memory for those to come.

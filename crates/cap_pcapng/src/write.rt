@@ -41,6 +41,7 @@ fn write_behind<O: Output>(output: &mut O, before: usize, buf: &[u8]) -> Result<
     requires { before + length buf.now < 2 ^ 64 }
     ensures front { IfErr result (λ stopped. stopped.written < before + length buf.now) }
     ensures failed { O.failures output.new ≡ O.failures output.old + failures_of result }
+    ensures room { O.room output.new ≡ O.room output.old }
     ensures told { IsTrue O.tells → (first text : List ℕ) → length text ≡ before → O.written output.old ≡ first ++ text
         → WritesAll first (text ++ buf.now) result (O.written output.new) }
 {
@@ -63,6 +64,7 @@ fn write_pieces<O: Output>(
     requires { length head.now + length middle.now + length tail.now < 2 ^ 64 }
     ensures front { IfErr result (λ stopped. stopped.written < length (head.now ++ middle.now ++ tail.now)) }
     ensures failed { O.failures output.new ≡ O.failures output.old + failures_of result }
+    ensures room { O.room output.new ≡ O.room output.old }
     ensures told { IsTrue O.tells → WritesAll (O.written output.old) (head.now ++ middle.now ++ tail.now) result (O.written output.new) }
 {
     write_all(output, head)?;
@@ -114,6 +116,7 @@ pub fn write_packet<O: Output>(
     requires { first_failing (fit_checks (captured packet.now)) ≡ None }
     ensures front { IfErr result (λ stopped. stopped.written < length (packet_text number (captured packet.now))) }
     ensures failed { O.failures output.new ≡ O.failures output.old + failures_of result }
+    ensures room { O.room output.new ≡ O.room output.old }
     ensures told { IsTrue O.tells
         → WritesAll (O.written output.old) (packet_text number (captured packet.now)) result (O.written output.new) }
 {
@@ -174,6 +177,7 @@ pub fn write_interface<O: Output>(packet: &Packet<'_>, output: &mut O) -> Result
     ensures front { IfErr result (λ stopped.
         stopped.written < length (interface_text packet.now.link packet.now.snap packet.now.name.now)) }
     ensures failed { O.failures output.new ≡ O.failures output.old + failures_of result }
+    ensures room { O.room output.new ≡ O.room output.old }
     ensures told { IsTrue O.tells → WritesAll (O.written output.old)
         (interface_text packet.now.link packet.now.snap packet.now.name.now) result (O.written output.new) }
 {

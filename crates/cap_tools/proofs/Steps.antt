@@ -1,5 +1,5 @@
 -- The steps of a job that decides the packets of one capture in turn.
-use Rattle.std.proofs.Common.{◌≡◌, ℕ, ◌+◌, ◌<◌, ◌⊎◌, inl, inr, Bool, true, false, List, [], ◌∷◌, ◌++◌, length, take, Option, None, Some, Result, Ok, Err, refl, sym, ◌∙◌, ap, arith, subst, add-zero}
+use Rattle.std.proofs.Common.{◌≡◌, ℕ, ◌+◌, ◌<◌, ◌⊎◌, inl, inr, Bool, true, false, IsTrue, List, [], ◌∷◌, ◌++◌, length, take, Option, None, Some, Result, Ok, Err, refl, sym, ◌∙◌, ap, arith, subst, add-zero}
 use Rattle.std.proofs.Math.Seq.{take-append-add}
 use Rattle.std.proofs.lemmas.List.{append_assoc, append-nil, length-append, take-append-le, map-append}
 use Rattle.cap_octet.specs.Device.{Stops}
@@ -116,6 +116,7 @@ answered text done before old new sink sink' decision d waits decides offers is 
       };
       at_most_one = omega arith;
       input = refl;
+      never = refl;
       output = offers-quiet decision before sink sink' d.kept x old.source.packet has.held d.output offers;
     })
 
@@ -291,6 +292,7 @@ fetched file done before old new sink s' d waits finds steps is =
       };
       at_most_one = omega arith;
       input = bounds.failures ∙ add-zero old.source.failures;
+      never = bounds.never;
       output = refl;
     })
 
@@ -435,6 +437,11 @@ unwritten-packet file done before w sink sink' WriteFailed d waits decides offer
 unwritten-packet file done before w sink sink' NoMemory d waits decides offers = inr (full-packet file done before w sink sink' d waits offers)
 unwritten-packet file done before w sink sink' fault d waits decides offers = inl (refused-packet file done before w sink sink' fault d waits decides offers (λ same. (cc)) (λ same. (cc)))
 
+-- a device that failed isn't one that never does
+may-fail : (never_fails : Bool) (failures failures' : ℕ) → (IsTrue never_fails → failures' ≡ failures) → failures' ≡ failures + 1 → never_fails ≡ false
+may-fail false failures failures' unfailed counted = refl
+may-fail true failures failures' unfailed counted = absurd (omega (arith, unfailed refl, counted))
+
 pub broken : (file done before : List ℕ) (w w' : WorkView) (sink : SinkView) (s' : SourceView) (fault : Fault) → IsDecided file done before w sink → w.waiting ≡ false
     → FindsFault w.source s' fault → Steps w.source.phase w.source (Err fault) s' → w' ≡ record { choice = w.choice; source = s'; decided = w.decided; waiting = w.waiting }
     → EndsByFault file before w' sink fault ⊎ EndsByCut file before w w' sink fault
@@ -449,7 +456,8 @@ broken file done before w w' sink s' fault d waits finds steps is =
         cut = cut.cut;
         comes = broken-comes before w.choice sink d.packets d.kept (record { packets = d.packets; declared = s'.declared; ending = FaultAt fault s'.offset }) fault s'.offset refl refl d.chosen (has_output file done before w sink d);
         why = elim cut.why [
-          | inl failed ↦ inl (failed, let counted : s'.failures ≡ w.source.failures + 1 = rw failed at bounds.failures in omega arith)
+          | inl failed ↦ let counted : s'.failures ≡ w.source.failures + 1 = rw failed at bounds.failures in
+              inl (failed, omega arith, may-fail w.source.never_fails w.source.failures s'.failures bounds.unfailed counted)
           | inr full ↦ inr full
         ];
       })
@@ -464,6 +472,7 @@ goes-on file before first w w' start sink sink' way goes same = record {
   decided = goes.decided;
   choice = same ∙ way.choice;
   input = goes.input ∙ way.input;
+  never = goes.never ∙ way.never;
   output = goes.output ∙ way.output;
 }
 
@@ -477,7 +486,7 @@ ends-run file before first w w' start sink sink' (progress.Broken fault) way lea
         held = cut.held;
         cut = cut.cut;
         comes = cut.comes;
-        why = elim cut.why [ inl failed ↦ inl (failed.0, let less : w.source.failures < w'.source.failures = failed.1 in omega (arith, way.input)) | inr full ↦ inr full ];
+        why = elim cut.why [ inl failed ↦ inl (failed.0, let less : w.source.failures < w'.source.failures = failed.1 in omega (arith, way.input), sym way.never ∙ failed.2) | inr full ↦ inr full ];
       })
     ]
 ends-run file before first w w' start sink sink' progress.OutputFailed way leaves = record {

@@ -1,5 +1,5 @@
 -- Which packets a print writes.
-use Rattle.std.specs.Prelude.{◌⊎◌, ℕ, ◌==◌, not, if◌then◌else◌, List, length, Option, None, Some}
+use Rattle.std.specs.Prelude.{◌⊎◌, ℕ, Bool, ◌==◌, not, if◌then◌else◌, List, length, Option, None, Some}
 use Rattle.std.specs.Option.{option_map}
 use Rattle.cap_octet.specs.Packet.{Captured}
 use Rattle.cap_octet.specs.declared.fault.Fault.TheVariants.{LinkTypeNotFiltered}
@@ -81,7 +81,7 @@ IsWhy words (Some text) (refusal.Program fault at) = (prog : List Insn) × IsLis
 -- ---- what a print leaves
 
 -- the packets that pass go into the output
-pub record Passes (words : List ℕ) (code : Option (List ℕ)) (format : Format) (input output text : List ℕ) (failures : ℕ × ℕ) (out out' : OutputView) (message : List ℕ) (status : ℕ) : Type 0 where
+pub record Passes (words : List ℕ) (code : Option (List ℕ)) (format : Format) (input output text : List ℕ) (failures : ℕ × ℕ × Bool) (out out' : OutputView) (message : List ℕ) (status : ℕ) : Type 0 where
   pub rule : Rule
   pub asked : IsRule words code rule
   pub leaves : WorkLeaves (print_choice rule format) input output text failures out out' message status
@@ -93,7 +93,7 @@ pub record FilterFails (words : List ℕ) (code : Option (List ℕ)) (out out' :
   pub tells : OnlyTells (refusal_message refusal) (refusal_status refusal) out out' message status
 
 -- The input, whose bytes are this text, goes through the filter into the output.
-abbrev pub PrintLeaves : List ℕ → Option (List ℕ) → Format → List ℕ → List ℕ → List ℕ → ℕ × ℕ → OutputView → OutputView → List ℕ → ℕ → Type 0
+abbrev pub PrintLeaves : List ℕ → Option (List ℕ) → Format → List ℕ → List ℕ → List ℕ → ℕ × ℕ × Bool → OutputView → OutputView → List ℕ → ℕ → Type 0
 PrintLeaves words code format input output text failures out out' message status =
     Passes words code format input output text failures out out' message status
     ⊎ FilterFails words code out out' message status

@@ -1,5 +1,5 @@
 -- What a run of a command leaves: the output, the messages and the status.
-use Rattle.std.specs.Prelude.{◌≡◌, ◌⊎◌, ℕ, ◌+◌, ◌<◌, Bool, IsTrue, List, [], ◌++◌, length, take, Result, String, string_bytes, slice_get}
+use Rattle.std.specs.Prelude.{◌≡◌, ◌⊎◌, ℕ, ◌+◌, ◌<◌, Bool, false, IsTrue, List, [], ◌++◌, length, take, Result, String, string_bytes, slice_get}
 use Rattle.std.specs.Option.{option_map_or}
 use Rattle.cap_octet.specs.Device.{AppendsOrStops, failures_of}
 use Rattle.cap_octet.specs.declared.device.DeviceFault.{DeviceFault}
@@ -55,11 +55,11 @@ pub record Leaves (outcome : Outcome) (out out' : OutputView) (message : List �
 
 -- The input's device failed in this run, or there was no memory for a unit or for what decides its packet: then all is
 -- as if the input ended by this fault where that unit begins.
-pub record IsCut (choice : Choice) (name text : List ℕ) (failures failures' : ℕ) (out out' : OutputView) (message : List ℕ) (status : ℕ) : Type 0 where
+pub record IsCut (choice : Choice) (name text : List ℕ) (failures failures' : ℕ) (never_fails : Bool) (out out' : OutputView) (message : List ℕ) (status : ℕ) : Type 0 where
   pub fault : Fault
   pub held : Items
   pub cut : IsCutShort text fault held
-  pub why : ((fault ≡ ReadFailed) × (failures < failures')) ⊎ (fault ≡ NoMemory)
+  pub why : ((fault ≡ ReadFailed) × (failures < failures') × (never_fails ≡ false)) ⊎ (fault ≡ NoMemory)
   pub leaves : Leaves (outcome_of choice name held) out out' message status
 
 -- The output's device failed in this run, after a beginning of these bytes, not the whole.
@@ -78,10 +78,10 @@ pub record OnlyTells (text : List ℕ) (answer : ℕ) (out out' : OutputView) (m
   pub answered : status ≡ answer
 
 -- The packets of the input, whose bytes are this text, go into the output as they are decided.
-abbrev pub WorkLeaves : Choice → List ℕ → List ℕ → List ℕ → ℕ × ℕ → OutputView → OutputView → List ℕ → ℕ → Type 0
+abbrev pub WorkLeaves : Choice → List ℕ → List ℕ → List ℕ → ℕ × ℕ × Bool → OutputView → OutputView → List ℕ → ℕ → Type 0
 WorkLeaves choice input output text failures out out' message status =
     Leaves (outcome_of choice input (items text)) out out' message status
-    ⊎ IsCut choice input text failures.0 failures.1 out out' message status
+    ⊎ IsCut choice input text failures.0 failures.1 failures.2 out out' message status
     ⊎ OutputFails (output_for choice (items text)) output out out' message status
 
 -- ---- the parts of a call

@@ -88,6 +88,7 @@ pub record GoesOn (text done before : List ℕ) (old new : WorkView) (sink sink'
   pub at_most_one : new.decided ≤ old.decided + 1
   -- no device failed
   pub input : new.source.failures ≡ old.source.failures
+  pub never : new.source.never_fails ≡ old.source.never_fails
   pub output : sink'.failures ≡ sink.failures
 
 -- the output is all that the job writes of a capture with these items, and they end so
@@ -104,7 +105,7 @@ pub record EndsByCut (text before : List ℕ) (w w' : WorkView) (sink' : SinkVie
   pub held : Items
   pub cut : IsCutShort text fault held
   pub comes : Comes held before w'.choice sink' (FaultAt fault w'.source.offset)
-  pub why : ((fault ≡ ReadFailed) × (w.source.failures < w'.source.failures)) ⊎ (fault ≡ NoMemory)
+  pub why : ((fault ≡ ReadFailed) × (w.source.failures < w'.source.failures) × (w.source.never_fails ≡ false)) ⊎ (fault ≡ NoMemory)
 
 -- the output's device failed in this step, after a beginning of what the job writes of the text
 pub record StopsWriting (text before : List ℕ) (choice : Choice) (sink sink' : SinkView) : Type 0 where
@@ -138,6 +139,7 @@ pub record IsUnderWay (text before : List ℕ) (first w : WorkView) (start sink 
   pub decided : IsDecided text done before w sink
   pub choice : w.choice ≡ first.choice
   pub input : w.source.failures ≡ first.source.failures
+  pub never : w.source.never_fails ≡ first.source.never_fails
   pub output : sink.failures ≡ start.failures
 
 -- what the steps to the end leave

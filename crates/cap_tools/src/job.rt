@@ -81,7 +81,7 @@ where
     E: Output,
     A: Allocator + Copy + Drop,
     ensures told { IsTrue I.tells → IsTrue O.tells → (left : I)
-        × Runs (λ message. WorkLeaves (edit_choice (options_of edit)) input_name.now output_name.now (I.unread input) (I.failures input, I.failures left)
+        × Runs (λ message. WorkLeaves (edit_choice (options_of edit)) input_name.now output_name.now (I.unread input) (I.failures input, I.failures left, I.never_fails input)
         (seen (O.written out) (O.failures out)) (seen (O.written result.1) (O.failures result.1)) message result.0)
         E.tells (seen (E.written err) (E.failures err)) (seen (E.written result.2) (E.failures result.2)) }
     ensures status { result.0 ≤ 1 }
@@ -129,7 +129,7 @@ where
     requires one { vec_len inputs ≡ 1 }
     requires named { vec_len names ≡ vec_len inputs + 1 }
     ensures told { IsTrue I.tells → IsTrue O.tells → (input : I) → inputs.items ≡ input ∷ [] → (left : I)
-        × Runs (λ message. WorkLeaves (edit_choice (options_of edit)) (name_at names.items 0) (name_at names.items 1) (I.unread input) (I.failures input, I.failures left)
+        × Runs (λ message. WorkLeaves (edit_choice (options_of edit)) (name_at names.items 0) (name_at names.items 1) (I.unread input) (I.failures input, I.failures left, I.never_fails input)
         (seen (O.written out) (O.failures out)) (seen (O.written result.1) (O.failures result.1)) message result.0)
         E.tells (seen (E.written err) (E.failures err)) (seen (E.written result.2) (E.failures result.2)) }
     ensures status { result.0 ≤ 1 }
@@ -196,7 +196,7 @@ where
     E: Output,
     A: Allocator + Copy + Drop,
     ensures told { IsTrue I.tells → IsTrue O.tells →
-        Runs (λ message. WorkLeaves (print_choice (rule_of filter) format) input_name.now output_name.now (I.unread input) (I.failures input, I.failures result.1)
+        Runs (λ message. WorkLeaves (print_choice (rule_of filter) format) input_name.now output_name.now (I.unread input) (I.failures input, I.failures result.1, I.never_fails input)
         (seen (O.written out) (O.failures out)) (seen (O.written result.2) (O.failures result.2)) message result.0)
         E.tells (seen (E.written err) (E.failures err)) (seen (E.written result.3) (E.failures result.3)) }
     ensures status { result.0 ≤ 1 }
@@ -237,7 +237,7 @@ where
     E: Output,
     A: Allocator + Copy + Drop,
     ensures told { IsTrue I.tells → IsTrue O.tells →
-        Runs (λ message. PrintLeaves (string_bytes print.now.expr) (code_of print.now) print.now.write input_name.now output_name.now (I.unread input) (I.failures input, I.failures result.1)
+        Runs (λ message. PrintLeaves (string_bytes print.now.expr) (code_of print.now) print.now.write input_name.now output_name.now (I.unread input) (I.failures input, I.failures result.1, I.never_fails input)
         (seen (O.written out) (O.failures out)) (seen (O.written result.2) (O.failures result.2)) message result.0)
         E.tells (seen (E.written err) (E.failures err)) (seen (E.written result.3) (E.failures result.3)) }
     ensures untouched { result.0 ≡ 2 → I.given result.1 ≡ I.given input }
@@ -281,7 +281,7 @@ where
     requires one { vec_len inputs ≡ 1 }
     requires named { vec_len names ≡ vec_len inputs + 1 }
     ensures told { IsTrue I.tells → IsTrue O.tells → (input : I) → inputs.items ≡ input ∷ [] → (left : I)
-        × Runs (λ message. PrintLeaves (string_bytes print.expr) (code_of print) print.write (name_at names.items 0) (name_at names.items 1) (I.unread input) (I.failures input, I.failures left)
+        × Runs (λ message. PrintLeaves (string_bytes print.expr) (code_of print) print.write (name_at names.items 0) (name_at names.items 1) (I.unread input) (I.failures input, I.failures left, I.never_fails input)
         (seen (O.written out) (O.failures out)) (seen (O.written result.1) (O.failures result.1)) message result.0)
         E.tells (seen (E.written err) (E.failures err)) (seen (E.written result.2) (E.failures result.2)) }
     ensures status { result.0 ≤ 2 }
@@ -321,11 +321,11 @@ where
     requires named { vec_len names ≡ vec_len inputs + 1 }
     ensures told { IsTrue I.tells → IsTrue O.tells → by_command command
         (λ edit. (input : I) → inputs.items ≡ input ∷ [] → (left : I)
-        × Runs (λ message. WorkLeaves (edit_choice (options_of edit)) (name_at names.items 0) (name_at names.items 1) (I.unread input) (I.failures input, I.failures left)
+        × Runs (λ message. WorkLeaves (edit_choice (options_of edit)) (name_at names.items 0) (name_at names.items 1) (I.unread input) (I.failures input, I.failures left, I.never_fails input)
         (seen (O.written out) (O.failures out)) (seen (O.written result.1) (O.failures result.1)) message result.0)
         E.tells (seen (E.written err) (E.failures err)) (seen (E.written result.2) (E.failures result.2)))
         (λ print. (input : I) → inputs.items ≡ input ∷ [] → (left : I)
-        × Runs (λ message. PrintLeaves (string_bytes print.expr) (code_of print) print.write (name_at names.items 0) (name_at names.items 1) (I.unread input) (I.failures input, I.failures left)
+        × Runs (λ message. PrintLeaves (string_bytes print.expr) (code_of print) print.write (name_at names.items 0) (name_at names.items 1) (I.unread input) (I.failures input, I.failures left, I.never_fails input)
         (seen (O.written out) (O.failures out)) (seen (O.written result.1) (O.failures result.1)) message result.0)
         E.tells (seen (E.written err) (E.failures err)) (seen (E.written result.2) (E.failures result.2)))
         (λ compile. Runs (λ message. CompileLeaves (string_bytes compile.expr) compile.link (name_at names.items 0)

@@ -1,4 +1,4 @@
-use Rattle.std.proofs.Common.{rules, arith}
+use Rattle.std.proofs.Common.{rules, ◌∙◌, arith}
 use Rattle.cap_octet.proofs.Reading.{Takes-again, Takes-nothing}
 use Rattle.cap_octet.proofs.device.read_full.Goals as goal
 
@@ -8,6 +8,7 @@ loop-count-preserved g c = record {
   counted = search rules;
   bounded = search rules;
   failed = search rules;
+  never = c.in_ok-n.ensures.never ∙ c.loop-count.invariant.never;
   told = λ told. Takes-again _ _ _ _ c.loop-count.count _ c.in_ok-n.n _ _ (c.loop-count.invariant.told told) (c.in_ok-n.ensures.told told) (omega arith) (omega arith);
 }
 

@@ -8,4 +8,5 @@ invariant-loop-part g l =
     record {
       told : IsTrue output.tells → output.written l.output ≡ output.written l.fn.output ++ flat_map (λ part. part.now) (take l.part-index l.parts);
       failed : output.failures l.output ≡ output.failures l.fn.output;
+      room : output.room l.output ≡ output.room l.fn.output;
     }

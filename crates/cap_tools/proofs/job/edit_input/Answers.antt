@@ -10,7 +10,7 @@ pub returns-clause-told : goal.returns-clause-told
 returns-clause-told g c = λ ti to.
     let first = ap edit_work c.new-editing.ensures ∙ ap (λ (s : SourceView). edit_work (edit_at (options_of c.args.edit) s)) c.new.ensures in
     let leaves = run-started (g.I.Input.unread c.args.input) (g.O.Output.written c.args.out) (edit_choice (options_of c.args.edit)) (g.I.Input.given c.args.input) (g.I.Input.failures c.args.input)
-    (g.O.Output.failures c.args.out) (edit_work c.new-editing.result) (edit_work c.step_on-end.result.1) c.new-2.result c.step_on-end.result.2 c.step_on-end.result.0 c.args.input_name.now c.args.output_name.now
+    (g.I.Input.never_fails c.args.input) (g.O.Output.failures c.args.out) (g.O.Output.room c.args.out) (edit_work c.new-editing.result) (edit_work c.step_on-end.result.1) c.new-2.result c.step_on-end.result.2 c.step_on-end.result.0 c.args.input_name.now c.args.output_name.now
     first c.new-2.ensures (c.step_on-end.ensures.told ti to) in (
       c.into_input-left.result,
       record {

@@ -6,7 +6,7 @@ use Rattle.cap_tools.proofs.job.print_on.Goals as goal
 
 pub loop-end-init : goal.loop-end-init
 loop-end-init g c = record {
-  told = λ ti to text before d. record { done = []; decided = d; choice = refl; input = refl; output = refl };
+  told = λ ti to text before d. record { done = []; decided = d; choice = refl; input = refl; never = refl; output = refl };
   job = record { rule = refl; format = refl };
 }
 

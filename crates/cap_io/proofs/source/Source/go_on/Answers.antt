@@ -1,7 +1,7 @@
 use Rattle.std.proofs.Common.{◌∙◌, ap, arith, Ok}
 use Rattle.std.proofs.lemmas.Result.{err_from_is_err_and}
 use Rattle.cap_io.specs.Source.{SourceView}
-use Rattle.cap_io.proofs.Passing.{FindsEnd-then, FindsPacket-then, IsBetween-left, IsBroken-then, Passes-left, Passes-then}
+use Rattle.cap_io.proofs.Passing.{FindsEnd-then, FindsPacket-then, IsBetween-left, IsBroken-then, Passes-left, Passes-then, leaves-counted}
 use Rattle.cap_io.proofs.source.Source.go_on.Goals as goal
 
 pub loop-init : goal.loop-init
@@ -10,6 +10,8 @@ loop-init g c = record {
   between = IsBetween-left c.args.self.now c.leave.new.self c.requires c.leave.ensures;
   given = omega (arith, ap (λ (s : SourceView). s.given) c.leave.ensures);
   failures = ap (λ (s : SourceView). s.failures) c.leave.ensures;
+  never = ap (λ (s : SourceView). s.never_fails) c.leave.ensures;
+  counted = leaves-counted c.args.self.now c.leave.new.self c.leave.ensures;
 }
 
 pub returns-in_err-next-clause-told : goal.returns-in_err-next-clause-told
@@ -33,4 +35,6 @@ loop-preserved g c =
       between = passed.2;
       given = omega (arith, c.loop.invariant.given, bounds.given);
       failures = bounds.failures ∙ omega (arith, c.loop.invariant.failures);
+      never = bounds.never ∙ c.loop.invariant.never;
+      counted = omega (arith, bounds.counted, c.loop.invariant.counted);
     }

@@ -1,5 +1,5 @@
-use Rattle.std.proofs.Common.{◌≡◌, ◌-◌, ◌^◌, ◌≤◌, IsTrue}
-use Rattle.cap_io.specs.Source.{Passes, IsBetween}
+use Rattle.std.proofs.Common.{◌≡◌, ◌+◌, ◌-◌, ◌^◌, ◌≤◌, IsTrue}
+use Rattle.cap_io.specs.Source.{Passes, IsBetween, behind}
 use Rattle.cap_io.proofs.source.Source.go_on.Given as goal
 
 abbrev pub invariant-loop : goal.invariant-loop
@@ -8,6 +8,8 @@ invariant-loop g l = record {
   between : IsBetween l.self;
   given : l.fn.self.given ≤ l.self.given;
   failures : l.self.failures ≡ l.fn.self.failures;
+  counted : l.self.given + behind l.fn.self ≡ l.fn.self.given + behind l.self;
+  never : l.self.never_fails ≡ l.fn.self.never_fails;
 }
 
 abbrev pub decreases-loop : goal.decreases-loop

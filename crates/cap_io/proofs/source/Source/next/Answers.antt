@@ -12,7 +12,7 @@ returns-in_err-savefile-clause-told g c =
     let declared = ap (λ (v : SourceView). v.declared) c.self.view_is in
     let unread = ap (λ (v : SourceView). v.unread) c.self.view_is in
     let new = view_of c.self.inside.stage c.self.inside.savefile c.read_unit.new.table c.read_unit.new.buffer.items c.self.inside.offset
-    (g.I.Input.unread c.read_unit.new.input) (g.I.Input.given c.read_unit.new.input) (g.I.Input.failures c.read_unit.new.input) in
+    (g.I.Input.unread c.read_unit.new.input) (g.I.Input.given c.read_unit.new.input) (g.I.Input.failures c.read_unit.new.input) (g.I.Input.never_fails c.read_unit.new.input) in
     let between = stage_between c.self.inside.stage c.self.inside.buffer.items (ap (λ (v : SourceView). v.phase) c.self.view_is ∙ c.requires.between.phase)
     (ap (λ (v : SourceView). v.block) c.self.view_is ∙ c.requires.between.block) c.self.invariant.held in
     rw (p.1, p.2) (λ t. IsBroken-next c.args.self.now new c.in_err-savefile.field-0.0 c.requires.between (rw (declared, unread) at (c.in_err-savefile.ensures.err t))
@@ -25,7 +25,7 @@ returns-in-Packet-clause-told g c = λ t.
     let declared = ap (λ (v : SourceView). v.declared) c.self.view_is in
     let unread = ap (λ (v : SourceView). v.unread) c.self.view_is in
     let new = view_of (stage.InHand c.in-Packet.held) c.in_ok-savefile.savefile c.read_unit.new.table c.read_unit.new.buffer.items c.self.inside.offset
-    (g.I.Input.unread c.read_unit.new.input) (g.I.Input.given c.read_unit.new.input) (g.I.Input.failures c.read_unit.new.input) in
+    (g.I.Input.unread c.read_unit.new.input) (g.I.Input.given c.read_unit.new.input) (g.I.Input.failures c.read_unit.new.input) (g.I.Input.never_fails c.read_unit.new.input) in
     FindsPacket-next c.args.self.now new c.in-Packet.held c.read_unit.new.buffer.items c.requires.between
     (rw (declared, unread) at (rw c.in-Packet.is at (c.in_ok-savefile.ensures.ok t))) refl refl (ap (λ (v : SourceView). v.offset) c.self.view_is) refl
 
@@ -34,7 +34,7 @@ returns-in-Passed-clause-told g c = λ t.
     let declared = ap (λ (v : SourceView). v.declared) c.self.view_is in
     let unread = ap (λ (v : SourceView). v.unread) c.self.view_is in
     let new = view_of c.self.inside.stage c.in_ok-savefile.savefile c.read_unit.new.table c.read_unit.new.buffer.items (c.self.inside.offset + c.in-Passed.size)
-    (g.I.Input.unread c.read_unit.new.input) (g.I.Input.given c.read_unit.new.input) (g.I.Input.failures c.read_unit.new.input) in
+    (g.I.Input.unread c.read_unit.new.input) (g.I.Input.given c.read_unit.new.input) (g.I.Input.failures c.read_unit.new.input) (g.I.Input.never_fails c.read_unit.new.input) in
     Passes-next c.args.self.now new c.in-Passed.size c.requires.between
     (rw (declared, unread) at (rw c.in-Passed.is at (c.in_ok-savefile.ensures.ok t))) (ap (λ (v : SourceView). v.offset + c.in-Passed.size) c.self.view_is)
 
@@ -43,6 +43,6 @@ returns-in-End-clause-told g c = λ t.
     let declared = ap (λ (v : SourceView). v.declared) c.self.view_is in
     let unread = ap (λ (v : SourceView). v.unread) c.self.view_is in
     let new = view_of stage.Ended c.in_ok-savefile.savefile c.read_unit.new.table c.read_unit.new.buffer.items c.self.inside.offset
-    (g.I.Input.unread c.read_unit.new.input) (g.I.Input.given c.read_unit.new.input) (g.I.Input.failures c.read_unit.new.input) in
+    (g.I.Input.unread c.read_unit.new.input) (g.I.Input.given c.read_unit.new.input) (g.I.Input.failures c.read_unit.new.input) (g.I.Input.never_fails c.read_unit.new.input) in
     FindsEnd-next c.args.self.now new c.requires.between
     (rw (declared, unread) at (rw c.in-End.is at (c.in_ok-savefile.ensures.ok t))) (ap (λ (v : SourceView). v.offset) c.self.view_is) refl refl refl

@@ -1,0 +1,36 @@
+-- What the answer of a device over a reader or a writer of std has to do with that one's.
+use Rattle.std.specs.Prelude.{◌≡◌, ℕ, ◌+◌, ◌^◌, ◌≤◌, ◌<◌, List, [], length, Option, Result, Ok, Err}
+use Rattle.std.specs.Io.{ReadsAtMost, WritesAtMost}
+use Rattle.std.specs.Io.KnownBytes.{ReadConsumes, WriteAppends}
+use Rattle.std.specs.declared.io.Error.{Error}
+use Rattle.cap_octet.specs.declared.device.DeviceFault.{DeviceFault}
+
+-- The reader's answer, where so many bytes were given before: but a read that would reach 2^63 bytes in all is a
+-- failure.
+abbrev pub HandsOver : ℕ → Result ℕ Error → Result ℕ DeviceFault → Type 0
+HandsOver given (Ok n) (Ok count) = count ≡ n
+HandsOver given (Ok n) (Err fault) = 2 ^ 63 ≤ given + n
+HandsOver given (Err e) (Ok count) = ⊥
+HandsOver given (Err e) (Err fault) = Unit {0}
+
+-- One read of a reader into this buffer, and what the device makes of its answer. What std says of a read is known of
+-- it: so of a reader whose bytes are known no byte is lost.
+pub record IsOneRead (remaining : Option (List ℕ)) (given : ℕ) (result : Result ℕ DeviceFault) (remaining' : Option (List ℕ)) (buf' : List ℕ) : Type 0 where
+  pub answer : Result ℕ Error
+  pub bound : ReadsAtMost answer buf'
+  pub bytes : ReadConsumes remaining remaining' answer buf'
+  pub hands : HandsOver given answer result
+
+-- The writer's answer: but a write that takes nothing of some bytes is a failure.
+abbrev pub TakesOver : List ℕ → Result ℕ Error → Result ℕ DeviceFault → Type 0
+TakesOver buf (Ok n) (Ok count) = count ≡ n
+TakesOver buf (Ok n) (Err fault) = (n ≡ 0) × (0 < length buf)
+TakesOver buf (Err e) (Ok count) = ⊥
+TakesOver buf (Err e) (Err fault) = Unit {0}
+
+-- one write of these bytes to a writer, and what the device makes of its answer
+pub record IsOneWrite (contents : Option (List ℕ)) (buf : List ℕ) (result : Result ℕ DeviceFault) (contents' : Option (List ℕ)) : Type 0 where
+  pub answer : Result ℕ Error
+  pub bound : WritesAtMost answer buf
+  pub bytes : WriteAppends contents contents' answer buf
+  pub hands : TakesOver buf answer result
