@@ -12,7 +12,7 @@ use std::alloc::{AllocError, Allocator};
 use std::marker::Model;
 
 /// The greatest offset of a conditional jump.
-pub const NEAR: usize = 255;
+const NEAR: usize = 255;
 
 /// The code from some place to the end. A place is named by the number of instructions from there
 /// on.

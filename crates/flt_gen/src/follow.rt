@@ -31,7 +31,7 @@ fn same_mask(one: Option<u32>, other: Option<u32>) -> bool
 
 /// A field as the code looks at it: the load, its place, and the mask.
 #[derive(Clone, Copy)]
-pub struct Look {
+struct Look {
     pub load: u16,
     pub at: u32,
     pub mask: Option<u32>,

@@ -28,7 +28,7 @@ pub fn is_at(at: u32, width: Width, value: u32) -> Elementary
 }
 
 /// The bits of a field under a mask are a number.
-pub fn is_masked(at: u32, width: Width, mask: u32, value: u32) -> Elementary
+fn is_masked(at: u32, width: Width, mask: u32, value: u32) -> Elementary
     ensures { result ≡ is_masked at width mask value }
 {
     Elementary::Field(FieldTest {
