@@ -137,7 +137,7 @@ impl<A: Allocator> OutputInterfaces<A> {
     ghost use Rattle.cap_io.specs.Text.{AreFew};
 
     /// Tells the caller's proof that there are at most 4,096, with names of at most 255 bytes. Nothing happens at run time.
-    pub fn is_bounded(&self)
+    pub fn bounds(&self)
         ensures { AreFew self.now }
     {
         let _ = &self.keys;

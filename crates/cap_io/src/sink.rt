@@ -74,7 +74,7 @@ impl<O: Output, A: Allocator> Sink<O, A> {
             return Err(fault);
         }
         let result = self.add(packet);
-        self.interfaces.is_bounded();
+        self.interfaces.bounds();
         let Err(fault) = result else {
             return Ok(());
         };

@@ -94,13 +94,13 @@ impl<I: Input, A: Allocator> Source<I, A> {
         ensures phase { self.new.phase ≡ phase_told result }
         ensures few { HasFew self.new.declared }
     {
-        self.table.is_bounded();
+        self.table.bounds();
         match self.stage {
             Stage::Ended => Ok(false),
             Stage::Failed(fault) => Err(fault),
             Stage::Between | Stage::InHand(_) => {
                 let answer = self.go_on();
-                self.table.is_bounded();
+                self.table.bounds();
                 if let Err(fault) = answer {
                     self.stage = Stage::Failed(fault);
                 }

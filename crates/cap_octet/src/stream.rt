@@ -135,7 +135,7 @@ impl<W: Write> Output for StdOutput<W> {
         ensures within { IfOk result (λ n. n ≤ length buf.now) }
         ensures some { IfOk result (λ n. 0 < length buf.now → 0 < n) }
         ensures failed { self.new.failures.count ≡ self.old.failures.count + failures_of result }
-        ensures room { (λ (n : ℕ). n) 0 ≡ 0 }
+        ensures room { ◌≡◌ {A = ℕ} 0 0 }
         ensures told { IsTrue false → Writes [] buf.now result [] }
         ensures passes { IsOneWrite (W.contents self.old.writer) buf.now result (W.contents self.new.writer) }
     {

@@ -106,7 +106,7 @@ impl<A: Allocator> Table<A> {
 
     /// Tells the caller's proof that there are at most 256 interfaces, with names of at most 255 bytes. Nothing happens at
     /// run time.
-    pub fn is_bounded(&self)
+    pub fn bounds(&self)
         ensures { AreFew self.now }
     {
         let _ = &self.entries;
