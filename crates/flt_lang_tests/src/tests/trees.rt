@@ -72,27 +72,3 @@ fn levels(rt: HostRuntime) -> Result<(), Fail> {
     }
     Ok(())
 }
-
-#[test]
-fn reads_apart(rt: HostRuntime) -> Result<(), Fail> {
-    let rows = [
-        ("len - 1 - 2 = 3", "len - (1 - 2) = 3"),
-        ("ip or arp and tcp", "ip or (arp and tcp)"),
-        ("not ip and tcp", "not (ip and tcp)"),
-        (
-            "src host 10.0.0.1 or 10.0.0.2",
-            "src host 10.0.0.1 or host 10.0.0.2",
-        ),
-        ("src and dst port 80", "src or dst port 80"),
-        ("ip[9:2] = 6", "ip[9] = 6"),
-    ];
-    for (text, other) in rows {
-        let left = compile(rt.alloc(), text)?;
-        let right = compile(rt.alloc(), other)?;
-        assert!(rt;
-            left.expr.nodes() != right.expr.nodes(),
-            "{text} is not {other}"
-        );
-    }
-    Ok(())
-}
