@@ -1,7 +1,6 @@
 //! Expressions as they are written, through all the calls.
 
-mod limits;
-mod refusals;
+mod chains;
 mod trees;
 
 use flt_lang::{Checked, bound, check, nodes, parse, resolve, tests, words};
@@ -44,10 +43,16 @@ fn counts(rt: HostRuntime) -> Result<(), Fail> {
     ];
     for (text, want_tests, want_nodes, want_words, want_bound) in rows {
         let checked = compile(rt.alloc(), text)?;
-        assert_eq!(rt; tests(&checked), want_tests, "tests of {text}");
-        assert_eq!(rt; nodes(&checked), want_nodes, "nodes of {text}");
-        assert_eq!(rt; words(&checked), want_words, "words of {text}");
-        assert_eq!(rt; bound(&checked), want_bound, "bound of {text}");
+        let counted = (
+            tests(&checked),
+            nodes(&checked),
+            words(&checked),
+            bound(&checked),
+        );
+        assert!(rt;
+            counted == (want_tests, want_nodes, want_words, want_bound),
+            "{text}"
+        );
     }
     Ok(())
 }
