@@ -84,7 +84,11 @@ pub struct Outcome {
 impl Outcome {
     /// Whether the run did what the case states.
     pub fn is_of(&self, case: &Case<'_>) -> bool {
-        self.is(&case.written, &case.messages, case.status)
+        let is_counted = match case.allocations {
+            Some(count) => self.allocations == count,
+            None => true,
+        };
+        is_counted && self.is(&case.written, &case.messages, case.status)
     }
 
     /// Whether the run wrote these bytes and reported this, with this status.

@@ -12,7 +12,8 @@ pub fn outcome_text(alloc: Global, outcome: &Outcome) -> Result<String, AllocErr
     let mut text = String::new(alloc);
     let status = outcome.status;
     let size = outcome.written.len();
-    write!(text, "  status {status}, {size} bytes written\n")?;
+    let count = outcome.allocations;
+    write!(text, "  status {status}, {size} bytes written, {count} allocations\n")?;
     for byte in outcome.messages.iter() {
         text.push(if byte.is_ascii() { *byte as char } else { '?' })?;
     }
