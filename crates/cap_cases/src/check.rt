@@ -32,12 +32,6 @@ fn refusal_of(alloc: Global, usage: &Usage) -> Result<(String, u8), AllocError> 
     }
 }
 
-/// What main reports of words that are to be a line.
-fn refused(alloc: Global, usage: &Usage) -> Result<Found, Fail> {
-    let (text, _) = refusal_of(alloc, usage)?;
-    Ok(Some(text))
-}
-
 /// The line of these words.
 fn line_of(alloc: Global, first: &[&str], more: &[String]) -> Result<Line, Usage> {
     let mut words = Vec::new(alloc);
@@ -48,6 +42,16 @@ fn line_of(alloc: Global, first: &[&str], more: &[String]) -> Result<Line, Usage
         words.push(String::from_str(alloc, word)?)?;
     }
     command_of(alloc, words)
+}
+
+/// The line of these words, if they are accepted.
+fn accepted(alloc: Global, first: &[&str], more: &[String]) -> Option<Line> {
+    line_of(alloc, first, more).ok()
+}
+
+/// What is found where the words of a run are refused.
+fn refused(alloc: Global) -> Result<Found, Fail> {
+    Ok(Some(String::from_str(alloc, "  the words are refused\n")?))
 }
 
 /// What runs of the line do that the case doesn't state, by whole pieces and by one byte a call.
@@ -76,8 +80,8 @@ fn is_listing(outcome: &Outcome, most: Option<usize>) -> bool {
     outcome.status == 0 && outcome.messages.is_empty() && 1 < lines && lines <= most
 }
 
-/// What runs of a line that writes a listing do that the case doesn't state; what the first one writes is what the
-/// case states from then on.
+/// What runs of a line that writes a listing do that the case doesn't state; what the first one
+/// writes is what the case states from then on.
 fn found_in_listing(alloc: Global, case: &mut Case<'_>, line: &Line) -> Result<Found, Fail> {
     let outcome = run_line(alloc, line, case, for_listing(case))?;
     if !is_listing(&outcome, case.most) {
@@ -89,13 +93,11 @@ fn found_in_listing(alloc: Global, case: &mut Case<'_>, line: &Line) -> Result<F
 
 /// Takes the listing that the case's line writes.
 fn compile_listing(alloc: Global, case: &mut Case<'_>) -> Result<Found, Fail> {
-    match line_of(alloc, &[], &case.compiled) {
-        Ok(line) => {
-            case.listing = run_line(alloc, &line, case, for_listing(case))?.written;
-            Ok(None)
-        }
-        Err(usage) => refused(alloc, &usage),
-    }
+    let Some(line) = accepted(alloc, &[], &case.compiled) else {
+        return refused(alloc);
+    };
+    case.listing = run_line(alloc, &line, case, for_listing(case))?.written;
+    Ok(None)
 }
 
 /// What runs of the case's words do that it doesn't state.
@@ -106,9 +108,8 @@ fn found_in_words(alloc: Global, case: &mut Case<'_>) -> Result<Found, Fail> {
             return Ok(found);
         }
     }
-    let line = match line_of(alloc, &[], &case.words) {
-        Ok(line) => line,
-        Err(usage) => return refused(alloc, &usage),
+    let Some(line) = accepted(alloc, &[], &case.words) else {
+        return refused(alloc);
     };
     let found = match case.most {
         Some(_) => found_in_listing(alloc, case, &line)?,
@@ -129,12 +130,12 @@ fn link_name(case: &Case<'_>) -> &'static str {
     }
 }
 
-/// What a compilation of the case's expression does that it doesn't state, and a print by its listing.
+/// What a compilation of the case's expression does that it doesn't state, and a print by its
+/// listing.
 fn found_by_listing(alloc: Global, case: &mut Case<'_>) -> Result<Found, Fail> {
     let first = ["capkit", "compile", "--link", link_name(case)];
-    let compile = match line_of(alloc, &first, &case.words) {
-        Ok(line) => line,
-        Err(usage) => return refused(alloc, &usage),
+    let Some(compile) = accepted(alloc, &first, &case.words) else {
+        return refused(alloc);
     };
     let compiled = run_line(alloc, &compile, case, for_listing(case))?;
     if case.status == 2 && compiled.is_of(case) {
@@ -147,18 +148,17 @@ fn found_by_listing(alloc: Global, case: &mut Case<'_>) -> Result<Found, Fail> {
     let print = [
         "capkit", "print", "-w", "out", "--format", "pcap", "--code", "listing", "in",
     ];
-    match line_of(alloc, &print, &[]) {
-        Ok(line) => found_in_runs(alloc, case, &line),
-        Err(usage) => refused(alloc, &usage),
-    }
+    let Some(line) = accepted(alloc, &print, &[]) else {
+        return refused(alloc);
+    };
+    found_in_runs(alloc, case, &line)
 }
 
 /// What prints by the case's expression and by its listing do that it doesn't state.
 fn found_in_filter(alloc: Global, case: &mut Case<'_>) -> Result<Found, Fail> {
     let print = ["capkit", "print", "-w", "out", "--format", "pcap", "in"];
-    let line = match line_of(alloc, &print, &case.words) {
-        Ok(line) => line,
-        Err(usage) => return refused(alloc, &usage),
+    let Some(line) = accepted(alloc, &print, &case.words) else {
+        return refused(alloc);
     };
     let found = found_in_runs(alloc, case, &line)?;
     if found.is_some() {
