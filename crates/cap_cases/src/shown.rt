@@ -13,7 +13,10 @@ pub fn outcome_text(alloc: Global, outcome: &Outcome) -> Result<String, AllocErr
     let status = outcome.status;
     let size = outcome.written.len();
     let count = outcome.allocations;
-    write!(text, "  status {status}, {size} bytes written, {count} allocations\n")?;
+    write!(
+        text,
+        "  status {status}, {size} bytes written, {count} allocations\n"
+    )?;
     for byte in outcome.messages.iter() {
         text.push(if byte.is_ascii() { *byte as char } else { '?' })?;
     }

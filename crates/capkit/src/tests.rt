@@ -97,7 +97,11 @@ fn nothing_is_created_where_an_input_is_missing(rt: HostRuntime) -> Result<(), F
 }
 
 /// Whether this is the text of a stop.
-fn tells<T: Drop>(alloc: Global, stopped: Result<T, Stop<'_>>, text: &str) -> Result<bool, AllocError> {
+fn tells<T: Drop>(
+    alloc: Global,
+    stopped: Result<T, Stop<'_>>,
+    text: &str,
+) -> Result<bool, AllocError> {
     let Err(stop) = stopped else {
         return Ok(false);
     };
