@@ -1,0 +1,114 @@
+#!/usr/bin/env python3
+"""Writes a pcap file of made-up traffic: TCP, UDP, ICMP, ARP and IPv6 on Ethernet, 60 to 200 bytes a packet.
+
+usage: make_capture.py FILE [PACKETS]        (1,000,000 packets where no number is given; the seed is fixed)
+"""
+import random
+import struct
+import sys
+
+# Some ports and addresses come often, so that each expression that is measured matches something.
+COMMON_PORTS = [80, 443, 53, 22, 25, 8080, 8443, 123, 5, 5353, 3306, 993]
+COMMON_HOSTS = [bytes([10, 0, 0, k]) for k in range(1, 60)]
+COMMON_HOSTS += [bytes([192, 168, 1, k]) for k in range(1, 40)] + [bytes([1, 2, 3, 4])] * 4
+
+TCP, UDP, ICMP, GRE, ICMP6 = 6, 17, 1, 47, 58
+
+# The shortest header of each protocol, in bytes.
+HEADER = {TCP: 20, UDP: 8, ICMP: 8, GRE: 8, ICMP6: 8}
+
+rng = random.Random(20260101)
+
+
+def address():
+    if rng.random() < 0.5:
+        return rng.choice(COMMON_HOSTS)
+    return bytes([rng.randrange(1, 224), rng.randrange(256), rng.randrange(256), rng.randrange(1, 255)])
+
+
+def address6():
+    return bytes.fromhex("20010db8") + rng.randbytes(12)
+
+
+def ports():
+    """A server's port and a client's, in either order."""
+    server = rng.choice(COMMON_PORTS) if rng.random() < 0.4 else rng.randrange(1, 65536)
+    both = [server, rng.randrange(1024, 65536)]
+    rng.shuffle(both)
+    return both
+
+
+def transport(protocol, length):
+    """`length` bytes of a transport header and its payload."""
+    source, destination = ports()
+    if protocol == TCP:
+        flags = rng.choice([0x10, 0x10, 0x10, 0x18, 0x02, 0x12, 0x11, 0x04])
+        numbers = rng.randrange(2**32), rng.randrange(2**32)
+        header = struct.pack(">HHIIBBHHH", source, destination, *numbers, 0x50, flags, 65535, 0, 0)
+    elif protocol == UDP:
+        header = struct.pack(">HHHH", source, destination, length, 0)
+    else:
+        header = struct.pack(">BBHHH", rng.choice([0, 8, 3, 11]), 0, 0, rng.randrange(65536), 1)
+    return (header + bytes(length))[: max(length, len(header))]
+
+
+def fragment_field():
+    if rng.random() < 0.02:
+        return 0x2000 | rng.randrange(1, 100)
+    return 0x4000 if rng.random() < 0.5 else 0
+
+
+def ipv4(length):
+    protocol = rng.choices([TCP, UDP, ICMP, GRE], [62, 30, 5, 3])[0]
+    # a third of the TCP packets have no payload
+    is_empty = protocol == TCP and rng.random() < 0.35
+    body = HEADER[protocol] if is_empty else max(HEADER[protocol], length - 20)
+    header = 24 if rng.random() < 0.03 else 20
+    fields = 0x40 | header // 4, 0, header + body, rng.randrange(65536), fragment_field(), 64, protocol, 0
+    start = struct.pack(">BBHHHBBH", *fields)
+    return start + address() + address() + bytes(header - 20) + transport(protocol, body)
+
+
+def ipv6(length):
+    protocol = rng.choices([TCP, UDP, ICMP6], [55, 35, 10])[0]
+    body = max(HEADER[protocol], length - 40)
+    start = struct.pack(">IHBB", 0x60000000, body, protocol, 64)
+    return start + address6() + address6() + transport(protocol, body)
+
+
+def arp():
+    start = struct.pack(">HHBBH", 1, 0x800, 6, 4, rng.choice([1, 2]))
+    return start + rng.randbytes(6) + address() + rng.randbytes(6) + address()
+
+
+def packet():
+    """A frame of Ethernet: of 100, 78 are IPv4, 16 IPv6, 4 ARP and 2 LLDP."""
+    length = rng.randrange(46, 187)
+    kind = rng.random()
+    if kind < 0.78:
+        data = b"\x08\x00" + ipv4(length)
+    elif kind < 0.94:
+        data = b"\x86\xdd" + ipv6(length)
+    elif kind < 0.98:
+        data = b"\x08\x06" + arp()
+    else:
+        data = b"\x88\xcc" + rng.randbytes(length)
+    return (rng.randbytes(12) + data).ljust(60, b"\0")
+
+
+def write_capture(path, count):
+    """Writes `count` packets, up to 200 microseconds apart, into the file at `path`."""
+    micros = 1_700_000_000 * 1_000_000
+    with open(path, "wb", buffering=1 << 20) as out:
+        out.write(struct.pack("<IHHiIII", 0xA1B2C3D4, 2, 4, 0, 0, 262144, 1))
+        for _ in range(count):
+            data = packet()
+            micros += rng.randrange(1, 200)
+            out.write(struct.pack("<IIII", micros // 1_000_000, micros % 1_000_000, len(data), len(data)))
+            out.write(data)
+
+
+if __name__ == "__main__":
+    if len(sys.argv) not in (2, 3):
+        sys.exit(__doc__)
+    write_capture(sys.argv[1], int(sys.argv[2]) if len(sys.argv) > 2 else 1_000_000)
