@@ -1,10 +1,9 @@
 //! An expression with its programs.
-ghost use Rattle.std.specs.Prelude.{◌≡◌, IfOk, None, OnErr};
+ghost use Rattle.std.specs.Prelude.{◌≡◌, None};
 ghost use Rattle.cap_octet.specs.Packet.{captured};
-ghost use Rattle.flt_gen.specs.Correct.{IsProgramOf};
 ghost use Rattle.flt_gen.specs.Reading.{holds};
 ghost use Rattle.cap_tools.specs.Chosen.{Answers};
-ghost use Rattle.cap_tools.specs.Compiling.{IsMade, IsTruth, RunsIf, Supplies};
+ghost use Rattle.cap_tools.specs.Compiling.{IsMade, IsTruth, RunsIf};
 ghost use Rattle.cap_tools.specs.Printed.{passing};
 
 use cap_octet::{Fault, Packet};
@@ -54,24 +53,6 @@ impl<A: Allocator> Compiled<A> {
     }
 }
 
-/// The program that is there, or a new one.
-fn program_for<A: Allocator + Clone + Drop>(
-    alloc: A,
-    tree: &Checked<A>,
-    link: Link,
-    made: Option<Program<A>>,
-) -> Result<Program<A>, AllocError>
-    requires { IsMade made tree.now.expr link }
-    ensures right { IfOk result (λ program. IsProgramOf program.insns tree.now.expr link) }
-    ensures supplies { IfOk result (Supplies made) }
-    ensures failed { OnErr result (made ≡ None) }
-{
-    match made {
-        Some(program) => Ok(program),
-        None => generate(alloc, tree, link),
-    }
-}
-
 /// Whether a packet passes by its link's program, which is made here where there is none.
 pub(crate) fn run_on<A: Allocator + Clone + Drop>(
     alloc: A,
@@ -85,10 +66,18 @@ pub(crate) fn run_on<A: Allocator + Clone + Drop>(
     ensures answers { Answers (passing (holds tree.now.expr link packet.now.bytes.now packet.now.orig)) result }
     ensures spends { RunsIf (captured packet.now) result made.old made.new }
 {
-    let Ok(mut program) = program_for(alloc, tree, link, made.take()) else {
-        return Err(Fault::NoMemory);
-    };
-    let (answer, _) = run(&mut program, packet.bytes, packet.orig);
-    *made = Some(program);
-    Ok(answer != 0)
+    match made {
+        Some(program) => {
+            let (answer, _) = run(program, packet.bytes, packet.orig);
+            Ok(answer != 0)
+        }
+        None => {
+            let Ok(mut program) = generate(alloc, tree, link) else {
+                return Err(Fault::NoMemory);
+            };
+            let (answer, _) = run(&mut program, packet.bytes, packet.orig);
+            *made = Some(program);
+            Ok(answer != 0)
+        }
+    }
 }
