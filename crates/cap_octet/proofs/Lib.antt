@@ -1,4 +1,7 @@
 pub mod Checks
+pub mod Days
+pub mod Digits
 pub mod Numbers
 pub mod Reading
+pub mod Spans
 pub mod Writing

@@ -1,6 +1,11 @@
+pub mod Calendar
 pub mod Checks
+pub mod Date
 pub mod Device
 pub mod Fault
+pub mod Laws
 pub mod Number
 pub mod Packet
+pub mod Seconds
 pub mod Stream
+pub mod Timestamp

@@ -1,5 +1,7 @@
-//! Tests of cap_octet: devices over std's readers and writers.
+//! Tests of cap_octet: devices over std's readers and writers, times as dates.
 #![tactic(auto)]
 
 #[cfg(test)]
 mod streams;
+#[cfg(test)]
+mod times;

@@ -1,0 +1,83 @@
+-- A number is read in a word of 64 bits, and nothing is lost by that.
+use Rattle.std.proofs.Common.{◌≡◌, ℕ, ◌+◌, ◌-◌, ◌*◌, ◌^◌, ◌<◌, ◌≤◌, inl, inr, Bool, true, false, nat_lt, nat_le, ◌&&◌, ◌==◌, not, List, [], ◌∷◌, length, Option, Some, None, refl, sym, ap, ◌∙◌, arith, if◌then◌else◌, take, drop, length-take}
+use Rattle.std.proofs.Math.Nat.{one-le-pow, mul-le-mul_right, pow-le-pow_right}
+use Rattle.std.proofs.lemmas.Nat.{pow-add}
+use Rattle.std.proofs.lemmas.Bool.{cases_order, lt-ltb, le-ltb}
+use Rattle.std.proofs.lemmas.Bool.Decides.{nat_tests}
+use Rattle.std.proofs.lemmas.Int.Digits.{digits_value-lt}
+use Rattle.std.specs.Char.{digit_value}
+use Rattle.std.specs.Str.Parse.{AllDigits, digits_value}
+use Rattle.cap_octet.specs.Date.{NANOS_PER_SECOND}
+use Rattle.std.specs.Option.{option_and_then}
+use Rattle.cap_octet.specs.Seconds.{are_digits, number_of, in_u64, span_with, fraction_of}
+use Rattle.cap_octet.specs.Timestamp.{number_at}
+
+both : (a b : Bool) → a && b ≡ true → (a ≡ true) × (b ≡ true)
+both true b h = (refl, h)
+both false b h = absurd (cc)
+
+digits_from_test : (ds : List ℕ) → are_digits ds ≡ true → AllDigits 10 ds
+digits_from_test [] pass = tt
+digits_from_test (d ∷ ds) pass =
+    let parts = both (nat_lt (digit_value d) 10) (are_digits ds) pass in
+    (grind (arith, nat_tests), digits_from_test ds parts.1)
+
+below_ten_to : (ds : List ℕ) → are_digits ds ≡ true → digits_value 10 ds < 10 ^ length ds
+below_ten_to ds pass = digits_value-lt 10 ds (digits_from_test ds pass)
+
+-- a number of a digits, moved to nine
+nine : (a v : ℕ) → a ≤ 9 → v < 10 ^ a → v * 10 ^ (9 - a) < 1000000000
+nine a v h lt =
+    let whole : 10 ^ a * 10 ^ (9 - a) ≡ 10 ^ 9 = sym (pow-add 10 a (9 - a)) ∙ ap (λ n. 10 ^ n) (let e : a + (9 - a) ≡ 9 = omega arith in e) in
+    let there : 10 ^ a * 10 ^ (9 - a) ≡ 1000000000 = whole ∙ refl in
+    let some : 1 ≤ 10 ^ (9 - a) = one-le-pow (9 - a) 10 (omega arith) in
+    let up : (v + 1) * 10 ^ (9 - a) ≤ 10 ^ a * 10 ^ (9 - a) = mul-le-mul_right (10 ^ (9 - a)) (omega arith) in
+    let split : (v + 1) * 10 ^ (9 - a) ≡ v * 10 ^ (9 - a) + 10 ^ (9 - a) = omega arith in
+    omega (arith, there, some, up, split)
+
+tests_in : (b : Bool) (v : ℕ) → (b ≡ true → v < 2 ^ 64) → in_u64 (if b then Some v else None) ≡ (if b then Some v else None)
+tests_in true v h = rw (lt-ltb v (2 ^ 64) (h refl)) refl
+tests_in false v h = refl
+
+tests_bound : (b : Bool) (v n m : ℕ) → (b ≡ true → v < m) → (if b then Some v else None) ≡ Some n → n < m
+tests_bound true v n m h e = (let same : v ≡ n = cc in let below = h refl in omega arith)
+tests_bound false v n m h e = absurd (cc)
+
+-- up to nine digits write less than 2^64
+pub few_in_u64 : (ds : List ℕ) → length ds ≤ 9 → in_u64 (number_of ds) ≡ number_of ds
+few_in_u64 ds few = tests_in (not (length ds == 0) && are_digits ds) (digits_value 10 ds)
+    (λ pass. (let some = below_ten_to ds (both (not (length ds == 0)) (are_digits ds) pass).1 in
+    let most : 10 ^ length ds ≤ 10 ^ 9 = pow-le-pow_right (omega arith) few in
+    let nine_digits : 10 ^ length ds ≤ 1000000000 = most in omega arith))
+
+-- moved to nine digits they are less than a second
+pub part_below : (ds : List ℕ) (n : ℕ) → length ds ≤ 9 → number_of ds ≡ Some n → n * 10 ^ (9 - length ds) < 1000000000
+part_below ds n few e =
+    let below = tests_bound (not (length ds == 0) && are_digits ds) (digits_value 10 ds) n (10 ^ length ds) (λ pass. below_ten_to ds (both (not (length ds == 0)) (are_digits ds) pass).1) e in
+    nine (length ds) n few below
+
+-- a number past the word is past the times
+pub span_with_in_u64 : (o part : Option ℕ) → span_with (in_u64 o) part ≡ span_with o part
+span_with_in_u64 None part = refl
+span_with_in_u64 (Some n) None = elim (cases_order n (2 ^ 64)) [
+  | inr (inl lt) ↦ rw (lt-ltb n (2 ^ 64) lt) refl
+  | inl e ↦ rw (le-ltb n (2 ^ 64) (omega arith)) refl
+  | inr (inr gt) ↦ rw (le-ltb n (2 ^ 64) (omega arith)) refl
+]
+span_with_in_u64 (Some n) (Some m) = elim (cases_order n (2 ^ 64)) [
+  | inr (inl lt) ↦ rw (lt-ltb n (2 ^ 64) lt) refl
+  | inl e ↦ rw (le-ltb n (2 ^ 64) (omega arith), le-ltb (n * NANOS_PER_SECOND + m) (2 ^ 63) (omega arith)) refl
+  | inr (inr gt) ↦ rw (le-ltb n (2 ^ 64) (omega arith), le-ltb (n * NANOS_PER_SECOND + m) (2 ^ 63) (omega arith)) refl
+]
+
+none_if : (b : Bool) (o : Option ℕ) (f : ℕ → Option ℕ) → o ≡ None → (if b then option_and_then f o else None) ≡ None
+none_if true o f e = rw e refl
+none_if false o f e = refl
+
+pub part_none : (ds : List ℕ) → number_of ds ≡ None → fraction_of ds ≡ None
+part_none ds e = none_if (nat_le (length ds) 9) (number_of ds) (λ n. Some (n * 10 ^ (9 - length ds))) e
+
+pub number_there : (bytes : List ℕ) (at count : ℕ) → count ≤ 9 → in_u64 (number_of (take (at + count - at) (drop at bytes))) ≡ number_at bytes at count
+number_there bytes at count few =
+    let same : at + count - at ≡ count = omega arith in
+    rw same (few_in_u64 (take count (drop at bytes)) (omega (arith, length-take count (drop at bytes))))

@@ -1,0 +1,10 @@
+use Rattle.std.proofs.Common.{◌≡◌, ◌-◌, length, arith, refl}
+use Rattle.cap_octet.specs.Timestamp.{date_time_value}
+use Rattle.cap_octet.proofs.timestamp.date_time_value.Goals as goal
+
+pub returns : goal.returns
+unfolding date_time_value
+returns c =
+    let same : length c.args.text.now - 1 - 19 ≡ length c.args.text.now - 20 = omega arith in
+    rw (c.time_with.ensures, c.day_with-day.ensures, c.clock_with-clock.ensures, c.optional_fraction.ensures, same)
+    (rw (c.number_at-year.ensures, c.number_at.ensures, c.number_at-2.ensures, c.number_at-hour.ensures, c.number_at-3.ensures, c.number_at-4.ensures) refl)
