@@ -1,9 +1,10 @@
 //! Runs of a command line over memory.
 
 use crate::case::Case;
+use cap_job::run;
 use cap_line::Line;
 use cap_octet::{TrialInput, TrialOutput};
-use cap_tools::{Command, Compile, Edit, Print, run};
+use cap_tools::{Command, Compile, Edit, Print};
 use cap_trial::Trial;
 use std::alloc::{AllocError, Global};
 use std::test::Fail;
@@ -115,6 +116,8 @@ fn command_over<'m>(
                 format,
             }))
         }
+        Command::Merge(merge) => Ok(Command::Merge(*merge)),
+        Command::Infos => Ok(Command::Infos),
         Command::Print(print) => {
             let code = listing_over(memory, line, case)?;
             let expr = String::from_str(memory, &print.expr)?;

@@ -62,10 +62,11 @@ impl<I: Input, A: Allocator> Model for Source<I, A> {
 }
 
 impl<I: Input, A: Allocator> Source<I, A> {
-    ghost use Rattle.std.specs.Prelude.{◌≡◌, ◌+◌, ◌≤◌, IsTrue, OnOk, OnErr, IfErr, []};
-    ghost use Rattle.std.specs.Option.{option_map};
+    ghost use Rattle.std.specs.Prelude.{◌≡◌, ◌+◌, ◌≤◌, IsTrue, OnOk, OnErr, IfErr, [], length};
+    ghost use Rattle.std.specs.Option.{IfSome, option_map};
     ghost use Rattle.cap_octet.specs.Packet.{captured};
     ghost use Rattle.cap_io.specs.Capture.{kind_of, first_link_of};
+    ghost use Rattle.cap_io.specs.Reading.{most_in_unit};
     ghost use Rattle.cap_io.specs.Source.{Reading, Advances, Continues, FindsNext, IsBetween, KeepsBounds, HasFew, NextBounds, Steps, left, phase_told, source_at};
 
     /// A source of which nothing is read yet. It takes no memory.
@@ -111,7 +112,8 @@ impl<I: Input, A: Allocator> Source<I, A> {
 
     /// The packet in hand, lent from the block.
     pub fn head(&self) -> Option<Packet<'_>>
-        ensures { option_map captured result ≡ self.now.packet }
+        ensures packet { option_map captured result ≡ self.now.packet }
+        ensures short { IfSome result (λ packet. length packet.bytes.now ≤ most_in_unit) }
     {
         let Stage::InHand(held) = self.stage else {
             return None;

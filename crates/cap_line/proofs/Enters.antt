@@ -1,6 +1,6 @@
--- Words that clap takes enter a subcommand, since the line requires one and has no other than `edit`.
-use Rattle.std.proofs.Common.{◌≡◌, ◌∙◌, ◌⊎◌, inl, inr, ap, sym, refl, subst, Bool, true, false, List, [], ◌∷◌, Option, Some, None, codes}
-use Rattle.std.specs.Prelude.{◌&&◌, is_some, not, find, if◌then◌else◌, option_map, option_and_then}
+-- Words that clap takes enter a subcommand, since the line requires one.
+use Rattle.std.proofs.Common.{◌≡◌, ◌∙◌, ap, sym, refl, subst, Bool, true, false, List, [], ◌∷◌, Option, Some, None}
+use Rattle.std.specs.Prelude.{◌&&◌, is_some, not, find, if◌then◌else◌, option_map}
 use Rattle.std.specs.Prelude.{Box}
 use Rattle.std.specs.Box.{box_value}
 use Rattle.std.specs.List.{list_any}
@@ -9,7 +9,6 @@ use Rattle.clap.specs.Faults.{built_fault, check_fault, defaults_fault, entered_
 use Rattle.clap.specs.Kinds.{Kinds, check_kinds, or_else}
 use Rattle.clap.specs.Simple.{App, Shape, argument_words, built, entered, label_of, names_of, rows_at, subcommand_rows}
 use Rattle.clap.specs.Walk.{Held, Names, Row, Text, answers_to, finished, nothing_held, settled, stop_after, walk, walk_from}
-use Rattle.clap.specs.declared.builder.value_parser.ValueParser.{ValueParser}
 use Rattle.clap.specs.declared.parser.matches.ArgMatches.TheViews.{out-ArgMatches, out-SubCommand}
 use Rattle.clap.specs.declared.parser.matches.ArgMatches.{ArgMatches}
 use Rattle.clap.specs.Words.{subcommand_name_of, subcommand_rows_of}
@@ -44,62 +43,47 @@ must_enter s names h words has_subcommand below required no_help none =
     has_entered has_subcommand (s.arg_required_else_help && not (list_any (λ r. explicit_source r.source) rows)) s.subcommand_required _
     (ap (λ b. b && not (list_any (λ r. explicit_source r.source) rows)) no_help) required checks
 
--- one of three subcommands, where one is entered
-found_in_three : (f : Shape → Text × List Row) (test : Shape → Bool) (one two three : Shape) → is_some (option_map f (find test (one ∷ two ∷ three ∷ []))) ≡ true
-    → (option_map f (find test (one ∷ two ∷ three ∷ [])) ≡ Some (f one))
-    ⊎ (option_map f (find test (one ∷ two ∷ three ∷ [])) ≡ Some (f two))
-    ⊎ (option_map f (find test (one ∷ two ∷ three ∷ [])) ≡ Some (f three))
-found_in_three f test one two three some = go (test one) (test two) (test three) some
+-- each of these has the name of a subcommand
+abbrev AreNamed : List Shape → Type 0
+AreNamed [] = Unit {0}
+AreNamed (s ∷ rest) = ((asked : Subcommand) × (s.name ≡ name_of asked)) × AreNamed rest
+
+-- a subcommand with its matches
+abbrev IsEntered : Option (Text × List Row) → Type 0
+IsEntered into = (asked : Subcommand) × (matches : List Row) × (into ≡ Some (name_of asked, matches))
+
+-- the first that a word names is one of them
+named_among : (words : List Text) (test : Shape → Bool) (subs : List Shape) → AreNamed subs → is_some (option_map (λ s. rows_at s words) (find test subs)) ≡ true
+    → IsEntered (option_map (λ s. rows_at s words) (find test subs))
+named_among words test [] named some = cc
+named_among words test (s ∷ rest) named some = first (test s) (named_among words test rest named.1) some
   where
-    first : Bool → Bool → Bool → Option Shape
-    first a b c = if a then Some one else (if b then Some two else (if c then Some three else None))
+    at : Shape → Text × List Row
+    at shape = rows_at shape words
 
-    go : (a b c : Bool) → is_some (option_map f (first a b c)) ≡ true
-        → (option_map f (first a b c) ≡ Some (f one)) ⊎ (option_map f (first a b c) ≡ Some (f two)) ⊎ (option_map f (first a b c) ≡ Some (f three))
-    go true b c some = inl refl
-    go false true c some = inr (inl refl)
-    go false false true some = inr (inr refl)
-    go false false false some = cc
+    first : (b : Bool) → (is_some (option_map at (find test rest)) ≡ true → IsEntered (option_map at (find test rest)))
+        → is_some (option_map at (if b then Some s else find test rest)) ≡ true → IsEntered (option_map at (if b then Some s else find test rest))
+    first true later some = (named.0.0, (at s).1, ap (λ name. Some (name, (at s).1)) named.0.1)
+    first false later some = later some
 
-entered_three : (a : App) (one two three : Shape) (stop : Option (Text × List Text)) → a.subs ≡ one ∷ two ∷ three ∷ [] → is_some (entered a stop) ≡ true
-    → (rows : List Row) × ((entered a stop ≡ Some (one.name, rows)) ⊎ (entered a stop ≡ Some (two.name, rows)) ⊎ (entered a stop ≡ Some (three.name, rows)))
-entered_three a one two three None subs some = cc
-entered_three a one two three (Some p) subs some =
-    let test : Shape → Bool = λ s. answers_to p.0 (label_of s) in
-    let at : Shape → Text × List Row = λ s. rows_at s p.1 in
-    let alone : entered a (Some p) ≡ option_map at (find test (one ∷ two ∷ three ∷ [])) = ap (λ shapes. option_map at (find test shapes)) subs in
-    elim (found_in_three at test one two three (sym (ap is_some alone) ∙ some)) [
-      | inl is ↦ ((at one).1, inl (alone ∙ is))
-      | inr others ↦ elim others [
-        | inl is ↦ ((at two).1, inr (inl (alone ∙ is)))
-        | inr is ↦ ((at three).1, inr (inr (alone ∙ is)))
-      ]
-    ]
+entered_named : (a : App) (stop : Option (Text × List Text)) → AreNamed a.subs → is_some (entered a stop) ≡ true → IsEntered (entered a stop)
+entered_named a None named some = cc
+entered_named a (Some p) named some = named_among p.1 (λ s. answers_to p.0 (label_of s)) a.subs named some
 
-enters : (a : App) (one two three : Shape) (words : List Text) → a.top.subcommand_required ≡ true → a.top.arg_required_else_help ≡ false
-    → a.subs ≡ one ∷ two ∷ three ∷ [] → built_fault a nothing_held words ≡ []
-    → (rows : List Row)
-    × ((entered a (stop_after a.top.rules (names_of a) words) ≡ Some (one.name, rows))
-    ⊎ (entered a (stop_after a.top.rules (names_of a) words) ≡ Some (two.name, rows))
-    ⊎ (entered a (stop_after a.top.rules (names_of a) words) ≡ Some (three.name, rows)))
-enters a one two three words required no_help subs none =
+enters : (a : App) (words : List Text) → a.top.subcommand_required ≡ true → a.top.arg_required_else_help ≡ false
+    → AreNamed a.subs → built_fault a nothing_held words ≡ [] → IsEntered (entered a (stop_after a.top.rules (names_of a) words))
+enters a words required no_help named none =
     let stop = stop_after a.top.rules (names_of a) words in
-    entered_three a one two three stop subs
-    (must_enter a.top (names_of a) nothing_held words (is_some (entered a stop)) (entered_fault a stop) required no_help none)
+    entered_named a stop named (must_enter a.top (names_of a) nothing_held words (is_some (entered a stop)) (entered_fault a stop) required no_help none)
 
 -- words that clap takes ask for one of the subcommands
 pub asked_of : (words : List Text) (into : Option (Text × List Row)) → Takes words into
     → (asked : Subcommand) × (matches : List Row) × (into ≡ Some (name_of asked, matches))
 asked_of words into taken =
     let line = line_app taken.formats taken.links in
-    let found = enters (built line) _ _ _ (argument_words line words) refl refl refl taken.no_fault in
-    elim found.1 [
-      | inl is ↦ (sub.Edit, found.0, sym taken.enters ∙ is)
-      | inr others ↦ elim others [
-        | inl is ↦ (sub.Print, found.0, sym taken.enters ∙ is)
-        | inr is ↦ (sub.Compile, found.0, sym taken.enters ∙ is)
-      ]
-    ]
+    let named : AreNamed (built line).subs = ((sub.Edit, refl), ((sub.Merge, refl), ((sub.Infos, refl), ((sub.Print, refl), ((sub.Compile, refl), tt))))) in
+    let found = enters (built line) (argument_words line words) refl refl named taken.no_fault in
+    (found.0, found.1, sym taken.enters ∙ found.2)
 
 pub always_enters : (words : List Text) (into : Option (Text × List Row)) → Takes words into → None ≡ option_map (λ p. p.1) into → ⊥
 always_enters words into taken none =
@@ -109,6 +93,8 @@ always_enters words into taken none =
 
 named_back : (asked : Subcommand) → subcommand_named (name_of asked) ≡ asked
 named_back sub.Edit = refl
+named_back sub.Merge = refl
+named_back sub.Infos = refl
 named_back sub.Print = refl
 named_back sub.Compile = refl
 

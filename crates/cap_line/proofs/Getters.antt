@@ -1,5 +1,5 @@
 -- What the getters of clap's matches read.
-use Rattle.std.proofs.Common.{◌≡◌, ◌∙◌, ap, sym, refl, List, ℕ, Bool, true, false, Option, Some, None, Ok, Err, unwrap_or, codes}
+use Rattle.std.proofs.Common.{◌≡◌, ap, sym, refl, List, ℕ, Bool, true, false, Option, Some, None, unwrap_or, codes}
 use Rattle.std.specs.Option.{option_map_or}
 use Rattle.std.specs.Str.{bytes_eq}
 use Rattle.std.specs.Str.Parse.{ParsesBool}

@@ -1,4 +1,5 @@
 mod Enters
+mod FileNames
 pub mod Getters
 mod Joining
 mod Numbers

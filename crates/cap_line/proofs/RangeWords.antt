@@ -1,6 +1,6 @@
 -- When the words for ranges have a fault.
-use Rattle.std.proofs.Common.{◌≡◌, ◌≤◌, ◌<◌, ◌∙◌, ap, sym, refl, arith, ℕ, Bool, true, false, List, [], ◌∷◌, length, map, take, Option, Some, None, slice_index_or}
-use Rattle.std.specs.Prelude.{is_none, ◌||◌, nat_lt, if◌then◌else◌}
+use Rattle.std.proofs.Common.{◌≡◌, ◌≤◌, ◌<◌, ◌∙◌, ap, sym, refl, ℕ, Bool, true, false, List, [], ◌∷◌, length, map, take, Option, Some, None, slice_index_or}
+use Rattle.std.specs.Prelude.{is_none, if◌then◌else◌}
 use Rattle.std.specs.Borrow.{Bor}
 use Rattle.std.specs.List.{list_all, list_any}
 use Rattle.std.proofs.lemmas.Bool.{cond-false, and_from, cond-true, le-leb, le-ltb}
@@ -11,7 +11,6 @@ use Rattle.cap_tools.specs.Command.{has_proper_ranges, is_range, most_ranges}
 use Rattle.clap.specs.Words.{Text}
 use Rattle.cap_line.specs.Line.{range_fault}
 use Rattle.cap_line.specs.Range.{number_of, range_between, range_of, sides_of}
-use Rattle.cap_line.specs.declared.usage.Usage.{Usage}
 use Rattle.cap_line.specs.declared.usage.Usage.TheVariants.{BadRange, TooManyValues}
 
 abbrev is_bad : Text → Bool

@@ -1,11 +1,11 @@
 -- What a line says of the words.
-use Rattle.std.proofs.Common.{◌≡◌, ◌∙◌, ◌⊎◌, inl, inr, refl, List, Option, Some, None, Result, Ok, Err, IfOk, IfErr, OnOk, Bool, true, false, length, codes, [], ◌∷◌}
+use Rattle.std.proofs.Common.{◌≡◌, inl, inr, refl, List, Some, None, Result, Ok, Err, IfOk, IfErr, OnOk, Bool, true, false, length, codes, [], ◌∷◌}
 use Rattle.std.specs.Prelude.{◌&&◌, if◌then◌else◌, is_none, is_some, nat_lt}
 use Rattle.std.specs.List.{list_any}
 use Rattle.clap.specs.Words.{Row, Text, first_of}
 use Rattle.clap.specs.declared.error.Error.{Error}
-use Rattle.cap_tools.specs.Command.{most_ranges}
-use Rattle.cap_line.specs.Line.{Asks, IsFaultOf, IsLineOf, SaysFault, SaysLine, exclusion_fault, fault_in, name_fault, or_else, range_fault, read_names, text_in, texts_in}
+use Rattle.cap_tools.specs.Command.{most_inputs, most_ranges}
+use Rattle.cap_line.specs.Line.{Asks, IsFaultOf, IsLineOf, SaysFault, SaysLine, fault_in, files_in, or_else, read_names, text_in, texts_in}
 use Rattle.cap_line.specs.Names.{uses_name_twice}
 use Rattle.cap_line.specs.Range.{range_of}
 use Rattle.cap_line.specs.declared.arguments.Subcommand.{Subcommand}
@@ -27,6 +27,12 @@ range_or_name false true twice e same = cc
 range_or_name false false true e same = cc
 range_or_name false false false e same = cc
 
+count_or_name : (many twice : Bool) (e : Error)
+    → or_else (if many then Some TooManyValues else None) (if twice then Some NameUsedTwice else None) ≡ Some (Refused e) → ⊥
+count_or_name true twice e same = cc
+count_or_name false true e same = cc
+count_or_name false false e same = cc
+
 exclusion_or_name : (both twice : Bool) (e : Error)
     → or_else (if both then Some OptionsExclude else None) (if twice then Some NameUsedTwice else None) ≡ Some (Refused e) → ⊥
 exclusion_or_name true twice e same = cc
@@ -38,6 +44,10 @@ not_refused sub.Edit matches e same =
     let words = texts_in (codes "RANGE") matches in
     range_or_name (nat_lt most_ranges (length words)) (list_any (λ word. is_none (range_of word)) words)
     (uses_name_twice (text_in (codes "IN") matches ∷ []) (Some (text_in (codes "OUT") matches))) e same
+not_refused sub.Merge matches e same =
+    count_or_name (nat_lt most_inputs (length (files_in matches))) (uses_name_twice (files_in matches) (Some (text_in (codes "OUT") matches))) e same
+not_refused sub.Infos matches e same =
+    count_or_name (nat_lt most_inputs (length (files_in matches))) (uses_name_twice (files_in matches) None) e same
 not_refused sub.Print matches e same =
     exclusion_or_name (is_some (first_of (codes "LISTING") matches) && nat_lt 0 (length (texts_in (codes "WORD") matches)))
     (uses_name_twice (read_names matches) (Some (text_in (codes "OUT") matches))) e same

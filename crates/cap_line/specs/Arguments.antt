@@ -16,6 +16,10 @@ use Rattle.cap_line.specs.declared.arguments.Subcommand.TheVariants as sub
 abbrev pub keep_rule : Rule
 keep_rule = record (new_rule (codes "keep")) { short = Some 114; action = Some SetTrue }
 
+-- `-a` (97)
+abbrev pub append_rule : Rule
+append_rule = record (new_rule (codes "append")) { short = Some 97; action = Some SetTrue }
+
 -- `-F FORMAT` (70)
 abbrev pub format_rule : ValueParser → Rule
 format_rule formats = record (new_rule (codes "FORMAT")) { short = Some 70; parser = Some formats }
@@ -51,6 +55,15 @@ abbrev pub edit_app : ValueParser → App
 edit_app formats = with_rule (with_rule (with_rule (with_rule (with_rule (new_app (codes "edit"))
     keep_rule) (format_rule formats)) (file_rule (codes "IN"))) (file_rule (codes "OUT"))) (many_rule (codes "RANGE"))
 
+-- `merge [-a] [-F FORMAT] -w OUT FILE [MORE..]`
+abbrev pub merge_app : ValueParser → App
+merge_app formats = with_rule (with_rule (with_rule (with_rule (with_rule (new_app (codes "merge"))
+    append_rule) (format_rule formats)) output_rule) (file_rule (codes "FILE"))) (many_rule (codes "MORE"))
+
+-- `infos FILE [MORE..]`
+abbrev pub infos_app : App
+infos_app = with_rule (with_rule (new_app (codes "infos")) (file_rule (codes "FILE"))) (many_rule (codes "MORE"))
+
 -- `print [--code LISTING] -w OUT [--format FORMAT] FILE [WORD..]`
 abbrev pub print_app : ValueParser → App
 print_app formats = with_rule (with_rule (with_rule (with_rule (with_rule (new_app (codes "print"))
@@ -68,12 +81,15 @@ bare_line =
 -- the whole line, with no subcommand `help`
 abbrev pub line_app : (formats links : ValueParser) → App
 line_app formats links =
-    with_subcommand (with_subcommand (with_subcommand bare_line (edit_app formats).top) (print_app formats).top) (compile_app links).top
+    with_subcommand (with_subcommand (with_subcommand (with_subcommand (with_subcommand bare_line
+    (edit_app formats).top) (merge_app formats).top) infos_app.top) (print_app formats).top) (compile_app links).top
 
 -- ---- names to choose from
 
 abbrev pub name_of : Subcommand → Text
 name_of sub.Edit = codes "edit"
+name_of sub.Merge = codes "merge"
+name_of sub.Infos = codes "infos"
 name_of sub.Print = codes "print"
 name_of sub.Compile = codes "compile"
 
@@ -81,7 +97,9 @@ name_of sub.Compile = codes "compile"
 abbrev pub subcommand_named : Text → Subcommand
 subcommand_named name =
     if bytes_eq name (codes "edit") then sub.Edit
-    else (if bytes_eq name (codes "print") then sub.Print else sub.Compile)
+    else (if bytes_eq name (codes "merge") then sub.Merge
+    else (if bytes_eq name (codes "infos") then sub.Infos
+    else (if bytes_eq name (codes "print") then sub.Print else sub.Compile)))
 
 abbrev pub format_names : List Text
 format_names = codes "pcap" ∷ codes "nsecpcap" ∷ codes "pcapng" ∷ []

@@ -1,5 +1,5 @@
 -- What the words of a command line ask for.
-use Rattle.std.specs.Prelude.{◌≡◌, ◌&&◌, ◌||◌, ◌⊎◌, ℕ, Bool, true, false, not, List, [], ◌∷◌, length, map, nat_lt, codes}
+use Rattle.std.specs.Prelude.{◌≡◌, ◌&&◌, ◌||◌, ◌⊎◌, ℕ, Bool, false, not, List, [], ◌∷◌, length, map, nat_lt, codes}
 use Rattle.std.specs.Prelude.{Option, Some, None, is_none, is_some, option_map, unwrap_or, if◌then◌else◌, string_bytes, vec_len}
 use Rattle.std.specs.Global.{Global, Vec}
 use Rattle.std.specs.List.{join_by, list_any}
@@ -7,11 +7,12 @@ use Rattle.std.specs.Option.{option_map_or, option_to_list}
 use Rattle.std.specs.Str.{bytes_eq}
 use Rattle.cap_octet.specs.declared.format.Format.{Format}
 use Rattle.cap_octet.specs.declared.format.Format.TheVariants.{Pcap, NsecPcap, Pcapng}
-use Rattle.cap_tools.specs.Command.{is_proper, most_ranges}
+use Rattle.cap_tools.specs.Command.{is_proper, most_inputs, most_ranges}
 use Rattle.cap_tools.specs.declared.command.Command.{Command}
 use Rattle.cap_tools.specs.declared.command.Command.TheVariants as command
 use Rattle.cap_tools.specs.declared.command.Compile.{Compile}
 use Rattle.cap_tools.specs.declared.command.Edit.{Edit}
+use Rattle.cap_tools.specs.declared.command.Merge.{Merge}
 use Rattle.cap_tools.specs.declared.command.Print.{Print}
 use Rattle.clap.specs.Words.{Row, Text, all_of, first_of, one_of}
 use Rattle.flt_gen.specs.declared.link.Link.{Link}
@@ -82,6 +83,23 @@ abbrev pub edit_fault : List Row → Option Usage
 edit_fault matches = or_else (range_fault (texts_in (codes "RANGE") matches))
     (name_fault (text_in (codes "IN") matches ∷ []) (Some (text_in (codes "OUT") matches)))
 
+-- the names of the inputs of a command that has several: there is one at least
+abbrev pub files_in : List Row → List Text
+files_in matches = text_in (codes "FILE") matches ∷ texts_in (codes "MORE") matches
+
+abbrev pub count_fault : List Text → Option Usage
+count_fault inputs = if nat_lt most_inputs (length inputs) then Some TooManyValues else None
+
+-- too many inputs, then a name used twice
+abbrev pub files_fault : List Text → Option Text → Option Usage
+files_fault inputs output = or_else (count_fault inputs) (name_fault inputs output)
+
+abbrev pub merge_fault : List Row → Option Usage
+merge_fault matches = files_fault (files_in matches) (Some (text_in (codes "OUT") matches))
+
+abbrev pub infos_fault : List Row → Option Usage
+infos_fault matches = files_fault (files_in matches) None
+
 -- the names that are read: the capture's, and the listing's where there is one
 abbrev pub read_names : List Row → List Text
 read_names matches = text_in (codes "FILE") matches ∷ option_to_list (first_of (codes "LISTING") matches)
@@ -103,6 +121,23 @@ pub record IsEditOf (matches : List Row) (line : Line) : Type 0 where
   pub format : edit.format ≡ format_in (codes "FORMAT") matches
   pub inputs : map string_bytes line.inputs.items ≡ text_in (codes "IN") matches ∷ []
   pub output : option_map string_bytes line.output ≡ Some (text_in (codes "OUT") matches)
+  pub code : line.code ≡ None
+
+-- the line is the merge that the matches ask for
+pub record IsMergeOf (matches : List Row) (line : Line) : Type 0 where
+  pub merge : Merge
+  pub command : line.command ≡ command.Merge merge
+  pub append : merge.append ≡ flag_in (codes "append") matches
+  pub format : merge.format ≡ format_in (codes "FORMAT") matches
+  pub inputs : map string_bytes line.inputs.items ≡ files_in matches
+  pub output : option_map string_bytes line.output ≡ Some (text_in (codes "OUT") matches)
+  pub code : line.code ≡ None
+
+-- the line asks for the reports that the matches ask for
+pub record IsInfosOf (matches : List Row) (line : Line) : Type 0 where
+  pub command : line.command ≡ command.Infos
+  pub inputs : map string_bytes line.inputs.items ≡ files_in matches
+  pub output : line.output ≡ None
   pub code : line.code ≡ None
 
 -- the line is the print that the matches ask for; the listing is named, and not yet read
@@ -131,11 +166,15 @@ pub record IsCompileOf (matches : List Row) (line : Line) : Type 0 where
 -- the first fault of the words
 abbrev pub fault_in : Subcommand → List Row → Option Usage
 fault_in sub.Edit matches = edit_fault matches
+fault_in sub.Merge matches = merge_fault matches
+fault_in sub.Infos matches = infos_fault matches
 fault_in sub.Print matches = print_fault matches
 fault_in sub.Compile matches = None
 
 abbrev pub IsLineOf : Subcommand → List Row → Line → Type 0
 IsLineOf sub.Edit matches line = IsEditOf matches line
+IsLineOf sub.Merge matches line = IsMergeOf matches line
+IsLineOf sub.Infos matches line = IsInfosOf matches line
 IsLineOf sub.Print matches line = IsPrintOf matches line
 IsLineOf sub.Compile matches line = IsCompileOf matches line
 
@@ -160,6 +199,8 @@ SaysFault words usage = (asked : Subcommand) × (matches : List Row) × Asks wor
 abbrev pub has_expression : {Z : Type 0} → Command Z → Bool
 has_expression (command.Print print) = nat_lt 0 (length (string_bytes print.expr))
 has_expression (command.Edit edit) = false
+has_expression (command.Merge merge) = false
+has_expression command.Infos = false
 has_expression (command.Compile compile) = false
 
 -- a line may be run once its listing is read
@@ -170,4 +211,6 @@ is_ready line = is_proper line.command (vec_len line.inputs) && (is_none line.co
 abbrev pub with_code : Command Global → Vec ℕ → Command Global
 with_code (command.Print print) bytes = command.Print (record print { code = Some bytes })
 with_code (command.Edit edit) bytes = command.Edit edit
+with_code (command.Merge merge) bytes = command.Merge merge
+with_code command.Infos bytes = command.Infos
 with_code (command.Compile compile) bytes = command.Compile compile

@@ -3,7 +3,7 @@ ghost use Rattle.std.specs.Prelude.{◌≡◌, IfOk, IfErr, map, false, string_b
 ghost use Rattle.clap.specs.Words.{app_of, rule_of, subcommand_rows_of};
 ghost use Rattle.clap.specs.declared.builder.command.Command.TheViews.{out-Command as fields_of};
 ghost use Rattle.clap.specs.declared.builder.value_parser.ValueParser.TheVariants.{Names};
-ghost use Rattle.cap_line.specs.Arguments.{keep_rule, format_rule, long_format_rule, file_rule, output_rule, listing_rule, link_rule, many_rule, edit_app, print_app, compile_app, line_app, AreChoices, Takes, Refuses, format_names, link_names, subcommand_named};
+ghost use Rattle.cap_line.specs.Arguments.{keep_rule, format_rule, long_format_rule, append_rule, file_rule, output_rule, listing_rule, link_rule, many_rule, edit_app, merge_app, infos_app, print_app, compile_app, line_app, AreChoices, Takes, Refuses, format_names, link_names, subcommand_named};
 
 use clap::{Arg, ArgAction, ArgMatches, Command, Error};
 use std::alloc::{AllocError, Global};
@@ -18,6 +18,8 @@ static LINKS: [&str; 3] = ["ether", "raw", "cooked"];
 #[derive(Clone, Copy, Debug, PartialEq, Eq)]
 pub enum Subcommand {
     Edit,
+    Merge,
+    Infos,
     Print,
     Compile,
 }
@@ -28,6 +30,8 @@ pub fn subcommand_named(name: &str) -> Subcommand
 {
     match name {
         "edit" => Subcommand::Edit,
+        "merge" => Subcommand::Merge,
+        "infos" => Subcommand::Infos,
         "print" => Subcommand::Print,
         _ => Subcommand::Compile,
     }
@@ -35,6 +39,12 @@ pub fn subcommand_named(name: &str) -> Subcommand
 
 /// What the option of a format is for.
 const FORMAT_HELP: &str = "The format that is written: pcapng where none is given";
+
+/// What an input is.
+const FILE_HELP: &str = "The capture that is read, or - for standard input";
+
+/// What the other inputs are.
+const MORE_HELP: &str = "More captures";
 
 /// What the words of an expression are.
 const WORD_HELP: &str = "The words of an expression, as in pcap-filter(7)";
@@ -47,6 +57,16 @@ fn keep_arg<'a>(alloc: Global) -> Arg<'a>
         .short('r')
         .action(ArgAction::SetTrue)
         .help("Keep the packets of the ranges, and no others")
+}
+
+fn append_arg<'a>(alloc: Global) -> Arg<'a>
+    ensures rule { rule_of result ≡ append_rule }
+    ensures local { result.global ≡ false }
+{
+    Arg::new(alloc, "append")
+        .short('a')
+        .action(ArgAction::SetTrue)
+        .help("Write the captures one after another, and don't merge them by time")
 }
 
 fn format_arg<'a>(alloc: Global, formats: &'a [&'a str]) -> Arg<'a>
@@ -119,11 +139,7 @@ fn edit_command<'a>(alloc: Global, formats: &'a [&'a str]) -> Result<Command<'a>
 {
     let keep = keep_arg(alloc);
     let format = format_arg(alloc, formats);
-    let input = file_arg(
-        alloc,
-        "IN",
-        "The capture that is read, or - for standard input",
-    );
+    let input = file_arg(alloc, "IN", FILE_HELP);
     let output = file_arg(
         alloc,
         "OUT",
@@ -144,6 +160,38 @@ fn edit_command<'a>(alloc: Global, formats: &'a [&'a str]) -> Result<Command<'a>
     Ok(command)
 }
 
+fn merge_command<'a>(alloc: Global, formats: &'a [&'a str]) -> Result<Command<'a>, AllocError>
+    ensures shape { IfOk result (λ command. app_of command ≡ merge_app (Names formats.entry)) }
+    ensures local { IfOk result (λ command. (fields_of command).has_globals ≡ false) }
+{
+    let append = append_arg(alloc);
+    let format = format_arg(alloc, formats);
+    let output = output_arg(alloc);
+    let input = file_arg(alloc, "FILE", FILE_HELP);
+    let more = many_arg(alloc, "MORE", MORE_HELP);
+    let command = Command::new(alloc, "merge")
+        .about("Write the packets of captures as one capture, by time")
+        .arg(append)?
+        .arg(format)?
+        .arg(output)?
+        .arg(input)?
+        .arg(more)?;
+    Ok(command)
+}
+
+fn infos_command<'a>(alloc: Global) -> Result<Command<'a>, AllocError>
+    ensures shape { IfOk result (λ command. app_of command ≡ infos_app) }
+    ensures local { IfOk result (λ command. (fields_of command).has_globals ≡ false) }
+{
+    let input = file_arg(alloc, "FILE", FILE_HELP);
+    let more = many_arg(alloc, "MORE", MORE_HELP);
+    let command = Command::new(alloc, "infos")
+        .about("Write a report on each capture")
+        .arg(input)?
+        .arg(more)?;
+    Ok(command)
+}
+
 fn print_command<'a>(alloc: Global, formats: &'a [&'a str]) -> Result<Command<'a>, AllocError>
     ensures shape { IfOk result (λ command. app_of command ≡ print_app (Names formats.entry)) }
     ensures local { IfOk result (λ command. (fields_of command).has_globals ≡ false) }
@@ -151,11 +199,7 @@ fn print_command<'a>(alloc: Global, formats: &'a [&'a str]) -> Result<Command<'a
     let listing = listing_arg(alloc);
     let output = output_arg(alloc);
     let format = long_format_arg(alloc, formats);
-    let input = file_arg(
-        alloc,
-        "FILE",
-        "The capture that is read, or - for standard input",
-    );
+    let input = file_arg(alloc, "FILE", FILE_HELP);
     let words = many_arg(alloc, "WORD", WORD_HELP);
     let command = Command::new(alloc, "print")
         .about("Write the packets of a capture that an expression or a listing lets pass")
@@ -187,6 +231,8 @@ fn line_command<'a>(alloc: Global) -> Result<Command<'a>, AllocError>
     let formats = FORMATS.as_slice();
     let links = LINKS.as_slice();
     let edit = edit_command(alloc, formats)?;
+    let merge = merge_command(alloc, formats)?;
+    let infos = infos_command(alloc)?;
     let print = print_command(alloc, formats)?;
     let compile = compile_command(alloc, links)?;
     let command = Command::new(alloc, "capkit")
@@ -194,6 +240,8 @@ fn line_command<'a>(alloc: Global) -> Result<Command<'a>, AllocError>
         .subcommand_required(true)
         .disable_help_subcommand(true)
         .subcommand(edit)?
+        .subcommand(merge)?
+        .subcommand(infos)?
         .subcommand(print)?
         .subcommand(compile)?;
     Ok(command)

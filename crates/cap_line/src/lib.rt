@@ -4,7 +4,10 @@
 mod arguments;
 mod compile_line;
 mod edit_line;
+mod files;
+mod infos_line;
 pub mod line;
+mod merge_line;
 pub mod names;
 mod print_line;
 mod range;

@@ -5,6 +5,8 @@ ghost use Rattle.cap_line.specs.Line.{is_ready, with_code, SaysLine, SaysFault};
 use crate::arguments::{Subcommand, matches_of, subcommand_named};
 use crate::compile_line::compile_line;
 use crate::edit_line::edit_line;
+use crate::infos_line::infos_line;
+use crate::merge_line::merge_line;
 use crate::print_line::print_line;
 use crate::usage::Usage;
 use cap_tools::{Command, Print};
@@ -26,7 +28,7 @@ pub struct Line {
 /// The line that the words ask for, of which the first is the program's name.
 ///
 /// An error is the first of these that holds: clap refuses the words (also where it is refused memory), there are
-/// more than 512 ranges, a range is none, words stand beside a listing, a name is used twice; or memory is refused
+/// more than 512 ranges or 256 inputs, a range is none, words stand beside a listing, a name is used twice; or memory is refused
 /// after clap's parse.
 pub fn command_of(alloc: Global, words: Vec<String>) -> Result<Line, Usage>
     ensures line { IfOk result (SaysLine (map string_bytes words.items)) }
@@ -42,6 +44,8 @@ pub fn command_of(alloc: Global, words: Vec<String>) -> Result<Line, Usage>
     };
     match subcommand_named(name) {
         Subcommand::Edit => edit_line(alloc, matches),
+        Subcommand::Merge => merge_line(alloc, matches),
+        Subcommand::Infos => infos_line(alloc, matches),
         Subcommand::Print => print_line(alloc, matches),
         Subcommand::Compile => compile_line(alloc, matches),
     }

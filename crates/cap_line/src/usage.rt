@@ -11,7 +11,7 @@ pub enum Usage {
     /// clap refuses the words, or answers a request for help.
     #[error(transparent)]
     Refused(clap::Error),
-    /// There are more than 512 ranges.
+    /// There are more than 512 ranges, or more than 256 inputs.
     #[error("too many values")]
     TooManyValues,
     /// A word names no range of packets.

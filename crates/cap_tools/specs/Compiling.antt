@@ -1,24 +1,25 @@
 -- What a contract sees of an expression with its programs, and what their runs cost.
-use Rattle.std.specs.Prelude.{◌≡◌, ℕ, ◌+◌, ◌-◌, ◌^◌, min, List, length, Option, None, Some, Result, Ok, Err, Bool}
+use Rattle.std.specs.Prelude.{ℕ, suc, zero, ◌+◌, ◌-◌, ◌^◌, min, List, [], ◌∷◌, length, Option, None, Some}
 use Rattle.std.specs.Coded.{Coded, code_by, coded_list}
 use Rattle.cap_octet.specs.Packet.{Captured}
-use Rattle.cap_octet.specs.declared.fault.Fault.{Fault}
+use Rattle.flt_bpf.specs.declared.insn.Insn.{Insn}
 use Rattle.flt_bpf.specs.Content.{Content}
-use Rattle.flt_bpf.specs.Machine.{machine, Answered}
+use Rattle.flt_bpf.specs.Machine.{machine, Progress, Answered}
+use Rattle.flt_bpf.specs.Valid.{IsValid}
 use Rattle.flt_lang.specs.Tree.{Expression, empty, truth}
 use Rattle.flt_lang.specs.declared.node.Node.{Node}
 use Rattle.flt_lang.specs.contracts.node.Node as stored
 use Rattle.flt_lang.specs.Nodes.{expr_nodes, tree_of, tree_back}
 use Rattle.flt_gen.specs.declared.link.Link.{Link}
-use Rattle.flt_gen.specs.declared.link.Link.TheVariants.{Ether, Raw, Cooked}
 use Rattle.flt_gen.specs.Correct.{IsProgramOf}
+use Rattle.cap_tools.specs.Links.{link_types}
 
--- an expression, and the program for each link where it was made
+-- ---- an expression with its programs
+
+-- an expression, and its programs in the order of the table of link types
 pub record CompiledView : Type 0 where
   pub tree : Expression
-  pub ether : Option Content
-  pub raw : Option Content
-  pub cooked : Option Content
+  pub programs : List Content
 
 -- an expression is stored as its nodes
 abbrev pub expression_code : Coded Expression
@@ -29,43 +30,46 @@ abbrev pub IsTruth : Expression → Type 0
 IsTruth empty = ⊥
 IsTruth (truth a) = Unit {0}
 
--- a program that is there is one for the expression on the link
-abbrev pub IsMade : Option Content → Expression → Link → Type 0
-IsMade None e link = Unit {0}
-IsMade (Some program) e link = IsProgramOf program.insns e link
+-- a valid program for an expression on a link: it has at most as many instructions as the expression's bound, and
+-- answers other than 0 exactly where the expression reads yes
+pub record IsMade (program : Content) (e : Expression) (link : Link) : Type 0 where
+  pub valid : IsValid program.insns
+  pub right : IsProgramOf program.insns e link
 
--- the expression isn't empty, and its programs are programs for it
-pub record IsSound (e : Expression) (ether raw cooked : Option Content) : Type 0 where
+-- one such program for each row of a table of link types, in its order
+abbrev pub AreMade : Expression → List (ℕ × Link) → List Content → Type 0
+AreMade e [] [] = Unit {0}
+AreMade e [] (program ∷ programs) = ⊥
+AreMade e (row ∷ rows) [] = ⊥
+AreMade e (row ∷ rows) (program ∷ programs) = IsMade program e row.1 × AreMade e rows programs
+
+-- the expression isn't empty, and has its program for each link type
+pub record IsSound (e : Expression) (programs : List Content) : Type 0 where
   pub some : IsTruth e
-  pub on_ether : IsMade ether e Ether
-  pub on_raw : IsMade raw e Raw
-  pub on_cooked : IsMade cooked e Cooked
+  pub made : AreMade e link_types programs
 
--- a program for a run: the one that is there, or a new one, that met no instruction yet
-abbrev pub Supplies : Option Content → Content → Type 0
-Supplies None program = program.spent ≡ 0
-Supplies (Some old) program = program ≡ old
+-- ---- runs
 
-abbrev pub spent_of : Option Content → ℕ
-spent_of None = 0
-spent_of (Some program) = program.spent
+-- how many instructions a run met that came to an answer
+abbrev pub count_of : Progress → ℕ
+count_of (Answered answer count) = count
+count_of _ = 0
 
--- the same instructions, where there were some
-abbrev pub Stays : Option Content → Content → Type 0
-Stays None program = Unit {0}
-Stays (Some old) program = program.insns ≡ old.insns
+-- what a program comes to on a packet
+abbrev pub met_on : Captured → List Insn → Progress
+met_on p prog = machine prog p.bytes p.orig (length prog)
 
--- A program, which is made here where there was none, ran once on a packet: what it spent rose by the machine's count.
-pub record RunsOnce (p : Captured) (old new : Option Content) : Type 0 where
-  pub program : Content
-  pub there : new ≡ Some program
-  pub stays : Stays old program
-  pub answer : ℕ
-  pub count : ℕ
-  pub met : machine program.insns p.bytes p.orig (length program.insns) ≡ Answered answer count
-  pub spent : program.spent ≡ min (spent_of old + count) (2 ^ 128 - 1)
+-- a program behind a run on a packet: what it spent rose by the instructions that it met
+abbrev pub ran_on : Captured → Content → Content
+ran_on p program = record { insns = program.insns; spent = min (program.spent + count_of (met_on p program.insns)) (2 ^ 128 - 1) }
 
--- a packet that isn't decided costs nothing
-abbrev pub RunsIf : Captured → Result Bool Fault → Option Content → Option Content → Type 0
-RunsIf p (Ok kept) old new = RunsOnce p old new
-RunsIf p (Err fault) old new = new ≡ old
+-- programs, of which the one at this place ran on a packet
+abbrev pub ran_at : ℕ → Captured → List Content → List Content
+ran_at i p [] = []
+ran_at zero p (program ∷ programs) = ran_on p program ∷ programs
+ran_at (suc i) p (program ∷ programs) = program ∷ ran_at i p programs
+
+-- the same, or programs of which none ran
+abbrev pub ran_if : Option ℕ → Captured → List Content → List Content
+ran_if None p programs = programs
+ran_if (Some i) p programs = ran_at i p programs

@@ -2,12 +2,10 @@ pub mod Chosen
 pub mod Command
 pub mod Compiled
 pub mod Compiling
-pub mod Edited
-pub mod Editing
 pub mod Expressions
+pub mod Links
 pub mod Messages
 pub mod Printed
 pub mod Printing
 pub mod Running
 pub mod Selected
-pub mod Working

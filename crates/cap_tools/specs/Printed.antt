@@ -1,9 +1,8 @@
--- Which packets a print writes.
-use Rattle.std.specs.Prelude.{◌⊎◌, ℕ, Bool, ◌==◌, not, if◌then◌else◌, List, length, Option, None, Some}
+-- Which packets a filter keeps.
+use Rattle.std.specs.Prelude.{ℕ, ◌==◌, not, List, length, Option, None, Some}
 use Rattle.std.specs.Option.{option_map}
 use Rattle.cap_octet.specs.Packet.{Captured}
 use Rattle.cap_octet.specs.declared.fault.Fault.TheVariants.{LinkTypeNotFiltered}
-use Rattle.cap_octet.specs.declared.format.Format.{Format}
 use Rattle.flt_bpf.specs.declared.insn.Insn.{Insn}
 use Rattle.flt_bpf.specs.Listing.{IsListing}
 use Rattle.flt_bpf.specs.Machine.{machine, Progress, Answered}
@@ -11,16 +10,14 @@ use Rattle.flt_bpf.specs.Refusal as listing
 use Rattle.flt_bpf.specs.Valid.{IsValid, BreaksFirst}
 use Rattle.flt_lang.specs.Tree.{Expression, empty, truth}
 use Rattle.flt_gen.specs.declared.link.Link.{Link}
-use Rattle.flt_gen.specs.declared.link.Link.TheVariants.{Ether, Raw, Cooked}
 use Rattle.flt_gen.specs.Elementary.{Reading, Yes, No, Rejected}
 use Rattle.flt_gen.specs.Reading.{holds}
 use Rattle.cap_tools.specs.declared.command.Print.{Print}
 use Rattle.cap_tools.specs.declared.refusal.Refusal.{Refusal}
 use Rattle.cap_tools.specs.declared.refusal.Refusal.TheVariants as refusal
-use Rattle.cap_tools.specs.Chosen.{Decision, Keep, Skip, Refuse, Choice, keep_if}
+use Rattle.cap_tools.specs.Chosen.{Decision, Keep, Skip, Refuse, keep_if}
 use Rattle.cap_tools.specs.Expressions.{IsExpression, IsReasonFor}
-use Rattle.cap_tools.specs.Messages.{refusal_message, refusal_status}
-use Rattle.cap_tools.specs.Running.{OutputView, OnlyTells, WorkLeaves}
+use Rattle.cap_tools.specs.Links.{link_of}
 
 -- ---- which packets pass
 
@@ -28,10 +25,6 @@ use Rattle.cap_tools.specs.Running.{OutputView, OnlyTells, WorkLeaves}
 pub data Rule : Type 0 where
   by_reading : (e : Expression) → Rule
   by_answer : (prog : List Insn) → Rule
-
--- the link types whose packets expressions are read on
-abbrev pub link_of : ℕ → Option Link
-link_of n = if n == 1 then Some Ether else (if n == 101 then Some Raw else (if n == 113 then Some Cooked else None))
 
 -- a packet passes where an expression reads yes; one that is rejected doesn't
 abbrev pub passing : Reading → Decision
@@ -57,9 +50,6 @@ abbrev pub rule_decides : Rule → Captured → Decision
 rule_decides (by_reading e) p = expression_decides e p
 rule_decides (by_answer prog) p = answering (machine prog p.bytes p.orig (length prog))
 
-abbrev pub print_choice : Rule → Format → Choice
-print_choice rule format = record { decides = λ number packet. rule_decides rule packet; format = format }
-
 -- ---- what is asked for
 
 -- the rule that words are, or that a listing is
@@ -77,26 +67,6 @@ IsWhy words None (refusal.Program fault at) = ⊥
 IsWhy words (Some text) (refusal.Expression fault) = ⊥
 IsWhy words (Some text) (refusal.Listing fault) = listing.IsReasonFor text fault
 IsWhy words (Some text) (refusal.Program fault at) = (prog : List Insn) × IsListing text prog × BreaksFirst prog fault at
-
--- ---- what a print leaves
-
--- the packets that pass go into the output
-pub record Passes (words : List ℕ) (code : Option (List ℕ)) (format : Format) (input output text : List ℕ) (failures : ℕ × ℕ × Bool) (out out' : OutputView) (message : List ℕ) (status : ℕ) : Type 0 where
-  pub rule : Rule
-  pub asked : IsRule words code rule
-  pub leaves : WorkLeaves (print_choice rule format) input output text failures out out' message status
-
--- the words or the listing are refused, or there was no memory for them, and nothing is written
-pub record FilterFails (words : List ℕ) (code : Option (List ℕ)) (out out' : OutputView) (message : List ℕ) (status : ℕ) : Type 0 where
-  pub refusal : Refusal
-  pub why : IsWhy words code refusal
-  pub tells : OnlyTells (refusal_message refusal) (refusal_status refusal) out out' message status
-
--- The input, whose bytes are this text, goes through the filter into the output.
-abbrev pub PrintLeaves : List ℕ → Option (List ℕ) → Format → List ℕ → List ℕ → List ℕ → ℕ × ℕ × Bool → OutputView → OutputView → List ℕ → ℕ → Type 0
-PrintLeaves words code format input output text failures out out' message status =
-    Passes words code format input output text failures out out' message status
-    ⊎ FilterFails words code out out' message status
 
 -- the bytes of a listing, where there is one
 abbrev pub code_of : {Z : Type 0} → Print Z → Option (List ℕ)

@@ -1,7 +1,7 @@
 //! What is asked for.
 ghost use Rattle.std.specs.Prelude.{◌≡◌, string_bytes};
 ghost use Rattle.std.specs.List.{list_all};
-ghost use Rattle.cap_tools.specs.Command.{is_proper, is_range, has_one_filter, has_proper_ranges};
+ghost use Rattle.cap_tools.specs.Command.{is_proper, is_input_count, is_range, has_one_filter, has_proper_ranges};
 ghost use Rattle.cap_tools.specs.Selected.{is_named, is_kept};
 
 use cap_octet::Format;
@@ -11,10 +11,16 @@ use std::alloc::{Allocator, Global};
 /// How many ranges an edit has at most.
 pub const MOST_RANGES: usize = 512;
 
+/// How many inputs a merge or a report has at most.
+pub const MOST_INPUTS: usize = 256;
+
 /// A command, over the allocator of its lists.
 #[derive(Drop)]
 pub enum Command<A: Allocator = Global> {
     Edit(Edit<A>),
+    Merge(Merge),
+    /// Reports on captures (capinfos(1)).
+    Infos,
     Print(Print<A>),
     Compile(Compile<A>),
 }
@@ -26,6 +32,15 @@ pub struct Edit<A: Allocator = Global> {
     pub ranges: Vec<(u64, u64), A>,
     /// Whether the named packets alone are kept.
     pub keep: bool,
+    /// The format that is written.
+    pub format: Format,
+}
+
+/// Writes the packets of captures as one (mergecap(1)).
+#[derive(Clone, Copy)]
+pub struct Merge {
+    /// Whether the captures follow one another, and their packets aren't merged by time.
+    pub append: bool,
     /// The format that is written.
     pub format: Format,
 }
@@ -52,16 +67,25 @@ pub struct Compile<A: Allocator = Global> {
 
 impl<A: Allocator> Command<A> {
     /// Whether the command may be run on so many inputs: an edit has one input, and at most 512 ranges, each from
-    /// 1 on, in order and below 2^63; a print has one input, and no listing beside words; a compilation has none.
+    /// 1 on, in order and below 2^63; a merge and a report have 1 to 256; a print has one input, and no listing beside
+    /// words; a compilation has none.
     pub fn is_proper(&self, inputs: usize) -> bool
         ensures { result ≡ is_proper self.now inputs }
     {
         match self {
             Command::Edit(edit) => inputs == 1 && edit.has_proper_ranges(),
+            Command::Merge(_) | Command::Infos => is_input_count(inputs),
             Command::Print(print) => inputs == 1 && print.has_one_filter(),
             Command::Compile(_) => inputs == 0,
         }
     }
+}
+
+/// Whether a merge or a report may have so many inputs: 1 to 256.
+fn is_input_count(inputs: usize) -> bool
+    ensures { result ≡ is_input_count inputs }
+{
+    1 <= inputs && inputs <= MOST_INPUTS
 }
 
 /// Whether the numbers are those of a range: from 1 on, in order and below 2^63.

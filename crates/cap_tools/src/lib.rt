@@ -1,18 +1,12 @@
-//! Commands and the machines that run them.
+//! Commands, what they are refused for, filters and compilations.
 #![tactic(auto)]
 
 pub mod command;
-mod compile;
-mod compiled;
-pub mod edit;
-mod expression;
-mod filter;
-pub mod job;
-mod message;
-mod print;
-pub mod progress;
+pub mod compile;
+pub mod compiled;
+pub mod expression;
+pub mod filter;
+pub mod message;
 pub mod refusal;
-mod work;
 
-pub use command::{Command, Compile, Edit, MOST_RANGES, Print, is_range};
-pub use job::run;
+pub use command::{Command, Compile, Edit, MOST_INPUTS, MOST_RANGES, Merge, Print, is_range};

@@ -1,6 +1,7 @@
 //! A command over files and standard streams.
-ghost use Rattle.std.specs.Prelude.{◌≡◌, ◌≤◌, ◌&&◌, ◌||◌, ℕ, not, is_none, IfOk, true, false, length, vec_len};
+ghost use Rattle.std.specs.Prelude.{◌≡◌, ◌≤◌, ◌&&◌, ◌||◌, ℕ, not, is_none, IfErr, IfOk, Ok, true, false, length, vec_len};
 ghost use Rattle.std.specs.Global.{Vec};
+ghost use Rattle.std.specs.IoError.{error_kind};
 ghost use Rattle.cap_tools.specs.Command.{is_proper};
 ghost use Rattle.cap_line.specs.Line.{has_expression, is_ready, with_code};
 
@@ -52,12 +53,6 @@ impl From<AllocError> for Stop<'_> {
     }
 }
 
-impl From<io::Error> for Stop<'_> {
-    fn from(_error: io::Error) -> Self {
-        Stop::NoMemory
-    }
-}
-
 impl<T: Drop> From<AllocFailed<T>> for Stop<'_> {
     fn from(_error: AllocFailed<T>) -> Self {
         Stop::NoMemory
@@ -94,6 +89,14 @@ fn with_listing<'a>(
     Ok(with_code(command, bytes))
 }
 
+/// A buffer that was made. Only want of memory may be the reason of an error here.
+fn buffered<'a, T: Drop>(made: io::Result<T>) -> Result<T, Stop<'a>>
+    requires { IfErr made (λ error. error_kind error ≡ ErrorKind.OutOfMemory) }
+    ensures { IfOk result (λ buffer. made ≡ Ok buffer) }
+{
+    made.map_err(|_| Stop::NoMemory)
+}
+
 /// Opens the inputs in order.
 pub(crate) fn open<'a>(rt: &HostRuntime, names: &'a [String]) -> Result<Vec<Source>, Stop<'a>>
     ensures { IfOk result (λ inputs. vec_len inputs ≡ length names.entry.now) }
@@ -104,7 +107,7 @@ pub(crate) fn open<'a>(rt: &HostRuntime, names: &'a [String]) -> Result<Vec<Sour
         let Ok(opened) = Opened::open(rt, name) else {
             return Err(Stop::CannotOpen(name));
         };
-        let reader = BufReader::with_capacity(rt.alloc(), BUFFER, opened)?;
+        let reader = buffered(BufReader::with_capacity(rt.alloc(), BUFFER, opened))?;
         inputs.push(StdInput::new(reader))?;
     }
     Ok(inputs)
@@ -115,7 +118,7 @@ pub(crate) fn create<'a>(rt: &HostRuntime, name: &'a str) -> Result<Target, Stop
     let Ok(created) = Created::create(rt, name) else {
         return Err(Stop::CannotCreate(name));
     };
-    let writer = BufWriter::with_capacity(rt.alloc(), BUFFER, created)?;
+    let writer = buffered(BufWriter::with_capacity(rt.alloc(), BUFFER, created))?;
     Ok(Watched::new(writer))
 }
 
@@ -133,8 +136,8 @@ fn run_over<'a>(
 {
     let target = create(rt, output)?;
     names.push(String::from_str(rt.alloc(), output)?)?;
-    let messages = BufWriter::new(rt.alloc(), rt.stderr())?;
-    let (status, target, messages) = cap_tools::run(
+    let messages = buffered(BufWriter::new(rt.alloc(), rt.stderr()))?;
+    let (status, target, messages) = cap_job::run(
         rt.alloc(),
         command,
         names,

@@ -1,4 +1,3 @@
-use Rattle.std.proofs.Common.{map, string_bytes}
 use Rattle.cap_line.proofs.Parses.{no_memory, refuses_words, takes_words}
 use Rattle.cap_line.proofs.arguments.matches_of.Goals as goal
 

@@ -1,4 +1,4 @@
-use Rattle.std.proofs.Common.{◌≡◌, ◌∙◌, ◌++◌, ◌∷◌, [], ap, refl, map, Some, vec_len, ◌+◌, string_bytes, String}
+use Rattle.std.proofs.Common.{◌≡◌, ◌∙◌, ◌++◌, ◌∷◌, [], ap, refl, map, Some, vec_len, ◌+◌, string_bytes}
 use Rattle.std.proofs.lemmas.Bool.{and_from, eq-eqb}
 use Rattle.cap_line.specs.Range.{range_of}
 use Rattle.cap_line.proofs.edit_line.edit_line.Goals as goal

@@ -1,6 +1,6 @@
-use Rattle.std.proofs.Common.{◌≡◌, ◌∙◌, sym, map, string_bytes, subst, List, String}
+use Rattle.std.proofs.Common.{◌≡◌, sym, map, string_bytes, subst, List, String}
 use Rattle.std.specs.Global.{Global}
-use Rattle.clap.specs.Words.{Text, found_of, rows_of, subcommand_rows_of}
+use Rattle.clap.specs.Words.{found_of, rows_of, subcommand_rows_of}
 use Rattle.clap.specs.declared.parser.matches.ArgMatches.{ArgMatches}
 use Rattle.cap_line.specs.Arguments.{Takes}
 use Rattle.cap_line.specs.Line.{Asks}
@@ -26,6 +26,28 @@ returns-in-Edit-clause-line c = says_line _ sub.Edit _ c.edit_line.result (edit 
 
 pub returns-in-Edit-clause-usage : goal.returns-in-Edit-clause-usage
 returns-in-Edit-clause-usage c = says_fault _ sub.Edit _ c.edit_line.result (edit c) c.edit_line.ensures.fault
+
+merge : (c : goal.After-drop-words-in-Merge) → Asks (map string_bytes c.args.words.items) sub.Merge (rows_of (found_of c.in-Some.matches.now))
+merge c =
+    asks_of c.in-Ok.matches _ c.in-Some.name.now _ sub.Merge (taken_as _ _ _ c.as_slice.ensures.value c.in-Ok.ensures.taken)
+    c.in-Some.ensures.name c.in-Some.ensures.rows (sym c.in-Merge.ensures)
+
+pub returns-in-Merge-clause-line : goal.returns-in-Merge-clause-line
+returns-in-Merge-clause-line c = says_line _ sub.Merge _ c.merge_line.result (merge c) c.merge_line.ensures.line c.merge_line.ensures.faultless
+
+pub returns-in-Merge-clause-usage : goal.returns-in-Merge-clause-usage
+returns-in-Merge-clause-usage c = says_fault _ sub.Merge _ c.merge_line.result (merge c) c.merge_line.ensures.fault
+
+infos : (c : goal.After-drop-words-in-Infos) → Asks (map string_bytes c.args.words.items) sub.Infos (rows_of (found_of c.in-Some.matches.now))
+infos c =
+    asks_of c.in-Ok.matches _ c.in-Some.name.now _ sub.Infos (taken_as _ _ _ c.as_slice.ensures.value c.in-Ok.ensures.taken)
+    c.in-Some.ensures.name c.in-Some.ensures.rows (sym c.in-Infos.ensures)
+
+pub returns-in-Infos-clause-line : goal.returns-in-Infos-clause-line
+returns-in-Infos-clause-line c = says_line _ sub.Infos _ c.infos_line.result (infos c) c.infos_line.ensures.line c.infos_line.ensures.faultless
+
+pub returns-in-Infos-clause-usage : goal.returns-in-Infos-clause-usage
+returns-in-Infos-clause-usage c = says_fault _ sub.Infos _ c.infos_line.result (infos c) c.infos_line.ensures.fault
 
 print : (c : goal.After-drop-words-in-Print) → Asks (map string_bytes c.args.words.items) sub.Print (rows_of (found_of c.in-Some.matches.now))
 print c =

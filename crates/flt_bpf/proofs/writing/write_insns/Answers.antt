@@ -24,5 +24,6 @@ loop-insn-preserved g c =
       bounded = omega arith;
       size = more_size c.args.insns.now c.loop-insn.insn-index _ c.loop-insn.written c.put_insn-start.result c.put_insn-start.new.line c.loop-insn-test.true c.put_insn-start.array_long bytes c.loop-insn.invariant.size;
       failed = search rules;
+      room = search rules;
       told = λ tells. more_told _ _ _ c.args.insns.now c.loop-insn.insn-index _ _ c.loop-insn-test.true bytes (c.loop-insn.invariant.told tells) (c.in_default.ensures.told tells);
     }

@@ -8,5 +8,6 @@ invariant-loop-insn g l = record {
   bounded : l.written ≤ 25 * (l.insn-index + 1);
   size : l.written ≡ length (front_of l.insns l.insn-index);
   failed : g.O.Output.failures l.output ≡ g.O.Output.failures l.fn.output;
+  room : g.O.Output.room l.output ≡ g.O.Output.room l.fn.output;
   told : IsTrue g.O.Output.tells → g.O.Output.written l.output ≡ g.O.Output.written l.fn.output ++ front_of l.insns l.insn-index;
 }

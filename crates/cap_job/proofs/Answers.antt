@@ -1,0 +1,472 @@
+-- The steps that decide the packet in hand.
+use Rattle.std.proofs.Common.{◌≡◌, inl, inr, ℕ, ◌+◌, ◌<◌, ◌≤◌, Bool, true, false, List, [], ◌∷◌, ◌++◌, length, map, Option, None, Some, Result, Ok, Err, refl, sym, ◌∙◌, ap, arith, subst, not, nat_eq, if◌then◌else◌, ◌-◌}
+use Rattle.std.proofs.lemmas.List.{append_assoc, append-nil, map-append}
+use Rattle.std.specs.List.{list_any, slice_set}
+use Rattle.cap_octet.specs.Device.{Stops}
+use Rattle.cap_octet.specs.Packet.{Captured, captured}
+use Rattle.cap_octet.specs.declared.fault.Fault.{Fault}
+use Rattle.cap_octet.specs.declared.fault.Fault.TheVariants.{NoMemory, TooManyPackets, WriteFailed}
+use Rattle.cap_io.specs.Capture.{Placed}
+use Rattle.cap_io.specs.Standing.{IsAt}
+use Rattle.cap_io.specs.Sink.{SinkView, HasPackets}
+use Rattle.cap_io.specs.Text.{text, added, packets_text, refused}
+use Rattle.cap_io.proofs.Standing.{IsAt-decided}
+use Rattle.cap_io.proofs.Texts.{text-more}
+use Rattle.cap_tools.specs.Chosen as chosen
+use Rattle.cap_tools.specs.Chosen.{Decision}
+use Rattle.cap_tools.specs.Printed as rule_spec
+use Rattle.cap_tools.specs.Links.{link_of}
+use Rattle.cap_tools.specs.Printed.{Rule, rule_decides, read_on, passing, answering}
+use Rattle.flt_bpf.specs.Machine.{machine, Progress, Answered}
+use Rattle.flt_lang.specs.Tree.{Expression, empty, truth}
+use Rattle.flt_gen.specs.declared.link.Link.{Link}
+use Rattle.flt_gen.specs.Elementary.{Reading, Yes, No, Rejected}
+use Rattle.flt_gen.specs.Reading.{holds}
+use Rattle.cap_job.specs.declared.judge.Verdict as code
+use Rattle.cap_job.specs.declared.judge.Verdict.TheVariants as code_verdict
+use Rattle.cap_job.specs.declared.machine.End.TheVariants as end
+use Rattle.cap_job.specs.declared.feed.Place.{Place}
+use Rattle.cap_job.specs.declared.feed.Next.TheVariants as next
+use Rattle.cap_job.specs.Reports.{Report, Tally}
+use Rattle.cap_job.specs.Fed.{Rest, Event, Came, Close, Over, Broken, Fed, fed, behind}
+use Rattle.cap_job.specs.Judged.{Asked, Select, Filter, Everything, Count, Selection, Stand, Verdict, Pass, Last, Skip, Refuse, verdict}
+use Rattle.cap_job.specs.Judged as judged_spec
+use Rattle.cap_job.specs.Judging.{JudgeView, GrowsByOne, IsWithin, Tells}
+use Rattle.cap_job.specs.Course.{Form, AsCapture, Way, set_out, unless_refused, by_verdict, goes, way, course, refused_by, stops_at, output, first_link}
+use Rattle.cap_job.specs.Course as course_spec
+use Rattle.cap_job.specs.Draining.{DrainView, Target, Capture, Text, Drained, DrainedTo, Puts, PutsTo, form_at, form_to, written_to, failures_to}
+use Rattle.cap_job.specs.Feeding.{HeadView, FeedView, Future, Stood, Standing, Among, settled, place_behind, later, wholes, rest_with, rests, left, most_steps, ordering_of}
+use Rattle.cap_job.specs.Feeding as feeding
+use Rattle.cap_job.specs.Working.{MachineView, Decided, GoesOn, Comes, Decides, Offers, StopsWriting, EndLeaves, stands_at, wholes_of, written_by, unwritten}
+use Rattle.cap_job.proofs.Splits.{At, stands-split, stands-join, stands-length, rests-join, finish-here, come-on}
+use Rattle.cap_job.proofs.Coming.{carries-decided, true-wholes, true-fit, true-fits}
+use Rattle.cap_job.proofs.Drains.{PutOk, put-ok, WhyUnput, unput, closing-some}
+use Rattle.cap_job.proofs.Growing.{Grows, course-grows}
+use Rattle.cap_job.proofs.Laws.{DecideLaws, DecideAt, decide-at}
+use Rattle.cap_job.proofs.Courses.{way-next, course-stop}
+use Rattle.cap_job.proofs.Heads.{set-here}
+use Rattle.cap_job.proofs.Fetches.{mk, among-same, comes-broken}
+
+-- ---- a packet that is judged
+
+abbrev pub end_if : Bool → Option Close
+end_if true = Some Over
+end_if false = None
+
+-- what is written and how the course goes on where a packet is decided
+pub record Took (asked : Asked) (w : Way) (before : List ℕ) (i : ℕ) (x : Placed) (stand' : Stand) (old new : DrainView) (last : Bool) : Type 0 where
+  pub passed : List Captured
+  pub went : goes asked (form_at old) w (Came i x) ≡ course_spec.decided w stand' passed (end_if last)
+  pub output : Drained before new (w.packets ++ passed) w.reports
+  pub form : form_at new ≡ form_at old
+  pub failures : failures_to new.target ≡ failures_to old.target
+  pub names : new.names ≡ old.names
+
+goes-by : (asked : Asked) (form : Form) (w : Way) (i : ℕ) (x : Placed) (v : Verdict) (stand' : Stand) → v ≡ (verdict asked w.stand (w.number + 1) x.packet).verdict → stand' ≡ (verdict asked w.stand (w.number + 1) x.packet).stand
+    → goes asked form w (Came i x) ≡ by_verdict form w i x v stand'
+goes-by asked form w i x v stand' one other = rw (one, other) refl
+
+put-took : (asked : Asked) (w : Way) (before : List ℕ) (i : ℕ) (x : Placed) (q : Captured) (stand' : Stand) (old new : DrainView) (last : Bool) → Drained before old w.packets w.reports → Puts q old (Ok tt) new
+    → goes asked (form_at old) w (Came i x) ≡ unless_refused (refused_by (form_at old) w.packets q) w i x stand' q (end_if last)
+    → Took asked w before i x stand' old new last
+put-took asked w before i x q stand' old new last has puts went =
+    let ok : PutOk before w.packets w.reports q old.names new.names old.target new.target = put-ok before w.packets w.reports q old.names new.names old.target new.target puts.names has puts.target in
+    record {
+      passed = q ∷ [];
+      went = went ∙ ap (λ (f : Option Fault). unless_refused f w i x stand' q (end_if last)) ok.none;
+      output = ok.output;
+      form = ok.form;
+      failures = ok.failures;
+      names = puts.names;
+    }
+
+pub took : (asked : Asked) (w : Way) (before : List ℕ) (i : ℕ) (x : Placed) (old new : DrainView) (last : Bool) (stand' : Stand) (v : code.Verdict) → Drained before old w.packets w.reports
+    → Tells (verdict asked w.stand (w.number + 1) x.packet) (Ok v) stand' → Offers v old (Ok last) new → Took asked w before i x stand' old new last
+took asked w before i x old new last stand' (code_verdict.Pass q) has told offers =
+    rw offers.0 (put-took asked w before i x (captured q) stand' old new false has offers.1 (goes-by asked (form_at old) w i x (Pass (captured q)) stand' told.0 told.1))
+took asked w before i x old new last stand' (code_verdict.Last q) has told offers =
+    rw offers.0 (put-took asked w before i x (captured q) stand' old new true has offers.1 (goes-by asked (form_at old) w i x (Last (captured q)) stand' told.0 told.1))
+took asked w before i x old new last stand' code_verdict.Skip has told offers =
+    let b : last ≡ false = (cc (offers.0)) in
+    rw (b, offers.1) (record {
+      passed = [];
+      went = goes-by asked (form_at old) w i x Skip stand' told.0 told.1;
+      output = rw (append-nil w.packets) has;
+      form = refl;
+      failures = refl;
+      names = refl;
+    })
+
+-- ---- the true order begins with it
+
+laters : List HeadView → List Future
+laters hs = map (λ (v : HeadView). later v.source) hs
+
+pub record Ahead (ss : List Stood) (heads : List HeadView) (place : Place) (es : List Event) (e : Event) : Type 0 where
+  pub more : Fed
+  pub is : fed (ordering_of place) (wholes_of ss) ≡ behind es (behind (e ∷ []) more)
+
+pub next-true : (us vs : List Stood) (s : Stood) (before : List ℕ) (xs ys : List HeadView) (h : HeadView) (place : Place) (turn : ℕ) (asked : Asked) (stand : Stand) (drain : DrainView) (decided : ℕ) (p : Captured)
+    → DecideLaws place turn xs ys h → Standing us xs → At s h → Standing vs ys → h.source.packet ≡ Some p
+    → (d : Decided (us ++ s ∷ vs) before (mk (xs ++ h ∷ ys) place asked stand drain decided))
+    → Ahead (us ++ s ∷ vs) (xs ++ h ∷ ys) place d.events (Came turn (record { offset = h.source.offset; packet = p }))
+next-true us vs s before xs ys h place turn asked stand drain decided p laws front at back held d =
+    let fits = true-fits (us ++ s ∷ vs) (xs ++ h ∷ ys) d.standing in
+    record {
+      more = left (place_behind place turn) (rests xs (map (λ (v : HeadView). later v.source) xs) ++ rest_with (settled h) (later h.source) ∷ rests ys (map (λ (v : HeadView). later v.source) ys));
+      is =
+          ap (fed (ordering_of place)) (sym (true-wholes (us ++ s ∷ vs) (xs ++ h ∷ ys) d.standing))
+          ∙ d.come (map (λ (v : HeadView). later v.source) (xs ++ h ∷ ys)) fits
+          ∙ ap (λ (l : List Future). behind d.events (left place (rests (xs ++ h ∷ ys) l))) (map-append (λ (v : HeadView). later v.source) xs (h ∷ ys))
+          ∙ ap (λ (l : List Rest). behind d.events (left place l)) (rests-join xs ys h (map (λ (v : HeadView). later v.source) xs) (map (λ (v : HeadView). later v.source) ys) (later h.source) (true-fits us xs front))
+          ∙ ap (behind d.events) (laws.decided_left p held (later h.source) (true-fit s h at) (map (λ (v : HeadView). later v.source) xs) (map (λ (v : HeadView). later v.source) ys) (true-fits us xs front) (true-fits vs ys back));
+    }
+
+-- ---- it is decided
+
+within-more : (n m : ℕ) (t : Tally) → n ≤ m → IsWithin n t → IsWithin m t
+within-more n m t less within =
+    let a = within.0 in
+    let b = within.1 in
+    let c = within.2 in
+    (omega (arith, less, a), omega (arith, less, b), omega (arith, less, c))
+
+counted-more : (n : ℕ) (t t' : Tally) → IsWithin n t → GrowsByOne t t' → IsWithin (n + 1) t'
+counted-more n t t' within grows =
+    let a = within.0 in
+    let b = within.1 in
+    let c = within.2 in
+    let x = grows.0 in
+    let y = grows.1 in
+    let z = grows.2 in
+    (omega (arith, a, x), omega (arith, b, y), omega (arith, c, z))
+
+pub decided-goes : (us vs : List Stood) (s : Stood) (before : List ℕ) (xs ys : List HeadView) (h : HeadView) (place : Place) (turn : ℕ) (asked : Asked) (stand stand' : Stand) (drain drain' : DrainView) (decided : ℕ) (p : Captured)
+    → DecideLaws place turn xs ys h → Standing us xs → At s h → Standing vs ys → h.source.packet ≡ Some p → stand'.passed ≤ decided + 1 → GrowsByOne stand.tally stand'.tally
+    → (d : Decided (us ++ s ∷ vs) before (mk (xs ++ h ∷ ys) place asked stand drain decided))
+    → Took asked (stands_at (mk (xs ++ h ∷ ys) place asked stand drain decided) d.packets d.reports) before turn (record { offset = h.source.offset; packet = p }) stand' drain drain' false
+    → GoesOn (us ++ s ∷ vs) before (mk (xs ++ h ∷ ys) place asked stand drain decided) (mk (xs ++ settled h ∷ ys) (place_behind place turn) asked stand' drain' (decided + 1))
+decided-goes us vs s before xs ys h place turn asked stand stand' drain drain' decided p laws front at back held within grows d t =
+    let waits : h.waiting ≡ true = laws.waits in
+    let x : Placed = record { offset = h.source.offset; packet = p } in
+    let P : Bool → Type 0 = λ b. IsAt s.text s.done s.packets b h.source in
+    let was : IsAt s.text s.done s.packets true h.source = subst P waits at in
+    let same : (was.waits refl).packet ≡ p = (let e : Some (was.waits refl).packet ≡ Some p = sym (was.waits refl).held ∙ held in cc) in
+    let after : Stood = record { text = s.text; done = s.done ++ h.source.block; packets = s.packets ++ x ∷ [] } in
+    let A : Captured → Type 0 = λ q. IsAt s.text (s.done ++ h.source.block) (s.packets ++ record { offset = h.source.offset; packet = q } ∷ []) false h.source in
+    let here : At after (settled h) = subst A same (IsAt-decided s.text s.done s.packets h.source was).1 in
+    let old : MachineView = mk (xs ++ h ∷ ys) place asked stand drain decided in
+    let new : MachineView = mk (xs ++ settled h ∷ ys) (place_behind place turn) asked stand' drain' (decided + 1) in
+    let D : List Stood → Type 0 = λ l. Decided l before new in
+    record {
+      input = turn;
+      finished = h.source.block;
+      packets = x ∷ [];
+      decided = subst D (sym (finish-here us vs s turn h.source.block (x ∷ []) (stands-length us xs front ∙ laws.here))) (record {
+        standing = stands-join us vs after xs ys (settled h) front here back;
+        events = d.events ++ Came turn x ∷ [];
+        come = come-on us vs s after xs ys h (settled h) place (place_behind place turn) d.events (Came turn x ∷ []) laws.order front d.come
+            (λ f' fit. carries-decided s xs ys h turn place (place_behind place turn) h.source.block p waits held (λ f fit fs gs before behind. laws.decided_left p held f fit fs gs before behind) f' fit);
+        packets = d.packets ++ t.passed;
+        reports = d.reports;
+        way = ap (λ (f : Form). way asked f set_out (d.events ++ Came turn x ∷ [])) t.form ∙ way-next asked (form_at drain) d.events (Came turn x) (stands_at old d.packets d.reports) (stands_at new (d.packets ++ t.passed) d.reports) d.way t.went;
+        output = t.output;
+        passed = within;
+        counted = counted-more decided stand.tally stand'.tally d.counted grows;
+        ended = laws.ended;
+      });
+      at_most_one = omega arith;
+      form = t.form;
+      output = t.failures;
+      names = t.names;
+      order = laws.order;
+    }
+
+-- ---- it is the last, or it is refused
+
+-- the job ends at the packet in hand
+pub stops-course : (ss : List Stood) (heads : List HeadView) (place : Place) (es : List Event) (e : Event) (asked : Asked) (form : Form) (w w' : Way) (c : Close) → Ahead ss heads place es e → way asked form set_out es ≡ w → w.end ≡ None
+    → goes asked form w e ≡ w' → w'.end ≡ Some c → course asked form (fed (ordering_of place) (wholes_of ss)) ≡ w'
+stops-course ss heads place es e asked form w w' c ahead far on went end =
+    course-stop asked form (fed (ordering_of place) (wholes_of ss)) ahead.more es e w w' c ahead.is far (ap (λ (o : Option Close). course_spec.unless_ended o w (goes asked form w e)) on ∙ went) end
+
+-- the last packet passed
+pub record LastTook (asked : Asked) (w : Way) (before : List ℕ) (i : ℕ) (x : Placed) (stand' : Stand) (old new : DrainView) : Type 0 where
+  pub packet : Captured
+  pub went : goes asked (form_at old) w (Came i x) ≡ course_spec.decided w stand' (packet ∷ []) (Some Over)
+  pub output : Drained before new (w.packets ++ packet ∷ []) w.reports
+  pub form : form_at new ≡ form_at old
+
+pub last-took : (asked : Asked) (w : Way) (before : List ℕ) (i : ℕ) (x : Placed) (old new : DrainView) (stand' : Stand) (v : code.Verdict) → Tells (verdict asked w.stand (w.number + 1) x.packet) (Ok v) stand' → Offers v old (Ok true) new
+    → Drained before old w.packets w.reports → LastTook asked w before i x stand' old new
+last-took asked w before i x old new stand' (code_verdict.Pass q) told offers has = absurd (let b = offers.0 in cc)
+last-took asked w before i x old new stand' (code_verdict.Last q) told offers has =
+    let ok : PutOk before w.packets w.reports (captured q) old.names new.names old.target new.target = put-ok before w.packets w.reports (captured q) old.names new.names old.target new.target offers.1.names has offers.1.target in
+    record {
+      packet = captured q;
+      went = goes-by asked (form_at old) w i x (Last (captured q)) stand' told.0 told.1 ∙ ap (λ (f : Option Fault). unless_refused f w i x stand' (captured q) (Some Over)) ok.none;
+      output = ok.output;
+      form = ok.form;
+    }
+last-took asked w before i x old new stand' code_verdict.Skip told offers has = absurd (let b = offers.0 in cc)
+
+-- ---- it is not put
+
+-- the device failed at a packet
+stops-writing : (ss : List Stood) (before : List ℕ) (heads : List HeadView) (place : Place) (asked : Asked) (stand stand' : Stand) (names : List (List ℕ)) (sink sink' : SinkView) (decided : ℕ) (new : MachineView) (packets : List Captured) (reports : List Report) (es : List Event) (e : Event) (q : Captured) (o : Option Close)
+    → Ahead ss heads place es e → way asked (AsCapture sink.format) set_out es ≡ stands_at (mk heads place asked stand (record { names = names; target = Capture sink }) decided) packets reports → HasPackets before sink packets
+    → goes asked (AsCapture sink.format) (stands_at (mk heads place asked stand (record { names = names; target = Capture sink }) decided) packets reports) e
+    ≡ course_spec.decided (stands_at (mk heads place asked stand (record { names = names; target = Capture sink }) decided) packets reports) stand' (q ∷ []) o
+    → WhyUnput WriteFailed sink packets q sink' → new.drain.target ≡ Capture sink'
+    → StopsWriting ss before (mk heads place asked stand (record { names = names; target = Capture sink }) decided) new
+stops-writing ss before heads place asked stand stand' names sink sink' decided new packets reports es e q o ahead far has went why is =
+    let form : Form = AsCapture sink.format in
+    let w : Way = stands_at (mk heads place asked stand (record { names = names; target = Capture sink }) decided) packets reports in
+    let w' : Way = course_spec.decided w stand' (q ∷ []) o in
+    let all : Way = course asked form (fed (ordering_of place) (wholes_of ss)) in
+    let grows : Grows w' all = course-grows asked form (fed (ordering_of place) (wholes_of ss)) ahead.more (es ++ e ∷ []) w'
+    (ahead.is ∙ ap (λ (l : List Event). record { events = l; close = ahead.more.close }) (sym (append_assoc es (e ∷ []) ahead.more.events)))
+    (way-next asked form es e w w' far went) in
+    let closes : List ℕ = course_spec.closing_by all.end form (first_link (wholes_of ss)) all.packets in
+    let tail : List ℕ = packets_text sink.format (packets ++ q ∷ []) grows.packets in
+    record {
+      failures = ap failures_to is ∙ why.1;
+      front = text sink.format packets;
+      bytes = added sink.format packets q;
+      back = tail ++ closes;
+      whole =
+          ap (λ (l : List Captured). text sink.format l ++ closes) (grows.packets_is ∙ append_assoc packets (q ∷ []) grows.packets)
+          ∙ ap (λ (l : List ℕ). l ++ closes) (text-more sink.format packets q grows.packets)
+          ∙ append_assoc (text sink.format packets) (added sink.format packets q ++ tail) closes
+          ∙ ap (λ (l : List ℕ). text sink.format packets ++ l) (append_assoc (added sink.format packets q) tail closes);
+      so_far = has.written;
+      stops = (let S : Target → Type 0 = λ t. Stops sink.written (added sink.format packets q) (written_to t) in subst S (sym is) why.2);
+    }
+
+-- ---- what an answer leaves
+
+-- a packet that passes isn't put into a capture
+unput-capture : (ss : List Stood) (before : List ℕ) (heads : List HeadView) (place : Place) (turn : ℕ) (asked : Asked) (stand stand' : Stand) (names : List (List ℕ)) (sink sink' : SinkView) (decided : ℕ) (new : MachineView) (packets : List Captured) (reports : List Report) (es : List Event) (x : Placed) (q : Captured) (o : Option Close) (fault : Fault)
+    → Ahead ss heads place es (Came turn x) → way asked (AsCapture sink.format) set_out es ≡ stands_at (mk heads place asked stand (record { names = names; target = Capture sink }) decided) packets reports → HasPackets before sink packets
+    → goes asked (AsCapture sink.format) (stands_at (mk heads place asked stand (record { names = names; target = Capture sink }) decided) packets reports) (Came turn x)
+    ≡ unless_refused (refused sink.format packets q) (stands_at (mk heads place asked stand (record { names = names; target = Capture sink }) decided) packets reports) turn x stand' q o
+    → (head : HeadView) → Among new.feed.heads turn head → head.source.offset ≡ x.offset
+    → WhyUnput fault sink packets q sink' → new.drain.target ≡ Capture sink'
+    → EndLeaves ss before (mk heads place asked stand (record { names = names; target = Capture sink }) decided) (unwritten turn fault) new
+unput-capture ss before heads place turn asked stand stand' names sink sink' decided new packets reports es x q o WriteFailed ahead far has went head among offset why is =
+    stops-writing ss before heads place asked stand stand' names sink sink' decided new packets reports es (Came turn x) q o ahead far has
+    (went ∙ ap (λ (f : Option Fault). unless_refused f (stands_at (mk heads place asked stand (record { names = names; target = Capture sink }) decided) packets reports) turn x stand' q o) why.0) why is
+unput-capture ss before heads place turn asked stand stand' names sink sink' decided new packets reports es x q o NoMemory ahead far has went head among offset why is =
+    record { head = head; among = among; why = inr (inr (record { why = refl; written = ap written_to is ∙ why })) }
+unput-capture ss before heads place turn asked stand stand' names sink sink' decided new packets reports es x q o fault ahead far has went head among offset why is =
+    let m : MachineView = mk heads place asked stand (record { names = names; target = Capture sink }) decided in
+    let w : Way = stands_at m packets reports in
+    let stop : course asked (AsCapture sink.format) (fed (ordering_of place) (wholes_of ss)) ≡ stops_at w (Broken turn fault x.offset) =
+    stops-course ss heads place es (Came turn x) asked (AsCapture sink.format) w (stops_at w (Broken turn fault x.offset)) (Broken turn fault x.offset) ahead far refl
+    (went ∙ ap (λ (f : Option Fault). unless_refused f w turn x stand' q o) why.0) refl in
+    record {
+      head = head;
+      among = among;
+      why = inl (rw offset (comes-broken (wholes_of ss) before m new packets reports turn fault x.offset stop has (ap written_to is ∙ why.1)));
+    }
+
+unput-leaves : (ss : List Stood) (before : List ℕ) (heads : List HeadView) (place : Place) (turn : ℕ) (asked : Asked) (stand stand' : Stand) (names : List (List ℕ)) (target : Target) (decided : ℕ) (new : MachineView) (packets : List Captured) (reports : List Report) (es : List Event) (x : Placed) (q : Captured) (o : Option Close) (fault : Fault)
+    → Ahead ss heads place es (Came turn x) → way asked (form_to names target) set_out es ≡ stands_at (mk heads place asked stand (record { names = names; target = target }) decided) packets reports → DrainedTo before names target packets reports
+    → goes asked (form_to names target) (stands_at (mk heads place asked stand (record { names = names; target = target }) decided) packets reports) (Came turn x)
+    ≡ unless_refused (refused_by (form_to names target) packets q) (stands_at (mk heads place asked stand (record { names = names; target = target }) decided) packets reports) turn x stand' q o
+    → (head : HeadView) → Among new.feed.heads turn head → head.source.offset ≡ x.offset
+    → PutsTo q target (Err fault) new.drain.target
+    → EndLeaves ss before (mk heads place asked stand (record { names = names; target = target }) decided) (unwritten turn fault) new
+unput-leaves ss before heads place turn asked stand stand' names (Capture sink) decided new packets reports es x q o fault ahead far has went head among offset puts =
+    unput-capture ss before heads place turn asked stand stand' names sink puts.sink decided new packets reports es x q o fault ahead far has went head among offset
+    (unput before packets q sink puts.sink fault has puts.puts puts.writes) puts.is
+unput-leaves ss before heads place turn asked stand stand' names (Text bytes failures room) decided new packets reports es x q o fault ahead far has went head among offset puts = absurd (let e = puts.0 in cc)
+
+reject-leaves : (ss : List Stood) (before : List ℕ) (heads : List HeadView) (place : Place) (turn : ℕ) (asked : Asked) (stand stand' : Stand) (drain : DrainView) (decided : ℕ) (new : MachineView) (packets : List Captured) (reports : List Report) (es : List Event) (x : Placed) (fault : Fault)
+    → Ahead ss heads place es (Came turn x) → way asked (form_at drain) set_out es ≡ stands_at (mk heads place asked stand drain decided) packets reports → Drained before drain packets reports
+    → Tells (verdict asked stand (decided + 1) x.packet) (Err fault) stand'
+    → (head : HeadView) → Among new.feed.heads turn head → head.source.offset ≡ x.offset → new.drain ≡ drain → (fault ≡ WriteFailed → ⊥)
+    → EndLeaves ss before (mk heads place asked stand drain decided) (unwritten turn fault) new
+reject-leaves ss before heads place turn asked stand stand' drain decided new packets reports es x fault ahead far has told head among offset same device =
+    let w : Way = stands_at (mk heads place asked stand drain decided) packets reports in
+    let kept : written_by new ≡ written_to drain.target = ap (λ (v : DrainView). written_to v.target) same in
+    let B : Type 0 = EndLeaves ss before (mk heads place asked stand drain decided) (end.Broken turn fault) new in
+    let breaks : B = record {
+      head = head;
+      among = among;
+      why = inl (rw offset (comes-broken (wholes_of ss) before (mk heads place asked stand drain decided) new packets reports turn fault x.offset
+          (stops-course ss heads place es (Came turn x) asked (form_at drain) w (stops_at w (Broken turn fault x.offset)) (Broken turn fault x.offset) ahead far refl
+          (ap (λ (v : Verdict). by_verdict (form_at drain) w turn x v (verdict asked stand (decided + 1) x.packet).stand) told) refl)
+          has kept));
+    } in
+    other fault device breaks
+  where
+    other : (f : Fault) → (f ≡ WriteFailed → ⊥) → EndLeaves ss before (mk heads place asked stand drain decided) (end.Broken turn f) new → EndLeaves ss before (mk heads place asked stand drain decided) (unwritten turn f) new
+    other WriteFailed device breaks = absurd (device refl)
+    other f device breaks = breaks
+
+-- a judge never tells of the device
+abbrev OwnDecision : Decision → Type 0
+OwnDecision chosen.Keep = Unit {0}
+OwnDecision chosen.Skip = Unit {0}
+OwnDecision (chosen.Refuse fault) = fault ≡ WriteFailed → ⊥
+
+abbrev Own : Verdict → Type 0
+Own (Refuse fault) = fault ≡ WriteFailed → ⊥
+Own (Pass p) = Unit {0}
+Own (Last p) = Unit {0}
+Own Skip = Unit {0}
+
+own-link : (e : Expression) (o : Option Link) (p : Captured) → OwnDecision (read_on e o p)
+own-link e None p = λ is. (cc)
+own-link e (Some link) p = by_reading (holds e link p.bytes p.orig)
+  where
+    by_reading : (r : Reading) → OwnDecision (passing r)
+    by_reading Yes = tt
+    by_reading No = tt
+    by_reading Rejected = tt
+
+own-decision : (rule : Rule) (p : Captured) → OwnDecision (rule_decides rule p)
+own-decision (rule_spec.by_reading empty) p = tt
+own-decision (rule_spec.by_reading (truth a)) p = own-link (truth a) (link_of p.link) p
+own-decision (rule_spec.by_answer prog) p = by_progress (machine prog p.bytes p.orig (length prog))
+  where
+    by_bool : (b : Bool) → OwnDecision (chosen.keep_if b)
+    by_bool true = tt
+    by_bool false = tt
+
+    by_progress : (m : Progress) → OwnDecision (answering m)
+    by_progress (Answered answer count) = by_bool (not (nat_eq answer 0))
+    by_progress _ = tt
+
+own-filters : (d : Decision) (count : Option ℕ) (stand : Stand) (p : Captured) → OwnDecision d → Own (judged_spec.filters d count stand p).verdict
+own-filters chosen.Keep count stand p own = elim (judged_spec.is_last count (stand.passed + 1)) as (λ b. Own (if b then Last p else Pass p)) [ true ↦ tt | false ↦ tt ]
+own-filters chosen.Skip count stand p own = tt
+own-filters (chosen.Refuse fault) count stand p own = own
+
+own-unique : (window : Option ℕ) (stand : Stand) (p : Captured) → Own (judged_spec.unique window stand p).verdict
+own-unique None stand p = tt
+own-unique (Some n) stand p =
+    elim (list_any (judged_spec.is_same (judged_spec.mark_of p)) stand.window)
+    as (λ b. Own (if b then judged_spec.skipped (judged_spec.with_mark (n - 1) (judged_spec.mark_of p) stand) else judged_spec.passes (judged_spec.with_mark (n - 1) (judged_spec.mark_of p) stand) p).verdict)
+    [ true ↦ tt | false ↦ tt ]
+
+own-timed : (s : Selection) (stand : Stand) (p : Captured) (o : Option ℕ) → Own (judged_spec.timed s stand p o).verdict
+own-timed s stand p None = λ is. (cc)
+own-timed s stand p (Some time) = own-unique s.window stand (judged_spec.changed s p time)
+
+own-judged : (asked : Asked) (stand : Stand) (number : ℕ) (p : Captured) → Own (judged_spec.judged asked stand number p).verdict
+own-judged (Select s) stand number p =
+    elim (judged_spec.is_selected s number p) as (λ b. Own (if b then judged_spec.timed s stand p (judged_spec.moved s.shift p.time) else judged_spec.skipped stand).verdict)
+    [ true ↦ own-timed s stand p (judged_spec.moved s.shift p.time) | false ↦ tt ]
+own-judged (Filter rule count) stand number p = own-filters (rule_decides rule p) count stand p (own-decision rule p)
+own-judged Everything stand number p = tt
+own-judged Count stand number p = tt
+
+own-verdict : (asked : Asked) (stand : Stand) (number : ℕ) (p : Captured) → Own (verdict asked stand number p).verdict
+own-verdict asked stand number p =
+    elim (judged_spec.is_too_many asked number) as (λ b. Own (if b then judged_spec.refuses stand TooManyPackets else judged_spec.judged asked stand number p).verdict)
+    [ true ↦ (λ is. (cc)) | false ↦ own-judged asked stand number p ]
+
+never-device : (asked : Asked) (stand stand' : Stand) (number : ℕ) (p : Captured) (fault : Fault) → Tells (verdict asked stand number p) (Err fault) stand' → fault ≡ WriteFailed → ⊥
+never-device asked stand stand' number p fault told is = (let P : Verdict → Type 0 = λ v. Own v in subst P told (own-verdict asked stand number p)) is
+
+-- what an answer leaves: `new` is the machine where the packet is decided, `failed` where it isn't
+abbrev pub AnswerLeaves : List Stood → List ℕ → MachineView → ℕ → Result Bool Fault → MachineView → MachineView → Type 0
+AnswerLeaves ss before old i (Ok false) new failed = GoesOn ss before old new
+AnswerLeaves ss before old i (Ok true) new failed = Comes (wholes_of ss) before old new Over
+AnswerLeaves ss before old i (Err fault) new failed = EndLeaves ss before old (unwritten i fault) failed
+
+answer-core : (us vs : List Stood) (s : Stood) (before : List ℕ) (xs ys : List HeadView) (h : HeadView) (place : Place) (turn : ℕ) (asked : Asked) (stand stand' : Stand) (drain drain' : DrainView) (decided : ℕ) (p : Captured) (r : Result Bool Fault)
+    → DecideLaws place turn xs ys h → Standing us xs → At s h → Standing vs ys → h.source.packet ≡ Some p → stand'.passed ≤ decided + 1 → GrowsByOne stand.tally stand'.tally
+    → (d : Decided (us ++ s ∷ vs) before (mk (xs ++ h ∷ ys) place asked stand drain decided))
+    → Decides (Some p) (record { asked = asked; stand = stand }) (decided + 1) drain r (record { asked = asked; stand = stand' }) drain'
+    → AnswerLeaves (us ++ s ∷ vs) before (mk (xs ++ h ∷ ys) place asked stand drain decided) turn r (mk (xs ++ settled h ∷ ys) (place_behind place turn) asked stand' drain' (decided + 1)) (mk (xs ++ h ∷ ys) place asked stand' drain' decided)
+answer-core us vs s before xs ys h place turn asked stand stand' drain drain' decided p (Ok false) laws front at back held within grows d decides =
+    elim decides [
+      | inl j ↦ decided-goes us vs s before xs ys h place turn asked stand stand' drain drain' decided p laws front at back held within grows d
+          (took asked (stands_at (mk (xs ++ h ∷ ys) place asked stand drain decided) d.packets d.reports) before turn (record { offset = h.source.offset; packet = p }) drain drain' false stand' j.answer d.output j.told j.offers)
+      | inr x ↦ absurd (let e = x.answer in cc)
+    ]
+answer-core us vs s before xs ys h place turn asked stand stand' drain drain' decided p (Ok true) laws front at back held within grows d decides =
+    elim decides [
+      | inl j ↦
+          let w : Way = stands_at (mk (xs ++ h ∷ ys) place asked stand drain decided) d.packets d.reports in
+          let x : Placed = record { offset = h.source.offset; packet = p } in
+          let l = last-took asked w before turn x drain drain' stand' j.answer j.told j.offers d.output in
+          let stop = stops-course (us ++ s ∷ vs) (xs ++ h ∷ ys) place d.events (Came turn x) asked (form_at drain) w (course_spec.decided w stand' (l.packet ∷ []) (Some Over)) Over
+          (next-true us vs s before xs ys h place turn asked stand drain decided p laws front at back held d) d.way refl l.went refl in
+          record {
+            ends = ap (λ (v : Way). v.end) stop;
+            written =
+                closing-some before drain'.names (form_at drain) drain'.target (first_link (wholes_of (us ++ s ∷ vs))) (d.packets ++ l.packet ∷ []) d.reports (decided + 1) stand' l.output l.form (some d.packets l.packet)
+                ∙ ap (λ (v : Way). before ++ output (form_at drain) (first_link (wholes_of (us ++ s ∷ vs))) v) (sym stop);
+          }
+      | inr x ↦ absurd (let e = x.answer in cc)
+    ]
+  where
+    some : (ps : List Captured) (q : Captured) → 0 ≡ length (ps ++ q ∷ []) → ⊥
+    some [] q e = absurd (omega (arith, e))
+    some (x ∷ ps) q e = absurd (omega (arith, e))
+answer-core us vs s before xs ys h place turn asked stand stand' drain drain' decided p (Err fault) laws front at back held within grows d decides =
+    elim decides [
+      | inl j ↦ by_verdict_of j.answer j.told j.offers
+      | inr j ↦
+          let e : fault ≡ j.fault = (let e = j.answer in cc) in
+          rw e (reject-leaves (us ++ s ∷ vs) before (xs ++ h ∷ ys) place turn asked stand stand' drain decided failed d.packets d.reports d.events x j.fault ahead d.way d.output j.told h here refl j.same (never-device asked stand stand' (decided + 1) p j.fault j.told))
+    ]
+  where
+    x : Placed
+    x = record { offset = h.source.offset; packet = p }
+
+    failed : MachineView
+    failed = mk (xs ++ h ∷ ys) place asked stand' drain' decided
+
+    here : Among (xs ++ h ∷ ys) turn h
+    here = record { front = xs; back = ys; place = laws.here; splits = refl }
+
+    ahead : Ahead (us ++ s ∷ vs) (xs ++ h ∷ ys) place d.events (Came turn x)
+    ahead = next-true us vs s before xs ys h place turn asked stand drain decided p laws front at back held d
+
+    w : Way
+    w = stands_at (mk (xs ++ h ∷ ys) place asked stand drain decided) d.packets d.reports
+
+    by_verdict_of : (v : code.Verdict) → Tells (verdict asked stand (decided + 1) p) (Ok v) stand' → Offers v drain (Err fault) drain' → EndLeaves (us ++ s ∷ vs) before (mk (xs ++ h ∷ ys) place asked stand drain decided) (unwritten turn fault) failed
+    by_verdict_of (code_verdict.Pass q) told offers =
+        unput-leaves (us ++ s ∷ vs) before (xs ++ h ∷ ys) place turn asked stand stand' drain.names drain.target decided failed d.packets d.reports d.events x (captured q) None fault ahead d.way d.output
+        (goes-by asked (form_at drain) w turn x (Pass (captured q)) stand' told.0 told.1) h here refl offers.target
+    by_verdict_of (code_verdict.Last q) told offers =
+        unput-leaves (us ++ s ∷ vs) before (xs ++ h ∷ ys) place turn asked stand stand' drain.names drain.target decided failed d.packets d.reports d.events x (captured q) (Some Over) fault ahead d.way d.output
+        (goes-by asked (form_at drain) w turn x (Last (captured q)) stand' told.0 told.1) h here refl offers.target
+    by_verdict_of code_verdict.Skip told offers = absurd (let e = offers.0 in cc)
+
+pub answer-leaves : (ss : List Stood) (before : List ℕ) (heads : List HeadView) (place : Place) (asked : Asked) (stand : Stand) (drain : DrainView) (decided i : ℕ) (r : Result Bool Fault) (h : HeadView) (judge' : JudgeView) (drain' : DrainView)
+    → feeding.Tells place heads (next.Answer i) → Among heads i h → judge'.asked ≡ asked → (stand.passed ≤ decided + 1 → judge'.stand.passed ≤ decided + 1) → GrowsByOne stand.tally judge'.stand.tally → decided ≤ most_steps
+    → (stand.passed < decided + 1 → IsWithin most_steps stand.tally → Decides h.source.packet (record { asked = asked; stand = stand }) (decided + 1) drain r judge' drain')
+    → Decided ss before (mk heads place asked stand drain decided)
+    → AnswerLeaves ss before (mk heads place asked stand drain decided) i r (mk (slice_set heads i (settled h)) (place_behind place i) asked judge'.stand drain' (decided + 1)) (mk heads place asked judge'.stand drain' decided)
+answer-leaves ss before heads place asked stand drain decided i r other judge' drain' tells among_other asks passes grows few decides d =
+    let at : DecideAt place heads i = decide-at place heads i tells d.ended in
+    let among = at.among in
+    let h = at.head in
+    let same : other ≡ h = among-same heads i other h among_other among in
+    let D : List HeadView → Type 0 = λ l. Decided ss before (mk l place asked stand drain decided) in
+    let d' = subst D among.splits d in
+    let st = stands-split ss among.front among.back h d'.standing in
+    let E : List Stood → Type 0 = λ l. Decided l before (mk (among.front ++ h ∷ among.back) place asked stand drain decided) in
+    let W : Bool → Type 0 = λ b. IsAt st.here.text st.here.done st.here.packets b h.source in
+    let was : IsAt st.here.text st.here.done st.here.packets true h.source = subst W at.laws.waits st.at in
+    let has = was.waits refl in
+    let within : stand.passed < decided + 1 = (let l = d.passed in omega (arith, l)) in
+    let C : Option Captured → Type 0 = λ o. Decides o (record { asked = asked; stand = stand }) (decided + 1) drain r judge' drain' in
+    let C' : Asked → Type 0 = λ k. Decides (Some has.packet) (record { asked = asked; stand = stand }) (decided + 1) drain r (record { asked = k; stand = judge'.stand }) drain' in
+    let held : other.source.packet ≡ Some has.packet = ap (λ (v : HeadView). v.source.packet) same ∙ has.held in
+    let chosen = subst C' asks (subst C held (decides within (within-more decided most_steps stand.tally few d.counted))) in
+    let core = answer-core st.front st.back st.here before among.front among.back h place i asked stand judge'.stand drain drain' decided has.packet r at.laws st.before st.at st.behind has.held
+    (passes (let l = d.passed in omega (arith, l))) grows (subst E st.is d') chosen in
+    let heads' : slice_set heads i (settled h) ≡ among.front ++ settled h ∷ among.back = ap (λ (l : List HeadView). slice_set l i (settled h)) among.splits ∙ set-here among.front among.back h (settled h) i among.place in
+    let G : List Stood → Type 0 = λ l. AnswerLeaves l before (mk (among.front ++ h ∷ among.back) place asked stand drain decided) i r (mk (among.front ++ settled h ∷ among.back) (place_behind place i) asked judge'.stand drain' (decided + 1)) (mk (among.front ++ h ∷ among.back) place asked judge'.stand drain' decided) in
+    let H : List HeadView → Type 0 = λ l. AnswerLeaves ss before (mk l place asked stand drain decided) i r (mk (among.front ++ settled h ∷ among.back) (place_behind place i) asked judge'.stand drain' (decided + 1)) (mk l place asked judge'.stand drain' decided) in
+    let I : List HeadView → Type 0 = λ l. AnswerLeaves ss before (mk heads place asked stand drain decided) i r (mk l (place_behind place i) asked judge'.stand drain' (decided + 1)) (mk heads place asked judge'.stand drain' decided) in
+    let J : HeadView → Type 0 = λ v. AnswerLeaves ss before (mk heads place asked stand drain decided) i r (mk (slice_set heads i (settled v)) (place_behind place i) asked judge'.stand drain' (decided + 1)) (mk heads place asked judge'.stand drain' decided) in
+    subst J (sym same) (subst I (sym heads') (subst H (sym among.splits) (subst G (sym st.is) core)))

@@ -1,0 +1,141 @@
+-- Where a job writes, from one call to the next.
+use Rattle.std.proofs.Common.{◌≡◌, inl, inr, ℕ, ◌+◌, Bool, List, [], ◌∷◌, ◌++◌, length, Option, None, Some, Ok, Err, refl, sym, ◌∙◌, ap, add-zero}
+use Rattle.std.proofs.lemmas.List.{append_assoc, append-nil}
+use Rattle.cap_octet.specs.Device.{Stops}
+use Rattle.cap_octet.specs.Packet.{Captured}
+use Rattle.cap_octet.specs.declared.fault.Fault.{Fault}
+use Rattle.cap_octet.specs.declared.fault.Fault.TheVariants.{NoMemory, WriteFailed}
+use Rattle.cap_octet.specs.declared.format.Format.{Format}
+use Rattle.cap_io.specs.Sink as sinks
+use Rattle.cap_io.specs.Sink.{SinkView, HasPackets, PutsAfter, IsPutAnswer, PutWrites, WritesPacket, takes_memory}
+use Rattle.cap_io.specs.Text.{added, refused}
+use Rattle.cap_io.proofs.Texts.{put-answers, put-writes, put-taken, HasPackets-put, refused-write_failed, refused-no_memory}
+use Rattle.cap_job.specs.Reports.{Report}
+use Rattle.cap_job.specs.Fed.{Over}
+use Rattle.cap_job.specs.Judged.{Stand}
+use Rattle.cap_job.specs.Course.{Form, AsCapture, AsReports, closing, output, refused_by, written}
+use Rattle.cap_job.specs.Draining.{Target, Capture, Text, DrainedTo, PutsTo, ReportsTo, form_to, written_to, failures_to}
+use Rattle.cap_job.specs.Reports.{report_text, reports_text}
+
+-- what is written is the form's
+pub drained-text : (before : List ℕ) (names : List (List ℕ)) (t : Target) (ps : List Captured) (rs : List Report) → DrainedTo before names t ps rs
+    → written_to t ≡ before ++ written (form_to names t) ps rs
+drained-text before names (Capture sink) ps rs has = has.written
+drained-text before names (Text bytes failures room) ps rs has = has
+
+-- ---- a packet is put
+
+pub record PutOk (before : List ℕ) (ps : List Captured) (rs : List Report) (q : Captured) (names names' : List (List ℕ)) (old new : Target) : Type 0 where
+  pub none : refused_by (form_to names old) ps q ≡ None
+  pub output : DrainedTo before names' new (ps ++ q ∷ []) rs
+  pub form : form_to names' new ≡ form_to names old
+  pub failures : failures_to new ≡ failures_to old
+
+pub put-ok : (before : List ℕ) (ps : List Captured) (rs : List Report) (q : Captured) (names names' : List (List ℕ)) (old new : Target) → names' ≡ names → DrainedTo before names old ps rs
+    → PutsTo q old (Ok tt) new → PutOk before ps rs q names names' old new
+put-ok before ps rs q names names' (Capture sink) new same has puts =
+    let after : PutsAfter ps sink q (Ok tt) puts.sink = put-answers before ps sink q (Ok tt) puts.sink has puts.puts in
+    rw puts.is (record {
+      none = put-taken ps sink q puts.sink after;
+      output = HasPackets-put before ps sink q puts.sink has puts.puts puts.writes;
+      form = ap AsCapture after.format;
+      failures = after.failures ∙ add-zero sink.failures;
+    })
+put-ok before ps rs q names names' (Text bytes failures room) new same has puts =
+    rw (puts.1, same) (record { none = refl; output = has; form = refl; failures = refl })
+
+-- ---- it is not put
+
+refusal-is : (refusal : Option Fault) (takes : Bool) (fault : Fault) → IsPutAnswer refusal takes (Err fault) → (fault ≡ WriteFailed → ⊥) → (fault ≡ NoMemory → ⊥) → refusal ≡ Some fault
+refusal-is None takes fault answer written memory = elim answer [ inl e ↦ absurd (written e) | inr e ↦ absurd (memory e.0) ]
+refusal-is (Some refusal) takes fault answer written memory = ap Some (sym answer)
+
+stays-written : (refusal : Option Fault) (fault : Fault) (bytes written written' : List ℕ) → refusal ≡ Some fault → WritesPacket refusal bytes written (Err fault) written' → written' ≡ written
+stays-written None fault bytes written written' is writes = (cc)
+stays-written (Some refusal) fault bytes written written' is writes = writes
+
+not-refused : (format : Format) (ps : List Captured) (p : Captured) (fault : Fault) → (refused format ps p ≡ Some fault → ⊥) → IsPutAnswer (refused format ps p) (takes_memory format ps p) (Err fault) → refused format ps p ≡ None
+not-refused format ps p fault none answer = by_refusal (refused format ps p) refl answer
+  where
+    by_refusal : (refusal : Option Fault) → refused format ps p ≡ refusal → IsPutAnswer refusal (takes_memory format ps p) (Err fault) → refused format ps p ≡ None
+    by_refusal None is answer = is
+    by_refusal (Some refusal) is answer = absurd (none (is ∙ ap Some (sym answer)))
+
+stopped-within : (refusal : Option Fault) (bytes written written' : List ℕ) → refusal ≡ None → WritesPacket refusal bytes written (Err WriteFailed) written' → Stops written bytes written'
+stopped-within None bytes written written' is writes = writes
+stopped-within (Some fault) bytes written written' is writes = (cc)
+
+stayed-written : (refusal : Option Fault) (bytes written written' : List ℕ) → refusal ≡ None → WritesPacket refusal bytes written (Err NoMemory) written' → written' ≡ written
+stayed-written None bytes written written' is writes = writes
+stayed-written (Some fault) bytes written written' is writes = writes
+
+-- why a packet that passes isn't put into a capture: the format refuses it; there was no memory; or the device failed
+abbrev pub WhyUnput : Fault → SinkView → List Captured → Captured → SinkView → Type 0
+WhyUnput WriteFailed old ps q new = (refused old.format ps q ≡ None) × (new.failures ≡ old.failures + 1) × Stops old.written (added old.format ps q) new.written
+WhyUnput NoMemory old ps q new = new.written ≡ old.written
+WhyUnput fault old ps q new = (refused old.format ps q ≡ Some fault) × (new.written ≡ old.written)
+
+pub unput : (before : List ℕ) (ps : List Captured) (q : Captured) (old new : SinkView) (fault : Fault) → HasPackets before old ps
+    → sinks.Puts old.state old q (Err fault) new → PutWrites old.state old q (Err fault) new → WhyUnput fault old ps q new
+unput before ps q old new WriteFailed has puts writes =
+    let after : PutsAfter ps old q (Err WriteFailed) new = put-answers before ps old q (Err WriteFailed) new has puts in
+    let none = not-refused old.format ps q WriteFailed (refused-write_failed old.format ps q) after.answer in
+    (none, after.failures, stopped-within (refused old.format ps q) (added old.format ps q) old.written new.written none (put-writes before ps old q (Err WriteFailed) new has writes))
+unput before ps q old new NoMemory has puts writes =
+    let after : PutsAfter ps old q (Err NoMemory) new = put-answers before ps old q (Err NoMemory) new has puts in
+    let none = not-refused old.format ps q NoMemory (refused-no_memory old.format ps q) after.answer in
+    stayed-written (refused old.format ps q) (added old.format ps q) old.written new.written none (put-writes before ps old q (Err NoMemory) new has writes)
+unput before ps q old new fault has puts writes =
+    let after : PutsAfter ps old q (Err fault) new = put-answers before ps old q (Err fault) new has puts in
+    let is = refusal-is (refused old.format ps q) (takes_memory old.format ps q) fault after.answer (λ same. (cc)) (λ same. (cc)) in
+    (is, stays-written (refused old.format ps q) fault (added old.format ps q) old.written new.written is (put-writes before ps old q (Err fault) new has writes))
+
+-- ---- the clean end
+
+-- where a packet passed, nothing is added at a clean end
+pub closing-none : (form : Form) (link : Option ℕ) (ps : List Captured) → (0 ≡ length ps → ⊥) → closing form link ps ≡ []
+closing-none (AsCapture format) link [] some = absurd (some refl)
+closing-none (AsCapture format) link (p ∷ ps) some = refl
+closing-none (AsReports names) link ps some = refl
+
+pub closing-some : (before : List ℕ) (names : List (List ℕ)) (form : Form) (t : Target) (link : Option ℕ) (ps : List Captured) (rs : List Report) (n : ℕ) (stand : Stand) → DrainedTo before names t ps rs → form_to names t ≡ form → (0 ≡ length ps → ⊥)
+    → written_to t ≡ before ++ output form link (record { number = n; stand = stand; packets = ps; reports = rs; end = Some Over })
+closing-some before names form t link ps rs n stand has same some =
+    drained-text before names t ps rs has
+    ∙ ap (λ (f : Form). before ++ written f ps rs) same
+    ∙ ap (λ (l : List ℕ). before ++ l) (sym (append-nil (written form ps rs)) ∙ ap (λ (l : List ℕ). written form ps rs ++ l) (sym (closing-none form link ps some)))
+
+-- ---- a report
+
+reports-append : (names : List (List ℕ)) (rs qs : List Report) → reports_text names (rs ++ qs) ≡ reports_text names rs ++ reports_text names qs
+reports-append names [] qs = refl
+reports-append names (r ∷ rs) qs =
+    ap (λ (l : List ℕ). report_text names r ++ l) (reports-append names rs qs)
+    ∙ sym (append_assoc (report_text names r) (reports_text names rs) (reports_text names qs))
+
+-- a report adds its text behind those before it
+pub reports-more : (names : List (List ℕ)) (rs : List Report) (r : Report) (qs : List Report)
+    → reports_text names ((rs ++ r ∷ []) ++ qs) ≡ reports_text names rs ++ (report_text names r ++ reports_text names qs)
+reports-more names rs r qs =
+    ap (reports_text names) (append_assoc rs (r ∷ []) qs)
+    ∙ reports-append names rs (r ∷ qs)
+
+pub record ReportOk (before : List ℕ) (ps : List Captured) (rs : List Report) (report : Report) (names names' : List (List ℕ)) (old new : Target) : Type 0 where
+  pub output : DrainedTo before names' new ps (rs ++ report ∷ [])
+  pub form : form_to names' new ≡ form_to names old
+  pub failures : failures_to new ≡ failures_to old
+
+pub report-ok : (before : List ℕ) (ps : List Captured) (rs : List Report) (report : Report) (names names' : List (List ℕ)) (old new : Target) → names' ≡ names → DrainedTo before names old ps rs
+    → ReportsTo (report_text names report) old (Ok tt) new → ReportOk before ps rs report names names' old new
+report-ok before ps rs report names names' (Capture sink) new same has puts = rw puts.1 (record { output = has; form = refl; failures = refl })
+report-ok before ps rs report names names' (Text bytes failures room) new same has puts =
+    rw (puts.is, same) (record {
+      output =
+          puts.appends
+          ∙ ap (λ (l : List ℕ). l ++ report_text names report) has
+          ∙ append_assoc before (reports_text names rs) (report_text names report)
+          ∙ ap (λ (l : List ℕ). before ++ (reports_text names rs ++ l)) (sym (append-nil (report_text names report)))
+          ∙ ap (λ (l : List ℕ). before ++ l) (sym (reports-more names rs report []) ∙ ap (reports_text names) (append-nil (rs ++ report ∷ [])));
+      form = refl;
+      failures = add-zero failures;
+    })

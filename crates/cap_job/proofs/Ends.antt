@@ -1,0 +1,70 @@
+-- How a job ends, in the words of its outcome.
+use Rattle.std.proofs.Common.{◌≡◌, ◌⊎◌, inl, inr, ℕ, List, [], ◌∷◌, ◌++◌, length, Some, refl, sym, ◌∙◌, ap}
+use Rattle.std.specs.List.{slice_get}
+use Rattle.cap_tools.specs.Messages.{fault_message}
+use Rattle.cap_job.specs.declared.machine.End.{End}
+use Rattle.cap_job.specs.declared.machine.End.TheVariants as end
+use Rattle.cap_job.specs.Fed.{Rest, Close, Over, Broken, Ordering}
+use Rattle.cap_job.specs.Reports.{name_at}
+use Rattle.cap_job.specs.Judged.{Asked}
+use Rattle.cap_job.specs.Course.{Form, Work, Outcome, outcome, out, message, status}
+use Rattle.cap_job.specs.Feeding.{HeadView, Stood, Among, ordering_of}
+use Rattle.cap_job.specs.Working.{MachineView, Comes, EndLeaves, IsUnderWay, form_of, written_by, texts, wholes_of, cut_at}
+use Rattle.cap_job.specs.Jobs.{IsOut, EndsAs, EndsElse, IsOutOf, work_of, end_text, end_status, offset_at, offset_of}
+
+comes-out : (rs : List Rest) (before : List ℕ) (names : List (List ℕ)) (old new : MachineView) (close : Close) (text : List ℕ) (s : ℕ) → Comes rs before old new close → text ≡ message names (Some close) → s ≡ status (Some close)
+    → IsOut rs before names old new text s
+comes-out rs before names old new close text s comes text_is status_is = record {
+  written = comes.written;
+  text_is = text_is ∙ ap (message names) (sym comes.ends);
+  status_is = status_is ∙ ap status (sym comes.ends);
+}
+
+get-here : (xs ys : List HeadView) (h : HeadView) (i : ℕ) → length xs ≡ i → slice_get (xs ++ h ∷ ys) i ≡ Some h
+get-here [] ys h i is = rw (← is) refl
+get-here (x ∷ xs) ys h i is = rw (← is) (get-here xs ys h (length xs) refl)
+
+offset-here : (heads : List HeadView) (i : ℕ) (h : HeadView) → Among heads i h → offset_at heads i ≡ h.source.offset
+offset-here heads i h a = ap (λ (l : List HeadView). offset_at l i) a.splits ∙ ap offset_of (get-here a.front a.back h i a.place)
+
+pub ends-as : (ss : List Stood) (before : List ℕ) (names : List (List ℕ)) (old new : MachineView) (e : End) → EndLeaves ss before old e new → EndsAs ss before names old new (end_text names new.feed.heads e) (end_status e)
+ends-as ss before names old new end.Clean leaves = inl (comes-out (wholes_of ss) before names old new Over [] 0 leaves refl refl)
+ends-as ss before names old new (end.Broken input fault) leaves =
+    let place = offset-here new.feed.heads input leaves.head leaves.among in
+    let text : end_text names new.feed.heads (end.Broken input fault) ≡ message names (Some (Broken input fault leaves.head.source.offset)) = ap (λ n. fault_message (name_at names input) n fault) place in
+    elim leaves.why [
+      | inl comes ↦ inl (comes-out (wholes_of ss) before names old new (Broken input fault leaves.head.source.offset) (end_text names new.feed.heads (end.Broken input fault)) 1 comes text refl)
+      | inr other ↦ elim other [
+        | inl cut ↦ inr (inl (record {
+          input = input;
+          fault = fault;
+          after = leaves.head.source;
+          cut = cut;
+          out = comes-out (cut_at (wholes_of ss) input cut.held) before names old new (Broken input fault leaves.head.source.offset) (end_text names new.feed.heads (end.Broken input fault)) 1 cut.comes text refl;
+        }))
+        | inr wants ↦ inr (inr (inl (record { input = input; fault = fault; wants = wants; text_is = refl; status_is = refl })))
+      ]
+    ]
+ends-as ss before names old new end.OutputFailed leaves = inr (inr (inr (record { stops = leaves; text_is = refl; status_is = refl })))
+
+same-work : (ss : List Stood) (before : List ℕ) (first old : MachineView) → IsUnderWay ss before first old → work_of old ≡ work_of first
+same-work ss before first old way =
+    ap (λ (o : Ordering). record { order = o; asked = old.asked; form = form_of old }) way.order
+    ∙ ap (λ (a : Asked). record { order = ordering_of first.feed.place; asked = a; form = form_of old }) way.asked
+    ∙ ap (λ (f : Form). record { order = ordering_of first.feed.place; asked = first.asked; form = f }) way.form
+
+-- the last step's inputs have the bytes that the first step's have
+pub ends-whole : (ss : List Stood) (before : List ℕ) (names : List (List ℕ)) (first old last : MachineView) (written text : List ℕ) (s : ℕ) (way : IsUnderWay ss before first old) → written ≡ written_by last
+    → EndsAs way.stood before names old last text s → IsOutOf (work_of first) names (texts ss) before written text s ⊎ EndsElse way.stood before names old last text s
+ends-whole ss before names first old last written text s way is ends =
+    elim ends [
+      | inl whole ↦ inl (record {
+        written_is = is ∙ whole.written ∙ ap (λ (o : Outcome). before ++ o.output) same;
+        text_is = whole.text_is ∙ ap (λ (o : Outcome). o.messages) same;
+        status_is = whole.status_is ∙ ap (λ (o : Outcome). o.status) same;
+      })
+      | inr other ↦ inr other
+    ]
+  where
+    same : outcome (work_of old) names (wholes_of way.stood) ≡ out (work_of first) names (texts ss)
+    same = ap (λ (w : Work). outcome w names (wholes_of way.stood)) (same-work ss before first old way) ∙ ap (λ (l : List (List ℕ)). out (work_of first) names l) way.texts

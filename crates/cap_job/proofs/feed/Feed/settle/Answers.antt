@@ -1,0 +1,29 @@
+use Rattle.std.proofs.Common.{◌<◌, ◌∙◌, length, ap, sym, subst}
+use Rattle.std.specs.List.{slice_set}
+use Rattle.cap_job.specs.declared.feed.Place.{Place}
+use Rattle.cap_job.specs.Feeding.{FeedView, HeadView, HoldsQueue, Settles, Tells, settled}
+use Rattle.cap_job.specs.declared.feed.Next.TheVariants as next
+use Rattle.cap_job.proofs.Leasts.{settled-in}
+use Rattle.cap_job.proofs.Heads.{get-among}
+use Rattle.cap_job.proofs.feed.Feed.settle.Goals as goal
+
+pub returns : goal.returns
+returns g c =
+    let new : FeedView = record { heads = slice_set c.self.inside.heads.items c.args.input c.settle.new.self; place = c.place_behind-self-inside.result } in
+    let W : FeedView → Type 0 = λ v. c.args.input < length v.heads in
+    let P : FeedView → Type 0 = λ v. Settles v c.args.input new in
+    subst P c.self.view_is (record {
+      head = c.index_mut-head.result.now;
+      among = get-among c.self.inside.heads.items c.args.input c.index_mut-head.result.now c.index_mut-head.result.now (subst W (sym c.self.view_is) c.requires.within) c.index_mut-head.ensures.value;
+      is =
+          ap (λ (h : HeadView). record { heads = slice_set c.self.inside.heads.items c.args.input h; place = c.place_behind-self-inside.result }) c.settle.ensures
+          ∙ ap (λ (p : Place). record { heads = slice_set c.self.inside.heads.items c.args.input (settled c.index_mut-head.result.now); place = p }) c.place_behind-self-inside.ensures;
+    })
+
+pub invariant_of-self : goal.invariant_of-self
+invariant_of-self g c =
+    let T : FeedView → Type 0 = λ v. Tells v.place v.heads (next.Answer c.args.input) in
+    let P : Place → Type 0 = λ p. HoldsQueue p (slice_set c.self.inside.heads.items c.args.input c.settle.new.self) c.leave.new.queue in
+    subst P (sym c.place_behind-self-inside.ensures)
+    (settled-in c.self.inside.place c.self.inside.heads.items c.args.input c.settle.new.self c.self.inside.queue c.leave.new.queue
+    (subst T (sym c.self.view_is) c.requires.next) (ap (λ (h : HeadView). h.waiting) c.settle.ensures) c.leave.ensures c.self.invariant)

@@ -1,0 +1,86 @@
+use Rattle.std.proofs.Common.{◌≡◌, ◌<◌, ◌∙◌, length, Bool, true, false, Result, Ok, refl, sym, ap, arith, subst}
+use Rattle.cap_octet.specs.declared.fault.Fault.{Fault}
+use Rattle.cap_job.specs.declared.feed.Next.TheVariants as next
+use Rattle.cap_job.specs.declared.machine.Progress.TheVariants.{More}
+use Rattle.cap_job.specs.Feeding.{Stood, feed_left}
+use Rattle.cap_job.specs.Feeding as feeding
+use Rattle.cap_job.specs.Judged.{Asked}
+use Rattle.cap_job.specs.Judging.{JudgeView}
+use Rattle.cap_job.specs.Working.{MachineView, Decided, GoesOn, BreaksAt, StepLeaves}
+use Rattle.cap_job.proofs.Fetches.{Follows, FetchLeaves, fetch-leaves}
+use Rattle.cap_job.proofs.Lefts.{Goes, fetch-kept, fetch-less}
+use Rattle.cap_job.proofs.machine.Machine.fetch.Goals as goal
+
+pub invariant_of-self : goal.invariant_of-self
+invariant_of-self g c =
+    let N : MachineView → Type 0 = λ v. feeding.Tells v.feed.place v.feed.heads (next.Read c.args.input) in
+    let W : MachineView → Type 0 = λ v. c.args.input < length v.feed.heads in
+    let less = fetch-kept c.self.inside.feed c.fetch.new.self c.args.input c.fetch.result (subst N (sym c.self.view_is) c.requires.next) (subst W (sym c.self.view_is) c.requires.within) c.fetch.ensures.steps in
+    let was = c.self.invariant in
+    omega (arith, less, was)
+
+pub invariant_of-self-in-Ok-false : goal.invariant_of-self-in-Ok-false
+invariant_of-self-in-Ok-false g c =
+    let N : MachineView → Type 0 = λ v. feeding.Tells v.feed.place v.feed.heads (next.Read c.args.input) in
+    let W : MachineView → Type 0 = λ v. c.args.input < length v.feed.heads in
+    let less = fetch-kept c.self.inside.feed c.fetch.new.self c.args.input c.fetch.result (subst N (sym c.self.view_is) c.requires.next) (subst W (sym c.self.view_is) c.requires.within) c.fetch.ensures.steps in
+    let was = c.self.invariant in
+    omega (arith, less, was)
+
+pub invariant_of-self-in-Err : goal.invariant_of-self-in-Err
+invariant_of-self-in-Err g c =
+    let N : MachineView → Type 0 = λ v. feeding.Tells v.feed.place v.feed.heads (next.Read c.args.input) in
+    let W : MachineView → Type 0 = λ v. c.args.input < length v.feed.heads in
+    let less = fetch-kept c.self.inside.feed c.fetch.new.self c.args.input c.fetch.result (subst N (sym c.self.view_is) c.requires.next) (subst W (sym c.self.view_is) c.requires.within) c.fetch.ensures.steps in
+    let was = c.self.invariant in
+    omega (arith, less, was)
+
+pub returns-in-Ok-true-clause-told : goal.returns-in-Ok-true-clause-told
+returns-in-Ok-true-clause-told g c = λ ti to ss before d.
+    let j : JudgeView = c.self.inside.judge in
+    let m : MachineView = record { feed = c.self.inside.feed; asked = j.asked; stand = j.stand; drain = c.self.inside.drain; decided = c.self.inside.decided } in
+    let new : MachineView = record { feed = c.fetch.new.self; asked = j.asked; stand = j.stand; drain = c.self.inside.drain; decided = c.self.inside.decided } in
+    let found : c.fetch.result ≡ Ok true = c.in-Ok-true.is ∙ ap Ok c.in-Ok-true.field-0-test in
+    let F : Result Bool Fault → Type 0 = λ a. Follows a c.fetch.new.self c.args.input j m.drain More j m.drain in
+    let L : Result Bool Fault → Type 0 = λ a. FetchLeaves ss before m c.args.input a More new in
+    let P : MachineView → Type 0 = λ v. Decided ss before v → feeding.Tells v.feed.place v.feed.heads (next.Read c.args.input) → GoesOn ss before v new in
+    let core : P m = λ d t. subst L found
+    (fetch-leaves ss before m.feed.heads m.feed.place m.asked m.stand m.drain m.decided c.args.input c.fetch.result c.fetch.new.self More j m.drain t (c.fetch.ensures.told ti) d (subst F (sym found) (refl, refl))) in
+    subst P c.self.view_is core d c.requires.next
+
+pub returns-in-Ok-true-clause-progress : goal.returns-in-Ok-true-clause-progress
+returns-in-Ok-true-clause-progress g c = λ more.
+    let P : MachineView → Type 0 = λ v. feeding.Tells v.feed.place v.feed.heads (next.Read c.args.input) → c.args.input < length v.feed.heads → feed_left c.fetch.new.self < feed_left v.feed in
+    subst P c.self.view_is (λ t l. fetch-less c.self.inside.feed c.fetch.new.self c.args.input c.fetch.result t l c.fetch.ensures.steps (subst Goes (sym c.in-Ok-true.is) tt)) c.requires.next c.requires.within
+
+pub returns-in-Ok-false-clause-told : goal.returns-in-Ok-false-clause-told
+returns-in-Ok-false-clause-told g c = λ ti to ss before d.
+    let j : JudgeView = c.self.inside.judge in
+    let j' : JudgeView = c.close.new.judge in
+    let m : MachineView = record { feed = c.self.inside.feed; asked = j.asked; stand = j.stand; drain = c.self.inside.drain; decided = c.self.inside.decided } in
+    let new : Asked → MachineView = λ k. record { feed = c.fetch.new.self; asked = k; stand = j'.stand; drain = c.close.new.drain; decided = c.self.inside.decided } in
+    let found : c.fetch.result ≡ Ok false = c.in-Ok-false.is ∙ ap Ok c.in-Ok-false.field-0-test in
+    let F : Result Bool Fault → Type 0 = λ a. Follows a c.fetch.new.self c.args.input j m.drain c.close.result j' c.close.new.drain in
+    let L : Result Bool Fault → Type 0 = λ a. FetchLeaves ss before m c.args.input a c.close.result (new m.asked) in
+    let N : Asked → Type 0 = λ k. StepLeaves ss before m c.close.result (new k) in
+    let P : MachineView → Type 0 = λ v. Decided ss before v → feeding.Tells v.feed.place v.feed.heads (next.Read c.args.input) → StepLeaves ss before v c.close.result (new j'.asked) in
+    let core : P m = λ d t. subst N (sym c.close.ensures.asked) (subst L found
+    (fetch-leaves ss before m.feed.heads m.feed.place m.asked m.stand m.drain m.decided c.args.input c.fetch.result c.fetch.new.self c.close.result j' c.close.new.drain t (c.fetch.ensures.told ti) d (subst F (sym found) (c.close.ensures.told to)))) in
+    subst P c.self.view_is core d c.requires.next
+
+pub returns-in-Ok-false-clause-progress : goal.returns-in-Ok-false-clause-progress
+returns-in-Ok-false-clause-progress g c = λ more.
+    let P : MachineView → Type 0 = λ v. feeding.Tells v.feed.place v.feed.heads (next.Read c.args.input) → c.args.input < length v.feed.heads → feed_left c.fetch.new.self < feed_left v.feed in
+    subst P c.self.view_is (λ t l. fetch-less c.self.inside.feed c.fetch.new.self c.args.input c.fetch.result t l c.fetch.ensures.steps (subst Goes (sym c.in-Ok-false.is) tt)) c.requires.next c.requires.within
+
+pub returns-in-Err-clause-told : goal.returns-in-Err-clause-told
+returns-in-Err-clause-told g c = λ ti to ss before d.
+    let j : JudgeView = c.self.inside.judge in
+    let m : MachineView = record { feed = c.self.inside.feed; asked = j.asked; stand = j.stand; drain = c.self.inside.drain; decided = c.self.inside.decided } in
+    let new : MachineView = record { feed = c.fetch.new.self; asked = j.asked; stand = j.stand; drain = c.self.inside.drain; decided = c.self.inside.decided } in
+    let F : Result Bool Fault → Type 0 = λ a. Follows a c.fetch.new.self c.args.input j m.drain More j m.drain in
+    let L : Result Bool Fault → Type 0 = λ a. FetchLeaves ss before m c.args.input a More new in
+    let P : MachineView → Type 0 = λ v. Decided ss before v → feeding.Tells v.feed.place v.feed.heads (next.Read c.args.input) → BreaksAt ss before v new c.args.input c.in-Err.fault in
+    let core : P m = λ d t. subst L c.in-Err.is
+    (fetch-leaves ss before m.feed.heads m.feed.place m.asked m.stand m.drain m.decided c.args.input c.fetch.result c.fetch.new.self More j m.drain t (c.fetch.ensures.told ti) d (subst F (sym c.in-Err.is) (refl, refl))) in
+    subst P c.self.view_is core d c.requires.next

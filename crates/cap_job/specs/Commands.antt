@@ -1,0 +1,173 @@
+-- What a contract sees of the job of a command, from its first step on.
+use Rattle.std.specs.Prelude.{◌≡◌, ◌⊎◌, ℕ, ◌+◌, Bool, true, not, List, map, Option, None, Some, string_bytes}
+use Rattle.flt_gen.specs.declared.link.Link.{Link}
+use Rattle.flt_bpf.specs.declared.insn.Insn.{Insn}
+use Rattle.flt_words.specs.declared.fault.ExprFault.{ExprFault}
+use Rattle.cap_tools.specs.declared.command.Command.{Command}
+use Rattle.cap_tools.specs.declared.command.Command.TheVariants as command
+use Rattle.cap_tools.specs.declared.refusal.Refusal.{Refusal}
+use Rattle.cap_tools.specs.declared.refusal.Refusal.TheVariants as refusal
+use Rattle.cap_tools.specs.Compiled.{IsCompiled, CompileLeaves}
+use Rattle.cap_tools.specs.Expressions.{IsReasonFor}
+use Rattle.cap_tools.specs.Messages.{refusal_message, refusal_status}
+use Rattle.cap_tools.specs.Printed.{Rule, IsRule, IsWhy, code_of}
+use Rattle.cap_tools.specs.Running.{OutputView, IsTold, Runs}
+use Rattle.cap_job.specs.declared.job.Preparation.{Preparation}
+use Rattle.cap_job.specs.declared.job.Preparation.TheVariants as preparation
+use Rattle.cap_job.specs.declared.drain.Writing.{Writing}
+use Rattle.cap_job.specs.declared.drain.Writing.TheVariants as writing
+use Rattle.cap_job.specs.declared.packets.Turn.{Turn}
+use Rattle.cap_job.specs.declared.packets.Turn.TheVariants as turn
+use Rattle.cap_job.specs.Fed.{Ordering, InTurn}
+use Rattle.cap_job.specs.Judged.{Asked, Select, Filter, Everything, Count}
+use Rattle.cap_job.specs.Judging.{selection_of}
+use Rattle.cap_job.specs.Feeding.{Stood, feed_left}
+use Rattle.cap_job.specs.Working.{MachineView, Decided}
+use Rattle.cap_job.specs.Jobs.{JobView, JobGives, JobRuns, NeverBegan, Opened, job_first, order_of, stood_at}
+use Rattle.cap_job.specs.Starting.{IsFresh, Lists, Refuses, asking, filtering, is_text, output_of, output_name}
+
+-- ---- before the first packet
+
+-- what a job does before its first packet: it reads the words of a filter, or a listing; or it compiles an expression,
+-- and nothing else
+pub data Preparing : Type 0 where
+  ReadsFilter : (words : List ℕ) → (code : Option (List ℕ)) → Preparing
+  Compiles : (words : List ℕ) → (link : Link) → Preparing
+
+abbrev pub preparing_of : {Z : Type 0} → Preparation Z → Preparing
+preparing_of (preparation.Filter print) = ReadsFilter (string_bytes print.expr) (code_of print)
+preparing_of (preparation.Listing compile) = Compiles (string_bytes compile.expr) compile.link
+
+-- ---- what a command asks
+
+-- what is done first, what is asked of packets, in which order they come, and what is written
+pub record Assignment : Type 0 where
+  pub preparing : Option Preparing
+  pub asked : Asked
+  pub order : Ordering
+  pub writing : Writing
+
+abbrev pub assigned : {Z : Type 0} → Command Z → Assignment
+assigned (command.Edit edit) = record { preparing = None; asked = Select (selection_of edit); order = InTurn; writing = writing.Capture edit.format }
+assigned (command.Merge merge) = record { preparing = None; asked = Everything; order = order_of (not merge.append); writing = writing.Capture merge.format }
+assigned command.Infos = record { preparing = None; asked = Count; order = InTurn; writing = writing.Text }
+assigned (command.Print print) = record {
+  preparing = Some (ReadsFilter (string_bytes print.expr) (code_of print));
+  asked = Everything;
+  order = InTurn;
+  writing = writing.Capture print.write;
+}
+assigned (command.Compile compile) = record { preparing = Some (Compiles (string_bytes compile.expr) compile.link); asked = Everything; order = InTurn; writing = writing.Text }
+
+-- ---- the view
+
+pub record CommandView : Type 0 where
+  -- nothing once it is done
+  pub preparing : Option Preparing
+  pub packets : JobView
+
+-- a command's job of which nothing is done
+abbrev pub command_first : {Z : Type 0} → Command Z → List (List ℕ) → List Opened → OutputView → ℕ → OutputView → CommandView
+command_first c names os out room err = record {
+  preparing = (assigned c).preparing;
+  packets = job_first (assigned c).order (assigned c).asked (assigned c).writing names os out room err;
+}
+
+-- a job that still prepares made no step; what is compiled is written as text
+abbrev pub IsReady : Preparing → JobView → Type 0
+IsReady (ReadsFilter words code) j = IsFresh j
+IsReady (Compiles words link) j = IsFresh j × (is_text j.machine.drain.target ≡ true)
+
+abbrev pub IsReadyIf : Option Preparing → JobView → Type 0
+IsReadyIf None j = Unit {0}
+IsReadyIf (Some preparing) j = IsReady preparing j
+
+-- ---- the first step
+
+-- the filter is read
+pub record IsFiltered (words : List ℕ) (code : Option (List ℕ)) (old new : JobView) : Type 0 where
+  pub rule : Rule
+  pub is : IsRule words code rule
+  pub new_is : new ≡ filtering rule old
+
+-- the filter is refused, or there was no memory for it
+pub record RefusesFilter (words : List ℕ) (code : Option (List ℕ)) (tells : Bool) (old : JobView) (status : ℕ) (new : JobView) : Type 0 where
+  pub refusal : Refusal
+  pub why : IsWhy words code refusal
+  pub refuses : Refuses refusal tells old status new
+
+abbrev pub FilterGives : List ℕ → Option (List ℕ) → Bool → JobView → Turn → JobView → Type 0
+FilterGives words code tells old turn.More new = IsFiltered words code old new
+FilterGives words code tells old (turn.Done status) new = RefusesFilter words code tells old status new
+
+-- a listing of some program for the expression is written, or a prefix of it
+pub record ListsSome (words : List ℕ) (link : Link) (tells : Bool) (old : JobView) (status : ℕ) (new : JobView) : Type 0 where
+  pub prog : List Insn
+  pub compiled : IsCompiled words link prog
+  pub lists : Lists prog tells old status new
+
+-- the expression is refused, or there was no memory for it
+pub record RefusesExpression (words : List ℕ) (tells : Bool) (old : JobView) (status : ℕ) (new : JobView) : Type 0 where
+  pub fault : ExprFault
+  pub why : IsReasonFor words fault
+  pub refuses : Refuses (refusal.Expression fault) tells old status new
+
+abbrev pub CompileGives : List ℕ → Link → Bool → JobView → Turn → JobView → Type 0
+CompileGives words link tells old turn.More new = ⊥
+CompileGives words link tells old (turn.Done status) new = ListsSome words link tells old status new ⊎ RefusesExpression words tells old status new
+
+abbrev pub Prepares : Preparing → Bool → JobView → Turn → JobView → Type 0
+Prepares (ReadsFilter words code) tells old r new = FilterGives words code tells old r new
+Prepares (Compiles words link) tells old r new = CompileGives words link tells old r new
+
+-- ---- a step
+
+abbrev pub GivesBy : Option Preparing → Bool → JobView → Turn → JobView → Type 0
+GivesBy None tells old r new = JobGives tells old r new
+GivesBy (Some preparing) tells old r new = Prepares preparing tells old r new
+
+-- so much is to be done at most
+abbrev pub preparing_left : Option Preparing → ℕ
+preparing_left None = 0
+preparing_left (Some preparing) = 1
+
+abbrev pub command_left : CommandView → ℕ
+command_left c = preparing_left c.preparing + feed_left c.packets.machine.feed
+
+-- ---- all steps
+
+-- what is decided of the inputs, whatever the filter will be
+abbrev pub DecidedBy : Option Preparing → List Stood → List ℕ → MachineView → Type 0
+DecidedBy None ss before m = Decided ss before m
+DecidedBy (Some (ReadsFilter words code)) ss before m = (rule : Rule) → IsRule words code rule → Decided ss before (asking (Filter rule None) m)
+DecidedBy (Some (Compiles words link)) ss before m = Unit {0}
+
+-- the job goes through the filter that it reads
+pub record RunsFiltered (words : List ℕ) (code : Option (List ℕ)) (ss : List Stood) (before : List ℕ) (tells : Bool) (first : JobView) (status : ℕ) (out err : OutputView) : Type 0 where
+  pub rule : Rule
+  pub is : IsRule words code rule
+  pub runs : JobRuns ss before tells (filtering rule first) status out err
+
+-- nothing is read or written but a message
+pub record RunsRefused (words : List ℕ) (code : Option (List ℕ)) (tells : Bool) (first : JobView) (status : ℕ) (out err : OutputView) : Type 0 where
+  pub refusal : Refusal
+  pub why : IsWhy words code refusal
+  pub status_is : status ≡ refusal_status refusal
+  pub same : out ≡ output_of first
+  pub told : IsTold tells first.err (refusal_message refusal) err
+
+abbrev pub RunsBy : Option Preparing → List Stood → List ℕ → Bool → JobView → ℕ → OutputView → OutputView → Type 0
+RunsBy None ss before tells first status out err = JobRuns ss before tells first status out err
+RunsBy (Some (ReadsFilter words code)) ss before tells first status out err =
+    RunsFiltered words code ss before tells first status out err ⊎ RunsRefused words code tells first status out err
+RunsBy (Some (Compiles words link)) ss before tells first status out err =
+    Runs (λ message. CompileLeaves words link (output_name first) (output_of first) out message status) tells first.err err
+
+abbrev pub RunsCommand : Bool → CommandView → ℕ → OutputView → OutputView → Type 0
+RunsCommand tells first status out err = (ss : List Stood) (before : List ℕ) → DecidedBy first.preparing ss before first.packets.machine → RunsBy first.preparing ss before tells first.packets status out err
+
+-- what a run of a command leaves; or there was no memory to begin it
+abbrev pub CommandRuns : {Z : Type 0} → Command Z → List (List ℕ) → List Opened → Bool → OutputView → ℕ → OutputView → ℕ → OutputView → OutputView → Type 0
+CommandRuns c names os tells out room err status out' err' =
+    RunsBy (assigned c).preparing (map stood_at os) out.written tells (command_first c names os out room err).packets status out' err'
+    ⊎ NeverBegan tells out err status out' err'

@@ -1,0 +1,93 @@
+-- What a contract sees of a judge.
+use Rattle.std.specs.Prelude.{◌≡◌, ℕ, ◌+◌, ◌^◌, ◌≤◌, Bool, true, false, [], Option, None, Result, Ok, Err, ◌*◌, Some}
+use Rattle.cap_octet.specs.Packet.{Captured, captured}
+use Rattle.cap_octet.specs.declared.fault.Fault.{Fault}
+use Rattle.cap_tools.specs.declared.command.Edit.{Edit}
+use Rattle.cap_tools.specs.Chosen.{Decision, Keep, Skip, keep_if}
+use Rattle.cap_tools.specs.Printed.{rule_decides}
+use Rattle.cap_tools.specs.Printing.{rule_of}
+use Rattle.cap_job.specs.declared.judge.Rule.{Rule}
+use Rattle.cap_job.specs.declared.judge.Rule.TheVariants as rule
+use Rattle.cap_job.specs.declared.judge.Verdict as code
+use Rattle.cap_job.specs.declared.judge.Verdict.TheVariants as code_verdict
+use Rattle.cap_job.specs.Judged.{Asked, Select, Filter, Everything, Count, Selection, Stand, Verdict, Pass, Last, Refuse, Judged, is_selected}
+use Rattle.cap_job.specs.Judged as judged
+use Rattle.cap_job.specs.Reports.{Tally, nothing_counted}
+use Rattle.cap_io.specs.Reading.{most_in_unit}
+
+pub record JudgeView : Type 0 where
+  pub asked : Asked
+  pub stand : Stand
+
+abbrev pub stand_with : ℕ → Tally → Stand
+stand_with passed tally = record { passed = passed; window = []; tally = tally }
+
+abbrev pub selection_of : {Z : Type 0} → Edit Z → Selection
+selection_of edit = record {
+  ranges = edit.ranges.items;
+  keep = edit.keep;
+  start = None;
+  stop = None;
+  chop_start = 0;
+  chop_end = 0;
+  snap = None;
+  shift = None;
+  window = None;
+}
+
+abbrev pub asked_of : {Z : Type 0} → Rule Z → Asked
+asked_of (rule.Select edit) = Select (selection_of edit)
+asked_of (rule.Filter filter count) = Filter (rule_of filter) count
+asked_of rule.Everything = Everything
+asked_of rule.Count = Count
+
+-- whether reports are asked
+abbrev pub is_count : Asked → Bool
+is_count (Select s) = false
+is_count (Filter rule count) = false
+is_count Everything = false
+is_count Count = true
+
+-- whether a packet passes, where nothing is changed of it
+abbrev pub decision : Asked → ℕ → Captured → Decision
+decision (Select s) number p = keep_if (is_selected s number p)
+decision (Filter rule count) number p = rule_decides rule p
+decision Everything number p = Keep
+decision Count number p = Skip
+
+abbrev pub count_of : Asked → Option ℕ
+count_of (Filter rule count) = count
+count_of asked = None
+
+abbrev pub verdict_of : code.Verdict → Verdict
+verdict_of (code_verdict.Pass p) = Pass (captured p)
+verdict_of (code_verdict.Last p) = Last (captured p)
+verdict_of code_verdict.Skip = judged.Skip
+
+abbrev pub passing : Captured → Bool → Verdict
+passing p true = Last p
+passing p false = Pass p
+
+-- what is answered of a packet: what it is to be, or its refusal
+abbrev pub Tells : Judged → Result code.Verdict Fault → Stand → Type 0
+Tells j (Ok v) stand = (verdict_of v ≡ j.verdict) × (stand ≡ j.stand)
+Tells j (Err fault) stand = j.verdict ≡ Refuse fault
+
+-- ---- what is counted
+
+-- no more than these numbers of packets have
+abbrev pub IsWithin : ℕ → Tally → Type 0
+IsWithin n t = (t.count ≤ n) × (t.data_size ≤ n * 2 ^ 32) × (t.captured_size ≤ n * most_in_unit)
+
+-- no more came to it than a packet has
+abbrev pub GrowsByOne : Tally → Tally → Type 0
+GrowsByOne old new = (new.count ≤ old.count + 1) × (new.data_size ≤ old.data_size + 2 ^ 32) × (new.captured_size ≤ old.captured_size + most_in_unit)
+
+-- nothing is counted
+abbrev pub emptied : Stand → Stand
+emptied s = record { passed = s.passed; window = s.window; tally = nothing_counted }
+
+-- what was counted is taken, where reports are asked
+abbrev pub Closes : Bool → JudgeView → Option Tally → JudgeView → Type 0
+Closes false old r new = (r ≡ None) × (new ≡ old)
+Closes true old r new = (r ≡ Some old.stand.tally) × (new ≡ record { asked = old.asked; stand = emptied old.stand })

@@ -1,0 +1,12 @@
+pub mod Commands
+pub mod Course
+pub mod Draining
+pub mod Fed
+pub mod Feeding
+pub mod Jobs
+pub mod Judged
+pub mod Judging
+pub mod Queue
+pub mod Reports
+pub mod Starting
+pub mod Working

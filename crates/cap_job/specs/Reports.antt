@@ -1,0 +1,102 @@
+-- Reports of files.
+use Rattle.std.specs.Prelude.{ℕ, ◌+◌, ◌-◌, ◌/◌, ◌%◌, ◌^◌, ◌<◌, ◌==◌, ◌&&◌, Bool, true, false, if◌then◌else◌, nat_le, min, max, List, [], ◌∷◌, ◌++◌, length, codes, Option, None, Some, unwrap_or}
+use Rattle.std.specs.List.{flat_map, slice_get}
+use Rattle.std.specs.Fmt.{decimal}
+use Rattle.cap_octet.specs.Date.{NANOS_PER_SECOND, date_text, digits}
+use Rattle.cap_octet.specs.Packet.{Captured}
+use Rattle.cap_io.specs.declared.source.Kind.{Kind}
+use Rattle.cap_io.specs.declared.source.Kind.TheVariants as kind
+
+-- ---- tallies
+
+-- what is counted of the packets of a file: how many, the sums of original and captured lengths, the least, the greatest
+-- and the last time, and whether no time is less than the one before it
+pub record Tally : Type 0 where
+  pub count : ℕ
+  pub data_size : ℕ
+  pub captured_size : ℕ
+  pub least : ℕ
+  pub greatest : ℕ
+  pub last : ℕ
+  pub strict : Bool
+
+abbrev pub nothing_counted : Tally
+nothing_counted = record { count = 0; data_size = 0; captured_size = 0; least = 0; greatest = 0; last = 0; strict = true }
+
+abbrev pub counted : Tally → Captured → Tally
+counted t p = record {
+  count = t.count + 1;
+  data_size = t.data_size + p.orig;
+  captured_size = t.captured_size + length p.bytes;
+  least = if t.count == 0 then p.time else min t.least p.time;
+  greatest = max t.greatest p.time;
+  last = p.time;
+  strict = t.strict && nat_le t.last p.time;
+}
+
+-- one packet more fits the tally's numbers
+abbrev pub HasRoom : Tally → Type 0
+HasRoom t = (t.count < 2 ^ 127) × (t.data_size < 2 ^ 127) × (t.captured_size < 2 ^ 127)
+
+-- ---- reports
+
+pub record Report : Type 0 where
+  pub input : ℕ
+  pub kind : Option Kind
+  pub size : ℕ
+  pub tally : Tally
+
+abbrev pub kind_name : Option Kind → List ℕ
+kind_name None = []
+kind_name (Some kind.Pcap) = codes "pcap"
+kind_name (Some kind.NsecPcap) = codes "nsecpcap"
+kind_name (Some kind.Pcapng) = codes "pcapng"
+
+abbrev pub date_or_none : ℕ → ℕ → List ℕ
+date_or_none count time = if count == 0 then codes "none" else date_text time
+
+-- a number of nanoseconds in seconds
+abbrev pub seconds : ℕ → List ℕ
+seconds time = decimal (time / NANOS_PER_SECOND) ++ 46 ∷ digits 9 (time % NANOS_PER_SECOND)
+
+abbrev pub yes_or_no : Bool → List ℕ
+yes_or_no true = codes "yes"
+yes_or_no false = codes "no"
+
+-- `LABEL: VALUE` on a line each, and what comes behind them
+abbrev pub lines : List (List ℕ × List ℕ) → List ℕ → List ℕ
+lines [] behind = behind
+lines ((label, value) ∷ more) behind = label ++ (58 ∷ 32 ∷ (value ++ 10 ∷ lines more behind))
+
+-- on a file's format, its size and the sizes of its packets
+abbrev pub size_lines : Option Kind → ℕ → Tally → List (List ℕ × List ℕ)
+size_lines kind size t =
+    (codes "Type", kind_name kind)
+    ∷ (codes "Packets", decimal t.count)
+    ∷ (codes "File size", decimal size)
+    ∷ (codes "Data size", decimal t.data_size)
+    ∷ (codes "Captured size", decimal t.captured_size)
+    ∷ []
+
+-- on the times of the packets
+abbrev pub time_lines : Tally → List (List ℕ × List ℕ)
+time_lines t =
+    (codes "Earliest", date_or_none t.count t.least)
+    ∷ (codes "Latest", date_or_none t.count t.greatest)
+    ∷ (codes "Duration", seconds (t.greatest - t.least))
+    ∷ (codes "Strict order", yes_or_no t.strict)
+    ∷ []
+
+-- the report of a file of this name, and an empty line behind it
+unfoldable pub file_report : List ℕ → Option Kind → ℕ → Tally → List ℕ
+file_report name kind size t = lines ((codes "File", name) ∷ (size_lines kind size t ++ time_lines t)) (10 ∷ [])
+
+abbrev pub name_at : List (List ℕ) → ℕ → List ℕ
+name_at names i = unwrap_or (slice_get names i) []
+
+abbrev pub report_text : List (List ℕ) → Report → List ℕ
+report_text names r = file_report (name_at names r.input) r.kind r.size r.tally
+
+-- reports, one behind another, by the names of the inputs
+abbrev pub reports_text : List (List ℕ) → List Report → List ℕ
+reports_text names rs = flat_map (report_text names) rs

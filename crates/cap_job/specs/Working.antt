@@ -1,0 +1,227 @@
+-- What a contract sees of a job under way, and what holds of it at each step.
+use Rattle.std.specs.Prelude.{◌≡◌, ◌⊎◌, ℕ, zero, suc, ◌+◌, ◌<◌, ◌≤◌, Bool, true, false, List, [], ◌∷◌, ◌++◌, length, map, Option, None, Some, Result, Ok, Err}
+use Rattle.cap_octet.specs.Device.{Stops}
+use Rattle.cap_octet.specs.Packet.{Captured, captured}
+use Rattle.cap_octet.specs.declared.fault.Fault.{Fault}
+use Rattle.cap_octet.specs.declared.fault.Fault.TheVariants.{ReadFailed, NoMemory, WriteFailed}
+use Rattle.cap_octet.specs.declared.device.DeviceFault.{DeviceFault}
+use Rattle.cap_io.specs.Capture.{Placed, Items, kind_of}
+use Rattle.cap_io.specs.Source.{SourceView}
+use Rattle.cap_io.specs.Standing.{IsCutShort}
+use Rattle.cap_job.specs.declared.judge.Verdict.{Verdict}
+use Rattle.cap_job.specs.declared.judge.Verdict.TheVariants as code
+use Rattle.cap_job.specs.declared.machine.End.{End}
+use Rattle.cap_job.specs.declared.machine.End.TheVariants as end
+use Rattle.cap_job.specs.declared.machine.Progress.{Progress}
+use Rattle.cap_job.specs.declared.machine.Progress.TheVariants.{More, Done}
+use Rattle.cap_job.specs.Reports.{Report, Tally}
+use Rattle.cap_job.specs.Draining.{DrainView, Drained, Puts, Reports, form_at, written_to, failures_to}
+use Rattle.cap_job.specs.Fed.{Event, Close, Over, Broken, Rest, Ordering, InTurn, Merging, fed, whole}
+use Rattle.cap_job.specs.Judged.{Asked, Stand, verdict}
+use Rattle.cap_job.specs.Judging.{JudgeView, IsWithin, emptied, is_count}
+use Rattle.cap_job.specs.Judging as judging
+use Rattle.cap_job.specs.Course.{Form, Way, set_out, way, course, output, first_link}
+use Rattle.cap_job.specs.Feeding.{FeedView, HeadView, Stood, Standing, HasCome, Among, EndedBefore, ordering_of}
+
+-- ---- the view
+
+pub record MachineView : Type 0 where
+  pub feed : FeedView
+  pub asked : Asked
+  pub stand : Stand
+  pub drain : DrainView
+  -- how many packets are decided
+  pub decided : ℕ
+
+abbrev pub form_of : MachineView → Form
+form_of m = form_at m.drain
+
+abbrev pub written_by : MachineView → List ℕ
+written_by m = written_to m.drain.target
+
+abbrev pub failures_by : MachineView → ℕ
+failures_by m = failures_to m.drain.target
+
+-- ---- what holds between steps
+
+abbrev pub texts : List Stood → List (List ℕ)
+texts ss = map (λ s. s.text) ss
+
+-- the course over these packets and reports, and where it stands
+abbrev pub stands_at : MachineView → List Captured → List Report → Way
+stands_at m packets reports = record { number = m.decided; stand = m.stand; packets = packets; reports = reports; end = None }
+
+-- Of each input some bytes are done: their packets are decided, in the job's order, and the output is what is written of
+-- those that passed, or of the inputs that were read to their ends.
+pub record Decided (ss : List Stood) (before : List ℕ) (m : MachineView) : Type 0 where
+  pub standing : Standing ss m.feed.heads
+  pub events : List Event
+  pub come : HasCome ss m.feed events
+  pub packets : List Captured
+  pub reports : List Report
+  pub way : way m.asked (form_of m) set_out events ≡ stands_at m packets reports
+  pub output : Drained before m.drain packets reports
+  pub passed : m.stand.passed ≤ m.decided
+  pub counted : IsWithin m.decided m.stand.tally
+  pub ended : EndedBefore m.feed.place m.feed.heads
+
+-- ---- the parts of a step
+
+-- what a call answers that tells whether the packet is the last
+abbrev pub PutsAs : Bool → Captured → DrainView → Result Bool Fault → DrainView → Type 0
+PutsAs last p old (Ok b) new = (b ≡ last) × Puts p old (Ok tt) new
+PutsAs last p old (Err fault) new = Puts p old (Err fault) new
+
+abbrev pub Offers : Verdict → DrainView → Result Bool Fault → DrainView → Type 0
+Offers (code.Pass p) old r new = PutsAs false (captured p) old r new
+Offers (code.Last p) old r new = PutsAs true (captured p) old r new
+Offers code.Skip old r new = (r ≡ Ok false) × (new ≡ old)
+
+-- a packet is judged, and put where it passes
+pub record Judges (p : Captured) (judge : JudgeView) (number : ℕ) (old : DrainView) (r : Result Bool Fault) (judge' : JudgeView) (new : DrainView) : Type 0 where
+  pub answer : Verdict
+  pub told : judging.Tells (verdict judge.asked judge.stand number p) (Ok answer) judge'.stand
+  pub offers : Offers answer old r new
+
+-- it is refused, or there was no memory for what decides it
+pub record Rejects (p : Captured) (judge : JudgeView) (number : ℕ) (old : DrainView) (r : Result Bool Fault) (judge' : JudgeView) (new : DrainView) : Type 0 where
+  pub fault : Fault
+  pub told : judging.Tells (verdict judge.asked judge.stand number p) (Err fault) judge'.stand
+  pub answer : r ≡ Err fault
+  pub same : new ≡ old
+
+abbrev pub Decides : Option Captured → JudgeView → ℕ → DrainView → Result Bool Fault → JudgeView → DrainView → Type 0
+Decides None judge number old r judge' new = Unit {0}
+Decides (Some p) judge number old r judge' new = Judges p judge number old r judge' new ⊎ Rejects p judge number old r judge' new
+
+-- whether an input that was read to its end is reported: where files are counted, one behind another
+abbrev pub asks_report : Ordering → Asked → Bool
+asks_report InTurn asked = is_count asked
+asks_report Merging asked = false
+
+abbrev pub report_at : ℕ → HeadView → Tally → Report
+report_at input h tally = record { input = input; kind = kind_of h.source.declared; size = h.source.offset; tally = tally }
+
+abbrev pub unless_failed : Result (Unit {0}) DeviceFault → Progress
+unless_failed (Ok done) = More
+unless_failed (Err fault) = Done end.OutputFailed
+
+-- an input is reported, and the count begins anew
+pub record ReportsOn (input : ℕ) (head : HeadView) (judge : JudgeView) (old : DrainView) (r : Progress) (judge' : JudgeView) (new : DrainView) : Type 0 where
+  pub answer : Result (Unit {0}) DeviceFault
+  pub reports : Reports (report_at input head judge.stand.tally) old answer new
+  pub is : r ≡ unless_failed answer
+  pub judge_is : judge' ≡ record { asked = judge.asked; stand = emptied judge.stand }
+
+abbrev pub ClosesBy : Bool → ℕ → HeadView → JudgeView → DrainView → Progress → JudgeView → DrainView → Type 0
+ClosesBy false input head judge old r judge' new = (r ≡ More) × (judge' ≡ judge) × (new ≡ old)
+ClosesBy true input head judge old r judge' new = ReportsOn input head judge old r judge' new
+
+-- an input was read to its end
+pub record Closes (feed : FeedView) (input : ℕ) (judge : JudgeView) (old : DrainView) (r : Progress) (judge' : JudgeView) (new : DrainView) : Type 0 where
+  pub head : HeadView
+  pub among : Among feed.heads input head
+  pub by : ClosesBy (asks_report (ordering_of feed.place) judge.asked) input head judge old r judge' new
+
+abbrev pub unwritten : ℕ → Fault → End
+unwritten input WriteFailed = end.OutputFailed
+unwritten input fault = end.Broken input fault
+
+-- ---- what a step leaves
+
+-- some bytes more of an input are done, with their packets
+abbrev pub finish_at : List Stood → ℕ → List ℕ → List Placed → List Stood
+finish_at [] i bytes packets = []
+finish_at (s ∷ ss) zero bytes packets = record { text = s.text; done = s.done ++ bytes; packets = s.packets ++ packets } ∷ ss
+finish_at (s ∷ ss) (suc i) bytes packets = s ∷ finish_at ss i bytes packets
+
+-- it goes on, and finished some bytes of one input
+pub record GoesOn (ss : List Stood) (before : List ℕ) (old new : MachineView) : Type 0 where
+  pub input : ℕ
+  pub finished : List ℕ
+  pub packets : List Placed
+  pub decided : Decided (finish_at ss input finished packets) before new
+  pub at_most_one : new.decided ≤ old.decided + 1
+  pub form : form_of new ≡ form_of old
+  -- the output's device didn't fail
+  pub output : failures_by new ≡ failures_by old
+  pub names : new.drain.names ≡ old.drain.names
+  pub order : ordering_of new.feed.place ≡ ordering_of old.feed.place
+
+-- the output is all that the job writes of inputs with these items, and they end so
+pub record Comes (rs : List Rest) (before : List ℕ) (m new : MachineView) (close : Close) : Type 0 where
+  pub ends : (course m.asked (form_of m) (fed (ordering_of m.feed.place) rs)).end ≡ Some close
+  pub written : written_by new ≡ before ++ output (form_of m) (first_link rs) (course m.asked (form_of m) (fed (ordering_of m.feed.place) rs))
+
+-- these items in place of one input's
+abbrev pub cut_at : List Rest → ℕ → Items → List Rest
+cut_at [] i items = []
+cut_at (r ∷ rs) zero items = record { greatest = r.greatest; items = items; size = r.size } ∷ rs
+cut_at (r ∷ rs) (suc i) items = r ∷ cut_at rs i items
+
+abbrev pub wholes_of : List Stood → List Rest
+wholes_of ss = map whole (texts ss)
+
+-- This input's device failed in this step, or there was no memory for its next unit: it is cut short there, where `after` stands.
+pub record EndsByCut (ss : List Stood) (before : List ℕ) (old new : MachineView) (input : ℕ) (fault : Fault) (after : SourceView) : Type 0 where
+  pub front : List Stood
+  pub stood : Stood
+  pub back : List Stood
+  pub place : length front ≡ input
+  pub among : ss ≡ front ++ stood ∷ back
+  pub held : Items
+  pub cut : IsCutShort stood.text fault held
+  pub head : HeadView
+  pub head_is : Among old.feed.heads input head
+  pub why : ((fault ≡ ReadFailed) × (head.source.failures < after.failures) × (head.source.never_fails ≡ false)) ⊎ (fault ≡ NoMemory)
+  pub comes : Comes (cut_at (wholes_of ss) input held) before old new (Broken input fault after.offset)
+
+-- there was no memory to decide the packet in hand: the output stays
+pub record WantsMemory (old new : MachineView) (fault : Fault) : Type 0 where
+  pub why : fault ≡ NoMemory
+  pub written : written_by new ≡ written_by old
+
+-- The output's device failed in this step, after a beginning of what it would have appended.
+pub record StopsWriting (ss : List Stood) (before : List ℕ) (old new : MachineView) : Type 0 where
+  pub failures : failures_by new ≡ failures_by old + 1
+  pub front : List ℕ
+  pub bytes : List ℕ
+  pub back : List ℕ
+  pub whole : output (form_of old) (first_link (wholes_of ss)) (course old.asked (form_of old) (fed (ordering_of old.feed.place) (wholes_of ss))) ≡ front ++ (bytes ++ back)
+  pub so_far : written_by old ≡ before ++ front
+  pub stops : Stops (written_by old) bytes (written_by new)
+
+-- the inputs end so, or the packet in hand is refused; or the input is cut short; or there was no memory
+abbrev pub WhyBroken : List Stood → List ℕ → MachineView → MachineView → ℕ → Fault → SourceView → Type 0
+WhyBroken ss before old new input fault after =
+    Comes (wholes_of ss) before old new (Broken input fault after.offset) ⊎ EndsByCut ss before old new input fault after ⊎ WantsMemory old new fault
+
+pub record BreaksAt (ss : List Stood) (before : List ℕ) (old new : MachineView) (input : ℕ) (fault : Fault) : Type 0 where
+  pub head : HeadView
+  pub among : Among new.feed.heads input head
+  pub why : WhyBroken ss before old new input fault head.source
+
+abbrev pub EndLeaves : List Stood → List ℕ → MachineView → End → MachineView → Type 0
+EndLeaves ss before old end.Clean new = Comes (wholes_of ss) before old new Over
+EndLeaves ss before old (end.Broken input fault) new = BreaksAt ss before old new input fault
+EndLeaves ss before old end.OutputFailed new = StopsWriting ss before old new
+
+abbrev pub StepLeaves : List Stood → List ℕ → MachineView → Progress → MachineView → Type 0
+StepLeaves ss before old More new = GoesOn ss before old new
+StepLeaves ss before old (Done e) new = EndLeaves ss before old e new
+
+abbrev pub StepGives : MachineView → Progress → MachineView → Type 0
+StepGives old r new = (ss : List Stood) (before : List ℕ) → Decided ss before old → StepLeaves ss before old r new
+
+-- ---- many steps
+
+-- A machine that went on from its first view, without a failure of the output: of the same texts more bytes are done.
+pub record IsUnderWay (ss : List Stood) (before : List ℕ) (first m : MachineView) : Type 0 where
+  pub stood : List Stood
+  pub texts : texts stood ≡ texts ss
+  pub decided : Decided stood before m
+  pub asked : m.asked ≡ first.asked
+  pub form : form_of m ≡ form_of first
+  pub output : failures_by m ≡ failures_by first
+  pub names : m.drain.names ≡ first.drain.names
+  pub order : ordering_of m.feed.place ≡ ordering_of first.feed.place

@@ -1,0 +1,270 @@
+//! The jobs of commands: what is read before the first packet, and then the packets.
+ghost use Rattle.std.specs.Prelude.{ℕ, ◌≡◌, ◌+◌, ◌<◌, ◌≤◌, IfErr, IfOk, IsTrue, None, Some, map, string_bytes, true, vec_len};
+ghost use Rattle.std.specs.Option.{option_map};
+ghost use Rattle.cap_tools.specs.Command.{is_proper};
+ghost use Rattle.cap_tools.specs.Printed.{IsRule, IsWhy, code_of};
+ghost use Rattle.cap_tools.specs.Printing.{rule_of};
+ghost use Rattle.cap_tools.specs.Running.{seen};
+ghost use Rattle.cap_job.specs.Commands.{CommandRuns, IsReady, Prepares, RunsCommand, assigned, preparing_of};
+ghost use Rattle.cap_job.specs.Jobs.{IsStatus, done_by, opened, order_of};
+ghost use Rattle.cap_job.specs.Judging.{asked_of};
+
+use crate::drain::Writing;
+use crate::judge::Rule;
+use crate::packets::{PacketJob, Turn, Work};
+use cap_octet::{Input, Output};
+use cap_tools::command::{Command, Compile, Print};
+use cap_tools::compile::compile_text;
+use cap_tools::filter::{Filter, read_code, read_words};
+use cap_tools::message::tell_no_memory;
+use cap_tools::refusal::Refusal;
+use std::alloc::Allocator;
+use std::marker::Model;
+
+/// What a job does before its first packet.
+#[derive(Drop)]
+pub enum Preparation<A: Allocator> {
+    /// Reads the filter of a print, its words or its listing.
+    Filter(Print<A>),
+    /// Compiles an expression and writes its listing, and nothing else.
+    Listing(Compile<A>),
+}
+
+/// What a command asks for.
+#[derive(Drop)]
+struct Assignment<A: Allocator> {
+    preparation: Option<Preparation<A>>,
+    work: Work<A>,
+}
+
+/// By what packets are judged, what is written, and whether inputs are merged.
+fn work<A: Allocator>(rule: Rule<A>, writing: Writing, merges: bool) -> Work<A>
+    ensures rule { result.rule ≡ rule }
+    ensures writing { result.writing ≡ writing }
+    ensures merges { result.merges ≡ merges }
+{
+    Work {
+        rule,
+        writing,
+        merges,
+    }
+}
+
+/// What a command asks for. The filter of a print is read in the first step.
+fn assignment_of<A: Allocator>(command: Command<A>) -> Assignment<A>
+    ensures preparing { option_map preparing_of result.preparation ≡ (assigned command).preparing }
+    ensures asked { asked_of result.work.rule ≡ (assigned command).asked }
+    ensures order { order_of result.work.merges ≡ (assigned command).order }
+    ensures writing { result.work.writing ≡ (assigned command).writing }
+{
+    match command {
+        Command::Edit(edit) => {
+            let writing = Writing::Capture(edit.format);
+            Assignment {
+                preparation: None,
+                work: work(Rule::Select(edit), writing, false),
+            }
+        }
+        Command::Merge(merge) => Assignment {
+            preparation: None,
+            work: work(
+                Rule::Everything,
+                Writing::Capture(merge.format),
+                !merge.append,
+            ),
+        },
+        Command::Infos => Assignment {
+            preparation: None,
+            work: work(Rule::Count, Writing::Text, false),
+        },
+        Command::Print(print) => {
+            let writing = Writing::Capture(print.write);
+            Assignment {
+                preparation: Some(Preparation::Filter(print)),
+                work: work(Rule::Everything, writing, false),
+            }
+        }
+        Command::Compile(compile) => Assignment {
+            preparation: Some(Preparation::Listing(compile)),
+            work: work(Rule::Everything, Writing::Text, false),
+        },
+    }
+}
+
+/// The filter that a print is asked for.
+fn read_filter<A: Allocator + Copy + Drop>(alloc: A, print: &Print<A>) -> Result<Filter<A>, Refusal>
+    ensures rule { IfOk result (λ filter. IsRule (string_bytes print.now.expr) (code_of print.now) (rule_of filter)) }
+    ensures refused { IfErr result (IsWhy (string_bytes print.now.expr) (code_of print.now)) }
+{
+    let words = print.expr.as_str();
+    match &print.code {
+        Some(text) => read_code(alloc, words, text),
+        None => read_words(alloc, words),
+    }
+}
+
+/// The job of a command.
+#[derive(Drop)]
+pub struct Job<I: Input, O: Output, E: Output, A: Allocator> {
+    alloc: A,
+    /// `None` once it is done.
+    preparation: Option<Preparation<A>>,
+    packets: PacketJob<I, O, E, A>,
+}
+
+impl<I: Input, O: Output, E: Output, A: Allocator> Model for Job<I, O, E, A> {
+    ghost use Rattle.std.specs.Option.{option_map};
+    ghost use Rattle.std.specs.Coded.{codes};
+    ghost use Rattle.cap_tools.specs.Compiling.{expression_code};
+    ghost use Rattle.cap_job.specs.Commands.{CommandView, IsReadyIf, preparing_of};
+
+    ghost Value = { CommandView };
+
+    ghost coded = { Prim.hlevel (codes, expression_code) };
+
+    ghost view = { λ c. record { preparing = option_map preparing_of c.preparation; packets = c.packets } };
+
+    ghost invariant = { λ c. IsReadyIf (option_map preparing_of c.preparation) c.packets };
+}
+
+impl<I: Input, O: Output, E: Output, A: Allocator + Copy + Drop> Job<I, O, E, A> {
+    ghost use Rattle.cap_job.specs.Commands.{GivesBy, command_first, command_left};
+    ghost use Rattle.cap_job.specs.Working.{failures_by, written_by};
+
+    /// The job of a proper command. `names` are those of the inputs, then of the output. Where there is no memory
+    /// nothing was read or written.
+    pub fn new(
+        alloc: A,
+        command: Command<A>,
+        names: Vec<String<A>, A>,
+        inputs: Vec<I, A>,
+        out: O,
+        err: E,
+    ) -> Result<Self, (O, E)>
+    where
+        I: Drop,
+        requires proper { is_proper command (vec_len inputs) ≡ true }
+        ensures fresh { IfOk result (λ job. job ≡ command_first command (map string_bytes names.items)
+            (map (λ input. opened (I.unread input) (I.given input) (I.failures input) (I.never_fails input)) inputs.items) (seen (O.written out) (O.failures out)) (O.room out) (seen (E.written err) (E.failures err))) }
+        ensures refused { IfErr result (λ devices. (devices.0 ≡ out) × (devices.1 ≡ err)) }
+    {
+        let Assignment { preparation, work } = assignment_of(command);
+        let packets = PacketJob::new(alloc, work, names, inputs, out, err)?;
+        Ok(Job {
+            alloc,
+            preparation,
+            packets,
+        })
+    }
+
+    /// One step on: reads the filter or compiles; then reads one input on, decides one packet, or ends the output. It
+    /// tells how the job ended where it did. A message that can't be written is lost.
+    pub fn step(&mut self) -> Turn
+        ensures after { (s : ℕ) → self.old.packets.done ≡ Some s → (result ≡ Turn.Done s) × (self.new ≡ self.old) }
+        ensures told { IsTrue I.tells → IsTrue O.tells → self.old.packets.done ≡ None → GivesBy self.old.preparing E.tells self.old.packets result self.new.packets }
+        ensures prepared { self.new.preparing ≡ None }
+        ensures done { self.new.packets.done ≡ done_by result }
+        ensures status { IsStatus result }
+        ensures turns { self.old.packets.done ≡ None → self.new.packets.turns ≡ self.old.packets.turns + 1 }
+        ensures left { result ≡ Turn.More → command_left self.new < command_left self.old }
+        ensures names { self.new.packets.machine.drain.names ≡ self.old.packets.machine.drain.names }
+        ensures asked { self.old.preparing ≡ None → self.new.packets.machine.asked ≡ self.old.packets.machine.asked }
+    {
+        match self.preparation.take() {
+            Some(preparation) => prepare(self.alloc, preparation, &mut self.packets),
+            None => self.packets.step(),
+        }
+    }
+
+    /// The output and the messages' device, as they stand.
+    pub fn close(self) -> (O, E)
+    where
+        I: Drop,
+        ensures written { O.written result.0 ≡ written_by self.packets.machine }
+        ensures failures { O.failures result.0 ≡ failures_by self.packets.machine }
+        ensures messages { seen (E.written result.1) (E.failures result.1) ≡ self.packets.err }
+    {
+        self.packets.close()
+    }
+}
+
+/// Reads what a job needs before its first packet, or writes a listing.
+fn prepare<I: Input, O: Output, E: Output, A: Allocator + Copy + Drop>(
+    alloc: A,
+    preparation: Preparation<A>,
+    packets: &mut PacketJob<I, O, E, A>,
+) -> Turn
+    requires { IsReady (preparing_of preparation) packets.old }
+    ensures gives { IsTrue O.tells → Prepares (preparing_of preparation) E.tells packets.old result packets.new }
+    ensures done { packets.new.done ≡ done_by result }
+    ensures status { IsStatus result }
+    ensures turns { packets.new.turns ≡ packets.old.turns + 1 }
+    ensures feed { packets.new.machine.feed ≡ packets.old.machine.feed }
+    ensures names { packets.new.machine.drain.names ≡ packets.old.machine.drain.names }
+{
+    match preparation {
+        Preparation::Filter(print) => match read_filter(alloc, &print) {
+            Ok(filter) => packets.filter(filter),
+            Err(refusal) => packets.refuse(refusal),
+        },
+        Preparation::Listing(compile) => {
+            match compile_text(alloc, compile.expr.as_str(), compile.link) {
+                Ok(program) => packets.list(&program),
+                Err(fault) => packets.refuse(Refusal::Expression(fault)),
+            }
+        }
+    }
+}
+
+/// Steps to the end, and answers the status.
+pub fn run_on<I, O, E, A>(mut job: Job<I, O, E, A>) -> (u8, O, E)
+where
+    I: Input + Drop,
+    O: Output,
+    E: Output,
+    A: Allocator + Copy + Drop,
+    ensures status { result.0 ≤ 2 }
+    ensures told { IsTrue I.tells → IsTrue O.tells → job.packets.done ≡ None → RunsCommand E.tells job result.0 (seen (O.written result.1) (O.failures result.1)) (seen (E.written result.2) (E.failures result.2)) }
+{
+    loop {
+        match job.step() {
+            Turn::More => {}
+            Turn::Done(status) => {
+                let (out, err) = job.close();
+                return (status, out, err);
+            }
+        }
+    }
+}
+
+/// Runs a proper command. `names` are those of the inputs, then of the output. It answers the status, 0 where all went
+/// well, 1 where a fault was told and 2 where an expression or a listing is refused, and hands back the output and the
+/// messages' device. Where there is no memory to begin it nothing was read or written but a message. A message that can't
+/// be written is lost.
+pub fn run<I, O, E, A>(
+    alloc: A,
+    command: Command<A>,
+    names: Vec<String<A>, A>,
+    inputs: Vec<I, A>,
+    out: O,
+    err: E,
+) -> (u8, O, E)
+where
+    I: Input + Drop,
+    O: Output,
+    E: Output,
+    A: Allocator + Copy + Drop,
+    requires proper { is_proper command (vec_len inputs) ≡ true }
+    ensures status { result.0 ≤ 2 }
+    ensures told { IsTrue I.tells → IsTrue O.tells → CommandRuns command (map string_bytes names.items)
+        (map (λ input. opened (I.unread input) (I.given input) (I.failures input) (I.never_fails input)) inputs.items)
+        E.tells (seen (O.written out) (O.failures out)) (O.room out) (seen (E.written err) (E.failures err)) result.0 (seen (O.written result.1) (O.failures result.1)) (seen (E.written result.2) (E.failures result.2)) }
+{
+    match Job::new(alloc, command, names, inputs, out, err) {
+        Ok(job) => run_on(job),
+        Err((out, mut err)) => {
+            let _ = tell_no_memory(&mut err);
+            (1, out, err)
+        }
+    }
+}

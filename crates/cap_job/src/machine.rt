@@ -1,0 +1,280 @@
+//! The steps of a job over its packets.
+ghost use Rattle.std.specs.Prelude.{◌≡◌, ◌+◌, ◌<◌, ◌≤◌, IsTrue, length};
+ghost use Rattle.cap_job.specs.Feeding.{most_steps};
+ghost use Rattle.cap_job.specs.Draining.{Lists};
+ghost use Rattle.cap_job.specs.Starting.{asking};
+ghost use Rattle.cap_job.specs.Judging.{asked_of, GrowsByOne, IsWithin};
+ghost use Rattle.cap_job.specs.Working.{Closes, Decides, Offers, unwritten};
+
+use crate::drain::Drain;
+use crate::feed::{Feed, Head, Next};
+use crate::judge::{Judge, Rule, Verdict};
+use crate::report::Report;
+use cap_octet::{Fault, Input, Output, Stopped};
+use flt_bpf::Program;
+use std::alloc::Allocator;
+use std::marker::Model;
+
+/// How a job ended.
+#[derive(Clone, Copy, Debug, PartialEq, Eq)]
+pub enum End {
+    /// All is written.
+    Clean,
+    /// An input ends by this fault at its offset, or its packet in hand is refused.
+    Broken(usize, Fault),
+    /// The output's device failed.
+    OutputFailed,
+}
+
+/// What a step leaves to do.
+#[derive(Clone, Copy, Debug, PartialEq, Eq)]
+pub enum Progress {
+    More,
+    Done(End),
+}
+
+/// A job whose filter isn't refused.
+#[derive(Drop)]
+pub struct Machine<I: Input, O: Output, A: Allocator> {
+    feed: Feed<I, A>,
+    judge: Judge<A>,
+    drain: Drain<O, A>,
+    /// How many packets are decided.
+    decided: u128,
+}
+
+impl<I: Input, O: Output, A: Allocator> Model for Machine<I, O, A> {
+    ghost use Rattle.std.specs.Prelude.{◌+◌, ◌≤◌};
+    ghost use Rattle.std.specs.Coded.{codes};
+    ghost use Rattle.cap_tools.specs.Compiling.{expression_code};
+    ghost use Rattle.cap_job.specs.Feeding.{feed_left, most_steps};
+    ghost use Rattle.cap_job.specs.Working.{MachineView};
+
+    ghost Value = { MachineView };
+
+    ghost coded = { Prim.hlevel (codes, expression_code) };
+
+    ghost view = { λ m. record { feed = m.feed; asked = m.judge.asked; stand = m.judge.stand; drain = m.drain; decided = m.decided } };
+
+    ghost invariant = { λ m. m.decided + feed_left m.feed ≤ most_steps };
+}
+
+/// Writes a packet that passes, and answers whether it is the last.
+fn put<O: Output, A: Allocator>(
+    verdict: Verdict<'_>,
+    drain: &mut Drain<O, A>,
+) -> Result<bool, Fault>
+    ensures told { IsTrue O.tells → Offers verdict.entry drain.old result drain.new }
+    ensures names { drain.new.names ≡ drain.old.names }
+{
+    match verdict {
+        Verdict::Pass(packet) => match drain.put(&packet) {
+            Ok(()) => Ok(false),
+            Err(fault) => Err(fault),
+        },
+        Verdict::Last(packet) => match drain.put(&packet) {
+            Ok(()) => Ok(true),
+            Err(fault) => Err(fault),
+        },
+        Verdict::Skip => Ok(false),
+    }
+}
+
+/// Decides the packet in hand of an input, and answers whether it is the last.
+fn decide<I: Input, O: Output, A: Allocator + Copy + Drop>(
+    head: &Head<I, A>,
+    judge: &mut Judge<A>,
+    drain: &mut Drain<O, A>,
+    number: u128,
+) -> Result<bool, Fault>
+    ensures told { IsTrue O.tells → judge.old.stand.passed < number → IsWithin most_steps judge.old.stand.tally
+        → Decides head.now.source.packet judge.old number drain.old result judge.new drain.new }
+    ensures asked { judge.new.asked ≡ judge.old.asked }
+    ensures passed { judge.old.stand.passed ≤ number → judge.new.stand.passed ≤ number }
+    ensures counted { GrowsByOne judge.old.stand.tally judge.new.stand.tally }
+    ensures names { drain.new.names ≡ drain.old.names }
+{
+    match head.packet() {
+        Some(packet) => {
+            let verdict = judge.judge(number, &packet)?;
+            put(verdict, drain)
+        }
+        None => Err(Fault::NoMemory),
+    }
+}
+
+/// Reports an input that was read to its end, where files are counted, one behind another.
+fn close<I: Input, O: Output, A: Allocator>(
+    feed: &Feed<I, A>,
+    input: usize,
+    judge: &mut Judge<A>,
+    drain: &mut Drain<O, A>,
+) -> Progress
+    requires { input < length feed.now.heads }
+    ensures told { IsTrue O.tells → Closes feed.now input judge.old drain.old result judge.new drain.new }
+    ensures asked { judge.new.asked ≡ judge.old.asked }
+    ensures names { drain.new.names ≡ drain.old.names }
+{
+    let head = feed.head(input);
+    if !feed.is_in_turn() {
+        return Progress::More;
+    }
+    let Some(tally) = judge.close() else {
+        return Progress::More;
+    };
+    let report = Report {
+        kind: head.kind(),
+        size: head.offset(),
+        tally,
+    };
+    match drain.report(input, &report) {
+        Ok(()) => Progress::More,
+        Err(_) => Progress::Done(End::OutputFailed),
+    }
+}
+
+/// Where a packet was not decided: the output's device failed, or the packet is refused.
+fn unwritten(input: usize, fault: Fault) -> End
+    ensures { result ≡ unwritten input fault }
+{
+    match fault {
+        Fault::WriteFailed => End::OutputFailed,
+        _ => End::Broken(input, fault),
+    }
+}
+
+impl<I: Input, O: Output, A: Allocator + Copy + Drop> Machine<I, O, A> {
+    ghost use Rattle.std.specs.Prelude.{◌≡◌, ◌<◌, ◌≤◌, IsTrue, length};
+    ghost use Rattle.cap_job.specs.Draining.{failures_to, written_to};
+    ghost use Rattle.cap_job.specs.Feeding as feeding;
+    ghost use Rattle.cap_job.specs.Feeding.{feed_left, most_steps};
+    ghost use Rattle.cap_job.specs.Reports.{name_at};
+    ghost use Rattle.cap_job.specs.Working.{StepGives};
+
+    /// A job of which nothing is done.
+    pub fn new(feed: Feed<I, A>, judge: Judge<A>, drain: Drain<O, A>) -> Self
+        requires { feed_left feed ≤ most_steps }
+        ensures { result ≡ record { feed = feed; asked = judge.asked; stand = judge.stand; drain = drain; decided = 0 } }
+    {
+        Machine {
+            feed,
+            judge,
+            drain,
+            decided: 0,
+        }
+    }
+
+    /// The inputs.
+    pub fn feed(&self) -> &Feed<I, A>
+        ensures { result.now ≡ self.now.feed }
+    {
+        &self.feed
+    }
+
+    /// The name of an input, or of the output behind them; empty where there is none.
+    pub fn name(&self, index: usize) -> &str
+        ensures { result.now ≡ name_at self.now.drain.names index }
+    {
+        self.drain.name(index)
+    }
+
+    /// From here on packets are judged by this rule.
+    pub fn judge_by(&mut self, rule: Rule<A>)
+        ensures { self.new ≡ asking (asked_of rule) self.old }
+    {
+        self.judge = Judge::new(rule);
+    }
+
+    /// Writes the listing of a program, where text is written.
+    pub fn list(&mut self, program: &Program<A>) -> Result<(), Stopped>
+        ensures told { IsTrue O.tells → Lists program.now.insns self.old.drain result self.new.drain }
+        ensures feed { self.new.feed ≡ self.old.feed }
+        ensures names { self.new.drain.names ≡ self.old.drain.names }
+    {
+        self.drain.list(program)
+    }
+
+    /// The output, as it stands.
+    pub fn into_output(self) -> O
+    where
+        I: Drop,
+        ensures written { O.written result ≡ written_to self.drain.target }
+        ensures failures { O.failures result ≡ failures_to self.drain.target }
+    {
+        self.drain.into_output()
+    }
+
+    /// Reads one input on, decides one packet, or ends the output.
+    pub fn step(&mut self) -> Progress
+        ensures told { IsTrue I.tells → IsTrue O.tells → StepGives self.old result self.new }
+        ensures asked { self.new.asked ≡ self.old.asked }
+        ensures names { self.new.drain.names ≡ self.old.drain.names }
+        ensures progress { result ≡ Progress.More → feed_left self.new.feed < feed_left self.old.feed }
+    {
+        match self.feed.next() {
+            Next::Answer(input) => self.answer(input),
+            Next::Read(input) => self.fetch(input),
+            Next::Nothing => self.finish(),
+        }
+    }
+
+    /// Decides the packet in hand of an input.
+    fn answer(&mut self, input: usize) -> Progress
+        requires next { feeding.Tells self.old.feed.place self.old.feed.heads (Next.Answer input) }
+        requires within { input < length self.old.feed.heads }
+        ensures told { IsTrue I.tells → IsTrue O.tells → StepGives self.old result self.new }
+        ensures asked { self.new.asked ≡ self.old.asked }
+        ensures names { self.new.drain.names ≡ self.old.drain.names }
+        ensures progress { result ≡ Progress.More → feed_left self.new.feed < feed_left self.old.feed }
+    {
+        let number = self.decided + 1;
+        match decide(
+            self.feed.head(input),
+            &mut self.judge,
+            &mut self.drain,
+            number,
+        ) {
+            Ok(last) => {
+                self.feed.settle(input);
+                self.decided = number;
+                if last {
+                    Progress::Done(End::Clean)
+                } else {
+                    Progress::More
+                }
+            }
+            Err(fault) => Progress::Done(unwritten(input, fault)),
+        }
+    }
+
+    /// Reads an input on.
+    fn fetch(&mut self, input: usize) -> Progress
+        requires next { feeding.Tells self.old.feed.place self.old.feed.heads (Next.Read input) }
+        requires within { input < length self.old.feed.heads }
+        ensures told { IsTrue I.tells → IsTrue O.tells → StepGives self.old result self.new }
+        ensures asked { self.new.asked ≡ self.old.asked }
+        ensures names { self.new.drain.names ≡ self.old.drain.names }
+        ensures progress { result ≡ Progress.More → feed_left self.new.feed < feed_left self.old.feed }
+    {
+        match self.feed.fetch(input) {
+            Ok(true) => Progress::More,
+            Ok(false) => close(&self.feed, input, &mut self.judge, &mut self.drain),
+            Err(fault) => Progress::Done(End::Broken(input, fault)),
+        }
+    }
+
+    /// Ends the output.
+    fn finish(&mut self) -> Progress
+        requires next { feeding.Tells self.old.feed.place self.old.feed.heads Next.Nothing }
+        ensures told { IsTrue I.tells → IsTrue O.tells → StepGives self.old result self.new }
+        ensures asked { self.new.asked ≡ self.old.asked }
+        ensures names { self.new.drain.names ≡ self.old.drain.names }
+        ensures progress { result ≡ Progress.More → feed_left self.new.feed < feed_left self.old.feed }
+    {
+        let first = self.feed.first_link();
+        match self.drain.finish(first) {
+            Ok(()) => Progress::Done(End::Clean),
+            Err(_) => Progress::Done(End::OutputFailed),
+        }
+    }
+}

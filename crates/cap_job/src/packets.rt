@@ -1,0 +1,233 @@
+//! Whole jobs, step by step.
+ghost use Rattle.std.specs.Prelude.{ℕ, ◌≡◌, ◌+◌, ◌<◌, ◌≤◌, IsTrue, None, Some, length, map, true};
+ghost use Rattle.std.specs.String.{string_bytes};
+ghost use Rattle.cap_octet.specs.Device.{AppendsOrStops, failures_of};
+ghost use Rattle.cap_tools.specs.Running.{seen};
+ghost use Rattle.cap_job.specs.Feeding.{feed_left};
+ghost use Rattle.cap_job.specs.Judging.{asked_of};
+ghost use Rattle.cap_job.specs.Starting.{ListsInto, is_text, output_by};
+ghost use Rattle.cap_job.specs.Jobs.{end_status, end_text, most_inputs, opened, order_of};
+
+use crate::drain::{Drain, Writing};
+use crate::feed::Feed;
+use crate::judge::{Judge, Rule};
+use crate::machine::{End, Machine, Progress};
+use cap_octet::{DeviceFault, Input, Output};
+use cap_tools::filter::Filter;
+use cap_tools::message::{tell_fault, tell_refusal, tell_write_failed};
+use cap_tools::refusal::Refusal;
+use flt_bpf::Program;
+use std::alloc::Allocator;
+use std::marker::Model;
+
+/// What a step leaves to do; the status where the job ended.
+#[derive(Clone, Copy, Debug, PartialEq, Eq)]
+pub enum Turn {
+    More,
+    Done(u8),
+}
+
+/// What is asked of a job whose filter isn't refused.
+#[derive(Drop)]
+pub struct Work<A: Allocator> {
+    pub rule: Rule<A>,
+    pub writing: Writing,
+    /// Whether the inputs are merged by their times, in place of one behind another.
+    pub merges: bool,
+}
+
+/// A job whose filter isn't refused.
+#[derive(Drop)]
+pub struct PacketJob<I: Input, O: Output, E: Output, A: Allocator> {
+    machine: Machine<I, O, A>,
+    err: E,
+    /// How many steps it made.
+    turns: u128,
+    /// The status, where it ended.
+    done: Option<u8>,
+}
+
+impl<I: Input, O: Output, E: Output, A: Allocator> Model for PacketJob<I, O, E, A> {
+    ghost use Rattle.std.specs.Coded.{codes};
+    ghost use Rattle.cap_tools.specs.Compiling.{expression_code};
+    ghost use Rattle.cap_tools.specs.Running.{seen};
+    ghost use Rattle.cap_job.specs.Feeding.{feed_left};
+    ghost use Rattle.cap_job.specs.Jobs.{JobView, IsCounted};
+
+    ghost Value = { JobView };
+
+    ghost coded = { Prim.hlevel (codes, expression_code) };
+
+    ghost view = { λ j. record { machine = j.machine; err = seen (E.written j.err) (E.failures j.err); turns = j.turns; done = j.done } };
+
+    ghost invariant = { λ j. IsCounted j.done j.turns (feed_left j.machine.feed) };
+}
+
+/// Tells how a job ended.
+fn tell<I: Input, O: Output, E: Output, A: Allocator + Copy + Drop>(
+    err: &mut E,
+    machine: &Machine<I, O, A>,
+    end: End,
+) -> Result<(), DeviceFault>
+    ensures told { IsTrue E.tells → AppendsOrStops result (E.written err.old) (end_text machine.now.drain.names machine.now.feed.heads end) (E.written err.new) }
+    ensures failed { E.failures err.new ≡ E.failures err.old + failures_of result }
+{
+    match end {
+        End::Clean => Ok(()),
+        End::Broken(input, fault) => {
+            let offset = machine.feed().offset(input);
+            tell_fault(err, machine.name(input), offset, fault)
+        }
+        End::OutputFailed => tell_write_failed(err, machine.name(machine.feed().count())),
+    }
+}
+
+fn status_of(end: End) -> u8
+    ensures { result ≡ end_status end }
+{
+    match end {
+        End::Clean => 0,
+        End::Broken(_, _) | End::OutputFailed => 1,
+    }
+}
+
+/// Writes the listing of a program, and answers the status. A message that can't be written is lost.
+fn list<I: Input, O: Output, E: Output, A: Allocator + Copy + Drop>(
+    machine: &mut Machine<I, O, A>,
+    err: &mut E,
+    program: &Program<A>,
+) -> u8
+    requires { is_text machine.old.drain.target ≡ true }
+    ensures status { result ≤ 2 }
+    ensures told { IsTrue O.tells → ListsInto program.now.insns E.tells machine.old (seen (E.written err.old) (E.failures err.old)) result machine.new (seen (E.written err.new) (E.failures err.new)) }
+    ensures feed { machine.new.feed ≡ machine.old.feed }
+    ensures names { machine.new.drain.names ≡ machine.old.drain.names }
+{
+    match machine.list(program) {
+        Ok(()) => 0,
+        Err(_) => {
+            let _ = tell_write_failed(err, machine.name(machine.feed().count()));
+            1
+        }
+    }
+}
+
+impl<I: Input, O: Output, E: Output, A: Allocator + Copy + Drop> PacketJob<I, O, E, A> {
+    ghost use Rattle.std.specs.Result.{IfOk, IfErr};
+    ghost use Rattle.std.specs.Prelude.{true};
+    ghost use Rattle.cap_tools.specs.Messages.{refusal_status};
+    ghost use Rattle.cap_tools.specs.Printing.{rule_of};
+    ghost use Rattle.cap_job.specs.Jobs.{IsStatus, JobGives, done_by, job_first};
+    ghost use Rattle.cap_job.specs.Starting.{EndsList, IsFresh, Refuses, filtering, is_text};
+    ghost use Rattle.cap_job.specs.Working.{failures_by, written_by};
+
+    /// A job over inputs, one behind another or merged. `names` are those of the inputs, then of the output. Where there
+    /// is no memory nothing was read or written.
+    pub fn new(
+        alloc: A,
+        work: Work<A>,
+        names: Vec<String<A>, A>,
+        inputs: Vec<I, A>,
+        out: O,
+        err: E,
+    ) -> Result<Self, (O, E)>
+    where
+        I: Drop,
+        requires { length inputs.items ≤ most_inputs }
+        ensures fresh { IfOk result (λ job. job ≡ job_first (order_of work.merges) (asked_of work.rule) work.writing (map string_bytes names.items)
+            (map (λ input. opened (I.unread input) (I.given input) (I.failures input) (I.never_fails input)) inputs.items) (seen (O.written out) (O.failures out)) (O.room out) (seen (E.written err) (E.failures err))) }
+        ensures refused { IfErr result (λ devices. (devices.0 ≡ out) × (devices.1 ≡ err)) }
+    {
+        let Some(feed) = Feed::new(alloc, inputs, work.merges) else {
+            return Err((out, err));
+        };
+        let judge = Judge::new(work.rule);
+        let drain = Drain::new(alloc, work.writing, names, out);
+        let machine = Machine::new(feed, judge, drain);
+        Ok(PacketJob {
+            machine,
+            err,
+            turns: 0,
+            done: None,
+        })
+    }
+
+    /// One step on: reads one input on, decides one packet or ends the output, and tells how the job ended where it
+    /// did. A message that can't be written is lost.
+    pub fn step(&mut self) -> Turn
+        ensures after { (s : ℕ) → self.old.done ≡ Some s → (result ≡ Turn.Done s) × (self.new ≡ self.old) }
+        ensures told { IsTrue I.tells → IsTrue O.tells → self.old.done ≡ None → JobGives E.tells self.old result self.new }
+        ensures done { self.new.done ≡ done_by result }
+        ensures status { IsStatus result }
+        ensures turns { self.old.done ≡ None → self.new.turns ≡ self.old.turns + 1 }
+        ensures left { result ≡ Turn.More → (self.new.turns ≡ self.old.turns + 1) × (feed_left self.new.machine.feed < feed_left self.old.machine.feed) }
+        ensures kept { (self.new.machine.drain.names ≡ self.old.machine.drain.names) × (self.new.machine.asked ≡ self.old.machine.asked) }
+    {
+        if let Some(status) = self.done {
+            return Turn::Done(status);
+        }
+        self.turns += 1;
+        match self.machine.step() {
+            Progress::More => Turn::More,
+            Progress::Done(end) => {
+                let _ = tell(&mut self.err, &self.machine, end);
+                let status = status_of(end);
+                self.done = Some(status);
+                Turn::Done(status)
+            }
+        }
+    }
+
+    /// From here on packets are judged by this filter. It is one step.
+    pub(crate) fn filter(&mut self, filter: Filter<A>) -> Turn
+        requires { IsFresh self.old }
+        ensures more { result ≡ Turn.More }
+        ensures filtered { self.new ≡ filtering (rule_of filter) self.old }
+    {
+        self.machine.judge_by(Rule::Filter(filter, None));
+        self.turns += 1;
+        Turn::More
+    }
+
+    /// Tells why an expression or a listing is refused, and ends the job.
+    pub(crate) fn refuse(&mut self, refusal: Refusal) -> Turn
+        requires { IsFresh self.old }
+        ensures done { result ≡ Turn.Done (refusal_status refusal) }
+        ensures status { IsStatus result }
+        ensures refused { Refuses refusal E.tells self.old (refusal_status refusal) self.new }
+    {
+        let _ = tell_refusal(&mut self.err, refusal);
+        let status = refusal.status();
+        self.turns += 1;
+        self.done = Some(status);
+        Turn::Done(status)
+    }
+
+    /// Writes the listing of a program, and ends the job.
+    pub(crate) fn list(&mut self, program: &Program<A>) -> Turn
+        requires fresh { IsFresh self.old }
+        requires text { is_text self.old.machine.drain.target ≡ true }
+        ensures told { IsTrue O.tells → EndsList program.now.insns E.tells self.old result self.new }
+        ensures done { self.new.done ≡ done_by result }
+        ensures status { IsStatus result }
+        ensures turns { self.new.turns ≡ self.old.turns + 1 }
+        ensures feed { self.new.machine.feed ≡ self.old.machine.feed }
+        ensures names { self.new.machine.drain.names ≡ self.old.machine.drain.names }
+    {
+        let status = list(&mut self.machine, &mut self.err, program);
+        self.turns += 1;
+        self.done = Some(status);
+        Turn::Done(status)
+    }
+
+    /// The output and the messages' device, as they stand.
+    pub fn close(self) -> (O, E)
+    where
+        I: Drop,
+        ensures written { O.written result.0 ≡ written_by self.machine }
+        ensures failures { O.failures result.0 ≡ failures_by self.machine }
+        ensures messages { seen (E.written result.1) (E.failures result.1) ≡ self.err }
+    {
+        (self.machine.into_output(), self.err)
+    }
+}
