@@ -58,7 +58,7 @@ impl<O: Output, A: Allocator> Sink<O, A> {
     ghost use Rattle.std.specs.Prelude.{IsTrue};
     ghost use Rattle.cap_octet.specs.Device.{AppendsOrStops};
     ghost use Rattle.cap_octet.specs.Packet.{captured};
-    ghost use Rattle.cap_io.specs.Text.{heading};
+    ghost use Rattle.cap_io.specs.Text.{AreFew, heading};
     ghost use Rattle.cap_io.specs.Sink.{Adds, Puts, PutWrites, WritesPacket, Finishes, FinishesEmpty, FinishWrites, added_in, refusal_in};
 
     /// Writes a packet, the first one behind the heading; in pcapng behind the description of its interface where that
@@ -69,8 +69,10 @@ impl<O: Output, A: Allocator> Sink<O, A> {
     pub fn put(&mut self, packet: &Packet<'_>) -> Result<(), Fault>
         ensures told { IsTrue O.tells → PutWrites self.old.state self.old (captured packet.now) result self.new }
         ensures answer { Puts self.old.state self.old (captured packet.now) result self.new }
+        ensures few { AreFew self.new.interfaces }
     {
         if let SinkState::Broken(fault) = self.state {
+            self.interfaces.bounds();
             return Err(fault);
         }
         let result = self.add(packet);

@@ -24,7 +24,7 @@ use Rattle.cap_job.specs.Judged.{Asked, Count, Everything}
 use Rattle.cap_job.specs.Jobs.{JobView, Opened, job_first, most_inputs, order_of, stood_at}
 use Rattle.cap_job.specs.Starting.{EndsList, ListsInto, is_text}
 use Rattle.cap_job.specs.Commands.{CommandView, IsReadyIf, CompileGives, DecidedBy, RunsBy, RunsCommand, assigned, command_first}
-use Rattle.cap_job.proofs.Starts.{Decided-start, first-less}
+use Rattle.cap_job.proofs.Starts.{Decided-start, first-few, first-less}
 
 pub lists-some : (tells : Bool) (words : List ℕ) (link : Link) (prog : List Insn) (old new : JobView) (r : Turn) → IsCompiled words link prog → EndsList prog tells old r new → CompileGives words link tells old r new
 lists-some tells words link prog old new turn.More compiled lists = lists
@@ -49,9 +49,9 @@ pub first-ready : {Z : Type 0} (c : Command Z) (names : List (List ℕ)) (os : L
 first-ready (command.Edit edit) names os out room err few = tt
 first-ready (command.Merge merge) names os out room err few = tt
 first-ready command.Infos names os out room err few = tt
-first-ready (command.Print print) names os out room err few = record { turns = refl; done = refl; left = first-less (assigned (command.Print print)).order os few }
+first-ready (command.Print print) names os out room err few = record { turns = refl; done = refl; left = first-less (assigned (command.Print print)).order os few; few = first-few (assigned (command.Print print)).order os }
 first-ready (command.Compile compile) names os out room err few =
-    (record { turns = refl; done = refl; left = first-less (assigned (command.Compile compile)).order os few }, refl)
+    (record { turns = refl; done = refl; left = first-less (assigned (command.Compile compile)).order os few; few = first-few (assigned (command.Compile compile)).order os }, refl)
 
 -- nothing is decided of the inputs
 pub first-decided : {Z : Type 0} (c : Command Z) (names : List (List ℕ)) (os : List Opened) (out : OutputView) (room : ℕ) (err : OutputView)

@@ -21,3 +21,5 @@ pub mod Rows
 pub mod Runs
 pub mod Splits
 pub mod Starts
+pub mod Turns
+pub mod Weights

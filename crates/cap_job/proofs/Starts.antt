@@ -14,7 +14,8 @@ use Rattle.cap_job.specs.Judged.{Asked}
 use Rattle.cap_job.specs.Jobs.{Opened, head_at, stood_at, place_first, feed_first, order_of, most_inputs, JobView, JobRuns, RunsJob, job_first}
 use Rattle.cap_tools.specs.Running.{OutputView}
 use Rattle.cap_job.specs.Judging.{stand_with}
-use Rattle.cap_job.specs.Feeding.{HeadView, Future, Standing, Fits, HasCome, NoneWaits, EndedBefore, wholes, rests, whole_with, heads_left, feed_left, most_steps}
+use Rattle.cap_job.specs.Feeding.{HeadView, Future, Standing, Fits, HasCome, NoneWaits, EndedBefore, wholes, rests, whole_with, heads_left, feed_left, most_steps, waiting_total}
+use Rattle.cap_job.specs.Bounds.{reads_of, owed, most_turns}
 use Rattle.cap_job.specs.Working.{Decided}
 use Rattle.cap_job.proofs.Fetches.{mk}
 
@@ -91,6 +92,15 @@ first-left Merging os few = let a = three-left os in let b = count-map os in ome
 pub first-less : (order : Ordering) (os : List Opened) → length os ≤ most_inputs → feed_left (feed_first order os) < most_steps
 first-less InTurn os few = let a = two-left os in let b = count-map os in omega (arith, a, b, few)
 first-less Merging os few = let a = three-left os in let b = count-map os in omega (arith, a, b, few)
+
+start-unread : (os : List Opened) → (reads_of (map head_at os) ≡ 0) × (waiting_total (map head_at os) ≡ 0)
+start-unread [] = (refl, refl)
+start-unread (o ∷ os) = let e = start-unread os in let r = e.0 in let w = e.1 in (omega (arith, r), omega (arith, w))
+
+-- nothing is owed but for the ends of the inputs
+pub first-few : (order : Ordering) (os : List Opened) → owed (feed_first order os) < most_turns (feed_first order os)
+first-few InTurn os = let e = start-unread os in let r = e.0 in let w = e.1 in omega (arith, r, w)
+first-few Merging os = let e = start-unread os in let r = e.0 in let w = e.1 in omega (arith, r, w)
 
 pub same-count : {X : Type 0} (f : X → Opened) (xs : List X) → length (map f xs) ≡ length xs
 same-count f [] = refl

@@ -5,7 +5,7 @@ use Rattle.std.specs.Option.{option_or}
 use Rattle.cap_octet.specs.Packet.{Captured}
 use Rattle.cap_octet.specs.declared.fault.Fault.{Fault}
 use Rattle.cap_io.specs.Capture.{Placed, Items, End, items_from, after_packets, first_link_of}
-use Rattle.cap_io.specs.Source.{SourceView, Ended, Advances, Steps}
+use Rattle.cap_io.specs.Source.{SourceView, Ended, Advances, HasFew, Steps}
 use Rattle.cap_io.specs.Standing.{IsAt}
 use Rattle.std.specs.List.Sorted.{IsPermutation}
 use Rattle.cap_job.specs.declared.queue.Waiting.{Waiting}
@@ -196,6 +196,7 @@ pub record FetchSteps (old : FeedView) (i : ℕ) (r : Result Bool Fault) (new : 
   pub among : Among old.heads i head
   pub source : SourceView
   pub steps : Steps head.source.phase head.source r source
+  pub few : HasFew source.declared
   pub is : new ≡ feed_after old i r (head_after head r source)
 
 -- Each step makes this less: each packet is read once, and then decided once, and each input is closed once. A merge reads

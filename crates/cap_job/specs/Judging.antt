@@ -1,11 +1,12 @@
 -- What a contract sees of a judge.
-use Rattle.std.specs.Prelude.{◌≡◌, ℕ, ◌+◌, ◌^◌, ◌≤◌, Bool, true, false, [], Option, None, Result, Ok, Err, ◌*◌, Some}
+use Rattle.std.specs.Prelude.{◌≡◌, ℕ, ◌+◌, ◌^◌, ◌≤◌, Bool, true, false, List, [], Option, None, Result, Ok, Err, ◌*◌, Some}
 use Rattle.cap_octet.specs.Packet.{Captured, captured}
 use Rattle.cap_octet.specs.declared.fault.Fault.{Fault}
+use Rattle.flt_bpf.specs.Content.{Content}
 use Rattle.cap_tools.specs.declared.command.Edit.{Edit}
 use Rattle.cap_tools.specs.Chosen.{Decision, Keep, Skip, keep_if}
 use Rattle.cap_tools.specs.Printed.{rule_decides}
-use Rattle.cap_tools.specs.Printing.{rule_of}
+use Rattle.cap_tools.specs.Printing.{programs_of, rule_of, spent_on}
 use Rattle.cap_job.specs.declared.judge.Rule.{Rule}
 use Rattle.cap_job.specs.declared.judge.Rule.TheVariants as rule
 use Rattle.cap_job.specs.declared.judge.Verdict as code
@@ -40,6 +41,20 @@ asked_of (rule.Select edit) = Select (selection_of edit)
 asked_of (rule.Filter filter count) = Filter (rule_of filter) count
 asked_of rule.Everything = Everything
 asked_of rule.Count = Count
+
+-- the programs by which packets are judged
+abbrev pub programs_in : {Z : Type 0} → Rule Z → List Content
+programs_in (rule.Select edit) = []
+programs_in (rule.Filter filter count) = programs_of filter
+programs_in rule.Everything = []
+programs_in rule.Count = []
+
+-- what judging a packet costs: under a filter one run of one program, or nothing
+abbrev pub spent_by : Asked → Captured → List Content → List Content
+spent_by (Select s) p programs = programs
+spent_by (Filter rule count) p programs = spent_on rule p programs
+spent_by Everything p programs = programs
+spent_by Count p programs = programs
 
 -- whether reports are asked
 abbrev pub is_count : Asked → Bool

@@ -1,3 +1,4 @@
+pub mod Bounds
 pub mod Commands
 pub mod Course
 pub mod Draining

@@ -13,6 +13,7 @@ use Rattle.cap_job.specs.Judged.{Asked, Filter}
 use Rattle.cap_job.specs.Judging.{stand_with}
 use Rattle.cap_job.specs.Feeding.{feed_left, most_steps}
 use Rattle.cap_job.specs.Reports.{name_at, nothing_counted}
+use Rattle.cap_job.specs.Bounds.{most_turns, owed}
 use Rattle.cap_job.specs.Working.{MachineView, written_by, failures_by}
 use Rattle.cap_job.specs.Jobs.{JobView}
 
@@ -21,6 +22,7 @@ pub record IsFresh (j : JobView) : Type 0 where
   pub turns : j.turns ≡ 0
   pub done : j.done ≡ None
   pub left : feed_left j.machine.feed < most_steps
+  pub few : owed j.machine.feed < most_turns j.machine.feed
 
 abbrev pub is_text : Target → Bool
 is_text (Capture sink) = false

@@ -49,6 +49,7 @@ impl<O: Output, A: Allocator> Drain<O, A> {
     ghost use Rattle.std.specs.Prelude.{◌≡◌, IsTrue, map};
     ghost use Rattle.std.specs.String.{string_bytes};
     ghost use Rattle.cap_octet.specs.Packet.{captured};
+    ghost use Rattle.cap_job.specs.Bounds.{HasFewInterfaces};
     ghost use Rattle.cap_job.specs.Draining.{Finishes, Lists, Puts, Reports, failures_to, reported, target_at, written_to};
     ghost use Rattle.cap_job.specs.Reports.{name_at};
 
@@ -68,6 +69,7 @@ impl<O: Output, A: Allocator> Drain<O, A> {
     /// Writes a packet, where packets are written.
     pub fn put(&mut self, packet: &Packet<'_>) -> Result<(), Fault>
         ensures told { IsTrue O.tells → Puts (captured packet.now) self.old result self.new }
+        ensures few { HasFewInterfaces self.old.target → HasFewInterfaces self.new.target }
         ensures names { self.new.names ≡ self.old.names }
     {
         match &mut self.device {
@@ -79,6 +81,7 @@ impl<O: Output, A: Allocator> Drain<O, A> {
     /// Writes the report of an input, where reports are written.
     pub fn report(&mut self, input: usize, report: &Report) -> Result<(), DeviceFault>
         ensures told { IsTrue O.tells → Reports (reported input report.now) self.old result self.new }
+        ensures few { HasFewInterfaces self.old.target → HasFewInterfaces self.new.target }
         ensures names { self.new.names ≡ self.old.names }
     {
         match &mut self.device {
@@ -90,6 +93,7 @@ impl<O: Output, A: Allocator> Drain<O, A> {
     /// Writes the listing of a program, where text is written.
     pub fn list(&mut self, program: &Program<A>) -> Result<(), Stopped>
         ensures told { IsTrue O.tells → Lists program.now.insns self.old result self.new }
+        ensures few { HasFewInterfaces self.old.target → HasFewInterfaces self.new.target }
         ensures names { self.new.names ≡ self.old.names }
     {
         match &mut self.device {
@@ -101,6 +105,7 @@ impl<O: Output, A: Allocator> Drain<O, A> {
     /// Ends what is written: a capture without packets gets its file header, with this link type.
     pub fn finish(&mut self, first: Option<u16>) -> Result<(), Fault>
         ensures told { IsTrue O.tells → Finishes first self.old result self.new }
+        ensures few { HasFewInterfaces self.old.target → HasFewInterfaces self.new.target }
         ensures names { self.new.names ≡ self.old.names }
     {
         match &mut self.device {

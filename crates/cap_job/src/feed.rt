@@ -2,7 +2,7 @@
 ghost use Rattle.std.specs.Prelude.{◌≡◌, ◌&&◌, [], true, ◌<◌, ◌≤◌, ◌-◌, ◌^◌, IsTrue, false, length, map};
 ghost use Rattle.std.specs.Option.{IfSome};
 ghost use Rattle.cap_job.specs.Jobs.{head_at, opened, order_of, place_first};
-ghost use Rattle.cap_job.specs.Feeding.{Enters, HasPlaceFor, IsQueued, Leaves, MergeTells, is_merge, TurnTells, closes, first_of, key_of, place_after, place_behind};
+ghost use Rattle.cap_job.specs.Feeding.{Enters, HasPlaceFor, IsQueued, Leaves, MergeTells, is_merge, TurnTells, closes, first_of, key_of, place_after, place_behind, time_of};
 
 use crate::queue::{Queue, Waiting};
 use cap_io::{Kind, Source};
@@ -18,14 +18,19 @@ pub struct Head<I: Input, A: Allocator> {
     waiting: bool,
     /// The greatest time of the packets that are decided.
     greatest: u64,
+    /// The time of the packet in hand, 0 where there is none.
+    time: u64,
 }
 
 impl<I: Input, A: Allocator> Model for Head<I, A> {
-    ghost use Rattle.cap_job.specs.Feeding.{HeadView};
+    ghost use Rattle.std.specs.Prelude.{◌≡◌};
+    ghost use Rattle.cap_job.specs.Feeding.{HeadView, time_of};
 
     ghost Value = { HeadView };
 
     ghost view = { λ h. record { source = h.source; waiting = h.waiting; greatest = h.greatest } };
+
+    ghost invariant = { λ h. h.time ≡ time_of h.source.packet };
 }
 
 /// Which input is next, by the order of the packets.
@@ -48,9 +53,19 @@ pub enum Next {
     Nothing,
 }
 
+/// The time of the packet in hand, 0 where there is none.
+fn time_in<I: Input, A: Allocator>(source: &Source<I, A>) -> u64
+    ensures { result ≡ time_of source.now.packet }
+{
+    match source.head() {
+        Some(packet) => packet.time,
+        None => 0,
+    }
+}
+
 impl<I: Input, A: Allocator> Head<I, A> {
     ghost use Rattle.cap_job.specs.Feeding.{HeadView, head_after, found, settled};
-    ghost use Rattle.cap_io.specs.Source.{SourceView, Advances, Steps};
+    ghost use Rattle.cap_io.specs.Source.{SourceView, Advances, HasFew, Steps};
     ghost use Rattle.std.specs.Option.{option_map};
     ghost use Rattle.cap_octet.specs.Packet.{captured};
     ghost use Rattle.cap_io.specs.Capture.{first_link_of, kind_of};
@@ -61,10 +76,12 @@ impl<I: Input, A: Allocator> Head<I, A> {
     fn new(source: Source<I, A>) -> Self
         ensures { result ≡ record { source = source; waiting = false; greatest = 0 } }
     {
+        let time = time_in(&source);
         Head {
             source,
             waiting: false,
             greatest: 0,
+            time,
         }
     }
 
@@ -72,10 +89,12 @@ impl<I: Input, A: Allocator> Head<I, A> {
     fn read_on(&mut self) -> Result<bool, Fault>
         ensures told { IsTrue I.tells → Advances self.old.source.phase self.old.source result self.new.source }
         ensures steps { Steps self.old.source.phase self.old.source result self.new.source }
+        ensures few { HasFew self.new.source.declared }
         ensures is { self.new ≡ head_after self.old result self.new.source }
     {
         let result = self.source.advance();
         self.waiting = matches!(result, Ok(true));
+        self.time = time_in(&self.source);
         result
     }
 
@@ -91,9 +110,7 @@ impl<I: Input, A: Allocator> Head<I, A> {
     fn settle(&mut self)
         ensures { self.new ≡ settled self.old }
     {
-        if let Some(packet) = self.source.head() {
-            self.greatest = self.greatest.max(packet.time);
-        }
+        self.greatest = self.greatest.max(self.time);
         self.waiting = false;
     }
 
@@ -107,10 +124,7 @@ impl<I: Input, A: Allocator> Head<I, A> {
     fn key(&self) -> u64
         ensures { result ≡ key_of self.now }
     {
-        match self.source.head() {
-            Some(packet) => self.greatest.max(packet.time),
-            None => self.greatest,
-        }
+        self.greatest.max(self.time)
     }
 
     /// What the capture is, once its first unit was read.

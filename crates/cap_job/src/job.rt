@@ -3,8 +3,9 @@ ghost use Rattle.std.specs.Prelude.{ℕ, ◌≡◌, ◌+◌, ◌<◌, ◌≤◌,
 ghost use Rattle.std.specs.Option.{option_map};
 ghost use Rattle.cap_tools.specs.Command.{is_proper};
 ghost use Rattle.cap_tools.specs.Printed.{IsRule, IsWhy, code_of};
-ghost use Rattle.cap_tools.specs.Printing.{rule_of};
+ghost use Rattle.cap_tools.specs.Printing.{AreNew, programs_of, rule_of};
 ghost use Rattle.cap_tools.specs.Running.{seen};
+ghost use Rattle.cap_job.specs.Bounds.{IsLight, StepReads, most_turns};
 ghost use Rattle.cap_job.specs.Commands.{CommandRuns, IsReady, Prepares, RunsCommand, assigned, preparing_of};
 ghost use Rattle.cap_job.specs.Jobs.{IsStatus, done_by, opened, order_of};
 ghost use Rattle.cap_job.specs.Judging.{asked_of};
@@ -94,6 +95,7 @@ fn assignment_of<A: Allocator>(command: Command<A>) -> Assignment<A>
 /// The filter that a print is asked for.
 fn read_filter<A: Allocator + Copy + Drop>(alloc: A, print: &Print<A>) -> Result<Filter<A>, Refusal>
     ensures rule { IfOk result (λ filter. IsRule (string_bytes print.now.expr) (code_of print.now) (rule_of filter)) }
+    ensures programs { IfOk result (λ filter. AreNew (rule_of filter) (programs_of filter)) }
     ensures refused { IfErr result (IsWhy (string_bytes print.now.expr) (code_of print.now)) }
 {
     let words = print.expr.as_str();
@@ -166,10 +168,17 @@ impl<I: Input, O: Output, E: Output, A: Allocator + Copy + Drop> Job<I, O, E, A>
         ensures done { self.new.packets.done ≡ done_by result }
         ensures status { IsStatus result }
         ensures turns { self.old.packets.done ≡ None → self.new.packets.turns ≡ self.old.packets.turns + 1 }
+        ensures few { self.old.packets.done ≡ None → self.new.packets.turns ≤ most_turns self.old.packets.machine.feed + 1 }
+        ensures reads { StepReads self.old.packets.machine self.new.packets.machine }
+        ensures light { IsLight self.new.packets.machine }
         ensures left { result ≡ Turn.More → command_left self.new < command_left self.old }
         ensures names { self.new.packets.machine.drain.names ≡ self.old.packets.machine.drain.names }
         ensures asked { self.old.preparing ≡ None → self.new.packets.machine.asked ≡ self.old.packets.machine.asked }
     {
+        // Most steps have nothing to take; `take` would move the whole place each time.
+        if self.preparation.is_none() {
+            return self.packets.step();
+        }
         match self.preparation.take() {
             Some(preparation) => prepare(self.alloc, preparation, &mut self.packets),
             None => self.packets.step(),
@@ -199,6 +208,9 @@ fn prepare<I: Input, O: Output, E: Output, A: Allocator + Copy + Drop>(
     ensures done { packets.new.done ≡ done_by result }
     ensures status { IsStatus result }
     ensures turns { packets.new.turns ≡ packets.old.turns + 1 }
+    ensures few { packets.new.turns ≤ most_turns packets.old.machine.feed + 1 }
+    ensures reads { StepReads packets.old.machine packets.new.machine }
+    ensures light { IsLight packets.new.machine }
     ensures feed { packets.new.machine.feed ≡ packets.old.machine.feed }
     ensures names { packets.new.machine.drain.names ≡ packets.old.machine.drain.names }
 {

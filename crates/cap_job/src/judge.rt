@@ -5,7 +5,7 @@ ghost use Rattle.cap_io.specs.Reading.{most_in_unit};
 ghost use Rattle.cap_tools.specs.Chosen.{Answers};
 ghost use Rattle.cap_job.specs.Feeding.{most_steps};
 ghost use Rattle.cap_job.specs.Judged.{is_last};
-ghost use Rattle.cap_job.specs.Judging.{asked_of, count_of, decision, is_count, passing, verdict_of};
+ghost use Rattle.cap_job.specs.Judging.{asked_of, count_of, decision, is_count, passing, programs_in, spent_by, verdict_of};
 ghost use Rattle.cap_job.specs.Reports.{nothing_counted};
 
 use crate::tally::Tally;
@@ -73,6 +73,7 @@ impl<A: Allocator> Rule<A> {
         A: Copy + Drop,
         ensures answers { Answers (decision (asked_of self.old) number (captured packet.now)) result }
         ensures asked { asked_of self.new ≡ asked_of self.old }
+        ensures spends { programs_in self.new ≡ spent_by (asked_of self.old) (captured packet.now) (programs_in self.old) }
     {
         match self {
             Rule::Select(edit) => Ok(edit.keeps(number)),

@@ -1,5 +1,6 @@
 //! The steps of a job over its packets.
 ghost use Rattle.std.specs.Prelude.{◌≡◌, ◌+◌, ◌<◌, ◌≤◌, IsTrue, length};
+ghost use Rattle.cap_job.specs.Bounds.{HasFewInterfaces, IsBounded, IsLight};
 ghost use Rattle.cap_job.specs.Feeding.{most_steps};
 ghost use Rattle.cap_job.specs.Draining.{Lists};
 ghost use Rattle.cap_job.specs.Starting.{asking};
@@ -47,6 +48,7 @@ impl<I: Input, O: Output, A: Allocator> Model for Machine<I, O, A> {
     ghost use Rattle.std.specs.Prelude.{◌+◌, ◌≤◌};
     ghost use Rattle.std.specs.Coded.{codes};
     ghost use Rattle.cap_tools.specs.Compiling.{expression_code};
+    ghost use Rattle.cap_job.specs.Bounds.{IsBounded};
     ghost use Rattle.cap_job.specs.Feeding.{feed_left, most_steps};
     ghost use Rattle.cap_job.specs.Working.{MachineView};
 
@@ -56,7 +58,7 @@ impl<I: Input, O: Output, A: Allocator> Model for Machine<I, O, A> {
 
     ghost view = { λ m. record { feed = m.feed; asked = m.judge.asked; stand = m.judge.stand; drain = m.drain; decided = m.decided } };
 
-    ghost invariant = { λ m. m.decided + feed_left m.feed ≤ most_steps };
+    ghost invariant = { λ m. (m.decided + feed_left m.feed ≤ most_steps) × IsBounded m.feed m.drain };
 }
 
 /// Writes a packet that passes, and answers whether it is the last.
@@ -65,6 +67,7 @@ fn put<O: Output, A: Allocator>(
     drain: &mut Drain<O, A>,
 ) -> Result<bool, Fault>
     ensures told { IsTrue O.tells → Offers verdict.entry drain.old result drain.new }
+    ensures few { HasFewInterfaces drain.old.target → HasFewInterfaces drain.new.target }
     ensures names { drain.new.names ≡ drain.old.names }
 {
     match verdict {
@@ -92,6 +95,7 @@ fn decide<I: Input, O: Output, A: Allocator + Copy + Drop>(
     ensures asked { judge.new.asked ≡ judge.old.asked }
     ensures passed { judge.old.stand.passed ≤ number → judge.new.stand.passed ≤ number }
     ensures counted { GrowsByOne judge.old.stand.tally judge.new.stand.tally }
+    ensures few { HasFewInterfaces drain.old.target → HasFewInterfaces drain.new.target }
     ensures names { drain.new.names ≡ drain.old.names }
 {
     match head.packet() {
@@ -113,6 +117,7 @@ fn close<I: Input, O: Output, A: Allocator>(
     requires { input < length feed.now.heads }
     ensures told { IsTrue O.tells → Closes feed.now input judge.old drain.old result judge.new drain.new }
     ensures asked { judge.new.asked ≡ judge.old.asked }
+    ensures few { HasFewInterfaces drain.old.target → HasFewInterfaces drain.new.target }
     ensures names { drain.new.names ≡ drain.old.names }
 {
     let head = feed.head(input);
@@ -145,6 +150,7 @@ fn unwritten(input: usize, fault: Fault) -> End
 
 impl<I: Input, O: Output, A: Allocator + Copy + Drop> Machine<I, O, A> {
     ghost use Rattle.std.specs.Prelude.{◌≡◌, ◌<◌, ◌≤◌, IsTrue, length};
+    ghost use Rattle.cap_job.specs.Bounds.{IsBounded, IsLight, IsPaid, StepReads};
     ghost use Rattle.cap_job.specs.Draining.{failures_to, written_to};
     ghost use Rattle.cap_job.specs.Feeding as feeding;
     ghost use Rattle.cap_job.specs.Feeding.{feed_left, most_steps};
@@ -153,7 +159,8 @@ impl<I: Input, O: Output, A: Allocator + Copy + Drop> Machine<I, O, A> {
 
     /// A job of which nothing is done.
     pub fn new(feed: Feed<I, A>, judge: Judge<A>, drain: Drain<O, A>) -> Self
-        requires { feed_left feed ≤ most_steps }
+        requires left { feed_left feed ≤ most_steps }
+        requires bounded { IsBounded feed drain }
         ensures { result ≡ record { feed = feed; asked = judge.asked; stand = judge.stand; drain = drain; decided = 0 } }
     {
         Machine {
@@ -189,6 +196,8 @@ impl<I: Input, O: Output, A: Allocator + Copy + Drop> Machine<I, O, A> {
     pub fn list(&mut self, program: &Program<A>) -> Result<(), Stopped>
         ensures told { IsTrue O.tells → Lists program.now.insns self.old.drain result self.new.drain }
         ensures feed { self.new.feed ≡ self.old.feed }
+        ensures decided { self.new.decided ≡ self.old.decided }
+        ensures light { IsLight self.new }
         ensures names { self.new.drain.names ≡ self.old.drain.names }
     {
         self.drain.list(program)
@@ -210,6 +219,9 @@ impl<I: Input, O: Output, A: Allocator + Copy + Drop> Machine<I, O, A> {
         ensures asked { self.new.asked ≡ self.old.asked }
         ensures names { self.new.drain.names ≡ self.old.drain.names }
         ensures progress { result ≡ Progress.More → feed_left self.new.feed < feed_left self.old.feed }
+        ensures reads { StepReads self.old self.new }
+        ensures light { IsLight self.new }
+        ensures paid { result ≡ Progress.More → IsPaid self.old.feed self.new.feed }
     {
         match self.feed.next() {
             Next::Answer(input) => self.answer(input),
@@ -226,6 +238,9 @@ impl<I: Input, O: Output, A: Allocator + Copy + Drop> Machine<I, O, A> {
         ensures asked { self.new.asked ≡ self.old.asked }
         ensures names { self.new.drain.names ≡ self.old.drain.names }
         ensures progress { result ≡ Progress.More → feed_left self.new.feed < feed_left self.old.feed }
+        ensures reads { StepReads self.old self.new }
+        ensures light { IsLight self.new }
+        ensures paid { result ≡ Progress.More → IsPaid self.old.feed self.new.feed }
     {
         let number = self.decided + 1;
         match decide(
@@ -255,6 +270,9 @@ impl<I: Input, O: Output, A: Allocator + Copy + Drop> Machine<I, O, A> {
         ensures asked { self.new.asked ≡ self.old.asked }
         ensures names { self.new.drain.names ≡ self.old.drain.names }
         ensures progress { result ≡ Progress.More → feed_left self.new.feed < feed_left self.old.feed }
+        ensures reads { StepReads self.old self.new }
+        ensures light { IsLight self.new }
+        ensures paid { result ≡ Progress.More → IsPaid self.old.feed self.new.feed }
     {
         match self.feed.fetch(input) {
             Ok(true) => Progress::More,
@@ -270,6 +288,9 @@ impl<I: Input, O: Output, A: Allocator + Copy + Drop> Machine<I, O, A> {
         ensures asked { self.new.asked ≡ self.old.asked }
         ensures names { self.new.drain.names ≡ self.old.drain.names }
         ensures progress { result ≡ Progress.More → feed_left self.new.feed < feed_left self.old.feed }
+        ensures reads { StepReads self.old self.new }
+        ensures light { IsLight self.new }
+        ensures paid { result ≡ Progress.More → IsPaid self.old.feed self.new.feed }
     {
         let first = self.feed.first_link();
         match self.drain.finish(first) {

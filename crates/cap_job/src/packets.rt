@@ -3,6 +3,7 @@ ghost use Rattle.std.specs.Prelude.{ℕ, ◌≡◌, ◌+◌, ◌<◌, ◌≤◌,
 ghost use Rattle.std.specs.String.{string_bytes};
 ghost use Rattle.cap_octet.specs.Device.{AppendsOrStops, failures_of};
 ghost use Rattle.cap_tools.specs.Running.{seen};
+ghost use Rattle.cap_job.specs.Bounds.{IsLight, StepReads, most_turns};
 ghost use Rattle.cap_job.specs.Feeding.{feed_left};
 ghost use Rattle.cap_job.specs.Judging.{asked_of};
 ghost use Rattle.cap_job.specs.Starting.{ListsInto, is_text, output_by};
@@ -51,6 +52,7 @@ impl<I: Input, O: Output, E: Output, A: Allocator> Model for PacketJob<I, O, E, 
     ghost use Rattle.std.specs.Coded.{codes};
     ghost use Rattle.cap_tools.specs.Compiling.{expression_code};
     ghost use Rattle.cap_tools.specs.Running.{seen};
+    ghost use Rattle.cap_job.specs.Bounds.{HasFewTurns, IsLight};
     ghost use Rattle.cap_job.specs.Feeding.{feed_left};
     ghost use Rattle.cap_job.specs.Jobs.{JobView, IsCounted};
 
@@ -60,7 +62,7 @@ impl<I: Input, O: Output, E: Output, A: Allocator> Model for PacketJob<I, O, E, 
 
     ghost view = { λ j. record { machine = j.machine; err = seen (E.written j.err) (E.failures j.err); turns = j.turns; done = j.done } };
 
-    ghost invariant = { λ j. IsCounted j.done j.turns (feed_left j.machine.feed) };
+    ghost invariant = { λ j. IsCounted j.done j.turns (feed_left j.machine.feed) × HasFewTurns j.done j.turns j.machine.feed × IsLight j.machine };
 }
 
 /// Tells how a job ended.
@@ -101,6 +103,8 @@ fn list<I: Input, O: Output, E: Output, A: Allocator + Copy + Drop>(
     ensures status { result ≤ 2 }
     ensures told { IsTrue O.tells → ListsInto program.now.insns E.tells machine.old (seen (E.written err.old) (E.failures err.old)) result machine.new (seen (E.written err.new) (E.failures err.new)) }
     ensures feed { machine.new.feed ≡ machine.old.feed }
+    ensures decided { machine.new.decided ≡ machine.old.decided }
+    ensures light { IsLight machine.new }
     ensures names { machine.new.drain.names ≡ machine.old.drain.names }
 {
     match machine.list(program) {
@@ -160,6 +164,9 @@ impl<I: Input, O: Output, E: Output, A: Allocator + Copy + Drop> PacketJob<I, O,
         ensures done { self.new.done ≡ done_by result }
         ensures status { IsStatus result }
         ensures turns { self.old.done ≡ None → self.new.turns ≡ self.old.turns + 1 }
+        ensures few { self.old.done ≡ None → self.new.turns ≤ most_turns self.old.machine.feed + 1 }
+        ensures reads { StepReads self.old.machine self.new.machine }
+        ensures light { IsLight self.new.machine }
         ensures left { result ≡ Turn.More → (self.new.turns ≡ self.old.turns + 1) × (feed_left self.new.machine.feed < feed_left self.old.machine.feed) }
         ensures kept { (self.new.machine.drain.names ≡ self.old.machine.drain.names) × (self.new.machine.asked ≡ self.old.machine.asked) }
     {
@@ -183,6 +190,7 @@ impl<I: Input, O: Output, E: Output, A: Allocator + Copy + Drop> PacketJob<I, O,
         requires { IsFresh self.old }
         ensures more { result ≡ Turn.More }
         ensures filtered { self.new ≡ filtering (rule_of filter) self.old }
+        ensures light { IsLight self.new.machine }
     {
         self.machine.judge_by(Rule::Filter(filter, None));
         self.turns += 1;
@@ -195,6 +203,7 @@ impl<I: Input, O: Output, E: Output, A: Allocator + Copy + Drop> PacketJob<I, O,
         ensures done { result ≡ Turn.Done (refusal_status refusal) }
         ensures status { IsStatus result }
         ensures refused { Refuses refusal E.tells self.old (refusal_status refusal) self.new }
+        ensures light { IsLight self.new.machine }
     {
         let _ = tell_refusal(&mut self.err, refusal);
         let status = refusal.status();
@@ -212,6 +221,8 @@ impl<I: Input, O: Output, E: Output, A: Allocator + Copy + Drop> PacketJob<I, O,
         ensures status { IsStatus result }
         ensures turns { self.new.turns ≡ self.old.turns + 1 }
         ensures feed { self.new.machine.feed ≡ self.old.machine.feed }
+        ensures reads { StepReads self.old.machine self.new.machine }
+        ensures light { IsLight self.new.machine }
         ensures names { self.new.machine.drain.names ≡ self.old.machine.drain.names }
     {
         let status = list(&mut self.machine, &mut self.err, program);

@@ -25,7 +25,7 @@ returns-clause-steps g c =
     let W : FeedView → Type 0 = λ v. c.args.input < length v.heads in
     subst P c.self.view_is
     (fetch-steps-by old c.args.input c.read_on-result.result c.index_mut-head.result.now c.read_on-result.new.self c.place_after-self-inside.result c.is_end-closed.result
-    (subst W (sym c.self.view_is) c.requires.within) c.index_mut-head.ensures.value c.read_on-result.ensures.steps c.read_on-result.ensures.is c.place_after-self-inside.ensures c.is_end-closed.ensures)
+    (subst W (sym c.self.view_is) c.requires.within) c.index_mut-head.ensures.value c.read_on-result.ensures.steps c.read_on-result.ensures.few c.read_on-result.ensures.is c.place_after-self-inside.ensures c.is_end-closed.ensures)
 
 pub enter-requires : goal.enter-requires
 enter-requires g c =

@@ -1,8 +1,11 @@
-use Rattle.std.proofs.Common.{◌≡◌, ◌+◌, ◌<◌, Ok, Err, subst, sym, ◌∙◌, ap, arith, Bool}
+use Rattle.std.proofs.Common.{◌≡◌, ◌+◌, ◌<◌, Ok, Err, subst, sym, ◌∙◌, ap, arith, Bool, refl}
 use Rattle.std.specs.List.{slice_set}
 use Rattle.cap_job.specs.declared.feed.Next.TheVariants as next
 use Rattle.cap_job.specs.Feeding.{FeedView, HeadView, Stood, Among, settled, feed_left, place_behind}
 use Rattle.cap_job.proofs.Lefts.{settle-less}
+use Rattle.cap_job.specs.Bounds.{StepReads, decides_one, IsPaid}
+use Rattle.cap_job.proofs.Turns.{settle-paid}
+use Rattle.cap_job.proofs.Weights.{is-light, settle-small}
 use Rattle.cap_job.specs.Feeding as feeding
 use Rattle.cap_job.specs.Judged.{Asked}
 use Rattle.cap_job.specs.Judging.{JudgeView}
@@ -20,7 +23,7 @@ returns-in-Err-clause-told g c = λ ti to ss before d.
     let P : MachineView → Type 0 = λ v. Decided ss before v → feeding.Tells v.feed.place v.feed.heads (next.Answer c.args.input) → EndLeaves ss before v (unwritten c.args.input c.in-Err.fault) (new j.asked) in
     let N : Asked → Type 0 = λ k. EndLeaves ss before m (unwritten c.args.input c.in-Err.fault) (new k) in
     let core : P m = λ d t. subst N (sym c.in-Err.ensures.asked)
-    (answer-leaves ss before m.feed.heads m.feed.place m.asked m.stand m.drain m.decided c.args.input (Err c.in-Err.fault) c.head.result.now j c.decide.new.drain t c.head.ensures c.in-Err.ensures.asked c.in-Err.ensures.passed c.in-Err.ensures.counted (let i = c.self.invariant in omega (arith, i)) (c.in-Err.ensures.told to) d) in
+    (answer-leaves ss before m.feed.heads m.feed.place m.asked m.stand m.drain m.decided c.args.input (Err c.in-Err.fault) c.head.result.now j c.decide.new.drain t c.head.ensures c.in-Err.ensures.asked c.in-Err.ensures.passed c.in-Err.ensures.counted (let i = c.self.invariant.0 in omega (arith, i)) (c.in-Err.ensures.told to) d) in
     rw c.unwritten.ensures (subst P c.self.view_is core d c.requires.next)
 
 pub returns-after-last-clause-told : goal.returns-after-last-clause-told
@@ -36,7 +39,7 @@ returns-after-last-clause-told g c = λ ti to ss before d.
     → AnswerLeaves ss before v c.args.input (Ok b) (new c.settle.new.self j.asked) (mk v.feed.heads v.feed.place v.asked j.stand c.decide.new.drain v.decided) in
     let N : FeedView → Asked → Type 0 = λ f k. AnswerLeaves ss before m c.args.input (Ok c.in-Ok.last) (new f k) (mk m.feed.heads m.feed.place m.asked j.stand c.decide.new.drain m.decided) in
     let core : P c.in-Ok.last m = λ d t.
-    let one = answer-leaves ss before m.feed.heads m.feed.place m.asked m.stand m.drain m.decided c.args.input (Ok c.in-Ok.last) c.head.result.now j c.decide.new.drain t c.head.ensures c.in-Ok.ensures.asked c.in-Ok.ensures.passed c.in-Ok.ensures.counted (let i = c.self.invariant in omega (arith, i)) (c.in-Ok.ensures.told to) d in
+    let one = answer-leaves ss before m.feed.heads m.feed.place m.asked m.stand m.drain m.decided c.args.input (Ok c.in-Ok.last) c.head.result.now j c.decide.new.drain t c.head.ensures c.in-Ok.ensures.asked c.in-Ok.ensures.passed c.in-Ok.ensures.counted (let i = c.self.invariant.0 in omega (arith, i)) (c.in-Ok.ensures.told to) d in
     let NF : FeedView → Type 0 = λ f. N f m.asked in
     let NK : Asked → Type 0 = λ k. N c.settle.new.self k in
     subst NK (sym c.in-Ok.ensures.asked) (subst NF (sym feed) one) in
@@ -53,5 +56,25 @@ pub invariant_of-self : goal.invariant_of-self
 invariant_of-self g c =
     let P : MachineView → Type 0 = λ v. feeding.Tells v.feed.place v.feed.heads (next.Answer c.args.input) in
     let less = settle-less c.self.inside.feed c.settle.new.self c.args.input (subst P (sym c.self.view_is) c.requires.next) c.settle.ensures in
-    let was = c.self.invariant in
-    omega (arith, less, was)
+    let was = c.self.invariant.0 in
+    (omega (arith, less, was), (settle-small c.self.inside.feed c.settle.new.self c.args.input c.settle.ensures c.self.invariant.1.0, c.decide.ensures.few c.self.invariant.1.1))
+
+pub returns-after-last-clause-reads : goal.returns-after-last-clause-reads
+returns-after-last-clause-reads g c =
+    let P : MachineView → Type 0 = λ v. StepReads v (record { feed = c.settle.new.self; asked = c.decide.new.judge.asked; stand = c.decide.new.judge.stand; drain = c.decide.new.drain; decided = c.self.inside.decided + 1 }) in
+    subst P c.self.view_is (decides_one c.args.input (record { settles = c.settle.ensures; decided = refl }))
+
+pub returns-after-last-clause-paid : goal.returns-after-last-clause-paid
+returns-after-last-clause-paid g c = λ more.
+    let P : MachineView → Type 0 = λ v. feeding.Tells v.feed.place v.feed.heads (next.Answer c.args.input) → IsPaid v.feed c.settle.new.self in
+    subst P c.self.view_is (λ t. settle-paid c.self.inside.feed c.settle.new.self c.args.input t c.settle.ensures) c.requires.next
+
+pub returns-after-last-clause-light : goal.returns-after-last-clause-light
+returns-after-last-clause-light g c =
+    is-light (record { feed = c.settle.new.self; asked = c.decide.new.judge.asked; stand = c.decide.new.judge.stand; drain = c.decide.new.drain; decided = c.self.inside.decided + 1 })
+    (settle-small c.self.inside.feed c.settle.new.self c.args.input c.settle.ensures c.self.invariant.1.0, c.decide.ensures.few c.self.invariant.1.1)
+
+pub returns-in-Err-clause-light : goal.returns-in-Err-clause-light
+returns-in-Err-clause-light g c =
+    is-light (record { feed = c.self.inside.feed; asked = c.decide.new.judge.asked; stand = c.decide.new.judge.stand; drain = c.decide.new.drain; decided = c.self.inside.decided })
+    (c.self.invariant.1.0, c.decide.ensures.few c.self.invariant.1.1)

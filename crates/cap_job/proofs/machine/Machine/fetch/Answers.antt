@@ -2,13 +2,16 @@ use Rattle.std.proofs.Common.{◌≡◌, ◌<◌, ◌∙◌, length, Bool, true,
 use Rattle.cap_octet.specs.declared.fault.Fault.{Fault}
 use Rattle.cap_job.specs.declared.feed.Next.TheVariants as next
 use Rattle.cap_job.specs.declared.machine.Progress.TheVariants.{More}
-use Rattle.cap_job.specs.Feeding.{Stood, feed_left}
+use Rattle.cap_job.specs.Feeding.{Stood, closes, feed_left}
 use Rattle.cap_job.specs.Feeding as feeding
 use Rattle.cap_job.specs.Judged.{Asked}
 use Rattle.cap_job.specs.Judging.{JudgeView}
 use Rattle.cap_job.specs.Working.{MachineView, Decided, GoesOn, BreaksAt, StepLeaves}
 use Rattle.cap_job.proofs.Fetches.{Follows, FetchLeaves, fetch-leaves}
+use Rattle.cap_job.specs.Bounds.{StepReads, reads_on, IsPaid}
 use Rattle.cap_job.proofs.Lefts.{Goes, fetch-kept, fetch-less}
+use Rattle.cap_job.proofs.Turns.{fetch-paid}
+use Rattle.cap_job.proofs.Weights.{fetch-small, is-light}
 use Rattle.cap_job.proofs.machine.Machine.fetch.Goals as goal
 
 pub invariant_of-self : goal.invariant_of-self
@@ -16,24 +19,24 @@ invariant_of-self g c =
     let N : MachineView → Type 0 = λ v. feeding.Tells v.feed.place v.feed.heads (next.Read c.args.input) in
     let W : MachineView → Type 0 = λ v. c.args.input < length v.feed.heads in
     let less = fetch-kept c.self.inside.feed c.fetch.new.self c.args.input c.fetch.result (subst N (sym c.self.view_is) c.requires.next) (subst W (sym c.self.view_is) c.requires.within) c.fetch.ensures.steps in
-    let was = c.self.invariant in
-    omega (arith, less, was)
+    let was = c.self.invariant.0 in
+    (omega (arith, less, was), (fetch-small c.self.inside.feed c.fetch.new.self c.args.input c.fetch.result c.fetch.ensures.steps c.self.invariant.1.0, c.self.invariant.1.1))
 
 pub invariant_of-self-in-Ok-false : goal.invariant_of-self-in-Ok-false
 invariant_of-self-in-Ok-false g c =
     let N : MachineView → Type 0 = λ v. feeding.Tells v.feed.place v.feed.heads (next.Read c.args.input) in
     let W : MachineView → Type 0 = λ v. c.args.input < length v.feed.heads in
     let less = fetch-kept c.self.inside.feed c.fetch.new.self c.args.input c.fetch.result (subst N (sym c.self.view_is) c.requires.next) (subst W (sym c.self.view_is) c.requires.within) c.fetch.ensures.steps in
-    let was = c.self.invariant in
-    omega (arith, less, was)
+    let was = c.self.invariant.0 in
+    (omega (arith, less, was), (fetch-small c.self.inside.feed c.fetch.new.self c.args.input c.fetch.result c.fetch.ensures.steps c.self.invariant.1.0, c.close.ensures.few c.self.invariant.1.1))
 
 pub invariant_of-self-in-Err : goal.invariant_of-self-in-Err
 invariant_of-self-in-Err g c =
     let N : MachineView → Type 0 = λ v. feeding.Tells v.feed.place v.feed.heads (next.Read c.args.input) in
     let W : MachineView → Type 0 = λ v. c.args.input < length v.feed.heads in
     let less = fetch-kept c.self.inside.feed c.fetch.new.self c.args.input c.fetch.result (subst N (sym c.self.view_is) c.requires.next) (subst W (sym c.self.view_is) c.requires.within) c.fetch.ensures.steps in
-    let was = c.self.invariant in
-    omega (arith, less, was)
+    let was = c.self.invariant.0 in
+    (omega (arith, less, was), (fetch-small c.self.inside.feed c.fetch.new.self c.args.input c.fetch.result c.fetch.ensures.steps c.self.invariant.1.0, c.self.invariant.1.1))
 
 pub returns-in-Ok-true-clause-told : goal.returns-in-Ok-true-clause-told
 returns-in-Ok-true-clause-told g c = λ ti to ss before d.
@@ -84,3 +87,46 @@ returns-in-Err-clause-told g c = λ ti to ss before d.
     let core : P m = λ d t. subst L c.in-Err.is
     (fetch-leaves ss before m.feed.heads m.feed.place m.asked m.stand m.drain m.decided c.args.input c.fetch.result c.fetch.new.self More j m.drain t (c.fetch.ensures.told ti) d (subst F (sym c.in-Err.is) (refl, refl))) in
     subst P c.self.view_is core d c.requires.next
+
+pub returns-in-Ok-true-clause-reads : goal.returns-in-Ok-true-clause-reads
+returns-in-Ok-true-clause-reads g c =
+    let j : JudgeView = c.self.inside.judge in
+    let P : MachineView → Type 0 = λ v. StepReads v (record { feed = c.fetch.new.self; asked = j.asked; stand = j.stand; drain = c.self.inside.drain; decided = c.self.inside.decided }) in
+    subst P c.self.view_is (reads_on c.args.input c.fetch.result (record { fetches = c.fetch.ensures.steps; decided = refl; drain = λ on. refl }))
+
+pub returns-in-Ok-true-clause-paid : goal.returns-in-Ok-true-clause-paid
+returns-in-Ok-true-clause-paid g c = λ more.
+    let P : MachineView → Type 0 = λ v. feeding.Tells v.feed.place v.feed.heads (next.Read c.args.input) → c.args.input < length v.feed.heads → IsPaid v.feed c.fetch.new.self in
+    subst P c.self.view_is (λ t l. fetch-paid c.self.inside.feed c.fetch.new.self c.args.input c.fetch.result t l c.fetch.ensures.steps (subst Goes (sym c.in-Ok-true.is) tt)) c.requires.next c.requires.within
+
+pub returns-in-Ok-false-clause-reads : goal.returns-in-Ok-false-clause-reads
+returns-in-Ok-false-clause-reads g c =
+    let j : JudgeView = c.close.new.judge in
+    let P : MachineView → Type 0 = λ v. StepReads v (record { feed = c.fetch.new.self; asked = j.asked; stand = j.stand; drain = c.close.new.drain; decided = c.self.inside.decided }) in
+    subst P c.self.view_is (reads_on c.args.input c.fetch.result (record { fetches = c.fetch.ensures.steps; decided = refl; drain = λ on. absurd (let e : closes c.fetch.result ≡ true = ap closes (c.in-Ok-false.is ∙ ap Ok c.in-Ok-false.field-0-test) in cc) }))
+
+pub returns-in-Ok-false-clause-paid : goal.returns-in-Ok-false-clause-paid
+returns-in-Ok-false-clause-paid g c = λ more.
+    let P : MachineView → Type 0 = λ v. feeding.Tells v.feed.place v.feed.heads (next.Read c.args.input) → c.args.input < length v.feed.heads → IsPaid v.feed c.fetch.new.self in
+    subst P c.self.view_is (λ t l. fetch-paid c.self.inside.feed c.fetch.new.self c.args.input c.fetch.result t l c.fetch.ensures.steps (subst Goes (sym c.in-Ok-false.is) tt)) c.requires.next c.requires.within
+
+pub returns-in-Err-clause-reads : goal.returns-in-Err-clause-reads
+returns-in-Err-clause-reads g c =
+    let j : JudgeView = c.self.inside.judge in
+    let P : MachineView → Type 0 = λ v. StepReads v (record { feed = c.fetch.new.self; asked = j.asked; stand = j.stand; drain = c.self.inside.drain; decided = c.self.inside.decided }) in
+    subst P c.self.view_is (reads_on c.args.input c.fetch.result (record { fetches = c.fetch.ensures.steps; decided = refl; drain = λ on. refl }))
+
+pub returns-in-Ok-true-clause-light : goal.returns-in-Ok-true-clause-light
+returns-in-Ok-true-clause-light g c =
+    is-light (record { feed = c.fetch.new.self; asked = c.self.inside.judge.asked; stand = c.self.inside.judge.stand; drain = c.self.inside.drain; decided = c.self.inside.decided })
+    (fetch-small c.self.inside.feed c.fetch.new.self c.args.input c.fetch.result c.fetch.ensures.steps c.self.invariant.1.0, c.self.invariant.1.1)
+
+pub returns-in-Ok-false-clause-light : goal.returns-in-Ok-false-clause-light
+returns-in-Ok-false-clause-light g c =
+    is-light (record { feed = c.fetch.new.self; asked = c.close.new.judge.asked; stand = c.close.new.judge.stand; drain = c.close.new.drain; decided = c.self.inside.decided })
+    (fetch-small c.self.inside.feed c.fetch.new.self c.args.input c.fetch.result c.fetch.ensures.steps c.self.invariant.1.0, c.close.ensures.few c.self.invariant.1.1)
+
+pub returns-in-Err-clause-light : goal.returns-in-Err-clause-light
+returns-in-Err-clause-light g c =
+    is-light (record { feed = c.fetch.new.self; asked = c.self.inside.judge.asked; stand = c.self.inside.judge.stand; drain = c.self.inside.drain; decided = c.self.inside.decided })
+    (fetch-small c.self.inside.feed c.fetch.new.self c.args.input c.fetch.result c.fetch.ensures.steps c.self.invariant.1.0, c.self.invariant.1.1)

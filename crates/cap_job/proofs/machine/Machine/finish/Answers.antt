@@ -6,6 +6,7 @@ use Rattle.cap_job.specs.Feeding.{Stood}
 use Rattle.cap_job.specs.Feeding as feeding
 use Rattle.cap_job.specs.Working.{MachineView, Decided}
 use Rattle.cap_job.proofs.Finishes.{finish-leaves, FinishLeaves}
+use Rattle.cap_job.proofs.Weights.{is-light}
 use Rattle.cap_job.proofs.machine.Machine.finish.Goals as goal
 use Rattle.cap_job.proofs.machine.Machine.finish.Goals.{in-Ok, in-Err}
 
@@ -20,3 +21,8 @@ returns-clause-told g c = λ ti to ss before d.
     let all : FinishLeaves ss before c.args.self.now c.finish.result new = subst P c.self.view_is core d c.requires.next in
     let R : Result (Unit {0}) Fault → Type 0 = λ r. FinishLeaves ss before c.args.self.now r new in
     elim c.match-finish.branch [ in-Ok w ↦ rw w.result-is (subst R w.in-Ok.is all) | in-Err w ↦ rw w.result-is (subst R w.in-Err.is all) ]
+
+pub returns-clause-light : goal.returns-clause-light
+returns-clause-light g c =
+    is-light (record { feed = c.self.inside.feed; asked = c.self.inside.judge.asked; stand = c.self.inside.judge.stand; drain = c.finish.new.self; decided = c.self.inside.decided })
+    (c.self.invariant.1.0, c.finish.ensures.few c.self.invariant.1.1)

@@ -1,8 +1,12 @@
-use Rattle.std.proofs.Common.{◌≡◌, List, map, length, ◌∙◌, ap, arith}
-use Rattle.cap_job.specs.Feeding.{feed_left}
+use Rattle.std.proofs.Common.{◌≡◌, List, map, length, ◌∙◌, sym, ap, arith, subst}
+use Rattle.std.specs.List.{All}
+use Rattle.cap_job.specs.Bounds.{HasFewInterfaces, IsLight, IsSmall, most_turns, owed}
+use Rattle.cap_job.specs.Draining.{DrainView}
+use Rattle.cap_job.specs.Feeding.{FeedView, feed_left}
 use Rattle.cap_job.specs.Working.{MachineView}
 use Rattle.cap_job.specs.Jobs.{Opened, opened, feed_first, order_of}
-use Rattle.cap_job.proofs.Starts.{first-left, same-count}
+use Rattle.cap_job.proofs.Starts.{first-few, first-left, same-count}
+use Rattle.cap_job.proofs.Weights.{few-first, is-light, small-first}
 use Rattle.cap_job.proofs.packets.PacketJob.new.Goals as goal
 
 pub new-machine-requires : goal.new-machine-requires
@@ -12,7 +16,9 @@ new-machine-requires g c =
     let less = c.requires in
     let bound = first-left (order_of c.args.work.merges) os (omega (arith, few, less)) in
     let left : feed_left c.in-Some.feed ≡ feed_left (feed_first (order_of c.args.work.merges) os) = ap feed_left c.in-Some.ensures in
-    omega (arith, left, bound)
+    let heads : All IsSmall c.in-Some.feed.heads = (let P : FeedView → Type 0 = λ f. All IsSmall f.heads in subst P (sym c.in-Some.ensures) (small-first os)) in
+    let few : HasFewInterfaces c.new-drain.result.target = (let P : DrainView → Type 0 = λ d. HasFewInterfaces d.target in subst P (sym c.new-drain.ensures) (few-first c.args.work.writing _ _ _)) in
+    record { left = omega (arith, left, bound); bounded = (heads, few) }
 
 pub invariant_of-result : goal.invariant_of-result
 invariant_of-result g c =
@@ -22,4 +28,9 @@ invariant_of-result g c =
     let is : c.new-machine.result.feed ≡ feed_first (order_of c.args.work.merges) os = ap (λ (m : MachineView). m.feed) c.new-machine.ensures ∙ c.in-Some.ensures in
     let bound = first-left (order_of c.args.work.merges) os (omega (arith, few, less)) in
     let left : feed_left c.new-machine.result.feed ≡ feed_left (feed_first (order_of c.args.work.merges) os) = ap feed_left is in
-    omega (arith, left, bound)
+    let owes : owed c.new-machine.result.feed ≡ owed (feed_first (order_of c.args.work.merges) os) = ap owed is in
+    let most : most_turns c.new-machine.result.feed ≡ most_turns (feed_first (order_of c.args.work.merges) os) = ap most_turns is in
+    let turns = first-few (order_of c.args.work.merges) os in
+    let heads : All IsSmall c.in-Some.feed.heads = (let P : FeedView → Type 0 = λ f. All IsSmall f.heads in subst P (sym c.in-Some.ensures) (small-first os)) in
+    let few : HasFewInterfaces c.new-drain.result.target = (let P : DrainView → Type 0 = λ d. HasFewInterfaces d.target in subst P (sym c.new-drain.ensures) (few-first c.args.work.writing _ _ _)) in
+    (omega (arith, left, bound), omega (arith, owes, most, turns), subst IsLight (sym c.new-machine.ensures) (is-light (record { feed = c.in-Some.feed; asked = c.new-judge.result.asked; stand = c.new-judge.result.stand; drain = c.new-drain.result; decided = 0 }) (heads, few)))

@@ -1,5 +1,6 @@
 use Rattle.std.proofs.Common.{List, ℕ, ◌+◌, Some, subst}
 use Rattle.cap_tools.specs.Running.{seen}
+use Rattle.cap_job.specs.Bounds.{StepReads}
 use Rattle.cap_job.specs.Feeding.{Stood}
 use Rattle.cap_job.specs.Working.{Decided}
 use Rattle.cap_job.specs.Jobs.{JobView, EndsJob, EndsAs, end_text}
@@ -22,3 +23,13 @@ returns-in-Done-clause-told g c = λ ti to none.
         counted = c.tell.ensures.failed;
       };
     })
+
+pub returns-in-More-clause-reads : goal.returns-in-More-clause-reads
+returns-in-More-clause-reads g c =
+    let P : JobView → Type 0 = λ v. StepReads v.machine c.step.new.self in
+    subst P c.self.view_is c.in-More.ensures.reads
+
+pub returns-in-Done-clause-reads : goal.returns-in-Done-clause-reads
+returns-in-Done-clause-reads g c =
+    let P : JobView → Type 0 = λ v. StepReads v.machine c.step.new.self in
+    subst P c.self.view_is c.in-Done.ensures.reads

@@ -1,0 +1,91 @@
+-- What a job holds is bounded.
+use Rattle.std.proofs.Common.{◌≡◌, ℕ, ◌+◌, ◌*◌, ◌≤◌, List, [], ◌∷◌, ◌++◌, length, map, Bool, Result, sym, ap, arith, subst}
+use Rattle.std.specs.List.{All}
+use Rattle.std.proofs.lemmas.List.Elements.{All-nil, All-cons, All-head, All-tail, All-set}
+use Rattle.cap_octet.specs.declared.fault.Fault.{Fault}
+use Rattle.cap_io.specs.Capture.{Declared, Nothing, PcapFile, PcapngFile}
+use Rattle.cap_io.specs.Reading.{most_in_unit}
+use Rattle.cap_io.specs.Source.{SourceView, Phase, Reading, Ended, Failed, HasFew, Steps}
+use Rattle.cap_job.specs.declared.drain.Writing.{Writing}
+use Rattle.cap_job.specs.declared.drain.Writing.TheVariants as writing
+use Rattle.cap_job.specs.Draining.{Target, Capture, Text, target_at}
+use Rattle.cap_job.specs.Feeding.{HeadView, FeedView, Among, FetchSteps, Settles, head_after, settled}
+use Rattle.cap_job.specs.Jobs.{Opened, head_at}
+use Rattle.cap_job.specs.Working.{MachineView}
+use Rattle.cap_job.specs.Bounds.{HasFewInterfaces, IsBounded, IsLight, IsSmall, declared_weight, heads_weight, names_weight, target_weight}
+
+-- ---- one head for another
+
+small-among : (front back : List HeadView) (h : HeadView) → All IsSmall (front ++ h ∷ back) → IsSmall h
+small-among [] back h all = All-head IsSmall h back all
+small-among (x ∷ xs) back h all = small-among xs back h (All-tail IsSmall x (xs ++ h ∷ back) all)
+
+small-at : (heads : List HeadView) (i : ℕ) (h : HeadView) → Among heads i h → All IsSmall heads → IsSmall h
+small-at heads i h a all = small-among a.front a.back h (subst (All IsSmall) a.splits all)
+
+pub settle-small : (feed feed' : FeedView) (i : ℕ) → Settles feed i feed' → All IsSmall feed.heads → All IsSmall feed'.heads
+settle-small feed feed' i s all =
+    let P : FeedView → Type 0 = λ f. All IsSmall f.heads in
+    subst P (sym s.is) (All-set IsSmall feed.heads i (settled s.head) (small-at feed.heads i s.head s.among all) all)
+
+steps-small : (old new : SourceView) (r : Result Bool Fault) → Steps old.phase old r new → length old.block ≤ most_in_unit → length new.block ≤ most_in_unit
+steps-small old new r steps small = by_phase old.phase steps
+  where
+    by_phase : (p : Phase) → Steps p old r new → length new.block ≤ most_in_unit
+    by_phase Reading s = s.block
+    by_phase Ended s = let e : length new.block ≡ length old.block = ap (λ (v : SourceView). length v.block) s.1 in omega (arith, e, small)
+    by_phase (Failed fault) s = let e : length new.block ≡ length old.block = ap (λ (v : SourceView). length v.block) s.1 in omega (arith, e, small)
+
+pub fetch-small : (feed feed' : FeedView) (i : ℕ) (r : Result Bool Fault) → FetchSteps feed i r feed' → All IsSmall feed.heads → All IsSmall feed'.heads
+fetch-small feed feed' i r f all =
+    let P : FeedView → Type 0 = λ v. All IsSmall v.heads in
+    subst P (sym f.is) (All-set IsSmall feed.heads i (head_after f.head r f.source) (steps-small f.head.source f.source r f.steps (small-at feed.heads i f.head f.among all).0, f.few) all)
+
+-- ---- at first
+
+pub small-first : (os : List Opened) → All IsSmall (map head_at os)
+small-first [] = All-nil IsSmall
+small-first (o ∷ os) = All-cons IsSmall (head_at o) (map head_at os) (omega arith, tt) (small-first os)
+
+pub few-first : (w : Writing) (written : List ℕ) (failures room : ℕ) → HasFewInterfaces (target_at w written failures room)
+few-first (writing.Capture format) written failures room = record { count = omega arith; names = All-nil _ }
+few-first writing.Text written failures room = tt
+
+-- ---- the weight
+
+names-light : {X : Type 0} (f : X → List ℕ) (xs : List X) → All (λ x. length (f x) ≤ 255) xs → names_weight (map f xs) ≤ 274 * length xs
+names-light f [] all = omega arith
+names-light f (x ∷ xs) all =
+    let one = All-head (λ x. length (f x) ≤ 255) x xs all in
+    let others = names-light f xs (All-tail (λ x. length (f x) ≤ 255) x xs all) in
+    omega (arith, one, others)
+
+declared-light : (d : Declared) → HasFew d → declared_weight d ≤ 274 * 256
+declared-light Nothing few = omega arith
+declared-light (PcapFile head) few = omega arith
+declared-light (PcapngFile first section) few =
+    let names = names-light (λ i. i.name) section.interfaces few.names in
+    let count = few.count in
+    omega (arith, names, count)
+
+heads-light : (heads : List HeadView) → All IsSmall heads → heads_weight heads ≤ (most_in_unit + 256 * 280) * length heads
+heads-light [] all = omega arith
+heads-light (h ∷ hs) all =
+    let small = All-head IsSmall h hs all in
+    let block = small.0 in
+    let names = declared-light h.source.declared small.1 in
+    let others = heads-light hs (All-tail IsSmall h hs all) in
+    omega (arith, block, names, others)
+
+target-light : (t : Target) → HasFewInterfaces t → target_weight t ≤ 274 * 4096
+target-light (Capture sink) few =
+    let names = names-light (λ i. i.name) sink.interfaces few.names in
+    let count = few.count in
+    omega (arith, names, count)
+target-light (Text written failures room) few = omega arith
+
+pub is-light : (m : MachineView) → IsBounded m.feed m.drain → IsLight m
+is-light m bounded =
+    let heads = heads-light m.feed.heads bounded.0 in
+    let target = target-light m.drain.target bounded.1 in
+    omega (arith, heads, target)

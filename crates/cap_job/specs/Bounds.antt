@@ -1,0 +1,109 @@
+-- The bounds of a step, whatever the devices: what it reads, how many steps were made, and what the job holds.
+use Rattle.std.specs.Prelude.{◌≡◌, ℕ, ◌+◌, ◌*◌, ◌-◌, ◌≤◌, Bool, false, List, [], ◌∷◌, length, map, Option, None, Some, Result}
+use Rattle.std.specs.List.{All}
+use Rattle.cap_octet.specs.declared.fault.Fault.{Fault}
+use Rattle.cap_io.specs.Capture.{Declared, Nothing, PcapFile, PcapngFile}
+use Rattle.cap_io.specs.Reading.{most_in_unit}
+use Rattle.cap_io.specs.Source.{HasFew, behind}
+use Rattle.cap_io.specs.Text.{AreFew, most_output_interfaces}
+use Rattle.cap_job.specs.Draining.{DrainView, Target, Capture, Text}
+use Rattle.cap_job.specs.Feeding.{HeadView, FeedView, FetchSteps, Settles, closes, place_left, waiting_total, weight_of}
+use Rattle.cap_job.specs.Working.{MachineView}
+
+-- ---- what a step reads
+
+-- One input was read on, to its next packet and no further. No packet is decided, and nothing is written unless the
+-- input was read to its end.
+pub record ReadsOn (old : MachineView) (input : ℕ) (answer : Result Bool Fault) (new : MachineView) : Type 0 where
+  pub fetches : FetchSteps old.feed input answer new.feed
+  pub decided : new.decided ≡ old.decided
+  pub drain : closes answer ≡ false → new.drain ≡ old.drain
+
+-- the packet in hand of one input was decided, and nothing is read
+pub record DecidesOne (old : MachineView) (input : ℕ) (new : MachineView) : Type 0 where
+  pub settles : Settles old.feed input new.feed
+  pub decided : new.decided ≡ old.decided + 1
+
+-- nothing is read, and no packet is decided
+pub record ReadsNothing (old new : MachineView) : Type 0 where
+  pub feed : new.feed ≡ old.feed
+  pub decided : new.decided ≡ old.decided
+
+-- a step reads one input on, or decides one packet, or neither
+pub data StepReads (old new : MachineView) : Type 0 where
+  reads_on : (input : ℕ) → (answer : Result Bool Fault) → ReadsOn old input answer new → StepReads old new
+  decides_one : (input : ℕ) → DecidesOne old input new → StepReads old new
+  reads_nothing : ReadsNothing old new → StepReads old new
+
+-- ---- how many steps were made
+
+-- the bytes that were read of the inputs: those that are gone over, and those of the units in hand
+abbrev pub reads_of : List HeadView → ℕ
+reads_of [] = 0
+reads_of (h ∷ hs) = behind h.source + reads_of hs
+
+-- the steps that follow without a byte more: each packet in hand is decided, and each input closed; a merge reads behind
+-- each packet that it decides
+abbrev pub owed : FeedView → ℕ
+owed f = place_left f.place (length f.heads) + (weight_of f.place - 1) * waiting_total f.heads
+
+-- two steps for each byte, one for each input, and one that reads a filter
+abbrev pub most_turns : FeedView → ℕ
+most_turns f = 2 * reads_of f.heads + length f.heads + 1
+
+-- a step that goes on is one of those that were owed, or it read bytes that stand for it and for what is owed now
+abbrev pub IsPaid : FeedView → FeedView → Type 0
+IsPaid old new = owed new + 1 + most_turns old ≤ owed old + most_turns new
+
+-- the steps that were made, with those that are owed, are no more than what was read stands for
+abbrev pub HasFewTurns : Option ℕ → ℕ → FeedView → Type 0
+HasFewTurns None turns feed = turns + owed feed ≤ most_turns feed
+HasFewTurns (Some status) turns feed = Unit {0}
+
+-- ---- what a job holds
+
+-- the bytes of interfaces with these names, with 19 for the rest of each
+abbrev pub names_weight : List (List ℕ) → ℕ
+names_weight [] = 0
+names_weight (name ∷ names) = 19 + length name + names_weight names
+
+abbrev pub declared_weight : Declared → ℕ
+declared_weight Nothing = 0
+declared_weight (PcapFile head) = 0
+declared_weight (PcapngFile first section) = names_weight (map (λ i. i.name) section.interfaces)
+
+-- of an input: its unit in hand, the interfaces of its section, and 40 for the rest
+abbrev pub head_weight : HeadView → ℕ
+head_weight h = length h.source.block + declared_weight h.source.declared + 40
+
+abbrev pub heads_weight : List HeadView → ℕ
+heads_weight [] = 0
+heads_weight (h ∷ hs) = head_weight h + heads_weight hs
+
+-- of the output: its interfaces
+abbrev pub target_weight : Target → ℕ
+target_weight (Capture sink) = names_weight (map (λ i. i.name) sink.interfaces)
+target_weight (Text written failures room) = 0
+
+-- the bytes that a job holds of its inputs and of its output, and 128 for its counters
+abbrev pub weight : MachineView → ℕ
+weight m = heads_weight m.feed.heads + target_weight m.drain.target + 128
+
+-- a unit for each input, 280 bytes for each interface that inputs and output may have, and the counters
+abbrev pub most_weight : ℕ → ℕ
+most_weight inputs = inputs * most_in_unit + (256 * inputs + most_output_interfaces) * 280 + 128
+
+-- at most one unit is held of an input, and few interfaces
+abbrev pub IsSmall : HeadView → Type 0
+IsSmall h = (length h.source.block ≤ most_in_unit) × HasFew h.source.declared
+
+abbrev pub HasFewInterfaces : Target → Type 0
+HasFewInterfaces (Capture sink) = AreFew sink.interfaces
+HasFewInterfaces (Text written failures room) = Unit {0}
+
+abbrev pub IsBounded : FeedView → DrainView → Type 0
+IsBounded feed drain = All IsSmall feed.heads × HasFewInterfaces drain.target
+
+-- what a job holds of so many inputs is bounded
+abbrev pub IsLight : MachineView → Type 0
+IsLight m = weight m ≤ most_weight (length m.feed.heads)
