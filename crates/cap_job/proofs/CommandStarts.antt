@@ -43,7 +43,7 @@ pub first-is : {Z : Type 0} (c : Command Z) (names : List (List ℕ)) (os : List
     → order ≡ (assigned c).order → asked ≡ (assigned c).asked → w ≡ (assigned c).writing → job_first order asked w names os out room err ≡ (command_first c names os out room err).packets
 first-is c names os out room err order asked w same_order same_asked same_writing = rw (same_order, same_asked, same_writing) refl
 
--- what is done first was not begun
+-- what a command reads or compiles first is not begun, and no step was made
 pub first-ready : {Z : Type 0} (c : Command Z) (names : List (List ℕ)) (os : List Opened) (out : OutputView) (room : ℕ) (err : OutputView) → length os ≤ most_inputs
     → IsReadyIf (assigned c).preparing (command_first c names os out room err).packets
 first-ready (command.Edit edit) names os out room err few = tt

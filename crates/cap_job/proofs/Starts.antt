@@ -1,5 +1,5 @@
 -- A job of which nothing is done.
-use Rattle.std.proofs.Common.{◌≡◌, ℕ, suc, ◌*◌, ◌^◌, ◌<◌, ◌≤◌, List, [], ◌∷◌, map, length, Bool, None, subst, refl, sym, ◌∙◌, ap, arith}
+use Rattle.std.proofs.Common.{◌≡◌, ℕ, suc, ◌*◌, ◌^◌, ◌<◌, ◌≤◌, List, [], ◌∷◌, map, length, Bool, refl, sym, ◌∙◌, ap, arith}
 use Rattle.cap_job.specs.declared.drain.Writing.{Writing}
 use Rattle.cap_job.specs.declared.drain.Writing.TheVariants as writing
 use Rattle.cap_job.specs.Draining.{DrainedTo, target_at}
@@ -11,8 +11,7 @@ use Rattle.cap_job.specs.Fed.{Rest, in_turn, merged, Ordering, InTurn, Merging}
 use Rattle.cap_job.specs.declared.feed.Place.{Place}
 use Rattle.cap_job.proofs.Laws.{laid-start}
 use Rattle.cap_job.specs.Judged.{Asked}
-use Rattle.cap_job.specs.Jobs.{Opened, head_at, stood_at, place_first, feed_first, order_of, most_inputs, JobView, JobRuns, RunsJob, job_first}
-use Rattle.cap_tools.specs.Running.{OutputView}
+use Rattle.cap_job.specs.Jobs.{Opened, head_at, stood_at, place_first, feed_first, order_of, most_inputs}
 use Rattle.cap_job.specs.Judging.{stand_with}
 use Rattle.cap_job.specs.Feeding.{HeadView, Future, Standing, Fits, HasCome, NoneWaits, EndedBefore, wholes, rests, whole_with, heads_left, feed_left, most_steps, waiting_total}
 use Rattle.cap_job.specs.Bounds.{reads_of, owed, most_turns}
@@ -105,11 +104,3 @@ first-few Merging os = let e = start-unread os in let r = e.0 in let w = e.1 in 
 pub same-count : {X : Type 0} (f : X → Opened) (xs : List X) → length (map f xs) ≡ length xs
 same-count f [] = refl
 same-count f (x ∷ xs) = ap suc (same-count f xs)
-
--- a job runs from its beginning
-pub begun : (order : Ordering) (asked : Asked) (w : Writing) (names : List (List ℕ)) (os : List Opened) (out : OutputView) (room : ℕ) (err : OutputView) (tells : Bool) (job : JobView) (status : ℕ) (out' err' : OutputView)
-    → job ≡ job_first order asked w names os out room err → (job.done ≡ None → RunsJob tells job status out' err')
-    → JobRuns (map stood_at os) out.written tells (job_first order asked w names os out room err) status out' err'
-begun order asked w names os out room err tells job status out' err' is runs =
-    let P : JobView → Type 0 = λ v. v.done ≡ None → RunsJob tells v status out' err' in
-    subst P is runs refl (map stood_at os) out.written (Decided-start order os out.written asked names w out.failures room)

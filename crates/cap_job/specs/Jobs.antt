@@ -185,16 +185,8 @@ pub record JobRuns (ss : List Stood) (before : List ℕ) (tells : Bool) (first :
   pub failures : output.failures ≡ failures_by last
   pub told : IsTold tells first.err text err
 
-abbrev pub RunsJob : Bool → JobView → ℕ → OutputView → OutputView → Type 0
-RunsJob tells first status out err = (ss : List Stood) (before : List ℕ) → Decided ss before first.machine → JobRuns ss before tells first status out err
-
 -- there was no memory to begin
 pub record NeverBegan (tells : Bool) (out err : OutputView) (status : ℕ) (out' err' : OutputView) : Type 0 where
   pub status_is : status ≡ 1
   pub same : out' ≡ out
   pub told : IsTold tells err no_memory_message err'
-
-abbrev pub WorkGives : Ordering → Asked → Writing → List (List ℕ) → List Opened → Bool → OutputView → ℕ → OutputView → ℕ → OutputView → OutputView → Type 0
-WorkGives order asked writing names os tells out room err status out' err' =
-    JobRuns (map stood_at os) out.written tells (job_first order asked writing names os out room err) status out' err'
-    ⊎ NeverBegan tells out err status out' err'

@@ -83,7 +83,7 @@ pub record Judges (p : Captured) (judge : JudgeView) (number : ℕ) (old : Drain
   pub told : judging.Tells (verdict judge.asked judge.stand number p) (Ok answer) judge'.stand
   pub offers : Offers answer old r new
 
--- it is refused, or there was no memory for what decides it
+-- it is refused, and nothing is written
 pub record Rejects (p : Captured) (judge : JudgeView) (number : ℕ) (old : DrainView) (r : Result Bool Fault) (judge' : JudgeView) (new : DrainView) : Type 0 where
   pub fault : Fault
   pub told : judging.Tells (verdict judge.asked judge.stand number p) (Err fault) judge'.stand
