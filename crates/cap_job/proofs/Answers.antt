@@ -234,6 +234,7 @@ stops-writing ss before heads place asked stand stand' names sink sink' decided 
       front = text sink.format packets;
       bytes = added sink.format packets q;
       back = tail ++ closes;
+      one = record { packets = packets; reports = reports; so_far = refl; answer = inl (q, text-more sink.format packets q [] ∙ ap (λ (l : List ℕ). text sink.format packets ++ l) (append-nil (added sink.format packets q))) };
       whole =
           ap (λ (l : List Captured). text sink.format l ++ closes) (grows.packets_is ∙ append_assoc packets (q ∷ []) grows.packets)
           ∙ ap (λ (l : List ℕ). l ++ closes) (text-more sink.format packets q grows.packets)

@@ -1,5 +1,5 @@
 -- The bounds of a step, whatever the devices: what it reads, how many steps were made, and what the job holds.
-use Rattle.std.specs.Prelude.{◌≡◌, ℕ, ◌+◌, ◌*◌, ◌-◌, ◌≤◌, Bool, true, false, List, [], ◌∷◌, length, map, Option, None, Some, Result}
+use Rattle.std.specs.Prelude.{◌≡◌, ℕ, ◌+◌, ◌*◌, ◌-◌, ◌≤◌, Bool, true, false, List, [], ◌∷◌, length, map, Option, None, Some, Result, Ok, Err}
 use Rattle.std.specs.List.{All}
 use Rattle.cap_octet.specs.declared.fault.Fault.{Fault}
 use Rattle.cap_io.specs.Capture.{Declared, Nothing, PcapFile, PcapngFile}
@@ -10,6 +10,8 @@ use Rattle.cap_job.specs.Draining.{DrainView, Target, Capture, Text}
 use Rattle.cap_job.specs.Feeding.{HeadView, FeedView, Among, FetchSteps, Settles, closes, place_left, waiting_total, weight_of}
 use Rattle.cap_octet.specs.Packet.{Captured}
 use Rattle.cap_job.specs.Judging.{spent_by_verdict}
+use Rattle.cap_job.specs.declared.machine.Progress.{Progress}
+use Rattle.cap_job.specs.declared.machine.Progress.TheVariants.{More, Done}
 use Rattle.cap_job.specs.Working.{MachineStand, MachineView}
 
 -- ---- what a step reads
@@ -51,12 +53,21 @@ pub record ReadsNothing (old new : MachineView) : Type 0 where
   pub decided : new.decided ≡ old.decided
   pub programs : new.programs ≡ old.programs
 
--- a step reads one input on, or decides one packet, or can't decide it, or does neither
-pub data StepReads (old new : MachineView) : Type 0 where
-  reads_on : (input : ℕ) → (answer : Result Bool Fault) → ReadsOn old input answer new → StepReads old new
-  decides_one : (input : ℕ) → DecidesOne old input new → StepReads old new
-  leaves_one : (input : ℕ) → LeavesOne old input new → StepReads old new
-  reads_nothing : ReadsNothing old new → StepReads old new
+abbrev pub is_fault : Result Bool Fault → Bool
+is_fault (Ok found) = false
+is_fault (Err fault) = true
+
+-- A step reads one input on, or decides one packet, or can't decide it, or does neither. It goes on behind an input that
+-- gave no fault, or a packet that is decided, and not otherwise.
+pub data StepReads (goes : Bool) (old new : MachineView) : Type 0 where
+  reads_on : (input : ℕ) → (answer : Result Bool Fault) → (goes ≡ true → is_fault answer ≡ false) → ReadsOn old input answer new → StepReads goes old new
+  decides_one : (input : ℕ) → DecidesOne old input new → StepReads goes old new
+  leaves_one : (input : ℕ) → goes ≡ false → LeavesOne old input new → StepReads goes old new
+  reads_nothing : goes ≡ false → ReadsNothing old new → StepReads goes old new
+
+abbrev pub goes_on : Progress → Bool
+goes_on More = true
+goes_on (Done end) = false
 
 -- ---- how many steps were made
 

@@ -146,9 +146,9 @@ pub record PreparesOnly (old new : MachineView) : Type 0 where
   pub decided : new.decided ≡ old.decided
   pub unspent : spent_in new.programs ≡ spent_in old.programs
 
-abbrev pub StepReadsBy : Option Preparing → MachineView → MachineView → Type 0
-StepReadsBy None old new = StepReads old new
-StepReadsBy (Some preparing) old new = PreparesOnly old new
+abbrev pub StepReadsBy : Option Preparing → Bool → MachineView → MachineView → Type 0
+StepReadsBy None goes old new = StepReads goes old new
+StepReadsBy (Some preparing) goes old new = PreparesOnly old new
 
 -- ---- all steps
 

@@ -21,7 +21,7 @@ use Rattle.cap_job.specs.Fed.{Event, Close, Over, Broken, Rest, Ordering, InTurn
 use Rattle.cap_job.specs.Judged.{Asked, Stand, verdict}
 use Rattle.cap_job.specs.Judging.{JudgeStand, JudgeView, IsWithin, emptied, is_count, spent_by_verdict}
 use Rattle.cap_job.specs.Judging as judging
-use Rattle.cap_job.specs.Course.{Form, Way, set_out, way, course, output, first_link}
+use Rattle.cap_job.specs.Course.{Form, Way, set_out, way, course, output, written, closing, first_link}
 use Rattle.cap_job.specs.Feeding.{FeedView, HeadView, Stood, Standing, HasCome, Among, EndedBefore, ordering_of}
 
 -- ---- the view
@@ -203,12 +203,26 @@ pub record WantsMemory (old new : MachineStand) (fault : Fault) : Type 0 where
   pub why : fault ≡ NoMemory
   pub written : written_by new ≡ written_by old
 
--- The output's device failed in this step, after a beginning of what it would have appended.
+-- one answer behind these packets and reports: one packet more, one report more, or what a clean end adds
+abbrev pub IsAnswer : Form → Option ℕ → List Captured → List Report → List ℕ → Type 0
+IsAnswer form link ps rs bytes =
+    ((q : Captured) × (written form (ps ++ q ∷ []) rs ≡ written form ps rs ++ bytes))
+    ⊎ ((r : Report) × (written form ps (rs ++ r ∷ []) ≡ written form ps rs ++ bytes))
+    ⊎ (bytes ≡ closing form link ps)
+
+pub record OneAnswer (form : Form) (link : Option ℕ) (front bytes : List ℕ) : Type 0 where
+  pub packets : List Captured
+  pub reports : List Report
+  pub so_far : front ≡ written form packets reports
+  pub answer : IsAnswer form link packets reports bytes
+
+-- The output's device failed in this step, after a beginning of the one answer that it would have appended.
 pub record StopsWriting (ss : List Stood) (before : List ℕ) (old new : MachineStand) : Type 0 where
   pub failures : failures_by new ≡ failures_by old + 1
   pub front : List ℕ
   pub bytes : List ℕ
   pub back : List ℕ
+  pub one : OneAnswer (form_of old) (first_link (wholes_of ss)) front bytes
   pub whole : output (form_of old) (first_link (wholes_of ss)) (course old.asked (form_of old) (fed (ordering_of old.feed.place) (wholes_of ss))) ≡ front ++ (bytes ++ back)
   pub so_far : written_by old ≡ before ++ front
   pub stops : Stops (written_by old) bytes (written_by new)

@@ -149,7 +149,7 @@ fn unwritten(input: usize, fault: Fault) -> End
 
 impl<I: Input, O: Output, A: Allocator + Copy + Drop> Machine<I, O, A> {
     ghost use Rattle.std.specs.Prelude.{◌≡◌, ◌<◌, ◌≤◌, IsTrue, length};
-    ghost use Rattle.cap_job.specs.Bounds.{IsBounded, IsLight, IsPaid, StepReads};
+    ghost use Rattle.cap_job.specs.Bounds.{IsBounded, IsLight, IsPaid, StepReads, goes_on};
     ghost use Rattle.cap_job.specs.Draining.{failures_to, written_to};
     ghost use Rattle.cap_job.specs.Feeding as feeding;
     ghost use Rattle.cap_job.specs.Feeding.{feed_left, most_steps};
@@ -221,7 +221,7 @@ impl<I: Input, O: Output, A: Allocator + Copy + Drop> Machine<I, O, A> {
         ensures asked { self.new.asked ≡ self.old.asked }
         ensures names { self.new.drain.names ≡ self.old.drain.names }
         ensures progress { result ≡ Progress.More → feed_left self.new.feed < feed_left self.old.feed }
-        ensures reads { StepReads self.old self.new }
+        ensures reads { StepReads (goes_on result) self.old self.new }
         ensures light { IsLight (machine_stand self.new) }
         ensures paid { result ≡ Progress.More → IsPaid self.old.feed self.new.feed }
     {
@@ -240,7 +240,7 @@ impl<I: Input, O: Output, A: Allocator + Copy + Drop> Machine<I, O, A> {
         ensures asked { self.new.asked ≡ self.old.asked }
         ensures names { self.new.drain.names ≡ self.old.drain.names }
         ensures progress { result ≡ Progress.More → feed_left self.new.feed < feed_left self.old.feed }
-        ensures reads { StepReads self.old self.new }
+        ensures reads { StepReads (goes_on result) self.old self.new }
         ensures light { IsLight (machine_stand self.new) }
         ensures paid { result ≡ Progress.More → IsPaid self.old.feed self.new.feed }
     {
@@ -272,7 +272,7 @@ impl<I: Input, O: Output, A: Allocator + Copy + Drop> Machine<I, O, A> {
         ensures asked { self.new.asked ≡ self.old.asked }
         ensures names { self.new.drain.names ≡ self.old.drain.names }
         ensures progress { result ≡ Progress.More → feed_left self.new.feed < feed_left self.old.feed }
-        ensures reads { StepReads self.old self.new }
+        ensures reads { StepReads (goes_on result) self.old self.new }
         ensures light { IsLight (machine_stand self.new) }
         ensures paid { result ≡ Progress.More → IsPaid self.old.feed self.new.feed }
     {
@@ -290,7 +290,7 @@ impl<I: Input, O: Output, A: Allocator + Copy + Drop> Machine<I, O, A> {
         ensures asked { self.new.asked ≡ self.old.asked }
         ensures names { self.new.drain.names ≡ self.old.drain.names }
         ensures progress { result ≡ Progress.More → feed_left self.new.feed < feed_left self.old.feed }
-        ensures reads { StepReads self.old self.new }
+        ensures reads { StepReads (goes_on result) self.old self.new }
         ensures light { IsLight (machine_stand self.new) }
         ensures paid { result ≡ Progress.More → IsPaid self.old.feed self.new.feed }
     {
