@@ -9,7 +9,8 @@ use Rattle.cap_io.specs.Text.{AreFew, most_output_interfaces}
 use Rattle.cap_job.specs.Draining.{DrainView, Target, Capture, Text}
 use Rattle.cap_job.specs.Feeding.{HeadView, FeedView, Among, FetchSteps, Settles, closes, place_left, waiting_total, weight_of}
 use Rattle.cap_octet.specs.Packet.{Captured}
-use Rattle.cap_job.specs.Judging.{spent_by_verdict}
+use Rattle.cap_tools.specs.Compiling.{spent_in}
+use Rattle.cap_job.specs.Judging.{most_spent, spent_by_verdict}
 use Rattle.cap_job.specs.declared.machine.Progress.{Progress}
 use Rattle.cap_job.specs.declared.machine.Progress.TheVariants.{More, Done}
 use Rattle.cap_job.specs.Working.{MachineStand, MachineView}
@@ -38,6 +39,7 @@ pub record DecidesOne (old : MachineView) (input : ℕ) (new : MachineView) : Ty
   pub settles : Settles old.feed input new.feed
   pub decided : new.decided ≡ old.decided + 1
   pub programs : new.programs ≡ spent_by_verdict old.asked (old.decided + 1) packet old.programs
+  pub cost : spent_in new.programs ≤ spent_in old.programs + most_spent old.asked
 
 -- it is refused, or wasn't written
 pub record LeavesOne (old : MachineView) (input : ℕ) (new : MachineView) : Type 0 where
@@ -46,6 +48,7 @@ pub record LeavesOne (old : MachineView) (input : ℕ) (new : MachineView) : Typ
   pub feed : new.feed ≡ old.feed
   pub decided : new.decided ≡ old.decided
   pub programs : new.programs ≡ spent_by_verdict old.asked (old.decided + 1) packet old.programs
+  pub cost : spent_in new.programs ≤ spent_in old.programs + most_spent old.asked
 
 -- nothing is read, no packet is decided, and no program runs
 pub record ReadsNothing (old new : MachineView) : Type 0 where

@@ -25,7 +25,7 @@ use Rattle.cap_job.specs.Judged.{Asked, Select, Filter, Everything, Count}
 use Rattle.cap_job.specs.Judging.{selection_of}
 use Rattle.cap_job.specs.Feeding.{Stood, feed_left}
 use Rattle.cap_job.specs.Bounds.{StepReads}
-use Rattle.cap_job.specs.Judging.{spent_in}
+use Rattle.cap_tools.specs.Compiling.{spent_in}
 use Rattle.cap_job.specs.Working.{MachineStand, MachineView, Decided}
 use Rattle.cap_job.specs.Jobs.{JobView, JobGives, JobRuns, NeverBegan, Opened, job_first, order_of, stood_at}
 use Rattle.cap_job.specs.Starting.{IsFresh, Lists, Refuses, asking, filtering, is_text, output_of, output_name}

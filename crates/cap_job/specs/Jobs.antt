@@ -197,6 +197,7 @@ pub record JobRuns (ss : List Stood) (before : List ℕ) (tells : Bool) (first :
   pub written : output.written ≡ written_by last
   pub failures : output.failures ≡ failures_by last
   pub told : IsTold tells first.err text err
+  pub quiet : status ≡ 0 → err ≡ first.err
 
 -- there was no memory to begin
 pub record NeverBegan (tells : Bool) (out err : OutputView) (status : ℕ) (out' err' : OutputView) : Type 0 where

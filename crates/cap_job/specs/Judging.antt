@@ -6,7 +6,7 @@ use Rattle.flt_bpf.specs.Content.{Content}
 use Rattle.cap_tools.specs.declared.command.Edit.{Edit}
 use Rattle.cap_tools.specs.Chosen.{Decision, Keep, Skip, keep_if}
 use Rattle.cap_tools.specs.Printed.{rule_decides}
-use Rattle.cap_tools.specs.Printing.{programs_of, rule_of, spent_on}
+use Rattle.cap_tools.specs.Printing.{most_cost, programs_of, rule_of, spent_on}
 use Rattle.cap_job.specs.declared.judge.Rule.{Rule}
 use Rattle.cap_job.specs.declared.judge.Rule.TheVariants as rule
 use Rattle.cap_job.specs.declared.judge.Verdict as code
@@ -66,10 +66,12 @@ spent_by (Filter rule count) p programs = spent_on rule p programs
 spent_by Everything p programs = programs
 spent_by Count p programs = programs
 
--- how many instructions the runs of some programs met
-abbrev pub spent_in : List Content → ℕ
-spent_in [] = 0
-spent_in (program ∷ programs) = program.spent + spent_in programs
+-- how many instructions deciding a packet meets at most
+abbrev pub most_spent : Asked → ℕ
+most_spent (Select s) = 0
+most_spent (Filter rule count) = most_cost rule
+most_spent Everything = 0
+most_spent Count = 0
 
 -- what deciding a packet costs: a packet too many is refused before any program runs
 abbrev pub spent_by_verdict : Asked → ℕ → Captured → List Content → List Content

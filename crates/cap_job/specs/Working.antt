@@ -9,6 +9,7 @@ use Rattle.cap_io.specs.Capture.{Placed, Items, kind_of}
 use Rattle.cap_io.specs.Source.{SourceView}
 use Rattle.cap_io.specs.Standing.{IsCutShort}
 use Rattle.flt_bpf.specs.Content.{Content}
+use Rattle.cap_tools.specs.Compiling.{spent_in}
 use Rattle.cap_job.specs.declared.judge.Verdict.{Verdict}
 use Rattle.cap_job.specs.declared.judge.Verdict.TheVariants as code
 use Rattle.cap_job.specs.declared.machine.End.{End}
@@ -19,7 +20,7 @@ use Rattle.cap_job.specs.Reports.{Report, Tally}
 use Rattle.cap_job.specs.Draining.{DrainView, Drained, Puts, Reports, form_at, written_to, failures_to}
 use Rattle.cap_job.specs.Fed.{Event, Close, Over, Broken, Rest, Ordering, InTurn, Merging, fed, whole}
 use Rattle.cap_job.specs.Judged.{Asked, Stand, verdict}
-use Rattle.cap_job.specs.Judging.{JudgeStand, JudgeView, IsWithin, emptied, is_count, spent_by_verdict}
+use Rattle.cap_job.specs.Judging.{JudgeStand, JudgeView, IsWithin, emptied, is_count, most_spent, spent_by_verdict}
 use Rattle.cap_job.specs.Judging as judging
 use Rattle.cap_job.specs.Course.{Form, Way, set_out, way, course, output, written, closing, first_link}
 use Rattle.cap_job.specs.Feeding.{FeedView, HeadView, Stood, Standing, HasCome, Among, EndedBefore, ordering_of}
@@ -114,7 +115,7 @@ Decides (Some p) judge number old r judge' new = Judges p judge number old r jud
 -- what deciding the packet in hand cost
 abbrev pub Spends : Option Captured → JudgeView → ℕ → JudgeView → Type 0
 Spends None old number new = ⊥
-Spends (Some p) old number new = new.programs ≡ spent_by_verdict old.asked number p old.programs
+Spends (Some p) old number new = (new.programs ≡ spent_by_verdict old.asked number p old.programs) × (spent_in new.programs ≤ spent_in old.programs + most_spent old.asked)
 
 -- whether an input that was read to its end is reported: where files are counted, one behind another
 abbrev pub asks_report : Ordering → Asked → Bool

@@ -3,9 +3,10 @@ ghost use Rattle.std.specs.Prelude.{◌≡◌, ◌+◌, ◌<◌, ◌≤◌, leng
 ghost use Rattle.cap_octet.specs.Packet.{captured};
 ghost use Rattle.cap_io.specs.Reading.{most_in_unit};
 ghost use Rattle.cap_tools.specs.Chosen.{Answers};
+ghost use Rattle.cap_tools.specs.Compiling.{spent_in};
 ghost use Rattle.cap_job.specs.Feeding.{most_steps};
 ghost use Rattle.cap_job.specs.Judged.{is_last};
-ghost use Rattle.cap_job.specs.Judging.{asked_of, count_of, decision, is_count, passing, programs_in, spent_by, verdict_of};
+ghost use Rattle.cap_job.specs.Judging.{asked_of, count_of, decision, is_count, most_spent, passing, programs_in, spent_by, verdict_of};
 ghost use Rattle.cap_job.specs.Reports.{nothing_counted};
 
 use crate::tally::Tally;
@@ -74,6 +75,7 @@ impl<A: Allocator> Rule<A> {
         ensures answers { Answers (decision (asked_of self.old) number (captured packet.now)) result }
         ensures asked { asked_of self.new ≡ asked_of self.old }
         ensures spends { programs_in self.new ≡ spent_by (asked_of self.old) (captured packet.now) (programs_in self.old) }
+        ensures bounded { spent_in (programs_in self.new) ≤ spent_in (programs_in self.old) + most_spent (asked_of self.old) }
     {
         match self {
             Rule::Select(edit) => Ok(edit.keeps(number)),
@@ -125,6 +127,7 @@ impl<A: Allocator> Judge<A> {
         ensures passed { self.old.stand.passed ≤ number → self.new.stand.passed ≤ number }
         ensures counted { GrowsByOne self.old.stand.tally self.new.stand.tally }
         ensures spends { self.new.programs ≡ spent_by_verdict self.old.asked number (captured packet.now) self.old.programs }
+        ensures bounded { spent_in self.new.programs ≤ spent_in self.old.programs + most_spent self.old.asked }
     {
         if self.rule.counts() {
             self.tally = self.tally.counted(packet);

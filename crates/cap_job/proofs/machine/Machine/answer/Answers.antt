@@ -71,6 +71,7 @@ returns-after-last-clause-reads g c =
       settles = c.settle.ensures;
       decided = refl;
       programs = h.spends;
+      cost = h.cost;
     }))) in
     all _
 
@@ -85,6 +86,7 @@ returns-in-Err-clause-reads g c =
       feed = refl;
       decided = refl;
       programs = h.spends;
+      cost = h.cost;
     }))
 
 pub decide-requires : goal.decide-requires
