@@ -179,7 +179,9 @@ fn inputs_over<'m, 'c>(
     for name in line.inputs.iter() {
         let bytes = case.file(name, &case.input);
         let piece = devices.piece.max(1);
-        inputs.push(TrialInput::new(bytes, piece, devices.failed_read))?;
+        let fails = case.failing.is_empty() || name.as_str() == case.failing;
+        let failed_read = if fails { devices.failed_read } else { None };
+        inputs.push(TrialInput::new(bytes, piece, failed_read))?;
     }
     Ok(inputs)
 }
