@@ -101,7 +101,9 @@ fn ethernet_packets(rt: HostRuntime) -> Result<(), Fail> {
             orig: 1514,
             bytes: bytes.as_str(),
         };
-        let line = format!(in rt.alloc(); "00:11:22:33:44:11 > 0a:0b:0c:0d:0e:22, {expected}, length 1514\n")?;
+        let line = format!(in rt.alloc();
+            "00:11:22:33:44:11 > 0a:0b:0c:0d:0e:22, {expected}, length 1514\n"
+        )?;
         check(&rt, rt.alloc(), LINK, &case, line.as_str())?;
     }
     Ok(())

@@ -20,7 +20,8 @@ fn an_arp_packet_is_dumped(rt: HostRuntime) -> Result<(), Fail> {
         link: true,
         bytes: true,
     };
-    let expected = "00:11:22:33:44:55 > ff:ff:ff:ff:ff:ff, type 0x0806, ARP op 1 10.0.0.1 > 10.0.0.2, length 42\n\t0x0000: 0001 0800 0604 0001 0011 2233 4455 0a00\n\t0x0010: 0001 0000 0000 0000 0a00 0002\n";
+    let expected =
+        "00:11:22:33:44:55 > ff:ff:ff:ff:ff:ff, type 0x0806, ARP op 1 10.0.0.1 > 10.0.0.2, length 42\n\t0x0000: 0001 0800 0604 0001 0011 2233 4455 0a00\n\t0x0010: 0001 0000 0000 0000 0a00 0002\n";
     check(&rt, rt.alloc(), options, &case, expected)
 }
 
