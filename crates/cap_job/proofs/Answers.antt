@@ -32,15 +32,17 @@ use Rattle.cap_job.specs.Fed.{Rest, Event, Came, Close, Over, Broken, Fed, fed, 
 use Rattle.cap_job.specs.Judged.{Asked, Select, Filter, Everything, Count, Selection, Stand, Verdict, Pass, Last, Skip, Refuse, verdict}
 use Rattle.cap_job.specs.Judged as judged_spec
 use Rattle.cap_job.specs.Judging.{JudgeStand, GrowsByOne, IsWithin, Tells}
-use Rattle.cap_job.specs.Course.{Form, AsCapture, Way, set_out, unless_refused, by_verdict, goes, way, course, refused_by, stops_at, output, first_link}
+use Rattle.cap_lines.specs.declared.print.Options.{Options}
+use Rattle.cap_lines.specs.Printed.{printed}
+use Rattle.cap_job.specs.Course.{Form, AsCapture, AsLines, Way, lines_text, set_out, unless_refused, by_verdict, goes, way, course, refused_by, stops_at, output, first_link}
 use Rattle.cap_job.specs.Course as course_spec
-use Rattle.cap_job.specs.Draining.{DrainView, Target, Capture, Text, Drained, DrainedTo, Puts, PutsTo, form_at, form_to, written_to, failures_to}
+use Rattle.cap_job.specs.Draining.{DrainView, Target, Capture, Text, Lines, Drained, DrainedTo, Puts, PutsTo, form_at, form_to, written_to, failures_to}
 use Rattle.cap_job.specs.Feeding.{HeadView, FeedView, Future, Stood, Standing, Among, settled, place_behind, later, wholes, rest_with, rests, left, most_steps, ordering_of}
 use Rattle.cap_job.specs.Feeding as feeding
 use Rattle.cap_job.specs.Working.{MachineStand, Decided, GoesOn, Comes, Decides, Offers, StopsWriting, EndLeaves, stands_at, wholes_of, written_by, unwritten}
 use Rattle.cap_job.proofs.Splits.{At, stands-split, stands-join, stands-length, rests-join, finish-here, come-on}
 use Rattle.cap_job.proofs.Coming.{carries-decided, true-wholes, true-fit, true-fits}
-use Rattle.cap_job.proofs.Drains.{PutOk, put-ok, WhyUnput, unput, closing-some}
+use Rattle.cap_job.proofs.Drains.{PutOk, put-ok, WhyUnput, lines-more, unput, closing-some}
 use Rattle.cap_job.proofs.Growing.{Grows, course-grows}
 use Rattle.cap_job.proofs.Laws.{DecideLaws, DecideAt, decide-at}
 use Rattle.cap_job.proofs.Courses.{way-next, course-stop}
@@ -244,6 +246,42 @@ stops-writing ss before heads place asked stand stand' names sink sink' decided 
       stops = (let S : Target → Type 0 = λ t. Stops sink.written (added sink.format packets q) (written_to t) in subst S (sym is) why.2);
     }
 
+-- the device failed at the line of a packet
+stops-line : (ss : List Stood) (before : List ℕ) (heads : List HeadView) (place : Place) (asked : Asked) (stand stand' : Stand) (drain : DrainView) (options : Options) (bytes after : List ℕ) (failures room decided : ℕ) (new : MachineStand) (packets : List Captured) (reports : List Report) (es : List Event) (e : Event) (q : Captured) (o : Option Close)
+    → drain.target ≡ Lines options bytes failures room
+    → Ahead ss heads place es e → way asked (AsLines options) set_out es ≡ stands_at (mk heads place asked stand drain decided) packets reports → bytes ≡ before ++ lines_text options packets
+    → goes asked (AsLines options) (stands_at (mk heads place asked stand drain decided) packets reports) e
+    ≡ course_spec.decided (stands_at (mk heads place asked stand drain decided) packets reports) stand' (q ∷ []) o
+    → Stops bytes (printed options q) after → new.drain.target ≡ Lines options after (failures + 1) room
+    → StopsWriting ss before (mk heads place asked stand drain decided) new
+stops-line ss before heads place asked stand stand' drain options bytes after failures room decided new packets reports es e q o target ahead far has went stops is =
+    let form : Form = AsLines options in
+    let form_is : form_at drain ≡ form = ap (form_to drain.names) target in
+    let w : Way = stands_at (mk heads place asked stand drain decided) packets reports in
+    let w' : Way = course_spec.decided w stand' (q ∷ []) o in
+    let all : Way = course asked form (fed (ordering_of place) (wholes_of ss)) in
+    let grows : Grows w' all = course-grows asked form (fed (ordering_of place) (wholes_of ss)) ahead.more (es ++ e ∷ []) w'
+    (ahead.is ∙ ap (λ (l : List Event). record { events = l; close = ahead.more.close }) (sym (append_assoc es (e ∷ []) ahead.more.events)))
+    (way-next asked form es e w w' far went) in
+    let closes : List ℕ = course_spec.closing_by all.end form (first_link (wholes_of ss)) all.packets in
+    let tail : List ℕ = lines_text options grows.packets in
+    let S : Target → Type 0 = λ t. Stops (written_to t) (printed options q) (written_to new.drain.target) in
+    let T : Target → Type 0 = λ t. Stops bytes (printed options q) (written_to t) in
+    record {
+      failures = ap failures_to is ∙ ap (λ (t : Target). failures_to t + 1) (sym target);
+      front = lines_text options packets;
+      bytes = printed options q;
+      back = tail ++ closes;
+      whole =
+          ap (λ (f : Form). output f (first_link (wholes_of ss)) (course asked f (fed (ordering_of place) (wholes_of ss)))) form_is
+          ∙ ap (λ (l : List Captured). lines_text options l ++ closes) grows.packets_is
+          ∙ ap (λ (l : List ℕ). l ++ closes) (lines-more options packets q grows.packets)
+          ∙ append_assoc (lines_text options packets) (printed options q ++ tail) closes
+          ∙ ap (λ (l : List ℕ). lines_text options packets ++ l) (append_assoc (printed options q) tail closes);
+      so_far = ap written_to target ∙ has;
+      stops = subst S (sym target) (subst T (sym is) stops);
+    }
+
 -- ---- what an answer leaves
 
 -- a packet that passes isn't put into a capture
@@ -282,6 +320,11 @@ unput-leaves ss before heads place turn asked stand stand' names (Capture sink) 
     unput-capture ss before heads place turn asked stand stand' names sink puts.sink decided new packets reports es x q o fault ahead far has went head among offset
     (unput before packets q sink puts.sink fault has puts.puts puts.writes) puts.is
 unput-leaves ss before heads place turn asked stand stand' names (Text bytes failures room) decided new packets reports es x q o fault ahead far has went head among offset puts = absurd (let e = puts.0 in cc)
+unput-leaves ss before heads place turn asked stand stand' names (Lines options bytes failures room) decided new packets reports es x q o fault ahead far has went head among offset puts =
+    let m : MachineStand = mk heads place asked stand (record { names = names; target = Lines options bytes failures room }) decided in
+    let L : Fault → Type 0 = λ f. EndLeaves ss before m (unwritten turn f) new in
+    subst L (sym puts.fault)
+    (stops-line ss before heads place asked stand stand' (record { names = names; target = Lines options bytes failures room }) options bytes puts.after failures room decided new packets reports es (Came turn x) q o refl ahead far has went puts.appends puts.is)
 
 reject-leaves : (ss : List Stood) (before : List ℕ) (heads : List HeadView) (place : Place) (turn : ℕ) (asked : Asked) (stand stand' : Stand) (drain : DrainView) (decided : ℕ) (new : MachineStand) (packets : List Captured) (reports : List Report) (es : List Event) (x : Placed) (fault : Fault)
     → Ahead ss heads place es (Came turn x) → way asked (form_at drain) set_out es ≡ stands_at (mk heads place asked stand drain decided) packets reports → Drained before drain packets reports

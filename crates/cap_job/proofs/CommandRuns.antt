@@ -19,17 +19,17 @@ use Rattle.cap_job.proofs.Ends.{ends-whole}
 use Rattle.cap_job.proofs.Runs.{goes-on}
 
 -- the job whose filter is read
-pub record Filtered (words : List ℕ) (code : Option (List ℕ)) (first from : JobView) : Type 0 where
+pub record Filtered (words : List ℕ) (code : Option (List ℕ)) (count : Option ℕ) (first from : JobView) : Type 0 where
   pub rule : Rule
   pub is : IsRule words code rule
   pub programs : List Content
   pub made : AreNew rule programs
-  pub from_is : from ≡ filtering rule programs first
+  pub from_is : from ≡ filtering rule count programs first
 
 -- the job that a preparation leaves
 abbrev pub Leads : Option Preparing → JobView → JobView → Type 0
 Leads None first from = from ≡ first
-Leads (Some (ReadsFilter words code)) first from = Filtered words code first from
+Leads (Some (ReadsFilter words code count)) first from = Filtered words code count first from
 Leads (Some (Compiles words link)) first from = ⊥
 
 -- it went on from there
@@ -59,11 +59,11 @@ first-more tells None old new ss before gives d done names asked = record {
   names = names;
   way = goes-on ss before old.machine old.machine new.machine (start-way ss before old.machine d) (gives.1 ss before d) (asked refl);
 }
-first-more tells (Some (ReadsFilter words code)) old new ss before gives d done names asked =
-    let from : MachineStand = asking (Filter gives.rule None) old.machine in
+first-more tells (Some (ReadsFilter words code count)) old new ss before gives d done names asked =
+    let from : MachineStand = asking (Filter gives.rule count) old.machine in
     let P : MachineStand → Type 0 = λ m. IsUnderWay ss before from m in
     record {
-      from = filtering gives.rule gives.programs old;
+      from = filtering gives.rule count gives.programs old;
       leads = record { rule = gives.rule; is = gives.is; programs = gives.programs; made = gives.made; from_is = refl };
       done = done;
       err = ap (λ (j : JobView). j.err) gives.new_is;
@@ -145,7 +145,7 @@ unlisted tells words link old new s out err same is refuses =
 first-done : (tells : Bool) (p : Option Preparing) (old new : JobView) (s : ℕ) (ss : List Stood) (before : List ℕ) (out err : OutputView) → GivesBy p tells old (turn.Done s) new → DecidedBy p ss before old.machine
     → out.written ≡ written_by new.machine → out.failures ≡ failures_by new.machine → err ≡ new.err → RunsBy p ss before tells old s out err
 first-done tells None old new s ss before out err gives d written failures is = ended tells old old new s ss before out err (start-way ss before old.machine d) refl refl gives written failures is
-first-done tells (Some (ReadsFilter words code)) old new s ss before out err gives d written failures is =
+first-done tells (Some (ReadsFilter words code count)) old new s ss before out err gives d written failures is =
     let T : OutputView → Type 0 = λ v. IsTold tells old.err (refusal_message gives.refusal) v in
     inr (record {
       refusal = gives.refusal;
@@ -165,7 +165,7 @@ on-done : (tells : Bool) (p : Option Preparing) (first job new : JobView) (s : �
 on-done tells None first job new s ss before out err gives written failures is on =
     let P : JobView → Type 0 = λ j. JobRuns ss before tells j s out err in
     subst P on.leads (ended tells on.from job new s ss before out err on.way on.err on.names gives written failures is)
-on-done tells (Some (ReadsFilter words code)) first job new s ss before out err gives written failures is on =
+on-done tells (Some (ReadsFilter words code count)) first job new s ss before out err gives written failures is on =
     let P : JobView → Type 0 = λ j. JobRuns ss before tells j s out err in
     inl (record { rule = on.leads.rule; is = on.leads.is; programs = on.leads.programs; made = on.leads.made; runs = subst P on.leads.from_is (ended tells on.from job new s ss before out err on.way on.err on.names gives written failures is) })
 on-done tells (Some (Compiles words link)) first job new s ss before out err gives written failures is o = absurd o.leads

@@ -1,14 +1,14 @@
 -- The job of a command of which nothing is done.
-use Rattle.std.proofs.Common.{◌≡◌, inl, inr, ℕ, ◌+◌, ◌≤◌, Bool, true, not, List, [], ◌++◌, map, length, take, None, Ok, Err, refl, sym, ap, arith, subst, ◌∙◌, nat_eq, nat_le, string_bytes, add-zero}
+use Rattle.std.proofs.Common.{◌≡◌, inl, inr, ℕ, ◌+◌, ◌≤◌, Bool, true, not, List, [], ◌++◌, map, length, take, None, Ok, Err, refl, sym, ap, arith, subst, ◌∙◌, nat_eq, nat_le, ◌&&◌, add-zero}
 use Rattle.std.proofs.lemmas.List.{append-nil}
 use Rattle.cap_octet.specs.declared.device.Stopped.{Stopped}
 use Rattle.flt_bpf.specs.Listing.{listing}
 use Rattle.cap_tools.specs.Messages.{write_failed_message}
-use Rattle.cap_job.specs.Draining.{Target, Capture, Text, Lists, ListsTo, written_to, failures_to}
+use Rattle.cap_job.specs.Draining.{Target, Capture, Text, Lines, Lists, ListsTo, written_to, failures_to}
 use Rattle.cap_job.specs.Reports.{name_at}
 use Rattle.cap_job.specs.Working.{MachineStand, written_by}
 use Rattle.std.proofs.lemmas.Bool.{and_parts, eqb-true, leb-true}
-use Rattle.cap_tools.specs.Command.{is_proper, has_one_filter, has_proper_ranges}
+use Rattle.cap_tools.specs.Command.{is_proper, is_proper_edit, is_proper_print}
 use Rattle.cap_tools.specs.declared.command.Command.{Command}
 use Rattle.cap_tools.specs.declared.command.Command.TheVariants as command
 use Rattle.cap_tools.specs.Compiled.{IsCompiled}
@@ -30,12 +30,15 @@ pub lists-some : (tells : Bool) (words : List ℕ) (link : Link) (prog : List In
 lists-some tells words link prog old new turn.More compiled lists = lists
 lists-some tells words link prog old new (turn.Done status) compiled lists = inl (record { prog = prog; compiled = compiled; lists = lists })
 
+one-input : (n : ℕ) (other : Bool) → (nat_eq n 1 && other) ≡ true → n ≤ most_inputs
+one-input n other is = let one = eqb-true n 1 (and_parts (nat_eq n 1) other is).0 in omega (arith, one)
+
 -- a proper command has at most so many inputs
 pub few-inputs : {Z : Type 0} (c : Command Z) (n : ℕ) → is_proper c n ≡ true → n ≤ most_inputs
-few-inputs (command.Edit edit) n is = let one = eqb-true n 1 (and_parts (nat_eq n 1) (has_proper_ranges edit.ranges.items) is).0 in omega (arith, one)
+few-inputs (command.Edit edit) n is = one-input n (is_proper_edit edit) is
 few-inputs (command.Merge merge) n is = leb-true n most_inputs (and_parts (nat_le 1 n) (nat_le n most_inputs) is).1
 few-inputs command.Infos n is = leb-true n most_inputs (and_parts (nat_le 1 n) (nat_le n most_inputs) is).1
-few-inputs (command.Print print) n is = let one = eqb-true n 1 (and_parts (nat_eq n 1) (has_one_filter (string_bytes print.expr) print.code) is).0 in omega (arith, one)
+few-inputs (command.Print print) n is = one-input n (is_proper_print print) is
 few-inputs (command.Compile compile) n is = let none = eqb-true n 0 is in omega (arith, none)
 
 -- the job that was made is that of the command
@@ -77,6 +80,7 @@ lists-ok insns tells old new err text lists = by_target old.drain.target refl te
   where
     by_target : (t : Target) → old.drain.target ≡ t → is_text t ≡ true → ListsTo (listing insns) t (Ok tt) new.drain.target → ListsInto insns tells old err 0 new err
     by_target (Capture sink) is text to = absurd (let e = text in cc)
+    by_target (Lines options written failures room) is text to = absurd (let e = text in cc)
     by_target (Text written failures room) is text to =
         let before : written_by old ≡ written = ap written_to is in
         let after : written_by new ≡ to.after = ap written_to to.is in
@@ -92,6 +96,7 @@ lists-err insns tells old new stopped err err' text lists told = by_target old.d
   where
     by_target : (t : Target) → old.drain.target ≡ t → is_text t ≡ true → ListsTo (listing insns) t (Err stopped) new.drain.target → ListsInto insns tells old err 1 new err'
     by_target (Capture sink) is text to = absurd (let e = text in cc)
+    by_target (Lines options written failures room) is text to = absurd (let e = text in cc)
     by_target (Text written failures room) is text to =
         let before : written_by old ≡ written = ap written_to is in
         let after : written_by new ≡ to.after = ap written_to to.is in

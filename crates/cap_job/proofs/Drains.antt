@@ -6,6 +6,9 @@ use Rattle.cap_octet.specs.Packet.{Captured}
 use Rattle.cap_octet.specs.declared.fault.Fault.{Fault}
 use Rattle.cap_octet.specs.declared.fault.Fault.TheVariants.{NoMemory, WriteFailed}
 use Rattle.cap_octet.specs.declared.format.Format.{Format}
+use Rattle.std.proofs.lemmas.Grind.{flat_map-append}
+use Rattle.cap_lines.specs.declared.print.Options.{Options}
+use Rattle.cap_lines.specs.Printed.{printed}
 use Rattle.cap_io.specs.Sink as sinks
 use Rattle.cap_io.specs.Sink.{SinkView, HasPackets, PutsAfter, IsPutAnswer, PutWrites, WritesPacket, takes_memory}
 use Rattle.cap_io.specs.Text.{added, refused}
@@ -13,8 +16,8 @@ use Rattle.cap_io.proofs.Texts.{put-answers, put-writes, put-taken, HasPackets-p
 use Rattle.cap_job.specs.Reports.{Report}
 use Rattle.cap_job.specs.Fed.{Over}
 use Rattle.cap_job.specs.Judged.{Stand}
-use Rattle.cap_job.specs.Course.{Form, AsCapture, AsReports, closing, output, refused_by, written}
-use Rattle.cap_job.specs.Draining.{Target, Capture, Text, DrainedTo, PutsTo, ReportsTo, form_to, written_to, failures_to}
+use Rattle.cap_job.specs.Course.{Form, AsCapture, AsReports, AsLines, closing, lines_text, output, refused_by, written}
+use Rattle.cap_job.specs.Draining.{Target, Capture, Text, Lines, DrainedTo, PutsTo, ReportsTo, form_to, written_to, failures_to}
 use Rattle.cap_job.specs.Reports.{report_text, reports_text}
 
 -- what is written is the form's
@@ -22,6 +25,19 @@ pub drained-text : (before : List ℕ) (names : List (List ℕ)) (t : Target) (p
     → written_to t ≡ before ++ written (form_to names t) ps rs
 drained-text before names (Capture sink) ps rs has = has.written
 drained-text before names (Text bytes failures room) ps rs has = has
+drained-text before names (Lines options bytes failures room) ps rs has = has
+
+-- ---- lines
+
+-- a packet adds its line behind those before it
+pub lines-more : (options : Options) (ps : List Captured) (q : Captured) (qs : List Captured)
+    → lines_text options ((ps ++ q ∷ []) ++ qs) ≡ lines_text options ps ++ (printed options q ++ lines_text options qs)
+lines-more options ps q qs = ap (lines_text options) (append_assoc ps (q ∷ []) qs) ∙ flat_map-append (printed options) ps (q ∷ qs)
+
+lines-one : (options : Options) (ps : List Captured) (q : Captured) → lines_text options (ps ++ q ∷ []) ≡ lines_text options ps ++ printed options q
+lines-one options ps q =
+    flat_map-append (printed options) ps (q ∷ [])
+    ∙ ap (λ (l : List ℕ). lines_text options ps ++ l) (append-nil (printed options q))
 
 -- ---- a packet is put
 
@@ -43,6 +59,17 @@ put-ok before ps rs q names names' (Capture sink) new same has puts =
     })
 put-ok before ps rs q names names' (Text bytes failures room) new same has puts =
     rw (puts.1, same) (record { none = refl; output = has; form = refl; failures = refl })
+put-ok before ps rs q names names' (Lines options bytes failures room) new same has puts =
+    rw puts.is (record {
+      none = refl;
+      output =
+          puts.appends
+          ∙ ap (λ (l : List ℕ). l ++ printed options q) has
+          ∙ append_assoc before (lines_text options ps) (printed options q)
+          ∙ ap (λ (l : List ℕ). before ++ l) (sym (lines-one options ps q));
+      form = refl;
+      failures = add-zero failures;
+    })
 
 -- ---- it is not put
 
@@ -97,6 +124,7 @@ pub closing-none : (form : Form) (link : Option ℕ) (ps : List Captured) → (0
 closing-none (AsCapture format) link [] some = absurd (some refl)
 closing-none (AsCapture format) link (p ∷ ps) some = refl
 closing-none (AsReports names) link ps some = refl
+closing-none (AsLines options) link ps some = refl
 
 pub closing-some : (before : List ℕ) (names : List (List ℕ)) (form : Form) (t : Target) (link : Option ℕ) (ps : List Captured) (rs : List Report) (n : ℕ) (stand : Stand) → DrainedTo before names t ps rs → form_to names t ≡ form → (0 ≡ length ps → ⊥)
     → written_to t ≡ before ++ output form link (record { number = n; stand = stand; packets = ps; reports = rs; end = Some Over })
@@ -128,6 +156,7 @@ pub record ReportOk (before : List ℕ) (ps : List Captured) (rs : List Report) 
 pub report-ok : (before : List ℕ) (ps : List Captured) (rs : List Report) (report : Report) (names names' : List (List ℕ)) (old new : Target) → names' ≡ names → DrainedTo before names old ps rs
     → ReportsTo (report_text names report) old (Ok tt) new → ReportOk before ps rs report names names' old new
 report-ok before ps rs report names names' (Capture sink) new same has puts = rw puts.1 (record { output = has; form = refl; failures = refl })
+report-ok before ps rs report names names' (Lines options bytes failures room) new same has puts = rw puts.1 (record { output = has; form = refl; failures = refl })
 report-ok before ps rs report names names' (Text bytes failures room) new same has puts =
     rw (puts.is, same) (record {
       output =

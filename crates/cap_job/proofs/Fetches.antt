@@ -22,7 +22,7 @@ use Rattle.cap_job.specs.Judged.{Asked, Select, Filter, Everything, Count, Stand
 use Rattle.cap_job.specs.Judging as judging
 use Rattle.cap_job.specs.Judging.{JudgeStand, IsWithin, emptied, is_count}
 use Rattle.cap_job.specs.Course.{Form, AsReports, Way, set_out, way, course, stops_at, output, written, closing_by, first_link}
-use Rattle.cap_job.specs.Draining.{DrainView, Target, Capture, Text, Drained, Reports, ReportsTo, form_at, written_to, failures_to}
+use Rattle.cap_job.specs.Draining.{DrainView, Target, Capture, Text, Lines, Drained, Reports, ReportsTo, form_at, written_to, failures_to}
 use Rattle.cap_job.specs.Feeding.{HeadView, FeedView, Future, Stood, Standing, HasCome, Among, EndedBefore, Fetches, Tells, waits_from, in_hand, head_after, place_after, closes, later, whole_with, wholes, rests, left, is_in_turn, ordering_of}
 use Rattle.cap_job.specs.Reports.{report_text, reports_text}
 use Rattle.cap_job.specs.Working.{MachineStand, Decided, GoesOn, Comes, BreaksAt, WhyBroken, StopsWriting, StepLeaves, Closes, ClosesBy, asks_report, report_at, unless_failed, stands_at, form_of, written_by, cut_at, wholes_of}
@@ -301,6 +301,7 @@ report-stops : (us vs : List Stood) (s : Stood) (before : List ℕ) (xs ys : Lis
     → ReportsTo (report_text names (report_at turn (head_after h (Ok false) s') stand.tally)) target (Err fault) drain'.target
     → StopsWriting (us ++ s ∷ vs) before (mk (xs ++ h ∷ ys) place asked stand (record { names = names; target = target }) decided) (mk (xs ++ head_after h (Ok false) s' ∷ ys) (place_after place turn true) asked stand' drain' decided)
 report-stops us vs s before xs ys h s' place turn asked stand names (Capture sink) decided stand' drain' fault laws front at back advances d asks reports = absurd (let e = reports.0 in cc)
+report-stops us vs s before xs ys h s' place turn asked stand names (Lines options bytes failures room) decided stand' drain' fault laws front at back advances d asks reports = absurd (let e = reports.0 in cc)
 report-stops us vs s before xs ys h s' place turn asked stand names (Text bytes failures room) decided stand' drain' fault laws front at back advances d asks reports =
     let form : Form = AsReports names in
     let drain : DrainView = record { names = names; target = Text bytes failures room } in

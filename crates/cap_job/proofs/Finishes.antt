@@ -16,8 +16,8 @@ use Rattle.cap_job.specs.declared.feed.Next.TheVariants as next
 use Rattle.cap_job.specs.Reports.{Report}
 use Rattle.cap_job.specs.Fed.{Rest, Over, fed, behind}
 use Rattle.cap_job.specs.Judged.{Asked, Stand}
-use Rattle.cap_job.specs.Course.{Form, AsCapture, Way, course, stops_at, output, first_link}
-use Rattle.cap_job.specs.Draining.{DrainView, Target, Capture, Text, DrainedTo, FinishesTo, form_at, form_to, written_to, failures_to}
+use Rattle.cap_job.specs.Course.{Form, AsCapture, Way, course, lines_text, stops_at, output, first_link}
+use Rattle.cap_job.specs.Draining.{DrainView, Target, Capture, Text, Lines, DrainedTo, FinishesTo, form_at, form_to, written_to, failures_to}
 use Rattle.cap_job.specs.Feeding.{HeadView, Future, Stood, Standing, EndedTo, Tells, later, ordering_of, first_of}
 use Rattle.cap_job.specs.Reports.{reports_text}
 use Rattle.cap_job.specs.Working.{MachineStand, Decided, Comes, StopsWriting, stands_at, wholes_of}
@@ -66,6 +66,8 @@ finish-text before names (q ∷ qs) rs n stand (Capture sink) new link has finis
     ap written_to finishes.is ∙ ap (λ (v : SinkView). v.written) same.1 ∙ has.written ∙ ap (λ (l : List ℕ). before ++ l) (sym (append-nil (text sink.format (q ∷ qs))))
 finish-text before names ps rs n stand (Text bytes failures room) new link has finishes =
     ap written_to finishes.1 ∙ has ∙ ap (λ (l : List ℕ). before ++ l) (sym (append-nil (reports_text names rs)))
+finish-text before names ps rs n stand (Lines options bytes failures room) new link has finishes =
+    ap written_to finishes.1 ∙ has ∙ ap (λ (l : List ℕ). before ++ l) (sym (append-nil (lines_text options ps)))
 
 abbrev pub FinishLeaves : List Stood → List ℕ → MachineStand → Result (Unit {0}) Fault → MachineStand → Type 0
 FinishLeaves ss before old (Ok done) new = Comes (wholes_of ss) before old new Over
@@ -77,6 +79,7 @@ finish-stops : (ss : List Stood) (before : List ℕ) (names : List (List ℕ)) (
     → first_link (wholes_of ss) ≡ first_of heads → DrainedTo before names target packets reports → FinishesTo (first_of heads) target (Err fault) new.drain.target
     → StopsWriting ss before (mk heads place asked stand (record { names = names; target = target }) decided) new
 finish-stops ss before names (Text bytes failures room) heads place asked stand decided packets reports fault new stop link has finishes = absurd (let e = finishes.0 in cc)
+finish-stops ss before names (Lines options bytes failures room) heads place asked stand decided packets reports fault new stop link has finishes = absurd (let e = finishes.0 in cc)
 finish-stops ss before names (Capture sink) heads place asked stand decided (q ∷ qs) reports fault new stop link has finishes =
     absurd (let same = finish-some before q qs sink (first_of heads) (Err fault) finishes.sink has finishes.finishes in let e = same.0 in cc)
 finish-stops ss before names (Capture sink) heads place asked stand decided [] reports fault new stop link has finishes =

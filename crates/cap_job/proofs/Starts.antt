@@ -32,6 +32,7 @@ start-wholes (o ∷ os) (f ∷ fs) fits = ap (λ (l : List Rest). whole_with (st
 start-drained : (before : List ℕ) (names : List (List ℕ)) (w : Writing) (failures room : ℕ) → DrainedTo before names (target_at w before failures room) [] []
 start-drained before names (writing.Capture format) failures room = HasPackets-none format before failures room
 start-drained before names writing.Text failures room = sym (append-nil before)
+start-drained before names (writing.Lines options) failures room = sym (append-nil before)
 
 start-none : (os : List Opened) → NoneWaits (map head_at os)
 start-none [] = tt

@@ -8,7 +8,7 @@ use Rattle.cap_io.specs.Reading.{most_in_unit}
 use Rattle.cap_io.specs.Source.{SourceView, Phase, Reading, Ended, Failed, HasFew, Steps}
 use Rattle.cap_job.specs.declared.drain.Writing.{Writing}
 use Rattle.cap_job.specs.declared.drain.Writing.TheVariants as writing
-use Rattle.cap_job.specs.Draining.{Target, Capture, Text, target_at}
+use Rattle.cap_job.specs.Draining.{Target, Capture, Text, Lines, target_at}
 use Rattle.cap_job.specs.Feeding.{HeadView, FeedView, Among, FetchSteps, Settles, head_after, settled}
 use Rattle.cap_job.specs.Jobs.{Opened, head_at}
 use Rattle.cap_job.specs.Working.{MachineStand}
@@ -50,6 +50,7 @@ small-first (o ∷ os) = All-cons IsSmall (head_at o) (map head_at os) (omega ar
 pub few-first : (w : Writing) (written : List ℕ) (failures room : ℕ) → HasFewInterfaces (target_at w written failures room)
 few-first (writing.Capture format) written failures room = record { count = omega arith; names = All-nil _ }
 few-first writing.Text written failures room = tt
+few-first (writing.Lines options) written failures room = tt
 
 -- ---- the weight
 
@@ -83,6 +84,7 @@ target-light (Capture sink) few =
     let count = few.count in
     omega (arith, names, count)
 target-light (Text written failures room) few = omega arith
+target-light (Lines options written failures room) few = omega arith
 
 pub is-light : (m : MachineStand) → IsBounded m.feed m.drain → IsLight m
 is-light m bounded =

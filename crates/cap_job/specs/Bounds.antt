@@ -6,7 +6,7 @@ use Rattle.cap_io.specs.Capture.{Declared, Nothing, PcapFile, PcapngFile}
 use Rattle.cap_io.specs.Reading.{most_in_unit}
 use Rattle.cap_io.specs.Source.{HasFew, behind}
 use Rattle.cap_io.specs.Text.{AreFew, most_output_interfaces}
-use Rattle.cap_job.specs.Draining.{DrainView, Target, Capture, Text}
+use Rattle.cap_job.specs.Draining.{DrainView, Target, Capture, Text, Lines}
 use Rattle.cap_job.specs.Feeding.{HeadView, FeedView, Among, FetchSteps, Settles, closes, place_left, waiting_total, weight_of}
 use Rattle.cap_octet.specs.Packet.{Captured}
 use Rattle.cap_tools.specs.Compiling.{spent_in}
@@ -121,6 +121,7 @@ heads_weight (h ∷ hs) = head_weight h + heads_weight hs
 abbrev pub target_weight : Target → ℕ
 target_weight (Capture sink) = names_weight (map (λ i. i.name) sink.interfaces)
 target_weight (Text written failures room) = 0
+target_weight (Lines options written failures room) = 0
 
 -- the bytes that a job holds of its inputs and of its output, and 128 for its counters
 abbrev pub weight : MachineStand → ℕ
@@ -137,6 +138,7 @@ IsSmall h = (length h.source.block ≤ most_in_unit) × HasFew h.source.declared
 abbrev pub HasFewInterfaces : Target → Type 0
 HasFewInterfaces (Capture sink) = AreFew sink.interfaces
 HasFewInterfaces (Text written failures room) = Unit {0}
+HasFewInterfaces (Lines options written failures room) = Unit {0}
 
 abbrev pub IsBounded : FeedView → DrainView → Type 0
 IsBounded feed drain = All IsSmall feed.heads × HasFewInterfaces drain.target

@@ -1,5 +1,7 @@
 -- What a contract sees of the job of a command, from its first step on.
 use Rattle.std.specs.Prelude.{◌≡◌, ◌⊎◌, ℕ, ◌+◌, Bool, true, not, List, map, Option, None, Some, string_bytes}
+use Rattle.cap_octet.specs.declared.format.Format.{Format}
+use Rattle.cap_lines.specs.declared.print.Options.{Options}
 use Rattle.flt_gen.specs.declared.link.Link.{Link}
 use Rattle.flt_bpf.specs.declared.insn.Insn.{Insn}
 use Rattle.flt_bpf.specs.Content.{Content}
@@ -32,14 +34,14 @@ use Rattle.cap_job.specs.Starting.{IsFresh, Lists, Refuses, asking, filtering, i
 
 -- ---- before the first packet
 
--- what a job does before its first packet: it reads the words of a filter, or a listing; or it compiles an expression,
--- and nothing else
+-- what a job does before its first packet: it reads the words of a filter, or a listing, for so many packets at most; or
+-- it compiles an expression, and nothing else
 pub data Preparing : Type 0 where
-  ReadsFilter : (words : List ℕ) → (code : Option (List ℕ)) → Preparing
+  ReadsFilter : (words : List ℕ) → (code : Option (List ℕ)) → (count : Option ℕ) → Preparing
   Compiles : (words : List ℕ) → (link : Link) → Preparing
 
 abbrev pub preparing_of : {Z : Type 0} → Preparation Z → Preparing
-preparing_of (preparation.Filter print) = ReadsFilter (string_bytes print.expr) (code_of print)
+preparing_of (preparation.Filter print) = ReadsFilter (string_bytes print.expr) (code_of print) print.count
 preparing_of (preparation.Listing compile) = Compiles (string_bytes compile.expr) compile.link
 
 -- ---- what a command asks
@@ -51,15 +53,20 @@ pub record Assignment : Type 0 where
   pub order : Ordering
   pub writing : Writing
 
+-- packets in a format where there is one, else their lines
+abbrev pub lines_unless : Option Format → Options → Writing
+lines_unless None options = writing.Lines options
+lines_unless (Some format) options = writing.Capture format
+
 abbrev pub assigned : {Z : Type 0} → Command Z → Assignment
 assigned (command.Edit edit) = record { preparing = None; asked = Select (selection_of edit); order = InTurn; writing = writing.Capture edit.format }
 assigned (command.Merge merge) = record { preparing = None; asked = Everything; order = order_of (not merge.append); writing = writing.Capture merge.format }
 assigned command.Infos = record { preparing = None; asked = Count; order = InTurn; writing = writing.Text }
 assigned (command.Print print) = record {
-  preparing = Some (ReadsFilter (string_bytes print.expr) (code_of print));
+  preparing = Some (ReadsFilter (string_bytes print.expr) (code_of print) print.count);
   asked = Everything;
   order = InTurn;
-  writing = writing.Capture print.write;
+  writing = lines_unless print.write (record { link = print.link; bytes = print.bytes });
 }
 assigned (command.Compile compile) = record { preparing = Some (Compiles (string_bytes compile.expr) compile.link); asked = Everything; order = InTurn; writing = writing.Text }
 
@@ -79,7 +86,7 @@ command_first c names os out room err = record {
 
 -- a job that still prepares made no step; what is compiled is written as text
 abbrev pub IsReady : Preparing → JobView → Type 0
-IsReady (ReadsFilter words code) j = IsFresh j
+IsReady (ReadsFilter words code count) j = IsFresh j
 IsReady (Compiles words link) j = IsFresh j × (is_text j.machine.drain.target ≡ true)
 
 abbrev pub IsReadyIf : Option Preparing → JobView → Type 0
@@ -89,12 +96,12 @@ IsReadyIf (Some preparing) j = IsReady preparing j
 -- ---- the first step
 
 -- the filter is read
-pub record IsFiltered (words : List ℕ) (code : Option (List ℕ)) (old new : JobView) : Type 0 where
+pub record IsFiltered (words : List ℕ) (code : Option (List ℕ)) (count : Option ℕ) (old new : JobView) : Type 0 where
   pub rule : Rule
   pub is : IsRule words code rule
   pub programs : List Content
   pub made : AreNew rule programs
-  pub new_is : new ≡ filtering rule programs old
+  pub new_is : new ≡ filtering rule count programs old
 
 -- the filter is refused, or there was no memory for it
 pub record RefusesFilter (words : List ℕ) (code : Option (List ℕ)) (tells : Bool) (old : JobView) (status : ℕ) (new : JobView) : Type 0 where
@@ -102,9 +109,9 @@ pub record RefusesFilter (words : List ℕ) (code : Option (List ℕ)) (tells : 
   pub why : IsWhy words code refusal
   pub refuses : Refuses refusal tells old status new
 
-abbrev pub FilterGives : List ℕ → Option (List ℕ) → Bool → JobView → Turn → JobView → Type 0
-FilterGives words code tells old turn.More new = IsFiltered words code old new
-FilterGives words code tells old (turn.Done status) new = RefusesFilter words code tells old status new
+abbrev pub FilterGives : List ℕ → Option (List ℕ) → Option ℕ → Bool → JobView → Turn → JobView → Type 0
+FilterGives words code count tells old turn.More new = IsFiltered words code count old new
+FilterGives words code count tells old (turn.Done status) new = RefusesFilter words code tells old status new
 
 -- a listing of some program for the expression is written, or a prefix of it
 pub record ListsSome (words : List ℕ) (link : Link) (tells : Bool) (old : JobView) (status : ℕ) (new : JobView) : Type 0 where
@@ -123,7 +130,7 @@ CompileGives words link tells old turn.More new = ⊥
 CompileGives words link tells old (turn.Done status) new = ListsSome words link tells old status new ⊎ RefusesExpression words tells old status new
 
 abbrev pub Prepares : Preparing → Bool → JobView → Turn → JobView → Type 0
-Prepares (ReadsFilter words code) tells old r new = FilterGives words code tells old r new
+Prepares (ReadsFilter words code count) tells old r new = FilterGives words code count tells old r new
 Prepares (Compiles words link) tells old r new = CompileGives words link tells old r new
 
 -- ---- a step
@@ -155,16 +162,16 @@ StepReadsBy (Some preparing) goes old new = PreparesOnly old new
 -- what is decided of the inputs, whatever the filter will be
 abbrev pub DecidedBy : Option Preparing → List Stood → List ℕ → MachineStand → Type 0
 DecidedBy None ss before m = Decided ss before m
-DecidedBy (Some (ReadsFilter words code)) ss before m = (rule : Rule) → IsRule words code rule → Decided ss before (asking (Filter rule None) m)
+DecidedBy (Some (ReadsFilter words code count)) ss before m = (rule : Rule) → IsRule words code rule → Decided ss before (asking (Filter rule count) m)
 DecidedBy (Some (Compiles words link)) ss before m = Unit {0}
 
 -- the job goes through the filter that it reads
-pub record RunsFiltered (words : List ℕ) (code : Option (List ℕ)) (ss : List Stood) (before : List ℕ) (tells : Bool) (first : JobView) (status : ℕ) (out err : OutputView) : Type 0 where
+pub record RunsFiltered (words : List ℕ) (code : Option (List ℕ)) (count : Option ℕ) (ss : List Stood) (before : List ℕ) (tells : Bool) (first : JobView) (status : ℕ) (out err : OutputView) : Type 0 where
   pub rule : Rule
   pub is : IsRule words code rule
   pub programs : List Content
   pub made : AreNew rule programs
-  pub runs : JobRuns ss before tells (filtering rule programs first) status out err
+  pub runs : JobRuns ss before tells (filtering rule count programs first) status out err
 
 -- nothing is read or written but a message
 pub record RunsRefused (words : List ℕ) (code : Option (List ℕ)) (tells : Bool) (first : JobView) (status : ℕ) (out err : OutputView) : Type 0 where
@@ -176,8 +183,8 @@ pub record RunsRefused (words : List ℕ) (code : Option (List ℕ)) (tells : Bo
 
 abbrev pub RunsBy : Option Preparing → List Stood → List ℕ → Bool → JobView → ℕ → OutputView → OutputView → Type 0
 RunsBy None ss before tells first status out err = JobRuns ss before tells first status out err
-RunsBy (Some (ReadsFilter words code)) ss before tells first status out err =
-    RunsFiltered words code ss before tells first status out err ⊎ RunsRefused words code tells first status out err
+RunsBy (Some (ReadsFilter words code count)) ss before tells first status out err =
+    RunsFiltered words code count ss before tells first status out err ⊎ RunsRefused words code tells first status out err
 RunsBy (Some (Compiles words link)) ss before tells first status out err =
     Runs (λ message. CompileLeaves words link (output_name first) (output_of first) out message status) tells first.err err
 

@@ -1,5 +1,6 @@
 -- The course of a job over its packets, and what comes of it.
 use Rattle.std.specs.Prelude.{ℕ, ◌+◌, List, [], ◌∷◌, ◌++◌, map, Option, None, Some, unwrap_or}
+use Rattle.std.specs.List.{flat_map}
 use Rattle.std.specs.Option.{option_or}
 use Rattle.cap_octet.specs.Packet.{Captured}
 use Rattle.cap_octet.specs.declared.fault.Fault.{Fault}
@@ -7,6 +8,8 @@ use Rattle.cap_octet.specs.declared.format.Format.{Format}
 use Rattle.cap_io.specs.declared.source.Kind.{Kind}
 use Rattle.cap_io.specs.Capture.{Placed, first_link_of}
 use Rattle.cap_io.specs.Text.{heading, text, refused}
+use Rattle.cap_lines.specs.declared.print.Options.{Options}
+use Rattle.cap_lines.specs.Printed.{printed}
 use Rattle.cap_tools.specs.Messages.{fault_message}
 use Rattle.cap_job.specs.Fed.{Event, Came, Closed, Close, Over, Broken, Fed, Rest, Ordering, fed, whole}
 use Rattle.cap_job.specs.Judged.{Asked, Count, Stand, at_first, Verdict, Pass, Last, Skip, Refuse, verdict}
@@ -19,11 +22,14 @@ pub data Form : Type 0 where
   AsCapture : (format : Format) → Form
   -- each report, by the names of the inputs
   AsReports : (names : List (List ℕ)) → Form
+  -- a line for each packet, and its bytes where they are asked for
+  AsLines : (options : Options) → Form
 
 -- why a packet that comes behind these isn't written
 abbrev pub refused_by : Form → List Captured → Captured → Option Fault
 refused_by (AsCapture format) ps p = refused format ps p
 refused_by (AsReports names) ps p = None
+refused_by (AsLines options) ps p = None
 
 -- ---- the fold
 
@@ -103,10 +109,15 @@ course asked form fed = ended_by (way asked form set_out fed.events) fed.close
 
 -- ---- what comes of it
 
+-- what is printed of packets, one behind another
+abbrev pub lines_text : Options → List Captured → List ℕ
+lines_text options ps = flat_map (printed options) ps
+
 -- the bytes for packets and reports
 abbrev pub written : Form → List Captured → List Report → List ℕ
 written (AsCapture format) ps rs = text format ps
 written (AsReports names) ps rs = reports_text names rs
+written (AsLines options) ps rs = lines_text options ps
 
 -- the first link type that the inputs declare, in their order
 abbrev pub first_link : List Rest → Option ℕ
@@ -118,6 +129,7 @@ abbrev pub closing : Form → Option ℕ → List Captured → List ℕ
 closing (AsCapture format) link [] = heading format (unwrap_or link 1)
 closing (AsCapture format) link (p ∷ ps) = []
 closing (AsReports names) link ps = []
+closing (AsLines options) link ps = []
 
 abbrev pub closing_by : Option Close → Form → Option ℕ → List Captured → List ℕ
 closing_by (Some Over) form link ps = closing form link ps

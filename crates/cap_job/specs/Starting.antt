@@ -1,5 +1,5 @@
 -- The first step of a job that reads a filter or compiles an expression.
-use Rattle.std.specs.Prelude.{◌≡◌, ℕ, ◌+◌, ◌<◌, Bool, true, false, List, [], length, None, Some}
+use Rattle.std.specs.Prelude.{◌≡◌, ℕ, ◌+◌, ◌<◌, Bool, true, false, List, [], length, Option, None, Some}
 use Rattle.flt_bpf.specs.declared.insn.Insn.{Insn}
 use Rattle.flt_bpf.specs.Content.{Content}
 use Rattle.cap_tools.specs.declared.refusal.Refusal.{Refusal}
@@ -9,7 +9,7 @@ use Rattle.cap_tools.specs.Printed.{Rule}
 use Rattle.cap_tools.specs.Running.{OutputView, IsTold, Runs, seen}
 use Rattle.cap_job.specs.declared.packets.Turn.{Turn}
 use Rattle.cap_job.specs.declared.packets.Turn.TheVariants as turn
-use Rattle.cap_job.specs.Draining.{Target, Capture, Text}
+use Rattle.cap_job.specs.Draining.{Target, Capture, Text, Lines}
 use Rattle.cap_job.specs.Judged.{Asked, Filter}
 use Rattle.cap_job.specs.Judging.{stand_with}
 use Rattle.cap_job.specs.Feeding.{feed_left, most_steps}
@@ -29,15 +29,16 @@ pub record IsFresh (j : JobView) : Type 0 where
 abbrev pub is_text : Target → Bool
 is_text (Capture sink) = false
 is_text (Text written failures room) = true
+is_text (Lines options written failures room) = false
 
 -- packets are judged by this from here on
 abbrev pub asking : Asked → MachineStand → MachineStand
 asking asked m = record { feed = m.feed; asked = asked; stand = stand_with 0 nothing_counted; drain = m.drain; decided = m.decided }
 
--- the job whose packets go through the filter, by these programs
-abbrev pub filtering : Rule → List Content → JobView → JobView
-filtering rule programs j = record {
-  machine = asking (Filter rule None) j.machine;
+-- the job whose packets go through the filter, by these programs, up to so many that pass
+abbrev pub filtering : Rule → Option ℕ → List Content → JobView → JobView
+filtering rule count programs j = record {
+  machine = asking (Filter rule count) j.machine;
   programs = programs;
   err = j.err;
   turns = j.turns + 1;

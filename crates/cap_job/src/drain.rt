@@ -1,12 +1,15 @@
 //! Where a job writes.
-ghost use Rattle.std.specs.Prelude.{◌≡◌, IsTrue, map};
+ghost use Rattle.std.specs.Prelude.{◌≡◌, ◌+◌, IfErr, IsTrue, map};
 ghost use Rattle.std.specs.String.{string_bytes};
+ghost use Rattle.cap_octet.specs.Device.{AppendsOrStops, failures_of};
 ghost use Rattle.cap_octet.specs.Packet.{captured};
+ghost use Rattle.cap_lines.specs.Printed.{printed};
 ghost use Rattle.cap_job.specs.Draining.{target_at};
 ghost use Rattle.cap_job.specs.Reports.{name_at};
 
 use crate::report::{Report, write_report};
 use cap_io::Sink;
+use cap_lines::{Options, Text, print_packet};
 use cap_octet::{DeviceFault, Fault, Format, Output, Packet, Stopped};
 use flt_bpf::{Program, write_listing};
 use std::alloc::Allocator;
@@ -17,17 +20,21 @@ use std::marker::Model;
 pub enum Writing {
     /// The packets that pass, as a capture.
     Capture(Format),
-    /// The reports.
+    /// Reports, or a listing.
     Text,
+    /// A line for each packet that passes.
+    Lines(Options),
 }
 
 #[derive(Drop)]
 pub(crate) enum Device<O: Output, A: Allocator> {
     Capture(Sink<O, A>),
     Text(O),
+    /// The buffer is for one line.
+    Lines(Options, Text, O),
 }
 
-/// Writes packets into a capture, or reports as text.
+/// Writes packets into a capture or as lines, or reports as text.
 #[derive(Drop)]
 pub struct Drain<O: Output, A: Allocator> {
     device: Device<O, A>,
@@ -62,6 +69,7 @@ impl<O: Output, A: Allocator> Drain<O, A> {
         let device = match writing {
             Writing::Capture(format) => Device::Capture(Sink::new(alloc, output, format)),
             Writing::Text => Device::Text(output),
+            Writing::Lines(options) => Device::Lines(options, Text::new(), output),
         };
         Drain { device, names }
     }
@@ -75,6 +83,7 @@ impl<O: Output, A: Allocator> Drain<O, A> {
         match &mut self.device {
             Device::Capture(sink) => sink.put(packet),
             Device::Text(_) => Ok(()),
+            Device::Lines(options, text, output) => put_line(text, *options, packet, output),
         }
     }
 
@@ -87,6 +96,7 @@ impl<O: Output, A: Allocator> Drain<O, A> {
         match &mut self.device {
             Device::Capture(_) => Ok(()),
             Device::Text(output) => write_report(output, name_of(&self.names, input), report),
+            Device::Lines(_, _, _) => Ok(()),
         }
     }
 
@@ -99,6 +109,7 @@ impl<O: Output, A: Allocator> Drain<O, A> {
         match &mut self.device {
             Device::Capture(_) => Ok(()),
             Device::Text(output) => write_listing(program, output),
+            Device::Lines(_, _, _) => Ok(()),
         }
     }
 
@@ -110,7 +121,7 @@ impl<O: Output, A: Allocator> Drain<O, A> {
     {
         match &mut self.device {
             Device::Capture(sink) => sink.finish(first),
-            Device::Text(_) => Ok(()),
+            Device::Text(_) | Device::Lines(_, _, _) => Ok(()),
         }
     }
 
@@ -131,8 +142,26 @@ impl<O: Output, A: Allocator> Drain<O, A> {
         let Drain { device, names: _ } = self;
         match device {
             Device::Capture(sink) => sink.into_output(),
-            Device::Text(output) => output,
+            Device::Text(output) | Device::Lines(_, _, output) => output,
         }
+    }
+}
+
+/// Writes the line of a packet, and its bytes where they are asked for.
+fn put_line<O: Output>(
+    text: &mut Text,
+    options: Options,
+    packet: &Packet<'_>,
+    output: &mut O,
+) -> Result<(), Fault>
+    ensures told { IsTrue O.tells → AppendsOrStops result (O.written output.old) (printed options (captured packet.now)) (O.written output.new) }
+    ensures fault { IfErr result (λ fault. fault ≡ Fault.WriteFailed) }
+    ensures failed { O.failures output.new ≡ O.failures output.old + failures_of result }
+    ensures room { O.room output.new ≡ O.room output.old }
+{
+    match print_packet(text, options, packet, output) {
+        Ok(()) => Ok(()),
+        Err(_) => Err(Fault::WriteFailed),
     }
 }
 

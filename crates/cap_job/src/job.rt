@@ -6,13 +6,14 @@ ghost use Rattle.cap_tools.specs.Printed.{IsRule, IsWhy, code_of};
 ghost use Rattle.cap_tools.specs.Printing.{AreNew, programs_of, rule_of};
 ghost use Rattle.cap_tools.specs.Running.{seen};
 ghost use Rattle.cap_job.specs.Bounds.{IsLight, most_turns};
-ghost use Rattle.cap_job.specs.Commands.{CommandRuns, IsReady, Prepares, PreparesOnly, RunsCommand, assigned, preparing_of};
+ghost use Rattle.cap_job.specs.Commands.{CommandRuns, IsReady, Prepares, PreparesOnly, RunsCommand, assigned, lines_unless, preparing_of};
 ghost use Rattle.cap_job.specs.Jobs.{IsStatus, done_by, machine_of, opened, order_of, turn_goes_on};
 ghost use Rattle.cap_job.specs.Judging.{asked_of, programs_in};
 
 use crate::drain::Writing;
 use crate::judge::Rule;
 use crate::packets::{PacketJob, Turn, Work};
+use cap_lines::Options;
 use cap_octet::{Input, Output};
 use cap_tools::command::{Command, Compile, Print};
 use cap_tools::compile::compile_text;
@@ -51,6 +52,19 @@ fn work<A: Allocator>(rule: Rule<A>, writing: Writing, merges: bool) -> Work<A>
     }
 }
 
+/// What a print writes: packets in a format if there is one, else their lines.
+fn writing_of<A: Allocator>(print: &Print<A>) -> Writing
+    ensures { result ≡ lines_unless print.now.write (record { link = print.now.link; bytes = print.now.bytes }) }
+{
+    match print.write {
+        Some(format) => Writing::Capture(format),
+        None => Writing::Lines(Options {
+            link: print.link,
+            bytes: print.bytes,
+        }),
+    }
+}
+
 /// What a command asks for. The filter of a print is read in the first step.
 fn assignment_of<A: Allocator>(command: Command<A>) -> Assignment<A>
     ensures preparing { option_map preparing_of result.preparation ≡ (assigned command).preparing }
@@ -80,7 +94,7 @@ fn assignment_of<A: Allocator>(command: Command<A>) -> Assignment<A>
             work: work(Rule::Count, Writing::Text, false),
         },
         Command::Print(print) => {
-            let writing = Writing::Capture(print.write);
+            let writing = writing_of(&print);
             Assignment {
                 preparation: Some(Preparation::Filter(print)),
                 work: work(Rule::Everything, writing, false),
@@ -217,7 +231,7 @@ fn prepare<I: Input, O: Output, E: Output, A: Allocator + Copy + Drop>(
 {
     match preparation {
         Preparation::Filter(print) => match read_filter(alloc, &print) {
-            Ok(filter) => packets.filter(filter),
+            Ok(filter) => packets.filter(filter, print.count),
             Err(refusal) => packets.refuse(refusal),
         },
         Preparation::Listing(compile) => {

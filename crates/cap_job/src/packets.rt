@@ -191,14 +191,14 @@ impl<I: Input, O: Output, E: Output, A: Allocator + Copy + Drop> PacketJob<I, O,
         }
     }
 
-    /// From here on packets are judged by this filter. It is one step.
-    pub(crate) fn filter(&mut self, filter: Filter<A>) -> Turn
+    /// From here on packets are judged by this filter, up to so many that pass. It is one step.
+    pub(crate) fn filter(&mut self, filter: Filter<A>, count: Option<u64>) -> Turn
         requires { IsFresh self.old }
         ensures more { result ≡ Turn.More }
-        ensures filtered { self.new ≡ filtering (rule_of filter) (programs_of filter) self.old }
+        ensures filtered { self.new ≡ filtering (rule_of filter) count (programs_of filter) self.old }
         ensures light { IsLight self.new.machine }
     {
-        self.machine.judge_by(Rule::Filter(filter, None));
+        self.machine.judge_by(Rule::Filter(filter, count));
         self.turns += 1;
         Turn::More
     }

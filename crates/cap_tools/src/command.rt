@@ -1,7 +1,8 @@
 //! What is asked for.
-ghost use Rattle.std.specs.Prelude.{◌≡◌, string_bytes};
+ghost use Rattle.std.specs.Prelude.{◌≡◌, string_bytes, true};
 ghost use Rattle.std.specs.List.{list_all};
-ghost use Rattle.cap_tools.specs.Command.{is_proper, is_input_count, is_range, has_one_filter, has_proper_ranges};
+ghost use Rattle.std.specs.Option.{option_map_or};
+ghost use Rattle.cap_tools.specs.Command.{is_proper, is_input_count, is_range, is_time, is_at_least_one, is_window, is_proper_shift, is_proper_edit, is_proper_print, has_one_filter, has_one_output, has_proper_ranges};
 ghost use Rattle.cap_tools.specs.Selected.{is_named, is_kept};
 
 use cap_octet::Format;
@@ -14,6 +15,9 @@ pub const MOST_RANGES: usize = 512;
 /// How many inputs a merge or a report has at most.
 pub const MOST_INPUTS: usize = 256;
 
+/// How many packets a window for duplicates has at most, the one that is looked up among them.
+pub const MOST_WINDOW: u32 = 1_000_000;
+
 /// A command, over the allocator of its lists.
 #[derive(Drop)]
 pub enum Command<A: Allocator = Global> {
@@ -25,15 +29,42 @@ pub enum Command<A: Allocator = Global> {
     Compile(Compile<A>),
 }
 
-/// Deletes the packets whose numbers, counted from 1, are in the ranges, or keeps them alone (editcap(1)).
+/// Selects packets by their numbers and times, changes them, and leaves out duplicates (editcap(1)).
+///
+/// The steps are made in the order of the fields. Times and spans are nanoseconds, at most 2^63 - 1.
 #[derive(Drop)]
 pub struct Edit<A: Allocator = Global> {
-    /// The first and the last number of each range.
+    /// The first and the last number of each range; packets are counted from 1.
     pub ranges: Vec<(u64, u64), A>,
-    /// Whether the named packets alone are kept.
+    /// Whether the named packets alone are kept; else they are deleted.
     pub keep: bool,
+    /// Where there is one, the first time that is kept, since 1970-01-01 00:00:00 UTC.
+    pub start: Option<u64>,
+    /// Where there is one, the first time that is no longer kept, since 1970-01-01 00:00:00 UTC.
+    pub stop: Option<u64>,
+    /// How many captured bytes are removed at the start of a packet.
+    pub chop_start: u32,
+    /// How many captured bytes are then removed at its end.
+    pub chop_end: u32,
+    /// How many captured bytes a packet then keeps at most, 1 or more; all where there is none.
+    pub snap: Option<u32>,
+    /// What is done to times.
+    pub shift: Shift,
+    /// Where there is one, a packet is left out that is a duplicate within so many packets in a row, itself among
+    /// them: 2 to 1,000,000.
+    pub window: Option<u32>,
     /// The format that is written.
     pub format: Format,
+}
+
+/// What an edit does to times.
+#[derive(Clone, Copy, Debug, PartialEq, Eq)]
+pub enum Shift {
+    None,
+    /// They are later by so many nanoseconds.
+    Later(u64),
+    /// They are earlier by so many nanoseconds.
+    Earlier(u64),
 }
 
 /// Writes the packets of captures as one (mergecap(1)).
@@ -45,15 +76,21 @@ pub struct Merge {
     pub format: Format,
 }
 
-/// Writes the packets that pass (tcpdump(1) with `-r` and `-w`).
+/// Prints a line for each packet that matches, or writes these packets (tcpdump(1) with `-r`).
 #[derive(Drop)]
 pub struct Print<A: Allocator = Global> {
-    /// The filter expression (pcap-filter(7)). A packet passes where it reads yes; all packets pass an empty one.
+    /// The filter expression (pcap-filter(7)). All packets match an empty one.
     pub expr: String<A>,
-    /// The bytes of a listing. Where there are some a packet passes where the program answers other than 0.
+    /// The bytes of a listing. Where there are some, the packets match that the program accepts (returns non-zero for).
     pub code: Option<Vec<u8, A>>,
-    /// The format that is written.
-    pub write: Format,
+    /// Where there is one, the job ends after so many packets that match, 1 or more.
+    pub count: Option<u64>,
+    /// Whether a line has the link header too.
+    pub link: bool,
+    /// Whether the captured bytes behind the link header follow each line.
+    pub bytes: bool,
+    /// The format in which the packets are written, whole, in place of lines.
+    pub write: Option<Format>,
 }
 
 /// Writes a listing of a program for an expression (tcpdump(1) with `-ddd`).
@@ -66,16 +103,21 @@ pub struct Compile<A: Allocator = Global> {
 }
 
 impl<A: Allocator> Command<A> {
-    /// Whether the command may be run on so many inputs: an edit has one input, and at most 512 ranges, each from
-    /// 1 on, in order and below 2^63; a merge and a report have 1 to 256; a print has one input, and no listing beside
-    /// words; a compilation has none.
+    /// Whether the command may be run on so many inputs.
+    ///
+    /// - An edit has one input, at most 512 ranges, each from 1 on, in order and below 2^63, times and spans of at
+    ///   most 2^63 - 1 nanoseconds, packets that keep at least 1 byte, and a window of 2 to 1,000,000 packets.
+    /// - A merge and a report have 1 to 256 inputs.
+    /// - A print has one input, no listing beside words, a count of at least 1, and a format only where its lines have
+    ///   neither link headers nor bytes.
+    /// - A compilation has no input.
     pub fn is_proper(&self, inputs: usize) -> bool
         ensures { result ≡ is_proper self.now inputs }
     {
         match self {
-            Command::Edit(edit) => inputs == 1 && edit.has_proper_ranges(),
+            Command::Edit(edit) => inputs == 1 && edit.is_proper(),
             Command::Merge(_) | Command::Infos => is_input_count(inputs),
-            Command::Print(print) => inputs == 1 && print.has_one_filter(),
+            Command::Print(print) => inputs == 1 && print.is_proper(),
             Command::Compile(_) => inputs == 0,
         }
     }
@@ -101,7 +143,66 @@ fn are_ranges(ranges: &[(u64, u64)]) -> bool
     ranges.iter().all(|range| is_range(range.0, range.1))
 }
 
+/// Whether times and spans may be so many nanoseconds: below 2^63.
+fn is_time(nanos: u64) -> bool
+    ensures { result ≡ is_time nanos }
+{
+    nanos < 1 << 63
+}
+
+/// Whether a time is allowed, if there is one.
+fn allows_time(time: Option<u64>) -> bool
+    ensures { result ≡ option_map_or is_time time true }
+{
+    match time {
+        Some(nanos) => is_time(nanos),
+        None => true,
+    }
+}
+
+impl Shift {
+    fn is_proper(self) -> bool
+        ensures { result ≡ is_proper_shift self }
+    {
+        match self {
+            Shift::None => true,
+            Shift::Later(span) | Shift::Earlier(span) => is_time(span),
+        }
+    }
+}
+
+/// Whether packets may keep so many bytes.
+fn allows_snap(snap: Option<u32>) -> bool
+    ensures { result ≡ option_map_or is_at_least_one snap true }
+{
+    match snap {
+        Some(size) => 1 <= size,
+        None => true,
+    }
+}
+
+/// Whether duplicates may be looked for within so many packets.
+fn allows_window(window: Option<u32>) -> bool
+    ensures { result ≡ option_map_or is_window window true }
+{
+    match window {
+        Some(count) => 2 <= count && count <= MOST_WINDOW,
+        None => true,
+    }
+}
+
 impl<A: Allocator> Edit<A> {
+    fn is_proper(&self) -> bool
+        ensures { result ≡ is_proper_edit self.now }
+    {
+        self.has_proper_ranges()
+            && allows_time(self.start)
+            && allows_time(self.stop)
+            && allows_snap(self.snap)
+            && self.shift.is_proper()
+            && allows_window(self.window)
+    }
+
     fn has_proper_ranges(&self) -> bool
         ensures { result ≡ has_proper_ranges self.now.ranges.items }
     {
@@ -124,7 +225,29 @@ impl<A: Allocator> Edit<A> {
     }
 }
 
+/// Whether a print may end after so many packets.
+fn allows_count(count: Option<u64>) -> bool
+    ensures { result ≡ option_map_or is_at_least_one count true }
+{
+    match count {
+        Some(packets) => 1 <= packets,
+        None => true,
+    }
+}
+
 impl<A: Allocator> Print<A> {
+    fn is_proper(&self) -> bool
+        ensures { result ≡ is_proper_print self.now }
+    {
+        self.has_one_filter() && self.has_one_output() && allows_count(self.count)
+    }
+
+    fn has_one_output(&self) -> bool
+        ensures { result ≡ has_one_output self.now.link self.now.bytes self.now.write }
+    {
+        self.write.is_none() || !(self.link || self.bytes)
+    }
+
     fn has_one_filter(&self) -> bool
         ensures { result ≡ has_one_filter (string_bytes self.now.expr) self.now.code }
     {

@@ -9,4 +9,6 @@ pub mod filter;
 pub mod message;
 pub mod refusal;
 
-pub use command::{Command, Compile, Edit, MOST_INPUTS, MOST_RANGES, Merge, Print, is_range};
+pub use command::{
+    Command, Compile, Edit, MOST_INPUTS, MOST_RANGES, MOST_WINDOW, Merge, Print, Shift, is_range,
+};

@@ -3,7 +3,7 @@ use Rattle.cap_octet.specs.Device.{AppendsOrStops}
 use Rattle.cap_job.specs.Draining.{Text}
 use Rattle.cap_job.specs.Reports.{file_report}
 use Rattle.cap_job.proofs.drain.Drain.report.Goals as goal
-use Rattle.cap_job.proofs.drain.Drain.report.Goals.{in-Capture, in-Text}
+use Rattle.cap_job.proofs.drain.Drain.report.Goals.{in-Capture, in-Text, in-Lines}
 
 pub returns-clause-told : goal.returns-clause-told
 returns-clause-told g c = λ to.
@@ -20,4 +20,5 @@ returns-clause-told g c = λ to.
               is = ap₂ (λ f room. Text written f room) w.write_report.ensures.failed w.write_report.ensures.room;
             };
           })
+      | in-Lines w ↦ rw (w.result-is, w.self-inside-is, ← c.self.view_is, w.in-Lines.is) (record { names = refl; target = (refl, refl) })
     ]

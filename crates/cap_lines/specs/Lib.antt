@@ -1,0 +1,6 @@
+pub mod Addresses
+pub mod Dump
+pub mod Hexadecimal
+pub mod Line
+pub mod Network
+pub mod Printed
