@@ -31,13 +31,13 @@ use Rattle.cap_job.specs.Reports.{Report, Tally}
 use Rattle.cap_job.specs.Fed.{Rest, Event, Came, Close, Over, Broken, Fed, fed, behind}
 use Rattle.cap_job.specs.Judged.{Asked, Select, Filter, Everything, Count, Selection, Stand, Verdict, Pass, Last, Skip, Refuse, verdict}
 use Rattle.cap_job.specs.Judged as judged_spec
-use Rattle.cap_job.specs.Judging.{JudgeView, GrowsByOne, IsWithin, Tells}
+use Rattle.cap_job.specs.Judging.{JudgeStand, GrowsByOne, IsWithin, Tells}
 use Rattle.cap_job.specs.Course.{Form, AsCapture, Way, set_out, unless_refused, by_verdict, goes, way, course, refused_by, stops_at, output, first_link}
 use Rattle.cap_job.specs.Course as course_spec
 use Rattle.cap_job.specs.Draining.{DrainView, Target, Capture, Text, Drained, DrainedTo, Puts, PutsTo, form_at, form_to, written_to, failures_to}
 use Rattle.cap_job.specs.Feeding.{HeadView, FeedView, Future, Stood, Standing, Among, settled, place_behind, later, wholes, rest_with, rests, left, most_steps, ordering_of}
 use Rattle.cap_job.specs.Feeding as feeding
-use Rattle.cap_job.specs.Working.{MachineView, Decided, GoesOn, Comes, Decides, Offers, StopsWriting, EndLeaves, stands_at, wholes_of, written_by, unwritten}
+use Rattle.cap_job.specs.Working.{MachineStand, Decided, GoesOn, Comes, Decides, Offers, StopsWriting, EndLeaves, stands_at, wholes_of, written_by, unwritten}
 use Rattle.cap_job.proofs.Splits.{At, stands-split, stands-join, stands-length, rests-join, finish-here, come-on}
 use Rattle.cap_job.proofs.Coming.{carries-decided, true-wholes, true-fit, true-fits}
 use Rattle.cap_job.proofs.Drains.{PutOk, put-ok, WhyUnput, unput, closing-some}
@@ -155,8 +155,8 @@ decided-goes us vs s before xs ys h place turn asked stand stand' drain drain' d
     let after : Stood = record { text = s.text; done = s.done ++ h.source.block; packets = s.packets ++ x ∷ [] } in
     let A : Captured → Type 0 = λ q. IsAt s.text (s.done ++ h.source.block) (s.packets ++ record { offset = h.source.offset; packet = q } ∷ []) false h.source in
     let here : At after (settled h) = subst A same (IsAt-decided s.text s.done s.packets h.source was).1 in
-    let old : MachineView = mk (xs ++ h ∷ ys) place asked stand drain decided in
-    let new : MachineView = mk (xs ++ settled h ∷ ys) (place_behind place turn) asked stand' drain' (decided + 1) in
+    let old : MachineStand = mk (xs ++ h ∷ ys) place asked stand drain decided in
+    let new : MachineStand = mk (xs ++ settled h ∷ ys) (place_behind place turn) asked stand' drain' (decided + 1) in
     let D : List Stood → Type 0 = λ l. Decided l before new in
     record {
       input = turn;
@@ -213,7 +213,7 @@ last-took asked w before i x old new stand' code_verdict.Skip told offers has = 
 -- ---- it is not put
 
 -- the device failed at a packet
-stops-writing : (ss : List Stood) (before : List ℕ) (heads : List HeadView) (place : Place) (asked : Asked) (stand stand' : Stand) (names : List (List ℕ)) (sink sink' : SinkView) (decided : ℕ) (new : MachineView) (packets : List Captured) (reports : List Report) (es : List Event) (e : Event) (q : Captured) (o : Option Close)
+stops-writing : (ss : List Stood) (before : List ℕ) (heads : List HeadView) (place : Place) (asked : Asked) (stand stand' : Stand) (names : List (List ℕ)) (sink sink' : SinkView) (decided : ℕ) (new : MachineStand) (packets : List Captured) (reports : List Report) (es : List Event) (e : Event) (q : Captured) (o : Option Close)
     → Ahead ss heads place es e → way asked (AsCapture sink.format) set_out es ≡ stands_at (mk heads place asked stand (record { names = names; target = Capture sink }) decided) packets reports → HasPackets before sink packets
     → goes asked (AsCapture sink.format) (stands_at (mk heads place asked stand (record { names = names; target = Capture sink }) decided) packets reports) e
     ≡ course_spec.decided (stands_at (mk heads place asked stand (record { names = names; target = Capture sink }) decided) packets reports) stand' (q ∷ []) o
@@ -246,7 +246,7 @@ stops-writing ss before heads place asked stand stand' names sink sink' decided 
 -- ---- what an answer leaves
 
 -- a packet that passes isn't put into a capture
-unput-capture : (ss : List Stood) (before : List ℕ) (heads : List HeadView) (place : Place) (turn : ℕ) (asked : Asked) (stand stand' : Stand) (names : List (List ℕ)) (sink sink' : SinkView) (decided : ℕ) (new : MachineView) (packets : List Captured) (reports : List Report) (es : List Event) (x : Placed) (q : Captured) (o : Option Close) (fault : Fault)
+unput-capture : (ss : List Stood) (before : List ℕ) (heads : List HeadView) (place : Place) (turn : ℕ) (asked : Asked) (stand stand' : Stand) (names : List (List ℕ)) (sink sink' : SinkView) (decided : ℕ) (new : MachineStand) (packets : List Captured) (reports : List Report) (es : List Event) (x : Placed) (q : Captured) (o : Option Close) (fault : Fault)
     → Ahead ss heads place es (Came turn x) → way asked (AsCapture sink.format) set_out es ≡ stands_at (mk heads place asked stand (record { names = names; target = Capture sink }) decided) packets reports → HasPackets before sink packets
     → goes asked (AsCapture sink.format) (stands_at (mk heads place asked stand (record { names = names; target = Capture sink }) decided) packets reports) (Came turn x)
     ≡ unless_refused (refused sink.format packets q) (stands_at (mk heads place asked stand (record { names = names; target = Capture sink }) decided) packets reports) turn x stand' q o
@@ -259,7 +259,7 @@ unput-capture ss before heads place turn asked stand stand' names sink sink' dec
 unput-capture ss before heads place turn asked stand stand' names sink sink' decided new packets reports es x q o NoMemory ahead far has went head among offset why is =
     record { head = head; among = among; why = inr (inr (record { why = refl; written = ap written_to is ∙ why })) }
 unput-capture ss before heads place turn asked stand stand' names sink sink' decided new packets reports es x q o fault ahead far has went head among offset why is =
-    let m : MachineView = mk heads place asked stand (record { names = names; target = Capture sink }) decided in
+    let m : MachineStand = mk heads place asked stand (record { names = names; target = Capture sink }) decided in
     let w : Way = stands_at m packets reports in
     let stop : course asked (AsCapture sink.format) (fed (ordering_of place) (wholes_of ss)) ≡ stops_at w (Broken turn fault x.offset) =
     stops-course ss heads place es (Came turn x) asked (AsCapture sink.format) w (stops_at w (Broken turn fault x.offset)) (Broken turn fault x.offset) ahead far refl
@@ -270,7 +270,7 @@ unput-capture ss before heads place turn asked stand stand' names sink sink' dec
       why = inl (rw offset (comes-broken (wholes_of ss) before m new packets reports turn fault x.offset stop has (ap written_to is ∙ why.1)));
     }
 
-unput-leaves : (ss : List Stood) (before : List ℕ) (heads : List HeadView) (place : Place) (turn : ℕ) (asked : Asked) (stand stand' : Stand) (names : List (List ℕ)) (target : Target) (decided : ℕ) (new : MachineView) (packets : List Captured) (reports : List Report) (es : List Event) (x : Placed) (q : Captured) (o : Option Close) (fault : Fault)
+unput-leaves : (ss : List Stood) (before : List ℕ) (heads : List HeadView) (place : Place) (turn : ℕ) (asked : Asked) (stand stand' : Stand) (names : List (List ℕ)) (target : Target) (decided : ℕ) (new : MachineStand) (packets : List Captured) (reports : List Report) (es : List Event) (x : Placed) (q : Captured) (o : Option Close) (fault : Fault)
     → Ahead ss heads place es (Came turn x) → way asked (form_to names target) set_out es ≡ stands_at (mk heads place asked stand (record { names = names; target = target }) decided) packets reports → DrainedTo before names target packets reports
     → goes asked (form_to names target) (stands_at (mk heads place asked stand (record { names = names; target = target }) decided) packets reports) (Came turn x)
     ≡ unless_refused (refused_by (form_to names target) packets q) (stands_at (mk heads place asked stand (record { names = names; target = target }) decided) packets reports) turn x stand' q o
@@ -282,7 +282,7 @@ unput-leaves ss before heads place turn asked stand stand' names (Capture sink) 
     (unput before packets q sink puts.sink fault has puts.puts puts.writes) puts.is
 unput-leaves ss before heads place turn asked stand stand' names (Text bytes failures room) decided new packets reports es x q o fault ahead far has went head among offset puts = absurd (let e = puts.0 in cc)
 
-reject-leaves : (ss : List Stood) (before : List ℕ) (heads : List HeadView) (place : Place) (turn : ℕ) (asked : Asked) (stand stand' : Stand) (drain : DrainView) (decided : ℕ) (new : MachineView) (packets : List Captured) (reports : List Report) (es : List Event) (x : Placed) (fault : Fault)
+reject-leaves : (ss : List Stood) (before : List ℕ) (heads : List HeadView) (place : Place) (turn : ℕ) (asked : Asked) (stand stand' : Stand) (drain : DrainView) (decided : ℕ) (new : MachineStand) (packets : List Captured) (reports : List Report) (es : List Event) (x : Placed) (fault : Fault)
     → Ahead ss heads place es (Came turn x) → way asked (form_at drain) set_out es ≡ stands_at (mk heads place asked stand drain decided) packets reports → Drained before drain packets reports
     → Tells (verdict asked stand (decided + 1) x.packet) (Err fault) stand'
     → (head : HeadView) → Among new.feed.heads turn head → head.source.offset ≡ x.offset → new.drain ≡ drain → (fault ≡ WriteFailed → ⊥)
@@ -372,7 +372,7 @@ never-device : (asked : Asked) (stand stand' : Stand) (number : ℕ) (p : Captur
 never-device asked stand stand' number p fault told is = (let P : Verdict → Type 0 = λ v. Own v in subst P told (own-verdict asked stand number p)) is
 
 -- what an answer leaves: `new` is the machine where the packet is decided, `failed` where it isn't
-abbrev pub AnswerLeaves : List Stood → List ℕ → MachineView → ℕ → Result Bool Fault → MachineView → MachineView → Type 0
+abbrev pub AnswerLeaves : List Stood → List ℕ → MachineStand → ℕ → Result Bool Fault → MachineStand → MachineStand → Type 0
 AnswerLeaves ss before old i (Ok false) new failed = GoesOn ss before old new
 AnswerLeaves ss before old i (Ok true) new failed = Comes (wholes_of ss) before old new Over
 AnswerLeaves ss before old i (Err fault) new failed = EndLeaves ss before old (unwritten i fault) failed
@@ -419,7 +419,7 @@ answer-core us vs s before xs ys h place turn asked stand stand' drain drain' de
     x : Placed
     x = record { offset = h.source.offset; packet = p }
 
-    failed : MachineView
+    failed : MachineStand
     failed = mk (xs ++ h ∷ ys) place asked stand' drain' decided
 
     here : Among (xs ++ h ∷ ys) turn h
@@ -440,7 +440,7 @@ answer-core us vs s before xs ys h place turn asked stand stand' drain drain' de
         (goes-by asked (form_at drain) w turn x (Last (captured q)) stand' told.0 told.1) h here refl offers.target
     by_verdict_of code_verdict.Skip told offers = absurd (let e = offers.0 in cc)
 
-pub answer-leaves : (ss : List Stood) (before : List ℕ) (heads : List HeadView) (place : Place) (asked : Asked) (stand : Stand) (drain : DrainView) (decided i : ℕ) (r : Result Bool Fault) (h : HeadView) (judge' : JudgeView) (drain' : DrainView)
+pub answer-leaves : (ss : List Stood) (before : List ℕ) (heads : List HeadView) (place : Place) (asked : Asked) (stand : Stand) (drain : DrainView) (decided i : ℕ) (r : Result Bool Fault) (h : HeadView) (judge' : JudgeStand) (drain' : DrainView)
     → feeding.Tells place heads (next.Answer i) → Among heads i h → judge'.asked ≡ asked → (stand.passed ≤ decided + 1 → judge'.stand.passed ≤ decided + 1) → GrowsByOne stand.tally judge'.stand.tally → decided ≤ most_steps
     → (stand.passed < decided + 1 → IsWithin most_steps stand.tally → Decides h.source.packet (record { asked = asked; stand = stand }) (decided + 1) drain r judge' drain')
     → Decided ss before (mk heads place asked stand drain decided)

@@ -1,7 +1,9 @@
 -- All steps of a command's job.
 use Rattle.std.proofs.Common.{◌≡◌, inl, inr, ℕ, List, Bool, Option, None, Some, refl, sym, ◌∙◌, ap, subst}
 use Rattle.cap_tools.specs.Messages.{refusal_message}
+use Rattle.flt_bpf.specs.Content.{Content}
 use Rattle.cap_tools.specs.Printed.{Rule, IsRule}
+use Rattle.cap_tools.specs.Printing.{AreNew}
 use Rattle.cap_tools.specs.Running.{OutputView, IsTold, Runs, seen}
 use Rattle.cap_tools.specs.Compiled.{CompileLeaves, ListingLeaves}
 use Rattle.cap_tools.specs.declared.refusal.Refusal.TheVariants.{Expression}
@@ -9,17 +11,25 @@ use Rattle.flt_gen.specs.declared.link.Link.{Link}
 use Rattle.cap_job.specs.declared.packets.Turn.TheVariants as turn
 use Rattle.cap_job.specs.Judged.{Filter}
 use Rattle.cap_job.specs.Feeding.{Stood}
-use Rattle.cap_job.specs.Working.{MachineView, Decided, IsUnderWay, written_by, failures_by}
+use Rattle.cap_job.specs.Working.{MachineStand, Decided, IsUnderWay, written_by, failures_by}
 use Rattle.cap_job.specs.Jobs.{JobView, JobGives, JobRuns, EndsAs, EndsJob}
 use Rattle.cap_job.specs.Starting.{asking, filtering, output_of, output_name}
 use Rattle.cap_job.specs.Commands.{Preparing, ReadsFilter, Compiles, CommandView, GivesBy, DecidedBy, RunsBy, ListsSome, RefusesExpression}
 use Rattle.cap_job.proofs.Ends.{ends-whole}
 use Rattle.cap_job.proofs.Runs.{goes-on}
 
+-- the job whose filter is read
+pub record Filtered (words : List ℕ) (code : Option (List ℕ)) (first from : JobView) : Type 0 where
+  pub rule : Rule
+  pub is : IsRule words code rule
+  pub programs : List Content
+  pub made : AreNew rule programs
+  pub from_is : from ≡ filtering rule programs first
+
 -- the job that a preparation leaves
 abbrev pub Leads : Option Preparing → JobView → JobView → Type 0
 Leads None first from = from ≡ first
-Leads (Some (ReadsFilter words code)) first from = (rule : Rule) × IsRule words code rule × (from ≡ filtering rule first)
+Leads (Some (ReadsFilter words code)) first from = Filtered words code first from
 Leads (Some (Compiles words link)) first from = ⊥
 
 -- it went on from there
@@ -36,7 +46,7 @@ pub data Under (first : CommandView) (ss : List Stood) (before : List ℕ) (job 
   fresh : job ≡ first → Under first ss before job
   goes : job.preparing ≡ None → IsOn first.preparing first.packets ss before job.packets → Under first ss before job
 
-abbrev start-way : (ss : List Stood) (before : List ℕ) (m : MachineView) → Decided ss before m → IsUnderWay ss before m m
+abbrev start-way : (ss : List Stood) (before : List ℕ) (m : MachineStand) → Decided ss before m → IsUnderWay ss before m m
 start-way ss before m d = record { stood = ss; texts = refl; decided = d; asked = refl; form = refl; output = refl; names = refl; order = refl }
 
 first-more : (tells : Bool) (p : Option Preparing) (old new : JobView) (ss : List Stood) (before : List ℕ) → GivesBy p tells old turn.More new → DecidedBy p ss before old.machine → new.done ≡ None → new.machine.drain.names ≡ old.machine.drain.names
@@ -50,11 +60,11 @@ first-more tells None old new ss before gives d done names asked = record {
   way = goes-on ss before old.machine old.machine new.machine (start-way ss before old.machine d) (gives.1 ss before d) (asked refl);
 }
 first-more tells (Some (ReadsFilter words code)) old new ss before gives d done names asked =
-    let from : MachineView = asking (Filter gives.rule None) old.machine in
-    let P : MachineView → Type 0 = λ m. IsUnderWay ss before from m in
+    let from : MachineStand = asking (Filter gives.rule None) old.machine in
+    let P : MachineStand → Type 0 = λ m. IsUnderWay ss before from m in
     record {
-      from = filtering gives.rule old;
-      leads = (gives.rule, gives.is, refl);
+      from = filtering gives.rule gives.programs old;
+      leads = record { rule = gives.rule; is = gives.is; programs = gives.programs; made = gives.made; from_is = refl };
       done = done;
       err = ap (λ (j : JobView). j.err) gives.new_is;
       names = names;
@@ -156,7 +166,7 @@ on-done tells None first job new s ss before out err gives written failures is o
     subst P on.leads (ended tells on.from job new s ss before out err on.way on.err on.names gives written failures is)
 on-done tells (Some (ReadsFilter words code)) first job new s ss before out err gives written failures is on =
     let P : JobView → Type 0 = λ j. JobRuns ss before tells j s out err in
-    inl (record { rule = on.leads.0; is = on.leads.1; runs = subst P on.leads.2 (ended tells on.from job new s ss before out err on.way on.err on.names gives written failures is) })
+    inl (record { rule = on.leads.rule; is = on.leads.is; programs = on.leads.programs; made = on.leads.made; runs = subst P on.leads.from_is (ended tells on.from job new s ss before out err on.way on.err on.names gives written failures is) })
 on-done tells (Some (Compiles words link)) first job new s ss before out err gives written failures is o = absurd o.leads
 
 pub under-done : (tells : Bool) (first job : CommandView) (new : JobView) (s : ℕ) (ss : List Stood) (before : List ℕ) (out err : OutputView) → GivesBy job.preparing tells job.packets (turn.Done s) new

@@ -6,7 +6,7 @@ use Rattle.flt_bpf.specs.Listing.{listing}
 use Rattle.cap_tools.specs.Messages.{write_failed_message}
 use Rattle.cap_job.specs.Draining.{Target, Capture, Text, Lists, ListsTo, written_to, failures_to}
 use Rattle.cap_job.specs.Reports.{name_at}
-use Rattle.cap_job.specs.Working.{MachineView, written_by}
+use Rattle.cap_job.specs.Working.{MachineStand, written_by}
 use Rattle.std.proofs.lemmas.Bool.{and_parts, eqb-true, leb-true}
 use Rattle.cap_tools.specs.Command.{is_proper, has_one_filter, has_proper_ranges}
 use Rattle.cap_tools.specs.declared.command.Command.{Command}
@@ -49,9 +49,9 @@ pub first-ready : {Z : Type 0} (c : Command Z) (names : List (List ℕ)) (os : L
 first-ready (command.Edit edit) names os out room err few = tt
 first-ready (command.Merge merge) names os out room err few = tt
 first-ready command.Infos names os out room err few = tt
-first-ready (command.Print print) names os out room err few = record { turns = refl; done = refl; left = first-less (assigned (command.Print print)).order os few; few = first-few (assigned (command.Print print)).order os }
+first-ready (command.Print print) names os out room err few = record { turns = refl; done = refl; programs = refl; left = first-less (assigned (command.Print print)).order os few; few = first-few (assigned (command.Print print)).order os }
 first-ready (command.Compile compile) names os out room err few =
-    (record { turns = refl; done = refl; left = first-less (assigned (command.Compile compile)).order os few; few = first-few (assigned (command.Compile compile)).order os }, refl)
+    (record { turns = refl; done = refl; programs = refl; left = first-less (assigned (command.Compile compile)).order os few; few = first-few (assigned (command.Compile compile)).order os }, refl)
 
 -- nothing is decided of the inputs
 pub first-decided : {Z : Type 0} (c : Command Z) (names : List (List ℕ)) (os : List Opened) (out : OutputView) (room : ℕ) (err : OutputView)
@@ -72,7 +72,7 @@ command-begun c names os out room err tells job status out' err' is runs =
 
 -- ---- a listing is written
 
-pub lists-ok : (insns : List Insn) (tells : Bool) (old new : MachineView) (err : OutputView) → is_text old.drain.target ≡ true → Lists insns old.drain (Ok tt) new.drain → ListsInto insns tells old err 0 new err
+pub lists-ok : (insns : List Insn) (tells : Bool) (old new : MachineStand) (err : OutputView) → is_text old.drain.target ≡ true → Lists insns old.drain (Ok tt) new.drain → ListsInto insns tells old err 0 new err
 lists-ok insns tells old new err text lists = by_target old.drain.target refl text lists.target
   where
     by_target : (t : Target) → old.drain.target ≡ t → is_text t ≡ true → ListsTo (listing insns) t (Ok tt) new.drain.target → ListsInto insns tells old err 0 new err
@@ -86,7 +86,7 @@ lists-ok insns tells old new err text lists = by_target old.drain.target refl te
           told = record { answer = Ok tt; told = λ te. sym (append-nil err.written); counted = sym (add-zero err.failures) };
         }
 
-pub lists-err : (insns : List Insn) (tells : Bool) (old new : MachineView) (stopped : Stopped) (err err' : OutputView) → is_text old.drain.target ≡ true → Lists insns old.drain (Err stopped) new.drain
+pub lists-err : (insns : List Insn) (tells : Bool) (old new : MachineStand) (stopped : Stopped) (err err' : OutputView) → is_text old.drain.target ≡ true → Lists insns old.drain (Err stopped) new.drain
     → IsTold tells err (write_failed_message (name_at old.drain.names (length old.feed.heads))) err' → ListsInto insns tells old err 1 new err'
 lists-err insns tells old new stopped err err' text lists told = by_target old.drain.target refl text lists.target
   where

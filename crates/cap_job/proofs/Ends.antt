@@ -9,10 +9,10 @@ use Rattle.cap_job.specs.Reports.{name_at}
 use Rattle.cap_job.specs.Judged.{Asked}
 use Rattle.cap_job.specs.Course.{Form, Work, Outcome, outcome, out, message, status}
 use Rattle.cap_job.specs.Feeding.{HeadView, Stood, Among, ordering_of}
-use Rattle.cap_job.specs.Working.{MachineView, Comes, EndLeaves, IsUnderWay, form_of, written_by, texts, wholes_of, cut_at}
+use Rattle.cap_job.specs.Working.{MachineStand, Comes, EndLeaves, IsUnderWay, form_of, written_by, texts, wholes_of, cut_at}
 use Rattle.cap_job.specs.Jobs.{IsOut, EndsAs, EndsElse, IsOutOf, work_of, end_text, end_status, offset_at, offset_of}
 
-comes-out : (rs : List Rest) (before : List ℕ) (names : List (List ℕ)) (old new : MachineView) (close : Close) (text : List ℕ) (s : ℕ) → Comes rs before old new close → text ≡ message names (Some close) → s ≡ status (Some close)
+comes-out : (rs : List Rest) (before : List ℕ) (names : List (List ℕ)) (old new : MachineStand) (close : Close) (text : List ℕ) (s : ℕ) → Comes rs before old new close → text ≡ message names (Some close) → s ≡ status (Some close)
     → IsOut rs before names old new text s
 comes-out rs before names old new close text s comes text_is status_is = record {
   written = comes.written;
@@ -27,7 +27,7 @@ get-here (x ∷ xs) ys h i is = rw (← is) (get-here xs ys h (length xs) refl)
 offset-here : (heads : List HeadView) (i : ℕ) (h : HeadView) → Among heads i h → offset_at heads i ≡ h.source.offset
 offset-here heads i h a = ap (λ (l : List HeadView). offset_at l i) a.splits ∙ ap offset_of (get-here a.front a.back h i a.place)
 
-pub ends-as : (ss : List Stood) (before : List ℕ) (names : List (List ℕ)) (old new : MachineView) (e : End) → EndLeaves ss before old e new → EndsAs ss before names old new (end_text names new.feed.heads e) (end_status e)
+pub ends-as : (ss : List Stood) (before : List ℕ) (names : List (List ℕ)) (old new : MachineStand) (e : End) → EndLeaves ss before old e new → EndsAs ss before names old new (end_text names new.feed.heads e) (end_status e)
 ends-as ss before names old new end.Clean leaves = inl (comes-out (wholes_of ss) before names old new Over [] 0 leaves refl refl)
 ends-as ss before names old new (end.Broken input fault) leaves =
     let place = offset-here new.feed.heads input leaves.head leaves.among in
@@ -47,14 +47,14 @@ ends-as ss before names old new (end.Broken input fault) leaves =
     ]
 ends-as ss before names old new end.OutputFailed leaves = inr (inr (inr (record { stops = leaves; text_is = refl; status_is = refl })))
 
-same-work : (ss : List Stood) (before : List ℕ) (first old : MachineView) → IsUnderWay ss before first old → work_of old ≡ work_of first
+same-work : (ss : List Stood) (before : List ℕ) (first old : MachineStand) → IsUnderWay ss before first old → work_of old ≡ work_of first
 same-work ss before first old way =
     ap (λ (o : Ordering). record { order = o; asked = old.asked; form = form_of old }) way.order
     ∙ ap (λ (a : Asked). record { order = ordering_of first.feed.place; asked = a; form = form_of old }) way.asked
     ∙ ap (λ (f : Form). record { order = ordering_of first.feed.place; asked = first.asked; form = f }) way.form
 
 -- the last step's inputs have the bytes that the first step's have
-pub ends-whole : (ss : List Stood) (before : List ℕ) (names : List (List ℕ)) (first old last : MachineView) (written text : List ℕ) (s : ℕ) (way : IsUnderWay ss before first old) → written ≡ written_by last
+pub ends-whole : (ss : List Stood) (before : List ℕ) (names : List (List ℕ)) (first old last : MachineStand) (written text : List ℕ) (s : ℕ) (way : IsUnderWay ss before first old) → written ≡ written_by last
     → EndsAs way.stood before names old last text s → IsOutOf (work_of first) names (texts ss) before written text s ⊎ EndsElse way.stood before names old last text s
 ends-whole ss before names first old last written text s way is ends =
     elim ends [

@@ -20,12 +20,12 @@ use Rattle.cap_job.specs.Reports.{Report, Tally}
 use Rattle.cap_job.specs.Fed.{Rest, Event, Broken, Ordering, InTurn, Merging, fed, behind, whole}
 use Rattle.cap_job.specs.Judged.{Asked, Select, Filter, Everything, Count, Stand}
 use Rattle.cap_job.specs.Judging as judging
-use Rattle.cap_job.specs.Judging.{JudgeView, IsWithin, emptied, is_count}
+use Rattle.cap_job.specs.Judging.{JudgeStand, IsWithin, emptied, is_count}
 use Rattle.cap_job.specs.Course.{Form, AsReports, Way, set_out, way, course, stops_at, output, written, closing_by, first_link}
 use Rattle.cap_job.specs.Draining.{DrainView, Target, Capture, Text, Drained, Reports, ReportsTo, form_at, written_to, failures_to}
 use Rattle.cap_job.specs.Feeding.{HeadView, FeedView, Future, Stood, Standing, HasCome, Among, EndedBefore, Fetches, Tells, waits_from, in_hand, head_after, place_after, closes, later, whole_with, wholes, rests, left, is_in_turn, ordering_of}
 use Rattle.cap_job.specs.Reports.{report_text, reports_text}
-use Rattle.cap_job.specs.Working.{MachineView, Decided, GoesOn, Comes, BreaksAt, WhyBroken, StopsWriting, StepLeaves, Closes, ClosesBy, asks_report, report_at, unless_failed, stands_at, form_of, written_by, cut_at, wholes_of}
+use Rattle.cap_job.specs.Working.{MachineStand, Decided, GoesOn, Comes, BreaksAt, WhyBroken, StopsWriting, StepLeaves, Closes, ClosesBy, asks_report, report_at, unless_failed, stands_at, form_of, written_by, cut_at, wholes_of}
 use Rattle.cap_job.proofs.Splits.{At, Fit, stands-split, stands-join, stands-length, fits-join, wholes-join, rests-join, finish-here, come-on}
 use Rattle.cap_job.proofs.Coming.{carries-found, carries-closed, true-wholes, true-fits, finds}
 use Rattle.cap_job.proofs.Drains.{drained-text, ReportOk, report-ok, reports-more}
@@ -34,7 +34,7 @@ use Rattle.cap_job.proofs.Laws.{ReadLaws, ReadAt, closed_in, read-at}
 use Rattle.cap_job.proofs.Courses.{way-append, course-close}
 use Rattle.cap_job.proofs.Heads.{set-here}
 
-abbrev pub mk : List HeadView → Place → Asked → Stand → DrainView → ℕ → MachineView
+abbrev pub mk : List HeadView → Place → Asked → Stand → DrainView → ℕ → MachineStand
 mk heads place asked stand drain decided = record { feed = record { heads = heads; place = place }; asked = asked; stand = stand; drain = drain; decided = decided }
 
 at-here : (xs ys : List HeadView) (v d : HeadView) (n : ℕ) → length xs ≡ n → get_or (xs ++ v ∷ ys) n d ≡ v
@@ -57,7 +57,7 @@ found-goes us vs s before xs ys h s' place turn asked stand drain decided laws f
     let waits : h.waiting ≡ false = laws.waits in
     let found : FindsPacket h.source s' = finds s h s' (Ok true) at waits advances in
     let P : Bool → Type 0 = λ b. IsAt s.text s.done s.packets b h.source in
-    let new : MachineView = mk (xs ++ head_after h (Ok true) s' ∷ ys) (place_after place turn false) asked stand drain decided in
+    let new : MachineStand = mk (xs ++ head_after h (Ok true) s' ∷ ys) (place_after place turn false) asked stand drain decided in
     let D : List Stood → Type 0 = λ l. Decided l before new in
     let same : s.packets ++ [] ≡ s.packets = append-nil s.packets in
     let here : At (record { text = s.text; done = s.done ++ found.passes.passed; packets = s.packets ++ [] }) (head_after h (Ok true) s') =
@@ -128,7 +128,7 @@ closed-goes : (us vs : List Stood) (s : Stood) (before : List ℕ) (xs ys : List
 closed-goes us vs s before xs ys h s' place turn asked stand drain decided stand' drain' reports laws front at back advances d goes output form failures names passed counted =
     let found : FindsEnd h.source s' = finds s h s' (Ok false) at laws.waits advances in
     let out = closed-out us vs s before xs ys h s' place turn asked stand drain decided laws front at back advances found d in
-    let new : MachineView = mk (xs ++ head_after h (Ok false) s' ∷ ys) (place_after place turn true) asked stand' drain' decided in
+    let new : MachineStand = mk (xs ++ head_after h (Ok false) s' ∷ ys) (place_after place turn true) asked stand' drain' decided in
     let D : List Stood → Type 0 = λ l. Decided l before new in
     let w : Way = stands_at (mk (xs ++ h ∷ ys) place asked stand drain decided) d.packets d.reports in
     let es : List Event = laws.closed_events (kind_of s'.declared) s'.offset in
@@ -172,7 +172,7 @@ wholes_of-length [] = refl
 wholes_of-length (u ∷ us) = ap suc (wholes_of-length us)
 
 -- what the output has where the job ends by a fault behind what is decided
-pub comes-broken : (rs : List Rest) (before : List ℕ) (m new : MachineView) (packets : List Captured) (reports : List Report) (input : ℕ) (fault : Fault) (offset : ℕ)
+pub comes-broken : (rs : List Rest) (before : List ℕ) (m new : MachineStand) (packets : List Captured) (reports : List Report) (input : ℕ) (fault : Fault) (offset : ℕ)
     → course m.asked (form_of m) (fed (ordering_of m.feed.place) rs) ≡ stops_at (stands_at m packets reports) (Broken input fault offset) → Drained before m.drain packets reports → written_by new ≡ written_by m
     → Comes rs before m new (Broken input fault offset)
 comes-broken rs before m new packets reports input fault offset is has same = record {
@@ -236,10 +236,10 @@ broken-ends us vs s before xs ys h s' fault place turn asked stand drain decided
       }))
     ]
   where
-    m : MachineView
+    m : MachineStand
     m = mk (xs ++ h ∷ ys) place asked stand drain decided
 
-    new : MachineView
+    new : MachineStand
     new = mk (xs ++ head_after h (Err fault) s' ∷ ys) (place_after place turn false) asked stand drain decided
 
     -- the future in which the input ends so
@@ -340,7 +340,7 @@ report-stops us vs s before xs ys h s' place turn asked stand names (Text bytes 
       stops = (let S : Target → Type 0 = λ t. Stops bytes own (written_to t) in subst S (sym reports.is) reports.appends);
     }
 
-closed-core : (us vs : List Stood) (s : Stood) (before : List ℕ) (xs ys : List HeadView) (h : HeadView) (s' : SourceView) (place : Place) (turn : ℕ) (asked : Asked) (stand : Stand) (drain : DrainView) (decided : ℕ) (r : Progress) (judge' : JudgeView) (drain' : DrainView)
+closed-core : (us vs : List Stood) (s : Stood) (before : List ℕ) (xs ys : List HeadView) (h : HeadView) (s' : SourceView) (place : Place) (turn : ℕ) (asked : Asked) (stand : Stand) (drain : DrainView) (decided : ℕ) (r : Progress) (judge' : JudgeStand) (drain' : DrainView)
     → (laws : ReadLaws place turn xs ys h) → Standing us xs → At s h → Standing vs ys → Advances h.source.phase h.source (Ok false) s'
     → (d : Decided (us ++ s ∷ vs) before (mk (xs ++ h ∷ ys) place asked stand drain decided))
     → (b : Bool) → asks_report (ordering_of place) asked ≡ b → ClosesBy b turn (head_after h (Ok false) s') (record { asked = asked; stand = stand }) drain r judge' drain'
@@ -353,7 +353,7 @@ closed-core us vs s before xs ys h s' place turn asked stand drain decided r jud
 closed-core us vs s before xs ys h s' place turn asked stand drain decided r judge' drain' laws front at back advances d true asks by =
     rw (by.is, by.judge_is) (by_answer by.answer by.reports)
   where
-    old : MachineView
+    old : MachineStand
     old = mk (xs ++ h ∷ ys) place asked stand drain decided
 
     report : Report
@@ -371,18 +371,18 @@ closed-core us vs s before xs ys h s' place turn asked stand drain decided r jud
 
 -- ---- all of them
 
-abbrev pub FetchLeaves : List Stood → List ℕ → MachineView → ℕ → Result Bool Fault → Progress → MachineView → Type 0
+abbrev pub FetchLeaves : List Stood → List ℕ → MachineStand → ℕ → Result Bool Fault → Progress → MachineStand → Type 0
 FetchLeaves ss before old i (Ok true) r new = GoesOn ss before old new
 FetchLeaves ss before old i (Ok false) r new = StepLeaves ss before old r new
 FetchLeaves ss before old i (Err fault) r new = BreaksAt ss before old new i fault
 
 -- what is made of an answer: at its end an input is closed, and else the rest stays
-abbrev pub Follows : Result Bool Fault → FeedView → ℕ → JudgeView → DrainView → Progress → JudgeView → DrainView → Type 0
+abbrev pub Follows : Result Bool Fault → FeedView → ℕ → JudgeStand → DrainView → Progress → JudgeStand → DrainView → Type 0
 Follows (Ok true) feed i judge old r judge' new = (judge' ≡ judge) × (new ≡ old)
 Follows (Ok false) feed i judge old r judge' new = Closes feed i judge old r judge' new
 Follows (Err fault) feed i judge old r judge' new = (judge' ≡ judge) × (new ≡ old)
 
-fetch-core : (us vs : List Stood) (s : Stood) (before : List ℕ) (xs ys : List HeadView) (h : HeadView) (s' : SourceView) (a : Result Bool Fault) (place : Place) (turn : ℕ) (asked : Asked) (stand : Stand) (drain : DrainView) (decided : ℕ) (r : Progress) (judge' : JudgeView) (drain' : DrainView)
+fetch-core : (us vs : List Stood) (s : Stood) (before : List ℕ) (xs ys : List HeadView) (h : HeadView) (s' : SourceView) (a : Result Bool Fault) (place : Place) (turn : ℕ) (asked : Asked) (stand : Stand) (drain : DrainView) (decided : ℕ) (r : Progress) (judge' : JudgeStand) (drain' : DrainView)
     → ReadLaws place turn xs ys h → Standing us xs → At s h → Standing vs ys → Advances h.source.phase h.source a s' → Steps h.source.phase h.source a s'
     → Decided (us ++ s ∷ vs) before (mk (xs ++ h ∷ ys) place asked stand drain decided)
     → Follows a (record { heads = xs ++ head_after h a s' ∷ ys; place = place_after place turn (closes a) }) turn (record { asked = asked; stand = stand }) drain r judge' drain'
@@ -403,7 +403,7 @@ fetch-core us vs s before xs ys h s' (Err fault) place turn asked stand drain de
 })
 
 -- one head taken out of a step's premises
-pub fetch-leaves : (ss : List Stood) (before : List ℕ) (heads : List HeadView) (place : Place) (asked : Asked) (stand : Stand) (drain : DrainView) (decided : ℕ) (i : ℕ) (a : Result Bool Fault) (feed' : FeedView) (r : Progress) (judge' : JudgeView) (drain' : DrainView)
+pub fetch-leaves : (ss : List Stood) (before : List ℕ) (heads : List HeadView) (place : Place) (asked : Asked) (stand : Stand) (drain : DrainView) (decided : ℕ) (i : ℕ) (a : Result Bool Fault) (feed' : FeedView) (r : Progress) (judge' : JudgeStand) (drain' : DrainView)
     → Tells place heads (next.Read i) → Fetches (record { heads = heads; place = place }) i a feed' → Decided ss before (mk heads place asked stand drain decided)
     → Follows a feed' i (record { asked = asked; stand = stand }) drain r judge' drain'
     → FetchLeaves ss before (mk heads place asked stand drain decided) i a r (mk feed'.heads feed'.place asked judge'.stand drain' decided)
@@ -434,7 +434,7 @@ fetch-leaves ss before heads place asked stand drain decided i a feed' r judge' 
 
 -- ---- an input is closed
 
-pub closes-by : (place : Place) (input : ℕ) (head : HeadView) (judge judge' : JudgeView) (drain drain' : DrainView) (r : Progress) (tally : Tally) (report : Report) (answer : Result (Unit {0}) DeviceFault) → is_in_turn place ≡ true
+pub closes-by : (place : Place) (input : ℕ) (head : HeadView) (judge judge' : JudgeStand) (drain drain' : DrainView) (r : Progress) (tally : Tally) (report : Report) (answer : Result (Unit {0}) DeviceFault) → is_in_turn place ≡ true
     → judging.Closes (is_count judge.asked) judge (Some tally) judge' → report ≡ report_at input head tally → Reports report drain answer drain' → r ≡ unless_failed answer
     → ClosesBy (asks_report (ordering_of place) judge.asked) input head judge drain r judge' drain'
 closes-by (Merge n u) input head judge judge' drain drain' r tally report answer turn taken is reports ends = (cc)

@@ -20,7 +20,7 @@ use Rattle.cap_job.specs.Course.{Form, AsCapture, Way, course, stops_at, output,
 use Rattle.cap_job.specs.Draining.{DrainView, Target, Capture, Text, DrainedTo, FinishesTo, form_at, form_to, written_to, failures_to}
 use Rattle.cap_job.specs.Feeding.{HeadView, Future, Stood, Standing, EndedTo, Tells, later, ordering_of, first_of}
 use Rattle.cap_job.specs.Reports.{reports_text}
-use Rattle.cap_job.specs.Working.{MachineView, Decided, Comes, StopsWriting, stands_at, wholes_of}
+use Rattle.cap_job.specs.Working.{MachineStand, Decided, Comes, StopsWriting, stands_at, wholes_of}
 use Rattle.cap_job.proofs.Splits.{At}
 use Rattle.cap_job.proofs.Coming.{true-whole, true-wholes, true-fit, true-fits}
 use Rattle.cap_job.proofs.Courses.{course-close}
@@ -51,7 +51,7 @@ links (s ∷ ss) (h ∷ hs) (suc n) st few ended =
     ap (λ (o : Option ℕ). option_or o (first_link (wholes_of ss))) (declared-one s h st.0 ended.0)
     ∙ ap (option_or (first_link_of h.source.declared)) (links ss hs n st.1 (omega (arith, few)) ended.1)
 
-abbrev over : MachineView → List Captured → List Report → Way
+abbrev over : MachineStand → List Captured → List Report → Way
 over m packets reports = stops_at (stands_at m packets reports) Over
 
 -- what is written of a job that met its clean end
@@ -67,12 +67,12 @@ finish-text before names (q ∷ qs) rs n stand (Capture sink) new link has finis
 finish-text before names ps rs n stand (Text bytes failures room) new link has finishes =
     ap written_to finishes.1 ∙ has ∙ ap (λ (l : List ℕ). before ++ l) (sym (append-nil (reports_text names rs)))
 
-abbrev pub FinishLeaves : List Stood → List ℕ → MachineView → Result (Unit {0}) Fault → MachineView → Type 0
+abbrev pub FinishLeaves : List Stood → List ℕ → MachineStand → Result (Unit {0}) Fault → MachineStand → Type 0
 FinishLeaves ss before old (Ok done) new = Comes (wholes_of ss) before old new Over
 FinishLeaves ss before old (Err fault) new = StopsWriting ss before old new
 
 -- the device failed at the file header of a capture without packets
-finish-stops : (ss : List Stood) (before : List ℕ) (names : List (List ℕ)) (target : Target) (heads : List HeadView) (place : Place) (asked : Asked) (stand : Stand) (decided : ℕ) (packets : List Captured) (reports : List Report) (fault : Fault) (new : MachineView)
+finish-stops : (ss : List Stood) (before : List ℕ) (names : List (List ℕ)) (target : Target) (heads : List HeadView) (place : Place) (asked : Asked) (stand : Stand) (decided : ℕ) (packets : List Captured) (reports : List Report) (fault : Fault) (new : MachineStand)
     → course asked (form_to names target) (fed (ordering_of place) (wholes_of ss)) ≡ over (mk heads place asked stand (record { names = names; target = target }) decided) packets reports
     → first_link (wholes_of ss) ≡ first_of heads → DrainedTo before names target packets reports → FinishesTo (first_of heads) target (Err fault) new.drain.target
     → StopsWriting ss before (mk heads place asked stand (record { names = names; target = target }) decided) new
@@ -98,12 +98,12 @@ finish-stops ss before names (Capture sink) heads place asked stand decided [] r
       stops = (let S : Target → Type 0 = λ t. Stops sink.written bytes (written_to t) in subst S (sym finishes.is) (finish-none-writes before sink (first_of heads) (Err fault) finishes.sink has finishes.writes));
     }
 
-pub finish-leaves : (ss : List Stood) (before : List ℕ) (heads : List HeadView) (place : Place) (asked : Asked) (stand : Stand) (drain : DrainView) (decided : ℕ) (r : Result (Unit {0}) Fault) (new : MachineView)
+pub finish-leaves : (ss : List Stood) (before : List ℕ) (heads : List HeadView) (place : Place) (asked : Asked) (stand : Stand) (drain : DrainView) (decided : ℕ) (r : Result (Unit {0}) Fault) (new : MachineStand)
     → Tells place heads next.Nothing → FinishesTo (first_of heads) drain.target r new.drain.target → Decided ss before (mk heads place asked stand drain decided)
     → FinishLeaves ss before (mk heads place asked stand drain decided) r new
 finish-leaves ss before heads place asked stand drain decided (Ok done) new tells finishes d =
     let at : OverAt place heads = over-at place heads tells d.ended in
-    let m : MachineView = mk heads place asked stand drain decided in
+    let m : MachineStand = mk heads place asked stand drain decided in
     let stop = over-course ss before heads place asked stand drain decided at d in
     let link = links ss heads at.count d.standing at.few at.ended in
     record {

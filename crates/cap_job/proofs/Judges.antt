@@ -13,7 +13,7 @@ use Rattle.cap_job.specs.Judged.{Asked, Select, Filter, Everything, Count, Selec
 use Rattle.cap_job.specs.Reports.{Tally}
 use Rattle.cap_job.specs.Reports.{HasRoom, counted}
 use Rattle.cap_job.specs.Feeding.{most_steps}
-use Rattle.cap_job.specs.Judging.{JudgeView, IsWithin, is_count, Closes, asked_of, decision, count_of, passing, stand_with, verdict_of, Tells}
+use Rattle.cap_job.specs.Judging.{JudgeStand, IsWithin, is_count, Closes, asked_of, decision, count_of, passing, stand_with, verdict_of, Tells}
 
 -- nothing is changed of packets, and they are judged one by one
 abbrev pub IsPlain : Asked → Type 0
@@ -114,6 +114,6 @@ within-room t within =
 
 -- ---- what was counted is taken
 
-pub closes-asked : (b : Bool) (old new : JudgeView) (r : Option Tally) → Closes b old r new → new.asked ≡ old.asked
-closes-asked false old new r c = ap (λ (v : JudgeView). v.asked) c.1
-closes-asked true old new r c = ap (λ (v : JudgeView). v.asked) c.1
+pub closes-asked : (b : Bool) (old new : JudgeStand) (r : Option Tally) → Closes b old r new → new.asked ≡ old.asked
+closes-asked false old new r c = ap (λ (v : JudgeStand). v.asked) c.1
+closes-asked true old new r c = ap (λ (v : JudgeStand). v.asked) c.1

@@ -9,6 +9,7 @@ pub mod Fetches
 pub mod Finishes
 pub mod Growing
 pub mod Heads
+pub mod Held
 pub mod Judges
 pub mod Laws
 pub mod Leasts
@@ -16,6 +17,7 @@ pub mod Lines
 pub mod Lefts
 pub mod Merges
 pub mod Order
+pub mod Preparing
 pub mod Queues
 pub mod Rows
 pub mod Runs

@@ -2,14 +2,14 @@
 use Rattle.std.proofs.Common.{◌≡◌, ℕ, zero, suc, List, [], ◌∷◌, refl, ◌∙◌, ap}
 use Rattle.cap_io.specs.Capture.{Placed}
 use Rattle.cap_job.specs.Feeding.{Stood}
-use Rattle.cap_job.specs.Working.{MachineView, GoesOn, IsUnderWay, finish_at, texts}
+use Rattle.cap_job.specs.Working.{MachineStand, GoesOn, IsUnderWay, finish_at, texts}
 
 finish-texts : (ss : List Stood) (i : ℕ) (bytes : List ℕ) (packets : List Placed) → texts (finish_at ss i bytes packets) ≡ texts ss
 finish-texts [] i bytes packets = refl
 finish-texts (s ∷ ss) zero bytes packets = refl
 finish-texts (s ∷ ss) (suc i) bytes packets = ap (λ (l : List (List ℕ)). s.text ∷ l) (finish-texts ss i bytes packets)
 
-pub goes-on : (ss : List Stood) (before : List ℕ) (first m new : MachineView) (way : IsUnderWay ss before first m) → GoesOn way.stood before m new → new.asked ≡ m.asked → IsUnderWay ss before first new
+pub goes-on : (ss : List Stood) (before : List ℕ) (first m new : MachineStand) (way : IsUnderWay ss before first m) → GoesOn way.stood before m new → new.asked ≡ m.asked → IsUnderWay ss before first new
 goes-on ss before first m new way goes asked = record {
   stood = finish_at way.stood goes.input goes.finished goes.packets;
   texts = finish-texts way.stood goes.input goes.finished goes.packets ∙ way.texts;

@@ -11,7 +11,7 @@ use Rattle.cap_job.specs.declared.drain.Writing.TheVariants as writing
 use Rattle.cap_job.specs.Draining.{Target, Capture, Text, target_at}
 use Rattle.cap_job.specs.Feeding.{HeadView, FeedView, Among, FetchSteps, Settles, head_after, settled}
 use Rattle.cap_job.specs.Jobs.{Opened, head_at}
-use Rattle.cap_job.specs.Working.{MachineView}
+use Rattle.cap_job.specs.Working.{MachineStand}
 use Rattle.cap_job.specs.Bounds.{HasFewInterfaces, IsBounded, IsLight, IsSmall, declared_weight, heads_weight, names_weight, target_weight}
 
 -- ---- one head for another
@@ -84,7 +84,7 @@ target-light (Capture sink) few =
     omega (arith, names, count)
 target-light (Text written failures room) few = omega arith
 
-pub is-light : (m : MachineView) → IsBounded m.feed m.drain → IsLight m
+pub is-light : (m : MachineStand) → IsBounded m.feed m.drain → IsLight m
 is-light m bounded =
     let heads = heads-light m.feed.heads bounded.0 in
     let target = target-light m.drain.target bounded.1 in

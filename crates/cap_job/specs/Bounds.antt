@@ -1,5 +1,5 @@
 -- The bounds of a step, whatever the devices: what it reads, how many steps were made, and what the job holds.
-use Rattle.std.specs.Prelude.{◌≡◌, ℕ, ◌+◌, ◌*◌, ◌-◌, ◌≤◌, Bool, false, List, [], ◌∷◌, length, map, Option, None, Some, Result}
+use Rattle.std.specs.Prelude.{◌≡◌, ℕ, ◌+◌, ◌*◌, ◌-◌, ◌≤◌, Bool, true, false, List, [], ◌∷◌, length, map, Option, None, Some, Result}
 use Rattle.std.specs.List.{All}
 use Rattle.cap_octet.specs.declared.fault.Fault.{Fault}
 use Rattle.cap_io.specs.Capture.{Declared, Nothing, PcapFile, PcapngFile}
@@ -7,8 +7,10 @@ use Rattle.cap_io.specs.Reading.{most_in_unit}
 use Rattle.cap_io.specs.Source.{HasFew, behind}
 use Rattle.cap_io.specs.Text.{AreFew, most_output_interfaces}
 use Rattle.cap_job.specs.Draining.{DrainView, Target, Capture, Text}
-use Rattle.cap_job.specs.Feeding.{HeadView, FeedView, FetchSteps, Settles, closes, place_left, waiting_total, weight_of}
-use Rattle.cap_job.specs.Working.{MachineView}
+use Rattle.cap_job.specs.Feeding.{HeadView, FeedView, Among, FetchSteps, Settles, closes, place_left, waiting_total, weight_of}
+use Rattle.cap_octet.specs.Packet.{Captured}
+use Rattle.cap_job.specs.Judging.{spent_by_verdict}
+use Rattle.cap_job.specs.Working.{MachineStand, MachineView}
 
 -- ---- what a step reads
 
@@ -18,21 +20,42 @@ pub record ReadsOn (old : MachineView) (input : ℕ) (answer : Result Bool Fault
   pub fetches : FetchSteps old.feed input answer new.feed
   pub decided : new.decided ≡ old.decided
   pub drain : closes answer ≡ false → new.drain ≡ old.drain
+  pub programs : new.programs ≡ old.programs
 
--- the packet in hand of one input was decided, and nothing is read
+-- an input's packet in hand, which isn't decided yet
+pub record Holds (heads : List HeadView) (input : ℕ) (p : Captured) : Type 0 where
+  pub head : HeadView
+  pub among : Among heads input head
+  pub waits : head.waiting ≡ true
+  pub held : head.source.packet ≡ Some p
+
+-- The packet in hand of one input was decided, and nothing is read. It cost one run of a program at most.
 pub record DecidesOne (old : MachineView) (input : ℕ) (new : MachineView) : Type 0 where
+  pub packet : Captured
+  pub holds : Holds old.feed.heads input packet
   pub settles : Settles old.feed input new.feed
   pub decided : new.decided ≡ old.decided + 1
+  pub programs : new.programs ≡ spent_by_verdict old.asked (old.decided + 1) packet old.programs
 
--- nothing is read, and no packet is decided
+-- it is refused, or wasn't written
+pub record LeavesOne (old : MachineView) (input : ℕ) (new : MachineView) : Type 0 where
+  pub packet : Captured
+  pub holds : Holds old.feed.heads input packet
+  pub feed : new.feed ≡ old.feed
+  pub decided : new.decided ≡ old.decided
+  pub programs : new.programs ≡ spent_by_verdict old.asked (old.decided + 1) packet old.programs
+
+-- nothing is read, no packet is decided, and no program runs
 pub record ReadsNothing (old new : MachineView) : Type 0 where
   pub feed : new.feed ≡ old.feed
   pub decided : new.decided ≡ old.decided
+  pub programs : new.programs ≡ old.programs
 
--- a step reads one input on, or decides one packet, or neither
+-- a step reads one input on, or decides one packet, or can't decide it, or does neither
 pub data StepReads (old new : MachineView) : Type 0 where
   reads_on : (input : ℕ) → (answer : Result Bool Fault) → ReadsOn old input answer new → StepReads old new
   decides_one : (input : ℕ) → DecidesOne old input new → StepReads old new
+  leaves_one : (input : ℕ) → LeavesOne old input new → StepReads old new
   reads_nothing : ReadsNothing old new → StepReads old new
 
 -- ---- how many steps were made
@@ -86,7 +109,7 @@ target_weight (Capture sink) = names_weight (map (λ i. i.name) sink.interfaces)
 target_weight (Text written failures room) = 0
 
 -- the bytes that a job holds of its inputs and of its output, and 128 for its counters
-abbrev pub weight : MachineView → ℕ
+abbrev pub weight : MachineStand → ℕ
 weight m = heads_weight m.feed.heads + target_weight m.drain.target + 128
 
 -- a unit for each input, 280 bytes for each interface that inputs and output may have, and the counters
@@ -105,5 +128,5 @@ abbrev pub IsBounded : FeedView → DrainView → Type 0
 IsBounded feed drain = All IsSmall feed.heads × HasFewInterfaces drain.target
 
 -- what a job holds of so many inputs is bounded
-abbrev pub IsLight : MachineView → Type 0
+abbrev pub IsLight : MachineStand → Type 0
 IsLight m = weight m ≤ most_weight (length m.feed.heads)

@@ -2,6 +2,7 @@
 use Rattle.std.specs.Prelude.{◌≡◌, ◌⊎◌, ℕ, ◌+◌, Bool, true, not, List, map, Option, None, Some, string_bytes}
 use Rattle.flt_gen.specs.declared.link.Link.{Link}
 use Rattle.flt_bpf.specs.declared.insn.Insn.{Insn}
+use Rattle.flt_bpf.specs.Content.{Content}
 use Rattle.flt_words.specs.declared.fault.ExprFault.{ExprFault}
 use Rattle.cap_tools.specs.declared.command.Command.{Command}
 use Rattle.cap_tools.specs.declared.command.Command.TheVariants as command
@@ -11,6 +12,7 @@ use Rattle.cap_tools.specs.Compiled.{IsCompiled, CompileLeaves}
 use Rattle.cap_tools.specs.Expressions.{IsReasonFor}
 use Rattle.cap_tools.specs.Messages.{refusal_message, refusal_status}
 use Rattle.cap_tools.specs.Printed.{Rule, IsRule, IsWhy, code_of}
+use Rattle.cap_tools.specs.Printing.{AreNew}
 use Rattle.cap_tools.specs.Running.{OutputView, IsTold, Runs}
 use Rattle.cap_job.specs.declared.job.Preparation.{Preparation}
 use Rattle.cap_job.specs.declared.job.Preparation.TheVariants as preparation
@@ -22,7 +24,9 @@ use Rattle.cap_job.specs.Fed.{Ordering, InTurn}
 use Rattle.cap_job.specs.Judged.{Asked, Select, Filter, Everything, Count}
 use Rattle.cap_job.specs.Judging.{selection_of}
 use Rattle.cap_job.specs.Feeding.{Stood, feed_left}
-use Rattle.cap_job.specs.Working.{MachineView, Decided}
+use Rattle.cap_job.specs.Bounds.{StepReads}
+use Rattle.cap_job.specs.Judging.{spent_in}
+use Rattle.cap_job.specs.Working.{MachineStand, MachineView, Decided}
 use Rattle.cap_job.specs.Jobs.{JobView, JobGives, JobRuns, NeverBegan, Opened, job_first, order_of, stood_at}
 use Rattle.cap_job.specs.Starting.{IsFresh, Lists, Refuses, asking, filtering, is_text, output_of, output_name}
 
@@ -88,7 +92,9 @@ IsReadyIf (Some preparing) j = IsReady preparing j
 pub record IsFiltered (words : List ℕ) (code : Option (List ℕ)) (old new : JobView) : Type 0 where
   pub rule : Rule
   pub is : IsRule words code rule
-  pub new_is : new ≡ filtering rule old
+  pub programs : List Content
+  pub made : AreNew rule programs
+  pub new_is : new ≡ filtering rule programs old
 
 -- the filter is refused, or there was no memory for it
 pub record RefusesFilter (words : List ℕ) (code : Option (List ℕ)) (tells : Bool) (old : JobView) (status : ℕ) (new : JobView) : Type 0 where
@@ -134,10 +140,20 @@ preparing_left (Some preparing) = 1
 abbrev pub command_left : CommandView → ℕ
 command_left c = preparing_left c.preparing + feed_left c.packets.machine.feed
 
+-- Nothing is read before the filter is there, and no packet is decided; no program has run.
+pub record PreparesOnly (old new : MachineView) : Type 0 where
+  pub feed : new.feed ≡ old.feed
+  pub decided : new.decided ≡ old.decided
+  pub unspent : spent_in new.programs ≡ spent_in old.programs
+
+abbrev pub StepReadsBy : Option Preparing → MachineView → MachineView → Type 0
+StepReadsBy None old new = StepReads old new
+StepReadsBy (Some preparing) old new = PreparesOnly old new
+
 -- ---- all steps
 
 -- what is decided of the inputs, whatever the filter will be
-abbrev pub DecidedBy : Option Preparing → List Stood → List ℕ → MachineView → Type 0
+abbrev pub DecidedBy : Option Preparing → List Stood → List ℕ → MachineStand → Type 0
 DecidedBy None ss before m = Decided ss before m
 DecidedBy (Some (ReadsFilter words code)) ss before m = (rule : Rule) → IsRule words code rule → Decided ss before (asking (Filter rule None) m)
 DecidedBy (Some (Compiles words link)) ss before m = Unit {0}
@@ -146,7 +162,9 @@ DecidedBy (Some (Compiles words link)) ss before m = Unit {0}
 pub record RunsFiltered (words : List ℕ) (code : Option (List ℕ)) (ss : List Stood) (before : List ℕ) (tells : Bool) (first : JobView) (status : ℕ) (out err : OutputView) : Type 0 where
   pub rule : Rule
   pub is : IsRule words code rule
-  pub runs : JobRuns ss before tells (filtering rule first) status out err
+  pub programs : List Content
+  pub made : AreNew rule programs
+  pub runs : JobRuns ss before tells (filtering rule programs first) status out err
 
 -- nothing is read or written but a message
 pub record RunsRefused (words : List ℕ) (code : Option (List ℕ)) (tells : Bool) (first : JobView) (status : ℕ) (out err : OutputView) : Type 0 where

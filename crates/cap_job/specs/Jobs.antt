@@ -19,7 +19,8 @@ use Rattle.cap_job.specs.Judging.{stand_with}
 use Rattle.cap_job.specs.Reports.{name_at, nothing_counted}
 use Rattle.cap_job.specs.Course.{Work, outcome, out}
 use Rattle.cap_job.specs.Feeding.{HeadView, FeedView, Stood, most_steps, ordering_of}
-use Rattle.cap_job.specs.Working.{MachineView, Decided, GoesOn, EndsByCut, WantsMemory, StopsWriting, IsUnderWay, form_of, written_by, failures_by, texts, wholes_of, cut_at}
+use Rattle.flt_bpf.specs.Content.{Content}
+use Rattle.cap_job.specs.Working.{MachineStand, MachineView, machine_with, Decided, GoesOn, EndsByCut, WantsMemory, StopsWriting, IsUnderWay, form_of, written_by, failures_by, texts, wholes_of, cut_at}
 
 -- ---- as it is handed over
 
@@ -53,13 +54,18 @@ feed_first order os = record { heads = map head_at os; place = place_first order
 -- ---- the view
 
 pub record JobView : Type 0 where
-  pub machine : MachineView
+  pub machine : MachineStand
+  -- by which packets are judged
+  pub programs : List Content
   -- the messages
   pub err : OutputView
   -- how many steps it made
   pub turns : ℕ
   -- the status, where it ended
   pub done : Option ℕ
+
+abbrev pub machine_of : JobView → MachineView
+machine_of j = machine_with j.machine j.programs
 
 abbrev pub most_inputs : ℕ
 most_inputs = 256
@@ -68,6 +74,7 @@ most_inputs = 256
 abbrev pub job_first : Ordering → Asked → Writing → List (List ℕ) → List Opened → OutputView → ℕ → OutputView → JobView
 job_first order asked writing names os out room err = record {
   machine = record { feed = feed_first order os; asked = asked; stand = stand_with 0 nothing_counted; drain = record { names = names; target = target_at writing out.written out.failures room }; decided = 0 };
+  programs = [];
   err = err;
   turns = 0;
   done = None;
@@ -98,17 +105,17 @@ end_status end.Clean = 0
 end_status (end.Broken input fault) = 1
 end_status end.OutputFailed = 1
 
-abbrev pub work_of : MachineView → Work
+abbrev pub work_of : MachineStand → Work
 work_of m = record { order = ordering_of m.feed.place; asked = m.asked; form = form_of m }
 
 -- output, message and status are those of inputs with these items
-pub record IsOut (rs : List Rest) (before : List ℕ) (names : List (List ℕ)) (old new : MachineView) (text : List ℕ) (status : ℕ) : Type 0 where
+pub record IsOut (rs : List Rest) (before : List ℕ) (names : List (List ℕ)) (old new : MachineStand) (text : List ℕ) (status : ℕ) : Type 0 where
   pub written : written_by new ≡ before ++ (outcome (work_of old) names rs).output
   pub text_is : text ≡ (outcome (work_of old) names rs).messages
   pub status_is : status ≡ (outcome (work_of old) names rs).status
 
 -- an input is cut short: its device failed in this step, or there was no memory for its next unit
-pub record IsOutCut (ss : List Stood) (before : List ℕ) (names : List (List ℕ)) (old new : MachineView) (text : List ℕ) (status : ℕ) : Type 0 where
+pub record IsOutCut (ss : List Stood) (before : List ℕ) (names : List (List ℕ)) (old new : MachineStand) (text : List ℕ) (status : ℕ) : Type 0 where
   pub input : ℕ
   pub fault : Fault
   pub after : SourceView
@@ -116,7 +123,7 @@ pub record IsOutCut (ss : List Stood) (before : List ℕ) (names : List (List �
   pub out : IsOut (cut_at (wholes_of ss) input cut.held) before names old new text status
 
 -- there was no memory elsewhere: the output stays
-pub record LacksMemory (names : List (List ℕ)) (old new : MachineView) (text : List ℕ) (status : ℕ) : Type 0 where
+pub record LacksMemory (names : List (List ℕ)) (old new : MachineStand) (text : List ℕ) (status : ℕ) : Type 0 where
   pub input : ℕ
   pub fault : Fault
   pub wants : WantsMemory old new fault
@@ -124,25 +131,25 @@ pub record LacksMemory (names : List (List ℕ)) (old new : MachineView) (text :
   pub status_is : status ≡ 1
 
 -- the output's device failed
-pub record LosesOutput (ss : List Stood) (before : List ℕ) (names : List (List ℕ)) (old new : MachineView) (text : List ℕ) (status : ℕ) : Type 0 where
+pub record LosesOutput (ss : List Stood) (before : List ℕ) (names : List (List ℕ)) (old new : MachineStand) (text : List ℕ) (status : ℕ) : Type 0 where
   pub stops : StopsWriting ss before old new
   pub text_is : text ≡ write_failed_message (name_at names (length new.feed.heads))
   pub status_is : status ≡ 1
 
-abbrev pub EndsElse : List Stood → List ℕ → List (List ℕ) → MachineView → MachineView → List ℕ → ℕ → Type 0
+abbrev pub EndsElse : List Stood → List ℕ → List (List ℕ) → MachineStand → MachineStand → List ℕ → ℕ → Type 0
 EndsElse ss before names old new text status =
     IsOutCut ss before names old new text status
     ⊎ LacksMemory names old new text status
     ⊎ LosesOutput ss before names old new text status
 
-abbrev pub EndsAs : List Stood → List ℕ → List (List ℕ) → MachineView → MachineView → List ℕ → ℕ → Type 0
+abbrev pub EndsAs : List Stood → List ℕ → List (List ℕ) → MachineStand → MachineStand → List ℕ → ℕ → Type 0
 EndsAs ss before names old new text status =
     IsOut (wholes_of ss) before names old new text status
     ⊎ EndsElse ss before names old new text status
 
 -- ---- a step
 
-abbrev pub Ends : List (List ℕ) → MachineView → MachineView → List ℕ → ℕ → Type 0
+abbrev pub Ends : List (List ℕ) → MachineStand → MachineStand → List ℕ → ℕ → Type 0
 Ends names old new text status = (ss : List Stood) (before : List ℕ) → Decided ss before old → EndsAs ss before names old new text status
 
 -- a message that can't be written is lost
@@ -176,8 +183,8 @@ pub record IsOutOf (work : Work) (names : List (List ℕ)) (texts : List (List �
 -- All that comes of the inputs was written and told; or something failed in the last step, behind steps that went on. The
 -- output and the messages' device are handed back as that step left them.
 pub record JobRuns (ss : List Stood) (before : List ℕ) (tells : Bool) (first : JobView) (status : ℕ) (output err : OutputView) : Type 0 where
-  pub old : MachineView
-  pub last : MachineView
+  pub old : MachineStand
+  pub last : MachineStand
   pub way : IsUnderWay ss before first.machine old
   pub text : List ℕ
   pub ends : IsOutOf (work_of first.machine) first.machine.drain.names (texts ss) before output.written text status ⊎ EndsElse way.stood before first.machine.drain.names old last text status

@@ -1,5 +1,5 @@
 -- What a contract sees of a judge.
-use Rattle.std.specs.Prelude.{◌≡◌, ℕ, ◌+◌, ◌^◌, ◌≤◌, Bool, true, false, List, [], Option, None, Result, Ok, Err, ◌*◌, Some}
+use Rattle.std.specs.Prelude.{◌≡◌, ℕ, ◌+◌, ◌^◌, ◌≤◌, Bool, true, false, if◌then◌else◌, List, [], ◌∷◌, Option, None, Result, Ok, Err, ◌*◌, Some}
 use Rattle.cap_octet.specs.Packet.{Captured, captured}
 use Rattle.cap_octet.specs.declared.fault.Fault.{Fault}
 use Rattle.flt_bpf.specs.Content.{Content}
@@ -11,14 +11,24 @@ use Rattle.cap_job.specs.declared.judge.Rule.{Rule}
 use Rattle.cap_job.specs.declared.judge.Rule.TheVariants as rule
 use Rattle.cap_job.specs.declared.judge.Verdict as code
 use Rattle.cap_job.specs.declared.judge.Verdict.TheVariants as code_verdict
-use Rattle.cap_job.specs.Judged.{Asked, Select, Filter, Everything, Count, Selection, Stand, Verdict, Pass, Last, Refuse, Judged, is_selected}
+use Rattle.cap_job.specs.Judged.{Asked, Select, Filter, Everything, Count, Selection, Stand, Verdict, Pass, Last, Refuse, Judged, is_selected, is_too_many}
 use Rattle.cap_job.specs.Judged as judged
 use Rattle.cap_job.specs.Reports.{Tally, nothing_counted}
 use Rattle.cap_io.specs.Reading.{most_in_unit}
 
+-- what is asked, and what was met
+pub record JudgeStand : Type 0 where
+  pub asked : Asked
+  pub stand : Stand
+
 pub record JudgeView : Type 0 where
   pub asked : Asked
   pub stand : Stand
+  -- by which packets are judged
+  pub programs : List Content
+
+abbrev pub judge_stand : JudgeView → JudgeStand
+judge_stand j = record { asked = j.asked; stand = j.stand }
 
 abbrev pub stand_with : ℕ → Tally → Stand
 stand_with passed tally = record { passed = passed; window = []; tally = tally }
@@ -55,6 +65,15 @@ spent_by (Select s) p programs = programs
 spent_by (Filter rule count) p programs = spent_on rule p programs
 spent_by Everything p programs = programs
 spent_by Count p programs = programs
+
+-- how many instructions the runs of some programs met
+abbrev pub spent_in : List Content → ℕ
+spent_in [] = 0
+spent_in (program ∷ programs) = program.spent + spent_in programs
+
+-- what deciding a packet costs: a packet too many is refused before any program runs
+abbrev pub spent_by_verdict : Asked → ℕ → Captured → List Content → List Content
+spent_by_verdict asked number p programs = if is_too_many asked number then programs else spent_by asked p programs
 
 -- whether reports are asked
 abbrev pub is_count : Asked → Bool
@@ -103,6 +122,6 @@ abbrev pub emptied : Stand → Stand
 emptied s = record { passed = s.passed; window = s.window; tally = nothing_counted }
 
 -- what was counted is taken, where reports are asked
-abbrev pub Closes : Bool → JudgeView → Option Tally → JudgeView → Type 0
+abbrev pub Closes : Bool → JudgeStand → Option Tally → JudgeStand → Type 0
 Closes false old r new = (r ≡ None) × (new ≡ old)
 Closes true old r new = (r ≡ Some old.stand.tally) × (new ≡ record { asked = old.asked; stand = emptied old.stand })

@@ -1,6 +1,7 @@
 -- The first step of a job that reads a filter or compiles an expression.
-use Rattle.std.specs.Prelude.{◌≡◌, ℕ, ◌+◌, ◌<◌, Bool, true, false, List, length, None, Some}
+use Rattle.std.specs.Prelude.{◌≡◌, ℕ, ◌+◌, ◌<◌, Bool, true, false, List, [], length, None, Some}
 use Rattle.flt_bpf.specs.declared.insn.Insn.{Insn}
+use Rattle.flt_bpf.specs.Content.{Content}
 use Rattle.cap_tools.specs.declared.refusal.Refusal.{Refusal}
 use Rattle.cap_tools.specs.Compiled.{ListingLeaves}
 use Rattle.cap_tools.specs.Messages.{refusal_message, refusal_status}
@@ -14,13 +15,14 @@ use Rattle.cap_job.specs.Judging.{stand_with}
 use Rattle.cap_job.specs.Feeding.{feed_left, most_steps}
 use Rattle.cap_job.specs.Reports.{name_at, nothing_counted}
 use Rattle.cap_job.specs.Bounds.{most_turns, owed}
-use Rattle.cap_job.specs.Working.{MachineView, written_by, failures_by}
+use Rattle.cap_job.specs.Working.{MachineStand, written_by, failures_by}
 use Rattle.cap_job.specs.Jobs.{JobView}
 
 -- a job that made no step
 pub record IsFresh (j : JobView) : Type 0 where
   pub turns : j.turns ≡ 0
   pub done : j.done ≡ None
+  pub programs : j.programs ≡ []
   pub left : feed_left j.machine.feed < most_steps
   pub few : owed j.machine.feed < most_turns j.machine.feed
 
@@ -29,13 +31,14 @@ is_text (Capture sink) = false
 is_text (Text written failures room) = true
 
 -- packets are judged by this from here on
-abbrev pub asking : Asked → MachineView → MachineView
+abbrev pub asking : Asked → MachineStand → MachineStand
 asking asked m = record { feed = m.feed; asked = asked; stand = stand_with 0 nothing_counted; drain = m.drain; decided = m.decided }
 
--- the job whose packets go through the filter
-abbrev pub filtering : Rule → JobView → JobView
-filtering rule j = record {
+-- the job whose packets go through the filter, by these programs
+abbrev pub filtering : Rule → List Content → JobView → JobView
+filtering rule programs j = record {
   machine = asking (Filter rule None) j.machine;
+  programs = programs;
   err = j.err;
   turns = j.turns + 1;
   done = None;
@@ -45,13 +48,14 @@ filtering rule j = record {
 abbrev pub refusing : Refusal → OutputView → JobView → JobView
 refusing refusal err j = record {
   machine = j.machine;
+  programs = j.programs;
   err = err;
   turns = j.turns + 1;
   done = Some (refusal_status refusal);
 }
 
 -- the output
-abbrev pub output_by : MachineView → OutputView
+abbrev pub output_by : MachineStand → OutputView
 output_by m = seen (written_by m) (failures_by m)
 
 abbrev pub output_of : JobView → OutputView
@@ -68,7 +72,7 @@ pub record Refuses (refusal : Refusal) (tells : Bool) (old : JobView) (status : 
   pub new_is : new ≡ refusing refusal new.err old
 
 -- a listing is written, or a prefix of it where the output's device failed
-abbrev pub ListsInto : List Insn → Bool → MachineView → OutputView → ℕ → MachineView → OutputView → Type 0
+abbrev pub ListsInto : List Insn → Bool → MachineStand → OutputView → ℕ → MachineStand → OutputView → Type 0
 ListsInto insns tells old err status new err' =
     Runs (ListingLeaves insns (name_at old.drain.names (length old.feed.heads)) (output_by old) (output_by new) status) tells err err'
 

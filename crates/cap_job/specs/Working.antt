@@ -8,6 +8,7 @@ use Rattle.cap_octet.specs.declared.device.DeviceFault.{DeviceFault}
 use Rattle.cap_io.specs.Capture.{Placed, Items, kind_of}
 use Rattle.cap_io.specs.Source.{SourceView}
 use Rattle.cap_io.specs.Standing.{IsCutShort}
+use Rattle.flt_bpf.specs.Content.{Content}
 use Rattle.cap_job.specs.declared.judge.Verdict.{Verdict}
 use Rattle.cap_job.specs.declared.judge.Verdict.TheVariants as code
 use Rattle.cap_job.specs.declared.machine.End.{End}
@@ -18,14 +19,15 @@ use Rattle.cap_job.specs.Reports.{Report, Tally}
 use Rattle.cap_job.specs.Draining.{DrainView, Drained, Puts, Reports, form_at, written_to, failures_to}
 use Rattle.cap_job.specs.Fed.{Event, Close, Over, Broken, Rest, Ordering, InTurn, Merging, fed, whole}
 use Rattle.cap_job.specs.Judged.{Asked, Stand, verdict}
-use Rattle.cap_job.specs.Judging.{JudgeView, IsWithin, emptied, is_count}
+use Rattle.cap_job.specs.Judging.{JudgeStand, JudgeView, IsWithin, emptied, is_count, spent_by_verdict}
 use Rattle.cap_job.specs.Judging as judging
 use Rattle.cap_job.specs.Course.{Form, Way, set_out, way, course, output, first_link}
 use Rattle.cap_job.specs.Feeding.{FeedView, HeadView, Stood, Standing, HasCome, Among, EndedBefore, ordering_of}
 
 -- ---- the view
 
-pub record MachineView : Type 0 where
+-- where a job stands, whatever its programs cost so far
+pub record MachineStand : Type 0 where
   pub feed : FeedView
   pub asked : Asked
   pub stand : Stand
@@ -33,13 +35,28 @@ pub record MachineView : Type 0 where
   -- how many packets are decided
   pub decided : ℕ
 
-abbrev pub form_of : MachineView → Form
+pub record MachineView : Type 0 where
+  pub feed : FeedView
+  pub asked : Asked
+  pub stand : Stand
+  pub drain : DrainView
+  pub decided : ℕ
+  -- by which packets are judged
+  pub programs : List Content
+
+abbrev pub machine_stand : MachineView → MachineStand
+machine_stand m = record { feed = m.feed; asked = m.asked; stand = m.stand; drain = m.drain; decided = m.decided }
+
+abbrev pub machine_with : MachineStand → List Content → MachineView
+machine_with m programs = record { feed = m.feed; asked = m.asked; stand = m.stand; drain = m.drain; decided = m.decided; programs = programs }
+
+abbrev pub form_of : MachineStand → Form
 form_of m = form_at m.drain
 
-abbrev pub written_by : MachineView → List ℕ
+abbrev pub written_by : MachineStand → List ℕ
 written_by m = written_to m.drain.target
 
-abbrev pub failures_by : MachineView → ℕ
+abbrev pub failures_by : MachineStand → ℕ
 failures_by m = failures_to m.drain.target
 
 -- ---- what holds between steps
@@ -48,12 +65,12 @@ abbrev pub texts : List Stood → List (List ℕ)
 texts ss = map (λ s. s.text) ss
 
 -- the course over these packets and reports, and where it stands
-abbrev pub stands_at : MachineView → List Captured → List Report → Way
+abbrev pub stands_at : MachineStand → List Captured → List Report → Way
 stands_at m packets reports = record { number = m.decided; stand = m.stand; packets = packets; reports = reports; end = None }
 
 -- Of each input some bytes are done: their packets are decided, in the job's order, and the output is what is written of
 -- those that passed, or of the inputs that were read to their ends.
-pub record Decided (ss : List Stood) (before : List ℕ) (m : MachineView) : Type 0 where
+pub record Decided (ss : List Stood) (before : List ℕ) (m : MachineStand) : Type 0 where
   pub standing : Standing ss m.feed.heads
   pub events : List Event
   pub come : HasCome ss m.feed events
@@ -78,21 +95,26 @@ Offers (code.Last p) old r new = PutsAs true (captured p) old r new
 Offers code.Skip old r new = (r ≡ Ok false) × (new ≡ old)
 
 -- a packet is judged, and put where it passes
-pub record Judges (p : Captured) (judge : JudgeView) (number : ℕ) (old : DrainView) (r : Result Bool Fault) (judge' : JudgeView) (new : DrainView) : Type 0 where
+pub record Judges (p : Captured) (judge : JudgeStand) (number : ℕ) (old : DrainView) (r : Result Bool Fault) (judge' : JudgeStand) (new : DrainView) : Type 0 where
   pub answer : Verdict
   pub told : judging.Tells (verdict judge.asked judge.stand number p) (Ok answer) judge'.stand
   pub offers : Offers answer old r new
 
 -- it is refused, and nothing is written
-pub record Rejects (p : Captured) (judge : JudgeView) (number : ℕ) (old : DrainView) (r : Result Bool Fault) (judge' : JudgeView) (new : DrainView) : Type 0 where
+pub record Rejects (p : Captured) (judge : JudgeStand) (number : ℕ) (old : DrainView) (r : Result Bool Fault) (judge' : JudgeStand) (new : DrainView) : Type 0 where
   pub fault : Fault
   pub told : judging.Tells (verdict judge.asked judge.stand number p) (Err fault) judge'.stand
   pub answer : r ≡ Err fault
   pub same : new ≡ old
 
-abbrev pub Decides : Option Captured → JudgeView → ℕ → DrainView → Result Bool Fault → JudgeView → DrainView → Type 0
-Decides None judge number old r judge' new = Unit {0}
+abbrev pub Decides : Option Captured → JudgeStand → ℕ → DrainView → Result Bool Fault → JudgeStand → DrainView → Type 0
+Decides None judge number old r judge' new = ⊥
 Decides (Some p) judge number old r judge' new = Judges p judge number old r judge' new ⊎ Rejects p judge number old r judge' new
+
+-- what deciding the packet in hand cost
+abbrev pub Spends : Option Captured → JudgeView → ℕ → JudgeView → Type 0
+Spends None old number new = ⊥
+Spends (Some p) old number new = new.programs ≡ spent_by_verdict old.asked number p old.programs
 
 -- whether an input that was read to its end is reported: where files are counted, one behind another
 abbrev pub asks_report : Ordering → Asked → Bool
@@ -107,18 +129,18 @@ unless_failed (Ok done) = More
 unless_failed (Err fault) = Done end.OutputFailed
 
 -- an input is reported, and the count begins anew
-pub record ReportsOn (input : ℕ) (head : HeadView) (judge : JudgeView) (old : DrainView) (r : Progress) (judge' : JudgeView) (new : DrainView) : Type 0 where
+pub record ReportsOn (input : ℕ) (head : HeadView) (judge : JudgeStand) (old : DrainView) (r : Progress) (judge' : JudgeStand) (new : DrainView) : Type 0 where
   pub answer : Result (Unit {0}) DeviceFault
   pub reports : Reports (report_at input head judge.stand.tally) old answer new
   pub is : r ≡ unless_failed answer
   pub judge_is : judge' ≡ record { asked = judge.asked; stand = emptied judge.stand }
 
-abbrev pub ClosesBy : Bool → ℕ → HeadView → JudgeView → DrainView → Progress → JudgeView → DrainView → Type 0
+abbrev pub ClosesBy : Bool → ℕ → HeadView → JudgeStand → DrainView → Progress → JudgeStand → DrainView → Type 0
 ClosesBy false input head judge old r judge' new = (r ≡ More) × (judge' ≡ judge) × (new ≡ old)
 ClosesBy true input head judge old r judge' new = ReportsOn input head judge old r judge' new
 
 -- an input was read to its end
-pub record Closes (feed : FeedView) (input : ℕ) (judge : JudgeView) (old : DrainView) (r : Progress) (judge' : JudgeView) (new : DrainView) : Type 0 where
+pub record Closes (feed : FeedView) (input : ℕ) (judge : JudgeStand) (old : DrainView) (r : Progress) (judge' : JudgeStand) (new : DrainView) : Type 0 where
   pub head : HeadView
   pub among : Among feed.heads input head
   pub by : ClosesBy (asks_report (ordering_of feed.place) judge.asked) input head judge old r judge' new
@@ -136,7 +158,7 @@ finish_at (s ∷ ss) zero bytes packets = record { text = s.text; done = s.done 
 finish_at (s ∷ ss) (suc i) bytes packets = s ∷ finish_at ss i bytes packets
 
 -- it goes on, and finished some bytes of one input
-pub record GoesOn (ss : List Stood) (before : List ℕ) (old new : MachineView) : Type 0 where
+pub record GoesOn (ss : List Stood) (before : List ℕ) (old new : MachineStand) : Type 0 where
   pub input : ℕ
   pub finished : List ℕ
   pub packets : List Placed
@@ -149,7 +171,7 @@ pub record GoesOn (ss : List Stood) (before : List ℕ) (old new : MachineView) 
   pub order : ordering_of new.feed.place ≡ ordering_of old.feed.place
 
 -- the output is all that the job writes of inputs with these items, and they end so
-pub record Comes (rs : List Rest) (before : List ℕ) (m new : MachineView) (close : Close) : Type 0 where
+pub record Comes (rs : List Rest) (before : List ℕ) (m new : MachineStand) (close : Close) : Type 0 where
   pub ends : (course m.asked (form_of m) (fed (ordering_of m.feed.place) rs)).end ≡ Some close
   pub written : written_by new ≡ before ++ output (form_of m) (first_link rs) (course m.asked (form_of m) (fed (ordering_of m.feed.place) rs))
 
@@ -163,7 +185,7 @@ abbrev pub wholes_of : List Stood → List Rest
 wholes_of ss = map whole (texts ss)
 
 -- This input's device failed in this step, or there was no memory for its next unit: it is cut short there, where `after` stands.
-pub record EndsByCut (ss : List Stood) (before : List ℕ) (old new : MachineView) (input : ℕ) (fault : Fault) (after : SourceView) : Type 0 where
+pub record EndsByCut (ss : List Stood) (before : List ℕ) (old new : MachineStand) (input : ℕ) (fault : Fault) (after : SourceView) : Type 0 where
   pub front : List Stood
   pub stood : Stood
   pub back : List Stood
@@ -177,12 +199,12 @@ pub record EndsByCut (ss : List Stood) (before : List ℕ) (old new : MachineVie
   pub comes : Comes (cut_at (wholes_of ss) input held) before old new (Broken input fault after.offset)
 
 -- there was no memory to decide the packet in hand: the output stays
-pub record WantsMemory (old new : MachineView) (fault : Fault) : Type 0 where
+pub record WantsMemory (old new : MachineStand) (fault : Fault) : Type 0 where
   pub why : fault ≡ NoMemory
   pub written : written_by new ≡ written_by old
 
 -- The output's device failed in this step, after a beginning of what it would have appended.
-pub record StopsWriting (ss : List Stood) (before : List ℕ) (old new : MachineView) : Type 0 where
+pub record StopsWriting (ss : List Stood) (before : List ℕ) (old new : MachineStand) : Type 0 where
   pub failures : failures_by new ≡ failures_by old + 1
   pub front : List ℕ
   pub bytes : List ℕ
@@ -192,31 +214,31 @@ pub record StopsWriting (ss : List Stood) (before : List ℕ) (old new : Machine
   pub stops : Stops (written_by old) bytes (written_by new)
 
 -- the inputs end so, or the packet in hand is refused; or the input is cut short; or there was no memory
-abbrev pub WhyBroken : List Stood → List ℕ → MachineView → MachineView → ℕ → Fault → SourceView → Type 0
+abbrev pub WhyBroken : List Stood → List ℕ → MachineStand → MachineStand → ℕ → Fault → SourceView → Type 0
 WhyBroken ss before old new input fault after =
     Comes (wholes_of ss) before old new (Broken input fault after.offset) ⊎ EndsByCut ss before old new input fault after ⊎ WantsMemory old new fault
 
-pub record BreaksAt (ss : List Stood) (before : List ℕ) (old new : MachineView) (input : ℕ) (fault : Fault) : Type 0 where
+pub record BreaksAt (ss : List Stood) (before : List ℕ) (old new : MachineStand) (input : ℕ) (fault : Fault) : Type 0 where
   pub head : HeadView
   pub among : Among new.feed.heads input head
   pub why : WhyBroken ss before old new input fault head.source
 
-abbrev pub EndLeaves : List Stood → List ℕ → MachineView → End → MachineView → Type 0
+abbrev pub EndLeaves : List Stood → List ℕ → MachineStand → End → MachineStand → Type 0
 EndLeaves ss before old end.Clean new = Comes (wholes_of ss) before old new Over
 EndLeaves ss before old (end.Broken input fault) new = BreaksAt ss before old new input fault
 EndLeaves ss before old end.OutputFailed new = StopsWriting ss before old new
 
-abbrev pub StepLeaves : List Stood → List ℕ → MachineView → Progress → MachineView → Type 0
+abbrev pub StepLeaves : List Stood → List ℕ → MachineStand → Progress → MachineStand → Type 0
 StepLeaves ss before old More new = GoesOn ss before old new
 StepLeaves ss before old (Done e) new = EndLeaves ss before old e new
 
-abbrev pub StepGives : MachineView → Progress → MachineView → Type 0
+abbrev pub StepGives : MachineStand → Progress → MachineStand → Type 0
 StepGives old r new = (ss : List Stood) (before : List ℕ) → Decided ss before old → StepLeaves ss before old r new
 
 -- ---- many steps
 
 -- A machine that went on from its first view, without a failure of the output: of the same texts more bytes are done.
-pub record IsUnderWay (ss : List Stood) (before : List ℕ) (first m : MachineView) : Type 0 where
+pub record IsUnderWay (ss : List Stood) (before : List ℕ) (first m : MachineStand) : Type 0 where
   pub stood : List Stood
   pub texts : texts stood ≡ texts ss
   pub decided : Decided stood before m

@@ -23,14 +23,14 @@ pub struct Head<I: Input, A: Allocator> {
 }
 
 impl<I: Input, A: Allocator> Model for Head<I, A> {
-    ghost use Rattle.std.specs.Prelude.{◌≡◌};
+    ghost use Rattle.std.specs.Prelude.{◌≡◌, is_some, true};
     ghost use Rattle.cap_job.specs.Feeding.{HeadView, time_of};
 
     ghost Value = { HeadView };
 
     ghost view = { λ h. record { source = h.source; waiting = h.waiting; greatest = h.greatest } };
 
-    ghost invariant = { λ h. h.time ≡ time_of h.source.packet };
+    ghost invariant = { λ h. (h.time ≡ time_of h.source.packet) × (h.waiting ≡ true → is_some h.source.packet ≡ true) };
 }
 
 /// Which input is next, by the order of the packets.
@@ -70,7 +70,7 @@ impl<I: Input, A: Allocator> Head<I, A> {
     ghost use Rattle.cap_octet.specs.Packet.{captured};
     ghost use Rattle.cap_io.specs.Capture.{first_link_of, kind_of};
     ghost use Rattle.cap_io.specs.Reading.{most_in_unit};
-    ghost use Rattle.std.specs.Prelude.{◌≤◌, length};
+    ghost use Rattle.std.specs.Prelude.{◌≤◌, IsSome, length};
     ghost use Rattle.std.specs.Option.{IfSome};
 
     fn new(source: Source<I, A>) -> Self
@@ -102,6 +102,7 @@ impl<I: Input, A: Allocator> Head<I, A> {
     pub fn packet(&self) -> Option<Packet<'_>>
         ensures packet { option_map captured result ≡ self.now.source.packet }
         ensures short { IfSome result (λ packet. length packet.bytes.now ≤ most_in_unit) }
+        ensures waits { self.now.waiting ≡ true → IsSome result }
     {
         self.source.head()
     }

@@ -1,14 +1,14 @@
 //! The jobs of commands: what is read before the first packet, and then the packets.
-ghost use Rattle.std.specs.Prelude.{ℕ, ◌≡◌, ◌+◌, ◌<◌, ◌≤◌, IfErr, IfOk, IsTrue, None, Some, map, string_bytes, true, vec_len};
+ghost use Rattle.std.specs.Prelude.{ℕ, ◌≡◌, ◌+◌, ◌<◌, ◌≤◌, [], IfErr, IfOk, IsTrue, None, Some, map, string_bytes, true, vec_len};
 ghost use Rattle.std.specs.Option.{option_map};
 ghost use Rattle.cap_tools.specs.Command.{is_proper};
 ghost use Rattle.cap_tools.specs.Printed.{IsRule, IsWhy, code_of};
 ghost use Rattle.cap_tools.specs.Printing.{AreNew, programs_of, rule_of};
 ghost use Rattle.cap_tools.specs.Running.{seen};
-ghost use Rattle.cap_job.specs.Bounds.{IsLight, StepReads, most_turns};
-ghost use Rattle.cap_job.specs.Commands.{CommandRuns, IsReady, Prepares, RunsCommand, assigned, preparing_of};
-ghost use Rattle.cap_job.specs.Jobs.{IsStatus, done_by, opened, order_of};
-ghost use Rattle.cap_job.specs.Judging.{asked_of};
+ghost use Rattle.cap_job.specs.Bounds.{IsLight, most_turns};
+ghost use Rattle.cap_job.specs.Commands.{CommandRuns, IsReady, Prepares, PreparesOnly, RunsCommand, assigned, preparing_of};
+ghost use Rattle.cap_job.specs.Jobs.{IsStatus, done_by, machine_of, opened, order_of};
+ghost use Rattle.cap_job.specs.Judging.{asked_of, programs_in};
 
 use crate::drain::Writing;
 use crate::judge::Rule;
@@ -57,6 +57,7 @@ fn assignment_of<A: Allocator>(command: Command<A>) -> Assignment<A>
     ensures asked { asked_of result.work.rule ≡ (assigned command).asked }
     ensures order { order_of result.work.merges ≡ (assigned command).order }
     ensures writing { result.work.writing ≡ (assigned command).writing }
+    ensures programs { programs_in result.work.rule ≡ [] }
 {
     match command {
         Command::Edit(edit) => {
@@ -130,7 +131,7 @@ impl<I: Input, O: Output, E: Output, A: Allocator> Model for Job<I, O, E, A> {
 }
 
 impl<I: Input, O: Output, E: Output, A: Allocator + Copy + Drop> Job<I, O, E, A> {
-    ghost use Rattle.cap_job.specs.Commands.{GivesBy, command_first, command_left};
+    ghost use Rattle.cap_job.specs.Commands.{GivesBy, StepReadsBy, command_first, command_left};
     ghost use Rattle.cap_job.specs.Working.{failures_by, written_by};
 
     /// The job of a proper command. `names` are those of the inputs, then of the output. Where there is no memory
@@ -169,7 +170,7 @@ impl<I: Input, O: Output, E: Output, A: Allocator + Copy + Drop> Job<I, O, E, A>
         ensures status { IsStatus result }
         ensures turns { self.old.packets.done ≡ None → self.new.packets.turns ≡ self.old.packets.turns + 1 }
         ensures few { self.old.packets.done ≡ None → self.new.packets.turns ≤ most_turns self.old.packets.machine.feed + 1 }
-        ensures reads { StepReads self.old.packets.machine self.new.packets.machine }
+        ensures reads { StepReadsBy self.old.preparing (machine_of self.old.packets) (machine_of self.new.packets) }
         ensures light { IsLight self.new.packets.machine }
         ensures left { result ≡ Turn.More → command_left self.new < command_left self.old }
         ensures names { self.new.packets.machine.drain.names ≡ self.old.packets.machine.drain.names }
@@ -209,7 +210,7 @@ fn prepare<I: Input, O: Output, E: Output, A: Allocator + Copy + Drop>(
     ensures status { IsStatus result }
     ensures turns { packets.new.turns ≡ packets.old.turns + 1 }
     ensures few { packets.new.turns ≤ most_turns packets.old.machine.feed + 1 }
-    ensures reads { StepReads packets.old.machine packets.new.machine }
+    ensures reads { PreparesOnly (machine_of packets.old) (machine_of packets.new) }
     ensures light { IsLight packets.new.machine }
     ensures feed { packets.new.machine.feed ≡ packets.old.machine.feed }
     ensures names { packets.new.machine.drain.names ≡ packets.old.machine.drain.names }

@@ -48,13 +48,13 @@ pub struct Judge<A: Allocator> {
 impl<A: Allocator> Model for Judge<A> {
     ghost use Rattle.std.specs.Coded.{codes};
     ghost use Rattle.cap_tools.specs.Compiling.{expression_code};
-    ghost use Rattle.cap_job.specs.Judging.{JudgeView, asked_of, stand_with};
+    ghost use Rattle.cap_job.specs.Judging.{JudgeView, asked_of, programs_in, stand_with};
 
     ghost Value = { JudgeView };
 
     ghost coded = { Prim.hlevel (codes, expression_code) };
 
-    ghost view = { λ j. record { asked = asked_of j.rule; stand = stand_with j.passed j.tally } };
+    ghost view = { λ j. record { asked = asked_of j.rule; stand = stand_with j.passed j.tally; programs = programs_in j.rule } };
 }
 
 fn is_last(count: Option<u64>, passed: u64) -> bool
@@ -102,10 +102,10 @@ impl<A: Allocator> Rule<A> {
 
 impl<A: Allocator> Judge<A> {
     ghost use Rattle.cap_job.specs.Judged.{verdict};
-    ghost use Rattle.cap_job.specs.Judging.{Closes, GrowsByOne, IsWithin, JudgeView, Tells, stand_with};
+    ghost use Rattle.cap_job.specs.Judging.{Closes, GrowsByOne, IsWithin, JudgeView, Tells, judge_stand, spent_by_verdict, stand_with};
 
     pub fn new(rule: Rule<A>) -> Self
-        ensures { result ≡ record { asked = asked_of rule; stand = stand_with 0 nothing_counted } }
+        ensures { result ≡ record { asked = asked_of rule; stand = stand_with 0 nothing_counted; programs = programs_in rule } }
     {
         Judge {
             rule,
@@ -124,6 +124,7 @@ impl<A: Allocator> Judge<A> {
         ensures asked { self.new.asked ≡ self.old.asked }
         ensures passed { self.old.stand.passed ≤ number → self.new.stand.passed ≤ number }
         ensures counted { GrowsByOne self.old.stand.tally self.new.stand.tally }
+        ensures spends { self.new.programs ≡ spent_by_verdict self.old.asked number (captured packet.now) self.old.programs }
     {
         if self.rule.counts() {
             self.tally = self.tally.counted(packet);
@@ -147,7 +148,8 @@ impl<A: Allocator> Judge<A> {
 
     /// What was counted of the input in hand, where packets are counted. The count begins anew.
     pub fn close(&mut self) -> Option<Tally>
-        ensures { Closes (is_count self.old.asked) self.old result self.new }
+        ensures closes { Closes (is_count self.old.asked) (judge_stand self.old) result (judge_stand self.new) }
+        ensures programs { self.new.programs ≡ self.old.programs }
     {
         if !self.rule.counts() {
             return None;

@@ -1,11 +1,11 @@
 //! The steps of a job over its packets.
-ghost use Rattle.std.specs.Prelude.{◌≡◌, ◌+◌, ◌<◌, ◌≤◌, IsTrue, length};
+ghost use Rattle.std.specs.Prelude.{◌≡◌, ◌+◌, ◌<◌, ◌≤◌, IsTrue, length, true};
 ghost use Rattle.cap_job.specs.Bounds.{HasFewInterfaces, IsBounded, IsLight};
 ghost use Rattle.cap_job.specs.Feeding.{most_steps};
 ghost use Rattle.cap_job.specs.Draining.{Lists};
 ghost use Rattle.cap_job.specs.Starting.{asking};
-ghost use Rattle.cap_job.specs.Judging.{asked_of, GrowsByOne, IsWithin};
-ghost use Rattle.cap_job.specs.Working.{Closes, Decides, Offers, unwritten};
+ghost use Rattle.cap_job.specs.Judging.{asked_of, GrowsByOne, IsWithin, judge_stand, programs_in};
+ghost use Rattle.cap_job.specs.Working.{Closes, Decides, Offers, Spends, machine_stand, unwritten};
 
 use crate::drain::Drain;
 use crate::feed::{Feed, Head, Next};
@@ -56,7 +56,7 @@ impl<I: Input, O: Output, A: Allocator> Model for Machine<I, O, A> {
 
     ghost coded = { Prim.hlevel (codes, expression_code) };
 
-    ghost view = { λ m. record { feed = m.feed; asked = m.judge.asked; stand = m.judge.stand; drain = m.drain; decided = m.decided } };
+    ghost view = { λ m. record { feed = m.feed; asked = m.judge.asked; stand = m.judge.stand; drain = m.drain; decided = m.decided; programs = m.judge.programs } };
 
     ghost invariant = { λ m. (m.decided + feed_left m.feed ≤ most_steps) × IsBounded m.feed m.drain };
 }
@@ -90,21 +90,19 @@ fn decide<I: Input, O: Output, A: Allocator + Copy + Drop>(
     drain: &mut Drain<O, A>,
     number: u128,
 ) -> Result<bool, Fault>
+    requires { head.now.waiting ≡ true }
     ensures told { IsTrue O.tells → judge.old.stand.passed < number → IsWithin most_steps judge.old.stand.tally
-        → Decides head.now.source.packet judge.old number drain.old result judge.new drain.new }
+        → Decides head.now.source.packet (judge_stand judge.old) number drain.old result (judge_stand judge.new) drain.new }
     ensures asked { judge.new.asked ≡ judge.old.asked }
+    ensures spends { Spends head.now.source.packet judge.old number judge.new }
     ensures passed { judge.old.stand.passed ≤ number → judge.new.stand.passed ≤ number }
     ensures counted { GrowsByOne judge.old.stand.tally judge.new.stand.tally }
     ensures few { HasFewInterfaces drain.old.target → HasFewInterfaces drain.new.target }
     ensures names { drain.new.names ≡ drain.old.names }
 {
-    match head.packet() {
-        Some(packet) => {
-            let verdict = judge.judge(number, &packet)?;
-            put(verdict, drain)
-        }
-        None => Err(Fault::NoMemory),
-    }
+    let packet = head.packet().unwrap();
+    let verdict = judge.judge(number, &packet)?;
+    put(verdict, drain)
 }
 
 /// Reports an input that was read to its end, where files are counted, one behind another.
@@ -115,7 +113,8 @@ fn close<I: Input, O: Output, A: Allocator>(
     drain: &mut Drain<O, A>,
 ) -> Progress
     requires { input < length feed.now.heads }
-    ensures told { IsTrue O.tells → Closes feed.now input judge.old drain.old result judge.new drain.new }
+    ensures told { IsTrue O.tells → Closes feed.now input (judge_stand judge.old) drain.old result (judge_stand judge.new) drain.new }
+    ensures programs { judge.new.programs ≡ judge.old.programs }
     ensures asked { judge.new.asked ≡ judge.old.asked }
     ensures few { HasFewInterfaces drain.old.target → HasFewInterfaces drain.new.target }
     ensures names { drain.new.names ≡ drain.old.names }
@@ -155,13 +154,13 @@ impl<I: Input, O: Output, A: Allocator + Copy + Drop> Machine<I, O, A> {
     ghost use Rattle.cap_job.specs.Feeding as feeding;
     ghost use Rattle.cap_job.specs.Feeding.{feed_left, most_steps};
     ghost use Rattle.cap_job.specs.Reports.{name_at};
-    ghost use Rattle.cap_job.specs.Working.{StepGives};
+    ghost use Rattle.cap_job.specs.Working.{StepGives, machine_stand};
 
     /// A job of which nothing is done.
     pub fn new(feed: Feed<I, A>, judge: Judge<A>, drain: Drain<O, A>) -> Self
         requires left { feed_left feed ≤ most_steps }
         requires bounded { IsBounded feed drain }
-        ensures { result ≡ record { feed = feed; asked = judge.asked; stand = judge.stand; drain = drain; decided = 0 } }
+        ensures { result ≡ record { feed = feed; asked = judge.asked; stand = judge.stand; drain = drain; decided = 0; programs = judge.programs } }
     {
         Machine {
             feed,
@@ -187,7 +186,8 @@ impl<I: Input, O: Output, A: Allocator + Copy + Drop> Machine<I, O, A> {
 
     /// From here on packets are judged by this rule.
     pub fn judge_by(&mut self, rule: Rule<A>)
-        ensures { self.new ≡ asking (asked_of rule) self.old }
+        ensures stand { machine_stand self.new ≡ asking (asked_of rule) (machine_stand self.old) }
+        ensures programs { self.new.programs ≡ programs_in rule }
     {
         self.judge = Judge::new(rule);
     }
@@ -197,8 +197,10 @@ impl<I: Input, O: Output, A: Allocator + Copy + Drop> Machine<I, O, A> {
         ensures told { IsTrue O.tells → Lists program.now.insns self.old.drain result self.new.drain }
         ensures feed { self.new.feed ≡ self.old.feed }
         ensures decided { self.new.decided ≡ self.old.decided }
-        ensures light { IsLight self.new }
+        ensures light { IsLight (machine_stand self.new) }
         ensures names { self.new.drain.names ≡ self.old.drain.names }
+        ensures programs { self.new.programs ≡ self.old.programs }
+        ensures asked { self.new.asked ≡ self.old.asked }
     {
         self.drain.list(program)
     }
@@ -215,12 +217,12 @@ impl<I: Input, O: Output, A: Allocator + Copy + Drop> Machine<I, O, A> {
 
     /// Reads one input on, decides one packet, or ends the output.
     pub fn step(&mut self) -> Progress
-        ensures told { IsTrue I.tells → IsTrue O.tells → StepGives self.old result self.new }
+        ensures told { IsTrue I.tells → IsTrue O.tells → StepGives (machine_stand self.old) result (machine_stand self.new) }
         ensures asked { self.new.asked ≡ self.old.asked }
         ensures names { self.new.drain.names ≡ self.old.drain.names }
         ensures progress { result ≡ Progress.More → feed_left self.new.feed < feed_left self.old.feed }
         ensures reads { StepReads self.old self.new }
-        ensures light { IsLight self.new }
+        ensures light { IsLight (machine_stand self.new) }
         ensures paid { result ≡ Progress.More → IsPaid self.old.feed self.new.feed }
     {
         match self.feed.next() {
@@ -234,12 +236,12 @@ impl<I: Input, O: Output, A: Allocator + Copy + Drop> Machine<I, O, A> {
     fn answer(&mut self, input: usize) -> Progress
         requires next { feeding.Tells self.old.feed.place self.old.feed.heads (Next.Answer input) }
         requires within { input < length self.old.feed.heads }
-        ensures told { IsTrue I.tells → IsTrue O.tells → StepGives self.old result self.new }
+        ensures told { IsTrue I.tells → IsTrue O.tells → StepGives (machine_stand self.old) result (machine_stand self.new) }
         ensures asked { self.new.asked ≡ self.old.asked }
         ensures names { self.new.drain.names ≡ self.old.drain.names }
         ensures progress { result ≡ Progress.More → feed_left self.new.feed < feed_left self.old.feed }
         ensures reads { StepReads self.old self.new }
-        ensures light { IsLight self.new }
+        ensures light { IsLight (machine_stand self.new) }
         ensures paid { result ≡ Progress.More → IsPaid self.old.feed self.new.feed }
     {
         let number = self.decided + 1;
@@ -266,12 +268,12 @@ impl<I: Input, O: Output, A: Allocator + Copy + Drop> Machine<I, O, A> {
     fn fetch(&mut self, input: usize) -> Progress
         requires next { feeding.Tells self.old.feed.place self.old.feed.heads (Next.Read input) }
         requires within { input < length self.old.feed.heads }
-        ensures told { IsTrue I.tells → IsTrue O.tells → StepGives self.old result self.new }
+        ensures told { IsTrue I.tells → IsTrue O.tells → StepGives (machine_stand self.old) result (machine_stand self.new) }
         ensures asked { self.new.asked ≡ self.old.asked }
         ensures names { self.new.drain.names ≡ self.old.drain.names }
         ensures progress { result ≡ Progress.More → feed_left self.new.feed < feed_left self.old.feed }
         ensures reads { StepReads self.old self.new }
-        ensures light { IsLight self.new }
+        ensures light { IsLight (machine_stand self.new) }
         ensures paid { result ≡ Progress.More → IsPaid self.old.feed self.new.feed }
     {
         match self.feed.fetch(input) {
@@ -284,12 +286,12 @@ impl<I: Input, O: Output, A: Allocator + Copy + Drop> Machine<I, O, A> {
     /// Ends the output.
     fn finish(&mut self) -> Progress
         requires next { feeding.Tells self.old.feed.place self.old.feed.heads Next.Nothing }
-        ensures told { IsTrue I.tells → IsTrue O.tells → StepGives self.old result self.new }
+        ensures told { IsTrue I.tells → IsTrue O.tells → StepGives (machine_stand self.old) result (machine_stand self.new) }
         ensures asked { self.new.asked ≡ self.old.asked }
         ensures names { self.new.drain.names ≡ self.old.drain.names }
         ensures progress { result ≡ Progress.More → feed_left self.new.feed < feed_left self.old.feed }
         ensures reads { StepReads self.old self.new }
-        ensures light { IsLight self.new }
+        ensures light { IsLight (machine_stand self.new) }
         ensures paid { result ≡ Progress.More → IsPaid self.old.feed self.new.feed }
     {
         let first = self.feed.first_link();

@@ -1,11 +1,12 @@
 //! Whole jobs, step by step.
-ghost use Rattle.std.specs.Prelude.{ℕ, ◌≡◌, ◌+◌, ◌<◌, ◌≤◌, IsTrue, None, Some, length, map, true};
+ghost use Rattle.std.specs.Prelude.{ℕ, ◌≡◌, ◌+◌, ◌<◌, ◌≤◌, [], IsTrue, None, Some, length, map, true};
 ghost use Rattle.std.specs.String.{string_bytes};
 ghost use Rattle.cap_octet.specs.Device.{AppendsOrStops, failures_of};
 ghost use Rattle.cap_tools.specs.Running.{seen};
-ghost use Rattle.cap_job.specs.Bounds.{IsLight, StepReads, most_turns};
+ghost use Rattle.cap_job.specs.Bounds.{IsLight, ReadsNothing, StepReads, most_turns};
 ghost use Rattle.cap_job.specs.Feeding.{feed_left};
-ghost use Rattle.cap_job.specs.Judging.{asked_of};
+ghost use Rattle.cap_job.specs.Judging.{asked_of, programs_in};
+ghost use Rattle.cap_job.specs.Working.{machine_stand};
 ghost use Rattle.cap_job.specs.Starting.{ListsInto, is_text, output_by};
 ghost use Rattle.cap_job.specs.Jobs.{end_status, end_text, most_inputs, opened, order_of};
 
@@ -55,14 +56,15 @@ impl<I: Input, O: Output, E: Output, A: Allocator> Model for PacketJob<I, O, E, 
     ghost use Rattle.cap_job.specs.Bounds.{HasFewTurns, IsLight};
     ghost use Rattle.cap_job.specs.Feeding.{feed_left};
     ghost use Rattle.cap_job.specs.Jobs.{JobView, IsCounted};
+    ghost use Rattle.cap_job.specs.Working.{machine_stand};
 
     ghost Value = { JobView };
 
     ghost coded = { Prim.hlevel (codes, expression_code) };
 
-    ghost view = { λ j. record { machine = j.machine; err = seen (E.written j.err) (E.failures j.err); turns = j.turns; done = j.done } };
+    ghost view = { λ j. record { machine = machine_stand j.machine; programs = j.machine.programs; err = seen (E.written j.err) (E.failures j.err); turns = j.turns; done = j.done } };
 
-    ghost invariant = { λ j. IsCounted j.done j.turns (feed_left j.machine.feed) × HasFewTurns j.done j.turns j.machine.feed × IsLight j.machine };
+    ghost invariant = { λ j. IsCounted j.done j.turns (feed_left j.machine.feed) × HasFewTurns j.done j.turns j.machine.feed × IsLight (machine_stand j.machine) };
 }
 
 /// Tells how a job ended.
@@ -101,11 +103,13 @@ fn list<I: Input, O: Output, E: Output, A: Allocator + Copy + Drop>(
 ) -> u8
     requires { is_text machine.old.drain.target ≡ true }
     ensures status { result ≤ 2 }
-    ensures told { IsTrue O.tells → ListsInto program.now.insns E.tells machine.old (seen (E.written err.old) (E.failures err.old)) result machine.new (seen (E.written err.new) (E.failures err.new)) }
+    ensures told { IsTrue O.tells → ListsInto program.now.insns E.tells (machine_stand machine.old) (seen (E.written err.old) (E.failures err.old)) result (machine_stand machine.new) (seen (E.written err.new) (E.failures err.new)) }
     ensures feed { machine.new.feed ≡ machine.old.feed }
     ensures decided { machine.new.decided ≡ machine.old.decided }
-    ensures light { IsLight machine.new }
+    ensures light { IsLight (machine_stand machine.new) }
     ensures names { machine.new.drain.names ≡ machine.old.drain.names }
+    ensures programs { machine.new.programs ≡ machine.old.programs }
+    ensures asked { machine.new.asked ≡ machine.old.asked }
 {
     match machine.list(program) {
         Ok(()) => 0,
@@ -120,8 +124,8 @@ impl<I: Input, O: Output, E: Output, A: Allocator + Copy + Drop> PacketJob<I, O,
     ghost use Rattle.std.specs.Result.{IfOk, IfErr};
     ghost use Rattle.std.specs.Prelude.{true};
     ghost use Rattle.cap_tools.specs.Messages.{refusal_status};
-    ghost use Rattle.cap_tools.specs.Printing.{rule_of};
-    ghost use Rattle.cap_job.specs.Jobs.{IsStatus, JobGives, done_by, job_first};
+    ghost use Rattle.cap_tools.specs.Printing.{programs_of, rule_of};
+    ghost use Rattle.cap_job.specs.Jobs.{IsStatus, JobGives, done_by, job_first, machine_of};
     ghost use Rattle.cap_job.specs.Starting.{EndsList, IsFresh, Refuses, filtering, is_text};
     ghost use Rattle.cap_job.specs.Working.{failures_by, written_by};
 
@@ -137,7 +141,8 @@ impl<I: Input, O: Output, E: Output, A: Allocator + Copy + Drop> PacketJob<I, O,
     ) -> Result<Self, (O, E)>
     where
         I: Drop,
-        requires { length inputs.items ≤ most_inputs }
+        requires few { length inputs.items ≤ most_inputs }
+        requires programs { programs_in work.rule ≡ [] }
         ensures fresh { IfOk result (λ job. job ≡ job_first (order_of work.merges) (asked_of work.rule) work.writing (map string_bytes names.items)
             (map (λ input. opened (I.unread input) (I.given input) (I.failures input) (I.never_fails input)) inputs.items) (seen (O.written out) (O.failures out)) (O.room out) (seen (E.written err) (E.failures err))) }
         ensures refused { IfErr result (λ devices. (devices.0 ≡ out) × (devices.1 ≡ err)) }
@@ -165,7 +170,7 @@ impl<I: Input, O: Output, E: Output, A: Allocator + Copy + Drop> PacketJob<I, O,
         ensures status { IsStatus result }
         ensures turns { self.old.done ≡ None → self.new.turns ≡ self.old.turns + 1 }
         ensures few { self.old.done ≡ None → self.new.turns ≤ most_turns self.old.machine.feed + 1 }
-        ensures reads { StepReads self.old.machine self.new.machine }
+        ensures reads { StepReads (machine_of self.old) (machine_of self.new) }
         ensures light { IsLight self.new.machine }
         ensures left { result ≡ Turn.More → (self.new.turns ≡ self.old.turns + 1) × (feed_left self.new.machine.feed < feed_left self.old.machine.feed) }
         ensures kept { (self.new.machine.drain.names ≡ self.old.machine.drain.names) × (self.new.machine.asked ≡ self.old.machine.asked) }
@@ -189,7 +194,7 @@ impl<I: Input, O: Output, E: Output, A: Allocator + Copy + Drop> PacketJob<I, O,
     pub(crate) fn filter(&mut self, filter: Filter<A>) -> Turn
         requires { IsFresh self.old }
         ensures more { result ≡ Turn.More }
-        ensures filtered { self.new ≡ filtering (rule_of filter) self.old }
+        ensures filtered { self.new ≡ filtering (rule_of filter) (programs_of filter) self.old }
         ensures light { IsLight self.new.machine }
     {
         self.machine.judge_by(Rule::Filter(filter, None));
@@ -221,7 +226,7 @@ impl<I: Input, O: Output, E: Output, A: Allocator + Copy + Drop> PacketJob<I, O,
         ensures status { IsStatus result }
         ensures turns { self.new.turns ≡ self.old.turns + 1 }
         ensures feed { self.new.machine.feed ≡ self.old.machine.feed }
-        ensures reads { StepReads self.old.machine self.new.machine }
+        ensures reads { ReadsNothing (machine_of self.old) (machine_of self.new) }
         ensures light { IsLight self.new.machine }
         ensures names { self.new.machine.drain.names ≡ self.old.machine.drain.names }
     {

@@ -2,7 +2,7 @@ use Rattle.std.proofs.Common.{◌≡◌, true, Ok, Err, refl, sym, ◌∙◌, ap
 use Rattle.cap_job.specs.declared.machine.End.TheVariants as end
 use Rattle.cap_job.specs.declared.machine.Progress.TheVariants.{More, Done}
 use Rattle.cap_job.specs.Feeding.{is_in_turn}
-use Rattle.cap_job.specs.Judging.{is_count}
+use Rattle.cap_job.specs.Judging.{is_count, judge_stand}
 use Rattle.cap_job.proofs.Fetches.{closes-by}
 use Rattle.cap_job.proofs.Judges.{closes-asked}
 use Rattle.cap_job.proofs.machine.close.Goals as goal
@@ -13,12 +13,12 @@ returns-in-Ok-clause-told g c = λ to.
     record {
       head = c.head-head.result.now;
       among = c.head-head.ensures;
-      by = closes-by c.args.feed.now.place c.args.input c.head-head.result.now c.args.judge.now c.close.new.self c.args.drain.now c.report.new.self More c.in-Some.tally
-          _ (Ok tt) turn c.in-Some.ensures (ap₂ (λ k n. record { input = c.args.input; kind = k; size = n; tally = c.in-Some.tally }) c.kind.ensures c.offset.ensures) (c.in-Ok.ensures.told to) refl;
+      by = closes-by c.args.feed.now.place c.args.input c.head-head.result.now (judge_stand c.args.judge.now) (judge_stand c.close.new.self) c.args.drain.now c.report.new.self More c.in-Some.tally
+          _ (Ok tt) turn c.in-Some.ensures.closes (ap₂ (λ k n. record { input = c.args.input; kind = k; size = n; tally = c.in-Some.tally }) c.kind.ensures c.offset.ensures) (c.in-Ok.ensures.told to) refl;
     }
 
 pub returns-in-Ok-clause-asked : goal.returns-in-Ok-clause-asked
-returns-in-Ok-clause-asked g c = closes-asked (is_count c.args.judge.now.asked) c.args.judge.now c.close.new.self _ c.in-Some.ensures
+returns-in-Ok-clause-asked g c = closes-asked (is_count c.args.judge.now.asked) (judge_stand c.args.judge.now) (judge_stand c.close.new.self) _ c.in-Some.ensures.closes
 
 pub returns-in-Err-clause-told : goal.returns-in-Err-clause-told
 returns-in-Err-clause-told g c = λ to.
@@ -26,9 +26,9 @@ returns-in-Err-clause-told g c = λ to.
     record {
       head = c.head-head.result.now;
       among = c.head-head.ensures;
-      by = closes-by c.args.feed.now.place c.args.input c.head-head.result.now c.args.judge.now c.close.new.self c.args.drain.now c.report.new.self (Done end.OutputFailed) c.in-Some.tally
-          _ (Err c.in-Err.field-0) turn c.in-Some.ensures (ap₂ (λ k n. record { input = c.args.input; kind = k; size = n; tally = c.in-Some.tally }) c.kind.ensures c.offset.ensures) (c.in-Err.ensures.told to) refl;
+      by = closes-by c.args.feed.now.place c.args.input c.head-head.result.now (judge_stand c.args.judge.now) (judge_stand c.close.new.self) c.args.drain.now c.report.new.self (Done end.OutputFailed) c.in-Some.tally
+          _ (Err c.in-Err.field-0) turn c.in-Some.ensures.closes (ap₂ (λ k n. record { input = c.args.input; kind = k; size = n; tally = c.in-Some.tally }) c.kind.ensures c.offset.ensures) (c.in-Err.ensures.told to) refl;
     }
 
 pub returns-in-Err-clause-asked : goal.returns-in-Err-clause-asked
-returns-in-Err-clause-asked g c = closes-asked (is_count c.args.judge.now.asked) c.args.judge.now c.close.new.self _ c.in-Some.ensures
+returns-in-Err-clause-asked g c = closes-asked (is_count c.args.judge.now.asked) (judge_stand c.args.judge.now) (judge_stand c.close.new.self) _ c.in-Some.ensures.closes

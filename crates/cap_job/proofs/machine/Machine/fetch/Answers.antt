@@ -5,8 +5,8 @@ use Rattle.cap_job.specs.declared.machine.Progress.TheVariants.{More}
 use Rattle.cap_job.specs.Feeding.{Stood, closes, feed_left}
 use Rattle.cap_job.specs.Feeding as feeding
 use Rattle.cap_job.specs.Judged.{Asked}
-use Rattle.cap_job.specs.Judging.{JudgeView}
-use Rattle.cap_job.specs.Working.{MachineView, Decided, GoesOn, BreaksAt, StepLeaves}
+use Rattle.cap_job.specs.Judging.{JudgeView, judge_stand}
+use Rattle.cap_job.specs.Working.{MachineStand, MachineView, machine_stand, machine_with, Decided, GoesOn, BreaksAt, StepLeaves}
 use Rattle.cap_job.proofs.Fetches.{Follows, FetchLeaves, fetch-leaves}
 use Rattle.cap_job.specs.Bounds.{StepReads, reads_on, IsPaid}
 use Rattle.cap_job.proofs.Lefts.{Goes, fetch-kept, fetch-less}
@@ -41,14 +41,14 @@ invariant_of-self-in-Err g c =
 pub returns-in-Ok-true-clause-told : goal.returns-in-Ok-true-clause-told
 returns-in-Ok-true-clause-told g c = λ ti to ss before d.
     let j : JudgeView = c.self.inside.judge in
-    let m : MachineView = record { feed = c.self.inside.feed; asked = j.asked; stand = j.stand; drain = c.self.inside.drain; decided = c.self.inside.decided } in
-    let new : MachineView = record { feed = c.fetch.new.self; asked = j.asked; stand = j.stand; drain = c.self.inside.drain; decided = c.self.inside.decided } in
+    let m : MachineStand = record { feed = c.self.inside.feed; asked = j.asked; stand = j.stand; drain = c.self.inside.drain; decided = c.self.inside.decided } in
+    let new : MachineStand = record { feed = c.fetch.new.self; asked = j.asked; stand = j.stand; drain = c.self.inside.drain; decided = c.self.inside.decided } in
     let found : c.fetch.result ≡ Ok true = c.in-Ok-true.is ∙ ap Ok c.in-Ok-true.field-0-test in
-    let F : Result Bool Fault → Type 0 = λ a. Follows a c.fetch.new.self c.args.input j m.drain More j m.drain in
+    let F : Result Bool Fault → Type 0 = λ a. Follows a c.fetch.new.self c.args.input (judge_stand j) m.drain More (judge_stand j) m.drain in
     let L : Result Bool Fault → Type 0 = λ a. FetchLeaves ss before m c.args.input a More new in
-    let P : MachineView → Type 0 = λ v. Decided ss before v → feeding.Tells v.feed.place v.feed.heads (next.Read c.args.input) → GoesOn ss before v new in
-    let core : P m = λ d t. subst L found
-    (fetch-leaves ss before m.feed.heads m.feed.place m.asked m.stand m.drain m.decided c.args.input c.fetch.result c.fetch.new.self More j m.drain t (c.fetch.ensures.told ti) d (subst F (sym found) (refl, refl))) in
+    let P : MachineView → Type 0 = λ v. Decided ss before (machine_stand v) → feeding.Tells v.feed.place v.feed.heads (next.Read c.args.input) → GoesOn ss before (machine_stand v) new in
+    let core : P (machine_with m c.self.inside.judge.programs) = λ d t. subst L found
+    (fetch-leaves ss before m.feed.heads m.feed.place m.asked m.stand m.drain m.decided c.args.input c.fetch.result c.fetch.new.self More (judge_stand j) m.drain t (c.fetch.ensures.told ti) d (subst F (sym found) (refl, refl))) in
     subst P c.self.view_is core d c.requires.next
 
 pub returns-in-Ok-true-clause-progress : goal.returns-in-Ok-true-clause-progress
@@ -60,15 +60,15 @@ pub returns-in-Ok-false-clause-told : goal.returns-in-Ok-false-clause-told
 returns-in-Ok-false-clause-told g c = λ ti to ss before d.
     let j : JudgeView = c.self.inside.judge in
     let j' : JudgeView = c.close.new.judge in
-    let m : MachineView = record { feed = c.self.inside.feed; asked = j.asked; stand = j.stand; drain = c.self.inside.drain; decided = c.self.inside.decided } in
-    let new : Asked → MachineView = λ k. record { feed = c.fetch.new.self; asked = k; stand = j'.stand; drain = c.close.new.drain; decided = c.self.inside.decided } in
+    let m : MachineStand = record { feed = c.self.inside.feed; asked = j.asked; stand = j.stand; drain = c.self.inside.drain; decided = c.self.inside.decided } in
+    let new : Asked → MachineStand = λ k. record { feed = c.fetch.new.self; asked = k; stand = j'.stand; drain = c.close.new.drain; decided = c.self.inside.decided } in
     let found : c.fetch.result ≡ Ok false = c.in-Ok-false.is ∙ ap Ok c.in-Ok-false.field-0-test in
-    let F : Result Bool Fault → Type 0 = λ a. Follows a c.fetch.new.self c.args.input j m.drain c.close.result j' c.close.new.drain in
+    let F : Result Bool Fault → Type 0 = λ a. Follows a c.fetch.new.self c.args.input (judge_stand j) m.drain c.close.result (judge_stand j') c.close.new.drain in
     let L : Result Bool Fault → Type 0 = λ a. FetchLeaves ss before m c.args.input a c.close.result (new m.asked) in
     let N : Asked → Type 0 = λ k. StepLeaves ss before m c.close.result (new k) in
-    let P : MachineView → Type 0 = λ v. Decided ss before v → feeding.Tells v.feed.place v.feed.heads (next.Read c.args.input) → StepLeaves ss before v c.close.result (new j'.asked) in
-    let core : P m = λ d t. subst N (sym c.close.ensures.asked) (subst L found
-    (fetch-leaves ss before m.feed.heads m.feed.place m.asked m.stand m.drain m.decided c.args.input c.fetch.result c.fetch.new.self c.close.result j' c.close.new.drain t (c.fetch.ensures.told ti) d (subst F (sym found) (c.close.ensures.told to)))) in
+    let P : MachineView → Type 0 = λ v. Decided ss before (machine_stand v) → feeding.Tells v.feed.place v.feed.heads (next.Read c.args.input) → StepLeaves ss before (machine_stand v) c.close.result (new j'.asked) in
+    let core : P (machine_with m c.self.inside.judge.programs) = λ d t. subst N (sym c.close.ensures.asked) (subst L found
+    (fetch-leaves ss before m.feed.heads m.feed.place m.asked m.stand m.drain m.decided c.args.input c.fetch.result c.fetch.new.self c.close.result (judge_stand j') c.close.new.drain t (c.fetch.ensures.told ti) d (subst F (sym found) (c.close.ensures.told to)))) in
     subst P c.self.view_is core d c.requires.next
 
 pub returns-in-Ok-false-clause-progress : goal.returns-in-Ok-false-clause-progress
@@ -79,20 +79,20 @@ returns-in-Ok-false-clause-progress g c = λ more.
 pub returns-in-Err-clause-told : goal.returns-in-Err-clause-told
 returns-in-Err-clause-told g c = λ ti to ss before d.
     let j : JudgeView = c.self.inside.judge in
-    let m : MachineView = record { feed = c.self.inside.feed; asked = j.asked; stand = j.stand; drain = c.self.inside.drain; decided = c.self.inside.decided } in
-    let new : MachineView = record { feed = c.fetch.new.self; asked = j.asked; stand = j.stand; drain = c.self.inside.drain; decided = c.self.inside.decided } in
-    let F : Result Bool Fault → Type 0 = λ a. Follows a c.fetch.new.self c.args.input j m.drain More j m.drain in
+    let m : MachineStand = record { feed = c.self.inside.feed; asked = j.asked; stand = j.stand; drain = c.self.inside.drain; decided = c.self.inside.decided } in
+    let new : MachineStand = record { feed = c.fetch.new.self; asked = j.asked; stand = j.stand; drain = c.self.inside.drain; decided = c.self.inside.decided } in
+    let F : Result Bool Fault → Type 0 = λ a. Follows a c.fetch.new.self c.args.input (judge_stand j) m.drain More (judge_stand j) m.drain in
     let L : Result Bool Fault → Type 0 = λ a. FetchLeaves ss before m c.args.input a More new in
-    let P : MachineView → Type 0 = λ v. Decided ss before v → feeding.Tells v.feed.place v.feed.heads (next.Read c.args.input) → BreaksAt ss before v new c.args.input c.in-Err.fault in
-    let core : P m = λ d t. subst L c.in-Err.is
-    (fetch-leaves ss before m.feed.heads m.feed.place m.asked m.stand m.drain m.decided c.args.input c.fetch.result c.fetch.new.self More j m.drain t (c.fetch.ensures.told ti) d (subst F (sym c.in-Err.is) (refl, refl))) in
+    let P : MachineView → Type 0 = λ v. Decided ss before (machine_stand v) → feeding.Tells v.feed.place v.feed.heads (next.Read c.args.input) → BreaksAt ss before (machine_stand v) new c.args.input c.in-Err.fault in
+    let core : P (machine_with m c.self.inside.judge.programs) = λ d t. subst L c.in-Err.is
+    (fetch-leaves ss before m.feed.heads m.feed.place m.asked m.stand m.drain m.decided c.args.input c.fetch.result c.fetch.new.self More (judge_stand j) m.drain t (c.fetch.ensures.told ti) d (subst F (sym c.in-Err.is) (refl, refl))) in
     subst P c.self.view_is core d c.requires.next
 
 pub returns-in-Ok-true-clause-reads : goal.returns-in-Ok-true-clause-reads
 returns-in-Ok-true-clause-reads g c =
     let j : JudgeView = c.self.inside.judge in
-    let P : MachineView → Type 0 = λ v. StepReads v (record { feed = c.fetch.new.self; asked = j.asked; stand = j.stand; drain = c.self.inside.drain; decided = c.self.inside.decided }) in
-    subst P c.self.view_is (reads_on c.args.input c.fetch.result (record { fetches = c.fetch.ensures.steps; decided = refl; drain = λ on. refl }))
+    let P : MachineView → Type 0 = λ v. StepReads v (record { feed = c.fetch.new.self; asked = j.asked; stand = j.stand; drain = c.self.inside.drain; decided = c.self.inside.decided; programs = j.programs }) in
+    subst P c.self.view_is (reads_on c.args.input c.fetch.result (record { fetches = c.fetch.ensures.steps; decided = refl; programs = refl; drain = λ on. refl }))
 
 pub returns-in-Ok-true-clause-paid : goal.returns-in-Ok-true-clause-paid
 returns-in-Ok-true-clause-paid g c = λ more.
@@ -102,8 +102,8 @@ returns-in-Ok-true-clause-paid g c = λ more.
 pub returns-in-Ok-false-clause-reads : goal.returns-in-Ok-false-clause-reads
 returns-in-Ok-false-clause-reads g c =
     let j : JudgeView = c.close.new.judge in
-    let P : MachineView → Type 0 = λ v. StepReads v (record { feed = c.fetch.new.self; asked = j.asked; stand = j.stand; drain = c.close.new.drain; decided = c.self.inside.decided }) in
-    subst P c.self.view_is (reads_on c.args.input c.fetch.result (record { fetches = c.fetch.ensures.steps; decided = refl; drain = λ on. absurd (let e : closes c.fetch.result ≡ true = ap closes (c.in-Ok-false.is ∙ ap Ok c.in-Ok-false.field-0-test) in cc) }))
+    let P : MachineView → Type 0 = λ v. StepReads v (record { feed = c.fetch.new.self; asked = j.asked; stand = j.stand; drain = c.close.new.drain; decided = c.self.inside.decided; programs = j.programs }) in
+    subst P c.self.view_is (reads_on c.args.input c.fetch.result (record { fetches = c.fetch.ensures.steps; decided = refl; programs = c.close.ensures.programs; drain = λ on. absurd (let e : closes c.fetch.result ≡ true = ap closes (c.in-Ok-false.is ∙ ap Ok c.in-Ok-false.field-0-test) in cc) }))
 
 pub returns-in-Ok-false-clause-paid : goal.returns-in-Ok-false-clause-paid
 returns-in-Ok-false-clause-paid g c = λ more.
@@ -113,8 +113,8 @@ returns-in-Ok-false-clause-paid g c = λ more.
 pub returns-in-Err-clause-reads : goal.returns-in-Err-clause-reads
 returns-in-Err-clause-reads g c =
     let j : JudgeView = c.self.inside.judge in
-    let P : MachineView → Type 0 = λ v. StepReads v (record { feed = c.fetch.new.self; asked = j.asked; stand = j.stand; drain = c.self.inside.drain; decided = c.self.inside.decided }) in
-    subst P c.self.view_is (reads_on c.args.input c.fetch.result (record { fetches = c.fetch.ensures.steps; decided = refl; drain = λ on. refl }))
+    let P : MachineView → Type 0 = λ v. StepReads v (record { feed = c.fetch.new.self; asked = j.asked; stand = j.stand; drain = c.self.inside.drain; decided = c.self.inside.decided; programs = j.programs }) in
+    subst P c.self.view_is (reads_on c.args.input c.fetch.result (record { fetches = c.fetch.ensures.steps; decided = refl; programs = refl; drain = λ on. refl }))
 
 pub returns-in-Ok-true-clause-light : goal.returns-in-Ok-true-clause-light
 returns-in-Ok-true-clause-light g c =

@@ -3,7 +3,7 @@ use Rattle.std.specs.List.{All}
 use Rattle.cap_job.specs.Bounds.{HasFewInterfaces, IsLight, IsSmall, most_turns, owed}
 use Rattle.cap_job.specs.Draining.{DrainView}
 use Rattle.cap_job.specs.Feeding.{FeedView, feed_left}
-use Rattle.cap_job.specs.Working.{MachineView}
+use Rattle.cap_job.specs.Working.{MachineView, machine_stand}
 use Rattle.cap_job.specs.Jobs.{Opened, opened, feed_first, order_of}
 use Rattle.cap_job.proofs.Starts.{first-few, first-left, same-count}
 use Rattle.cap_job.proofs.Weights.{few-first, is-light, small-first}
@@ -13,7 +13,7 @@ pub new-machine-requires : goal.new-machine-requires
 new-machine-requires g c =
     let os : List Opened = map (λ input. opened (g.I.Input.unread input) (g.I.Input.given input) (g.I.Input.failures input) (g.I.Input.never_fails input)) c.args.inputs.items in
     let few : length os ≡ length c.args.inputs.items = same-count (λ input. opened (g.I.Input.unread input) (g.I.Input.given input) (g.I.Input.failures input) (g.I.Input.never_fails input)) c.args.inputs.items in
-    let less = c.requires in
+    let less = c.requires.few in
     let bound = first-left (order_of c.args.work.merges) os (omega (arith, few, less)) in
     let left : feed_left c.in-Some.feed ≡ feed_left (feed_first (order_of c.args.work.merges) os) = ap feed_left c.in-Some.ensures in
     let heads : All IsSmall c.in-Some.feed.heads = (let P : FeedView → Type 0 = λ f. All IsSmall f.heads in subst P (sym c.in-Some.ensures) (small-first os)) in
@@ -24,7 +24,7 @@ pub invariant_of-result : goal.invariant_of-result
 invariant_of-result g c =
     let os : List Opened = map (λ input. opened (g.I.Input.unread input) (g.I.Input.given input) (g.I.Input.failures input) (g.I.Input.never_fails input)) c.args.inputs.items in
     let few : length os ≡ length c.args.inputs.items = same-count (λ input. opened (g.I.Input.unread input) (g.I.Input.given input) (g.I.Input.failures input) (g.I.Input.never_fails input)) c.args.inputs.items in
-    let less = c.requires in
+    let less = c.requires.few in
     let is : c.new-machine.result.feed ≡ feed_first (order_of c.args.work.merges) os = ap (λ (m : MachineView). m.feed) c.new-machine.ensures ∙ c.in-Some.ensures in
     let bound = first-left (order_of c.args.work.merges) os (omega (arith, few, less)) in
     let left : feed_left c.new-machine.result.feed ≡ feed_left (feed_first (order_of c.args.work.merges) os) = ap feed_left is in
@@ -33,4 +33,4 @@ invariant_of-result g c =
     let turns = first-few (order_of c.args.work.merges) os in
     let heads : All IsSmall c.in-Some.feed.heads = (let P : FeedView → Type 0 = λ f. All IsSmall f.heads in subst P (sym c.in-Some.ensures) (small-first os)) in
     let few : HasFewInterfaces c.new-drain.result.target = (let P : DrainView → Type 0 = λ d. HasFewInterfaces d.target in subst P (sym c.new-drain.ensures) (few-first c.args.work.writing _ _ _)) in
-    (omega (arith, left, bound), omega (arith, owes, most, turns), subst IsLight (sym c.new-machine.ensures) (is-light (record { feed = c.in-Some.feed; asked = c.new-judge.result.asked; stand = c.new-judge.result.stand; drain = c.new-drain.result; decided = 0 }) (heads, few)))
+    (omega (arith, left, bound), omega (arith, owes, most, turns), (let L : MachineView → Type 0 = λ m. IsLight (machine_stand m) in subst L (sym c.new-machine.ensures) (is-light (record { feed = c.in-Some.feed; asked = c.new-judge.result.asked; stand = c.new-judge.result.stand; drain = c.new-drain.result; decided = 0 }) (heads, few))))

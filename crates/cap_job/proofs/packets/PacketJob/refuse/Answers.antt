@@ -2,13 +2,15 @@ use Rattle.std.proofs.Common.{ℕ, ◌+◌, Some, refl, ap, subst}
 use Rattle.cap_tools.specs.Messages.{refusal_status}
 use Rattle.cap_tools.specs.Running.{seen}
 use Rattle.cap_job.specs.Jobs.{JobView}
+use Rattle.cap_job.specs.Working.{machine_stand}
 use Rattle.cap_job.specs.Starting.{Refuses}
 use Rattle.cap_job.proofs.packets.PacketJob.refuse.Goals as goal
 
 pub returns-clause-refused : goal.returns-clause-refused
 returns-clause-refused g c =
     let with : ℕ → JobView = λ status. record {
-      machine = c.self.inside.machine;
+      machine = machine_stand c.self.inside.machine;
+      programs = c.self.inside.machine.programs;
       err = seen (g.E.Output.written c.tell_refusal.new.output) (g.E.Output.failures c.tell_refusal.new.output);
       turns = c.self.inside.turns + 1;
       done = Some status;

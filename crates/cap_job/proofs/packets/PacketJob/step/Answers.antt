@@ -2,21 +2,21 @@ use Rattle.std.proofs.Common.{List, ℕ, ◌+◌, Some, subst}
 use Rattle.cap_tools.specs.Running.{seen}
 use Rattle.cap_job.specs.Bounds.{StepReads}
 use Rattle.cap_job.specs.Feeding.{Stood}
-use Rattle.cap_job.specs.Working.{Decided}
-use Rattle.cap_job.specs.Jobs.{JobView, EndsJob, EndsAs, end_text}
+use Rattle.cap_job.specs.Working.{Decided, machine_stand}
+use Rattle.cap_job.specs.Jobs.{JobView, EndsJob, EndsAs, end_text, machine_of}
 use Rattle.cap_job.proofs.Ends.{ends-as}
 use Rattle.cap_job.proofs.packets.PacketJob.step.Goals as goal
 
 pub returns-in-Done-clause-told : goal.returns-in-Done-clause-told
 returns-in-Done-clause-told g c = λ ti to none.
     let names : List (List ℕ) = c.step.new.self.drain.names in
-    let new : JobView = record { machine = c.step.new.self; err = seen (g.E.Output.written c.tell.new.err) (g.E.Output.failures c.tell.new.err); turns = c.self.inside.turns + 1; done = Some c.status_of-status.result } in
+    let new : JobView = record { machine = machine_stand c.step.new.self; programs = c.step.new.self.programs; err = seen (g.E.Output.written c.tell.new.err) (g.E.Output.failures c.tell.new.err); turns = c.self.inside.turns + 1; done = Some c.status_of-status.result } in
     let P : JobView → Type 0 = λ v. EndsJob g.E.Output.tells v c.status_of-status.result new in
-    let N : List (List ℕ) → Type 0 = λ l. (ss : List Stood) (before : List ℕ) → Decided ss before c.self.inside.machine
-    → EndsAs ss before l c.self.inside.machine c.step.new.self (end_text names c.step.new.self.feed.heads c.in-Done.end) c.status_of-status.result in
+    let N : List (List ℕ) → Type 0 = λ l. (ss : List Stood) (before : List ℕ) → Decided ss before (machine_stand c.self.inside.machine)
+    → EndsAs ss before l (machine_stand c.self.inside.machine) (machine_stand c.step.new.self) (end_text names c.step.new.self.feed.heads c.in-Done.end) c.status_of-status.result in
     subst P c.self.view_is (record {
       text = end_text names c.step.new.self.feed.heads c.in-Done.end;
-      ends = subst N c.in-Done.ensures.names (λ ss before d. rw c.status_of-status.ensures (ends-as ss before names c.self.inside.machine c.step.new.self c.in-Done.end (c.in-Done.ensures.told ti to ss before d)));
+      ends = subst N c.in-Done.ensures.names (λ ss before d. rw c.status_of-status.ensures (ends-as ss before names (machine_stand c.self.inside.machine) (machine_stand c.step.new.self) c.in-Done.end (c.in-Done.ensures.told ti to ss before d)));
       told = record {
         answer = c.tell.result;
         told = λ te. c.tell.ensures.told te;
@@ -26,10 +26,10 @@ returns-in-Done-clause-told g c = λ ti to none.
 
 pub returns-in-More-clause-reads : goal.returns-in-More-clause-reads
 returns-in-More-clause-reads g c =
-    let P : JobView → Type 0 = λ v. StepReads v.machine c.step.new.self in
+    let P : JobView → Type 0 = λ v. StepReads (machine_of v) c.step.new.self in
     subst P c.self.view_is c.in-More.ensures.reads
 
 pub returns-in-Done-clause-reads : goal.returns-in-Done-clause-reads
 returns-in-Done-clause-reads g c =
-    let P : JobView → Type 0 = λ v. StepReads v.machine c.step.new.self in
+    let P : JobView → Type 0 = λ v. StepReads (machine_of v) c.step.new.self in
     subst P c.self.view_is c.in-Done.ensures.reads
