@@ -8,7 +8,7 @@ use Rattle.cap_job.specs.Draining.{Target, Capture, Text, Lists, ListsTo, writte
 use Rattle.cap_job.specs.Reports.{name_at}
 use Rattle.cap_job.specs.Working.{MachineStand, written_by}
 use Rattle.std.proofs.lemmas.Bool.{and_parts, eqb-true, leb-true}
-use Rattle.cap_tools.specs.Command.{is_proper, has_one_filter, has_proper_ranges}
+use Rattle.cap_tools.specs.Command.{is_proper, is_proper_edit, is_proper_print}
 use Rattle.cap_tools.specs.declared.command.Command.{Command}
 use Rattle.cap_tools.specs.declared.command.Command.TheVariants as command
 use Rattle.cap_tools.specs.Compiled.{IsCompiled}
@@ -32,10 +32,10 @@ lists-some tells words link prog old new (turn.Done status) compiled lists = inl
 
 -- a proper command has at most so many inputs
 pub few-inputs : {Z : Type 0} (c : Command Z) (n : ℕ) → is_proper c n ≡ true → n ≤ most_inputs
-few-inputs (command.Edit edit) n is = let one = eqb-true n 1 (and_parts (nat_eq n 1) (has_proper_ranges edit.ranges.items) is).0 in omega (arith, one)
+few-inputs (command.Edit edit) n is = let one = eqb-true n 1 (and_parts (nat_eq n 1) (is_proper_edit edit) is).0 in omega (arith, one)
 few-inputs (command.Merge merge) n is = leb-true n most_inputs (and_parts (nat_le 1 n) (nat_le n most_inputs) is).1
 few-inputs command.Infos n is = leb-true n most_inputs (and_parts (nat_le 1 n) (nat_le n most_inputs) is).1
-few-inputs (command.Print print) n is = let one = eqb-true n 1 (and_parts (nat_eq n 1) (has_one_filter (string_bytes print.expr) print.code) is).0 in omega (arith, one)
+few-inputs (command.Print print) n is = let one = eqb-true n 1 (and_parts (nat_eq n 1) (is_proper_print print) is).0 in omega (arith, one)
 few-inputs (command.Compile compile) n is = let none = eqb-true n 0 is in omega (arith, none)
 
 -- the job that was made is that of the command

@@ -1,5 +1,6 @@
 -- What a contract sees of the job of a command, from its first step on.
-use Rattle.std.specs.Prelude.{◌≡◌, ◌⊎◌, ℕ, ◌+◌, Bool, true, not, List, map, Option, None, Some, string_bytes}
+use Rattle.std.specs.Prelude.{◌≡◌, ◌⊎◌, ℕ, ◌+◌, Bool, true, not, List, map, Option, None, Some, string_bytes, unwrap_or}
+use Rattle.cap_octet.specs.declared.format.Format.TheVariants.{Pcap}
 use Rattle.flt_gen.specs.declared.link.Link.{Link}
 use Rattle.flt_bpf.specs.declared.insn.Insn.{Insn}
 use Rattle.flt_bpf.specs.Content.{Content}
@@ -59,7 +60,7 @@ assigned (command.Print print) = record {
   preparing = Some (ReadsFilter (string_bytes print.expr) (code_of print));
   asked = Everything;
   order = InTurn;
-  writing = writing.Capture print.write;
+  writing = writing.Capture (unwrap_or print.write Pcap);
 }
 assigned (command.Compile compile) = record { preparing = Some (Compiles (string_bytes compile.expr) compile.link); asked = Everything; order = InTurn; writing = writing.Text }
 

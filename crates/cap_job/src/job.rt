@@ -13,7 +13,7 @@ ghost use Rattle.cap_job.specs.Judging.{asked_of, programs_in};
 use crate::drain::Writing;
 use crate::judge::Rule;
 use crate::packets::{PacketJob, Turn, Work};
-use cap_octet::{Input, Output};
+use cap_octet::{Format, Input, Output};
 use cap_tools::command::{Command, Compile, Print};
 use cap_tools::compile::compile_text;
 use cap_tools::filter::{Filter, read_code, read_words};
@@ -80,7 +80,7 @@ fn assignment_of<A: Allocator>(command: Command<A>) -> Assignment<A>
             work: work(Rule::Count, Writing::Text, false),
         },
         Command::Print(print) => {
-            let writing = Writing::Capture(print.write);
+            let writing = Writing::Capture(print.write.unwrap_or(Format::Pcap));
             Assignment {
                 preparation: Some(Preparation::Filter(print)),
                 work: work(Rule::Everything, writing, false),

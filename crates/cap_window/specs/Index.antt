@@ -29,7 +29,7 @@ hashes_of mask marks = map (hash_of mask) marks
 pub record IsSound (mask : ℕ) (marks : List Mark) (capacity : ℕ) (links : List ℕ) (link_capacity : ℕ) (heads : List ℕ) (newest : ℕ) : Type 0 where
   pub index : IsIndex (hashes_of mask marks) links heads newest
   pub same_capacity : link_capacity ≡ capacity
-  pub within : (1 ≤ capacity) × (capacity < 2 ^ 31)
+  pub within : capacity + 1 < 2 ^ 32
   pub fits : length marks ≤ capacity
   pub wide : length heads ≡ mask + 1
   pub room : newest + 1 < 2 ^ 32

@@ -1,11 +1,11 @@
-ghost use Rattle.std.specs.Prelude.{◌^◌, ◌<◌, ◌≤◌};
+ghost use Rattle.std.specs.Prelude.{◌+◌, ◌^◌, ◌<◌};
 
 use crate::Window;
 use std::test::Fail;
 
 /// Which of the letters, each a packet of its own, are seen before in a window of so many.
 fn seen(rt: HostRuntime, capacity: u32, letters: &str) -> Result<String, Fail>
-    requires { (1 ≤ capacity) × (capacity < 2 ^ 31) }
+    requires { capacity + 1 < 2 ^ 32 }
 {
     let mut window = Window::new(rt.alloc(), capacity)?;
     let mut seen = String::new(rt.alloc());

@@ -39,7 +39,7 @@ impl<A: Allocator> Model for Window<A> {
 }
 
 impl<A: Allocator> Window<A> {
-    ghost use Rattle.std.specs.Prelude.{◌≡◌, ◌^◌, ◌<◌, ◌≤◌, ◌↔◌, [], ◌∷◌, ◌++◌, length, IsTrue, IfOk};
+    ghost use Rattle.std.specs.Prelude.{◌≡◌, ◌+◌, ◌^◌, ◌<◌, ◌↔◌, [], ◌∷◌, ◌++◌, length, IsTrue, IfOk};
     ghost use Rattle.std.specs.List.{Contains};
     ghost use Rattle.cap_window.specs.Marks.{last, mark_of};
     ghost use Rattle.cap_window.specs.View.{window};
@@ -49,7 +49,7 @@ impl<A: Allocator> Window<A> {
     pub fn new(alloc: A, capacity: u32) -> Result<Self, AllocError>
     where
         A: Clone,
-        requires { (1 ≤ capacity) × (capacity < 2 ^ 31) }
+        requires { capacity + 1 < 2 ^ 32 }
         ensures { IfOk result (λ w. w ≡ window [] capacity) }
     {
         let marks = HeapCircularBuffer::with_capacity(alloc.clone()?, capacity as usize)?;
@@ -135,7 +135,7 @@ fn lower(numbers: &mut [u32], less: u32)
 /// The number of the newest mark, of which so many are kept. Where the numbers run out all become smaller by one
 /// difference, and what left the window becomes 0.
 fn renumbered(heads: &mut [u32], newest: u32, kept: u32) -> u32
-    requires { (kept ≤ newest) × (kept < 2 ^ 31) }
+    requires { (kept ≤ newest) × (kept + 1 < 2 ^ 32) }
     ensures heads { EachIndex heads.old (λ h. slice_index heads.new h ≡ slice_index heads.old h - (newest - result)) }
     ensures bounds { (kept ≤ result) × (result ≤ newest) }
     ensures room { result + 1 < 2 ^ 32 }
