@@ -30,6 +30,7 @@ use Rattle.cap_job.specs.declared.feed.Next.TheVariants as next
 use Rattle.cap_job.specs.Reports.{Report, Tally}
 use Rattle.cap_job.specs.Fed.{Rest, Event, Came, Close, Over, Broken, Fed, fed, behind}
 use Rattle.cap_job.specs.Judged.{Asked, Select, Filter, Everything, Count, Selection, Stand, Verdict, Pass, Last, Skip, Refuse, verdict}
+use Rattle.cap_window.specs.Marks.{mark_of, has_same}
 use Rattle.cap_job.specs.Judged as judged_spec
 use Rattle.cap_job.specs.Judging.{JudgeStand, GrowsByOne, IsWithin, Tells}
 use Rattle.cap_lines.specs.declared.print.Options.{Options}
@@ -391,8 +392,8 @@ own-filters (chosen.Refuse fault) count stand p own = own
 own-unique : (window : Option ℕ) (stand : Stand) (p : Captured) → Own (judged_spec.unique window stand p).verdict
 own-unique None stand p = tt
 own-unique (Some n) stand p =
-    elim (list_any (judged_spec.is_same (judged_spec.mark_of p)) stand.window)
-    as (λ b. Own (if b then judged_spec.skipped (judged_spec.with_mark (n - 1) (judged_spec.mark_of p) stand) else judged_spec.passes (judged_spec.with_mark (n - 1) (judged_spec.mark_of p) stand) p).verdict)
+    elim (has_same stand.window (mark_of p.bytes))
+    as (λ b. Own (if b then judged_spec.skipped (judged_spec.with_mark (n - 1) (mark_of p.bytes) stand) else judged_spec.passes (judged_spec.with_mark (n - 1) (mark_of p.bytes) stand) p).verdict)
     [ true ↦ tt | false ↦ tt ]
 
 own-timed : (s : Selection) (stand : Stand) (p : Captured) (o : Option ℕ) → Own (judged_spec.timed s stand p o).verdict

@@ -10,7 +10,7 @@ use Rattle.cap_job.specs.Draining.{DrainView, Target, Capture, Text, Lines}
 use Rattle.cap_job.specs.Feeding.{HeadView, FeedView, Among, FetchSteps, Settles, closes, place_left, waiting_total, weight_of}
 use Rattle.cap_octet.specs.Packet.{Captured}
 use Rattle.cap_tools.specs.Compiling.{spent_in}
-use Rattle.cap_job.specs.Judging.{most_spent, spent_by_verdict}
+use Rattle.cap_job.specs.Judging.{most_spent, places, spent_by_verdict, window_asked}
 use Rattle.cap_job.specs.declared.machine.Progress.{Progress}
 use Rattle.cap_job.specs.declared.machine.Progress.TheVariants.{More, Done}
 use Rattle.cap_job.specs.Working.{MachineStand, MachineView}
@@ -123,13 +123,13 @@ target_weight (Capture sink) = names_weight (map (λ i. i.name) sink.interfaces)
 target_weight (Text written failures room) = 0
 target_weight (Lines options written failures room) = 0
 
--- the bytes that a job holds of its inputs and of its output, and 128 for its counters
+-- the bytes that a job holds of its inputs and of its output, 20 for each mark in its window, and 128 for its counters
 abbrev pub weight : MachineStand → ℕ
-weight m = heads_weight m.feed.heads + target_weight m.drain.target + 128
+weight m = heads_weight m.feed.heads + target_weight m.drain.target + 20 * length m.stand.window + 128
 
--- a unit for each input, 280 bytes for each interface that inputs and output may have, and the counters
-abbrev pub most_weight : ℕ → ℕ
-most_weight inputs = inputs * most_in_unit + (256 * inputs + most_output_interfaces) * 280 + 128
+-- a unit for each input, 280 bytes for each interface that inputs and output may have, so many marks, and the counters
+abbrev pub most_weight : ℕ → ℕ → ℕ
+most_weight inputs marks = inputs * most_in_unit + (256 * inputs + most_output_interfaces) * 280 + 20 * marks + 128
 
 -- at most one unit is held of an input, and few interfaces
 abbrev pub IsSmall : HeadView → Type 0
@@ -143,6 +143,7 @@ HasFewInterfaces (Lines options written failures room) = Unit {0}
 abbrev pub IsBounded : FeedView → DrainView → Type 0
 IsBounded feed drain = All IsSmall feed.heads × HasFewInterfaces drain.target
 
--- what a job holds of so many inputs is bounded
+-- what a job holds of so many inputs is bounded; a window of n packets has n - 1 marks, and there is none where no
+-- duplicates are looked for
 abbrev pub IsLight : MachineStand → Type 0
-IsLight m = weight m ≤ most_weight (length m.feed.heads)
+IsLight m = weight m ≤ most_weight (length m.feed.heads) (places (window_asked m.asked))

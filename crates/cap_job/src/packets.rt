@@ -151,7 +151,9 @@ impl<I: Input, O: Output, E: Output, A: Allocator + Copy + Drop> PacketJob<I, O,
         let Some(feed) = Feed::new(alloc, inputs, work.merges) else {
             return Err((out, err));
         };
-        let judge = Judge::new(work.rule);
+        let Ok(judge) = Judge::new(alloc, work.rule) else {
+            return Err((out, err));
+        };
         let drain = Drain::new(alloc, work.writing, names, out);
         let machine = Machine::new(feed, judge, drain);
         Ok(PacketJob {
@@ -198,7 +200,7 @@ impl<I: Input, O: Output, E: Output, A: Allocator + Copy + Drop> PacketJob<I, O,
         ensures filtered { self.new ≡ filtering (rule_of filter) count (programs_of filter) self.old }
         ensures light { IsLight self.new.machine }
     {
-        self.machine.judge_by(Rule::Filter(filter, count));
+        self.machine.judge_by(filter, count);
         self.turns += 1;
         Turn::More
     }

@@ -58,7 +58,7 @@ invariant_of-self g c =
     let P : MachineView → Type 0 = λ v. feeding.Tells v.feed.place v.feed.heads (next.Answer c.args.input) in
     let less = settle-less c.self.inside.feed c.settle.new.self c.args.input (subst P (sym c.self.view_is) c.requires.next) c.settle.ensures in
     let was = c.self.invariant.0 in
-    (omega (arith, less, was), (settle-small c.self.inside.feed c.settle.new.self c.args.input c.settle.ensures c.self.invariant.1.0, c.decide.ensures.few c.self.invariant.1.1))
+    (omega (arith, less, was), (settle-small c.self.inside.feed c.settle.new.self c.args.input c.settle.ensures c.self.invariant.1.0, c.decide.ensures.few c.self.invariant.1.1), c.decide.ensures.marks)
 
 pub returns-after-last-clause-reads : goal.returns-after-last-clause-reads
 returns-after-last-clause-reads g c =
@@ -102,9 +102,9 @@ returns-after-last-clause-paid g c = λ more.
 pub returns-after-last-clause-light : goal.returns-after-last-clause-light
 returns-after-last-clause-light g c =
     is-light (record { feed = c.settle.new.self; asked = c.decide.new.judge.asked; stand = c.decide.new.judge.stand; drain = c.decide.new.drain; decided = c.self.inside.decided + 1 })
-    (settle-small c.self.inside.feed c.settle.new.self c.args.input c.settle.ensures c.self.invariant.1.0, c.decide.ensures.few c.self.invariant.1.1)
+    (settle-small c.self.inside.feed c.settle.new.self c.args.input c.settle.ensures c.self.invariant.1.0, c.decide.ensures.few c.self.invariant.1.1) c.decide.ensures.marks
 
 pub returns-in-Err-clause-light : goal.returns-in-Err-clause-light
 returns-in-Err-clause-light g c =
     is-light (record { feed = c.self.inside.feed; asked = c.decide.new.judge.asked; stand = c.decide.new.judge.stand; drain = c.decide.new.drain; decided = c.self.inside.decided })
-    (c.self.invariant.1.0, c.decide.ensures.few c.self.invariant.1.1)
+    (c.self.invariant.1.0, c.decide.ensures.few c.self.invariant.1.1) c.decide.ensures.marks

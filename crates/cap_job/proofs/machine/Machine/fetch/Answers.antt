@@ -20,7 +20,7 @@ invariant_of-self g c =
     let W : MachineView → Type 0 = λ v. c.args.input < length v.feed.heads in
     let less = fetch-kept c.self.inside.feed c.fetch.new.self c.args.input c.fetch.result (subst N (sym c.self.view_is) c.requires.next) (subst W (sym c.self.view_is) c.requires.within) c.fetch.ensures.steps in
     let was = c.self.invariant.0 in
-    (omega (arith, less, was), (fetch-small c.self.inside.feed c.fetch.new.self c.args.input c.fetch.result c.fetch.ensures.steps c.self.invariant.1.0, c.self.invariant.1.1))
+    (omega (arith, less, was), (fetch-small c.self.inside.feed c.fetch.new.self c.args.input c.fetch.result c.fetch.ensures.steps c.self.invariant.1.0, c.self.invariant.1.1), c.self.invariant.2)
 
 pub invariant_of-self-in-Ok-false : goal.invariant_of-self-in-Ok-false
 invariant_of-self-in-Ok-false g c =
@@ -28,7 +28,7 @@ invariant_of-self-in-Ok-false g c =
     let W : MachineView → Type 0 = λ v. c.args.input < length v.feed.heads in
     let less = fetch-kept c.self.inside.feed c.fetch.new.self c.args.input c.fetch.result (subst N (sym c.self.view_is) c.requires.next) (subst W (sym c.self.view_is) c.requires.within) c.fetch.ensures.steps in
     let was = c.self.invariant.0 in
-    (omega (arith, less, was), (fetch-small c.self.inside.feed c.fetch.new.self c.args.input c.fetch.result c.fetch.ensures.steps c.self.invariant.1.0, c.close.ensures.few c.self.invariant.1.1))
+    (omega (arith, less, was), (fetch-small c.self.inside.feed c.fetch.new.self c.args.input c.fetch.result c.fetch.ensures.steps c.self.invariant.1.0, c.close.ensures.few c.self.invariant.1.1), c.close.ensures.marks c.self.invariant.2)
 
 pub invariant_of-self-in-Err : goal.invariant_of-self-in-Err
 invariant_of-self-in-Err g c =
@@ -36,7 +36,7 @@ invariant_of-self-in-Err g c =
     let W : MachineView → Type 0 = λ v. c.args.input < length v.feed.heads in
     let less = fetch-kept c.self.inside.feed c.fetch.new.self c.args.input c.fetch.result (subst N (sym c.self.view_is) c.requires.next) (subst W (sym c.self.view_is) c.requires.within) c.fetch.ensures.steps in
     let was = c.self.invariant.0 in
-    (omega (arith, less, was), (fetch-small c.self.inside.feed c.fetch.new.self c.args.input c.fetch.result c.fetch.ensures.steps c.self.invariant.1.0, c.self.invariant.1.1))
+    (omega (arith, less, was), (fetch-small c.self.inside.feed c.fetch.new.self c.args.input c.fetch.result c.fetch.ensures.steps c.self.invariant.1.0, c.self.invariant.1.1), c.self.invariant.2)
 
 pub returns-in-Ok-true-clause-told : goal.returns-in-Ok-true-clause-told
 returns-in-Ok-true-clause-told g c = λ ti to ss before d.
@@ -119,14 +119,14 @@ returns-in-Err-clause-reads g c =
 pub returns-in-Ok-true-clause-light : goal.returns-in-Ok-true-clause-light
 returns-in-Ok-true-clause-light g c =
     is-light (record { feed = c.fetch.new.self; asked = c.self.inside.judge.asked; stand = c.self.inside.judge.stand; drain = c.self.inside.drain; decided = c.self.inside.decided })
-    (fetch-small c.self.inside.feed c.fetch.new.self c.args.input c.fetch.result c.fetch.ensures.steps c.self.invariant.1.0, c.self.invariant.1.1)
+    (fetch-small c.self.inside.feed c.fetch.new.self c.args.input c.fetch.result c.fetch.ensures.steps c.self.invariant.1.0, c.self.invariant.1.1) c.self.invariant.2
 
 pub returns-in-Ok-false-clause-light : goal.returns-in-Ok-false-clause-light
 returns-in-Ok-false-clause-light g c =
     is-light (record { feed = c.fetch.new.self; asked = c.close.new.judge.asked; stand = c.close.new.judge.stand; drain = c.close.new.drain; decided = c.self.inside.decided })
-    (fetch-small c.self.inside.feed c.fetch.new.self c.args.input c.fetch.result c.fetch.ensures.steps c.self.invariant.1.0, c.close.ensures.few c.self.invariant.1.1)
+    (fetch-small c.self.inside.feed c.fetch.new.self c.args.input c.fetch.result c.fetch.ensures.steps c.self.invariant.1.0, c.close.ensures.few c.self.invariant.1.1) (c.close.ensures.marks c.self.invariant.2)
 
 pub returns-in-Err-clause-light : goal.returns-in-Err-clause-light
 returns-in-Err-clause-light g c =
     is-light (record { feed = c.fetch.new.self; asked = c.self.inside.judge.asked; stand = c.self.inside.judge.stand; drain = c.self.inside.drain; decided = c.self.inside.decided })
-    (fetch-small c.self.inside.feed c.fetch.new.self c.args.input c.fetch.result c.fetch.ensures.steps c.self.invariant.1.0, c.self.invariant.1.1)
+    (fetch-small c.self.inside.feed c.fetch.new.self c.args.input c.fetch.result c.fetch.ensures.steps c.self.invariant.1.0, c.self.invariant.1.1) c.self.invariant.2
