@@ -195,6 +195,7 @@ impl<I: Input, O: Output, A: Allocator + Copy + Drop> Machine<I, O, A> {
     pub fn judge_by(&mut self, filter: Filter<A>, count: Option<u64>)
         ensures stand { machine_stand self.new ≡ asking (AskedFilter (rule_of filter) count) (machine_stand self.old) }
         ensures programs { self.new.programs ≡ programs_of filter }
+        ensures light { IsLight (machine_stand self.new) }
     {
         self.judge = Judge::filtering(filter, count);
     }
