@@ -40,10 +40,10 @@ use Rattle.cap_job.specs.Course as course_spec
 use Rattle.cap_job.specs.Draining.{DrainView, Target, Capture, Text, Lines, Drained, DrainedTo, Puts, PutsTo, form_at, form_to, written_to, failures_to}
 use Rattle.cap_job.specs.Feeding.{HeadView, FeedView, Future, Stood, Standing, Among, settled, place_behind, later, wholes, rest_with, rests, left, most_steps, ordering_of}
 use Rattle.cap_job.specs.Feeding as feeding
-use Rattle.cap_job.specs.Working.{MachineStand, Decided, GoesOn, Comes, Decides, Offers, StopsWriting, EndLeaves, stands_at, wholes_of, written_by, unwritten}
+use Rattle.cap_job.specs.Working.{MachineStand, Decided, GoesOn, Comes, Decides, Offers, StopsWriting, OneAnswer, EndLeaves, stands_at, wholes_of, written_by, unwritten}
 use Rattle.cap_job.proofs.Splits.{At, stands-split, stands-join, stands-length, rests-join, finish-here, come-on}
 use Rattle.cap_job.proofs.Coming.{carries-decided, true-wholes, true-fit, true-fits}
-use Rattle.cap_job.proofs.Drains.{PutOk, put-ok, WhyUnput, lines-more, unput, closing-some}
+use Rattle.cap_job.proofs.Drains.{PutOk, put-ok, WhyUnput, lines-more, lines-one, unput, closing-some}
 use Rattle.cap_job.proofs.Growing.{Grows, course-grows}
 use Rattle.cap_job.proofs.Laws.{DecideLaws, DecideAt, decide-at}
 use Rattle.cap_job.proofs.Courses.{way-next, course-stop}
@@ -268,11 +268,18 @@ stops-line ss before heads place asked stand stand' drain options bytes after fa
     let tail : List ℕ = lines_text options grows.packets in
     let S : Target → Type 0 = λ t. Stops (written_to t) (printed options q) (written_to new.drain.target) in
     let T : Target → Type 0 = λ t. Stops bytes (printed options q) (written_to t) in
+    let O : Form → Type 0 = λ f. OneAnswer f (first_link (wholes_of ss)) (lines_text options packets) (printed options q) in
     record {
       failures = ap failures_to is ∙ ap (λ (t : Target). failures_to t + 1) (sym target);
       front = lines_text options packets;
       bytes = printed options q;
       back = tail ++ closes;
+      one = subst O (sym form_is) (record {
+        packets = packets;
+        reports = reports;
+        so_far = refl;
+        answer = inl (q, lines-one options packets q);
+      });
       whole =
           ap (λ (f : Form). output f (first_link (wholes_of ss)) (course asked f (fed (ordering_of place) (wholes_of ss)))) form_is
           ∙ ap (λ (l : List Captured). lines_text options l ++ closes) grows.packets_is
