@@ -1,5 +1,5 @@
 -- The first step of a job.
-use Rattle.std.proofs.Common.{◌≡◌, ℕ, ◌+◌, Bool, true, false, Option, None, Some, List, [], ◌∷◌, refl, ap₂, arith, suc}
+use Rattle.std.proofs.Common.{◌≡◌, ◌+◌, false, Option, None, Some, List, [], ◌∷◌, refl, ap₂, arith, suc}
 use Rattle.std.specs.List.{All}
 use Rattle.std.specs.Option.{is_some, option_map}
 use Rattle.flt_bpf.specs.Content.{Content}
