@@ -42,10 +42,10 @@ pub struct Devices {
     pub messages: usize,
 }
 
-/// How many bytes the listing of the case's expression takes.
+/// How many bytes the listing of the case's expression takes, or of the line that writes its listing.
 fn listing_room(case: &Case<'_>) -> usize {
     let mut size = SPARE;
-    for word in case.words.iter() {
+    for word in case.words.iter().chain(case.compiled.iter()) {
         size = size.saturating_add(word.len().saturating_mul(EXPANSION));
     }
     size.min(LISTING)

@@ -1,7 +1,7 @@
 -- The steps that decide the packet in hand.
 use Rattle.std.proofs.Common.{◌≡◌, inl, inr, ℕ, ◌+◌, ◌<◌, ◌≤◌, Bool, true, false, List, [], ◌∷◌, ◌++◌, length, map, Option, None, Some, Result, Ok, Err, refl, sym, ◌∙◌, ap, arith, subst, not, nat_eq, if◌then◌else◌, ◌-◌}
 use Rattle.std.proofs.lemmas.List.{append_assoc, append-nil, map-append}
-use Rattle.std.specs.List.{list_any, slice_set}
+use Rattle.std.specs.List.{slice_set}
 use Rattle.cap_octet.specs.Device.{Stops}
 use Rattle.cap_octet.specs.Packet.{Captured, captured}
 use Rattle.cap_octet.specs.declared.fault.Fault.{Fault}

@@ -1,4 +1,4 @@
-use Rattle.std.proofs.Common.{◌≡◌, ◌↔◌, Option, Some, Bool, true, false, IsTrue, subst, ap}
+use Rattle.std.proofs.Common.{◌↔◌, Option, Bool, true, false, IsTrue, subst, ap}
 use Rattle.std.specs.List.{Contains}
 use Rattle.cap_octet.specs.Packet.{captured}
 use Rattle.cap_window.specs.Marks.{mark_of}

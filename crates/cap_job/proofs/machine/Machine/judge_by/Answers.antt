@@ -1,4 +1,4 @@
-use Rattle.std.proofs.Common.{arith, ℕ, subst, sym}
+use Rattle.std.proofs.Common.{arith, subst, sym}
 use Rattle.cap_job.specs.Judging.{HasFewMarks, JudgeView}
 use Rattle.cap_job.proofs.Weights.{is-light}
 use Rattle.cap_job.proofs.machine.Machine.judge_by.Goals as goal
