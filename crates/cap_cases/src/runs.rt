@@ -109,11 +109,17 @@ fn command_over<'m>(
     match &line.command {
         Command::Edit(edit) => {
             let ranges = Vec::from_slice(memory, &edit.ranges)?;
-            let (keep, format) = (edit.keep, edit.format);
             Ok(Command::Edit(Edit {
                 ranges,
-                keep,
-                format,
+                keep: edit.keep,
+                start: edit.start,
+                stop: edit.stop,
+                chop_start: edit.chop_start,
+                chop_end: edit.chop_end,
+                snap: edit.snap,
+                shift: edit.shift,
+                window: edit.window,
+                format: edit.format,
             }))
         }
         Command::Merge(merge) => Ok(Command::Merge(*merge)),
@@ -121,8 +127,14 @@ fn command_over<'m>(
         Command::Print(print) => {
             let code = listing_over(memory, line, case)?;
             let expr = String::from_str(memory, &print.expr)?;
-            let write = print.write;
-            Ok(Command::Print(Print { expr, code, write }))
+            Ok(Command::Print(Print {
+                expr,
+                code,
+                count: print.count,
+                link: print.link,
+                bytes: print.bytes,
+                write: print.write,
+            }))
         }
         Command::Compile(compile) => {
             let expr = String::from_str(memory, &compile.expr)?;
@@ -179,7 +191,9 @@ fn inputs_over<'m, 'c>(
     for name in line.inputs.iter() {
         let bytes = case.file(name, &case.input);
         let piece = devices.piece.max(1);
-        inputs.push(TrialInput::new(bytes, piece, devices.failed_read))?;
+        let fails = case.failing.is_empty() || name.as_str() == case.failing;
+        let failed_read = if fails { devices.failed_read } else { None };
+        inputs.push(TrialInput::new(bytes, piece, failed_read))?;
     }
     Ok(inputs)
 }

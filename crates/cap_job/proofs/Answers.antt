@@ -30,6 +30,7 @@ use Rattle.cap_job.specs.declared.feed.Next.TheVariants as next
 use Rattle.cap_job.specs.Reports.{Report, Tally}
 use Rattle.cap_job.specs.Fed.{Rest, Event, Came, Close, Over, Broken, Fed, fed, behind}
 use Rattle.cap_job.specs.Judged.{Asked, Select, Filter, Everything, Count, Selection, Stand, Verdict, Pass, Last, Skip, Refuse, verdict}
+use Rattle.cap_window.specs.Marks.{mark_of, has_same}
 use Rattle.cap_job.specs.Judged as judged_spec
 use Rattle.cap_job.specs.Judging.{JudgeStand, GrowsByOne, IsWithin, Tells}
 use Rattle.cap_lines.specs.declared.print.Options.{Options}
@@ -39,10 +40,10 @@ use Rattle.cap_job.specs.Course as course_spec
 use Rattle.cap_job.specs.Draining.{DrainView, Target, Capture, Text, Lines, Drained, DrainedTo, Puts, PutsTo, form_at, form_to, written_to, failures_to}
 use Rattle.cap_job.specs.Feeding.{HeadView, FeedView, Future, Stood, Standing, Among, settled, place_behind, later, wholes, rest_with, rests, left, most_steps, ordering_of}
 use Rattle.cap_job.specs.Feeding as feeding
-use Rattle.cap_job.specs.Working.{MachineStand, Decided, GoesOn, Comes, Decides, Offers, StopsWriting, EndLeaves, stands_at, wholes_of, written_by, unwritten}
+use Rattle.cap_job.specs.Working.{MachineStand, Decided, GoesOn, Comes, Decides, Offers, StopsWriting, OneAnswer, EndLeaves, stands_at, wholes_of, written_by, unwritten}
 use Rattle.cap_job.proofs.Splits.{At, stands-split, stands-join, stands-length, rests-join, finish-here, come-on}
 use Rattle.cap_job.proofs.Coming.{carries-decided, true-wholes, true-fit, true-fits}
-use Rattle.cap_job.proofs.Drains.{PutOk, put-ok, WhyUnput, lines-more, unput, closing-some}
+use Rattle.cap_job.proofs.Drains.{PutOk, put-ok, WhyUnput, lines-more, lines-one, unput, closing-some}
 use Rattle.cap_job.proofs.Growing.{Grows, course-grows}
 use Rattle.cap_job.proofs.Laws.{DecideLaws, DecideAt, decide-at}
 use Rattle.cap_job.proofs.Courses.{way-next, course-stop}
@@ -236,6 +237,7 @@ stops-writing ss before heads place asked stand stand' names sink sink' decided 
       front = text sink.format packets;
       bytes = added sink.format packets q;
       back = tail ++ closes;
+      one = record { packets = packets; reports = reports; so_far = refl; answer = inl (q, text-more sink.format packets q [] ∙ ap (λ (l : List ℕ). text sink.format packets ++ l) (append-nil (added sink.format packets q))) };
       whole =
           ap (λ (l : List Captured). text sink.format l ++ closes) (grows.packets_is ∙ append_assoc packets (q ∷ []) grows.packets)
           ∙ ap (λ (l : List ℕ). l ++ closes) (text-more sink.format packets q grows.packets)
@@ -266,11 +268,18 @@ stops-line ss before heads place asked stand stand' drain options bytes after fa
     let tail : List ℕ = lines_text options grows.packets in
     let S : Target → Type 0 = λ t. Stops (written_to t) (printed options q) (written_to new.drain.target) in
     let T : Target → Type 0 = λ t. Stops bytes (printed options q) (written_to t) in
+    let O : Form → Type 0 = λ f. OneAnswer f (first_link (wholes_of ss)) (lines_text options packets) (printed options q) in
     record {
       failures = ap failures_to is ∙ ap (λ (t : Target). failures_to t + 1) (sym target);
       front = lines_text options packets;
       bytes = printed options q;
       back = tail ++ closes;
+      one = subst O (sym form_is) (record {
+        packets = packets;
+        reports = reports;
+        so_far = refl;
+        answer = inl (q, lines-one options packets q);
+      });
       whole =
           ap (λ (f : Form). output f (first_link (wholes_of ss)) (course asked f (fed (ordering_of place) (wholes_of ss)))) form_is
           ∙ ap (λ (l : List Captured). lines_text options l ++ closes) grows.packets_is
@@ -390,8 +399,8 @@ own-filters (chosen.Refuse fault) count stand p own = own
 own-unique : (window : Option ℕ) (stand : Stand) (p : Captured) → Own (judged_spec.unique window stand p).verdict
 own-unique None stand p = tt
 own-unique (Some n) stand p =
-    elim (list_any (judged_spec.is_same (judged_spec.mark_of p)) stand.window)
-    as (λ b. Own (if b then judged_spec.skipped (judged_spec.with_mark (n - 1) (judged_spec.mark_of p) stand) else judged_spec.passes (judged_spec.with_mark (n - 1) (judged_spec.mark_of p) stand) p).verdict)
+    elim (has_same stand.window (mark_of p.bytes))
+    as (λ b. Own (if b then judged_spec.skipped (judged_spec.with_mark (n - 1) (mark_of p.bytes) stand) else judged_spec.passes (judged_spec.with_mark (n - 1) (mark_of p.bytes) stand) p).verdict)
     [ true ↦ tt | false ↦ tt ]
 
 own-timed : (s : Selection) (stand : Stand) (p : Captured) (o : Option ℕ) → Own (judged_spec.timed s stand p o).verdict

@@ -110,6 +110,7 @@ ended tells from job new s ss before out err way same names ends written failure
       written = written;
       failures = failures;
       told = subst T (sym is) (subst F same ends.told);
+      quiet = λ zero. is ∙ ends.quiet zero ∙ same;
     }
 
 output-is : (new : JobView) (out : OutputView) → out.written ≡ written_by new.machine → out.failures ≡ failures_by new.machine → out ≡ output_of new

@@ -34,7 +34,7 @@ pub lines-more : (options : Options) (ps : List Captured) (q : Captured) (qs : L
     → lines_text options ((ps ++ q ∷ []) ++ qs) ≡ lines_text options ps ++ (printed options q ++ lines_text options qs)
 lines-more options ps q qs = ap (lines_text options) (append_assoc ps (q ∷ []) qs) ∙ flat_map-append (printed options) ps (q ∷ qs)
 
-lines-one : (options : Options) (ps : List Captured) (q : Captured) → lines_text options (ps ++ q ∷ []) ≡ lines_text options ps ++ printed options q
+pub lines-one : (options : Options) (ps : List Captured) (q : Captured) → lines_text options (ps ++ q ∷ []) ≡ lines_text options ps ++ printed options q
 lines-one options ps q =
     flat_map-append (printed options) ps (q ∷ [])
     ∙ ap (λ (l : List ℕ). lines_text options ps ++ l) (append-nil (printed options q))

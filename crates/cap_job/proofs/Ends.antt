@@ -68,3 +68,8 @@ ends-whole ss before names first old last written text s way is ends =
   where
     same : outcome (work_of old) names (wholes_of way.stood) ≡ out (work_of first) names (texts ss)
     same = ap (λ (w : Work). outcome w names (wholes_of way.stood)) (same-work ss before first old way) ∙ ap (λ (l : List (List ℕ)). out (work_of first) names l) way.texts
+
+pub clean-status : (e : End) → end_status e ≡ 0 → e ≡ end.Clean
+clean-status end.Clean is = refl
+clean-status (end.Broken input fault) is = (cc)
+clean-status end.OutputFailed is = (cc)

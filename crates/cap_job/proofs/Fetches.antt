@@ -332,6 +332,7 @@ report-stops us vs s before xs ys h s' place turn asked stand names (Text bytes 
       front = reports_text names d.reports;
       bytes = own;
       back = reports_text names grows.reports ++ closes;
+      one = record { packets = d.packets; reports = d.reports; so_far = refl; answer = inr (inl (report, ap (reports_text names) (sym (append-nil (d.reports ++ report ∷ []))) ∙ reports-more names d.reports report [] ∙ ap (λ (l : List ℕ). reports_text names d.reports ++ l) (append-nil own))) };
       whole =
           ap (λ (l : List Report). reports_text names l ++ closes) grows.reports_is
           ∙ ap (λ (l : List ℕ). l ++ closes) (reports-more names d.reports report grows.reports)

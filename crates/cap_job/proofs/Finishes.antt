@@ -1,5 +1,5 @@
 -- The step that ends the output.
-use Rattle.std.proofs.Common.{◌≡◌, ℕ, zero, suc, ◌+◌, ◌≤◌, List, [], ◌∷◌, ◌++◌, length, map, Option, Some, Result, Ok, Err, refl, sym, ◌∙◌, ap, arith, subst}
+use Rattle.std.proofs.Common.{◌≡◌, ℕ, zero, suc, ◌+◌, ◌≤◌, List, [], ◌∷◌, ◌++◌, length, map, Option, Some, Result, Ok, Err, refl, sym, ◌∙◌, ap, arith, subst, inr}
 use Rattle.std.proofs.lemmas.List.{append-nil}
 use Rattle.std.specs.Option.{option_or}
 use Rattle.cap_octet.specs.Device.{Stops}
@@ -93,6 +93,7 @@ finish-stops ss before names (Capture sink) heads place asked stand decided [] r
       front = [];
       bytes = bytes;
       back = [];
+      one = record { packets = []; reports = reports; so_far = refl; answer = inr (inr (ap (λ (o : Option ℕ). heading sink.format (link_or_ethernet o)) (sym link))) };
       whole =
           ap (λ (w : Way). output form (first_link (wholes_of ss)) w) stop
           ∙ ap (λ (o : Option ℕ). heading sink.format (link_or_ethernet o)) link

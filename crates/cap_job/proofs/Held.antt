@@ -1,11 +1,12 @@
 -- The packet in hand of the input whose turn it is.
-use Rattle.std.proofs.Common.{◌≡◌, ℕ, Option, None, Some, List, true, refl, ◌∙◌, ap}
+use Rattle.std.proofs.Common.{◌≡◌, ℕ, ◌+◌, ◌≤◌, Option, None, Some, List, true, refl, ◌∙◌, ap}
 use Rattle.cap_octet.specs.Packet.{Captured}
 use Rattle.cap_job.specs.declared.feed.Place.{Place}
 use Rattle.cap_job.specs.declared.feed.Place.TheVariants.{Turn, Merge}
 use Rattle.cap_job.specs.declared.feed.Next.TheVariants as next
 use Rattle.cap_job.specs.Feeding.{HeadView, Among, Tells}
-use Rattle.cap_job.specs.Judging.{JudgeView, spent_by_verdict}
+use Rattle.cap_job.specs.Judging.{JudgeView, most_spent, spent_by_verdict}
+use Rattle.cap_tools.specs.Compiling.{spent_in}
 use Rattle.cap_job.specs.Working.{Spends}
 use Rattle.cap_job.proofs.Fetches.{among-same}
 
@@ -17,7 +18,8 @@ pub record Held (o : Option Captured) (old : JudgeView) (number : ℕ) (new : Ju
   pub packet : Captured
   pub is : o ≡ Some packet
   pub spends : new.programs ≡ spent_by_verdict old.asked number packet old.programs
+  pub cost : spent_in new.programs ≤ spent_in old.programs + most_spent old.asked
 
 pub held : (o : Option Captured) (old : JudgeView) (number : ℕ) (new : JudgeView) → Spends o old number new → Held o old number new
 held None old number new spends = absurd spends
-held (Some p) old number new spends = record { packet = p; is = refl; spends = spends }
+held (Some p) old number new spends = record { packet = p; is = refl; spends = spends.0; cost = spends.1 }

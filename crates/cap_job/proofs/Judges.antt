@@ -1,32 +1,20 @@
 -- What a judge answers.
-use Rattle.std.proofs.Common.{◌≡◌, ℕ, ◌+◌, ◌-◌, ◌^◌, ◌<◌, ◌≤◌, nat_le, Bool, true, false, List, [], ◌∷◌, length, take, if◌then◌else◌, Option, None, Ok, Err, refl, ◌∙◌, ap, arith}
+use Rattle.std.proofs.Common.{◌≡◌, ℕ, ◌+◌, ◌-◌, ◌^◌, ◌<◌, ◌≤◌, nat_le, Bool, true, false, length, if◌then◌else◌, List, Option, None, Some, Ok, Err, refl, sym, ◌∙◌, ap, arith}
 use Rattle.std.proofs.lemmas.Bool.Decides.{nat_tests}
-use Rattle.cap_octet.specs.Packet.{Captured}
+use Rattle.cap_octet.specs.Packet.{Captured, captured}
+use Rattle.cap_octet.specs.declared.packet.Packet.{Packet}
 use Rattle.cap_octet.specs.declared.fault.Fault.{Fault}
 use Rattle.cap_octet.specs.declared.fault.Fault.TheVariants.{TooManyPackets}
-use Rattle.cap_tools.specs.Chosen.{Decision, Keep, Refuse, Answers, keep_if}
+use Rattle.cap_tools.specs.Chosen.{Decision, Keep, Refuse, Answers}
 use Rattle.cap_tools.specs.Chosen as chosen
-use Rattle.cap_job.specs.declared.judge.Rule.{Rule}
-use Rattle.cap_job.specs.declared.judge.Rule.TheVariants as rule
+use Rattle.cap_window.specs.View.{WindowView}
+use Rattle.cap_window.specs.declared.mark.Mark.{Mark}
 use Rattle.cap_job.specs.declared.judge.Verdict as code
-use Rattle.cap_job.specs.Judged.{Asked, Select, Filter, Everything, Count, Selection, Stand, Pass, Last, Skip, is_selected, verdict, refuses, filters, is_last, selects, passes, changed}
+use Rattle.cap_job.specs.Judged.{Asked, Select, Filter, Everything, Count, Stand, Judged, Pass, Last, Skip, verdict, judged, refuses, filters, is_last}
 use Rattle.cap_job.specs.Reports.{Tally}
 use Rattle.cap_job.specs.Reports.{HasRoom, counted}
 use Rattle.cap_job.specs.Feeding.{most_steps}
-use Rattle.cap_job.specs.Judging.{JudgeStand, IsWithin, is_count, Closes, asked_of, decision, count_of, passing, stand_with, verdict_of, Tells}
-
--- nothing is changed of packets, and they are judged one by one
-abbrev pub IsPlain : Asked → Type 0
-IsPlain (Select s) = (s.start ≡ None) × (s.stop ≡ None) × (s.chop_start ≡ 0) × (s.chop_end ≡ 0) × (s.snap ≡ None) × (s.shift ≡ None) × (s.window ≡ None)
-IsPlain (Filter rule count) = Unit {0}
-IsPlain Everything = Unit {0}
-IsPlain Count = ⊥
-
-pub asked-plain : {Z : Type 0} (r : Rule Z) → is_count (asked_of r) ≡ false → IsPlain (asked_of r)
-asked-plain (rule.Select edit) plain = (refl, refl, refl, refl, refl, refl, refl)
-asked-plain (rule.Filter filter count) plain = tt
-asked-plain rule.Everything plain = tt
-asked-plain rule.Count plain = (cc)
+use Rattle.cap_job.specs.Judging.{JudgeStand, IsWithin, IsWindowFor, Keeps, is_count, count_of, Closes, marks_in, passing, places, stand_of, verdict_of, Tells}
 
 nat_le-true : (a b : ℕ) → a ≤ b → nat_le a b ≡ true
 nat_le-true a b h = grind (arith, nat_tests, h)
@@ -34,75 +22,66 @@ nat_le-true a b h = grind (arith, nat_tests, h)
 nat_le-false : (a b : ℕ) → b < a → nat_le a b ≡ false
 nat_le-false a b h = grind (arith, nat_tests, h)
 
-pub too-many : (asked : Asked) (stand : Stand) (number : ℕ) (p : Captured) → IsPlain asked → 2 ^ 63 ≤ number → verdict asked stand number p ≡ refuses stand TooManyPackets
-too-many (Select s) stand number p plain h = rw (nat_le-true (2 ^ 63) number h) refl
-too-many (Filter rule count) stand number p plain h = rw (nat_le-true (2 ^ 63) number h) refl
-too-many Everything stand number p plain h = rw (nat_le-true (2 ^ 63) number h) refl
-too-many Count stand number p plain h = absurd plain
+pub too-many : (asked : Asked) (stand : Stand) (number : ℕ) (p : Captured) → is_count asked ≡ false → 2 ^ 63 ≤ number → verdict asked stand number p ≡ refuses stand TooManyPackets
+too-many (Select s) stand number p judges h = rw (nat_le-true (2 ^ 63) number h) refl
+too-many (Filter rule count) stand number p judges h = rw (nat_le-true (2 ^ 63) number h) refl
+too-many Everything stand number p judges h = rw (nat_le-true (2 ^ 63) number h) refl
+too-many Count stand number p judges h = (cc)
 
-take-all : (xs : List ℕ) → take (length xs) xs ≡ xs
-take-all [] = refl
-take-all (x ∷ xs) = ap (λ (l : List ℕ). x ∷ l) (take-all xs)
-
-selected-as : (b : Bool) (s : Selection) (stand : Stand) (p : Captured) → IsPlain (Select s) → (k : ℕ) → is_selected s k p ≡ b
-    → selects s stand k p ≡ filters (keep_if b) None stand p
-selected-as true s stand p plain k is = rw (is, plain.5, plain.6) (ap (passes stand) same)
-  where
-    less : length p.bytes - 0 - 0 ≡ length p.bytes
-    less = omega arith
-
-    same : changed s p p.time ≡ p
-    same = rw (plain.2, plain.3, plain.4, less) (ap (λ (l : List ℕ). record { link = p.link; snap = p.snap; name = p.name; time = p.time; orig = p.orig; bytes = l }) (take-all p.bytes))
-selected-as false s stand p plain k is = rw is refl
-
-pub few : (asked : Asked) (stand : Stand) (number : ℕ) (p : Captured) → IsPlain asked → number < 2 ^ 63 → verdict asked stand number p ≡ filters (decision asked number p) (count_of asked) stand p
-few (Select s) stand number p plain h = rw (nat_le-false (2 ^ 63) number h) (selected-as (is_selected s number p) s stand p plain number refl)
-few (Filter rule count) stand number p plain h = rw (nat_le-false (2 ^ 63) number h) refl
-few Everything stand number p plain h = rw (nat_le-false (2 ^ 63) number h) refl
-few Count stand number p plain h = absurd plain
+pub few : (asked : Asked) (stand : Stand) (number : ℕ) (p : Captured) → is_count asked ≡ false → number < 2 ^ 63 → verdict asked stand number p ≡ judged asked stand number p
+few (Select s) stand number p judges h = rw (nat_le-false (2 ^ 63) number h) refl
+few (Filter rule count) stand number p judges h = rw (nat_le-false (2 ^ 63) number h) refl
+few Everything stand number p judges h = rw (nat_le-false (2 ^ 63) number h) refl
+few Count stand number p judges h = (cc)
 
 -- ---- what is answered
 
-pub tells-skip : (asked : Asked) (passed : ℕ) (tally : Tally) (number : ℕ) (p : Captured) (v : code.Verdict) → IsPlain asked → number < 2 ^ 63 → Answers (decision asked number p) (Ok false) → verdict_of v ≡ Skip
-    → Tells (verdict asked (stand_with passed tally) number p) (Ok v) (stand_with passed tally)
-tells-skip asked passed tally number p v plain h answers is = rw (few asked (stand_with passed tally) number p plain h) (by_decision (decision asked number p) answers)
-  where
-    by_decision : (d : Decision) → Answers d (Ok false) → Tells (filters d (count_of asked) (stand_with passed tally) p) (Ok v) (stand_with passed tally)
-    by_decision Keep answers = (cc)
-    by_decision chosen.Skip answers = (is, refl)
-    by_decision (Refuse fault) answers = (cc)
+pub tells-none : (count : Option ℕ) (j : Judged) (stand : Stand) (v : code.Verdict) → Keeps count j (Ok None) stand → verdict_of v ≡ Skip → Tells j (Ok v) stand
+tells-none count j stand v keeps is = (is ∙ sym keeps.0, sym keeps.1)
 
 passing-as : (p : Captured) (b : Bool) → passing p b ≡ (if b then Last p else Pass p)
 passing-as p true = refl
 passing-as p false = refl
 
-pub tells-pass : (asked : Asked) (passed : ℕ) (tally : Tally) (number : ℕ) (p : Captured) (v : code.Verdict) → IsPlain asked → number < 2 ^ 63 → Answers (decision asked number p) (Ok true)
-    → verdict_of v ≡ passing p (is_last (count_of asked) (passed + 1))
-    → Tells (verdict asked (stand_with passed tally) number p) (Ok v) (stand_with (passed + 1) tally)
-tells-pass asked passed tally number p v plain h answers is = rw (few asked (stand_with passed tally) number p plain h) (by_decision (decision asked number p) answers)
-  where
-    by_decision : (d : Decision) → Answers d (Ok true) → Tells (filters d (count_of asked) (stand_with passed tally) p) (Ok v) (stand_with (passed + 1) tally)
-    by_decision Keep answers = (is ∙ passing-as p (is_last (count_of asked) (passed + 1)), refl)
-    by_decision chosen.Skip answers = (cc)
-    by_decision (Refuse fault) answers = (cc)
+pub tells-some : (count : Option ℕ) (j : Judged) (stand : Stand) (p : Packet) (v : code.Verdict) → Keeps count j (Ok (Some p)) stand
+    → verdict_of v ≡ passing (captured p) (is_last count (stand.passed + 1)) → Tells j (Ok v) (stand_of (stand.passed + 1) stand.window stand.tally)
+tells-some count j stand p v keeps is =
+    (is ∙ passing-as (captured p) (is_last count (stand.passed + 1)) ∙ sym (ap (λ (x : Judged). x.verdict) keeps), sym (ap (λ (x : Judged). x.stand) keeps))
 
-pub tells-fault : (asked : Asked) (passed : ℕ) (tally : Tally) (passed' : ℕ) (tally' : Tally) (number : ℕ) (p : Captured) (fault : Fault) → IsPlain asked → number < 2 ^ 63 → Answers (decision asked number p) (Err fault)
-    → Tells (verdict asked (stand_with passed tally) number p) (Err fault) (stand_with passed' tally')
-tells-fault asked passed tally passed' tally' number p fault plain h answers = rw (few asked (stand_with passed tally) number p plain h) (by_decision (decision asked number p) answers)
-  where
-    by_decision : (d : Decision) → Answers d (Err fault) → Tells (filters d (count_of asked) (stand_with passed tally) p) (Err fault) (stand_with passed' tally')
-    by_decision Keep answers = absurd answers
-    by_decision chosen.Skip answers = absurd answers
-    by_decision (Refuse refusal) answers = let e : fault ≡ refusal = (cc) in rw e refl
+pub tells-passed : (asked asked' : Asked) (stand after : Stand) (number : ℕ) (p : Captured) (q : Packet) (v : code.Verdict) → is_count asked ≡ false → number < 2 ^ 63
+    → Keeps (count_of asked) (judged asked stand number p) (Ok (Some q)) after → asked' ≡ asked → verdict_of v ≡ passing (captured q) (is_last (count_of asked') (after.passed + 1))
+    → Tells (verdict asked stand number p) (Ok v) (stand_of (after.passed + 1) after.window after.tally)
+tells-passed asked asked' stand after number p q v judges less keeps same is =
+    rw (few asked stand number p judges less) (tells-some (count_of asked) (judged asked stand number p) after q v keeps
+    (is ∙ ap (λ (a : Asked). passing (captured q) (is_last (count_of a) (after.passed + 1))) same))
+
+-- a filter's answer
+pub filters-keeps : (d : Decision) (count : Option ℕ) (stand : Stand) (p : Packet) (passes : Bool) → Answers d (Ok passes) → Keeps count (filters d count stand (captured p)) (Ok (if passes then Some p else None)) stand
+filters-keeps Keep count stand p passes answers = rw answers refl
+filters-keeps chosen.Skip count stand p passes answers = rw answers (refl, refl)
+filters-keeps (Refuse fault) count stand p passes answers = (cc)
+
+pub filters-refuses : (d : Decision) (count : Option ℕ) (stand stand' : Stand) (p : Captured) (fault : Fault) → Answers d (Err fault) → Keeps count (filters d count stand p) (Err fault) stand'
+filters-refuses Keep count stand stand' p fault answers = absurd answers
+filters-refuses chosen.Skip count stand stand' p fault answers = absurd answers
+filters-refuses (Refuse refusal) count stand stand' p fault answers = let e : fault ≡ refusal = (cc) in rw e refl
+
+-- ---- the window
+
+pub window-few : (n : Option ℕ) (w : Option WindowView) → IsWindowFor n w → length (marks_in w) ≤ places n
+window-few None None is = omega arith
+window-few None (Some w) is = absurd is
+window-few (Some n) None is = absurd is
+window-few (Some n) (Some w) is = is.1
 
 -- ---- packets are counted
 
-pub tells-count : (asked : Asked) (passed : ℕ) (tally tally' : Tally) (number : ℕ) (p : Captured) (v : code.Verdict) → is_count asked ≡ true → verdict_of v ≡ Skip → tally' ≡ counted tally p
-    → Tells (verdict asked (stand_with passed tally) number p) (Ok v) (stand_with passed tally')
-tells-count Count passed tally tally' number p v is skips more = (skips, ap (stand_with passed) more)
-tells-count (Select s) passed tally tally' number p v is skips more = (cc)
-tells-count (Filter rule count) passed tally tally' number p v is skips more = (cc)
-tells-count Everything passed tally tally' number p v is skips more = (cc)
+pub tells-count : (asked : Asked) (passed : ℕ) (marks : List Mark) (tally tally' : Tally) (number : ℕ) (p : Captured) (v : code.Verdict) → is_count asked ≡ true → verdict_of v ≡ Skip → tally' ≡ counted tally p
+    → Tells (verdict asked (stand_of passed marks tally) number p) (Ok v) (stand_of passed marks tally')
+tells-count Count passed marks tally tally' number p v is skips more = (skips, ap (stand_of passed marks) more)
+tells-count (Select s) passed marks tally tally' number p v is skips more = (cc)
+tells-count (Filter rule count) passed marks tally tally' number p v is skips more = (cc)
+tells-count Everything passed marks tally tally' number p v is skips more = (cc)
 
 -- one packet more fits
 pub within-room : (t : Tally) → IsWithin most_steps t → HasRoom t

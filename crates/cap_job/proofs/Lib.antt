@@ -21,6 +21,7 @@ pub mod Preparing
 pub mod Queues
 pub mod Rows
 pub mod Runs
+pub mod Selections
 pub mod Splits
 pub mod Starts
 pub mod Turns

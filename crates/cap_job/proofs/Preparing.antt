@@ -8,7 +8,7 @@ use Rattle.cap_tools.specs.Printed.{Rule, by_reading, by_answer}
 use Rattle.cap_tools.specs.Printing.{AreNew}
 use Rattle.cap_job.specs.declared.job.Preparation.{Preparation}
 use Rattle.cap_job.specs.Commands.{preparing_of}
-use Rattle.cap_job.specs.Judging.{spent_in}
+use Rattle.cap_tools.specs.Compiling.{spent_in}
 
 pub none-before : {Z : Type 0} (p : Option (Preparation Z)) → is_some p ≡ false → option_map preparing_of p ≡ None
 none-before None is = refl

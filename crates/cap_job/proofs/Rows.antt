@@ -7,7 +7,8 @@ use Rattle.cap_io.specs.Capture.{Placed, Ending, End, FaultAt, Nothing, items_fr
 use Rattle.flt_lang.specs.Tree.{empty}
 use Rattle.cap_tools.specs.Printed.{by_reading}
 use Rattle.cap_job.specs.Fed.{Rest, InTurn, Merging, fed, Came, Over, Broken, whole}
-use Rattle.cap_job.specs.Judged.{Select, Filter, Count, Earlier}
+use Rattle.cap_tools.specs.declared.command.Shift.TheVariants as shift
+use Rattle.cap_job.specs.Judged.{Select, Filter, Count}
 use Rattle.cap_job.specs.Course.{AsCapture, AsReports, Way, Work, out, course}
 use Rattle.cap_io.specs.declared.source.Kind.TheVariants as kind
 use Rattle.cap_octet.specs.Calendar.{day_from_epoch}
@@ -60,7 +61,7 @@ letter x = record { offset = 24; packet = record { link = 1; snap = 0; name = []
 
 dups : Way
 dups = course
-    (Select (record { ranges = []; keep = false; start = None; stop = None; chop_start = 0; chop_end = 0; snap = None; shift = None; window = Some 3 }))
+    (Select (record { ranges = []; keep = false; start = None; stop = None; chop_start = 0; chop_end = 0; snap = None; shift = shift.None; window = Some 3 }))
     (AsReports [])
     (fed InTurn (held (letter 1 ∷ letter 2 ∷ letter 1 ∷ letter 3 ∷ letter 1 ∷ letter 4 ∷ letter 5 ∷ letter 1 ∷ []) End ∷ []))
 
@@ -105,7 +106,7 @@ leap-day = refl
 earlier : Work
 earlier = record {
   order = InTurn;
-  asked = Select (record { ranges = []; keep = false; start = None; stop = None; chop_start = 0; chop_end = 0; snap = None; shift = Some (Earlier 2000000000); window = None });
+  asked = Select (record { ranges = []; keep = false; start = None; stop = None; chop_start = 0; chop_end = 0; snap = None; shift = shift.Earlier 2000000000; window = None });
   form = AsCapture Pcap;
 }
 

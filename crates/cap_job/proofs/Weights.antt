@@ -10,6 +10,7 @@ use Rattle.cap_job.specs.declared.drain.Writing.{Writing}
 use Rattle.cap_job.specs.declared.drain.Writing.TheVariants as writing
 use Rattle.cap_job.specs.Draining.{Target, Capture, Text, Lines, target_at}
 use Rattle.cap_job.specs.Feeding.{HeadView, FeedView, Among, FetchSteps, Settles, head_after, settled}
+use Rattle.cap_job.specs.Judging.{HasFewMarks}
 use Rattle.cap_job.specs.Jobs.{Opened, head_at}
 use Rattle.cap_job.specs.Working.{MachineStand}
 use Rattle.cap_job.specs.Bounds.{HasFewInterfaces, IsBounded, IsLight, IsSmall, declared_weight, heads_weight, names_weight, target_weight}
@@ -86,8 +87,8 @@ target-light (Capture sink) few =
 target-light (Text written failures room) few = omega arith
 target-light (Lines options written failures room) few = omega arith
 
-pub is-light : (m : MachineStand) → IsBounded m.feed m.drain → IsLight m
-is-light m bounded =
+pub is-light : (m : MachineStand) → IsBounded m.feed m.drain → HasFewMarks m.asked m.stand → IsLight m
+is-light m bounded few =
     let heads = heads-light m.feed.heads bounded.0 in
     let target = target-light m.drain.target bounded.1 in
-    omega (arith, heads, target)
+    omega (arith, heads, target, few)

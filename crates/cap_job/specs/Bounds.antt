@@ -1,5 +1,5 @@
 -- The bounds of a step, whatever the devices: what it reads, how many steps were made, and what the job holds.
-use Rattle.std.specs.Prelude.{◌≡◌, ℕ, ◌+◌, ◌*◌, ◌-◌, ◌≤◌, Bool, true, false, List, [], ◌∷◌, length, map, Option, None, Some, Result}
+use Rattle.std.specs.Prelude.{◌≡◌, ℕ, ◌+◌, ◌*◌, ◌-◌, ◌≤◌, Bool, true, false, List, [], ◌∷◌, length, map, Option, None, Some, Result, Ok, Err}
 use Rattle.std.specs.List.{All}
 use Rattle.cap_octet.specs.declared.fault.Fault.{Fault}
 use Rattle.cap_io.specs.Capture.{Declared, Nothing, PcapFile, PcapngFile}
@@ -9,7 +9,10 @@ use Rattle.cap_io.specs.Text.{AreFew, most_output_interfaces}
 use Rattle.cap_job.specs.Draining.{DrainView, Target, Capture, Text, Lines}
 use Rattle.cap_job.specs.Feeding.{HeadView, FeedView, Among, FetchSteps, Settles, closes, place_left, waiting_total, weight_of}
 use Rattle.cap_octet.specs.Packet.{Captured}
-use Rattle.cap_job.specs.Judging.{spent_by_verdict}
+use Rattle.cap_tools.specs.Compiling.{spent_in}
+use Rattle.cap_job.specs.Judging.{most_spent, places, spent_by_verdict, window_asked}
+use Rattle.cap_job.specs.declared.machine.Progress.{Progress}
+use Rattle.cap_job.specs.declared.machine.Progress.TheVariants.{More, Done}
 use Rattle.cap_job.specs.Working.{MachineStand, MachineView}
 
 -- ---- what a step reads
@@ -36,6 +39,7 @@ pub record DecidesOne (old : MachineView) (input : ℕ) (new : MachineView) : Ty
   pub settles : Settles old.feed input new.feed
   pub decided : new.decided ≡ old.decided + 1
   pub programs : new.programs ≡ spent_by_verdict old.asked (old.decided + 1) packet old.programs
+  pub cost : spent_in new.programs ≤ spent_in old.programs + most_spent old.asked
 
 -- it is refused, or wasn't written
 pub record LeavesOne (old : MachineView) (input : ℕ) (new : MachineView) : Type 0 where
@@ -44,6 +48,7 @@ pub record LeavesOne (old : MachineView) (input : ℕ) (new : MachineView) : Typ
   pub feed : new.feed ≡ old.feed
   pub decided : new.decided ≡ old.decided
   pub programs : new.programs ≡ spent_by_verdict old.asked (old.decided + 1) packet old.programs
+  pub cost : spent_in new.programs ≤ spent_in old.programs + most_spent old.asked
 
 -- nothing is read, no packet is decided, and no program runs
 pub record ReadsNothing (old new : MachineView) : Type 0 where
@@ -51,12 +56,21 @@ pub record ReadsNothing (old new : MachineView) : Type 0 where
   pub decided : new.decided ≡ old.decided
   pub programs : new.programs ≡ old.programs
 
--- a step reads one input on, or decides one packet, or can't decide it, or does neither
-pub data StepReads (old new : MachineView) : Type 0 where
-  reads_on : (input : ℕ) → (answer : Result Bool Fault) → ReadsOn old input answer new → StepReads old new
-  decides_one : (input : ℕ) → DecidesOne old input new → StepReads old new
-  leaves_one : (input : ℕ) → LeavesOne old input new → StepReads old new
-  reads_nothing : ReadsNothing old new → StepReads old new
+abbrev pub is_fault : Result Bool Fault → Bool
+is_fault (Ok found) = false
+is_fault (Err fault) = true
+
+-- A step reads one input on, or decides one packet, or can't decide it, or does neither. It goes on behind an input that
+-- gave no fault, or a packet that is decided, and not otherwise.
+pub data StepReads (goes : Bool) (old new : MachineView) : Type 0 where
+  reads_on : (input : ℕ) → (answer : Result Bool Fault) → (goes ≡ true → is_fault answer ≡ false) → ReadsOn old input answer new → StepReads goes old new
+  decides_one : (input : ℕ) → DecidesOne old input new → StepReads goes old new
+  leaves_one : (input : ℕ) → goes ≡ false → LeavesOne old input new → StepReads goes old new
+  reads_nothing : goes ≡ false → ReadsNothing old new → StepReads goes old new
+
+abbrev pub goes_on : Progress → Bool
+goes_on More = true
+goes_on (Done end) = false
 
 -- ---- how many steps were made
 
@@ -109,13 +123,13 @@ target_weight (Capture sink) = names_weight (map (λ i. i.name) sink.interfaces)
 target_weight (Text written failures room) = 0
 target_weight (Lines options written failures room) = 0
 
--- the bytes that a job holds of its inputs and of its output, and 128 for its counters
+-- the bytes that a job holds of its inputs and of its output, 20 for each mark in its window, and 128 for its counters
 abbrev pub weight : MachineStand → ℕ
-weight m = heads_weight m.feed.heads + target_weight m.drain.target + 128
+weight m = heads_weight m.feed.heads + target_weight m.drain.target + 20 * length m.stand.window + 128
 
--- a unit for each input, 280 bytes for each interface that inputs and output may have, and the counters
-abbrev pub most_weight : ℕ → ℕ
-most_weight inputs = inputs * most_in_unit + (256 * inputs + most_output_interfaces) * 280 + 128
+-- a unit for each input, 280 bytes for each interface that inputs and output may have, so many marks, and the counters
+abbrev pub most_weight : ℕ → ℕ → ℕ
+most_weight inputs marks = inputs * most_in_unit + (256 * inputs + most_output_interfaces) * 280 + 20 * marks + 128
 
 -- at most one unit is held of an input, and few interfaces
 abbrev pub IsSmall : HeadView → Type 0
@@ -129,6 +143,7 @@ HasFewInterfaces (Lines options written failures room) = Unit {0}
 abbrev pub IsBounded : FeedView → DrainView → Type 0
 IsBounded feed drain = All IsSmall feed.heads × HasFewInterfaces drain.target
 
--- what a job holds of so many inputs is bounded
+-- what a job holds of so many inputs is bounded; a window of n packets has n - 1 marks, and there is none where no
+-- duplicates are looked for
 abbrev pub IsLight : MachineStand → Type 0
-IsLight m = weight m ≤ most_weight (length m.feed.heads)
+IsLight m = weight m ≤ most_weight (length m.feed.heads) (places (window_asked m.asked))

@@ -27,7 +27,7 @@ use Rattle.cap_job.specs.Judged.{Asked, Select, Filter, Everything, Count}
 use Rattle.cap_job.specs.Judging.{selection_of}
 use Rattle.cap_job.specs.Feeding.{Stood, feed_left}
 use Rattle.cap_job.specs.Bounds.{StepReads}
-use Rattle.cap_job.specs.Judging.{spent_in}
+use Rattle.cap_tools.specs.Compiling.{spent_in}
 use Rattle.cap_job.specs.Working.{MachineStand, MachineView, Decided}
 use Rattle.cap_job.specs.Jobs.{JobView, JobGives, JobRuns, NeverBegan, Opened, job_first, order_of, stood_at}
 use Rattle.cap_job.specs.Starting.{IsFresh, Lists, Refuses, asking, filtering, is_text, output_of, output_name}
@@ -153,9 +153,9 @@ pub record PreparesOnly (old new : MachineView) : Type 0 where
   pub decided : new.decided ≡ old.decided
   pub unspent : spent_in new.programs ≡ spent_in old.programs
 
-abbrev pub StepReadsBy : Option Preparing → MachineView → MachineView → Type 0
-StepReadsBy None old new = StepReads old new
-StepReadsBy (Some preparing) old new = PreparesOnly old new
+abbrev pub StepReadsBy : Option Preparing → Bool → MachineView → MachineView → Type 0
+StepReadsBy None goes old new = StepReads goes old new
+StepReadsBy (Some preparing) goes old new = PreparesOnly old new
 
 -- ---- all steps
 

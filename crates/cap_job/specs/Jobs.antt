@@ -157,11 +157,17 @@ pub record EndsJob (tells : Bool) (old : JobView) (status : ℕ) (new : JobView)
   pub text : List ℕ
   pub ends : Ends old.machine.drain.names old.machine new.machine text status
   pub told : IsTold tells old.err text new.err
+  -- where all went well nothing is told
+  pub quiet : status ≡ 0 → new.err ≡ old.err
 
 -- a job that goes on tells nothing
 abbrev pub JobGives : Bool → JobView → Turn → JobView → Type 0
 JobGives tells old turn.More new = (new.err ≡ old.err) × ((ss : List Stood) (before : List ℕ) → Decided ss before old.machine → GoesOn ss before old.machine new.machine)
 JobGives tells old (turn.Done status) new = EndsJob tells old status new
+
+abbrev pub turn_goes_on : Turn → Bool
+turn_goes_on turn.More = true
+turn_goes_on (turn.Done status) = false
 
 -- 0 done, 1 a fault, 2 a refusal
 abbrev pub IsStatus : Turn → Type 0
@@ -191,6 +197,7 @@ pub record JobRuns (ss : List Stood) (before : List ℕ) (tells : Bool) (first :
   pub written : output.written ≡ written_by last
   pub failures : output.failures ≡ failures_by last
   pub told : IsTold tells first.err text err
+  pub quiet : status ≡ 0 → err ≡ first.err
 
 -- there was no memory to begin
 pub record NeverBegan (tells : Bool) (out err : OutputView) (status : ℕ) (out' err' : OutputView) : Type 0 where

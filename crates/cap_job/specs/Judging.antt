@@ -1,17 +1,18 @@
 -- What a contract sees of a judge.
-use Rattle.std.specs.Prelude.{◌≡◌, ℕ, ◌+◌, ◌^◌, ◌≤◌, Bool, true, false, if◌then◌else◌, List, [], ◌∷◌, Option, None, Result, Ok, Err, ◌*◌, Some}
+use Rattle.std.specs.Prelude.{◌≡◌, ℕ, ◌+◌, ◌-◌, ◌^◌, ◌≤◌, Bool, true, false, if◌then◌else◌, List, [], ◌∷◌, length, Option, None, Result, Ok, Err, ◌*◌, Some}
 use Rattle.cap_octet.specs.Packet.{Captured, captured}
+use Rattle.cap_octet.specs.declared.packet.Packet.{Packet}
 use Rattle.cap_octet.specs.declared.fault.Fault.{Fault}
+use Rattle.cap_window.specs.declared.mark.Mark.{Mark}
+use Rattle.cap_window.specs.View.{WindowView}
 use Rattle.flt_bpf.specs.Content.{Content}
 use Rattle.cap_tools.specs.declared.command.Edit.{Edit}
-use Rattle.cap_tools.specs.Chosen.{Decision, Keep, Skip, keep_if}
-use Rattle.cap_tools.specs.Printed.{rule_decides}
-use Rattle.cap_tools.specs.Printing.{programs_of, rule_of, spent_on}
+use Rattle.cap_tools.specs.Printing.{most_cost, programs_of, rule_of, spent_on}
 use Rattle.cap_job.specs.declared.judge.Rule.{Rule}
 use Rattle.cap_job.specs.declared.judge.Rule.TheVariants as rule
 use Rattle.cap_job.specs.declared.judge.Verdict as code
 use Rattle.cap_job.specs.declared.judge.Verdict.TheVariants as code_verdict
-use Rattle.cap_job.specs.Judged.{Asked, Select, Filter, Everything, Count, Selection, Stand, Verdict, Pass, Last, Refuse, Judged, is_selected, is_too_many}
+use Rattle.cap_job.specs.Judged.{Asked, Select, Filter, Everything, Count, Selection, Stand, Verdict, Pass, Last, Refuse, Judged, counts, is_too_many}
 use Rattle.cap_job.specs.Judged as judged
 use Rattle.cap_job.specs.Reports.{Tally, nothing_counted}
 use Rattle.cap_io.specs.Reading.{most_in_unit}
@@ -33,17 +34,21 @@ judge_stand j = record { asked = j.asked; stand = j.stand }
 abbrev pub stand_with : ℕ → Tally → Stand
 stand_with passed tally = record { passed = passed; window = []; tally = tally }
 
+-- the stand of a judge with these marks in its window
+abbrev pub stand_of : ℕ → List Mark → Tally → Stand
+stand_of passed marks tally = record { passed = passed; window = marks; tally = tally }
+
 abbrev pub selection_of : {Z : Type 0} → Edit Z → Selection
 selection_of edit = record {
   ranges = edit.ranges.items;
   keep = edit.keep;
-  start = None;
-  stop = None;
-  chop_start = 0;
-  chop_end = 0;
-  snap = None;
-  shift = None;
-  window = None;
+  start = edit.start;
+  stop = edit.stop;
+  chop_start = edit.chop_start;
+  chop_end = edit.chop_end;
+  snap = edit.snap;
+  shift = edit.shift;
+  window = edit.window;
 }
 
 abbrev pub asked_of : {Z : Type 0} → Rule Z → Asked
@@ -66,10 +71,12 @@ spent_by (Filter rule count) p programs = spent_on rule p programs
 spent_by Everything p programs = programs
 spent_by Count p programs = programs
 
--- how many instructions the runs of some programs met
-abbrev pub spent_in : List Content → ℕ
-spent_in [] = 0
-spent_in (program ∷ programs) = program.spent + spent_in programs
+-- how many instructions deciding a packet meets at most
+abbrev pub most_spent : Asked → ℕ
+most_spent (Select s) = 0
+most_spent (Filter rule count) = most_cost rule
+most_spent Everything = 0
+most_spent Count = 0
 
 -- what deciding a packet costs: a packet too many is refused before any program runs
 abbrev pub spent_by_verdict : Asked → ℕ → Captured → List Content → List Content
@@ -81,13 +88,6 @@ is_count (Select s) = false
 is_count (Filter rule count) = false
 is_count Everything = false
 is_count Count = true
-
--- whether a packet passes, where nothing is changed of it
-abbrev pub decision : Asked → ℕ → Captured → Decision
-decision (Select s) number p = keep_if (is_selected s number p)
-decision (Filter rule count) number p = rule_decides rule p
-decision Everything number p = Keep
-decision Count number p = Skip
 
 abbrev pub count_of : Asked → Option ℕ
 count_of (Filter rule count) = count
@@ -106,6 +106,42 @@ passing p false = Pass p
 abbrev pub Tells : Judged → Result code.Verdict Fault → Stand → Type 0
 Tells j (Ok v) stand = (verdict_of v ≡ j.verdict) × (stand ≡ j.stand)
 Tells j (Err fault) stand = j.verdict ≡ Refuse fault
+
+-- What is answered of a packet where so many may pass: the packet as it passes, or none where it doesn't, and the stand
+-- beside those that passed; or its refusal.
+abbrev pub Keeps : Option ℕ → Judged → Result (Option Packet) Fault → Stand → Type 0
+Keeps count j (Ok None) stand = (j.verdict ≡ judged.Skip) × (j.stand ≡ stand)
+Keeps count j (Ok (Some p)) stand = j ≡ counts count stand (captured p)
+Keeps count j (Err fault) stand = j.verdict ≡ Refuse fault
+
+-- ---- the window
+
+abbrev pub marks_in : Option WindowView → List Mark
+marks_in None = []
+marks_in (Some w) = w.marks
+
+-- how many packets in a row are looked through for duplicates, the last among them
+abbrev pub window_asked : Asked → Option ℕ
+window_asked (Select s) = s.window
+window_asked (Filter rule count) = None
+window_asked Everything = None
+window_asked Count = None
+
+-- how many marks that takes
+abbrev pub places : Option ℕ → ℕ
+places None = 0
+places (Some n) = n - 1
+
+-- there is a window of that size, where one is asked
+abbrev pub IsWindowFor : Option ℕ → Option WindowView → Type 0
+IsWindowFor None None = Unit {0}
+IsWindowFor None (Some w) = ⊥
+IsWindowFor (Some n) None = ⊥
+IsWindowFor (Some n) (Some w) = (w.capacity ≡ n - 1) × (length w.marks ≤ n - 1)
+
+-- no more marks are kept than are asked for
+abbrev pub HasFewMarks : Asked → Stand → Type 0
+HasFewMarks asked stand = length stand.window ≤ places (window_asked asked)
 
 -- ---- what is counted
 

@@ -9,6 +9,7 @@ use Rattle.cap_io.specs.Capture.{Placed, Items, kind_of}
 use Rattle.cap_io.specs.Source.{SourceView}
 use Rattle.cap_io.specs.Standing.{IsCutShort}
 use Rattle.flt_bpf.specs.Content.{Content}
+use Rattle.cap_tools.specs.Compiling.{spent_in}
 use Rattle.cap_job.specs.declared.judge.Verdict.{Verdict}
 use Rattle.cap_job.specs.declared.judge.Verdict.TheVariants as code
 use Rattle.cap_job.specs.declared.machine.End.{End}
@@ -19,9 +20,9 @@ use Rattle.cap_job.specs.Reports.{Report, Tally}
 use Rattle.cap_job.specs.Draining.{DrainView, Drained, Puts, Reports, form_at, written_to, failures_to}
 use Rattle.cap_job.specs.Fed.{Event, Close, Over, Broken, Rest, Ordering, InTurn, Merging, fed, whole}
 use Rattle.cap_job.specs.Judged.{Asked, Stand, verdict}
-use Rattle.cap_job.specs.Judging.{JudgeStand, JudgeView, IsWithin, emptied, is_count, spent_by_verdict}
+use Rattle.cap_job.specs.Judging.{JudgeStand, JudgeView, IsWithin, emptied, is_count, most_spent, spent_by_verdict}
 use Rattle.cap_job.specs.Judging as judging
-use Rattle.cap_job.specs.Course.{Form, Way, set_out, way, course, output, first_link}
+use Rattle.cap_job.specs.Course.{Form, Way, set_out, way, course, output, written, closing, first_link}
 use Rattle.cap_job.specs.Feeding.{FeedView, HeadView, Stood, Standing, HasCome, Among, EndedBefore, ordering_of}
 
 -- ---- the view
@@ -114,7 +115,7 @@ Decides (Some p) judge number old r judge' new = Judges p judge number old r jud
 -- what deciding the packet in hand cost
 abbrev pub Spends : Option Captured → JudgeView → ℕ → JudgeView → Type 0
 Spends None old number new = ⊥
-Spends (Some p) old number new = new.programs ≡ spent_by_verdict old.asked number p old.programs
+Spends (Some p) old number new = (new.programs ≡ spent_by_verdict old.asked number p old.programs) × (spent_in new.programs ≤ spent_in old.programs + most_spent old.asked)
 
 -- whether an input that was read to its end is reported: where files are counted, one behind another
 abbrev pub asks_report : Ordering → Asked → Bool
@@ -203,12 +204,26 @@ pub record WantsMemory (old new : MachineStand) (fault : Fault) : Type 0 where
   pub why : fault ≡ NoMemory
   pub written : written_by new ≡ written_by old
 
--- The output's device failed in this step, after a beginning of what it would have appended.
+-- one answer behind these packets and reports: one packet more, one report more, or what a clean end adds
+abbrev pub IsAnswer : Form → Option ℕ → List Captured → List Report → List ℕ → Type 0
+IsAnswer form link ps rs bytes =
+    ((q : Captured) × (written form (ps ++ q ∷ []) rs ≡ written form ps rs ++ bytes))
+    ⊎ ((r : Report) × (written form ps (rs ++ r ∷ []) ≡ written form ps rs ++ bytes))
+    ⊎ (bytes ≡ closing form link ps)
+
+pub record OneAnswer (form : Form) (link : Option ℕ) (front bytes : List ℕ) : Type 0 where
+  pub packets : List Captured
+  pub reports : List Report
+  pub so_far : front ≡ written form packets reports
+  pub answer : IsAnswer form link packets reports bytes
+
+-- The output's device failed in this step, after a beginning of the one answer that it would have appended.
 pub record StopsWriting (ss : List Stood) (before : List ℕ) (old new : MachineStand) : Type 0 where
   pub failures : failures_by new ≡ failures_by old + 1
   pub front : List ℕ
   pub bytes : List ℕ
   pub back : List ℕ
+  pub one : OneAnswer (form_of old) (first_link (wholes_of ss)) front bytes
   pub whole : output (form_of old) (first_link (wholes_of ss)) (course old.asked (form_of old) (fed (ordering_of old.feed.place) (wholes_of ss))) ≡ front ++ (bytes ++ back)
   pub so_far : written_by old ≡ before ++ front
   pub stops : Stops (written_by old) bytes (written_by new)

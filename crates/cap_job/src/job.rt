@@ -7,7 +7,7 @@ ghost use Rattle.cap_tools.specs.Printing.{AreNew, programs_of, rule_of};
 ghost use Rattle.cap_tools.specs.Running.{seen};
 ghost use Rattle.cap_job.specs.Bounds.{IsLight, most_turns};
 ghost use Rattle.cap_job.specs.Commands.{CommandRuns, IsReady, Prepares, PreparesOnly, RunsCommand, assigned, lines_unless, preparing_of};
-ghost use Rattle.cap_job.specs.Jobs.{IsStatus, done_by, machine_of, opened, order_of};
+ghost use Rattle.cap_job.specs.Jobs.{IsStatus, done_by, machine_of, opened, order_of, turn_goes_on};
 ghost use Rattle.cap_job.specs.Judging.{asked_of, programs_in};
 
 use crate::drain::Writing;
@@ -184,7 +184,7 @@ impl<I: Input, O: Output, E: Output, A: Allocator + Copy + Drop> Job<I, O, E, A>
         ensures status { IsStatus result }
         ensures turns { self.old.packets.done ≡ None → self.new.packets.turns ≡ self.old.packets.turns + 1 }
         ensures few { self.old.packets.done ≡ None → self.new.packets.turns ≤ most_turns self.old.packets.machine.feed + 1 }
-        ensures reads { StepReadsBy self.old.preparing (machine_of self.old.packets) (machine_of self.new.packets) }
+        ensures reads { StepReadsBy self.old.preparing (turn_goes_on result) (machine_of self.old.packets) (machine_of self.new.packets) }
         ensures light { IsLight self.new.packets.machine }
         ensures left { result ≡ Turn.More → command_left self.new < command_left self.old }
         ensures names { self.new.packets.machine.drain.names ≡ self.old.packets.machine.drain.names }

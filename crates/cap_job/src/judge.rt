@@ -1,18 +1,21 @@
 //! What becomes of each packet.
-ghost use Rattle.std.specs.Prelude.{◌≡◌, ◌+◌, ◌<◌, ◌≤◌, length};
+ghost use Rattle.std.specs.Prelude.{◌≡◌, ℕ, ◌+◌, ◌-◌, ◌<◌, ◌≤◌, [], IfOk, None, Some, false, if◌then◌else◌, length};
 ghost use Rattle.cap_octet.specs.Packet.{captured};
 ghost use Rattle.cap_io.specs.Reading.{most_in_unit};
-ghost use Rattle.cap_tools.specs.Chosen.{Answers};
+ghost use Rattle.cap_tools.specs.Compiling.{spent_in};
 ghost use Rattle.cap_job.specs.Feeding.{most_steps};
-ghost use Rattle.cap_job.specs.Judged.{is_last};
-ghost use Rattle.cap_job.specs.Judging.{asked_of, count_of, decision, is_count, passing, programs_in, spent_by, verdict_of};
-ghost use Rattle.cap_job.specs.Reports.{nothing_counted};
+ghost use Rattle.cap_job.specs.Judged.{is_last, judged};
+ghost use Rattle.cap_job.specs.Judging.{IsWindowFor, Keeps, asked_of, count_of, is_count, marks_in, most_spent, passing, programs_in, spent_by, stand_of, verdict_of, window_asked};
+ghost use Rattle.cap_job.specs.Reports.{Tally, nothing_counted};
+ghost use Rattle.cap_window.specs.View.{window};
 
+use crate::select::select;
 use crate::tally::Tally;
 use cap_octet::{Fault, Packet};
 use cap_tools::command::Edit;
 use cap_tools::filter::Filter;
-use std::alloc::Allocator;
+use cap_window::Window;
+use std::alloc::{AllocError, Allocator};
 use std::marker::Model;
 
 /// From this number on there are too many packets.
@@ -40,6 +43,8 @@ pub enum Rule<A: Allocator> {
 #[derive(Drop)]
 pub struct Judge<A: Allocator> {
     rule: Rule<A>,
+    /// Where duplicates are looked for.
+    window: Option<Window<A>>,
     passed: u64,
     /// Of the packets of the input in hand, where they are counted.
     tally: Tally,
@@ -48,13 +53,15 @@ pub struct Judge<A: Allocator> {
 impl<A: Allocator> Model for Judge<A> {
     ghost use Rattle.std.specs.Coded.{codes};
     ghost use Rattle.cap_tools.specs.Compiling.{expression_code};
-    ghost use Rattle.cap_job.specs.Judging.{JudgeView, asked_of, programs_in, stand_with};
+    ghost use Rattle.cap_job.specs.Judging.{IsWindowFor, JudgeView, asked_of, marks_in, programs_in, stand_of, window_asked};
 
     ghost Value = { JudgeView };
 
     ghost coded = { Prim.hlevel (codes, expression_code) };
 
-    ghost view = { λ j. record { asked = asked_of j.rule; stand = stand_with j.passed j.tally; programs = programs_in j.rule } };
+    ghost view = { λ j. record { asked = asked_of j.rule; stand = stand_of j.passed (marks_in j.window) j.tally; programs = programs_in j.rule } };
+
+    ghost invariant = { λ j. IsWindowFor (window_asked (asked_of j.rule)) j.window };
 }
 
 fn is_last(count: Option<u64>, passed: u64) -> bool
@@ -66,20 +73,66 @@ fn is_last(count: Option<u64>, passed: u64) -> bool
     }
 }
 
+/// The packet, where it passes.
+fn kept_if<'a>(passes: bool, packet: &Packet<'a>) -> Option<Packet<'a>>
+    ensures { result ≡ (if passes then Some packet.now else None) }
+{
+    if passes { Some(*packet) } else { None }
+}
+
+/// How many marks a window has for so many packets in a row, the last among them.
+fn window_for<A: Allocator>(alloc: A, packets: u32) -> Result<Window<A>, AllocError>
+where
+    A: Clone,
+    ensures { IfOk result (λ w. w ≡ window [] (packets - 1)) }
+{
+    Window::new(alloc, packets.saturating_sub(1))
+}
+
 impl<A: Allocator> Rule<A> {
-    /// Whether a packet passes. The one error is `LinkTypeNotFiltered`: an expression isn't read on its link type.
-    fn passes(&mut self, number: u64, packet: &Packet<'_>) -> Result<bool, Fault>
+    /// The packet as it passes, or `None` where it doesn't. The errors are `LinkTypeNotFiltered`, where an expression isn't
+    /// read on its link type, and `TimeOutOfRange`.
+    fn kept<'a>(
+        &mut self,
+        window: &mut Option<Window<A>>,
+        number: u64,
+        packet: &Packet<'a>,
+    ) -> Result<Option<Packet<'a>>, Fault>
     where
         A: Copy + Drop,
-        ensures answers { Answers (decision (asked_of self.old) number (captured packet.now)) result }
+        requires short { length packet.now.bytes.now ≤ most_in_unit }
+        requires window { IsWindowFor (window_asked (asked_of self.old)) window.old }
+        ensures told { (passed : ℕ) (tally : Tally) → is_count (asked_of self.old) ≡ false
+            → Keeps (count_of (asked_of self.old)) (judged (asked_of self.old) (stand_of passed (marks_in window.old) tally) number (captured packet.now)) result (stand_of passed (marks_in window.new) tally) }
+        ensures window { IsWindowFor (window_asked (asked_of self.old)) window.new }
         ensures asked { asked_of self.new ≡ asked_of self.old }
         ensures spends { programs_in self.new ≡ spent_by (asked_of self.old) (captured packet.now) (programs_in self.old) }
+        ensures bounded { spent_in (programs_in self.new) ≤ spent_in (programs_in self.old) + most_spent (asked_of self.old) }
     {
         match self {
-            Rule::Select(edit) => Ok(edit.keeps(number)),
-            Rule::Filter(filter, _) => filter.passes(packet),
-            Rule::Everything => Ok(true),
-            Rule::Count => Ok(false),
+            Rule::Select(edit) => select(edit, window, number, packet),
+            Rule::Filter(filter, _) => {
+                let passes = filter.passes(packet)?;
+                Ok(kept_if(passes, packet))
+            }
+            Rule::Everything => Ok(Some(*packet)),
+            Rule::Count => Ok(None),
+        }
+    }
+
+    /// The window that is asked for, which is empty.
+    fn window(&self, alloc: A) -> Result<Option<Window<A>>, AllocError>
+    where
+        A: Clone,
+        ensures window { IfOk result (IsWindowFor (window_asked (asked_of self.now))) }
+        ensures empty { IfOk result (λ window. marks_in window ≡ []) }
+    {
+        match self {
+            Rule::Select(edit) => match edit.window {
+                Some(packets) => Ok(Some(window_for(alloc, packets)?)),
+                None => Ok(None),
+            },
+            Rule::Filter(_, _) | Rule::Everything | Rule::Count => Ok(None),
         }
     }
 
@@ -101,14 +154,33 @@ impl<A: Allocator> Rule<A> {
 }
 
 impl<A: Allocator> Judge<A> {
-    ghost use Rattle.cap_job.specs.Judged.{verdict};
-    ghost use Rattle.cap_job.specs.Judging.{Closes, GrowsByOne, IsWithin, JudgeView, Tells, judge_stand, spent_by_verdict, stand_with};
+    ghost use Rattle.std.specs.Prelude.{IfOk};
+    ghost use Rattle.cap_tools.specs.Printing.{programs_of, rule_of};
+    ghost use Rattle.cap_job.specs.Judged.{Filter as AskedFilter, verdict};
+    ghost use Rattle.cap_job.specs.Judging.{Closes, GrowsByOne, HasFewMarks, IsWithin, JudgeView, Tells, judge_stand, spent_by_verdict, stand_with};
 
-    pub fn new(rule: Rule<A>) -> Self
-        ensures { result ≡ record { asked = asked_of rule; stand = stand_with 0 nothing_counted; programs = programs_in rule } }
+    /// A judge that has met nothing. Where it looks for duplicates it takes the memory of their window here.
+    pub fn new(alloc: A, rule: Rule<A>) -> Result<Self, AllocError>
+    where
+        A: Copy + Drop,
+        ensures { IfOk result (λ judge. judge ≡ record { asked = asked_of rule; stand = stand_with 0 nothing_counted; programs = programs_in rule }) }
+    {
+        let window = rule.window(alloc)?;
+        Ok(Judge {
+            rule,
+            window,
+            passed: 0,
+            tally: Tally::new(),
+        })
+    }
+
+    /// A judge that has met nothing, by a filter, up to so many packets that pass where there is a number. It takes no memory.
+    pub fn filtering(filter: Filter<A>, count: Option<u64>) -> Self
+        ensures { result ≡ record { asked = AskedFilter (rule_of filter) count; stand = stand_with 0 nothing_counted; programs = programs_of filter } }
     {
         Judge {
-            rule,
+            rule: Rule::Filter(filter, count),
+            window: None,
             passed: 0,
             tally: Tally::new(),
         }
@@ -125,6 +197,8 @@ impl<A: Allocator> Judge<A> {
         ensures passed { self.old.stand.passed ≤ number → self.new.stand.passed ≤ number }
         ensures counted { GrowsByOne self.old.stand.tally self.new.stand.tally }
         ensures spends { self.new.programs ≡ spent_by_verdict self.old.asked number (captured packet.now) self.old.programs }
+        ensures bounded { spent_in self.new.programs ≤ spent_in self.old.programs + most_spent self.old.asked }
+        ensures few { HasFewMarks self.new.asked self.new.stand }
     {
         if self.rule.counts() {
             self.tally = self.tally.counted(packet);
@@ -134,22 +208,22 @@ impl<A: Allocator> Judge<A> {
             return Err(Fault::TooManyPackets);
         }
         let number = number as u64;
-        let passed = self.passed;
-        let passes = self.rule.passes(number, packet)?;
-        if !passes {
+        let Some(kept) = self.rule.kept(&mut self.window, number, packet)? else {
             return Ok(Verdict::Skip);
-        }
+        };
+        let passed = self.passed;
         if passed < number {
             self.passed = passed + 1;
         }
         let last = is_last(self.rule.count(), self.passed);
-        Ok(passing(packet, last))
+        Ok(passing(&kept, last))
     }
 
     /// What was counted of the input in hand, where packets are counted. The count begins anew.
     pub fn close(&mut self) -> Option<Tally>
         ensures closes { Closes (is_count self.old.asked) (judge_stand self.old) result (judge_stand self.new) }
         ensures programs { self.new.programs ≡ self.old.programs }
+        ensures few { HasFewMarks self.new.asked self.new.stand }
     {
         if !self.rule.counts() {
             return None;

@@ -4,14 +4,17 @@ ghost use Rattle.cap_job.specs.Bounds.{HasFewInterfaces, IsBounded, IsLight};
 ghost use Rattle.cap_job.specs.Feeding.{most_steps};
 ghost use Rattle.cap_job.specs.Draining.{Lists};
 ghost use Rattle.cap_job.specs.Starting.{asking};
-ghost use Rattle.cap_job.specs.Judging.{asked_of, GrowsByOne, IsWithin, judge_stand, programs_in};
+ghost use Rattle.cap_tools.specs.Printing.{programs_of, rule_of};
+ghost use Rattle.cap_job.specs.Judged.{Filter as AskedFilter};
+ghost use Rattle.cap_job.specs.Judging.{GrowsByOne, HasFewMarks, IsWithin, judge_stand};
 ghost use Rattle.cap_job.specs.Working.{Closes, Decides, Offers, Spends, machine_stand, unwritten};
 
 use crate::drain::Drain;
 use crate::feed::{Feed, Head, Next};
-use crate::judge::{Judge, Rule, Verdict};
+use crate::judge::{Judge, Verdict};
 use crate::report::Report;
 use cap_octet::{Fault, Input, Output, Stopped};
+use cap_tools::filter::Filter;
 use flt_bpf::Program;
 use std::alloc::Allocator;
 use std::marker::Model;
@@ -50,6 +53,7 @@ impl<I: Input, O: Output, A: Allocator> Model for Machine<I, O, A> {
     ghost use Rattle.cap_tools.specs.Compiling.{expression_code};
     ghost use Rattle.cap_job.specs.Bounds.{IsBounded};
     ghost use Rattle.cap_job.specs.Feeding.{feed_left, most_steps};
+    ghost use Rattle.cap_job.specs.Judging.{HasFewMarks};
     ghost use Rattle.cap_job.specs.Working.{MachineView};
 
     ghost Value = { MachineView };
@@ -58,7 +62,7 @@ impl<I: Input, O: Output, A: Allocator> Model for Machine<I, O, A> {
 
     ghost view = { λ m. record { feed = m.feed; asked = m.judge.asked; stand = m.judge.stand; drain = m.drain; decided = m.decided; programs = m.judge.programs } };
 
-    ghost invariant = { λ m. (m.decided + feed_left m.feed ≤ most_steps) × IsBounded m.feed m.drain };
+    ghost invariant = { λ m. (m.decided + feed_left m.feed ≤ most_steps) × IsBounded m.feed m.drain × HasFewMarks m.judge.asked m.judge.stand };
 }
 
 /// Writes a packet that passes, and answers whether it is the last.
@@ -97,6 +101,7 @@ fn decide<I: Input, O: Output, A: Allocator + Copy + Drop>(
     ensures spends { Spends head.now.source.packet judge.old number judge.new }
     ensures passed { judge.old.stand.passed ≤ number → judge.new.stand.passed ≤ number }
     ensures counted { GrowsByOne judge.old.stand.tally judge.new.stand.tally }
+    ensures marks { HasFewMarks judge.new.asked judge.new.stand }
     ensures few { HasFewInterfaces drain.old.target → HasFewInterfaces drain.new.target }
     ensures names { drain.new.names ≡ drain.old.names }
 {
@@ -116,6 +121,7 @@ fn close<I: Input, O: Output, A: Allocator>(
     ensures told { IsTrue O.tells → Closes feed.now input (judge_stand judge.old) drain.old result (judge_stand judge.new) drain.new }
     ensures programs { judge.new.programs ≡ judge.old.programs }
     ensures asked { judge.new.asked ≡ judge.old.asked }
+    ensures marks { HasFewMarks judge.old.asked judge.old.stand → HasFewMarks judge.new.asked judge.new.stand }
     ensures few { HasFewInterfaces drain.old.target → HasFewInterfaces drain.new.target }
     ensures names { drain.new.names ≡ drain.old.names }
 {
@@ -149,7 +155,7 @@ fn unwritten(input: usize, fault: Fault) -> End
 
 impl<I: Input, O: Output, A: Allocator + Copy + Drop> Machine<I, O, A> {
     ghost use Rattle.std.specs.Prelude.{◌≡◌, ◌<◌, ◌≤◌, IsTrue, length};
-    ghost use Rattle.cap_job.specs.Bounds.{IsBounded, IsLight, IsPaid, StepReads};
+    ghost use Rattle.cap_job.specs.Bounds.{IsBounded, IsLight, IsPaid, StepReads, goes_on};
     ghost use Rattle.cap_job.specs.Draining.{failures_to, written_to};
     ghost use Rattle.cap_job.specs.Feeding as feeding;
     ghost use Rattle.cap_job.specs.Feeding.{feed_left, most_steps};
@@ -160,6 +166,7 @@ impl<I: Input, O: Output, A: Allocator + Copy + Drop> Machine<I, O, A> {
     pub fn new(feed: Feed<I, A>, judge: Judge<A>, drain: Drain<O, A>) -> Self
         requires left { feed_left feed ≤ most_steps }
         requires bounded { IsBounded feed drain }
+        requires few { HasFewMarks judge.asked judge.stand }
         ensures { result ≡ record { feed = feed; asked = judge.asked; stand = judge.stand; drain = drain; decided = 0; programs = judge.programs } }
     {
         Machine {
@@ -184,12 +191,13 @@ impl<I: Input, O: Output, A: Allocator + Copy + Drop> Machine<I, O, A> {
         self.drain.name(index)
     }
 
-    /// From here on packets are judged by this rule.
-    pub fn judge_by(&mut self, rule: Rule<A>)
-        ensures stand { machine_stand self.new ≡ asking (asked_of rule) (machine_stand self.old) }
-        ensures programs { self.new.programs ≡ programs_in rule }
+    /// From here on packets are judged by this filter, up to so many that pass where there is a number.
+    pub fn judge_by(&mut self, filter: Filter<A>, count: Option<u64>)
+        ensures stand { machine_stand self.new ≡ asking (AskedFilter (rule_of filter) count) (machine_stand self.old) }
+        ensures programs { self.new.programs ≡ programs_of filter }
+        ensures light { IsLight (machine_stand self.new) }
     {
-        self.judge = Judge::new(rule);
+        self.judge = Judge::filtering(filter, count);
     }
 
     /// Writes the listing of a program, where text is written.
@@ -221,7 +229,7 @@ impl<I: Input, O: Output, A: Allocator + Copy + Drop> Machine<I, O, A> {
         ensures asked { self.new.asked ≡ self.old.asked }
         ensures names { self.new.drain.names ≡ self.old.drain.names }
         ensures progress { result ≡ Progress.More → feed_left self.new.feed < feed_left self.old.feed }
-        ensures reads { StepReads self.old self.new }
+        ensures reads { StepReads (goes_on result) self.old self.new }
         ensures light { IsLight (machine_stand self.new) }
         ensures paid { result ≡ Progress.More → IsPaid self.old.feed self.new.feed }
     {
@@ -240,7 +248,7 @@ impl<I: Input, O: Output, A: Allocator + Copy + Drop> Machine<I, O, A> {
         ensures asked { self.new.asked ≡ self.old.asked }
         ensures names { self.new.drain.names ≡ self.old.drain.names }
         ensures progress { result ≡ Progress.More → feed_left self.new.feed < feed_left self.old.feed }
-        ensures reads { StepReads self.old self.new }
+        ensures reads { StepReads (goes_on result) self.old self.new }
         ensures light { IsLight (machine_stand self.new) }
         ensures paid { result ≡ Progress.More → IsPaid self.old.feed self.new.feed }
     {
@@ -272,7 +280,7 @@ impl<I: Input, O: Output, A: Allocator + Copy + Drop> Machine<I, O, A> {
         ensures asked { self.new.asked ≡ self.old.asked }
         ensures names { self.new.drain.names ≡ self.old.drain.names }
         ensures progress { result ≡ Progress.More → feed_left self.new.feed < feed_left self.old.feed }
-        ensures reads { StepReads self.old self.new }
+        ensures reads { StepReads (goes_on result) self.old self.new }
         ensures light { IsLight (machine_stand self.new) }
         ensures paid { result ≡ Progress.More → IsPaid self.old.feed self.new.feed }
     {
@@ -290,7 +298,7 @@ impl<I: Input, O: Output, A: Allocator + Copy + Drop> Machine<I, O, A> {
         ensures asked { self.new.asked ≡ self.old.asked }
         ensures names { self.new.drain.names ≡ self.old.drain.names }
         ensures progress { result ≡ Progress.More → feed_left self.new.feed < feed_left self.old.feed }
-        ensures reads { StepReads self.old self.new }
+        ensures reads { StepReads (goes_on result) self.old self.new }
         ensures light { IsLight (machine_stand self.new) }
         ensures paid { result ≡ Progress.More → IsPaid self.old.feed self.new.feed }
     {

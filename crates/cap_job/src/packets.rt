@@ -75,6 +75,7 @@ fn tell<I: Input, O: Output, E: Output, A: Allocator + Copy + Drop>(
 ) -> Result<(), DeviceFault>
     ensures told { IsTrue E.tells → AppendsOrStops result (E.written err.old) (end_text machine.now.drain.names machine.now.feed.heads end) (E.written err.new) }
     ensures failed { E.failures err.new ≡ E.failures err.old + failures_of result }
+    ensures quiet { end ≡ End.Clean → err.new ≡ err.old }
 {
     match end {
         End::Clean => Ok(()),
@@ -125,7 +126,7 @@ impl<I: Input, O: Output, E: Output, A: Allocator + Copy + Drop> PacketJob<I, O,
     ghost use Rattle.std.specs.Prelude.{true};
     ghost use Rattle.cap_tools.specs.Messages.{refusal_status};
     ghost use Rattle.cap_tools.specs.Printing.{programs_of, rule_of};
-    ghost use Rattle.cap_job.specs.Jobs.{IsStatus, JobGives, done_by, job_first, machine_of};
+    ghost use Rattle.cap_job.specs.Jobs.{IsStatus, JobGives, done_by, job_first, machine_of, turn_goes_on};
     ghost use Rattle.cap_job.specs.Starting.{EndsList, IsFresh, Refuses, filtering, is_text};
     ghost use Rattle.cap_job.specs.Working.{failures_by, written_by};
 
@@ -150,7 +151,9 @@ impl<I: Input, O: Output, E: Output, A: Allocator + Copy + Drop> PacketJob<I, O,
         let Some(feed) = Feed::new(alloc, inputs, work.merges) else {
             return Err((out, err));
         };
-        let judge = Judge::new(work.rule);
+        let Ok(judge) = Judge::new(alloc, work.rule) else {
+            return Err((out, err));
+        };
         let drain = Drain::new(alloc, work.writing, names, out);
         let machine = Machine::new(feed, judge, drain);
         Ok(PacketJob {
@@ -170,7 +173,7 @@ impl<I: Input, O: Output, E: Output, A: Allocator + Copy + Drop> PacketJob<I, O,
         ensures status { IsStatus result }
         ensures turns { self.old.done ≡ None → self.new.turns ≡ self.old.turns + 1 }
         ensures few { self.old.done ≡ None → self.new.turns ≤ most_turns self.old.machine.feed + 1 }
-        ensures reads { StepReads (machine_of self.old) (machine_of self.new) }
+        ensures reads { StepReads (turn_goes_on result) (machine_of self.old) (machine_of self.new) }
         ensures light { IsLight self.new.machine }
         ensures left { result ≡ Turn.More → (self.new.turns ≡ self.old.turns + 1) × (feed_left self.new.machine.feed < feed_left self.old.machine.feed) }
         ensures kept { (self.new.machine.drain.names ≡ self.old.machine.drain.names) × (self.new.machine.asked ≡ self.old.machine.asked) }
@@ -197,7 +200,7 @@ impl<I: Input, O: Output, E: Output, A: Allocator + Copy + Drop> PacketJob<I, O,
         ensures filtered { self.new ≡ filtering (rule_of filter) count (programs_of filter) self.old }
         ensures light { IsLight self.new.machine }
     {
-        self.machine.judge_by(Rule::Filter(filter, count));
+        self.machine.judge_by(filter, count);
         self.turns += 1;
         Turn::More
     }

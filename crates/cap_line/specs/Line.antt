@@ -1,19 +1,25 @@
 -- What the words of a command line ask for.
-use Rattle.std.specs.Prelude.{◌≡◌, ◌&&◌, ◌||◌, ◌⊎◌, ℕ, Bool, false, not, List, [], ◌∷◌, length, map, nat_lt, codes}
+use Rattle.std.specs.Prelude.{◌≡◌, ◌&&◌, ◌||◌, ◌⊎◌, ℕ, Bool, false, not, List, [], ◌∷◌, length, map, nat_lt, codes, ◌-◌, ◌^◌}
 use Rattle.std.specs.Prelude.{Option, Some, None, is_none, is_some, option_map, unwrap_or, if◌then◌else◌, string_bytes, vec_len}
 use Rattle.std.specs.Global.{Global, Vec}
 use Rattle.std.specs.List.{join_by, list_any}
-use Rattle.std.specs.Option.{option_map_or, option_to_list}
+use Rattle.std.specs.Option.{option_and_then, option_map_or, option_to_list}
 use Rattle.std.specs.Str.{bytes_eq}
+use Rattle.std.specs.Str.Parse.{digits_value, without_leading_plus}
+use Rattle.cap_octet.specs.Seconds.{span_value}
+use Rattle.cap_octet.specs.Timestamp.{time_value}
 use Rattle.cap_octet.specs.declared.format.Format.{Format}
 use Rattle.cap_octet.specs.declared.format.Format.TheVariants.{Pcap, NsecPcap, Pcapng}
-use Rattle.cap_tools.specs.Command.{is_proper, most_inputs, most_ranges}
+use Rattle.cap_tools.specs.Command.{is_proper, most_inputs, most_ranges, most_window}
 use Rattle.cap_tools.specs.declared.command.Command.{Command}
 use Rattle.cap_tools.specs.declared.command.Command.TheVariants as command
 use Rattle.cap_tools.specs.declared.command.Compile.{Compile}
 use Rattle.cap_tools.specs.declared.command.Edit.{Edit}
 use Rattle.cap_tools.specs.declared.command.Merge.{Merge}
 use Rattle.cap_tools.specs.declared.command.Print.{Print}
+use Rattle.cap_tools.specs.declared.command.Shift.{Shift}
+use Rattle.cap_tools.specs.declared.command.Shift.TheVariants as shift
+use Rattle.clap.specs.ValueTests.{is_unsigned_in}
 use Rattle.clap.specs.Words.{Row, Text, all_of, first_of, one_of}
 use Rattle.flt_gen.specs.declared.link.Link.{Link}
 use Rattle.flt_gen.specs.declared.link.Link.TheVariants.{Ether, Raw, Cooked}
@@ -24,7 +30,7 @@ use Rattle.cap_line.specs.declared.arguments.Subcommand.{Subcommand}
 use Rattle.cap_line.specs.declared.arguments.Subcommand.TheVariants as sub
 use Rattle.cap_line.specs.declared.line.Line.{Line}
 use Rattle.cap_line.specs.declared.usage.Usage.{Usage}
-use Rattle.cap_line.specs.declared.usage.Usage.TheVariants.{BadRange, Memory, NameUsedTwice, OptionsExclude, Refused, TooManyValues}
+use Rattle.cap_line.specs.declared.usage.Usage.TheVariants.{BadRange, BadTime, Memory, NameUsedTwice, OptionsExclude, Refused, TooManyValues}
 
 -- ---- clap's matches
 
@@ -55,6 +61,43 @@ link_named text =
 abbrev pub link_in : Text → List Row → Link
 link_in id matches = option_map_or link_named (first_of id matches) Ether
 
+-- the number from `least` to `most` that a text writes; a plus sign may stand in front of it
+abbrev pub number_between : (least most : ℕ) → Text → Option ℕ
+number_between least most text =
+    if is_unsigned_in least most text then Some (digits_value 10 (without_leading_plus text)) else None
+
+-- the number of an argument; clap takes none that isn't between `least` and `most`
+abbrev pub number_in : (least most : ℕ) → Text → List Row → Option ℕ
+number_in least most id matches = option_and_then (number_between least most) (one_of id matches)
+
+-- the greatest numbers of 32 and of 64 bits
+abbrev pub most_32 : ℕ
+most_32 = 2 ^ 32 - 1
+
+abbrev pub most_64 : ℕ
+most_64 = 2 ^ 64 - 1
+
+-- the time that an argument names, in nanoseconds since 1970-01-01 00:00:00 UTC
+abbrev pub time_in : Text → List Row → Option ℕ
+time_in id matches = option_and_then time_value (first_of id matches)
+
+-- the nanoseconds that an argument's number of seconds comes to
+abbrev pub span_in : Text → List Row → Option ℕ
+span_in id matches = option_and_then span_value (first_of id matches)
+
+abbrev pub shift_by : (later earlier : Option ℕ) → Shift
+shift_by (Some span) earlier = shift.Later span
+shift_by None (Some span) = shift.Earlier span
+shift_by None None = shift.None
+
+-- times are shifted by `--later` or `--earlier`
+abbrev pub shift_in : List Row → Shift
+shift_in matches = shift_by (span_in (codes "later") matches) (span_in (codes "earlier") matches)
+
+-- the packets are written in the named format where `-w` names a capture, and else a line for each of them
+abbrev pub write_in : List Row → Option Format
+write_in matches = option_map (λ name. format_in (codes "FORMAT") matches) (first_of (codes "OUT") matches)
+
 -- the expression: the words, with one blank between each two
 abbrev pub expression_in : List Row → Text
 expression_in matches = join_by (λ (word : Text). word) (codes " ") (texts_in (codes "WORD") matches)
@@ -74,14 +117,36 @@ range_fault words =
 abbrev pub name_fault : List Text → Option Text → Option Usage
 name_fault inputs output = if uses_name_twice inputs output then Some NameUsedTwice else None
 
--- a listing stands in place of an expression
-abbrev pub exclusion_fault : (listing : Option Text) → (words : List Text) → Option Usage
-exclusion_fault listing words = if is_some listing && nat_lt 0 (length words) then Some OptionsExclude else None
+-- an argument has a text that is no time, or no number of seconds
+abbrev pub is_bad_time : Text → List Row → Bool
+is_bad_time id matches = is_some (first_of id matches) && is_none (time_in id matches)
 
--- too many ranges, then a bad one, then a name used twice
+abbrev pub is_bad_span : Text → List Row → Bool
+is_bad_span id matches = is_some (first_of id matches) && is_none (span_in id matches)
+
+abbrev pub has_bad_time : List Row → Bool
+has_bad_time matches =
+    is_bad_time (codes "start") matches || (is_bad_time (codes "stop") matches
+    || (is_bad_span (codes "later") matches || is_bad_span (codes "earlier") matches))
+
+abbrev pub time_fault : List Row → Option Usage
+time_fault matches = if has_bad_time matches then Some BadTime else None
+
+-- times can't be shifted both ways
+abbrev pub has_two_shifts : List Row → Bool
+has_two_shifts matches = is_some (first_of (codes "later") matches) && is_some (first_of (codes "earlier") matches)
+
+abbrev pub shift_fault : List Row → Option Usage
+shift_fault matches = if has_two_shifts matches then Some OptionsExclude else None
+
+-- after the ranges: a bad time, then options that exclude each other, then a name used twice
+abbrev pub option_fault : List Row → Option Usage
+option_fault matches = or_else (time_fault matches) (or_else (shift_fault matches)
+    (name_fault (text_in (codes "IN") matches ∷ []) (Some (text_in (codes "OUT") matches))))
+
+-- too many ranges, then a bad one, then a fault of the options
 abbrev pub edit_fault : List Row → Option Usage
-edit_fault matches = or_else (range_fault (texts_in (codes "RANGE") matches))
-    (name_fault (text_in (codes "IN") matches ∷ []) (Some (text_in (codes "OUT") matches)))
+edit_fault matches = or_else (range_fault (texts_in (codes "RANGE") matches)) (option_fault matches)
 
 -- the names of the inputs of a command that has several: there is one at least
 abbrev pub files_in : List Row → List Text
@@ -104,21 +169,49 @@ infos_fault matches = files_fault (files_in matches) None
 abbrev pub read_names : List Row → List Text
 read_names matches = text_in (codes "FILE") matches ∷ option_to_list (first_of (codes "LISTING") matches)
 
--- an expression beside a listing, then a name used twice
+-- a listing stands in place of an expression
+abbrev pub has_two_filters : List Row → Bool
+has_two_filters matches = is_some (first_of (codes "LISTING") matches) && nat_lt 0 (length (texts_in (codes "WORD") matches))
+
+-- a capture that is written has no lines, which could have link headers or bytes
+abbrev pub has_two_outputs : List Row → Bool
+has_two_outputs matches =
+    is_some (first_of (codes "OUT") matches) && (flag_in (codes "link") matches || flag_in (codes "bytes") matches)
+
+-- lines have no format
+abbrev pub has_idle_format : List Row → Bool
+has_idle_format matches = is_some (first_of (codes "FORMAT") matches) && is_none (first_of (codes "OUT") matches)
+
+abbrev pub has_exclusion : List Row → Bool
+has_exclusion matches = has_two_filters matches || (has_two_outputs matches || has_idle_format matches)
+
+abbrev pub exclusion_fault : List Row → Option Usage
+exclusion_fault matches = if has_exclusion matches then Some OptionsExclude else None
+
+-- options that exclude each other, then a name used twice
 abbrev pub print_fault : List Row → Option Usage
-print_fault matches = or_else
-    (exclusion_fault (first_of (codes "LISTING") matches) (texts_in (codes "WORD") matches))
-    (name_fault (read_names matches) (Some (text_in (codes "OUT") matches)))
+print_fault matches = or_else (exclusion_fault matches) (name_fault (read_names matches) (first_of (codes "OUT") matches))
 
 -- ---- lines
+
+-- the edit has what the options say, besides its ranges
+pub record HasOptions (matches : List Row) (edit : Edit Global) : Type 0 where
+  pub keep : edit.keep ≡ flag_in (codes "keep") matches
+  pub start : edit.start ≡ time_in (codes "start") matches
+  pub stop : edit.stop ≡ time_in (codes "stop") matches
+  pub chop_start : edit.chop_start ≡ unwrap_or (number_in 0 most_32 (codes "chop_start") matches) 0
+  pub chop_end : edit.chop_end ≡ unwrap_or (number_in 0 most_32 (codes "chop_end") matches) 0
+  pub snap : edit.snap ≡ number_in 1 most_32 (codes "snap") matches
+  pub shift : edit.shift ≡ shift_in matches
+  pub window : edit.window ≡ number_in 2 most_window (codes "window") matches
+  pub format : edit.format ≡ format_in (codes "FORMAT") matches
 
 -- the line is the edit that the matches ask for
 pub record IsEditOf (matches : List Row) (line : Line) : Type 0 where
   pub edit : Edit Global
   pub command : line.command ≡ command.Edit edit
   pub ranges : map Some edit.ranges.items ≡ map range_of (texts_in (codes "RANGE") matches)
-  pub keep : edit.keep ≡ flag_in (codes "keep") matches
-  pub format : edit.format ≡ format_in (codes "FORMAT") matches
+  pub options : HasOptions matches edit
   pub inputs : map string_bytes line.inputs.items ≡ text_in (codes "IN") matches ∷ []
   pub output : option_map string_bytes line.output ≡ Some (text_in (codes "OUT") matches)
   pub code : line.code ≡ None
@@ -146,9 +239,12 @@ pub record IsPrintOf (matches : List Row) (line : Line) : Type 0 where
   pub command : line.command ≡ command.Print print
   pub expr : string_bytes print.expr ≡ expression_in matches
   pub unread : print.code ≡ None
-  pub write : print.write ≡ format_in (codes "FORMAT") matches
+  pub count : print.count ≡ number_in 1 most_64 (codes "count") matches
+  pub link : print.link ≡ flag_in (codes "link") matches
+  pub bytes : print.bytes ≡ flag_in (codes "bytes") matches
+  pub write : print.write ≡ write_in matches
   pub inputs : map string_bytes line.inputs.items ≡ text_in (codes "FILE") matches ∷ []
-  pub output : option_map string_bytes line.output ≡ Some (text_in (codes "OUT") matches)
+  pub output : option_map string_bytes line.output ≡ first_of (codes "OUT") matches
   pub code : option_map string_bytes line.code ≡ first_of (codes "LISTING") matches
 
 -- the line is the compilation that the matches ask for

@@ -1,11 +1,16 @@
 //! The command line as clap parses it.
 ghost use Rattle.std.specs.Prelude.{◌≡◌, IfOk, IfErr, map, false, string_bytes};
-ghost use Rattle.clap.specs.Words.{app_of, rule_of, subcommand_rows_of};
+ghost use Rattle.clap.specs.Words.{app_of, subcommand_rows_of};
 ghost use Rattle.clap.specs.declared.builder.command.Command.TheViews.{out-Command as fields_of};
 ghost use Rattle.clap.specs.declared.builder.value_parser.ValueParser.TheVariants.{Names};
-ghost use Rattle.cap_line.specs.Arguments.{keep_rule, format_rule, long_format_rule, append_rule, file_rule, output_rule, listing_rule, link_rule, many_rule, edit_app, merge_app, infos_app, print_app, compile_app, line_app, AreChoices, Takes, Refuses, format_names, link_names, subcommand_named};
+ghost use Rattle.cap_line.specs.Arguments.{edit_app, merge_app, infos_app, print_app, compile_app, line_app, lining, selecting, shifting, shortening, AreChoices, Takes, Refuses, format_names, link_names, subcommand_named};
 
-use clap::{Arg, ArgAction, ArgMatches, Command, Error};
+use crate::options::{
+    append_arg, bytes_arg, capture_arg, chop_end_arg, chop_start_arg, count_arg, earlier_arg,
+    file_arg, format_arg, keep_arg, later_arg, link_arg, link_header_arg, listing_arg,
+    long_format_arg, many_arg, output_arg, snap_arg, start_arg, stop_arg, window_arg,
+};
+use clap::{ArgMatches, Command, Error};
 use std::alloc::{AllocError, Global};
 
 /// The names of the formats that can be written.
@@ -37,9 +42,6 @@ pub fn subcommand_named(name: &str) -> Subcommand
     }
 }
 
-/// What the option of a format is for.
-const FORMAT_HELP: &str = "The format that is written: pcapng where none is given";
-
 /// What an input is.
 const FILE_HELP: &str = "The capture that is read, or - for standard input";
 
@@ -49,95 +51,58 @@ const MORE_HELP: &str = "More captures";
 /// What the words of an expression are.
 const WORD_HELP: &str = "The words of an expression, as in pcap-filter(7)";
 
-fn keep_arg<'a>(alloc: Global) -> Arg<'a>
-    ensures rule { rule_of result ≡ keep_rule }
-    ensures local { result.global ≡ false }
+/// With the options that select packets.
+fn selecting<'a>(alloc: Global, command: Command<'a>) -> Result<Command<'a>, AllocError>
+    ensures shape { IfOk result (λ after. app_of after ≡ selecting (app_of command.entry)) }
+    ensures local { IfOk result (λ after. (fields_of after).has_globals ≡ (fields_of command.entry).has_globals) }
 {
-    Arg::new(alloc, "keep")
-        .short('r')
-        .action(ArgAction::SetTrue)
-        .help("Keep the packets of the ranges, and no others")
+    let keep = keep_arg(alloc);
+    let start = start_arg(alloc);
+    let stop = stop_arg(alloc);
+    let after = command.arg(keep)?.arg(start)?.arg(stop)?;
+    Ok(after)
 }
 
-fn append_arg<'a>(alloc: Global) -> Arg<'a>
-    ensures rule { rule_of result ≡ append_rule }
-    ensures local { result.global ≡ false }
+/// With the options that shorten packets.
+fn shortening<'a>(alloc: Global, command: Command<'a>) -> Result<Command<'a>, AllocError>
+    ensures shape { IfOk result (λ after. app_of after ≡ shortening (app_of command.entry)) }
+    ensures local { IfOk result (λ after. (fields_of after).has_globals ≡ (fields_of command.entry).has_globals) }
 {
-    Arg::new(alloc, "append")
-        .short('a')
-        .action(ArgAction::SetTrue)
-        .help("Write the captures one after another, and don't merge them by time")
+    let start = chop_start_arg(alloc);
+    let end = chop_end_arg(alloc);
+    let snap = snap_arg(alloc);
+    let after = command.arg(start)?.arg(end)?.arg(snap)?;
+    Ok(after)
 }
 
-fn format_arg<'a>(alloc: Global, formats: &'a [&'a str]) -> Arg<'a>
-    ensures rule { rule_of result ≡ format_rule (Names formats.entry) }
-    ensures local { result.global ≡ false }
+/// With the options that shift times, and the one that leaves out duplicates.
+fn shifting<'a>(alloc: Global, command: Command<'a>) -> Result<Command<'a>, AllocError>
+    ensures shape { IfOk result (λ after. app_of after ≡ shifting (app_of command.entry)) }
+    ensures local { IfOk result (λ after. (fields_of after).has_globals ≡ (fields_of command.entry).has_globals) }
 {
-    Arg::new(alloc, "FORMAT")
-        .short('F')
-        .value_parser(formats)
-        .help(FORMAT_HELP)
+    let later = later_arg(alloc);
+    let earlier = earlier_arg(alloc);
+    let window = window_arg(alloc);
+    let after = command.arg(later)?.arg(earlier)?.arg(window)?;
+    Ok(after)
 }
 
-fn long_format_arg<'a>(alloc: Global, formats: &'a [&'a str]) -> Arg<'a>
-    ensures rule { rule_of result ≡ long_format_rule (Names formats.entry) }
-    ensures local { result.global ≡ false }
+/// With the options of lines.
+fn lining<'a>(alloc: Global, command: Command<'a>) -> Result<Command<'a>, AllocError>
+    ensures shape { IfOk result (λ after. app_of after ≡ lining (app_of command.entry)) }
+    ensures local { IfOk result (λ after. (fields_of after).has_globals ≡ (fields_of command.entry).has_globals) }
 {
-    Arg::new(alloc, "FORMAT")
-        .long("format")
-        .value_parser(formats)
-        .help(FORMAT_HELP)
-}
-
-fn file_arg<'a>(alloc: Global, id: &'a str, help: &'a str) -> Arg<'a>
-    ensures rule { rule_of result ≡ file_rule id.entry.now }
-    ensures local { result.global ≡ false }
-{
-    Arg::new(alloc, id).required(true).help(help)
-}
-
-fn output_arg<'a>(alloc: Global) -> Arg<'a>
-    ensures rule { rule_of result ≡ output_rule }
-    ensures local { result.global ≡ false }
-{
-    Arg::new(alloc, "OUT")
-        .short('w')
-        .required(true)
-        .help("The capture that is written, or - for standard output")
-}
-
-fn listing_arg<'a>(alloc: Global) -> Arg<'a>
-    ensures rule { rule_of result ≡ listing_rule }
-    ensures local { result.global ≡ false }
-{
-    Arg::new(alloc, "LISTING").long("code").help(
-        "A listing of a program that stands in place of an expression",
-    )
-}
-
-fn link_arg<'a>(alloc: Global, links: &'a [&'a str]) -> Arg<'a>
-    ensures rule { rule_of result ≡ link_rule (Names links.entry) }
-    ensures local { result.global ≡ false }
-{
-    Arg::new(alloc, "LINK")
-        .long("link")
-        .value_parser(links)
-        .help("What packets begin with: ether where none is given")
-}
-
-/// The last argument of a command, of as many words as there are.
-fn many_arg<'a>(alloc: Global, id: &'a str, help: &'a str) -> Arg<'a>
-    ensures rule { rule_of result ≡ many_rule id.entry.now }
-    ensures local { result.global ≡ false }
-{
-    Arg::new(alloc, id).num_args(0..).help(help)
+    let count = count_arg(alloc);
+    let link = link_header_arg(alloc);
+    let bytes = bytes_arg(alloc);
+    let after = command.arg(count)?.arg(link)?.arg(bytes)?;
+    Ok(after)
 }
 
 fn edit_command<'a>(alloc: Global, formats: &'a [&'a str]) -> Result<Command<'a>, AllocError>
     ensures shape { IfOk result (λ command. app_of command ≡ edit_app (Names formats.entry)) }
     ensures local { IfOk result (λ command. (fields_of command).has_globals ≡ false) }
 {
-    let keep = keep_arg(alloc);
     let format = format_arg(alloc, formats);
     let input = file_arg(alloc, "IN", FILE_HELP);
     let output = file_arg(
@@ -150,13 +115,13 @@ fn edit_command<'a>(alloc: Global, formats: &'a [&'a str]) -> Result<Command<'a>
         "RANGE",
         "Packets by their numbers from 1 on: N, or N-M from N to M",
     );
-    let command = Command::new(alloc, "edit")
-        .about("Delete the packets of some ranges from a capture")
-        .arg(keep)?
-        .arg(format)?
-        .arg(input)?
-        .arg(output)?
-        .arg(ranges)?;
+    let bare = Command::new(alloc, "edit")
+        .about("Select packets of a capture, change them, and leave out duplicates")
+        .after_help("Example: capkit edit -r -s 96 in.pcapng out.pcapng 1-1000");
+    let selected = selecting(alloc, bare)?;
+    let shortened = shortening(alloc, selected)?;
+    let shifted = shifting(alloc, shortened)?;
+    let command = shifted.arg(format)?.arg(input)?.arg(output)?.arg(ranges)?;
     Ok(command)
 }
 
@@ -171,6 +136,7 @@ fn merge_command<'a>(alloc: Global, formats: &'a [&'a str]) -> Result<Command<'a
     let more = many_arg(alloc, "MORE", MORE_HELP);
     let command = Command::new(alloc, "merge")
         .about("Write the packets of captures as one capture, by time")
+        .after_help("Example: capkit merge -w all.pcapng first.pcap second.pcap")
         .arg(append)?
         .arg(format)?
         .arg(output)?
@@ -187,6 +153,7 @@ fn infos_command<'a>(alloc: Global) -> Result<Command<'a>, AllocError>
     let more = many_arg(alloc, "MORE", MORE_HELP);
     let command = Command::new(alloc, "infos")
         .about("Write a report on each capture")
+        .after_help("Example: capkit infos first.pcap second.pcap")
         .arg(input)?
         .arg(more)?;
     Ok(command)
@@ -196,16 +163,19 @@ fn print_command<'a>(alloc: Global, formats: &'a [&'a str]) -> Result<Command<'a
     ensures shape { IfOk result (λ command. app_of command ≡ print_app (Names formats.entry)) }
     ensures local { IfOk result (λ command. (fields_of command).has_globals ≡ false) }
 {
-    let listing = listing_arg(alloc);
-    let output = output_arg(alloc);
+    let output = capture_arg(alloc);
     let format = long_format_arg(alloc, formats);
+    let listing = listing_arg(alloc);
     let input = file_arg(alloc, "FILE", FILE_HELP);
     let words = many_arg(alloc, "WORD", WORD_HELP);
-    let command = Command::new(alloc, "print")
-        .about("Write the packets of a capture that an expression or a listing lets pass")
-        .arg(listing)?
+    let bare = Command::new(alloc, "print")
+        .about("Print or write the packets of a capture that match an expression or a listing")
+        .after_help("Example: capkit print -c 10 -e in.pcap 'tcp port 80 and not host 10.0.0.1'");
+    let lined = lining(alloc, bare)?;
+    let command = lined
         .arg(output)?
         .arg(format)?
+        .arg(listing)?
         .arg(input)?
         .arg(words)?;
     Ok(command)
@@ -219,6 +189,7 @@ fn compile_command<'a>(alloc: Global, links: &'a [&'a str]) -> Result<Command<'a
     let words = many_arg(alloc, "WORD", WORD_HELP);
     let command = Command::new(alloc, "compile")
         .about("Write the listing of a program that an expression compiles to")
+        .after_help("Example: capkit compile --link ether 'tcp port 80' > listing")
         .arg(link)?
         .arg(words)?;
     Ok(command)

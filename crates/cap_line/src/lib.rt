@@ -9,6 +9,7 @@ mod infos_line;
 pub mod line;
 mod merge_line;
 pub mod names;
+mod options;
 mod print_line;
 mod range;
 pub mod usage;

@@ -17,7 +17,10 @@ pub enum Usage {
     /// A word names no range of packets.
     #[error("bad range")]
     BadRange,
-    /// Words of an expression stand beside a listing.
+    /// A word names no time, or no number of seconds.
+    #[error("bad time")]
+    BadTime,
+    /// Options exclude each other, or a listing excludes the words of an expression.
     #[error("options exclude each other")]
     OptionsExclude,
     /// The output is an input too, or standard input is two of them.

@@ -1,9 +1,11 @@
 //! What clap's matches hold, by the names of the arguments.
-ghost use Rattle.std.specs.Prelude.{◌≡◌, map, option_map, is_some};
+ghost use Rattle.std.specs.Prelude.{◌≡◌, ◌≤◌, ◌&&◌, IfSome, Some, None, map, nat_le, option_map, true, if◌then◌else◌};
+ghost use Rattle.std.specs.Option.{option_and_then, option_map_or};
+ghost use Rattle.cap_tools.specs.Command.{is_time};
 ghost use Rattle.clap.specs.Words.{found_of, rows_of, first_of};
-ghost use Rattle.cap_line.specs.Line.{flag_in, format_in, link_in, text_in, texts_in};
+ghost use Rattle.cap_line.specs.Line.{flag_in, format_in, link_in, number_in, span_in, text_in, texts_in, time_in};
 
-use cap_octet::Format;
+use cap_octet::{Format, span_of, time_of};
 use clap::ArgMatches;
 use flt_gen::Link;
 
@@ -56,5 +58,57 @@ pub fn link(matches: &ArgMatches<'_>, id: &str) -> Link
         Some("raw") => Link::Raw,
         Some("cooked") => Link::Cooked,
         _ => Link::Ether,
+    }
+}
+
+/// The number, if it is one from `least` to `most`.
+fn within(number: Option<u64>, least: u64, most: u64) -> Option<u64>
+    ensures value { result ≡ option_and_then (λ n. if nat_le least n && nat_le n most then Some n else None) number }
+    ensures bounds { IfSome result (λ n. (least ≤ n) × (n ≤ most)) }
+{
+    match number {
+        Some(number) if least <= number && number <= most => Some(number),
+        _ => None,
+    }
+}
+
+/// The number from `least` to `most` that the argument has. clap takes no other.
+pub fn number(matches: &ArgMatches<'_>, id: &str, least: u64, most: u64) -> Option<u64>
+    ensures value { result ≡ number_in least most id.now (rows_of (found_of matches.now)) }
+    ensures bounds { IfSome result (λ n. (least ≤ n) × (n ≤ most)) }
+{
+    within(matches.get_one::<u64>(id), least, most)
+}
+
+/// The same of a number of 32 bits.
+pub fn short_number(matches: &ArgMatches<'_>, id: &str, least: u32, most: u32) -> Option<u32>
+    ensures value { result ≡ number_in least most id.now (rows_of (found_of matches.now)) }
+    ensures bounds { IfSome result (λ n. (least ≤ n) × (n ≤ most)) }
+{
+    match number(matches, id, least as u64, most as u64) {
+        Some(number) => Some(number as u32),
+        None => None,
+    }
+}
+
+/// The time that the argument names, in nanoseconds since 1970-01-01 00:00:00 UTC.
+pub fn time(matches: &ArgMatches<'_>, id: &str) -> Option<u64>
+    ensures value { result ≡ time_in id.now (rows_of (found_of matches.now)) }
+    ensures proper { option_map_or is_time result true ≡ true }
+{
+    match text_if(matches, id) {
+        Some(text) => time_of(text),
+        None => None,
+    }
+}
+
+/// The nanoseconds that the argument's number of seconds comes to.
+pub fn span(matches: &ArgMatches<'_>, id: &str) -> Option<u64>
+    ensures value { result ≡ span_in id.now (rows_of (found_of matches.now)) }
+    ensures proper { option_map_or is_time result true ≡ true }
+{
+    match text_if(matches, id) {
+        Some(text) => span_of(text),
+        None => None,
     }
 }

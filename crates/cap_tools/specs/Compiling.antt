@@ -69,6 +69,11 @@ ran_at i p [] = []
 ran_at zero p (program ∷ programs) = ran_on p program ∷ programs
 ran_at (suc i) p (program ∷ programs) = program ∷ ran_at i p programs
 
+-- how many instructions the runs of some programs met
+abbrev pub spent_in : List Content → ℕ
+spent_in [] = 0
+spent_in (program ∷ programs) = program.spent + spent_in programs
+
 -- the same, or programs of which none ran
 abbrev pub ran_if : Option ℕ → Captured → List Content → List Content
 ran_if None p programs = programs

@@ -1,7 +1,8 @@
 -- What a contract sees of a filter: its rule and its programs, and what their runs cost.
-use Rattle.std.specs.Prelude.{◌≡◌, ℕ, List, [], ◌∷◌, All, Option, None, Some}
+use Rattle.std.specs.Prelude.{◌≡◌, ℕ, List, [], ◌∷◌, All, length, Option, None, Some}
 use Rattle.cap_octet.specs.Packet.{Captured}
 use Rattle.flt_bpf.specs.Content.{Content}
+use Rattle.flt_lang.specs.Counts.{bound_of}
 use Rattle.flt_lang.specs.Tree.{empty, truth}
 use Rattle.cap_tools.specs.declared.filter.Filter.{Filter}
 use Rattle.cap_tools.specs.declared.filter.Filter.TheVariants as filter
@@ -33,6 +34,12 @@ abbrev pub place_by : Rule → ℕ → Option ℕ
 place_by (by_reading empty) n = None
 place_by (by_reading (truth a)) n = place_of n
 place_by (by_answer prog) n = Some 0
+
+-- how many instructions deciding a packet meets at most: what the bound of the expression says, or all of a listing's
+abbrev pub most_cost : Rule → ℕ
+most_cost (by_reading empty) = 0
+most_cost (by_reading (truth a)) = bound_of (truth a)
+most_cost (by_answer prog) = length prog
 
 -- what deciding a packet costs: one run of one program, or nothing
 abbrev pub spent_on : Rule → Captured → List Content → List Content

@@ -83,13 +83,13 @@ fn run_at<A: Allocator>(
 }
 
 impl<A: Allocator> Compiled<A> {
-    ghost use Rattle.std.specs.Prelude.{◌≡◌, All, IfOk};
+    ghost use Rattle.std.specs.Prelude.{◌≡◌, ◌+◌, ◌≤◌, All, IfOk};
     ghost use Rattle.cap_octet.specs.Packet.{captured};
     ghost use Rattle.cap_tools.specs.Chosen.{Answers};
-    ghost use Rattle.cap_tools.specs.Compiling.{AreMade, IsTruth};
+    ghost use Rattle.cap_tools.specs.Compiling.{AreMade, IsTruth, spent_in};
     ghost use Rattle.cap_tools.specs.Links.{link_types};
     ghost use Rattle.cap_tools.specs.Printed.{by_reading, expression_decides};
-    ghost use Rattle.cap_tools.specs.Printing.{spent_on};
+    ghost use Rattle.cap_tools.specs.Printing.{most_cost, spent_on};
 
     /// Makes the programs of a tree. An error is want of memory.
     #[tactic(auto, unfolding(crate::specs::Links::link_types))]
@@ -110,6 +110,7 @@ impl<A: Allocator> Compiled<A> {
         ensures answers { Answers (expression_decides self.old.tree (captured packet.now)) result }
         ensures tree { self.new.tree ≡ self.old.tree }
         ensures spends { self.new.programs ≡ spent_on (by_reading self.old.tree) (captured packet.now) self.old.programs }
+        ensures bounded { spent_in self.new.programs ≤ spent_in self.old.programs + most_cost (by_reading self.old.tree) }
     {
         // The proof learns here that the expression isn't empty.
         let _ = &self.tree;

@@ -24,11 +24,12 @@ pub enum Filter<A: Allocator> {
 }
 
 impl<A: Allocator> Filter<A> {
-    ghost use Rattle.std.specs.Prelude.{◌≡◌};
+    ghost use Rattle.std.specs.Prelude.{◌≡◌, ◌+◌, ◌≤◌};
     ghost use Rattle.cap_octet.specs.Packet.{captured};
     ghost use Rattle.cap_tools.specs.Chosen.{Answers};
     ghost use Rattle.cap_tools.specs.Printed.{rule_decides};
-    ghost use Rattle.cap_tools.specs.Printing.{programs_of, rule_of, spent_on};
+    ghost use Rattle.cap_tools.specs.Compiling.{spent_in};
+    ghost use Rattle.cap_tools.specs.Printing.{most_cost, programs_of, rule_of, spent_on};
 
     /// Whether a packet passes. It takes no memory.
     ///
@@ -37,6 +38,7 @@ impl<A: Allocator> Filter<A> {
         ensures answers { Answers (rule_decides (rule_of self.old) (captured packet.now)) result }
         ensures rule { rule_of self.new ≡ rule_of self.old }
         ensures spends { programs_of self.new ≡ spent_on (rule_of self.old) (captured packet.now) (programs_of self.old) }
+        ensures bounded { spent_in (programs_of self.new) ≤ spent_in (programs_of self.old) + most_cost (rule_of self.old) }
     {
         match self {
             Filter::All => Ok(true),

@@ -1,7 +1,7 @@
 use Rattle.std.proofs.Common.{ℕ, List, refl, sym, ap, subst, ◌∙◌}
 use Rattle.cap_tools.specs.Printing.{programs_of, rule_of}
 use Rattle.cap_job.specs.declared.job.Preparation.{Preparation}
-use Rattle.cap_job.specs.Judging.{spent_in}
+use Rattle.cap_tools.specs.Compiling.{spent_in}
 use Rattle.cap_job.specs.Jobs.{JobView, machine_of}
 use Rattle.cap_job.specs.Starting.{IsFresh}
 use Rattle.cap_job.specs.Commands.{IsReady, PreparesOnly, preparing_of}

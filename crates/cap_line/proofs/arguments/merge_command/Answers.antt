@@ -10,7 +10,7 @@ returns-clause-shape c =
     ∙ ap₂ with_rule (c.in_ok-arg-3.ensures.shape c.output_arg-output.ensures.local
     ∙ ap₂ with_rule (c.in_ok-arg-2.ensures.shape c.format_arg-format.ensures.local
     ∙ ap₂ with_rule (c.in_ok-arg.ensures.shape c.append_arg-append.ensures.local
-    ∙ ap₂ with_rule (ap app_of_fields c.about.ensures ∙ c.new.ensures.app) c.append_arg-append.ensures.rule) c.format_arg-format.ensures.rule)
+    ∙ ap₂ with_rule (ap app_of_fields c.after_help.ensures ∙ ap app_of_fields c.about.ensures ∙ c.new.ensures.app) c.append_arg-append.ensures.rule) c.format_arg-format.ensures.rule)
     c.output_arg-output.ensures.rule)
     c.file_arg-input.ensures.rule)
     c.many_arg-more.ensures.rule

@@ -10,11 +10,10 @@ pub returns-clause-line : goal.returns-clause-line
 returns-clause-line c = record {
   edit = _;
   command = refl;
-  ranges = c.in_ok-ranges.ensures.ranges ∙ ap (map range_of) c.texts.ensures;
-  keep = c.flag.ensures;
-  format = c.format.ensures;
-  inputs = ap (map string_bytes) (one_input c) ∙ ap (λ name. name ∷ []) (c.in_ok-from_str.ensures.ok ∙ c.text-input.ensures);
-  output = ap Some (c.in_ok-from_str-2.ensures.ok ∙ c.text-output.ensures);
+  ranges = ap (λ ranges. map Some ranges.items) c.edit_of-edit.ensures.ranges ∙ c.in_ok-ranges.ensures.ranges ∙ ap (map range_of) c.texts.ensures;
+  options = c.edit_of-edit.ensures.options;
+  inputs = ap (map string_bytes) (one_input c) ∙ ap (λ name. name ∷ []) (c.in_ok-from_str.ensures.ok ∙ c.text.ensures);
+  output = ap Some (c.in_ok-from_str-2.ensures.ok ∙ c.text-2.ensures);
   code = refl;
 }
 
@@ -22,4 +21,4 @@ one : (c : goal.In_ok-from_str-2) → vec_len c.push.new.self ≡ 1
 one c = c.in_ok-push.ensures.len ∙ ap (λ n. n + 1) c.new-inputs.ensures.len
 
 pub returns-clause-ready : goal.returns-clause-ready
-returns-clause-ready c = and_from _ _ (and_from _ _ (eq-eqb _ 1 (one c)) c.in_ok-ranges.ensures.proper) refl
+returns-clause-ready c = and_from _ _ (and_from _ _ (eq-eqb _ 1 (one c)) c.edit_of-edit.ensures.proper) refl

@@ -1,4 +1,4 @@
-use Rattle.std.proofs.Common.{◌≡◌, ◌+◌, ◌<◌, Ok, Err, subst, sym, ◌∙◌, ap, arith, Bool, refl}
+use Rattle.std.proofs.Common.{◌≡◌, ◌+◌, ◌<◌, Ok, Err, subst, sym, ◌∙◌, ap, arith, Bool, false, refl}
 use Rattle.std.specs.List.{slice_set}
 use Rattle.cap_job.specs.declared.feed.Next.TheVariants as next
 use Rattle.cap_job.specs.Feeding.{FeedView, HeadView, Stood, Among, settled, feed_left, place_behind}
@@ -58,32 +58,35 @@ invariant_of-self g c =
     let P : MachineView → Type 0 = λ v. feeding.Tells v.feed.place v.feed.heads (next.Answer c.args.input) in
     let less = settle-less c.self.inside.feed c.settle.new.self c.args.input (subst P (sym c.self.view_is) c.requires.next) c.settle.ensures in
     let was = c.self.invariant.0 in
-    (omega (arith, less, was), (settle-small c.self.inside.feed c.settle.new.self c.args.input c.settle.ensures c.self.invariant.1.0, c.decide.ensures.few c.self.invariant.1.1))
+    (omega (arith, less, was), (settle-small c.self.inside.feed c.settle.new.self c.args.input c.settle.ensures c.self.invariant.1.0, c.decide.ensures.few c.self.invariant.1.1), c.decide.ensures.marks)
 
 pub returns-after-last-clause-reads : goal.returns-after-last-clause-reads
 returns-after-last-clause-reads g c =
-    let P : MachineView → Type 0 = λ v. StepReads v (record { feed = c.settle.new.self; asked = c.decide.new.judge.asked; stand = c.decide.new.judge.stand; drain = c.decide.new.drain; decided = c.self.inside.decided + 1; programs = c.decide.new.judge.programs }) in
+    let P : Bool → MachineView → Type 0 = λ b v. StepReads b v (record { feed = c.settle.new.self; asked = c.decide.new.judge.asked; stand = c.decide.new.judge.stand; drain = c.decide.new.drain; decided = c.self.inside.decided + 1; programs = c.decide.new.judge.programs }) in
     let h = held c.head.result.now.source.packet c.self.inside.judge (c.self.inside.decided + 1) c.decide.new.judge c.decide.ensures.spends in
     let waits = answer-waits c.self.inside.feed.place c.self.inside.feed.heads c.args.input c.head.result.now (let N : MachineView → Type 0 = λ v. feeding.Tells v.feed.place v.feed.heads (next.Answer c.args.input) in subst N (sym c.self.view_is) c.requires.next) c.head.ensures in
-    subst P c.self.view_is (decides_one c.args.input (record {
+    let all : (b : Bool) → P b c.args.self.now = λ b. (let Q : MachineView → Type 0 = λ v. P b v in subst Q c.self.view_is (decides_one c.args.input (record {
       packet = h.packet;
       holds = record { head = c.head.result.now; among = c.head.ensures; waits = waits; held = h.is };
       settles = c.settle.ensures;
       decided = refl;
       programs = h.spends;
-    }))
+      cost = h.cost;
+    }))) in
+    all _
 
 pub returns-in-Err-clause-reads : goal.returns-in-Err-clause-reads
 returns-in-Err-clause-reads g c =
-    let P : MachineView → Type 0 = λ v. StepReads v (record { feed = c.self.inside.feed; asked = c.decide.new.judge.asked; stand = c.decide.new.judge.stand; drain = c.decide.new.drain; decided = c.self.inside.decided; programs = c.decide.new.judge.programs }) in
+    let P : MachineView → Type 0 = λ v. StepReads false v (record { feed = c.self.inside.feed; asked = c.decide.new.judge.asked; stand = c.decide.new.judge.stand; drain = c.decide.new.drain; decided = c.self.inside.decided; programs = c.decide.new.judge.programs }) in
     let h = held c.head.result.now.source.packet c.self.inside.judge (c.self.inside.decided + 1) c.decide.new.judge c.decide.ensures.spends in
     let waits = answer-waits c.self.inside.feed.place c.self.inside.feed.heads c.args.input c.head.result.now (let N : MachineView → Type 0 = λ v. feeding.Tells v.feed.place v.feed.heads (next.Answer c.args.input) in subst N (sym c.self.view_is) c.requires.next) c.head.ensures in
-    subst P c.self.view_is (leaves_one c.args.input (record {
+    subst P c.self.view_is (leaves_one c.args.input refl (record {
       packet = h.packet;
       holds = record { head = c.head.result.now; among = c.head.ensures; waits = waits; held = h.is };
       feed = refl;
       decided = refl;
       programs = h.spends;
+      cost = h.cost;
     }))
 
 pub decide-requires : goal.decide-requires
@@ -99,9 +102,9 @@ returns-after-last-clause-paid g c = λ more.
 pub returns-after-last-clause-light : goal.returns-after-last-clause-light
 returns-after-last-clause-light g c =
     is-light (record { feed = c.settle.new.self; asked = c.decide.new.judge.asked; stand = c.decide.new.judge.stand; drain = c.decide.new.drain; decided = c.self.inside.decided + 1 })
-    (settle-small c.self.inside.feed c.settle.new.self c.args.input c.settle.ensures c.self.invariant.1.0, c.decide.ensures.few c.self.invariant.1.1)
+    (settle-small c.self.inside.feed c.settle.new.self c.args.input c.settle.ensures c.self.invariant.1.0, c.decide.ensures.few c.self.invariant.1.1) c.decide.ensures.marks
 
 pub returns-in-Err-clause-light : goal.returns-in-Err-clause-light
 returns-in-Err-clause-light g c =
     is-light (record { feed = c.self.inside.feed; asked = c.decide.new.judge.asked; stand = c.decide.new.judge.stand; drain = c.decide.new.drain; decided = c.self.inside.decided })
-    (c.self.invariant.1.0, c.decide.ensures.few c.self.invariant.1.1)
+    (c.self.invariant.1.0, c.decide.ensures.few c.self.invariant.1.1) c.decide.ensures.marks

@@ -8,7 +8,7 @@ use Rattle.cap_job.specs.Judged.{Asked}
 use Rattle.cap_job.specs.Judging.{JudgeView, judge_stand}
 use Rattle.cap_job.specs.Working.{MachineStand, MachineView, machine_stand, machine_with, Decided, GoesOn, BreaksAt, StepLeaves}
 use Rattle.cap_job.proofs.Fetches.{Follows, FetchLeaves, fetch-leaves}
-use Rattle.cap_job.specs.Bounds.{StepReads, reads_on, IsPaid}
+use Rattle.cap_job.specs.Bounds.{StepReads, reads_on, IsPaid, goes_on, is_fault}
 use Rattle.cap_job.proofs.Lefts.{Goes, fetch-kept, fetch-less}
 use Rattle.cap_job.proofs.Turns.{fetch-paid}
 use Rattle.cap_job.proofs.Weights.{fetch-small, is-light}
@@ -20,7 +20,7 @@ invariant_of-self g c =
     let W : MachineView → Type 0 = λ v. c.args.input < length v.feed.heads in
     let less = fetch-kept c.self.inside.feed c.fetch.new.self c.args.input c.fetch.result (subst N (sym c.self.view_is) c.requires.next) (subst W (sym c.self.view_is) c.requires.within) c.fetch.ensures.steps in
     let was = c.self.invariant.0 in
-    (omega (arith, less, was), (fetch-small c.self.inside.feed c.fetch.new.self c.args.input c.fetch.result c.fetch.ensures.steps c.self.invariant.1.0, c.self.invariant.1.1))
+    (omega (arith, less, was), (fetch-small c.self.inside.feed c.fetch.new.self c.args.input c.fetch.result c.fetch.ensures.steps c.self.invariant.1.0, c.self.invariant.1.1), c.self.invariant.2)
 
 pub invariant_of-self-in-Ok-false : goal.invariant_of-self-in-Ok-false
 invariant_of-self-in-Ok-false g c =
@@ -28,7 +28,7 @@ invariant_of-self-in-Ok-false g c =
     let W : MachineView → Type 0 = λ v. c.args.input < length v.feed.heads in
     let less = fetch-kept c.self.inside.feed c.fetch.new.self c.args.input c.fetch.result (subst N (sym c.self.view_is) c.requires.next) (subst W (sym c.self.view_is) c.requires.within) c.fetch.ensures.steps in
     let was = c.self.invariant.0 in
-    (omega (arith, less, was), (fetch-small c.self.inside.feed c.fetch.new.self c.args.input c.fetch.result c.fetch.ensures.steps c.self.invariant.1.0, c.close.ensures.few c.self.invariant.1.1))
+    (omega (arith, less, was), (fetch-small c.self.inside.feed c.fetch.new.self c.args.input c.fetch.result c.fetch.ensures.steps c.self.invariant.1.0, c.close.ensures.few c.self.invariant.1.1), c.close.ensures.marks c.self.invariant.2)
 
 pub invariant_of-self-in-Err : goal.invariant_of-self-in-Err
 invariant_of-self-in-Err g c =
@@ -36,7 +36,7 @@ invariant_of-self-in-Err g c =
     let W : MachineView → Type 0 = λ v. c.args.input < length v.feed.heads in
     let less = fetch-kept c.self.inside.feed c.fetch.new.self c.args.input c.fetch.result (subst N (sym c.self.view_is) c.requires.next) (subst W (sym c.self.view_is) c.requires.within) c.fetch.ensures.steps in
     let was = c.self.invariant.0 in
-    (omega (arith, less, was), (fetch-small c.self.inside.feed c.fetch.new.self c.args.input c.fetch.result c.fetch.ensures.steps c.self.invariant.1.0, c.self.invariant.1.1))
+    (omega (arith, less, was), (fetch-small c.self.inside.feed c.fetch.new.self c.args.input c.fetch.result c.fetch.ensures.steps c.self.invariant.1.0, c.self.invariant.1.1), c.self.invariant.2)
 
 pub returns-in-Ok-true-clause-told : goal.returns-in-Ok-true-clause-told
 returns-in-Ok-true-clause-told g c = λ ti to ss before d.
@@ -91,8 +91,8 @@ returns-in-Err-clause-told g c = λ ti to ss before d.
 pub returns-in-Ok-true-clause-reads : goal.returns-in-Ok-true-clause-reads
 returns-in-Ok-true-clause-reads g c =
     let j : JudgeView = c.self.inside.judge in
-    let P : MachineView → Type 0 = λ v. StepReads v (record { feed = c.fetch.new.self; asked = j.asked; stand = j.stand; drain = c.self.inside.drain; decided = c.self.inside.decided; programs = j.programs }) in
-    subst P c.self.view_is (reads_on c.args.input c.fetch.result (record { fetches = c.fetch.ensures.steps; decided = refl; programs = refl; drain = λ on. refl }))
+    let P : MachineView → Type 0 = λ v. StepReads true v (record { feed = c.fetch.new.self; asked = j.asked; stand = j.stand; drain = c.self.inside.drain; decided = c.self.inside.decided; programs = j.programs }) in
+    subst P c.self.view_is (reads_on c.args.input c.fetch.result (λ on. ap is_fault c.in-Ok-true.is) (record { fetches = c.fetch.ensures.steps; decided = refl; programs = refl; drain = λ on. refl }))
 
 pub returns-in-Ok-true-clause-paid : goal.returns-in-Ok-true-clause-paid
 returns-in-Ok-true-clause-paid g c = λ more.
@@ -102,8 +102,8 @@ returns-in-Ok-true-clause-paid g c = λ more.
 pub returns-in-Ok-false-clause-reads : goal.returns-in-Ok-false-clause-reads
 returns-in-Ok-false-clause-reads g c =
     let j : JudgeView = c.close.new.judge in
-    let P : MachineView → Type 0 = λ v. StepReads v (record { feed = c.fetch.new.self; asked = j.asked; stand = j.stand; drain = c.close.new.drain; decided = c.self.inside.decided; programs = j.programs }) in
-    subst P c.self.view_is (reads_on c.args.input c.fetch.result (record { fetches = c.fetch.ensures.steps; decided = refl; programs = c.close.ensures.programs; drain = λ on. absurd (let e : closes c.fetch.result ≡ true = ap closes (c.in-Ok-false.is ∙ ap Ok c.in-Ok-false.field-0-test) in cc) }))
+    let P : MachineView → Type 0 = λ v. StepReads (goes_on c.close.result) v (record { feed = c.fetch.new.self; asked = j.asked; stand = j.stand; drain = c.close.new.drain; decided = c.self.inside.decided; programs = j.programs }) in
+    subst P c.self.view_is (reads_on c.args.input c.fetch.result (λ on. ap is_fault c.in-Ok-false.is) (record { fetches = c.fetch.ensures.steps; decided = refl; programs = c.close.ensures.programs; drain = λ on. absurd (let e : closes c.fetch.result ≡ true = ap closes (c.in-Ok-false.is ∙ ap Ok c.in-Ok-false.field-0-test) in cc) }))
 
 pub returns-in-Ok-false-clause-paid : goal.returns-in-Ok-false-clause-paid
 returns-in-Ok-false-clause-paid g c = λ more.
@@ -113,20 +113,20 @@ returns-in-Ok-false-clause-paid g c = λ more.
 pub returns-in-Err-clause-reads : goal.returns-in-Err-clause-reads
 returns-in-Err-clause-reads g c =
     let j : JudgeView = c.self.inside.judge in
-    let P : MachineView → Type 0 = λ v. StepReads v (record { feed = c.fetch.new.self; asked = j.asked; stand = j.stand; drain = c.self.inside.drain; decided = c.self.inside.decided; programs = j.programs }) in
-    subst P c.self.view_is (reads_on c.args.input c.fetch.result (record { fetches = c.fetch.ensures.steps; decided = refl; programs = refl; drain = λ on. refl }))
+    let P : MachineView → Type 0 = λ v. StepReads false v (record { feed = c.fetch.new.self; asked = j.asked; stand = j.stand; drain = c.self.inside.drain; decided = c.self.inside.decided; programs = j.programs }) in
+    subst P c.self.view_is (reads_on c.args.input c.fetch.result (λ on. (cc)) (record { fetches = c.fetch.ensures.steps; decided = refl; programs = refl; drain = λ on. refl }))
 
 pub returns-in-Ok-true-clause-light : goal.returns-in-Ok-true-clause-light
 returns-in-Ok-true-clause-light g c =
     is-light (record { feed = c.fetch.new.self; asked = c.self.inside.judge.asked; stand = c.self.inside.judge.stand; drain = c.self.inside.drain; decided = c.self.inside.decided })
-    (fetch-small c.self.inside.feed c.fetch.new.self c.args.input c.fetch.result c.fetch.ensures.steps c.self.invariant.1.0, c.self.invariant.1.1)
+    (fetch-small c.self.inside.feed c.fetch.new.self c.args.input c.fetch.result c.fetch.ensures.steps c.self.invariant.1.0, c.self.invariant.1.1) c.self.invariant.2
 
 pub returns-in-Ok-false-clause-light : goal.returns-in-Ok-false-clause-light
 returns-in-Ok-false-clause-light g c =
     is-light (record { feed = c.fetch.new.self; asked = c.close.new.judge.asked; stand = c.close.new.judge.stand; drain = c.close.new.drain; decided = c.self.inside.decided })
-    (fetch-small c.self.inside.feed c.fetch.new.self c.args.input c.fetch.result c.fetch.ensures.steps c.self.invariant.1.0, c.close.ensures.few c.self.invariant.1.1)
+    (fetch-small c.self.inside.feed c.fetch.new.self c.args.input c.fetch.result c.fetch.ensures.steps c.self.invariant.1.0, c.close.ensures.few c.self.invariant.1.1) (c.close.ensures.marks c.self.invariant.2)
 
 pub returns-in-Err-clause-light : goal.returns-in-Err-clause-light
 returns-in-Err-clause-light g c =
     is-light (record { feed = c.fetch.new.self; asked = c.self.inside.judge.asked; stand = c.self.inside.judge.stand; drain = c.self.inside.drain; decided = c.self.inside.decided })
-    (fetch-small c.self.inside.feed c.fetch.new.self c.args.input c.fetch.result c.fetch.ensures.steps c.self.invariant.1.0, c.self.invariant.1.1)
+    (fetch-small c.self.inside.feed c.fetch.new.self c.args.input c.fetch.result c.fetch.ensures.steps c.self.invariant.1.0, c.self.invariant.1.1) c.self.invariant.2

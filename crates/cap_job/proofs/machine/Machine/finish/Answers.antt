@@ -25,4 +25,4 @@ returns-clause-told g c = λ ti to ss before d.
 pub returns-clause-light : goal.returns-clause-light
 returns-clause-light g c =
     is-light (record { feed = c.self.inside.feed; asked = c.self.inside.judge.asked; stand = c.self.inside.judge.stand; drain = c.finish.new.self; decided = c.self.inside.decided })
-    (c.self.invariant.1.0, c.finish.ensures.few c.self.invariant.1.1)
+    (c.self.invariant.1.0, c.finish.ensures.few c.self.invariant.1.1) c.self.invariant.2

@@ -3,6 +3,7 @@ use Rattle.std.specs.List.{All}
 use Rattle.cap_job.specs.Bounds.{HasFewInterfaces, IsLight, IsSmall, most_turns, owed}
 use Rattle.cap_job.specs.Draining.{DrainView}
 use Rattle.cap_job.specs.Feeding.{FeedView, feed_left}
+use Rattle.cap_job.specs.Judging.{HasFewMarks, JudgeView}
 use Rattle.cap_job.specs.Working.{MachineView, machine_stand}
 use Rattle.cap_job.specs.Jobs.{Opened, opened, feed_first, order_of}
 use Rattle.cap_job.proofs.Starts.{first-few, first-left, same-count}
@@ -18,7 +19,8 @@ new-machine-requires g c =
     let left : feed_left c.in-Some.feed ≡ feed_left (feed_first (order_of c.args.work.merges) os) = ap feed_left c.in-Some.ensures in
     let heads : All IsSmall c.in-Some.feed.heads = (let P : FeedView → Type 0 = λ f. All IsSmall f.heads in subst P (sym c.in-Some.ensures) (small-first os)) in
     let few : HasFewInterfaces c.new-drain.result.target = (let P : DrainView → Type 0 = λ d. HasFewInterfaces d.target in subst P (sym c.new-drain.ensures) (few-first c.args.work.writing _ _ _)) in
-    record { left = omega (arith, left, bound); bounded = (heads, few) }
+    let marks : HasFewMarks c.in-Ok.judge.asked c.in-Ok.judge.stand = (let P : JudgeView → Type 0 = λ v. HasFewMarks v.asked v.stand in subst P (sym c.in-Ok.ensures) (omega arith)) in
+    record { left = omega (arith, left, bound); bounded = (heads, few); few = marks }
 
 pub invariant_of-result : goal.invariant_of-result
 invariant_of-result g c =
@@ -33,4 +35,5 @@ invariant_of-result g c =
     let turns = first-few (order_of c.args.work.merges) os in
     let heads : All IsSmall c.in-Some.feed.heads = (let P : FeedView → Type 0 = λ f. All IsSmall f.heads in subst P (sym c.in-Some.ensures) (small-first os)) in
     let few : HasFewInterfaces c.new-drain.result.target = (let P : DrainView → Type 0 = λ d. HasFewInterfaces d.target in subst P (sym c.new-drain.ensures) (few-first c.args.work.writing _ _ _)) in
-    (omega (arith, left, bound), omega (arith, owes, most, turns), (let L : MachineView → Type 0 = λ m. IsLight (machine_stand m) in subst L (sym c.new-machine.ensures) (is-light (record { feed = c.in-Some.feed; asked = c.new-judge.result.asked; stand = c.new-judge.result.stand; drain = c.new-drain.result; decided = 0 }) (heads, few))))
+    let marks : HasFewMarks c.in-Ok.judge.asked c.in-Ok.judge.stand = (let P : JudgeView → Type 0 = λ v. HasFewMarks v.asked v.stand in subst P (sym c.in-Ok.ensures) (omega arith)) in
+    (omega (arith, left, bound), omega (arith, owes, most, turns), (let L : MachineView → Type 0 = λ m. IsLight (machine_stand m) in subst L (sym c.new-machine.ensures) (is-light (record { feed = c.in-Some.feed; asked = c.in-Ok.judge.asked; stand = c.in-Ok.judge.stand; drain = c.new-drain.result; decided = 0 }) (heads, few) marks)))

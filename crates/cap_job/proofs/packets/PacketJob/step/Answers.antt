@@ -1,10 +1,11 @@
-use Rattle.std.proofs.Common.{List, ℕ, ◌+◌, Some, subst}
+use Rattle.std.proofs.Common.{List, ℕ, ◌+◌, Bool, true, false, Some, ap, subst, sym, ◌∙◌}
 use Rattle.cap_tools.specs.Running.{seen}
-use Rattle.cap_job.specs.Bounds.{StepReads}
+use Rattle.cap_job.specs.declared.machine.Progress.{Progress}
+use Rattle.cap_job.specs.Bounds.{StepReads, goes_on}
 use Rattle.cap_job.specs.Feeding.{Stood}
 use Rattle.cap_job.specs.Working.{Decided, machine_stand}
 use Rattle.cap_job.specs.Jobs.{JobView, EndsJob, EndsAs, end_text, machine_of}
-use Rattle.cap_job.proofs.Ends.{ends-as}
+use Rattle.cap_job.proofs.Ends.{clean-status, ends-as}
 use Rattle.cap_job.proofs.packets.PacketJob.step.Goals as goal
 
 pub returns-in-Done-clause-told : goal.returns-in-Done-clause-told
@@ -22,14 +23,17 @@ returns-in-Done-clause-told g c = λ ti to none.
         told = λ te. c.tell.ensures.told te;
         counted = c.tell.ensures.failed;
       };
+      quiet = λ zero. ap (λ e. seen (g.E.Output.written e) (g.E.Output.failures e)) (c.tell.ensures.quiet (clean-status c.in-Done.end (sym c.status_of-status.ensures ∙ zero)));
     })
 
 pub returns-in-More-clause-reads : goal.returns-in-More-clause-reads
 returns-in-More-clause-reads g c =
-    let P : JobView → Type 0 = λ v. StepReads (machine_of v) c.step.new.self in
-    subst P c.self.view_is c.in-More.ensures.reads
+    let P : JobView → Type 0 = λ v. StepReads true (machine_of v) c.step.new.self in
+    let R : Progress → Type 0 = λ r. StepReads (goes_on r) c.self.inside.machine c.step.new.self in
+    subst P c.self.view_is (subst R c.in-More.is c.step.ensures.reads)
 
 pub returns-in-Done-clause-reads : goal.returns-in-Done-clause-reads
 returns-in-Done-clause-reads g c =
-    let P : JobView → Type 0 = λ v. StepReads (machine_of v) c.step.new.self in
-    subst P c.self.view_is c.in-Done.ensures.reads
+    let P : JobView → Type 0 = λ v. StepReads false (machine_of v) c.step.new.self in
+    let R : Progress → Type 0 = λ r. StepReads (goes_on r) c.self.inside.machine c.step.new.self in
+    subst P c.self.view_is (subst R c.in-Done.is c.step.ensures.reads)

@@ -1,5 +1,6 @@
 use Rattle.std.proofs.Common.{None, Some, sym, ◌∙◌}
 use Rattle.cap_octet.specs.Packet.{captured}
+use Rattle.cap_tools.proofs.Costs.{bounded-ran}
 use Rattle.cap_tools.proofs.Filters.{answers-at, answers-none, place-within, put-back, reading-spends, sound-ran}
 use Rattle.cap_tools.proofs.compiled.Compiled.passes.Goals as goal
 
@@ -31,3 +32,9 @@ returns-clause-spends g c =
     rw (← c.self.view_is) (put-back c.self.inside.programs.len c.in-Some.place (captured c.args.packet.now) c.self.inside.programs.items c.deref_mut.result.now c.run_at-answer.new.programs
     c.deref_mut.ensures.value c.deref_mut.ensures.len c.run_at-answer.ensures.ran
     ∙ sym (reading-spends c.self.inside.tree.expr c.self.inside.programs.items (captured c.args.packet.now) (Some c.in-Some.place) c.self.invariant (sym c.place_of.ensures ∙ c.in-Some.is)))
+
+pub returns-clause-bounded : goal.returns-clause-bounded
+returns-clause-bounded g c =
+    rw (← c.self.view_is) (rw (put-back c.self.inside.programs.len c.in-Some.place (captured c.args.packet.now) c.self.inside.programs.items c.deref_mut.result.now c.run_at-answer.new.programs
+    c.deref_mut.ensures.value c.deref_mut.ensures.len c.run_at-answer.ensures.ran)
+    (bounded-ran c.self.inside.tree.expr c.self.inside.programs.items c.in-Some.place (captured c.args.packet.now) c.self.invariant))

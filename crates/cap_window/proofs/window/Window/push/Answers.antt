@@ -1,0 +1,26 @@
+use Rattle.std.proofs.Common.{arith, refl, ◌≡◌, ◌∙◌, get_or, set, ◌+◌, ◌-◌, ◌<◌, ◌≤◌, length, take, drop, ◌++◌, List, ℕ, ap}
+use Rattle.std.proofs.lemmas.List.{get_or_default, take-append-le, take_all}
+use Rattle.cap_window.specs.Index.{hash_of}
+use Rattle.cap_window.proofs.Chains.{IsLowered, sound_push}
+use Rattle.cap_window.proofs.window.Window.push.Goals as goal
+
+pub invariant_of-self : goal.invariant_of-self
+invariant_of-self g c =
+    let w = c.self.inside in
+    let hash : c.hash_of-hash.result ≡ hash_of w.mask c.args.mark = c.hash_of-hash.ensures.value in
+    let inside : c.hash_of-hash.result < length w.heads.items = omega (arith, c.self.invariant.wide) in
+    let head : c.index.result.now ≡ get_or w.heads.items (hash_of w.mask c.args.mark) 0 = c.index.ensures ∙ get_or_default _ _ _ 0 inside ∙ rw hash refl in
+    let numbered : List ℕ = set w.heads.items (hash_of w.mask c.args.mark) (w.newest + 1) in
+    let written : c.deref_mut.result.now ≡ numbered = c.deref_mut.ensures.value ∙ rw hash refl in
+    let long : length c.renumbered-self-inside.new.heads ≡ w.heads.len = c.renumbered-self-inside.auto.heads ∙ c.deref_mut.ensures.len in
+    let lowered : IsLowered numbered c.renumbered-self-inside.new.heads (w.newest + 1 - c.renumbered-self-inside.result) = record {
+      long = c.renumbered-self-inside.auto.heads ∙ ap length written;
+      each = λ h within. rw (← written) (c.renumbered-self-inside.ensures.heads h (rw written within));
+    } in
+    let rest : List ℕ = drop (length c.renumbered-self-inside.new.heads) (set w.heads.items c.hash_of-hash.result (w.newest + 1)) in
+    let whole : take w.heads.len (c.renumbered-self-inside.new.heads ++ rest) ≡ c.renumbered-self-inside.new.heads =
+    take-append-le w.heads.len c.renumbered-self-inside.new.heads rest (omega (arith, long)) ∙ take_all w.heads.len c.renumbered-self-inside.new.heads (omega (arith, long)) in
+    let kept : length c.push_back.new.self.items ≤ c.renumbered-self-inside.result = omega (arith, c.len.ensures.len, c.renumbered-self-inside.ensures.bounds) in
+    rw (whole, c.push_back.ensures.items, c.push_back-2.ensures.items, head)
+    (sound_push w.mask w.marks.items w.marks.capacity w.links.items w.links.capacity w.heads.items c.renumbered-self-inside.new.heads w.newest c.args.mark c.renumbered-self-inside.result c.self.invariant lowered
+    (rw c.push_back.ensures.items at kept) c.renumbered-self-inside.ensures.bounds.1 c.renumbered-self-inside.ensures.room)

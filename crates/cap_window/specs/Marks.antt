@@ -1,0 +1,21 @@
+-- What is compared of packets.
+use Rattle.std.specs.Prelude.{ℕ, ◌-◌, ◌==◌, ◌&&◌, Bool, List, length, drop, nat_eq}
+use Rattle.std.specs.Cmp.Lexicographic.{pointwise}
+use Rattle.std.specs.List.{list_any}
+use Rattle.md5.specs.Md5.{md5}
+use Rattle.cap_window.specs.declared.mark.Mark.{Mark}
+
+-- the mark of captured bytes: how many there are, and their MD5
+abbrev pub mark_of : List ℕ → Mark
+mark_of bytes = record { length = length bytes; digest = md5 bytes }
+
+abbrev pub is_same : Mark → Mark → Bool
+is_same x y = x.length == y.length && pointwise nat_eq x.digest y.digest
+
+-- whether one of the marks is the same
+abbrev pub has_same : List Mark → Mark → Bool
+has_same marks m = list_any (is_same m) marks
+
+-- the last n of them, or all where there are fewer
+abbrev pub last : ℕ → List Mark → List Mark
+last n marks = drop (length marks - n) marks

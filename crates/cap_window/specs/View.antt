@@ -1,0 +1,11 @@
+-- What a contract sees of a window.
+use Rattle.std.specs.Prelude.{ℕ, List}
+use Rattle.cap_window.specs.declared.mark.Mark.{Mark}
+
+-- the marks from the oldest on, and how many there may be
+pub record WindowView : Type 0 where
+  pub marks : List Mark
+  pub capacity : ℕ
+
+abbrev pub window : List Mark → ℕ → WindowView
+window marks capacity = record { marks = marks; capacity = capacity }

@@ -1,0 +1,10 @@
+//! The window of a search for duplicate packets.
+#![tactic(auto)]
+
+mod mark;
+#[cfg(test)]
+mod tests;
+mod window;
+
+pub use mark::Mark;
+pub use window::Window;

@@ -1,0 +1,31 @@
+//! What a window keeps of a packet.
+ghost use Rattle.std.specs.Prelude.{◌≡◌, ◌^◌, ◌<◌, ◌↔◌, length, IsTrue};
+ghost use Rattle.cap_window.specs.Marks.{mark_of};
+
+use md5::{Digest, Md5};
+
+/// The number of captured bytes of a packet and their MD5 (RFC 1321).
+#[derive(Clone, Copy, Debug)]
+pub struct Mark {
+    pub length: u32,
+    pub digest: [u8; 16],
+}
+
+/// The mark of captured bytes.
+pub(crate) fn mark_of(bytes: &[u8]) -> Mark
+    requires { length bytes.now < 2 ^ 32 }
+    ensures { result ≡ mark_of bytes.now }
+{
+    Mark {
+        length: bytes.len() as u32,
+        digest: Md5::digest(bytes),
+    }
+}
+
+/// Whether two marks are equal.
+#[inline]
+pub(crate) fn same(a: &Mark, b: &Mark) -> bool
+    ensures { IsTrue result ↔ (a.now ≡ b.now) }
+{
+    a.length == b.length && a.digest == b.digest
+}

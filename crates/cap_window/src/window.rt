@@ -1,0 +1,148 @@
+//! The marks of the last packets, with an index that finds an equal one at once.
+ghost use Rattle.std.specs.Prelude.{◌≡◌, ℕ, ◌+◌, ◌-◌, ◌^◌, ◌<◌, ◌≤◌, EachIndex, slice_index};
+ghost use Rattle.cap_window.specs.Index.{hash_of};
+
+use crate::mark::{Mark, mark_of, same};
+use circular_buffer::HeapCircularBuffer;
+use std::alloc::{AllocError, Allocator};
+use std::marker::Model;
+
+/// Digests are told apart by at most so many heads of chains.
+const MOST_HEADS: u32 = 0x0010_0000;
+
+/// The marks of the last packets, as many as fit.
+///
+/// The marks of one hash, the low bits of the digest, are chained from the newest to the oldest, as the strings of one
+/// prefix in LZ77. Marks are numbered from 1, and a link is a difference of two numbers: so a chain ends by itself where
+/// it leaves the window, and nothing is ever deleted from it.
+#[derive(Drop)]
+pub struct Window<A: Allocator> {
+    marks: HeapCircularBuffer<Mark, A>,
+    /// How many places before each mark the nearest one with its hash is.
+    links: HeapCircularBuffer<u32, A>,
+    /// For each hash the number of the newest mark that has it, or 0.
+    heads: Vec<u32, A>,
+    mask: u32,
+    /// The number of the newest mark.
+    newest: u32,
+}
+
+impl<A: Allocator> Model for Window<A> {
+    ghost use Rattle.cap_window.specs.Index.{IsSound};
+    ghost use Rattle.cap_window.specs.View.{WindowView, window};
+
+    ghost Value = { WindowView };
+
+    ghost view = { λ w. window w.marks.items w.marks.capacity };
+
+    ghost invariant = { λ w. IsSound w.mask w.marks.items w.marks.capacity w.links.items w.links.capacity w.heads.items w.newest };
+}
+
+impl<A: Allocator> Window<A> {
+    ghost use Rattle.std.specs.Prelude.{◌≡◌, ◌+◌, ◌^◌, ◌<◌, ◌↔◌, [], ◌∷◌, ◌++◌, length, IsTrue, IfOk};
+    ghost use Rattle.std.specs.List.{Contains};
+    ghost use Rattle.cap_window.specs.Marks.{last, mark_of};
+    ghost use Rattle.cap_window.specs.View.{window};
+
+    /// A window for the marks of so many packets. It takes all its memory here: 24 bytes for each, and 4 for each of its
+    /// heads, which are as many, rounded up to a power of two, and 2^20 at most.
+    pub fn new(alloc: A, capacity: u32) -> Result<Self, AllocError>
+    where
+        A: Clone,
+        requires { capacity + 1 < 2 ^ 32 }
+        ensures { IfOk result (λ w. w ≡ window [] capacity) }
+    {
+        let marks = HeapCircularBuffer::with_capacity(alloc.clone()?, capacity as usize)?;
+        let links = HeapCircularBuffer::with_capacity(alloc.clone()?, capacity as usize)?;
+        let mask = mask_for(capacity);
+        let heads = Vec::from_elem(alloc, 0u32, mask as usize + 1)?;
+        Ok(Window {
+            marks,
+            links,
+            heads,
+            mask,
+            newest: 0,
+        })
+    }
+
+    /// Whether a packet of the window had as many captured bytes with the same digest. The bytes' mark enters the window in
+    /// either case, and the oldest leaves it where it is full. Takes no memory.
+    pub fn seen_before(&mut self, bytes: &[u8]) -> bool
+        requires { length bytes.now < 2 ^ 32 }
+        ensures answer { IsTrue result ↔ Contains self.old.marks (mark_of bytes.now) }
+        ensures window { self.new ≡ window (last self.old.capacity (self.old.marks ++ mark_of bytes.now ∷ [])) self.old.capacity }
+    {
+        let mark = mark_of(bytes);
+        let found = self.contains(&mark);
+        self.push(mark);
+        found
+    }
+
+    /// Whether an equal mark is in the window.
+    fn contains(&self, mark: &Mark) -> bool
+        ensures { IsTrue result ↔ Contains self.now.marks mark.now }
+    {
+        let hash = hash_of(mark, self.mask);
+        let mut limit = self.marks.len();
+        let mut step = self.newest + 1 - self.heads[hash];
+        while step as usize <= limit {
+            limit -= step as usize;
+            if same(self.marks.get(limit).unwrap(), mark) {
+                return true;
+            }
+            step = *self.links.get(limit).unwrap();
+        }
+        false
+    }
+
+    fn push(&mut self, mark: Mark)
+        ensures { self.new ≡ window (last self.old.capacity (self.old.marks ++ mark ∷ [])) self.old.capacity }
+    {
+        let hash = hash_of(&mark, self.mask);
+        let number = self.newest + 1;
+        let step = number - self.heads[hash];
+        self.marks.push_back(mark);
+        self.links.push_back(step);
+        self.heads[hash] = number;
+        self.newest = renumbered(&mut self.heads, number, self.marks.len() as u32);
+    }
+}
+
+fn hash_of(mark: &Mark, mask: u32) -> usize
+    ensures value { result ≡ hash_of mask mark.now }
+    ensures bound { result ≤ mask }
+{
+    let [a, b, c, d, ..] = mark.digest;
+    (u32::from_le_bytes([a, b, c, d]) & mask) as usize
+}
+
+/// One less than the number of heads, which is a power of two.
+fn mask_for(capacity: u32) -> u32
+    ensures { result < 2 ^ 31 }
+{
+    capacity.min(MOST_HEADS).next_power_of_two() - 1
+}
+
+/// Each becomes smaller by the same, down to 0.
+fn lower(numbers: &mut [u32], less: u32)
+    ensures { EachIndex numbers.old (λ i. slice_index numbers.new i ≡ slice_index numbers.old i - less) }
+{
+    for number in numbers.iter_mut() {
+        *number = number.saturating_sub(less);
+    }
+}
+
+/// The number of the newest mark, of which so many are kept. Where the numbers run out all become smaller by one
+/// difference, and what left the window becomes 0.
+fn renumbered(heads: &mut [u32], newest: u32, kept: u32) -> u32
+    requires { (kept ≤ newest) × (kept + 1 < 2 ^ 32) }
+    ensures heads { EachIndex heads.old (λ h. slice_index heads.new h ≡ slice_index heads.old h - (newest - result)) }
+    ensures bounds { (kept ≤ result) × (result ≤ newest) }
+    ensures room { result + 1 < 2 ^ 32 }
+{
+    if newest < u32::MAX {
+        return newest;
+    }
+    lower(heads, newest - kept);
+    kept
+}
