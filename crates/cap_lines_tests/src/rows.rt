@@ -14,14 +14,17 @@ fn an_arp_packet_is_dumped(rt: HostRuntime) -> Result<(), Fail> {
     let case = Case {
         link: 1,
         orig: 42,
-        bytes: "ffffffffffff 001122334455 0806 0001 0800 06 04 0001 001122334455 0a000001 000000000000 0a000002",
+        bytes: "ffffffffffff 001122334455 0806 \
+            0001 0800 06 04 0001 001122334455 0a000001 000000000000 0a000002",
     };
     let options = Options {
         link: true,
         bytes: true,
     };
-    let expected =
-        "00:11:22:33:44:55 > ff:ff:ff:ff:ff:ff, type 0x0806, ARP op 1 10.0.0.1 > 10.0.0.2, length 42\n\t0x0000: 0001 0800 0604 0001 0011 2233 4455 0a00\n\t0x0010: 0001 0000 0000 0000 0a00 0002\n";
+    let expected = "00:11:22:33:44:55 > ff:ff:ff:ff:ff:ff, type 0x0806, \
+        ARP op 1 10.0.0.1 > 10.0.0.2, length 42\n\
+        \t0x0000: 0001 0800 0604 0001 0011 2233 4455 0a00\n\
+        \t0x0010: 0001 0000 0000 0000 0a00 0002\n";
     check(&rt, rt.alloc(), options, &case, expected)
 }
 
@@ -39,7 +42,9 @@ fn rows_of_each_link(rt: HostRuntime) -> Result<(), Fail> {
         (
             147,
             "000102030405060708090a0b0c0d0e0f f0",
-            "link 147, length 0\n\t0x0000: 0001 0203 0405 0607 0809 0a0b 0c0d 0e0f\n\t0x0010: f0\n",
+            "link 147, length 0\n\
+            \t0x0000: 0001 0203 0405 0607 0809 0a0b 0c0d 0e0f\n\
+            \t0x0010: f0\n",
         ),
         (101, "7f", "version 7, length 0\n\t0x0000: 7f\n"),
         (1, "000000000000 000000000000 88", "[short], length 0\n"),
