@@ -42,13 +42,21 @@ pub struct Devices {
     pub messages: usize,
 }
 
-/// How many bytes the listing of the case's expression takes, or of the line that writes its listing.
-fn listing_room(case: &Case<'_>) -> usize {
-    let mut size = SPARE;
-    for word in case.words.iter().chain(case.compiled.iter()) {
+/// How many bytes listings of the words' expressions take at most, besides what any listing takes.
+fn expansion(words: &[String]) -> usize {
+    let mut size = 0usize;
+    for word in words {
         size = size.saturating_add(word.len().saturating_mul(EXPANSION));
     }
-    size.min(LISTING)
+    size
+}
+
+/// How many bytes the listing of the case's expression takes.
+fn listing_room(case: &Case<'_>) -> usize {
+    SPARE
+        .saturating_add(expansion(&case.words))
+        .saturating_add(expansion(&case.compiled))
+        .min(LISTING)
 }
 
 /// Devices that move so many bytes a call, with room for so much output, and don't fail.

@@ -3,7 +3,10 @@ ghost use Rattle.std.specs.Prelude.{◌≡◌, IfOk, IfErr, map, false, string_b
 ghost use Rattle.clap.specs.Words.{app_of, subcommand_rows_of};
 ghost use Rattle.clap.specs.declared.builder.command.Command.TheViews.{out-Command as fields_of};
 ghost use Rattle.clap.specs.declared.builder.value_parser.ValueParser.TheVariants.{Names};
-ghost use Rattle.cap_line.specs.Arguments.{edit_app, merge_app, infos_app, print_app, compile_app, line_app, lining, selecting, shifting, shortening, AreChoices, Takes, Refuses, format_names, link_names, subcommand_named};
+ghost use Rattle.cap_line.specs.Arguments.{edit_app, merge_app, infos_app, print_app, compile_app};
+ghost use Rattle.cap_line.specs.Arguments.{line_app, lining, selecting, shifting, shortening};
+ghost use Rattle.cap_line.specs.Arguments.{AreChoices, Takes, Refuses, format_names, link_names};
+ghost use Rattle.cap_line.specs.Arguments.{subcommand_named};
 
 use crate::options::{
     append_arg, bytes_arg, capture_arg, chop_end_arg, chop_start_arg, count_arg, earlier_arg,
@@ -54,7 +57,8 @@ const WORD_HELP: &str = "The words of an expression, as in pcap-filter(7)";
 /// With the options that select packets.
 fn selecting<'a>(alloc: Global, command: Command<'a>) -> Result<Command<'a>, AllocError>
     ensures shape { IfOk result (λ after. app_of after ≡ selecting (app_of command.entry)) }
-    ensures local { IfOk result (λ after. (fields_of after).has_globals ≡ (fields_of command.entry).has_globals) }
+    ensures local { IfOk result (λ after. (fields_of after).has_globals
+        ≡ (fields_of command.entry).has_globals) }
 {
     let keep = keep_arg(alloc);
     let start = start_arg(alloc);
@@ -66,7 +70,8 @@ fn selecting<'a>(alloc: Global, command: Command<'a>) -> Result<Command<'a>, All
 /// With the options that shorten packets.
 fn shortening<'a>(alloc: Global, command: Command<'a>) -> Result<Command<'a>, AllocError>
     ensures shape { IfOk result (λ after. app_of after ≡ shortening (app_of command.entry)) }
-    ensures local { IfOk result (λ after. (fields_of after).has_globals ≡ (fields_of command.entry).has_globals) }
+    ensures local { IfOk result (λ after. (fields_of after).has_globals
+        ≡ (fields_of command.entry).has_globals) }
 {
     let start = chop_start_arg(alloc);
     let end = chop_end_arg(alloc);
@@ -78,7 +83,8 @@ fn shortening<'a>(alloc: Global, command: Command<'a>) -> Result<Command<'a>, Al
 /// With the options that shift times, and the one that leaves out duplicates.
 fn shifting<'a>(alloc: Global, command: Command<'a>) -> Result<Command<'a>, AllocError>
     ensures shape { IfOk result (λ after. app_of after ≡ shifting (app_of command.entry)) }
-    ensures local { IfOk result (λ after. (fields_of after).has_globals ≡ (fields_of command.entry).has_globals) }
+    ensures local { IfOk result (λ after. (fields_of after).has_globals
+        ≡ (fields_of command.entry).has_globals) }
 {
     let later = later_arg(alloc);
     let earlier = earlier_arg(alloc);
@@ -90,7 +96,8 @@ fn shifting<'a>(alloc: Global, command: Command<'a>) -> Result<Command<'a>, Allo
 /// With the options of lines.
 fn lining<'a>(alloc: Global, command: Command<'a>) -> Result<Command<'a>, AllocError>
     ensures shape { IfOk result (λ after. app_of after ≡ lining (app_of command.entry)) }
-    ensures local { IfOk result (λ after. (fields_of after).has_globals ≡ (fields_of command.entry).has_globals) }
+    ensures local { IfOk result (λ after. (fields_of after).has_globals
+        ≡ (fields_of command.entry).has_globals) }
 {
     let count = count_arg(alloc);
     let link = link_header_arg(alloc);
@@ -196,7 +203,8 @@ fn compile_command<'a>(alloc: Global, links: &'a [&'a str]) -> Result<Command<'a
 }
 
 fn line_command<'a>(alloc: Global) -> Result<Command<'a>, AllocError>
-    ensures { IfOk result (λ command. (formats links : _) × AreChoices format_names formats × AreChoices link_names links
+    ensures { IfOk result (λ command. (formats links : _) × AreChoices format_names formats
+        × AreChoices link_names links
         × (app_of command ≡ line_app formats links)) }
 {
     let formats = FORMATS.as_slice();
@@ -220,7 +228,8 @@ fn line_command<'a>(alloc: Global) -> Result<Command<'a>, AllocError>
 
 /// What clap makes of the words, of which the first is the program's name.
 pub fn matches_of<'a>(alloc: Global, words: &'a [String]) -> Result<ArgMatches<'a>, Error>
-    ensures taken { IfOk result (λ matches. Takes (map string_bytes words.entry.now) (subcommand_rows_of matches)) }
+    ensures taken { IfOk result (λ matches. Takes (map string_bytes words.entry.now)
+        (subcommand_rows_of matches)) }
     ensures refused { IfErr result (Refuses (map string_bytes words.entry.now)) }
 {
     match line_command(alloc) {

@@ -2,7 +2,9 @@
 ghost use Rattle.std.specs.Prelude.{◌≡◌, ◌⊎◌, IfOk, IfErr, OnOk, Some, None, map, true};
 ghost use Rattle.cap_tools.specs.Command.{has_proper_ranges, is_proper_edit, is_proper_shift};
 ghost use Rattle.clap.specs.Words.{found_of, rows_of};
-ghost use Rattle.cap_line.specs.Line.{edit_fault, has_bad_time, has_two_shifts, is_bad_span, is_bad_time, is_ready, option_fault, range_fault, shift_in, HasOptions, IsEditOf, IsFaultOf};
+ghost use Rattle.cap_line.specs.Line.{edit_fault, has_bad_time, has_two_shifts, is_bad_span};
+ghost use Rattle.cap_line.specs.Line.{is_bad_time, is_ready, option_fault, range_fault, shift_in};
+ghost use Rattle.cap_line.specs.Line.{HasOptions, IsEditOf, IsFaultOf};
 ghost use Rattle.cap_line.specs.Range.{range_of};
 
 use crate::line::Line;
@@ -16,7 +18,8 @@ use std::alloc::Global;
 
 /// The ranges that the words name.
 fn ranges_in(alloc: Global, words: &[&str]) -> Result<Vec<(u64, u64)>, Usage>
-    ensures ranges { IfOk result (λ ranges. map Some ranges.items ≡ map range_of (map (λ word. word.now) words.now)) }
+    ensures ranges { IfOk result (λ ranges. map Some ranges.items
+        ≡ map range_of (map (λ word. word.now) words.now)) }
     ensures none { OnOk result (range_fault (map (λ word. word.now) words.now) ≡ None) }
     ensures proper { IfOk result (λ ranges. has_proper_ranges ranges.items ≡ true) }
     ensures fault { IfErr result (IsFaultOf (range_fault (map (λ word. word.now) words.now))) }
@@ -67,7 +70,8 @@ fn has_two_shifts(matches: &ArgMatches<'_>) -> bool
 /// The first fault of the words of an edit, besides its ranges.
 fn check(matches: &ArgMatches<'_>) -> Result<(), Usage>
     ensures passes { OnOk result (option_fault (rows_of (found_of matches.now)) ≡ None) }
-    ensures refused { IfErr result (λ usage. option_fault (rows_of (found_of matches.now)) ≡ Some usage) }
+    ensures refused { IfErr result (λ usage. option_fault (rows_of (found_of matches.now))
+        ≡ Some usage) }
 {
     if has_bad_time(matches) {
         return Err(Usage::BadTime);

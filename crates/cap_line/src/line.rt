@@ -19,7 +19,8 @@ pub struct Line {
     pub command: Command,
     /// The names of the inputs, of which `-` is standard input.
     pub inputs: Vec<String>,
-    /// The name of the output, of which `-` is standard output; standard output where there is none.
+    /// The name of the output, of which `-` is standard output; standard output where there is
+    /// none.
     pub output: Option<String>,
     /// The name of a listing, which is to be read into the command before it runs.
     pub code: Option<String>,
@@ -27,12 +28,13 @@ pub struct Line {
 
 /// The line that the words ask for, of which the first is the program's name.
 ///
-/// An error is the first of these that holds: clap refuses the words (also where it is out of memory), there are more
-/// than 512 ranges or 256 inputs, a word is no range, a word is no time or no number of seconds, options exclude each
-/// other, a name is used twice; or an allocation fails after clap's parse.
+/// An error is the first of these that holds: clap refuses the words (also where it is out of
+/// memory), there are more than 512 ranges or 256 inputs, a word is no range, a word is no time or
+/// no number of seconds, options exclude each other, a name is used twice; or an allocation fails
+/// after clap's parse.
 ///
-/// These exclude each other: `--later` and `--earlier` of an edit; of a print, the words of an expression and
-/// `--code`, `-w` and `-e` or `-x`, and `--format` where there is no `-w`.
+/// These exclude each other: `--later` and `--earlier` of an edit; of a print, the words of an
+/// expression and `--code`, `-w` and `-e` or `-x`, and `--format` where there is no `-w`.
 pub fn command_of(alloc: Global, words: Vec<String>) -> Result<Line, Usage>
     ensures line { IfOk result (SaysLine (map string_bytes words.items)) }
     ensures ready { IfOk result (λ line. is_ready line ≡ true) }

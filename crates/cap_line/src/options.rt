@@ -2,7 +2,12 @@
 ghost use Rattle.std.specs.Prelude.{◌≡◌, false};
 ghost use Rattle.clap.specs.Words.{rule_of};
 ghost use Rattle.clap.specs.declared.builder.value_parser.ValueParser.TheVariants.{Names};
-ghost use Rattle.cap_line.specs.Arguments.{append_rule, bytes_rule, capture_rule, chop_end_rule, chop_start_rule, count_rule, earlier_rule, file_rule, flag_rule, format_rule, keep_rule, later_rule, letter_rule, link_header_rule, link_rule, listing_rule, long_format_rule, many_rule, name_rule, output_rule, snap_rule, start_rule, stop_rule, window_rule};
+ghost use Rattle.cap_line.specs.Arguments.{append_rule, bytes_rule, capture_rule, chop_end_rule};
+ghost use Rattle.cap_line.specs.Arguments.{chop_start_rule, count_rule, earlier_rule, file_rule};
+ghost use Rattle.cap_line.specs.Arguments.{flag_rule, format_rule, keep_rule, later_rule};
+ghost use Rattle.cap_line.specs.Arguments.{letter_rule, link_header_rule, link_rule, listing_rule};
+ghost use Rattle.cap_line.specs.Arguments.{long_format_rule, many_rule, name_rule, output_rule};
+ghost use Rattle.cap_line.specs.Arguments.{snap_rule, start_rule, stop_rule, window_rule};
 
 use clap::builder::ValueParser;
 use clap::{Arg, ArgAction};

@@ -1,8 +1,11 @@
 //! The line of a print.
-ghost use Rattle.std.specs.Prelude.{◌≡◌, ◌∷◌, ◌≤◌, IfOk, IfErr, IfSome, OnOk, Some, None, option_map, codes, string_bytes, true};
+ghost use Rattle.std.specs.Prelude.{◌≡◌, ◌∷◌, ◌≤◌, IfOk, IfErr, IfSome, OnOk, Some, None};
+ghost use Rattle.std.specs.Prelude.{option_map, codes, string_bytes, true};
 ghost use Rattle.std.specs.Option.{option_to_list};
 ghost use Rattle.clap.specs.Words.{found_of, rows_of};
-ghost use Rattle.cap_line.specs.Line.{expression_in, has_exclusion, has_idle_format, has_two_filters, has_two_outputs, is_ready, most_64, number_in, print_fault, write_in, IsFaultOf, IsPrintOf};
+ghost use Rattle.cap_line.specs.Line.{expression_in, has_exclusion, has_idle_format};
+ghost use Rattle.cap_line.specs.Line.{has_two_filters, has_two_outputs, is_ready, most_64};
+ghost use Rattle.cap_line.specs.Line.{number_in, print_fault, write_in, IsFaultOf, IsPrintOf};
 ghost use Rattle.cap_line.specs.Names.{uses_name_twice};
 
 use crate::line::Line;
@@ -16,7 +19,8 @@ use std::alloc::{AllocError, Global};
 
 /// The expression that the words are.
 pub fn expression(alloc: Global, matches: &ArgMatches<'_>) -> Result<String, AllocError>
-    ensures { IfOk result (λ expr. string_bytes expr ≡ expression_in (rows_of (found_of matches.now))) }
+    ensures { IfOk result (λ expr. string_bytes expr
+        ≡ expression_in (rows_of (found_of matches.now))) }
 {
     let joined = texts(matches, "WORD").join(alloc, " ")?;
     Ok(joined)
@@ -24,7 +28,8 @@ pub fn expression(alloc: Global, matches: &ArgMatches<'_>) -> Result<String, All
 
 /// A text of its own, where there is one.
 fn owned(alloc: Global, text: Option<&str>) -> Result<Option<String>, AllocError>
-    ensures { IfOk result (λ owned. option_map string_bytes owned ≡ option_map (λ text. text.now) text.entry) }
+    ensures { IfOk result (λ owned. option_map string_bytes owned
+        ≡ option_map (λ text. text.now) text.entry) }
 {
     match text {
         Some(text) => Ok(Some(String::from_str(alloc, text)?)),
@@ -34,7 +39,8 @@ fn owned(alloc: Global, text: Option<&str>) -> Result<Option<String>, AllocError
 
 /// Whether the output is an input too, or standard input is two of them; a listing is an input.
 fn names_clash(input: &str, listing: Option<&str>, output: Option<&str>) -> bool
-    ensures { result ≡ uses_name_twice (input.now ∷ option_to_list (option_map (λ name. name.now) listing.entry))
+    ensures { result ≡ uses_name_twice
+        (input.now ∷ option_to_list (option_map (λ name. name.now) listing.entry))
         (option_map (λ name. name.now) output.entry) }
 {
     match listing {
@@ -73,7 +79,8 @@ fn has_exclusion(matches: &ArgMatches<'_>) -> bool
 /// The first fault of the words of a print.
 fn check(matches: &ArgMatches<'_>) -> Result<(), Usage>
     ensures passes { OnOk result (print_fault (rows_of (found_of matches.now)) ≡ None) }
-    ensures refused { IfErr result (λ usage. print_fault (rows_of (found_of matches.now)) ≡ Some usage) }
+    ensures refused { IfErr result (λ usage. print_fault (rows_of (found_of matches.now))
+        ≡ Some usage) }
 {
     if has_exclusion(matches) {
         return Err(Usage::OptionsExclude);

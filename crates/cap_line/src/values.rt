@@ -1,9 +1,11 @@
 //! What clap's matches hold, by the names of the arguments.
-ghost use Rattle.std.specs.Prelude.{◌≡◌, ◌≤◌, ◌&&◌, IfSome, Some, None, map, nat_le, option_map, true, if◌then◌else◌};
+ghost use Rattle.std.specs.Prelude.{◌≡◌, ◌≤◌, ◌&&◌, IfSome, Some, None, map, nat_le, option_map};
+ghost use Rattle.std.specs.Prelude.{true, if◌then◌else◌};
 ghost use Rattle.std.specs.Option.{option_and_then, option_map_or};
 ghost use Rattle.cap_tools.specs.Command.{is_time};
 ghost use Rattle.clap.specs.Words.{found_of, rows_of, first_of};
-ghost use Rattle.cap_line.specs.Line.{flag_in, format_in, link_in, number_in, span_in, text_in, texts_in, time_in};
+ghost use Rattle.cap_line.specs.Line.{flag_in, format_in, link_in, number_in, span_in, text_in};
+ghost use Rattle.cap_line.specs.Line.{texts_in, time_in};
 
 use cap_octet::{Format, span_of, time_of};
 use clap::ArgMatches;
@@ -19,7 +21,8 @@ pub fn flag(matches: &ArgMatches<'_>, id: &str) -> bool
 /// The first value of the argument, if it has one.
 #[tactic(auto, using(crate::proofs::Getters::reads))]
 pub fn text_if<'a>(matches: &ArgMatches<'a>, id: &str) -> Option<&'a str>
-    ensures { option_map (λ text. text.now) result ≡ first_of id.entry.now (rows_of (found_of matches.entry.now)) }
+    ensures { option_map (λ text. text.now) result
+        ≡ first_of id.entry.now (rows_of (found_of matches.entry.now)) }
 {
     matches.get_str(id)
 }
@@ -34,7 +37,8 @@ pub fn text<'a>(matches: &ArgMatches<'a>, id: &str) -> &'a str
 /// The values of the argument.
 #[tactic(auto, using(crate::proofs::Getters::reads))]
 pub fn texts<'m, 'a>(matches: &'m ArgMatches<'a>, id: &str) -> &'m [&'a str]
-    ensures { map (λ text. text.now) result.now ≡ texts_in id.entry.now (rows_of (found_of matches.entry.now)) }
+    ensures { map (λ text. text.now) result.now
+        ≡ texts_in id.entry.now (rows_of (found_of matches.entry.now)) }
 {
     matches.get_strs(id).unwrap_or_default()
 }
@@ -63,7 +67,8 @@ pub fn link(matches: &ArgMatches<'_>, id: &str) -> Link
 
 /// The number, if it is one from `least` to `most`.
 fn within(number: Option<u64>, least: u64, most: u64) -> Option<u64>
-    ensures value { result ≡ option_and_then (λ n. if nat_le least n && nat_le n most then Some n else None) number }
+    ensures value { result ≡ option_and_then
+        (λ n. if nat_le least n && nat_le n most then Some n else None) number }
     ensures bounds { IfSome result (λ n. (least ≤ n) × (n ≤ most)) }
 {
     match number {

@@ -2,7 +2,10 @@
 ghost use Rattle.std.specs.Prelude.{◌≡◌, string_bytes, true};
 ghost use Rattle.std.specs.List.{list_all};
 ghost use Rattle.std.specs.Option.{option_map_or};
-ghost use Rattle.cap_tools.specs.Command.{is_proper, is_input_count, is_range, is_time, is_at_least_one, is_window, is_proper_shift, is_proper_edit, is_proper_print, has_one_filter, has_one_output, has_proper_ranges};
+ghost use Rattle.cap_tools.specs.Command.{is_proper, is_input_count, is_range, is_time};
+ghost use Rattle.cap_tools.specs.Command.{is_at_least_one, is_window, is_proper_shift};
+ghost use Rattle.cap_tools.specs.Command.{is_proper_edit, is_proper_print, has_one_filter};
+ghost use Rattle.cap_tools.specs.Command.{has_one_output, has_proper_ranges};
 ghost use Rattle.cap_tools.specs.Selected.{is_named, is_kept};
 
 use cap_octet::Format;
@@ -29,9 +32,9 @@ pub enum Command<A: Allocator = Global> {
     Compile(Compile<A>),
 }
 
-/// Selects packets by their numbers and times, changes them, and leaves out duplicates (editcap(1)).
+/// Selects packets by number and time, changes them, and leaves out duplicates (editcap(1)).
 ///
-/// The steps are made in the order of the fields. Times and spans are nanoseconds, at most 2^63 - 1.
+/// The steps are made in the order of the fields. Times and spans are nanoseconds below 2^63.
 #[derive(Drop)]
 pub struct Edit<A: Allocator = Global> {
     /// The first and the last number of each range; packets are counted from 1.
@@ -50,8 +53,8 @@ pub struct Edit<A: Allocator = Global> {
     pub snap: Option<u32>,
     /// What is done to times.
     pub shift: Shift,
-    /// Where there is one, a packet is left out that is a duplicate within so many packets in a row, itself among
-    /// them: 2 to 1,000,000.
+    /// Where there is one, a packet is left out that is a duplicate within so many packets in a
+    /// row, itself among them: 2 to 1,000,000.
     pub window: Option<u32>,
     /// The format that is written.
     pub format: Format,
@@ -81,7 +84,8 @@ pub struct Merge {
 pub struct Print<A: Allocator = Global> {
     /// The filter expression (pcap-filter(7)). All packets match an empty one.
     pub expr: String<A>,
-    /// The bytes of a listing. Where there are some, the packets match that the program accepts (returns non-zero for).
+    /// The bytes of a listing. Where there are some, the packets match that the program accepts
+    /// (returns non-zero for).
     pub code: Option<Vec<u8, A>>,
     /// Where there is one, the job ends after so many packets that match, 1 or more.
     pub count: Option<u64>,
@@ -105,11 +109,12 @@ pub struct Compile<A: Allocator = Global> {
 impl<A: Allocator> Command<A> {
     /// Whether the command may be run on so many inputs.
     ///
-    /// - An edit has one input, at most 512 ranges, each from 1 on, in order and below 2^63, times and spans of at
-    ///   most 2^63 - 1 nanoseconds, packets that keep at least 1 byte, and a window of 2 to 1,000,000 packets.
+    /// - An edit has one input, at most 512 ranges, each from 1 on, in order and below 2^63, times
+    ///   and spans below 2^63 nanoseconds, packets that keep at least 1 byte, and a window of 2 to
+    ///   1,000,000 packets.
     /// - A merge and a report have 1 to 256 inputs.
-    /// - A print has one input, no listing beside words, a count of at least 1, and a format only where its lines have
-    ///   neither link headers nor bytes.
+    /// - A print has one input, no listing beside words, a count of at least 1, and a format only
+    ///   where its lines have neither link headers nor bytes.
     /// - A compilation has no input.
     pub fn is_proper(&self, inputs: usize) -> bool
         ensures { result ≡ is_proper self.now inputs }
