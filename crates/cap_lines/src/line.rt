@@ -1,5 +1,5 @@
 //! The line of a packet.
-ghost use Rattle.std.specs.Prelude.{◌≡◌, ◌+◌, ◌≤◌, ◌<◌, ◌^◌, ◌++◌, length};
+ghost use Rattle.std.specs.Prelude.{◌≡◌, ◌+◌, ◌≤◌, ◌<◌, ◌++◌, length};
 ghost use Rattle.cap_octet.specs.Packet.{captured};
 ghost use Rattle.cap_lines.specs.Line.{cooked_part, ethernet_part, line, link_part, type_text};
 
