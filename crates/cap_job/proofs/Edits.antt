@@ -9,9 +9,9 @@ use Rattle.cap_window.specs.declared.mark.Mark.{Mark}
 use Rattle.cap_window.specs.Marks.{mark_of, has_same, last}
 use Rattle.cap_window.proofs.Marks.{last-last}
 use Rattle.cap_job.specs.Fed.{Came, Broken}
-use Rattle.cap_job.specs.Judged.{Judged, Select, Selection, Stand, at_first, changed, is_selected, moved, passes, refuses, selects, skipped, unique, verdict, with_mark}
+use Rattle.cap_job.specs.Judged.{Judged, Select, Selection, Stand, at_first, changed, is_selected, moved, passes, refuses, selects, skipped, unique, with_mark}
 use Rattle.cap_job.specs.Course.{Form, AsReports, Way, by_verdict, steps, stops_at, way}
-use Rattle.cap_job.specs.Edits.{PassesUnique, coming, is_repeated, selected, selected_at, unique_behind}
+use Rattle.cap_job.specs.Edits.{PassesUnique, coming, is_repeated, selected, unique_behind}
 use Rattle.cap_job.proofs.Judges.{few}
 
 abbrev reports : Form
