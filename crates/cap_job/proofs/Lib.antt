@@ -4,6 +4,7 @@ pub mod CommandRuns
 pub mod CommandStarts
 pub mod Courses
 pub mod Drains
+pub mod Edits
 pub mod Ends
 pub mod Fetches
 pub mod Finishes

@@ -1,5 +1,5 @@
 -- Worked examples of the definitions.
-use Rattle.std.proofs.Common.{◌≡◌, ◌*◌, ℕ, List, [], ◌∷◌, ◌++◌, None, Some, refl, false, codes, map}
+use Rattle.std.proofs.Common.{◌≡◌, ◌*◌, ℕ, List, [], ◌∷◌, ◌++◌, None, Some, refl, false, codes, length, map}
 use Rattle.cap_octet.specs.Packet.{Captured}
 use Rattle.cap_octet.specs.declared.fault.Fault.TheVariants.{Truncated, TimeOutOfRange}
 use Rattle.cap_octet.specs.declared.format.Format.TheVariants.{Pcap}
@@ -68,6 +68,53 @@ dups = course
 duplicate-window : map (λ p. p.bytes) dups.packets ≡ (1 ∷ []) ∷ (2 ∷ []) ∷ (3 ∷ []) ∷ (4 ∷ []) ∷ (5 ∷ []) ∷ (1 ∷ []) ∷ []
 unfolding dups md5 digest_bytes hash_after compress rounds block_words
 duplicate-window = refl
+
+-- what isn't selected isn't in the window
+deleted : Way
+deleted = course
+    (Select (record { ranges = (2, 2) ∷ []; keep = false; start = None; stop = None; chop_start = 0; chop_end = 0; snap = None; shift = shift.None; window = Some 2 }))
+    (AsReports [])
+    (fed InTurn (held (letter 1 ∷ letter 2 ∷ letter 1 ∷ []) End ∷ []))
+
+deleted-between : map (λ p. p.bytes) deleted.packets ≡ (1 ∷ []) ∷ []
+unfolding deleted md5 digest_bytes hash_after compress rounds block_words
+deleted-between = refl
+
+abbrev of_bytes : List ℕ → Placed
+of_bytes bytes = record { offset = 24; packet = record { link = 1; snap = 0; name = []; time = 0; orig = length bytes; bytes = bytes } }
+
+-- bytes that are cut off aren't compared
+cut : Way
+cut = course
+    (Select (record { ranges = []; keep = false; start = None; stop = None; chop_start = 0; chop_end = 0; snap = Some 4; shift = shift.None; window = Some 2 }))
+    (AsReports [])
+    (fed InTurn (held (of_bytes (0 ∷ 1 ∷ 2 ∷ 3 ∷ 4 ∷ []) ∷ of_bytes (0 ∷ 1 ∷ 2 ∷ 3 ∷ 153 ∷ []) ∷ []) End ∷ []))
+
+equal-when-cut : map (λ p. p.bytes) cut.packets ≡ (0 ∷ 1 ∷ 2 ∷ 3 ∷ []) ∷ []
+unfolding cut md5 digest_bytes hash_after compress rounds block_words
+equal-when-cut = refl
+
+-- ---- times and cuts
+
+in_time : Way
+in_time = course
+    (Select (record { ranges = []; keep = false; start = Some 2000000000; stop = Some 3000000000; chop_start = 0; chop_end = 0; snap = None; shift = shift.None; window = None }))
+    (AsReports [])
+    (fed InTurn (held (placed 24 1000000000 ∷ placed 44 2000000000 ∷ placed 64 3000000000 ∷ []) End ∷ []))
+
+time-window : map (λ p. p.time) in_time.packets ≡ 2000000000 ∷ []
+unfolding in_time
+time-window = refl
+
+chopped : Way
+chopped = course
+    (Select (record { ranges = []; keep = false; start = None; stop = None; chop_start = 2; chop_end = 1; snap = Some 4; shift = shift.None; window = None }))
+    (AsReports [])
+    (fed InTurn (held (of_bytes (0 ∷ 1 ∷ 2 ∷ 3 ∷ 4 ∷ 5 ∷ 6 ∷ 7 ∷ []) ∷ []) End ∷ []))
+
+chop : chopped.packets ≡ record { link = 1; snap = 0; name = []; time = 0; orig = 8; bytes = 2 ∷ 3 ∷ 4 ∷ 5 ∷ [] } ∷ []
+unfolding chopped
+chop = refl
 
 -- ---- a report
 

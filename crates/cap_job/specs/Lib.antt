@@ -2,6 +2,7 @@ pub mod Bounds
 pub mod Commands
 pub mod Course
 pub mod Draining
+pub mod Edits
 pub mod Fed
 pub mod Feeding
 pub mod Jobs

@@ -9,7 +9,7 @@ pub mod machine;
 pub mod packets;
 pub mod queue;
 pub mod report;
-mod select;
+pub mod select;
 pub mod tally;
 
 pub use job::{Job, run};

@@ -4,6 +4,7 @@ ghost use Rattle.cap_octet.specs.Packet.{captured};
 ghost use Rattle.cap_io.specs.Reading.{most_in_unit};
 ghost use Rattle.cap_job.specs.Judged.{changed, is_before, is_from, is_selected, moved, selects, snapped, unique, without_first, without_last};
 ghost use Rattle.cap_job.specs.Judging.{IsWindowFor, Keeps, marks_in, selection_of, stand_of};
+ghost use Rattle.cap_job.specs.Edits.{PassesUnique};
 ghost use Rattle.cap_job.specs.Reports.{Tally};
 
 use cap_octet::{Fault, Packet};
@@ -146,3 +147,9 @@ pub(crate) fn select<'a, A: Allocator>(
     let changed = changed(edit, packet, time);
     Ok(unless_duplicate(window, &changed))
 }
+
+/// A law of the definitions, the contract of a function that does nothing: what passes of an edit, decided packet by
+/// packet, is what is unique of what is selected, as lists.
+pub fn edit_passes_unique()
+    ensures { PassesUnique }
+{}
