@@ -97,7 +97,7 @@ kind_tests_fit link k (direction.One Destination) mask a = omega arith
 kind_tests_fit link k (direction.Both Or) mask a = omega arith
 kind_tests_fit link k (direction.Both And) mask a = omega arith
 
-net_tests_fit : (link : Link) (p : Option Protocol) (d : Direction) (mask : Option ℕ) (a : ℕ) → tests (net_formula link p (net_test d mask a)) ≤ count.ip4_tests p d
+pub net_tests_fit : (link : Link) (p : Option Protocol) (d : Direction) (mask : Option ℕ) (a : ℕ) → tests (net_formula link p (net_test d mask a)) ≤ count.ip4_tests p d
 net_tests_fit link None (direction.One Source) mask a = omega arith
 net_tests_fit link None (direction.One Destination) mask a = omega arith
 net_tests_fit link None (direction.Both Or) mask a = omega arith
@@ -152,7 +152,7 @@ some_proto : (p : Option Protocol) → 1 ≤ count.proto_tests p
 some_proto None = omega arith
 some_proto (Some p) = omega arith
 
-value_tests_fit : (link : Link) (k : ValueType) (p : Option Protocol) (d : Direction) (v : Value) → tests (value_formula link k p d v) ≤ count.typed_tests k p d v
+pub value_tests_fit : (link : Link) (k : ValueType) (p : Option Protocol) (d : Direction) (v : Value) → tests (value_formula link k p d v) ≤ count.typed_tests k p d v
 value_tests_fit link Host p d (value.Number n m) = some_ip4 p d
 value_tests_fit link Host p d (value.Dotted a m) = net_tests_fit link p d None a.address
 value_tests_fit link Host p d (value.Ip6 a n) = omega (arith, ip6_tests_are link d None a)
@@ -195,11 +195,11 @@ checked_tests link (applied o a b) rest f =
     let k = checked_tests link b rest f in
     omega arith
 
-left_false : (a b : Bool) → (a || b) ≡ false → a ≡ false
+pub left_false : (a b : Bool) → (a || b) ≡ false → a ≡ false
 left_false true b e = cc
 left_false false b e = refl
 
-right_false : (a b : Bool) → (a || b) ≡ false → b ≡ false
+pub right_false : (a b : Bool) → (a || b) ≡ false → b ≡ false
 right_false true b e = cc
 right_false false b e = e
 
@@ -227,18 +227,18 @@ tests_fit link (joined Or a b) e =
     omega arith
 
 -- a formula without comparisons, whose choices are between what excludes one another
-record Bare (f : Formula) : Type 0 where
-  no_nodes : nodes f ≡ 0
-  no_words : words f ≡ 0
-  apt : (p : List ℕ) → Apt p f
+pub record Bare (f : Formula) : Type 0 where
+  pub no_nodes : nodes f ≡ 0
+  pub no_words : words f ≡ 0
+  pub apt : (p : List ℕ) → Apt p f
 
-bare_one : (t : Elementary) → Bare (Single t)
+pub bare_one : (t : Elementary) → Bare (Single t)
 bare_one t = record { no_nodes = refl; no_words = refl; apt = λ p. tt }
 
-bare_both : (a b : Formula) → Bare a → Bare b → Bare (Both a b)
+pub bare_both : (a b : Formula) → Bare a → Bare b → Bare (Both a b)
 bare_both a b h k = let n = h.no_nodes in let m = k.no_nodes in let v = h.no_words in let w = k.no_words in record { no_nodes = omega arith; no_words = omega arith; apt = λ p. (h.apt p, k.apt p) }
 
-bare_either : (a b : Formula) → Bare a → Bare b → Bare (Either a b)
+pub bare_either : (a b : Formula) → Bare a → Bare b → Bare (Either a b)
 bare_either a b h k = let n = h.no_nodes in let m = k.no_nodes in let v = h.no_words in let w = k.no_words in record { no_nodes = omega arith; no_words = omega arith; apt = λ p. (h.apt p, k.apt p) }
 
 bare_all : (ts : List Elementary) → Bare (all_of ts)
@@ -255,10 +255,10 @@ bare_sides (direction.Both And) s t = bare_both (all_of s) (all_of t) (bare_all 
 bare_pair : (t u : Elementary) → Bare (Both (Single t) (Single u))
 bare_pair t u = bare_both (Single t) (Single u) (bare_one t) (bare_one u)
 
-bare_guard : (t : Elementary) (a : Formula) → Bare a → Bare (Guard t a)
+pub bare_guard : (t : Elementary) (a : Formula) → Bare a → Bare (Guard t a)
 bare_guard t a h = record { no_nodes = h.no_nodes; no_words = h.no_words; apt = λ p. h.apt p }
 
-bare_choice : (t : Elementary) (a b : Formula) → ((p : List ℕ) → Excluded p t b) → Bare a → Bare b → Bare (Choose t a b)
+pub bare_choice : (t : Elementary) (a b : Formula) → ((p : List ℕ) → Excluded p t b) → Bare a → Bare b → Bare (Choose t a b)
 bare_choice t a b other h k =
     let n = h.no_nodes in
     let m = k.no_nodes in
@@ -305,7 +305,7 @@ bare_proto_value link (Some _) n = bare_one _
 bare_kind : (link : Link) (k : Kind) (net : NetTest) → Bare (net_of_kind link k net)
 bare_kind link k net = bare_guard _ _ (bare_sides net.direction _ _)
 
-bare_net : (link : Link) (p : Option Protocol) (net : NetTest) → Bare (net_formula link p net)
+pub bare_net : (link : Link) (p : Option Protocol) (net : NetTest) → Bare (net_formula link p net)
 bare_net link None net =
     bare_choice _ _ _ (λ p. (ip_no_arp p link, ip_no_rarp p link)) (bare_sides net.direction _ _)
     (bare_choice _ _ _ (λ p. arp_no_rarp p link) (bare_sides net.direction _ _) (bare_kind link kind.Rarp net))
@@ -329,7 +329,7 @@ bare_ports link wanted =
     (bare_transport wanted.protocol _ _ _ (bare_guard _ _ (bare_sides wanted.direction _ _)))
     (bare_guard _ _ (bare_transport wanted.protocol _ _ _ (bare_sides wanted.direction _ _)))
 
-bare_value : (link : Link) (k : ValueType) (p : Option Protocol) (d : Direction) (v : Value) → Bare (value_formula link k p d v)
+pub bare_value : (link : Link) (k : ValueType) (p : Option Protocol) (d : Direction) (v : Value) → Bare (value_formula link k p d v)
 bare_value link Host p d (value.Dotted a m) = bare_net link p (net_test d None a.address)
 bare_value link Host p d (value.Ip6 a n) = bare_ip6 link d None a
 bare_value link Host p d (value.Mac a) = bare_ether link d a

@@ -9,7 +9,8 @@ use Rattle.flt_gen.specs.declared.link.Link.TheVariants.{Ether, Raw, Cooked}
 use Rattle.flt_gen.specs.declared.elementary.Kind.TheVariants.{Ip, Ip6, Arp, Rarp}
 use Rattle.flt_gen.specs.declared.elementary.Elementary.{Elementary}
 use Rattle.flt_gen.specs.Elementary.{Yes, No, reading_of, with, masked, elementary_reads, kind_test}
-use Rattle.flt_gen.specs.Formula.{Formula, Single, Compare, Both, Either, Except, Guard, Fork, Choose, both, either, reads}
+use Rattle.flt_gen.proofs.Ascending.{Searchable}
+use Rattle.flt_gen.specs.Formula.{Formula, Single, Compare, Both, Either, Except, Guard, Fork, Choose, Among, both, either, reads}
 
 -- a field that is one number is no other
 other_value : (o : Option ℕ) (mask : Option ℕ) (a b : ℕ) → (a == b) ≡ false → reading_of (with o (λ v. Some (masked mask v == a))) ≡ Yes → reading_of (with o (λ v. Some (masked mask v == b))) ≡ No
@@ -34,7 +35,7 @@ module _ (p : List ℕ) where
   Excluded t (Choose u a b) = Excludes t u × Excluded t b
   Excluded t _ = ⊥
 
-  -- a choice is made only between what excludes one another
+  -- a choice is made only between what excludes one another, and numbers that are searched ascend
   abbrev pub Apt : Formula → Type 0
   Apt (Single t) = Unit {0}
   Apt (Compare c l r) = Unit {0}
@@ -44,6 +45,7 @@ module _ (p : List ℕ) where
   Apt (Guard t a) = Apt a
   Apt (Fork t u a) = Apt a
   Apt (Choose t a b) = Excluded t b × Apt a × Apt b
+  Apt (Among f vs) = Searchable vs
 
   pub excluded_no : (n : ℕ) (link : Link) (t : Elementary) (f : Formula) → Excluded t f → elementary_reads t p ≡ Yes → reads link f p n ≡ No
   excluded_no n link t (Guard u a) h e = ap (λ r. both r (reads link a p n)) (h e)
@@ -55,6 +57,7 @@ module _ (p : List ℕ) where
   excluded_no n link t (Either a b) h e = absurd h
   excluded_no n link t (Except a) h e = absurd h
   excluded_no n link t (Fork u v a) h e = absurd h
+  excluded_no n link t (Among f vs) h e = absurd h
 
   pub ip_no_ip6 : (link : Link) → Excludes (kind_test link Ip) (kind_test link Ip6)
   ip_no_ip6 Ether = other_value (field p 12 HalfWord) None 0x0800 0x86dd refl

@@ -1,6 +1,6 @@
 -- A jump stands only for a target that is too far for the test before it.
-use Rattle.std.proofs.Common.{◌≡◌, ℕ, zero, suc, ◌+◌, ◌-◌, ◌<◌, ◌≤◌, List, ◌∷◌, length, drop, Bool, true, false, Option, Some, None, refl, sym, ap, ◌∙◌, subst, arith, inl, inr}
-use Rattle.std.specs.Prelude.{◌≢◌, ◌⊎◌, slice_get, nat_le, ◌&&◌, if◌then◌else◌}
+use Rattle.std.proofs.Common.{◌≡◌, ℕ, zero, suc, ◌+◌, ◌-◌, ◌/◌, ◌<◌, ◌≤◌, List, [], ◌∷◌, length, take, drop, get_or, Bool, true, false, Option, Some, None, refl, sym, ap, ◌∙◌, subst, arith, inl, inr}
+use Rattle.std.specs.Prelude.{◌≢◌, ◌⊎◌, slice_get, nat_le, nat_lt, ◌&&◌, if◌then◌else◌}
 use Rattle.std.proofs.lemmas.Bool.Decides.{nat_tests}
 use Rattle.flt_bpf.specs.declared.insn.Insn.{Insn}
 use Rattle.flt_bpf.specs.declared.operation.Width.{Width}
@@ -23,13 +23,13 @@ use Rattle.flt_gen.specs.declared.elementary.Elementary.TheVariants.{Known, Fiel
 use Rattle.flt_bpf.specs.Instructions.{operation_of}
 use Rattle.flt_gen.specs.Elementary.{network}
 use Rattle.flt_gen.specs.Numbers.{width_of}
-use Rattle.flt_gen.specs.Formula.{Formula, Single, Compare, Both, Either, Except, Guard, Fork, Choose}
-use Rattle.flt_gen.specs.Code.{plain, indirect_code, operator_code, test_code, branch_insn, jump_before, branch_before, comparison_before, field_before, mask_before, base_before, transport_before, accessor_before, number_before, Entered, at_top, elementary_before, fork_before, emitted, NEAR}
+use Rattle.flt_gen.specs.Formula.{Formula, Single, Compare, Both, Either, Except, Guard, Fork, Choose, Among}
+use Rattle.flt_gen.specs.Code.{plain, indirect_code, operator_code, test_code, branch_insn, jump_before, branch_before, comparison_before, field_before, mask_before, base_before, transport_before, accessor_before, number_before, Entered, at_top, chain_before, search_before, LEVELS, elementary_before, fork_before, emitted, NEAR}
 use Rattle.flt_gen.specs.declared.follow.Knowledge.{Knowledge}
-use Rattle.flt_gen.specs.Follow.{and_fork, load_code, fact, and_fact}
+use Rattle.flt_gen.specs.Follow.{and_fork, load_code, fact, always, and_fact, followed}
 use Rattle.flt_gen.specs.declared.elementary.Elementary.{Elementary}
 use Rattle.flt_gen.specs.Layout.{is_branch, JUMP, IsNeeded, JumpsAreNeeded}
-use Rattle.flt_gen.proofs.Tails.{tail, Extends, extends_none, extends_on, test_extends, relation_extends}
+use Rattle.flt_gen.proofs.Tails.{tail, Extends, extends_none, extends_on, test_extends, relation_extends, emitted_extends, by_test}
 
 pub load_no_jump : (w : Width) → load_code w ≢ JUMP
 load_no_jump Word = λ e. absurd (omega arith)
@@ -160,6 +160,20 @@ comparison_needed AtMost o k hit miss c h = branch_needed test.Greater o k miss 
 comparison_needed Greater o k hit miss c h = branch_needed test.Greater o k hit miss c h
 comparison_needed AtLeast o k hit miss c h = branch_needed test.AtLeast o k hit miss c h
 
+chain_needed : (vs : List ℕ) (hit miss : ℕ) (c : List Insn) → JumpsAreNeeded c → JumpsAreNeeded (chain_before vs hit miss c).code
+chain_needed [] hit miss c h = h
+chain_needed (v ∷ vs) hit miss c h = branch_needed test.Equal Constant v hit _ _ (chain_needed vs hit miss c h)
+
+search_needed : (k : ℕ) (vs : List ℕ) (hit miss : ℕ) (c : List Insn) → JumpsAreNeeded c → JumpsAreNeeded (search_before k vs hit miss c).code
+unfolding search_before
+search_needed zero vs hit miss c h = chain_needed vs hit miss c h
+search_needed (suc k) vs hit miss c h =
+    let half = length vs / 2 in
+    let upper = search_before k (drop half vs) hit miss c in
+    by_test (λ (e : Entered). JumpsAreNeeded e.code) (nat_lt (length vs) 2) _ _
+    (λ e. chain_needed vs hit miss c h)
+    (λ e. branch_needed test.AtLeast Constant (get_or vs half 0) _ _ _ (search_needed k (take half vs) hit miss upper.code (search_needed k (drop half vs) hit miss c h)))
+
 base_needed : (at : ℕ) (w : Width) (c : List Insn) → JumpsAreNeeded c → JumpsAreNeeded (base_before at w c)
 base_needed at w c h = needed_put _ _ (λ e. absurd (omega arith)) (needed_put c _ (indirect_no_jump w) h)
 
@@ -262,3 +276,9 @@ emitted_needed link known (Choose t a b) hit miss c lh lm n h m =
     let le : e.entry ≤ length d.code = (let l = pb.inside in omega (arith, pa.extends.longer)) in
     let pt = elementary_needed known t d.entry e.entry d.code pa.inside le pa.needed.code pa.needed.entered (needed_on e.code d.code e.entry pb.inside pa.extends pb.needed.entered) in
     record { needed = pt.needed; inside = pt.inside; extends = extends_on c e.code _ pb.extends (extends_on e.code d.code _ pa.extends pt.extends) }
+emitted_needed link known (Among f vs) hit miss c lh lm n h m =
+    record {
+      needed = needed_top _ (field_needed (At f.at) f.width _ (mask_needed f.mask _ (search_needed LEVELS vs (followed c known always hit) (followed c known always miss) c n)));
+      inside = omega arith;
+      extends = emitted_extends link known (Among f vs) hit miss c;
+    }

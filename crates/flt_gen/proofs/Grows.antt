@@ -1,5 +1,5 @@
 -- The code of a formula has no fault, and no more instructions than its bound.
-use Rattle.std.proofs.Common.{◌≡◌, ℕ, ◌+◌, ◌-◌, ◌*◌, ◌<◌, ◌≤◌, List, [], ◌∷◌, length, true, false, Option, Some, None, refl, ap, ◌∙◌, arith}
+use Rattle.std.proofs.Common.{◌≡◌, ℕ, zero, suc, ◌+◌, ◌-◌, ◌*◌, ◌/◌, ◌<◌, ◌≤◌, List, [], ◌∷◌, length, take, drop, get_or, true, false, Option, Some, None, refl, ap, ◌∙◌, arith, length-drop, length-take}
 use Rattle.std.specs.Prelude.{nat_lt, nat_le, ◌&&◌}
 use Rattle.std.proofs.lemmas.Bool.Decides.{nat_tests}
 use Rattle.flt_bpf.specs.declared.insn.Insn.{Insn}
@@ -26,16 +26,16 @@ use Rattle.flt_bpf.specs.Instructions.{operation_of}
 use Rattle.flt_bpf.specs.Check.{fault_of, unless, ends_in_return}
 use Rattle.flt_gen.specs.Elementary.{network}
 use Rattle.flt_gen.specs.Numbers.{width_of}
-use Rattle.flt_gen.specs.Formula.{Formula, Single, Compare, Both, Either, Except, Guard, Fork, Choose}
+use Rattle.flt_gen.specs.Formula.{Formula, Single, Compare, Both, Either, Except, Guard, Fork, Choose, Among}
 use Rattle.flt_lang.specs.Counts.{number_words, number_size}
 use Rattle.flt_gen.specs.Counts.{words, nodes, tests}
-use Rattle.flt_gen.specs.Code.{plain, indirect_code, operator_code, branch_insn, jump_before, branch_before, comparison_before, field_before, mask_before, base_before, transport_before, accessor_before, number_before, Entered, at_top, elementary_before, fork_before, emitted, NEAR}
+use Rattle.flt_gen.specs.Code.{plain, indirect_code, operator_code, branch_insn, jump_before, branch_before, comparison_before, field_before, mask_before, base_before, transport_before, accessor_before, number_before, Entered, at_top, chain_before, search_before, LEVELS, elementary_before, fork_before, emitted, NEAR}
 use Rattle.flt_gen.specs.declared.follow.Knowledge.{Knowledge}
-use Rattle.flt_gen.specs.Follow.{and_fork, load_code, fact, and_fact}
+use Rattle.flt_gen.specs.Follow.{and_fork, load_code, fact, always, and_fact, followed}
 use Rattle.flt_gen.specs.declared.elementary.Elementary.{Elementary}
-use Rattle.flt_gen.proofs.Onward.{target_inside}
+use Rattle.flt_gen.proofs.Onward.{followed_inside, target_inside}
 use Rattle.flt_bpf.proofs.Suffix.{IsFaultless}
-use Rattle.flt_gen.proofs.Tails.{one_of_four}
+use Rattle.flt_gen.proofs.Tails.{one_of_four, by_test}
 
 passes : (k m : ℕ) (f : CheckFault) → k < m → unless (nat_lt k m) f ≡ None
 passes k m f l = let t : nat_lt k m ≡ true = grind (arith, nat_tests) in ap (λ b. unless b f) t
@@ -240,6 +240,40 @@ fork_sits known t u hit miss c s e ph lh pm lm =
     let sa = elementary_sits known t hit d.entry d.code sb.grows.sound sb.grows.ends ph lh' sb.low sb.inside in
     sits_on d (elementary_before known t hit d.entry d.code) c 6 6 12 sb sa (omega arith)
 
+chain_sits : (vs : List ℕ) (hit miss : ℕ) (c : List Insn) → IsFaultless c → ends_in_return c ≡ true → 0 < hit → hit ≤ length c → 0 < miss → miss ≤ length c → Sits (chain_before vs hit miss c) c (3 * length vs)
+chain_sits [] hit miss c s e ph lh pm lm = record { grows = grows_none c s e; low = pm; inside = lm }
+chain_sits (v ∷ vs) hit miss c s e ph lh pm lm =
+    let d = chain_before vs hit miss c in
+    let sd = chain_sits vs hit miss c s e ph lh pm lm in
+    let lh' : hit ≤ length d.code = omega (arith, sd.grows.longer) in
+    let g = branch_grows test.Equal Constant v hit d.entry d.code sd.grows.sound sd.grows.ends ph lh' sd.low sd.inside in
+    sits_on d (chain_before (v ∷ vs) hit miss c) c (3 * length vs) 3 _ sd (sits_top d.code _ 3 3 (omega arith) g) (omega arith)
+
+chain_fits : (vs : List ℕ) (hit miss : ℕ) (c : List Insn) → IsFaultless c → ends_in_return c ≡ true → 0 < hit → hit ≤ length c → 0 < miss → miss ≤ length c → Sits (chain_before vs hit miss c) c (3 + 6 * (length vs - 1))
+chain_fits vs hit miss c s e ph lh pm lm =
+    let t = chain_sits vs hit miss c s e ph lh pm lm in
+    record { grows = grows_more c _ (3 * length vs) _ (omega arith) t.grows; low = t.low; inside = t.inside }
+
+search_sits : (k : ℕ) (vs : List ℕ) (hit miss : ℕ) (c : List Insn) → IsFaultless c → ends_in_return c ≡ true → 0 < hit → hit ≤ length c → 0 < miss → miss ≤ length c → Sits (search_before k vs hit miss c) c (3 + 6 * (length vs - 1))
+unfolding search_before
+search_sits zero vs hit miss c s e ph lh pm lm = chain_fits vs hit miss c s e ph lh pm lm
+search_sits (suc k) vs hit miss c s e ph lh pm lm =
+    let h = length vs / 2 in
+    let a = length-drop h vs in
+    let b = length-take h vs in
+    let upper = search_before k (drop h vs) hit miss c in
+    let lower = search_before k (take h vs) hit miss upper.code in
+    let su = search_sits k (drop h vs) hit miss c s e ph lh pm lm in
+    let lh' : hit ≤ length upper.code = omega (arith, su.grows.longer) in
+    let lm' : miss ≤ length upper.code = omega (arith, su.grows.longer) in
+    let sl = search_sits k (take h vs) hit miss upper.code su.grows.sound su.grows.ends ph lh' pm lm' in
+    let lu : upper.entry ≤ length lower.code = (let i = su.inside in omega (arith, sl.grows.longer)) in
+    let g = branch_grows test.AtLeast Constant (get_or vs h 0) upper.entry lower.entry lower.code sl.grows.sound sl.grows.ends su.low lu sl.low sl.inside in
+    by_test (λ (d : Entered). Sits d c (3 + 6 * (length vs - 1))) (nat_lt (length vs) 2) _ _
+    (λ few. chain_fits vs hit miss c s e ph lh pm lm)
+    (λ many. let two : 2 ≤ length vs = grind (arith, nat_tests) in
+    sits_on lower _ c (3 + 6 * (length (drop h vs) - 1) + (3 + 6 * (length (take h vs) - 1))) 3 _ (sits_on upper lower c _ _ _ su sl (omega arith)) (sits_top lower.code _ 3 3 (omega arith) g) (omega arith))
+
 pub emitted_sits : (link : Link) (known : Knowledge) (f : Formula) (hit miss : ℕ) (c : List Insn) → words f ≤ 16 → IsFaultless c → ends_in_return c ≡ true → 0 < hit → hit ≤ length c → 0 < miss → miss ≤ length c → Sits (emitted link known f hit miss c) c (6 * (tests f + nodes f))
 emitted_sits link known (Single t) hit miss c few s e ph lh pm lm = elementary_sits known t hit miss c s e ph lh pm lm
 emitted_sits link known (Compare comparison l r) hit miss c few s e ph lh pm lm =
@@ -284,3 +318,8 @@ emitted_sits link known (Choose t a b) hit miss c few s e ph lh pm lm =
     let ld : d.entry ≤ length f.code = (let l = sb.inside in omega (arith, sa.grows.longer)) in
     let st = elementary_sits known t f.entry d.entry f.code sa.grows.sound sa.grows.ends sa.low sa.inside sb.low ld in
     sits_on f (elementary_before known t f.entry d.entry f.code) c (6 * (tests b + nodes b) + 6 * (tests a + nodes a)) 6 _ (sits_on d f c (6 * (tests b + nodes b)) (6 * (tests a + nodes a)) _ sb sa (omega arith)) st (omega arith)
+emitted_sits link known (Among f vs) hit miss c few s e ph lh pm lm =
+    let h = followed_inside c known always hit ph lh in
+    let m = followed_inside c known always miss pm lm in
+    let g = search_sits LEVELS vs (followed c known always hit) (followed c known always miss) c s e h.0 h.1 m.0 m.1 in
+    sits_top c _ (3 + 6 * (length vs - 1) + 1 + 2) _ (omega arith) (field_grows (At f.at) f.width c _ (3 + 6 * (length vs - 1) + 1) (mask_grows f.mask c _ (3 + 6 * (length vs - 1)) g.grows))

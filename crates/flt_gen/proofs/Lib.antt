@@ -1,6 +1,8 @@
 pub mod Backwards
 pub mod Joined
 pub mod Tails
+pub mod Search
+pub mod Ascending
 pub mod Onward
 pub mod Exclusive
 pub mod Numbers
@@ -12,5 +14,7 @@ pub mod Accessors
 pub mod Walking
 pub mod Room
 pub mod Counted
+pub mod Together
+pub mod Grouping
 pub mod Whole
 pub mod Turned

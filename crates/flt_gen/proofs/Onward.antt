@@ -32,7 +32,7 @@ then_some : (c : Bool) (x : Option Bool) (b : Bool) → (if c then x else None) 
 then_some true x b e = (refl, e)
 then_some false x b e = cc
 
-both_true : (a b : Bool) → (a && b) ≡ true → (a ≡ true) × (b ≡ true)
+pub both_true : (a b : Bool) → (a && b) ≡ true → (a ≡ true) × (b ≡ true)
 both_true true b e = (refl, e)
 both_true false b e = cc
 
@@ -507,7 +507,7 @@ four_inside c facts place p l = let i = two_inside c facts place p l in two_insi
 eight_inside : (c : List Insn) (facts : List Fact) (place : ℕ) → 0 < place → place ≤ length c → Inside (length c) (eight_on c facts place)
 eight_inside c facts place p l = let i = four_inside c facts place p l in four_inside c facts _ i.0 i.1
 
-followed_inside : (c : List Insn) (known : Knowledge) (own : Fact) (place : ℕ) → 0 < place → place ≤ length c → Inside (length c) (followed c known own place)
+pub followed_inside : (c : List Insn) (known : Knowledge) (own : Fact) (place : ℕ) → 0 < place → place ≤ length c → Inside (length c) (followed c known own place)
 unfolding followed
 followed_inside c known own place p l =
     let a = eight_on c (own ∷ fact known.either.first true ∷ facts_of known) place in

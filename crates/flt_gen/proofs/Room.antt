@@ -1,5 +1,15 @@
 -- The walk only puts code in front, and the words of memory that it names are fewer than its instructions.
-use Rattle.std.proofs.Common.{◌≡◌, ℕ, ◌≤◌, List, [], ◌∷◌, length, refl, sym, subst, arith}
+use Rattle.std.proofs.Common.{◌≡◌, ℕ, ◌<◌, ◌≤◌, List, [], ◌∷◌, length, Bool, true, false, Option, Some, None, refl, sym, ap, subst, arith}
+use Rattle.std.specs.Prelude.{nat_lt, ◌&&◌, if◌then◌else◌}
+use Rattle.std.proofs.lemmas.Bool.Decides.{nat_tests}
+use Rattle.flt_words.specs.declared.token.Join.{Join}
+use Rattle.flt_words.specs.declared.token.Join.TheVariants.{And, Or}
+use Rattle.flt_lang.specs.declared.quals.FullQuals.{FullQuals}
+use Rattle.flt_lang.specs.declared.value.Value.{Value}
+use Rattle.flt_gen.specs.Formula.{Formula}
+use Rattle.flt_gen.specs.Hosts.{Hosts, MOST_HOSTS, same_protocol, same_direction, goes_with, with_host, host_address, hosts_and, more_hosts, hosts_formula}
+use Rattle.flt_gen.proofs.Ascending.{length_inserted}
+use Rattle.flt_gen.proofs.Onward.{both_true}
 use Rattle.flt_bpf.specs.declared.insn.Insn.{Insn}
 use Rattle.flt_bpf.specs.declared.operation.Operand.TheVariants.{IndexRegister}
 use Rattle.flt_lang.specs.declared.node.Node.{Node}
@@ -11,7 +21,7 @@ use Rattle.flt_gen.specs.Numbers.{width_of}
 use Rattle.flt_gen.specs.Primitives.{check_formula, cast_formula, sized_formula, qualified_formula}
 use Rattle.flt_gen.specs.Follow.{nothing}
 use Rattle.flt_gen.specs.Code.{plain}
-use Rattle.flt_gen.specs.Walk.{Walk, relation_put, number_put, with_code, operands_put, with_node, walked}
+use Rattle.flt_gen.specs.Walk.{Walk, relation_put, number_put, with_code, operands_put, formula_put, settled_by, settled, hosts_put, value_put, join_put, truth_node_put, is_truth_node, with_node, walked}
 use Rattle.flt_gen.proofs.Tails.{extends_none, comparison_extends, accessor_extends, emitted_extends, accessors_extend}
 
 -- each left operand that waits has a word below n
@@ -24,6 +34,7 @@ AllLow (Left s ∷ ns) n = (s ≤ n) × AllLow ns n
 pub record IsLow (w : Walk) : Type 0 where
   pub slot : w.slot ≤ length w.code
   pub waiting : AllLow w.numbers (length w.code)
+  pub few : length w.hosts.addresses ≤ MOST_HOSTS
 
 low_more : (ns : List Waiting) (m n : ℕ) → m ≤ n → AllLow ns m → AllLow ns n
 low_more [] m n l h = tt
@@ -35,10 +46,10 @@ record Grown (w v : Walk) : Type 0 where
   low : IsLow v
   longer : length w.code ≤ length v.code
 
-grown_on : (w v : Walk) → IsLow w → length w.code ≤ length v.code → v.slot ≡ w.slot → v.numbers ≡ w.numbers → Grown w v
-grown_on w v h l s n =
+grown_on : (w v : Walk) → IsLow w → length w.code ≤ length v.code → v.slot ≡ w.slot → v.numbers ≡ w.numbers → length v.hosts.addresses ≤ MOST_HOSTS → Grown w v
+grown_on w v h l s n f =
     record {
-      low = record { slot = let k = h.slot in omega arith; waiting = same_low v.numbers w.numbers n (low_more w.numbers (length w.code) (length v.code) l h.waiting) };
+      low = record { slot = let k = h.slot in omega arith; waiting = same_low v.numbers w.numbers n (low_more w.numbers (length w.code) (length v.code) l h.waiting); few = f };
       longer = l;
     }
   where
@@ -46,25 +57,25 @@ grown_on w v h l s n =
     same_low ns ms e a = subst (λ xs. AllLow xs (length v.code)) (sym e) a
 
 relation_grown : (link : Link) (w : Walk) → w.numbers ≡ [] → IsLow w → Grown w (relation_put link w)
-relation_grown link w e h = grown_on w (relation_put link w) h (accessors_extend link w.accessors (length w.code) w.to.no w.code).longer refl refl
+relation_grown link w e h = grown_on w (relation_put link w) h (accessors_extend link w.accessors (length w.code) w.to.no w.code).longer refl refl h.few
 
 number_grown : (link : Link) (ns : List Waiting) (w : Walk) → w.numbers ≡ ns → IsLow w → Grown w (number_put link ns w)
 number_grown link [] w e h = relation_grown link w e h
 number_grown link (Index p ∷ ns) w e h =
     let v : Walk = record w { numbers = ns; accessors = p ∷ w.accessors } in
     let a : AllLow (Index p ∷ ns) (length w.code) = subst (λ xs. AllLow xs (length w.code)) e h.waiting in
-    let g = number_grown link ns v refl (record { slot = h.slot; waiting = a }) in
+    let g = number_grown link ns v refl (record { slot = h.slot; waiting = a; few = h.few }) in
     record { low = g.low; longer = g.longer }
 number_grown link (Left s ∷ ns) w e h =
     let a : AllLow (Left s ∷ ns) (length w.code) = subst (λ xs. AllLow xs (length w.code)) e h.waiting in
     let k = a.0 in
-    record { low = record { slot = omega arith; waiting = low_more ns (length w.code) (length (plain 2 s ∷ w.code)) (omega arith) a.1 }; longer = omega arith }
+    record { low = record { slot = omega arith; waiting = low_more ns (length w.code) (length (plain 2 s ∷ w.code)) (omega arith) a.1; few = h.few }; longer = omega arith }
 
 -- code in front, and then a number is complete
 code_grown : (link : Link) (w : Walk) (c : List Insn) → length w.code ≤ length c → IsLow w → Grown w (number_put link w.numbers (with_code c w))
 code_grown link w c l h =
     let v = with_code c w in
-    let a = grown_on w v h l refl refl in
+    let a = grown_on w v h l refl refl h.few in
     let g = number_grown link w.numbers v refl a.low in
     record { low = g.low; longer = let m = g.longer in omega arith }
 
@@ -74,28 +85,106 @@ operands_grown w slot c s l h =
       low = record {
         slot = omega arith;
         waiting = (omega arith, low_more w.numbers (length w.code) (length (operands_put slot c w).code) (omega arith) h.waiting);
+        few = h.few;
       };
       longer = omega arith;
     }
 
+grown_after : (u v w : Walk) → Grown u v → Grown v w → Grown u w
+grown_after u v w g h = record { low = h.low; longer = let l = g.longer in let m = h.longer in omega arith }
+
+formula_grown : (link : Link) (f : Formula) (w : Walk) → IsLow w → Grown w (formula_put link f w)
+formula_grown link f w h = grown_on w (formula_put link f w) h (emitted_extends link nothing f w.to.yes w.to.no w.code).longer refl refl h.few
+
+settled_grown : (link : Link) (w : Walk) (bs : List ℕ) → IsLow w → Grown w (settled_by link w bs)
+settled_grown link w [] h = grown_on w (settled_by link w []) h (omega arith) refl refl (omega arith)
+settled_grown link w (b ∷ bs) h =
+    grown_on w (settled_by link w (b ∷ bs)) h (emitted_extends link nothing (hosts_formula link w.hosts) w.to.yes w.to.no w.code).longer refl refl (omega arith)
+
+-- one more host is one of the most at most
+pub more_few : (q : FullQuals) (v : Value) (hosts more : Hosts) → more_hosts q v hosts ≡ Some more → length more.addresses ≤ MOST_HOSTS
+more_few q v hosts more e = by_address (host_address q.value_type v) e
+  where
+    some_is : (a b : Hosts) → Some a ≡ Some b → a ≡ b
+    some_is a b e = cc
+
+    fits : (bs : List ℕ) → goes_with q hosts bs ≡ true → length bs < MOST_HOSTS
+    fits [] e = omega arith
+    fits (b ∷ bs) e =
+        let both = both_true (same_protocol q.protocol hosts.protocol) (same_direction q.direction hosts.direction && nat_lt (length (b ∷ bs)) MOST_HOSTS) e in
+        let last = (both_true (same_direction q.direction hosts.direction) (nat_lt (length (b ∷ bs)) MOST_HOSTS) both.1).1 in
+        grind (arith, nat_tests)
+
+    by_test : (a : ℕ) (t : Bool) → goes_with q hosts hosts.addresses ≡ t → (if t then Some (with_host q a hosts) else None) ≡ Some more → length more.addresses ≤ MOST_HOSTS
+    by_test a false g e = cc
+    by_test a true g e =
+        let same = ap (λ (h : Hosts). length h.addresses) (some_is (with_host q a hosts) more e) in
+        let n = length_inserted a hosts.addresses in
+        let l = fits hosts.addresses g in
+        omega arith
+
+    by_address : (o : Option ℕ) → hosts_and q hosts o ≡ Some more → length more.addresses ≤ MOST_HOSTS
+    by_address None e = cc
+    by_address (Some a) e = by_test a (goes_with q hosts hosts.addresses) refl e
+
+value_grown : (link : Link) (q : FullQuals) (v : Value) (w : Walk) → IsLow w → (o : Option Hosts) → more_hosts q v w.hosts ≡ o → Grown w (value_put link q v w o)
+value_grown link q v w h None e =
+    let g = settled_grown link w w.hosts.addresses h in
+    grown_after w (settled link w) (value_put link q v w None) g (formula_grown link (qualified_formula link q v) (settled link w) g.low)
+value_grown link q v w h (Some more) e = by_chain w.chained
+  where
+    by_chain : (k : Bool) → Grown w (hosts_put link w more k)
+    by_chain true = grown_on w (hosts_put link w more true) h (omega arith) refl refl (more_few q v w.hosts more e)
+    by_chain false = grown_on w (hosts_put link w more false) h (emitted_extends link nothing (hosts_formula link more) w.to.yes w.to.no w.code).longer refl refl (omega arith)
+
+truth_grown : (link : Link) (w : Walk) (n : Node) → is_truth_node n ≡ true → IsLow w → Grown w (truth_node_put link w n)
+truth_grown link w (node.Check p) t h = formula_grown link (check_formula link p) w h
+truth_grown link w (node.Cast p c) t h = formula_grown link (cast_formula link p c) w h
+truth_grown link w (node.Sized s n) t h = formula_grown link (sized_formula s n) w h
+truth_grown link w (node.Bare v) t h = grown_on w (truth_node_put link w (node.Bare v)) h (omega arith) refl refl h.few
+truth_grown link w (node.Valued q v) t h = grown_on w (truth_node_put link w (node.Valued q v)) h (omega arith) refl refl h.few
+truth_grown link w (node.Compare c) t h = operands_grown w 0 _ (omega arith) (comparison_extends c IndexRegister 0 w.to.yes w.to.no w.code).longer h
+truth_grown link w node.Not t h = grown_on w (truth_node_put link w node.Not) h (omega arith) refl refl h.few
+truth_grown link w (node.Qualified q v) t h = cc
+truth_grown link w (node.Join j) t h = cc
+truth_grown link w (node.Literal n) t h = cc
+truth_grown link w (node.Named n) t h = cc
+truth_grown link w node.Len t h = cc
+truth_grown link w (node.Load p s) t h = cc
+truth_grown link w node.Negate t h = cc
+truth_grown link w (node.Apply o) t h = cc
+
+-- the hosts that wait come first
+settled_truth_grown : (link : Link) (w : Walk) (n : Node) → is_truth_node n ≡ true → IsLow w → Grown w (truth_node_put link (settled link w) n)
+settled_truth_grown link w n t h =
+    let g = settled_grown link w w.hosts.addresses h in
+    grown_after w (settled link w) (truth_node_put link (settled link w) n) g (truth_grown link (settled link w) n t g.low)
+
+join_grown : (link : Link) (j : Join) (w : Walk) → IsLow w → Grown w (join_put link j w)
+join_grown link Or w h = grown_on w (join_put link Or w) h (omega arith) refl refl h.few
+join_grown link And w h =
+    let g = settled_grown link w w.hosts.addresses h in
+    let l = g.low in
+    grown_after w (settled link w) (join_put link And w) g (grown_on (settled link w) (join_put link And w) l (omega arith) refl refl l.few)
+
 node_grown : (link : Link) (w : Walk) (n : Node) → IsLow w → Grown w (with_node link w n)
-node_grown link w (node.Check p) h = grown_on w _ h (emitted_extends link nothing (check_formula link p) w.to.yes w.to.no w.code).longer refl refl
-node_grown link w (node.Cast p c) h = grown_on w _ h (emitted_extends link nothing (cast_formula link p c) w.to.yes w.to.no w.code).longer refl refl
-node_grown link w (node.Sized s n) h = grown_on w _ h (emitted_extends link nothing (sized_formula s n) w.to.yes w.to.no w.code).longer refl refl
-node_grown link w (node.Bare v) h = grown_on w _ h (omega arith) refl refl
-node_grown link w (node.Valued q v) h = grown_on w _ h (omega arith) refl refl
-node_grown link w (node.Qualified q v) h = grown_on w _ h (emitted_extends link nothing (qualified_formula link q v) w.to.yes w.to.no w.code).longer refl refl
-node_grown link w (node.Compare c) h = operands_grown w 0 _ (omega arith) (comparison_extends c IndexRegister 0 w.to.yes w.to.no w.code).longer h
-node_grown link w node.Not h = grown_on w _ h (omega arith) refl refl
-node_grown link w (node.Join j) h = grown_on w _ h (omega arith) refl refl
+node_grown link w (node.Check p) h = settled_truth_grown link w (node.Check p) refl h
+node_grown link w (node.Cast p c) h = settled_truth_grown link w (node.Cast p c) refl h
+node_grown link w (node.Sized s n) h = settled_truth_grown link w (node.Sized s n) refl h
+node_grown link w (node.Bare v) h = settled_truth_grown link w (node.Bare v) refl h
+node_grown link w (node.Valued q v) h = settled_truth_grown link w (node.Valued q v) refl h
+node_grown link w (node.Compare c) h = settled_truth_grown link w (node.Compare c) refl h
+node_grown link w node.Not h = settled_truth_grown link w node.Not refl h
+node_grown link w (node.Qualified q v) h = value_grown link q v w h (more_hosts q v w.hosts) refl
+node_grown link w (node.Join j) h = join_grown link j w h
 node_grown link w (node.Literal n) h = code_grown link w (plain 0 n ∷ w.code) (omega arith) h
 node_grown link w (node.Named n) h = code_grown link w (plain 0 n ∷ w.code) (omega arith) h
 node_grown link w node.Len h = code_grown link w (plain 128 0 ∷ w.code) (omega arith) h
 node_grown link w (node.Load p s) h =
     let l = (accessor_extends link p (width_of s) w.code w.code (extends_none w.code)).longer in
     let v = with_node link w (node.Load p s) in
-    record { low = record { slot = let k = h.slot in omega arith; waiting = low_more w.numbers (length w.code) (length v.code) l h.waiting }; longer = l }
-node_grown link w node.Negate h = grown_on w _ h (omega arith) refl refl
+    record { low = record { slot = let k = h.slot in omega arith; waiting = low_more w.numbers (length w.code) (length v.code) l h.waiting; few = h.few }; longer = l }
+node_grown link w node.Negate h = grown_on w (with_node link w node.Negate) h (omega arith) refl refl h.few
 node_grown link w (node.Apply o) h = operands_grown w w.slot _ h.slot (omega arith) h
 
 pub node_low : (link : Link) (w : Walk) (n : Node) → IsLow w → IsLow (with_node link w n)

@@ -1,6 +1,6 @@
 -- The code of a formula goes on where the formula's reading says.
-use Rattle.std.proofs.Common.{◌≡◌, ℕ, suc, ◌+◌, ◌-◌, ◌%◌, ◌^◌, ◌≤◌, List, ◌∷◌, length, Bool, true, false, Option, Some, None, refl, sym, ap, ◌∙◌, arith, ◌⊎◌, inl, inr}
-use Rattle.std.specs.Prelude.{◌≢◌, nat_le, nat_lt, not, ◌&&◌, if◌then◌else◌, bit_and}
+use Rattle.std.proofs.Common.{◌≡◌, ℕ, zero, suc, ◌+◌, ◌-◌, ◌/◌, ◌%◌, ◌^◌, ◌<◌, ◌≤◌, List, [], ◌∷◌, length, take, drop, get_or, Bool, true, false, Option, Some, None, refl, sym, ap, ◌∙◌, arith, ◌⊎◌, inl, inr}
+use Rattle.std.specs.Prelude.{◌≢◌, nat_le, nat_lt, ◌==◌, not, ◌&&◌, ◌||◌, if◌then◌else◌, bit_and}
 use Rattle.std.specs.Option.{option_map}
 use Rattle.std.proofs.lemmas.Bool.Decides.{nat_tests}
 use Rattle.flt_bpf.specs.declared.insn.Insn.{Insn}
@@ -14,10 +14,10 @@ use Rattle.flt_gen.specs.declared.elementary.Elementary.{Elementary}
 use Rattle.flt_gen.specs.Elementary.{network}
 use Rattle.flt_gen.specs.Numbers.{width_of}
 use Rattle.flt_gen.specs.declared.follow.Knowledge.{Knowledge}
-use Rattle.flt_gen.specs.Follow.{and_fork, fact, and_fact, target}
+use Rattle.flt_gen.specs.Follow.{and_fork, fact, always, and_fact, followed, target}
 use Rattle.flt_gen.specs.declared.elementary.Fact.{Fact}
 use Rattle.flt_gen.proofs.Exclusive.{Apt, excluded_no}
-use Rattle.flt_gen.proofs.Onward.{is_load, Leads, leads_on, Settles, Branches, MaskedBranches, Settled, FactHolds, KnowledgeHolds, Ready, LeadsReady, ready_anyhow, ready_on, target_leads}
+use Rattle.flt_gen.proofs.Onward.{is_load, Leads, leads_on, Settles, Branches, MaskedBranches, Settled, FactHolds, KnowledgeHolds, Ready, LeadsReady, ready_anyhow, ready_on, followed_leads, target_leads}
 use Rattle.flt_bpf.specs.declared.operation.Test.{Test}
 use Rattle.flt_bpf.specs.declared.operation.Test.TheVariants as test
 use Rattle.flt_bpf.specs.declared.operation.Operand.{Operand}
@@ -35,12 +35,15 @@ use Rattle.flt_bpf.specs.declared.operation.Register.TheVariants.{Accumulator, I
 use Rattle.flt_bpf.specs.Machine.{field, holds, value_of, into, header_length}
 use Rattle.flt_gen.specs.Elementary.{Reading, Yes, No, Rejected, reading_of, with, compares, field_at, masked, elementary_reads}
 use Rattle.flt_gen.specs.Numbers.{number}
-use Rattle.flt_gen.specs.Formula.{Formula, Single, Compare, Both, Either, Except, Guard, Fork, Choose, relation_reads, both, either, negated as exchanged, reads}
+use Rattle.flt_gen.specs.Formula.{Formula, Single, Compare, Both, Either, Except, Guard, Fork, Choose, Among, is_one_of, among_reads, relation_reads, both, either, negated as exchanged, reads}
 use Rattle.flt_lang.specs.Counts.{number_words}
 use Rattle.flt_gen.specs.Counts.{words}
-use Rattle.flt_gen.specs.Code.{plain, indirect_code, operator_code, test_code, base_before, transport_before, accessor_before, elementary_before, jump_before, branch_before, comparison_before, field_before, mask_before, test_before, operands_before, number_before, relation_before, Entered, emitted, NEAR}
+use Rattle.flt_gen.specs.Code.{plain, indirect_code, operator_code, test_code, base_before, transport_before, accessor_before, elementary_before, jump_before, branch_before, comparison_before, field_before, mask_before, test_before, operands_before, number_before, relation_before, Entered, at_top, chain_before, search_before, LEVELS, among_before, emitted, NEAR}
 use Rattle.flt_bpf.proofs.Suffix.{answer_of, answer_after}
-use Rattle.flt_gen.proofs.Tails.{Extends, extends_none, extends_put, extends_on, one_of_four, test_extends, relation_extends}
+use Rattle.flt_gen.proofs.Tails.{Extends, extends_none, extends_put, extends_on, branch_extends, field_extends, mask_extends, one_of_four, by_test, test_extends, relation_extends, search_extends}
+use Rattle.flt_gen.proofs.Ascending.{Ascending, Searchable, searchable_ascends, ascending_take, ascending_drop, lower_half, upper_half}
+use Rattle.flt_gen.specs.declared.elementary.MaskedField.{MaskedField}
+use Rattle.flt_bpf.proofs.Suffix.{answer_drop}
 use Rattle.flt_gen.proofs.Numbers.{TwoRuns, run_load, run_indirect, run_header, run_mask, run_jump, run_branch, number_runs, two_runs}
 
 -- one of two answers, by a reading; a rejected one ends the run with 0
@@ -97,6 +100,82 @@ module _ (p : List ℕ) (n : ℕ) where
 
       far : LeadsReady p n tested (jump_before miss c) hit v
       far = ready_on p n tested c (jump_before miss c) hit v lh (extends_put c c _ (extends_none c)) h
+
+  -- a conditional jump in a state in which its two ways have these answers
+  past_at : (c : List Insn) (i : Insn) (to v : ℕ) (s : State) → to ≤ length c → answer_of c p n (length c - to) s ≡ Some v → answer_of (i ∷ c) p n (length c + 1 - to) s ≡ Some v
+  past_at c i to v s l h = (let more : length c + 1 - to ≡ suc (length c - to) = omega arith in ap (λ k. answer_of (i ∷ c) p n k s) more) ∙ h
+
+  branch_at : (t : Test) (operand : Operand) (k hit miss v w : ℕ) (c : List Insn) (s : State) → hit ≤ length c → miss ≤ length c → answer_of c p n (length c - hit) s ≡ Some v → answer_of c p n (length c - miss) s ≡ Some w → answer_of (branch_before t operand k hit miss c) p n 0 s ≡ Some (if holds t s.accumulator (value_of operand k s.index) then v else w)
+  branch_at t operand k hit miss v w c s lh lm h m =
+      one_of_four Fine (nat_le (length c - hit) NEAR && nat_le (length c - miss) NEAR) (nat_le (length c + 1 - miss) NEAR) (nat_le (length c + 1 - hit) NEAR) _ _ _ _
+      (run_branch p n t operand k (length c - hit) (length c - miss) c s ∙ two_ways c _ _ v w s truth h m)
+      (run_branch p n t operand k 0 (length c + 1 - miss) (jump_before hit c) s ∙ two_ways (jump_before hit c) _ _ v w s truth (run_jump p n (length c - hit) c s ∙ h) (past_at c _ miss w s lm m))
+      (run_branch p n t operand k (length c + 1 - hit) 0 (jump_before miss c) s ∙ two_ways (jump_before miss c) _ _ v w s truth (past_at c _ hit v s lh h) (run_jump p n (length c - miss) c s ∙ m))
+      (run_branch p n t operand k 0 1 (jump_before hit (jump_before miss c)) s ∙ two_ways (jump_before hit (jump_before miss c)) _ _ v w s truth (run_jump p n (length (jump_before miss c) - hit) (jump_before miss c) s ∙ far) (run_jump p n (length c - miss) c s ∙ m))
+    where
+      truth : Bool
+      truth = holds t s.accumulator (value_of operand k s.index)
+
+      Fine : List Insn → Type 0
+      Fine d = answer_of d p n 0 s ≡ Some (if truth then v else w)
+
+      far : answer_of (jump_before miss c) p n (length (jump_before miss c) - hit) s ≡ Some v
+      far = (let one : length (jump_before miss c) - hit ≡ length c + 1 - hit = omega arith in ap (λ k. answer_of (jump_before miss c) p n k s) one) ∙ past_at c (plain 5 (length c - miss)) hit v s lh h
+
+  -- a longer code has the same answer from the places of the shorter
+  same_at : (c d : List Insn) (place v : ℕ) (s : State) → place ≤ length c → Extends c d → answer_of c p n (length c - place) s ≡ Some v → answer_of d p n (length d - place) s ≡ Some v
+  same_at c d place v s l e h =
+      sym (answer_drop d p n (length d - place) s) ∙ ap (λ is. answer_of is p n 0 s) (e.same place l) ∙ answer_drop c p n (length c - place) s ∙ h
+
+  -- code that is entered in a state, and its answer there
+  record Answers (e : Entered) (c : List Insn) (s : State) (v : ℕ) : Type 0 where
+    inside : e.entry ≤ length e.code
+    extends : Extends c e.code
+    by : answer_of e.code p n (length e.code - e.entry) s ≡ Some v
+
+  answers_top : (c d : List Insn) (s : State) (v : ℕ) → Extends c d → answer_of d p n 0 s ≡ Some v → Answers (at_top d) c s v
+  answers_top c d s v x h = record { inside = omega arith; extends = x; by = (let none : length d - length d ≡ 0 = omega arith in ap (λ k. answer_of d p n k s) none) ∙ h }
+
+  or_else : (a b : Bool) (v w : ℕ) → (if a then v else (if b then v else w)) ≡ (if (a || b) then v else w)
+  or_else true b v w = refl
+  or_else false b v w = refl
+
+  chain_answers : (vs : List ℕ) (hit miss v w : ℕ) (c : List Insn) (s : State) → hit ≤ length c → miss ≤ length c → answer_of c p n (length c - hit) s ≡ Some v → answer_of c p n (length c - miss) s ≡ Some w → Answers (chain_before vs hit miss c) c s (if is_one_of s.accumulator vs then v else w)
+  chain_answers [] hit miss v w c s lh lm h m = record { inside = lm; extends = extends_none c; by = m }
+  chain_answers (x ∷ vs) hit miss v w c s lh lm h m =
+      let e = chain_before vs hit miss c in
+      let r = chain_answers vs hit miss v w c s lh lm h m in
+      let lh' : hit ≤ length e.code = omega (arith, r.extends.longer) in
+      answers_top c _ s _ (extends_on c e.code _ r.extends (branch_extends test.Equal Constant x hit e.entry e.code))
+      (branch_at test.Equal Constant x hit e.entry v _ e.code s lh' r.inside (same_at c e.code hit v s lh r.extends h) r.by
+      ∙ ap Some (or_else (s.accumulator == x) (is_one_of s.accumulator vs) v w))
+
+  halves_are : (a h : ℕ) (vs : List ℕ) (v w : ℕ) → Ascending vs → h < length vs → (b : Bool) → nat_le (get_or vs h 0) a ≡ b → (if b then (if is_one_of a (drop h vs) then v else w) else (if is_one_of a (take h vs) then v else w)) ≡ (if is_one_of a vs then v else w)
+  halves_are a h vs v w up l true e =
+      let m : get_or vs h 0 ≤ a = grind (arith, nat_tests) in
+      ap (λ b. if b then v else w) (sym (upper_half a h vs up l m))
+  halves_are a h vs v w up l false e =
+      let m : a < get_or vs h 0 = grind (arith, nat_tests) in
+      ap (λ b. if b then v else w) (sym (lower_half a h vs up l m))
+
+  search_answers : (k : ℕ) (vs : List ℕ) (hit miss v w : ℕ) (c : List Insn) (s : State) → Ascending vs → hit ≤ length c → miss ≤ length c → answer_of c p n (length c - hit) s ≡ Some v → answer_of c p n (length c - miss) s ≡ Some w → Answers (search_before k vs hit miss c) c s (if is_one_of s.accumulator vs then v else w)
+  unfolding search_before
+  search_answers zero vs hit miss v w c s up lh lm h m = chain_answers vs hit miss v w c s lh lm h m
+  search_answers (suc k) vs hit miss v w c s up lh lm h m =
+      let half = length vs / 2 in
+      let upper = search_before k (drop half vs) hit miss c in
+      let lower = search_before k (take half vs) hit miss upper.code in
+      let ru = search_answers k (drop half vs) hit miss v w c s (ascending_drop half vs up) lh lm h m in
+      let lh' : hit ≤ length upper.code = omega (arith, ru.extends.longer) in
+      let lm' : miss ≤ length upper.code = omega (arith, ru.extends.longer) in
+      let rl = search_answers k (take half vs) hit miss v w upper.code s (ascending_take half vs up) lh' lm' (same_at c upper.code hit v s lh ru.extends h) (same_at c upper.code miss w s lm ru.extends m) in
+      let lu : upper.entry ≤ length lower.code = (let i = ru.inside in omega (arith, rl.extends.longer)) in
+      by_test (λ (e : Entered). Answers e c s (if is_one_of s.accumulator vs then v else w)) (nat_lt (length vs) 2) _ _
+      (λ few. chain_answers vs hit miss v w c s lh lm h m)
+      (λ many. let two : 2 ≤ length vs = grind (arith, nat_tests) in
+      answers_top c _ s _ (extends_on c upper.code _ ru.extends (extends_on upper.code lower.code _ rl.extends (branch_extends test.AtLeast Constant (get_or vs half 0) upper.entry lower.entry lower.code)))
+      (branch_at test.AtLeast Constant (get_or vs half 0) upper.entry lower.entry _ _ lower.code s lu rl.inside (same_at upper.code lower.code upper.entry _ s ru.inside rl.extends ru.by) rl.by
+      ∙ ap Some (halves_are s.accumulator half vs v w up (omega arith) (nat_le (get_or vs half 0) s.accumulator) refl)))
 
   -- the machine's three tests and the six comparisons
   exchanged_if : (a b : Bool) (v w : ℕ) → b ≡ not a → (if a then w else v) ≡ (if b then v else w)
@@ -281,6 +360,42 @@ module _ (p : List ℕ) (n : ℕ) where
   field_settled (Past header a) k hit miss v w c lh lm z h m =
       settled_put _ _ refl (settled_put _ _ (indirect_no_load k.width) (mask_settled k.mask _ (comparison_settled k.comparison Constant k.value hit miss c z)))
 
+  chain_settled : (vs : List ℕ) (hit miss : ℕ) (c : List Insn) → Calm c → Calm (chain_before vs hit miss c).code
+  chain_settled [] hit miss c z = z
+  chain_settled (v ∷ vs) hit miss c z = branch_settled test.Equal Constant v hit _ _ (chain_settled vs hit miss c z)
+
+  search_settled : (k : ℕ) (vs : List ℕ) (hit miss : ℕ) (c : List Insn) → Calm c → Calm (search_before k vs hit miss c).code
+  unfolding search_before
+  search_settled zero vs hit miss c z = chain_settled vs hit miss c z
+  search_settled (suc k) vs hit miss c z =
+      let half = length vs / 2 in
+      let upper = search_before k (drop half vs) hit miss c in
+      by_test (λ (e : Entered). Calm e.code) (nat_lt (length vs) 2) _ _
+      (λ e. chain_settled vs hit miss c z)
+      (λ e. branch_settled test.AtLeast Constant (get_or vs half 0) _ _ _ (search_settled k (take half vs) hit miss upper.code (search_settled k (drop half vs) hit miss c z)))
+
+  -- a test that isn't one for equality
+  other_behind : (k hit miss : ℕ) (c : List Insn) → Behind (branch_before test.AtLeast Constant k hit miss c)
+  other_behind k hit miss c =
+      one_of_four (λ d. Behind d) (nat_le (length c - hit) NEAR && nat_le (length c - miss) NEAR) (nat_le (length c + 1 - miss) NEAR) (nat_le (length c + 1 - hit) NEAR) _ _ _ _
+      (record { branches = λ e. absurd (omega arith); masked = λ e. absurd (omega arith) })
+      (record { branches = λ e. absurd (omega arith); masked = λ e. absurd (omega arith) })
+      (record { branches = λ e. absurd (omega arith); masked = λ e. absurd (omega arith) })
+      (record { branches = λ e. absurd (omega arith); masked = λ e. absurd (omega arith) })
+
+  -- of several numbers the first test is one of their order
+  search_behind : (k : ℕ) (vs : List ℕ) (hit miss v w : ℕ) (c : List Insn) → Searchable vs → hit ≤ length c → miss ≤ length c → Leads p n c hit v → Leads p n c miss w → Behind (search_before (suc k) vs hit miss c).code
+  unfolding search_before
+  search_behind k [] hit miss v w c h lh lm a b = absurd h
+  search_behind k (x ∷ []) hit miss v w c h lh lm a b = branch_behind test.Equal Constant x hit miss v w c lh lm a b
+  search_behind k (x ∷ y ∷ vs) hit miss v w c h lh lm a b =
+      let half = length (x ∷ y ∷ vs) / 2 in
+      let upper = search_before k (drop half (x ∷ y ∷ vs)) hit miss c in
+      let lower = search_before k (take half (x ∷ y ∷ vs)) hit miss upper.code in
+      by_test (λ (e : Entered). Behind e.code) (nat_lt (length (x ∷ y ∷ vs)) 2) _ _
+      (λ few. absurd (let no : length (x ∷ y ∷ vs) < 2 = grind (arith, nat_tests) in omega arith))
+      (λ many. other_behind (get_or (x ∷ y ∷ vs) half 0) upper.entry lower.entry lower.code)
+
   base_settled : (at : ℕ) (w : Width) (c : List Insn) → Calm c → Calm (base_before at w c)
   base_settled at w c h = settled_put _ _ refl (settled_put c _ (indirect_no_load w) h)
 
@@ -358,6 +473,53 @@ module _ (p : List ℕ) (n : ℕ) where
         leads = leads_top (test_before k hit' miss' c) _ (λ s long. field_runs k.place k hit' miss' th.v tm.v c s long th.inside tm.inside th.leads tm.leads);
         right = λ known_holds. pick_same (elementary_reads (Field k) p) th.v tm.v v w (λ e. th.right known_holds e) (λ e. tm.right known_holds e);
       }
+
+  -- several numbers' code is entered at its top
+  search_top : (k : ℕ) (vs : List ℕ) (hit miss : ℕ) (c : List Insn) → Searchable vs → 0 ≡ length (search_before (suc k) vs hit miss c).code - (search_before (suc k) vs hit miss c).entry
+  unfolding search_before
+  search_top k [] hit miss c h = absurd h
+  search_top k (x ∷ []) hit miss c h = omega arith
+  search_top k (x ∷ y ∷ vs) hit miss c h =
+      by_test (λ (e : Entered). 0 ≡ length e.code - e.entry) (nat_lt (length (x ∷ y ∷ vs)) 2) _ _
+      (λ few. absurd (let no : length (x ∷ y ∷ vs) < 2 = grind (arith, nat_tests) in omega arith))
+      (λ many. omega arith)
+
+  -- a field that is looked for among numbers
+  picks_one : (o : Option ℕ) (f : MaskedField) (vs : List ℕ) (d : List Insn) (s : State) (v w : ℕ) → ((x : ℕ) → answer_of d p n 0 (record s { accumulator = masked f.mask x }) ≡ Some (if is_one_of (masked f.mask x) vs then v else w)) → answer_after (answer_of (mask_before f.mask d) p n) (into Accumulator o s) ≡ Some (pick (reading_of (with o (λ x. Some (is_one_of (masked f.mask x) vs)))) v w)
+  picks_one None f vs d s v w h = refl
+  picks_one (Some x) f vs d s v w h = masks f.mask ∙ h x ∙ ap Some (reading_picks (is_one_of (masked f.mask x) vs) v w)
+    where
+      masks : (mask : Option ℕ) → answer_of (mask_before mask d) p n 0 (record s { accumulator = x }) ≡ answer_of d p n 0 (record s { accumulator = masked mask x })
+      masks None = refl
+      masks (Some mask) = run_mask p n mask d (record s { accumulator = x })
+
+  among_works : (known : Knowledge) (f : MaskedField) (vs : List ℕ) (hit miss v w : ℕ) (c : List Insn) → Searchable vs → hit ≤ length c → miss ≤ length c → Calm c → Leads p n c hit v → Leads p n c miss w → Works (among_before known f vs hit miss c) c known (pick (among_reads f vs p) v w)
+  among_works known f vs hit miss v w c up lh lm z h m =
+      let th = followed_leads p n c known always v hit z.by lh h in
+      let tm = followed_leads p n c known always w miss z.by lm m in
+      let hit' = followed c known always hit in
+      let miss' = followed c known always miss in
+      let e = search_before LEVELS vs hit' miss' c in
+      let behind = mask_behind f.mask _ (search_behind 15 vs hit' miss' th.v tm.v c up th.inside tm.inside th.leads tm.leads) in
+      let z' = mask_settled f.mask _ (search_settled LEVELS vs hit' miss' c z) in
+      record {
+        inside = omega arith;
+        extends = field_extends (At f.at) f.width c _ (mask_extends f.mask c _ (search_extends LEVELS vs hit' miss' c));
+        settled = record { by = (λ e. (behind.branches, behind.masked), z'.by) };
+        u = pick (among_reads f vs p) th.v tm.v;
+        leads = leads_top (field_before (At f.at) f.width (mask_before f.mask e.code)) _ (λ s long.
+            run_load p n f.width f.at (mask_before f.mask e.code) s
+            ∙ picks_one (field p f.at f.width) f vs e.code s th.v tm.v (λ x. found (record s { accumulator = masked f.mask x }) long));
+        right = λ k. pick_same (among_reads f vs p) th.v tm.v v w (λ y. th.right k refl) (λ y. tm.right k refl);
+      }
+    where
+      found : (s : State) → length s.memory ≡ 16 → answer_of (search_before LEVELS vs (followed c known always hit) (followed c known always miss) c).code p n 0 s ≡ Some (if is_one_of s.accumulator vs then (followed_leads p n c known always v hit z.by lh h).v else (followed_leads p n c known always w miss z.by lm m).v)
+      found s long =
+          let th = followed_leads p n c known always v hit z.by lh h in
+          let tm = followed_leads p n c known always w miss z.by lm m in
+          let e = search_before LEVELS vs (followed c known always hit) (followed c known always miss) c in
+          let r = search_answers LEVELS vs (followed c known always hit) (followed c known always miss) th.v tm.v c s (searchable_ascends vs up) th.inside tm.inside (th.leads.by s long) (tm.leads.by s long) in
+          (let none : 0 ≡ length e.code - e.entry = search_top 15 vs _ _ c up in ap (λ k. answer_of e.code p n k s) none) ∙ r.by
 
   pub emitted_works : (link : Link) (known : Knowledge) (f : Formula) (hit miss v w : ℕ) (c : List Insn) → words f ≤ 16 → Apt p f → hit ≤ length c → miss ≤ length c → Calm c → Leads p n c hit v → Leads p n c miss w → Works (emitted link known f hit miss c) c known (pick (reads link f p n) v w)
   emitted_works link known (Single t) hit miss v w c few apt lh lm z h m = elementary_works known t hit miss v w c lh lm z h m
@@ -460,3 +622,4 @@ module _ (p : List ℕ) (n : ℕ) where
             (λ y. wa.right (knows (fact t true) known k y))
             (λ y. wb.right (knows (fact t false) known k y));
       }
+  emitted_works link known (Among f vs) hit miss v w c few apt lh lm z h m = among_works known f vs hit miss v w c apt lh lm z h m

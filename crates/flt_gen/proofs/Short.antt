@@ -1,6 +1,6 @@
 -- A short formula's code has no jump.
-use Rattle.std.proofs.Common.{◌≡◌, ℕ, zero, suc, ◌+◌, ◌-◌, ◌*◌, ◌≤◌, List, ◌∷◌, length, true, false, Option, Some, None, refl, sym, subst, arith}
-use Rattle.std.specs.Prelude.{◌≢◌, nat_le, All}
+use Rattle.std.proofs.Common.{◌≡◌, ℕ, zero, suc, ◌+◌, ◌-◌, ◌*◌, ◌/◌, ◌≤◌, List, [], ◌∷◌, length, take, drop, get_or, true, false, Option, Some, None, refl, sym, subst, arith, length-drop, length-take}
+use Rattle.std.specs.Prelude.{◌≢◌, nat_le, nat_lt, All}
 use Rattle.std.proofs.lemmas.Bool.Decides.{nat_tests}
 use Rattle.flt_bpf.specs.declared.insn.Insn.{Insn}
 use Rattle.flt_bpf.specs.declared.operation.Width.{Width}
@@ -19,14 +19,15 @@ use Rattle.flt_gen.specs.declared.elementary.Place.TheVariants.{At, Past}
 use Rattle.flt_gen.specs.declared.elementary.Elementary.TheVariants.{Known, Field}
 use Rattle.flt_gen.specs.Elementary.{network}
 use Rattle.flt_gen.specs.Numbers.{width_of}
-use Rattle.flt_gen.specs.Formula.{Formula, Single, Compare, Both, Either, Except, Guard, Fork, Choose}
+use Rattle.flt_gen.specs.Formula.{Formula, Single, Compare, Both, Either, Except, Guard, Fork, Choose, Among}
 use Rattle.flt_lang.specs.Counts.{number_size}
 use Rattle.flt_gen.specs.Counts.{nodes, tests}
-use Rattle.flt_gen.specs.Code.{plain, branch_insn, branch_before, comparison_before, field_before, mask_before, base_before, transport_before, accessor_before, number_before, elementary_before, fork_before, emitted, NEAR}
+use Rattle.flt_gen.specs.Code.{plain, branch_insn, branch_before, comparison_before, field_before, mask_before, base_before, transport_before, accessor_before, number_before, Entered, chain_before, search_before, LEVELS, elementary_before, fork_before, emitted, NEAR}
 use Rattle.flt_gen.specs.declared.follow.Knowledge.{Knowledge}
-use Rattle.flt_gen.specs.Follow.{and_fork, fact, and_fact}
+use Rattle.flt_gen.specs.Follow.{and_fork, fact, always, and_fact, followed}
 use Rattle.flt_gen.specs.declared.elementary.Elementary.{Elementary}
 use Rattle.flt_gen.specs.Layout.{JUMP}
+use Rattle.flt_gen.proofs.Tails.{by_test}
 use Rattle.flt_gen.proofs.Far.{load_no_jump, indirect_no_jump, operator_no_jump, branch_no_jump}
 
 -- code d without a jump, at most m instructions longer than code c
@@ -70,6 +71,34 @@ comparison_slim Less o k hit miss c l n = branch_slim test.AtLeast o k miss hit 
 comparison_slim AtMost o k hit miss c l n = branch_slim test.Greater o k miss hit c l n
 comparison_slim Greater o k hit miss c l n = branch_slim test.Greater o k hit miss c l n
 comparison_slim AtLeast o k hit miss c l n = branch_slim test.AtLeast o k hit miss c l n
+
+chain_slim : (vs : List ℕ) (hit miss : ℕ) (c : List Insn) → length c + length vs ≤ 256 → All (λ i. i.code ≢ JUMP) c → Slim c (chain_before vs hit miss c).code (length vs)
+chain_slim [] hit miss c l n = record { none = n; longer = omega arith; shorter = omega arith }
+chain_slim (v ∷ vs) hit miss c l n =
+    let e = chain_before vs hit miss c in
+    let s = chain_slim vs hit miss c (omega arith) n in
+    let t = branch_slim test.Equal Constant v hit e.entry e.code (omega (arith, s.shorter)) s.none in
+    record { none = t.none; longer = omega (arith, t.longer, s.longer); shorter = omega (arith, t.shorter, s.shorter) }
+
+chain_short : (vs : List ℕ) (hit miss : ℕ) (c : List Insn) → length c + (1 + 2 * (length vs - 1)) ≤ 256 → All (λ i. i.code ≢ JUMP) c → Slim c (chain_before vs hit miss c).code (1 + 2 * (length vs - 1))
+chain_short vs hit miss c l n = slim_more c _ (length vs) _ (omega arith) (chain_slim vs hit miss c (omega arith) n)
+
+search_slim : (k : ℕ) (vs : List ℕ) (hit miss : ℕ) (c : List Insn) → length c + (1 + 2 * (length vs - 1)) ≤ 256 → All (λ i. i.code ≢ JUMP) c → Slim c (search_before k vs hit miss c).code (1 + 2 * (length vs - 1))
+unfolding search_before
+search_slim zero vs hit miss c l n = chain_short vs hit miss c l n
+search_slim (suc k) vs hit miss c l n =
+    let h = length vs / 2 in
+    let a = length-drop h vs in
+    let b = length-take h vs in
+    let upper = search_before k (drop h vs) hit miss c in
+    let lower = search_before k (take h vs) hit miss upper.code in
+    by_test (λ (e : Entered). Slim c e.code (1 + 2 * (length vs - 1))) (nat_lt (length vs) 2) _ _
+    (λ e. chain_short vs hit miss c l n)
+    (λ e. let two : 2 ≤ length vs = grind (arith, nat_tests) in
+    let su = search_slim k (drop h vs) hit miss c (omega arith) n in
+    let sl = search_slim k (take h vs) hit miss upper.code (omega (arith, su.shorter)) su.none in
+    let t = branch_slim test.AtLeast Constant (get_or vs h 0) upper.entry lower.entry lower.code (omega (arith, su.shorter, sl.shorter)) sl.none in
+    record { none = t.none; longer = omega (arith, t.longer, sl.longer, su.longer); shorter = omega (arith, t.shorter, sl.shorter, su.shorter) })
 
 base_slim : (at : ℕ) (w : Width) (c d : List Insn) (m : ℕ) → Slim c d m → Slim c (base_before at w d) (m + 4)
 base_slim at w c d m s = slim_put c _ (m + 1) (m + 4) _ (slim_put c d m (m + 1) _ s (indirect_no_jump w) (omega arith)) (λ e. absurd (omega arith)) (omega arith)
@@ -151,3 +180,6 @@ emitted_slim link known (Choose t a b) hit miss c l n =
     let sa = emitted_slim link (and_fact (fact t true) known) a hit miss e.code (omega (arith, sb.shorter)) sb.none in
     let st = elementary_slim known t d.entry e.entry d.code (omega (arith, sa.shorter, sb.shorter)) sa.none in
     record { none = st.none; longer = omega (arith, st.longer, sa.longer, sb.longer); shorter = omega (arith, st.shorter, sa.shorter, sb.shorter) }
+emitted_slim link known (Among f vs) hit miss c l n =
+    let s = search_slim LEVELS vs (followed c known always hit) (followed c known always miss) c (omega arith) n in
+    slim_more c _ (1 + 2 * (length vs - 1) + 1 + 2) _ (omega arith) (field_slim (At f.at) f.width c _ (1 + 2 * (length vs - 1) + 1) (mask_slim f.mask c _ (1 + 2 * (length vs - 1)) s))

@@ -1,6 +1,6 @@
 -- Code that grew in front still stands at its end.
-use Rattle.std.proofs.Common.{◌≡◌, ℕ, suc, ◌+◌, ◌-◌, ◌≤◌, List, [], ◌∷◌, length, drop, Bool, true, false, Option, Some, None, refl, ap, ◌∙◌, arith}
-use Rattle.std.specs.Prelude.{nat_le, ◌&&◌, if◌then◌else◌}
+use Rattle.std.proofs.Common.{◌≡◌, ℕ, zero, suc, ◌+◌, ◌-◌, ◌/◌, ◌≤◌, List, [], ◌∷◌, length, take, drop, get_or, Bool, true, false, Option, Some, None, refl, ap, ◌∙◌, arith}
+use Rattle.std.specs.Prelude.{nat_le, nat_lt, ◌&&◌, if◌then◌else◌}
 use Rattle.flt_bpf.specs.declared.insn.Insn.{Insn}
 use Rattle.flt_bpf.specs.declared.operation.Width.{Width}
 use Rattle.flt_bpf.specs.declared.operation.Test.{Test}
@@ -20,10 +20,15 @@ use Rattle.flt_gen.specs.declared.elementary.Elementary.{Elementary}
 use Rattle.flt_gen.specs.declared.elementary.Elementary.TheVariants.{Known, Field}
 use Rattle.flt_gen.specs.Elementary.{network}
 use Rattle.flt_gen.specs.Numbers.{width_of, accessor_tests}
-use Rattle.flt_gen.specs.Formula.{Formula, Single, Compare, Both, Either, Except, Guard, Fork, Choose}
-use Rattle.flt_gen.specs.Code.{plain, branch_before, comparison_before, field_before, mask_before, test_before, accessor_before, number_before, relation_before, elementary_before, fork_before, emitted, all_before, accessors_before, base_before, transport_before, NEAR}
+use Rattle.flt_gen.specs.Formula.{Formula, Single, Compare, Both, Either, Except, Guard, Fork, Choose, Among}
+use Rattle.flt_gen.specs.Code.{plain, branch_before, comparison_before, field_before, mask_before, test_before, accessor_before, number_before, relation_before, Entered, chain_before, search_before, LEVELS, elementary_before, fork_before, emitted, all_before, accessors_before, base_before, transport_before, NEAR}
 use Rattle.flt_gen.specs.declared.follow.Knowledge.{Knowledge}
-use Rattle.flt_gen.specs.Follow.{and_fork, fact, nothing, and_fact}
+use Rattle.flt_gen.specs.Follow.{and_fork, fact, always, nothing, and_fact, followed}
+
+-- by a test
+pub by_test : {A : Type 0} (P : A → Type 0) (b : Bool) (x y : A) → (b ≡ true → P x) → (b ≡ false → P y) → P (if b then x else y)
+by_test P true x y t f = t refl
+by_test P false x y t f = f refl
 
 -- the code from a place on
 abbrev pub tail : List Insn → ℕ → List Insn
@@ -116,6 +121,23 @@ fork_extends known t u hit miss c =
     let e = elementary_before (and_fact (fact t false) known) u hit miss c in
     extends_on c e.code _ (elementary_extends (and_fact (fact t false) known) u hit miss c) (elementary_extends known t hit e.entry e.code)
 
+chain_extends : (vs : List ℕ) (hit miss : ℕ) (c : List Insn) → Extends c (chain_before vs hit miss c).code
+chain_extends [] hit miss c = extends_none c
+chain_extends (v ∷ vs) hit miss c =
+    let e = chain_before vs hit miss c in
+    extends_on c e.code _ (chain_extends vs hit miss c) (branch_extends test.Equal Constant v hit e.entry e.code)
+
+pub search_extends : (k : ℕ) (vs : List ℕ) (hit miss : ℕ) (c : List Insn) → Extends c (search_before k vs hit miss c).code
+unfolding search_before
+search_extends zero vs hit miss c = chain_extends vs hit miss c
+search_extends (suc k) vs hit miss c =
+    let h = length vs / 2 in
+    let upper = search_before k (drop h vs) hit miss c in
+    let lower = search_before k (take h vs) hit miss upper.code in
+    by_test (λ (e : Entered). Extends c e.code) (nat_lt (length vs) 2) _ _
+    (λ e. chain_extends vs hit miss c)
+    (λ e. extends_on c upper.code _ (search_extends k (drop h vs) hit miss c) (extends_on upper.code lower.code _ (search_extends k (take h vs) hit miss upper.code) (branch_extends test.AtLeast Constant (get_or vs h 0) upper.entry lower.entry lower.code)))
+
 pub relation_extends : (link : Link) (comparison : Comparison) (l r : NumberTree) (hit miss : ℕ) (c : List Insn) → Extends c (relation_before link comparison l r hit miss c)
 relation_extends link comparison l r hit miss c =
     number_extends link l 0 c _ (extends_put c _ _ (number_extends link r 1 c _ (extends_put c _ _ (extends_put c _ _ (comparison_extends comparison IndexRegister 0 hit miss c)))))
@@ -138,6 +160,8 @@ emitted_extends link known (Choose t a b) hit miss c =
     let e = emitted link (and_fact (fact t false) known) b hit miss c in
     let d = emitted link (and_fact (fact t true) known) a hit miss e.code in
     extends_on c e.code _ (emitted_extends link (and_fact (fact t false) known) b hit miss c) (extends_on e.code d.code _ (emitted_extends link (and_fact (fact t true) known) a hit miss e.code) (elementary_extends known t d.entry e.entry d.code))
+emitted_extends link known (Among f vs) hit miss c =
+    field_extends (At f.at) f.width c _ (mask_extends f.mask c _ (search_extends LEVELS vs (followed c known always hit) (followed c known always miss) c))
 
 pub all_extends : (known : Knowledge) (ts : List Elementary) (hit miss : ℕ) (c : List Insn) → Extends c (all_before known ts hit miss c).code
 all_extends known [] hit miss c = extends_none c

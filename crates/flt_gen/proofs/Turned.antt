@@ -60,6 +60,7 @@ last_node link ns m other w some within =
 -- the walk so far has room, and so has the next node
 pub record HasRoom (link : Link) (w : Walk) (n : Node) : Type 0 where
   pub few : w.slot ≤ 32768
+  pub some : length w.hosts.addresses ≤ 4096
   pub before : length w.code ≤ 32768
   pub after : length (with_node link w n).code ≤ 32768
 
@@ -72,4 +73,4 @@ has_room link ns m other w some within low same room =
     let r = walked_longer link v (reverse (take (m - 1) ns)) (node_low link w n low) in
     let q : length (walked link v (reverse (take (m - 1) ns))).code ≡ length (walked link start (reverse ns)).code = ap (λ (x : Walk). length x.code) whole in
     let s = low.slot in
-    record { few = omega arith; before = omega arith; after = omega arith }
+    record { few = omega arith; some = low.few; before = omega arith; after = omega arith }

@@ -8,14 +8,14 @@ use Rattle.flt_bpf.specs.Instructions.{operation_of}
 use Rattle.flt_bpf.specs.Machine.{step, start}
 use Rattle.flt_bpf.specs.Check.{fault_of, ends_in_return}
 use Rattle.flt_bpf.specs.Valid.{IsValid}
-use Rattle.flt_lang.specs.Tree.{Expression, empty, truth}
-use Rattle.flt_lang.specs.Counts.{words_of, bound_of}
-use Rattle.flt_lang.specs.Resolved.{is_unfilled, some_primitive}
+use Rattle.flt_lang.specs.Tree.{TruthTree, Expression, empty, truth}
+use Rattle.flt_lang.specs.Counts.{words_of, bound_of, truth_tests, truth_size}
+use Rattle.flt_lang.specs.Resolved.{is_unfilled, any_primitive, some_primitive}
 use Rattle.flt_gen.specs.declared.link.Link.{Link}
 use Rattle.flt_gen.specs.declared.elementary.Elementary.TheVariants.{Known}
 use Rattle.flt_gen.specs.Elementary.{Reading, Yes, No, Rejected}
 use Rattle.flt_gen.specs.Formula.{Formula, Single, reads}
-use Rattle.flt_gen.specs.Reading.{formula, holds}
+use Rattle.flt_gen.specs.Reading.{holds}
 use Rattle.flt_gen.specs.Counts.{words, tests, nodes, short_bound_of}
 use Rattle.flt_gen.specs.Follow.{nothing}
 use Rattle.flt_gen.specs.Code.{plain, emitted, Entered, returns_code, expression_code, from_entry, program_code}
@@ -28,20 +28,22 @@ use Rattle.flt_gen.proofs.Runs.{pick, emitted_works}
 use Rattle.flt_gen.proofs.Far.{emitted_needed}
 use Rattle.flt_gen.proofs.Short.{emitted_slim, all_put}
 use Rattle.flt_gen.proofs.Grows.{Sits, emitted_sits}
-use Rattle.flt_gen.proofs.Counted.{tests_fit, nodes_fit, words_fit, formula_apt}
+use Rattle.flt_gen.proofs.Counted.{nodes_fit, words_fit}
+use Rattle.flt_gen.specs.Hosts.{no_hosts, grouped}
+use Rattle.flt_gen.proofs.Grouping.{kept_none, grouped_stands}
 
--- the empty expression as a formula, which has no code either
+-- the empty expression as a formula, which has no code either; hosts are looked for together
 abbrev pub formula_of : Link → Expression → Formula
 formula_of link empty = Single (Known true)
-formula_of link (truth a) = formula link a
+formula_of link (truth a) = grouped link no_hosts a
 
 code_of : (link : Link) (e : Expression) → emitted link nothing (formula_of link e) 2 1 returns_code ≡ expression_code link e
 code_of link empty = refl
 code_of link (truth a) = refl
 
-reads_of : (link : Link) (e : Expression) (p : List ℕ) (n : ℕ) → reads link (formula_of link e) p n ≡ holds e link p n
-reads_of link empty p n = refl
-reads_of link (truth a) p n = refl
+reads_of : (link : Link) (e : Expression) → some_primitive is_unfilled e ≡ false → (p : List ℕ) (n : ℕ) → reads link (formula_of link e) p n ≡ holds e link p n
+reads_of link empty filled p n = refl
+reads_of link (truth a) filled p n = (grouped_stands link a no_hosts kept_none filled).reads_are p n
 
 returns_sound : IsFaultless returns_code
 unfolding fault_of operation_of
@@ -70,23 +72,31 @@ pick_right Rejected = (λ h. absurd (h refl), λ e. cc)
 entry_length : (e : Entered) → e.entry ≤ length e.code → length (from_entry e) ≡ e.entry
 entry_length e l = omega (arith, length-drop (length e.code - e.entry) e.code)
 
+few_words : (link : Link) (e : Expression) → some_primitive is_unfilled e ≡ false → words_of e ≤ 16 → words (formula_of link e) ≤ 16
+few_words link empty filled h = omega arith
+few_words link (truth a) filled h =
+    let w = (grouped_stands link a no_hosts kept_none filled).words_are in omega (arith, words_fit link a)
+
+-- the counts of an expression's formula
+tests_of_formula : (link : Link) (a : TruthTree) → any_primitive is_unfilled a ≡ false → tests (grouped link no_hosts a) ≤ truth_tests a
+tests_of_formula link a filled = let t = (grouped_stands link a no_hosts kept_none filled).tests_fit in omega arith
+
+nodes_of_formula : (link : Link) (a : TruthTree) → any_primitive is_unfilled a ≡ false → nodes (grouped link no_hosts a) ≡ truth_size a
+nodes_of_formula link a filled = (grouped_stands link a no_hosts kept_none filled).nodes_are ∙ nodes_fit link a
+
 -- how the code of an expression sits on the two returns
-sits : (link : Link) (e : Expression) → words_of e ≤ 16 → Sits (expression_code link e) returns_code (6 * (tests (formula_of link e) + nodes (formula_of link e)))
-sits link e few =
+sits : (link : Link) (e : Expression) → some_primitive is_unfilled e ≡ false → words_of e ≤ 16 → Sits (expression_code link e) returns_code (6 * (tests (formula_of link e) + nodes (formula_of link e)))
+sits link e filled few =
     let f = formula_of link e in
-    let w : words f ≤ 16 = words_of_formula e few in
+    let w : words f ≤ 16 = few_words link e filled few in
     subst (λ (x : Entered). Sits x returns_code (6 * (tests f + nodes f))) (code_of link e) (emitted_sits link nothing f 2 1 returns_code w returns_sound returns_end (omega arith) (omega arith) (omega arith) (omega arith))
-  where
-    words_of_formula : (e : Expression) → words_of e ≤ 16 → words (formula_of link e) ≤ 16
-    words_of_formula empty few = omega arith
-    words_of_formula (truth a) few = omega (arith, words_fit link a)
 
 short_code : (link : Link) (e : Expression) → some_primitive is_unfilled e ≡ false → words_of e ≤ 16 → length (from_entry (expression_code link e)) ≤ bound_of e
 short_code link empty filled few = omega arith
 short_code link (truth a) filled few =
-    let s = sits link (truth a) few in
+    let s = sits link (truth a) filled few in
     let n = entry_length (expression_code link (truth a)) s.inside in
-    omega (arith, n, s.inside, s.grows.shorter, tests_fit link a filled, nodes_fit link a)
+    omega (arith, n, s.inside, s.grows.shorter, tests_of_formula link a filled, nodes_of_formula link a filled)
 
 -- the code of an expression is no longer than its bound, and its entry is inside
 pub record Fits (link : Link) (e : Expression) : Type 0 where
@@ -96,13 +106,13 @@ pub record Fits (link : Link) (e : Expression) : Type 0 where
 pub code_fits : (link : Link) (e : Expression) → some_primitive is_unfilled e ≡ false → words_of e ≤ 16 → bound_of e ≤ 32768 → Fits link e
 code_fits link empty filled few short = record { room = omega arith; inside = omega arith }
 code_fits link (truth a) filled few short =
-    let s = sits link (truth a) few in
-    record { room = omega (arith, s.grows.shorter, tests_fit link a filled, nodes_fit link a); inside = s.inside }
+    let s = sits link (truth a) filled few in
+    record { room = omega (arith, s.grows.shorter, tests_of_formula link a filled, nodes_of_formula link a filled); inside = s.inside }
 
 pub program_valid : (link : Link) (e : Expression) → some_primitive is_unfilled e ≡ false → words_of e ≤ 16 → bound_of e ≤ 32768 → IsValid (program_code link e)
 program_valid link e filled few short =
     let x = expression_code link e in
-    let s = sits link e few in
+    let s = sits link e filled few in
     let n = entry_length x s.inside in
     let k : length x.code - x.entry < length x.code = omega (arith, s.low, s.inside) in
     valid_if_faultless (from_entry x) (faultless_drop x.code (length x.code - x.entry) s.grows.sound) (omega (arith, n, s.low)) (omega (arith, short_code link e filled few)) (ends_drop x.code (length x.code - x.entry) k s.grows.ends)
@@ -117,18 +127,14 @@ program_decides link e filled few short =
     x : Entered
     x = expression_code link e
 
-    apt : (p : List ℕ) (e : Expression) → Apt p (formula_of link e)
-    apt p empty = tt
-    apt p (truth a) = formula_apt p link a
-
-    few_words : (e : Expression) → words_of e ≤ 16 → words (formula_of link e) ≤ 16
-    few_words empty h = omega arith
-    few_words (truth a) h = omega (arith, words_fit link a)
+    apt : (p : List ℕ) (e : Expression) → some_primitive is_unfilled e ≡ false → Apt p (formula_of link e)
+    apt p empty filled = tt
+    apt p (truth a) filled = (grouped_stands link a no_hosts kept_none filled).apt p
 
     decided : (p : List ℕ) (n : ℕ) → Decides (program_code link e) e link p n
     decided p n =
         let v = pick (reads link f p n) 262144 0 in
-        let w = emitted_works p n link nothing f 2 1 262144 0 returns_code (few_words e few) (apt p e) (omega arith) (omega arith) (record { by = returns_settled }) (hit_leads p n) (miss_leads p n) in
+        let w = emitted_works p n link nothing f 2 1 262144 0 returns_code (few_words link e filled few) (apt p e filled) (omega arith) (omega arith) (record { by = returns_settled }) (hit_leads p n) (miss_leads p n) in
         let same : w.u ≡ v = w.right (record { facts = (refl, (refl, (refl, tt))); either = inl refl }) in
         let l : Leads p n x.code x.entry v = subst (λ (y : Entered). Leads p n y.code y.entry v) (code_of link e) (subst (λ a. Leads p n (emitted link nothing f 2 1 returns_code).code (emitted link nothing f 2 1 returns_code).entry a) same w.leads) in
         let c = machine_answers (from_entry x) p n v (answer_drop x.code p n (length x.code - x.entry) start ∙ l.by start refl) in
@@ -137,7 +143,7 @@ program_decides link e filled few short =
           count = c.met;
           answered = c.answered;
           few = omega (arith, c.few);
-          right = subst (λ r. (v ≢ 0) ↔ (r ≡ Yes)) (reads_of link e p n) (pick_right (reads link f p n));
+          right = subst (λ r. (v ≢ 0) ↔ (r ≡ Yes)) (reads_of link e filled p n) (pick_right (reads link f p n));
         }
 
 returns_no_jump : All (λ i. i.code ≢ JUMP) returns_code
@@ -158,10 +164,10 @@ program_layout link e =
 pub program_short : (link : Link) (e : Expression) → some_primitive is_unfilled e ≡ false → short_bound_of e ≤ 256 → IsShort (program_code link e) (short_bound_of e)
 program_short link empty filled l = record { no_jump = returns_no_jump; short = omega arith }
 program_short link (truth a) filled l =
-    let f = formula link a in
+    let f = grouped link no_hosts a in
     let e = emitted link nothing f 2 1 returns_code in
-    let t = tests_fit link a filled in
-    let n = nodes_fit link a in
+    let t = tests_of_formula link a filled in
+    let n = nodes_of_formula link a filled in
     let s = emitted_slim link nothing f 2 1 returns_code (omega arith) returns_no_jump in
     record {
       no_jump = All-drop (λ i. i.code ≢ JUMP) (length e.code - e.entry) e.code s.none;

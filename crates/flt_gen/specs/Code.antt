@@ -1,5 +1,5 @@
 -- The code of a formula, which is put in front of the code that is there.
-use Rattle.std.specs.Prelude.{ℕ, ◌+◌, ◌-◌, true, false, nat_le, ◌&&◌, if◌then◌else◌, List, [], ◌∷◌, length, drop, Option, Some, None}
+use Rattle.std.specs.Prelude.{ℕ, zero, suc, ◌+◌, ◌-◌, ◌/◌, true, false, nat_le, nat_lt, ◌&&◌, if◌then◌else◌, List, [], ◌∷◌, length, take, drop, get_or, Option, Some, None}
 use Rattle.flt_bpf.specs.declared.insn.Insn.{Insn}
 use Rattle.flt_bpf.specs.declared.operation.Width.{Width}
 use Rattle.flt_bpf.specs.declared.operation.Width.TheVariants.{Word, HalfWord, Byte}
@@ -26,12 +26,13 @@ use Rattle.flt_gen.specs.declared.elementary.Place.{Place}
 use Rattle.flt_gen.specs.declared.elementary.Place.TheVariants.{At, Past}
 use Rattle.flt_gen.specs.declared.elementary.FieldTest.{FieldTest}
 use Rattle.flt_gen.specs.declared.elementary.Elementary.{Elementary}
+use Rattle.flt_gen.specs.declared.elementary.MaskedField.{MaskedField}
 use Rattle.flt_gen.specs.declared.elementary.Elementary.TheVariants.{Known, Field}
 use Rattle.flt_gen.specs.Elementary.{network}
-use Rattle.flt_gen.specs.Follow.{load_code, fact, nothing, and_fact, and_fork, target}
+use Rattle.flt_gen.specs.Follow.{load_code, fact, always, nothing, and_fact, and_fork, followed, target}
 use Rattle.flt_gen.specs.Numbers.{width_of, accessor_tests}
-use Rattle.flt_gen.specs.Formula.{Formula, Single, Compare, Both, Either, Except, Guard, Fork, Choose}
-use Rattle.flt_gen.specs.Reading.{formula}
+use Rattle.flt_gen.specs.Formula.{Formula, Single, Compare, Both, Either, Except, Guard, Fork, Choose, Among}
+use Rattle.flt_gen.specs.Hosts.{no_hosts, grouped}
 
 -- an instruction that isn't a test
 abbrev pub plain : ℕ → ℕ → Insn
@@ -178,6 +179,33 @@ fork_before known t u hit miss c =
 abbrev pub behind_test : Knowledge → Elementary → ℕ → Entered → Entered
 behind_test known t miss e = elementary_before known t e.entry miss e.code
 
+-- whether A is one of some numbers, by one test after the other
+abbrev pub chain_before : List ℕ → ℕ → ℕ → List Insn → Entered
+chain_before [] hit miss c = entered c miss
+chain_before (v ∷ vs) hit miss c =
+    let e = chain_before vs hit miss c in at_top (branch_before test.Equal Constant v hit e.entry e.code)
+
+-- a test in front of the code of both halves: is A in the upper one, which begins with this number
+abbrev pub halves_before : ℕ → Entered → ℕ → Entered
+halves_before pivot lower upper = at_top (branch_before test.AtLeast Constant pivot upper lower.entry lower.code)
+
+-- whether A is one of some numbers, which ascend: halved so often, and then one after the other
+unfoldable pub search_before : ℕ → List ℕ → ℕ → ℕ → List Insn → Entered
+search_before zero vs hit miss c = chain_before vs hit miss c
+search_before (suc k) vs hit miss c =
+    if nat_lt (length vs) 2 then chain_before vs hit miss c else
+    (let upper = search_before k (drop (length vs / 2) vs) hit miss c in
+    halves_before (get_or vs (length vs / 2) 0) (search_before k (take (length vs / 2) vs) hit miss upper.code) upper.entry)
+
+-- how often numbers are halved at most
+abbrev pub LEVELS : ℕ
+LEVELS = 16
+
+-- the field goes into A; the targets are followed under what is known
+abbrev pub among_before : Knowledge → MaskedField → List ℕ → ℕ → ℕ → List Insn → Entered
+among_before known f vs hit miss c =
+    at_top (field_before (At f.at) f.width (mask_before f.mask (search_before LEVELS vs (followed c known always hit) (followed c known always miss) c).code))
+
 -- the code of a formula that goes on at one of two places
 abbrev pub emitted : Link → Knowledge → Formula → ℕ → ℕ → List Insn → Entered
 emitted link known (Single t) hit miss c = elementary_before known t hit miss c
@@ -192,6 +220,7 @@ emitted link known (Fork t u a) hit miss c =
 emitted link known (Choose t a b) hit miss c =
     let e = emitted link (and_fact (fact t false) known) b hit miss c in
     behind_test known t e.entry (emitted link (and_fact (fact t true) known) a hit miss e.code)
+emitted link known (Among f vs) hit miss c = among_before known f vs hit miss c
 
 -- all of some tests, from the last to the first
 abbrev pub all_before : Knowledge → List Elementary → ℕ → ℕ → List Insn → Entered
@@ -215,10 +244,11 @@ accessors_before link (p ∷ ps) hit miss c =
 abbrev pub returns_code : List Insn
 returns_code = plain 6 262144 ∷ plain 6 0 ∷ []
 
--- the code of an expression, in front of the two returns; the empty expression has none
+-- the code of an expression, in front of the two returns; the empty expression has none. Hosts that stand one after the
+-- other between or are looked for together
 abbrev pub expression_code : Link → Expression → Entered
 expression_code link empty = record { code = returns_code; entry = 2 }
-expression_code link (truth a) = emitted link nothing (formula link a) 2 1 returns_code
+expression_code link (truth a) = emitted link nothing (grouped link no_hosts a) 2 1 returns_code
 
 -- the instructions from the entry on
 abbrev pub from_entry : Entered → List Insn

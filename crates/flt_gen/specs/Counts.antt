@@ -1,8 +1,8 @@
 -- How many tests, nodes of arithmetic and words of memory a formula has, and the bound of a program without jumps.
-use Rattle.std.specs.Prelude.{ℕ, ◌+◌, ◌*◌, max}
+use Rattle.std.specs.Prelude.{ℕ, ◌+◌, ◌*◌, max, length}
 use Rattle.flt_lang.specs.Tree.{Expression}
 use Rattle.flt_lang.specs.Counts.{number_words, number_size, tests_of, nodes_of}
-use Rattle.flt_gen.specs.Formula.{Formula, Single, Compare, Both, Either, Except, Guard, Fork, Choose}
+use Rattle.flt_gen.specs.Formula.{Formula, Single, Compare, Both, Either, Except, Guard, Fork, Choose, Among}
 
 abbrev pub words : Formula → ℕ
 words (Single t) = 0
@@ -13,6 +13,7 @@ words (Except a) = words a
 words (Guard t a) = words a
 words (Fork t u a) = words a
 words (Choose t a b) = max (words a) (words b)
+words (Among f vs) = 0
 
 abbrev pub nodes : Formula → ℕ
 nodes (Single t) = 0
@@ -23,6 +24,7 @@ nodes (Except a) = nodes a
 nodes (Guard t a) = nodes a
 nodes (Fork t u a) = nodes a
 nodes (Choose t a b) = nodes a + nodes b
+nodes (Among f vs) = 0
 
 abbrev pub tests : Formula → ℕ
 tests (Single t) = 1
@@ -33,6 +35,7 @@ tests (Except a) = tests a
 tests (Guard t a) = 1 + tests a
 tests (Fork t u a) = 2 + tests a
 tests (Choose t a b) = 1 + tests a + tests b
+tests (Among f vs) = max 1 (length vs)
 
 -- the most instructions of an expression's program where no jump is needed
 abbrev pub short_bound_of : Expression → ℕ

@@ -1,5 +1,5 @@
 -- Tests joined by and, or and not, and how they are read.
-use Rattle.std.specs.Prelude.{ℕ, true, List, [], ◌∷◌, Some}
+use Rattle.std.specs.Prelude.{ℕ, ◌==◌, ◌||◌, Bool, true, false, List, [], ◌∷◌, Some}
 use Rattle.flt_words.specs.declared.token.Comparison.{Comparison}
 use Rattle.flt_words.specs.declared.token.Protocol.{Protocol}
 use Rattle.flt_words.specs.declared.token.Side.TheVariants.{Source, Destination}
@@ -7,10 +7,12 @@ use Rattle.flt_words.specs.declared.token.Join.TheVariants.{And, Or}
 use Rattle.flt_lang.specs.declared.quals.Direction.{Direction}
 use Rattle.flt_lang.specs.declared.quals.Direction.TheVariants as direction
 use Rattle.flt_lang.specs.Tree.{NumberTree}
+use Rattle.flt_bpf.specs.Machine.{field}
 use Rattle.flt_gen.specs.declared.link.Link.{Link}
 use Rattle.flt_gen.specs.declared.elementary.Elementary.{Elementary}
+use Rattle.flt_gen.specs.declared.elementary.MaskedField.{MaskedField}
 use Rattle.flt_gen.specs.declared.elementary.Elementary.TheVariants.{Known}
-use Rattle.flt_gen.specs.Elementary.{Reading, Yes, No, Rejected, reading_of, with, compares, elementary_reads}
+use Rattle.flt_gen.specs.Elementary.{Reading, Yes, No, Rejected, reading_of, with, compares, masked, elementary_reads}
 use Rattle.flt_gen.specs.Numbers.{number, accessor_tests}
 
 pub data Formula : Type 0 where
@@ -26,6 +28,8 @@ pub data Formula : Type 0 where
   -- a test and then a formula, or another formula. It is for a test that excludes the other formula: where the test was
   -- yes the code goes past that
   Choose : Elementary → Formula → Formula → Formula
+  -- a field is one of some numbers
+  Among : MaskedField → List ℕ → Formula
 
 -- the second is read only where the first is yes; only where it is no
 abbrev pub both : Reading → Reading → Reading
@@ -48,6 +52,14 @@ abbrev pub relation_reads : Link → Comparison → NumberTree → NumberTree �
 relation_reads link c l r p n =
     reading_of (with (number link l p n) (λ x. with (number link r p n) (λ y. Some (compares c x y))))
 
+abbrev pub is_one_of : ℕ → List ℕ → Bool
+is_one_of x [] = false
+is_one_of x (v ∷ vs) = x == v || is_one_of x vs
+
+-- a field that is one of some numbers is a yes, another one a no, and one that isn't all captured is rejected
+abbrev pub among_reads : MaskedField → List ℕ → List ℕ → Reading
+among_reads f vs p = reading_of (with (field p f.at f.width) (λ x. Some (is_one_of (masked f.mask x) vs)))
+
 -- the reading of a formula on a packet of original length n
 abbrev pub reads : Link → Formula → List ℕ → ℕ → Reading
 reads link (Single t) p n = elementary_reads t p
@@ -58,6 +70,7 @@ reads link (Except a) p n = negated (reads link a p n)
 reads link (Guard t a) p n = both (elementary_reads t p) (reads link a p n)
 reads link (Fork t u a) p n = both (either (elementary_reads t p) (elementary_reads u p)) (reads link a p n)
 reads link (Choose t a b) p n = either (both (elementary_reads t p) (reads link a p n)) (reads link b p n)
+reads link (Among f vs) p n = among_reads f vs p
 
 -- all of some tests
 abbrev pub all_of : List Elementary → Formula

@@ -1,10 +1,12 @@
 -- The walk over the nodes of an expression, from the last to the first.
-use Rattle.std.specs.Prelude.{ℕ, ◌+◌, List, [], ◌∷◌, length, drop, ◌-◌, fold, Bool, true, false}
+use Rattle.std.specs.Prelude.{ℕ, ◌+◌, List, [], ◌∷◌, length, drop, ◌-◌, fold, Bool, true, false, Option, Some, None}
 use Rattle.flt_bpf.specs.declared.insn.Insn.{Insn}
 use Rattle.flt_bpf.specs.declared.operation.Operand.TheVariants.{IndexRegister}
 use Rattle.flt_words.specs.declared.token.Join.{Join}
 use Rattle.flt_words.specs.declared.token.Join.TheVariants.{And, Or}
 use Rattle.flt_words.specs.declared.token.Protocol.{Protocol}
+use Rattle.flt_lang.specs.declared.quals.FullQuals.{FullQuals}
+use Rattle.flt_lang.specs.declared.value.Value.{Value}
 use Rattle.flt_lang.specs.declared.node.Node.{Node}
 use Rattle.flt_lang.specs.declared.node.Node.TheVariants as node
 use Rattle.flt_gen.specs.declared.link.Link.{Link}
@@ -13,6 +15,8 @@ use Rattle.flt_gen.specs.declared.waiting.LeftTruth.{LeftTruth}
 use Rattle.flt_gen.specs.declared.waiting.Waiting.{Waiting}
 use Rattle.flt_gen.specs.declared.waiting.Waiting.TheVariants.{Index, Left}
 use Rattle.flt_gen.specs.Numbers.{width_of}
+use Rattle.flt_gen.specs.Formula.{Formula}
+use Rattle.flt_gen.specs.Hosts.{Hosts, no_hosts, more_hosts, hosts_formula}
 use Rattle.flt_gen.specs.Primitives.{check_formula, cast_formula, sized_formula, qualified_formula}
 use Rattle.flt_gen.specs.Follow.{nothing}
 use Rattle.flt_gen.specs.Code.{plain, comparison_before, accessor_before, operator_code, operands_before, Entered, entered, emitted, accessors_before, returns_code}
@@ -26,6 +30,10 @@ pub record Walk : Type 0 where
   pub truths : List LeftTruth
   pub numbers : List Waiting
   pub accessors : List Protocol
+  -- hosts that are tested in front of the code, and whose code isn't there yet; whether an or was the last node, whose
+  -- right operand is next
+  pub hosts : Hosts
+  pub chained : Bool
 
 abbrev pub targets : ℕ → ℕ → Targets
 targets hit miss = record { yes = hit; no = miss }
@@ -68,17 +76,45 @@ with_code c w = record w { code = c }
 abbrev pub operands_put : ℕ → List Insn → Walk → Walk
 operands_put slot c w = record w { code = operands_before slot c; slot = slot + 1; numbers = Left slot ∷ w.numbers }
 
+-- the code of a formula is put
+abbrev pub formula_put : Link → Formula → Walk → Walk
+formula_put link f w = truth_put (emitted link nothing f w.to.yes w.to.no w.code) w
+
+abbrev pub settled_by : Link → Walk → List ℕ → Walk
+settled_by link w [] = record w { hosts = no_hosts; chained = false }
+settled_by link w (a ∷ others) =
+    let e = emitted link nothing (hosts_formula link w.hosts) w.to.yes w.to.no w.code in
+    record w { code = e.code; to = targets w.to.yes e.entry; hosts = no_hosts; chained = false }
+
+-- the code of the hosts that wait is put
+abbrev pub settled : Link → Walk → Walk
+settled link w = settled_by link w w.hosts.addresses
+
+-- a host and those behind it: they wait for one more if the host is the right operand of an or
+abbrev pub hosts_put : Link → Walk → Hosts → Bool → Walk
+hosts_put link w hosts true = record w { hosts = hosts; truths = others w.truths; chained = false }
+hosts_put link w hosts false = formula_put link (hosts_formula link hosts) (record w { hosts = no_hosts; chained = false })
+
+abbrev pub value_put : Link → FullQuals → Value → Walk → Option Hosts → Walk
+value_put link q v w None = formula_put link (qualified_formula link q v) (settled link w)
+value_put link q v w (Some hosts) = hosts_put link w hosts w.chained
+
+abbrev pub join_put : Link → Join → Walk → Walk
+join_put link Or w = record w { truths = record { join = Or; to = w.to } ∷ w.truths; chained = true }
+join_put link And w = let v = settled link w in record v { truths = record { join = And; to = v.to } ∷ v.truths }
+
+abbrev pub truth_node_put : Link → Walk → Node → Walk
+truth_node_put link w (node.Check protocol) = formula_put link (check_formula link protocol) w
+truth_node_put link w (node.Cast protocol c) = formula_put link (cast_formula link protocol c) w
+truth_node_put link w (node.Sized size n) = formula_put link (sized_formula size n) w
+truth_node_put link w (node.Compare comparison) = operands_put 0 (comparison_before comparison IndexRegister 0 w.to.yes w.to.no w.code) w
+truth_node_put link w node.Not = record w { to = targets w.to.no w.to.yes }
+truth_node_put link w _ = truth_put (entered w.code w.to.no) w
+
 -- one more node
 abbrev pub with_node : Link → Walk → Node → Walk
-with_node link w (node.Check protocol) = truth_put (emitted link nothing (check_formula link protocol) w.to.yes w.to.no w.code) w
-with_node link w (node.Cast protocol c) = truth_put (emitted link nothing (cast_formula link protocol c) w.to.yes w.to.no w.code) w
-with_node link w (node.Sized size n) = truth_put (emitted link nothing (sized_formula size n) w.to.yes w.to.no w.code) w
-with_node link w (node.Bare v) = truth_put (entered w.code w.to.no) w
-with_node link w (node.Valued quals v) = truth_put (entered w.code w.to.no) w
-with_node link w (node.Qualified quals v) = truth_put (emitted link nothing (qualified_formula link quals v) w.to.yes w.to.no w.code) w
-with_node link w (node.Compare comparison) = operands_put 0 (comparison_before comparison IndexRegister 0 w.to.yes w.to.no w.code) w
-with_node link w node.Not = record w { to = targets w.to.no w.to.yes }
-with_node link w (node.Join join) = record w { truths = record { join = join; to = w.to } ∷ w.truths }
+with_node link w (node.Join join) = join_put link join w
+with_node link w (node.Qualified quals v) = value_put link quals v w (more_hosts quals v w.hosts)
 with_node link w (node.Literal n) = number_put link w.numbers (with_code (plain 0 n ∷ w.code) w)
 with_node link w (node.Named n) = number_put link w.numbers (with_code (plain 0 n ∷ w.code) w)
 with_node link w node.Len = number_put link w.numbers (with_code (plain 128 0 ∷ w.code) w)
@@ -86,6 +122,13 @@ with_node link w (node.Load protocol size) =
     record w { code = accessor_before link protocol (width_of size) w.code; numbers = Index protocol ∷ w.numbers }
 with_node link w node.Negate = with_code (plain 132 0 ∷ w.code) w
 with_node link w (node.Apply operator) = operands_put w.slot (plain (operator_code operator) 0 ∷ w.code) w
+with_node link w (node.Check protocol) = truth_node_put link (settled link w) (node.Check protocol)
+with_node link w (node.Cast protocol c) = truth_node_put link (settled link w) (node.Cast protocol c)
+with_node link w (node.Sized size n) = truth_node_put link (settled link w) (node.Sized size n)
+with_node link w (node.Bare v) = truth_node_put link (settled link w) (node.Bare v)
+with_node link w (node.Valued quals v) = truth_node_put link (settled link w) (node.Valued quals v)
+with_node link w (node.Compare comparison) = truth_node_put link (settled link w) (node.Compare comparison)
+with_node link w node.Not = truth_node_put link (settled link w) node.Not
 
 -- a node of arithmetic
 abbrev pub is_number_node : Node → Bool
@@ -97,19 +140,20 @@ is_number_node node.Negate = true
 is_number_node (node.Apply operator) = true
 is_number_node _ = false
 
--- a primitive that isn't a relation
-abbrev pub is_primitive : Node → Bool
-is_primitive (node.Check protocol) = true
-is_primitive (node.Cast protocol c) = true
-is_primitive (node.Sized size n) = true
-is_primitive (node.Bare v) = true
-is_primitive (node.Valued quals v) = true
-is_primitive (node.Qualified quals v) = true
-is_primitive _ = false
+-- a node of truths, but for values with all their qualifiers and for joins
+abbrev pub is_truth_node : Node → Bool
+is_truth_node (node.Check protocol) = true
+is_truth_node (node.Cast protocol c) = true
+is_truth_node (node.Sized size n) = true
+is_truth_node (node.Bare v) = true
+is_truth_node (node.Valued quals v) = true
+is_truth_node (node.Compare comparison) = true
+is_truth_node node.Not = true
+is_truth_node _ = false
 
 -- the two returns are there, and nothing waits
 abbrev pub start : Walk
-start = record { code = returns_code; to = targets 2 1; slot = 0; truths = []; numbers = []; accessors = [] }
+start = record { code = returns_code; to = targets 2 1; slot = 0; truths = []; numbers = []; accessors = []; hosts = no_hosts; chained = false }
 
 -- the walk over nodes, the last first
 abbrev pub walked : Link → Walk → List Node → Walk

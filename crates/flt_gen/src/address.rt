@@ -1,21 +1,24 @@
 //! The code of hosts and networks of IPv4 and IPv6.
 
-ghost use Rattle.std.specs.Prelude.{◌≡◌, true, None, ◌+◌, ◌^◌, ◌<◌, ◌≤◌, length, OnOk, IfOk};
+ghost use Rattle.std.specs.Prelude.{◌≡◌, true, None, ◌+◌, ◌*◌, ◌^◌, ◌<◌, ◌≤◌, length, OnOk, IfOk};
 ghost use Rattle.flt_lang.specs.Nets.{first_bits};
 ghost use Rattle.flt_gen.specs.Elementary.{kind_test};
 ghost use Rattle.flt_gen.specs.Follow.{nothing, fact, and_fact};
 ghost use Rattle.flt_gen.specs.Code.{emitted, entered, behind_test};
+ghost use Rattle.flt_gen.specs.Hosts.{address_field, any_sides, hosts_sides, several_formula, hosts_formula};
 ghost use Rattle.flt_gen.specs.Primitives.{address_test, source_offset, destination_offset, net_sides, net_formula, ip6_test, ip6_tests, ip6_formula};
 
+use crate::among::put_among;
 use crate::code::{Code, Targets};
-use crate::elementary::{Elementary, FieldTest, Kind, NetTest, Place};
+use crate::elementary::{Elementary, FieldTest, Kind, MaskedField, NetTest, Place};
 use crate::follow::Knowledge;
+use crate::hosts::Hosts;
 use crate::link::Link;
 use crate::put::{put_elementary, put_sides};
 use crate::table::{kind_test, network};
 use flt_bpf::operation::Width;
 use flt_lang::Direction;
-use flt_words::{Comparison, Protocol};
+use flt_words::{Comparison, Join, Protocol, Side};
 use std::alloc::{AllocError, Allocator};
 
 // The word at a place is an address, as far as the mask goes.
@@ -122,6 +125,146 @@ pub fn put_net<A: Allocator>(
         Some(Protocol::Rarp) => put_net_behind(code, link, none, Kind::Rarp, net, to, to.no),
         Some(_) => Ok(to.no),
         None => put_any_net(code, link, net, to),
+    }
+}
+
+fn address_field(at: u32) -> MaskedField
+    ensures { result ≡ address_field at }
+{
+    MaskedField {
+        at,
+        width: Width::Word,
+        mask: None,
+    }
+}
+
+// One of several addresses on a side, or on either. The source is compared with the first address
+// alone before the destination is looked at, as by the hosts one after the other.
+fn put_any_sides<A: Allocator>(
+    code: &mut Code<A>,
+    link: Link,
+    known: Knowledge,
+    source: u32,
+    destination: u32,
+    hosts: &Hosts<A>,
+    to: Targets,
+) -> Result<usize, AllocError>
+    requires { length code.old + 12 * length hosts.now.addresses + 18 < 2 ^ 31 }
+    ensures code { IfOk result
+        (λ entry. emitted link known (any_sides source destination hosts.now.direction
+        hosts.now.first hosts.now.addresses)
+        to.yes to.no code.old
+        ≡ entered code.new entry) }
+    ensures room { OnOk result
+        (length code.new ≤ length code.old + 12 * length hosts.now.addresses + 18) }
+{
+    let addresses = hosts.addresses();
+    let source_field = address_field(source);
+    let destination_field = address_field(destination);
+    match hosts.direction() {
+        Direction::One(Side::Source) => put_among(code, known, source_field, addresses, to),
+        Direction::One(Side::Destination) => {
+            put_among(code, known, destination_field, addresses, to)
+        }
+        Direction::Both(Join::Or) => {
+            let no = put_among(code, known, source_field, addresses, to)?;
+            let no = put_among(
+                code,
+                known,
+                destination_field,
+                addresses,
+                Targets { yes: to.yes, no },
+            )?;
+            let first = address_test(None, hosts.first(), source);
+            put_elementary(code, known, first, Targets { yes: to.yes, no })
+        }
+        Direction::Both(Join::And) => Ok(to.no),
+    }
+}
+
+// The sides behind a header of a kind. A frame of another kind goes on at `other`.
+fn put_hosts_behind<A: Allocator>(
+    code: &mut Code<A>,
+    link: Link,
+    known: Knowledge,
+    kind: Kind,
+    hosts: &Hosts<A>,
+    to: Targets,
+    other: usize,
+) -> Result<usize, AllocError>
+    requires { length code.old + 12 * length hosts.now.addresses + 24 < 2 ^ 31 }
+    ensures code { IfOk result
+        (λ entry. behind_test known (kind_test link kind) other
+        (emitted link (and_fact (fact (kind_test link kind) true) known)
+        (hosts_sides link kind hosts.now)
+        to.yes to.no code.old)
+        ≡ entered code.new entry) }
+    ensures room { OnOk result
+        (length code.new ≤ length code.old + 12 * length hosts.now.addresses + 24) }
+{
+    let start = network(link);
+    let source = start + source_offset(kind);
+    let destination = start + destination_offset(kind);
+    let kind = kind_test(link, kind);
+    let behind = known.and_yes(kind);
+    let yes = put_any_sides(code, link, behind, source, destination, hosts, to)?;
+    put_elementary(code, known, kind, Targets { yes, no: other })
+}
+
+// Several hosts by the forms that their protocol allows.
+fn put_several<A: Allocator>(
+    code: &mut Code<A>,
+    link: Link,
+    hosts: &Hosts<A>,
+    to: Targets,
+) -> Result<usize, AllocError>
+    requires { length code.old + 36 * length hosts.now.addresses + 72 < 2 ^ 31 }
+    ensures code { IfOk result
+        (λ entry. emitted link nothing (several_formula link hosts.now.protocol hosts.now)
+        to.yes to.no code.old
+        ≡ entered code.new entry) }
+    ensures room { OnOk result
+        (length code.new ≤ length code.old + 36 * length hosts.now.addresses + 72) }
+{
+    let none = Knowledge::nothing();
+    match hosts.protocol() {
+        Some(Protocol::Ip) => put_hosts_behind(code, link, none, Kind::Ip, hosts, to, to.no),
+        Some(_) => Ok(to.no),
+        None => {
+            let not_ip = none.and_no(kind_test(link, Kind::Ip));
+            let neither = not_ip.and_no(kind_test(link, Kind::Arp));
+            let rarp = put_hosts_behind(code, link, neither, Kind::Rarp, hosts, to, to.no)?;
+            let arp = put_hosts_behind(code, link, not_ip, Kind::Arp, hosts, to, rarp)?;
+            put_hosts_behind(code, link, none, Kind::Ip, hosts, to, arp)
+        }
+    }
+}
+
+/// Hosts that are looked for together.
+pub fn put_hosts<A: Allocator>(
+    code: &mut Code<A>,
+    link: Link,
+    hosts: &Hosts<A>,
+    to: Targets,
+) -> Result<usize, AllocError>
+    requires { length code.old + 36 * length hosts.now.addresses + 72 < 2 ^ 31 }
+    ensures code { IfOk result
+        (λ entry. emitted link nothing (hosts_formula link hosts.now) to.yes to.no code.old
+        ≡ entered code.new entry) }
+    ensures room { OnOk result
+        (length code.new ≤ length code.old + 36 * length hosts.now.addresses + 72) }
+{
+    match hosts.addresses() {
+        [_] => {
+            let (direction, mask, address) = (hosts.direction(), None, hosts.first());
+            let net = NetTest {
+                direction,
+                mask,
+                address,
+            };
+            put_net(code, link, hosts.protocol(), net, to)
+        }
+        _ => put_several(code, link, hosts, to),
     }
 }
 

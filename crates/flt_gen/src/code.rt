@@ -1,7 +1,7 @@
 //! Code that grows from its end to its beginning.
 
 ghost use Rattle.std.specs.Prelude.{◌≡◌, ◌+◌, ◌-◌, ◌^◌, ◌<◌, ◌≤◌, List, [], ◌∷◌, length, drop, OnOk};
-ghost use Rattle.flt_gen.specs.Follow.{one_on, two_on, four_on, eight_on, followed, entered_at, target};
+ghost use Rattle.flt_gen.specs.Follow.{one_on, two_on, four_on, eight_on, always, followed, entered_at, target};
 ghost use Rattle.flt_gen.specs.Code.{plain, jump_before, branch_before, test_code};
 
 use crate::elementary::{Elementary, Fact, FieldTest, Place};
@@ -192,6 +192,14 @@ impl<A: Allocator> Code<A> {
         } else {
             self.eight_on(&[own, latest, earlier, earliest], place)
         }
+    }
+
+    /// A place followed as far as what is known leads.
+    pub fn followed_always(&self, known: Knowledge, place: usize) -> usize
+        ensures { result ≡ followed self.now known always place }
+    {
+        let test = Elementary::Known(true);
+        self.followed(known, Fact { test, truth: true }, place)
     }
 
     // Where code is entered behind a test at a place.

@@ -24,6 +24,15 @@ pub enum Place {
     Past(u32, u32),
 }
 
+/// A field: how many bytes behind the start of the packet it stands, how wide it is, and the mask
+/// where not all of its bits count.
+#[derive(Clone, Copy)]
+pub struct MaskedField {
+    pub at: u32,
+    pub width: Width,
+    pub mask: Option<u32>,
+}
+
 /// A test of a field: the field, of which only the bits of the mask count, is compared with a
 /// number.
 #[derive(Clone, Copy)]

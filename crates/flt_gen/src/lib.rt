@@ -2,9 +2,11 @@
 #![tactic(auto)]
 
 mod address;
+mod among;
 mod code;
 mod elementary;
 mod follow;
+mod hosts;
 mod link;
 mod number;
 mod port;

@@ -22,8 +22,12 @@ pub fn indirect_code(width: Width) -> u16
     }
 }
 
-// A field goes into A.
-fn put_field<A: Allocator>(code: &mut Code<A>, place: Place, width: Width) -> Result<(), AllocError>
+/// A field goes into A.
+pub fn put_field<A: Allocator>(
+    code: &mut Code<A>,
+    place: Place,
+    width: Width,
+) -> Result<(), AllocError>
     ensures { OnOk result (code.new ≡ field_before place width code.old) }
 {
     match place {
@@ -35,7 +39,8 @@ fn put_field<A: Allocator>(code: &mut Code<A>, place: Place, width: Width) -> Re
     }
 }
 
-fn put_mask<A: Allocator>(code: &mut Code<A>, mask: Option<u32>) -> Result<(), AllocError>
+/// Of A only the bits of a mask are left.
+pub fn put_mask<A: Allocator>(code: &mut Code<A>, mask: Option<u32>) -> Result<(), AllocError>
     ensures { OnOk result (code.new ≡ mask_before mask code.old) }
 {
     match mask {

@@ -3,10 +3,13 @@
 //! processor's stack than a short one.
 
 ghost use Rattle.std.specs.Prelude.{◌≡◌, ◌+◌, ◌^◌, ◌<◌, ◌≤◌, true, length, OnOk, IfOk};
+ghost use Rattle.flt_gen.specs.Hosts.{more_hosts};
 ghost use Rattle.flt_gen.specs.Code.{entered};
-ghost use Rattle.flt_gen.specs.Walk.{start, truth_put, relation_put, number_put, is_number_node, is_primitive, operands_put, with_node, insns_of};
+ghost use Rattle.flt_gen.specs.Walk.{start, truth_put, relation_put, number_put, is_number_node, is_truth_node, operands_put, settled, hosts_put, value_put, join_put, truth_node_put, with_node, insns_of};
 
+use crate::address::put_hosts;
 use crate::code::{Code, Targets};
+use crate::hosts::Hosts;
 use crate::link::Link;
 use crate::number::{operator_code, put_accessor, put_accessors, put_operands, width_of};
 use crate::primitive::{put_cast, put_check};
@@ -15,7 +18,7 @@ use crate::value::{put_qualified, put_sized};
 use crate::waiting::{LeftTruth, Numbers, Truths, Waiting};
 use flt_bpf::insn::Insn;
 use flt_bpf::operation::Operand;
-use flt_lang::Node;
+use flt_lang::{FullQuals, Node, Value};
 use flt_words::{Join, Protocol};
 use std::alloc::{AllocError, Allocator};
 use std::marker::Model;
@@ -35,6 +38,10 @@ pub struct Walk<A: Allocator> {
     numbers: Numbers<A>,
     /// The protocols of the relation's accessors, that of the last word first.
     accessors: Vec<Protocol, A>,
+    /// Hosts that are tested in front of the code, and whose code isn't there yet.
+    hosts: Hosts<A>,
+    /// Whether an or was the last node: its right operand is next.
+    chained: bool,
 }
 
 impl<A: Allocator> Model for Walk<A> {
@@ -50,6 +57,8 @@ impl<A: Allocator> Model for Walk<A> {
       truths = w.truths;
       numbers = w.numbers;
       accessors = reverse w.accessors.items;
+      hosts = w.hosts;
+      chained = w.chained;
     } };
 }
 
@@ -151,19 +160,88 @@ impl<A: Allocator> Walk<A> {
         }
     }
 
-    // A primitive. One whose qualifiers aren't filled in yet is no.
-    fn put_primitive(&mut self, link: Link, node: &Node) -> Result<(), AllocError>
+    // The code of the hosts that wait is put.
+    fn settle(&mut self, link: Link) -> Result<(), AllocError>
         requires room { length self.old.code < 2 ^ 30 }
-        requires primitive { is_primitive node.now ≡ true }
-        ensures { OnOk result (self.new ≡ with_node link self.old node.now) }
+        requires some { length self.old.hosts.addresses ≤ 4096 }
+        ensures walk { OnOk result (self.new ≡ settled link self.old) }
+        ensures room { OnOk result (length self.new.code ≤ length self.old.code + 150000) }
+    {
+        if !self.hosts.addresses().is_empty() {
+            self.to.no = put_hosts(&mut self.code, link, &self.hosts, self.to)?;
+        }
+        self.hosts.clear();
+        self.chained = false;
+        Ok(())
+    }
+
+    // A host and those behind it: they wait for one more if the host is the right operand of an or.
+    fn finish_hosts(&mut self, link: Link) -> Result<(), AllocError>
+        requires room { length self.old.code < 2 ^ 30 }
+        requires some { length self.old.hosts.addresses ≤ 4096 }
+        ensures { OnOk result (self.new ≡ hosts_put link self.old self.old.hosts self.old.chained) }
+    {
+        if self.chained {
+            let _ = self.truths.pop();
+            self.chained = false;
+            return Ok(());
+        }
+        let entry = put_hosts(&mut self.code, link, &self.hosts, self.to)?;
+        self.hosts.clear();
+        self.finish_truth(entry);
+        Ok(())
+    }
+
+    // A value with all its qualifiers.
+    fn put_value(&mut self, link: Link, quals: FullQuals, value: Value) -> Result<(), AllocError>
+        requires before { length self.old.code < 2 ^ 30 }
+        requires some { length self.old.hosts.addresses ≤ 4096 }
+        ensures { OnOk result (self.new ≡ value_put link quals value self.old
+            (more_hosts quals value self.old.hosts)) }
+    {
+        if self.hosts.put(quals, value)? {
+            return self.finish_hosts(link);
+        }
+        self.settle(link)?;
+        let entry = put_qualified(&mut self.code, link, quals, value, self.to)?;
+        self.finish_truth(entry);
+        Ok(())
+    }
+
+    // An operator between two truths.
+    fn put_join(&mut self, link: Link, join: Join) -> Result<(), AllocError>
+        requires room { length self.old.code < 2 ^ 30 }
+        requires some { length self.old.hosts.addresses ≤ 4096 }
+        ensures { OnOk result (self.new ≡ join_put link join self.old) }
+    {
+        match join {
+            Join::Or => self.chained = true,
+            Join::And => self.settle(link)?,
+        }
+        let to = self.to;
+        self.truths.push(LeftTruth { join, to })
+    }
+
+    // A primitive or a negation. A value whose qualifiers aren't filled in yet is no.
+    fn put_truth_node(&mut self, link: Link, node: &Node) -> Result<(), AllocError>
+        requires room { length self.old.code + 96 < 2 ^ 31 }
+        requires truth { is_truth_node node.now ≡ true }
+        ensures { OnOk result (self.new ≡ truth_node_put link self.old node.now) }
     {
         let (code, to) = (&mut self.code, self.to);
         let entry = match node {
             Node::Check(protocol) => put_check(code, link, *protocol, to)?,
             Node::Cast(protocol, cast) => put_cast(code, link, *protocol, *cast, to)?,
             Node::Sized(size, number) => put_sized(code, *size, *number, to)?,
-            Node::Qualified(quals, value) => put_qualified(code, link, *quals, *value, to)?,
             Node::Bare(_) | Node::Valued(_, _) => to.no,
+            Node::Not => {
+                self.to = to.exchanged();
+                return Ok(());
+            }
+            Node::Compare(comparison) => {
+                put_comparison(code, *comparison, Operand::IndexRegister, 0, to)?;
+                return self.put_both(0);
+            }
             _ => unreachable!(),
         };
         self.finish_truth(entry);
@@ -173,31 +251,24 @@ impl<A: Allocator> Walk<A> {
     /// One more node, the one before those that were put.
     pub fn put_node(&mut self, link: Link, node: &Node) -> Result<(), AllocError>
         requires few { self.old.slot < 2 ^ 31 }
+        requires some { length self.old.hosts.addresses ≤ 4096 }
         requires before { length self.old.code < 2 ^ 30 }
         requires after { length (with_node link self.old node.now).code < 2 ^ 30 }
         ensures { OnOk result (self.new ≡ with_node link self.old node.now) }
     {
         match node {
-            Node::Not => {
-                self.to = self.to.exchanged();
-                Ok(())
-            }
-            Node::Join(join) => {
-                let (join, to) = (*join, self.to);
-                self.truths.push(LeftTruth { join, to })
-            }
-            Node::Compare(comparison) => {
-                let (operand, to) = (Operand::IndexRegister, self.to);
-                put_comparison(&mut self.code, *comparison, operand, 0, to)?;
-                self.put_both(0)
-            }
+            Node::Join(join) => self.put_join(link, *join),
+            Node::Qualified(quals, value) => self.put_value(link, *quals, *value),
             Node::Literal(_)
             | Node::Named(_)
             | Node::Len
             | Node::Load(_, _)
             | Node::Negate
             | Node::Apply(_) => { self.put_number_node(link, node) }
-            _ => self.put_primitive(link, node),
+            _ => {
+                self.settle(link)?;
+                self.put_truth_node(link, node)
+            }
         }
     }
 
@@ -213,6 +284,8 @@ impl<A: Allocator> Walk<A> {
             truths: _,
             numbers: _,
             accessors: _,
+            hosts: _,
+            chained: _,
         } = self;
         code.into_insns(to.yes)
     }
@@ -226,6 +299,7 @@ impl<A: Allocator + Clone> Walk<A> {
         let truths = Truths::new(alloc.clone()?);
         let numbers = Numbers::new(alloc.clone()?);
         let accessors = Vec::new(alloc.clone()?);
+        let hosts = Hosts::new(alloc.clone()?);
         let mut code = Code::new(alloc);
         code.put_plain(6, 0)?;
         code.put_plain(6, KEEP)?;
@@ -236,6 +310,8 @@ impl<A: Allocator + Clone> Walk<A> {
             truths,
             numbers,
             accessors,
+            hosts,
+            chained: false,
         })
     }
 }

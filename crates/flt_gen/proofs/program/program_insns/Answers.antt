@@ -14,6 +14,11 @@ put_node-requires-clause-few g c =
     let few = r.few in
     omega arith
 
+pub put_node-requires-clause-some : goal.put_node-requires-clause-some
+put_node-requires-clause-some g c =
+    let low = c.nodes.invariant.low in
+    low.few
+
 pub put_node-requires-clause-before : goal.put_node-requires-clause-before
 put_node-requires-clause-before g c =
     let r = has_room c.args.link c.args.nodes.now c.nodes.left (Check Ether) c.nodes.walk c.nodes-test.true c.nodes.invariant.within c.nodes.invariant.low c.nodes.invariant.same c.requires.room in

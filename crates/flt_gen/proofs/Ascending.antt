@@ -1,0 +1,132 @@
+-- Numbers that ascend.
+use Rattle.std.proofs.Common.{◌≡◌, ℕ, zero, suc, ◌+◌, ◌<◌, ◌≤◌, List, [], ◌∷◌, length, take, drop, get_or, Bool, true, false, refl, ap, ◌∙◌, sym, arith}
+use Rattle.std.specs.Prelude.{nat_lt, ◌==◌, ◌||◌, if◌then◌else◌}
+use Rattle.std.specs.List.{insert}
+use Rattle.std.proofs.lemmas.Bool.Decides.{nat_tests}
+use Rattle.flt_gen.specs.Formula.{is_one_of}
+use Rattle.flt_gen.specs.Hosts.{inserted}
+
+-- by a test
+pub if_case : {A : Type 0} (P : A → Type 0) (b : Bool) (x y : A) → (b ≡ true → P x) → (b ≡ false → P y) → P (if b then x else y)
+if_case P true x y t f = t refl
+if_case P false x y t f = f refl
+
+-- behind smaller numbers a number is put before the first that isn't smaller
+pub inserted_at : (a : ℕ) (vs : List ℕ) (at : ℕ) → at ≤ length vs → ((i : ℕ) → i < at → get_or vs i 0 < a) → (at < length vs → a ≤ get_or vs at 0) → insert vs at a ≡ inserted a vs
+inserted_at a [] zero l low high = refl
+inserted_at a [] (suc at) l low high = absurd (omega arith)
+inserted_at a (v ∷ vs) zero l low high =
+    let h = high (omega arith) in
+    if_case (λ r. a ∷ v ∷ vs ≡ r) (nat_lt v a) (v ∷ inserted a vs) (a ∷ v ∷ vs) (λ e. absurd (let k : v < a = grind (arith, nat_tests) in omega arith)) (λ e. refl)
+inserted_at a (v ∷ vs) (suc at) l low high =
+    let k = low 0 (omega arith) in
+    let h = inserted_at a vs at (omega arith) (λ i m. low (suc i) (omega arith)) (λ m. high (omega arith)) in
+    if_case (λ r. v ∷ insert vs at a ≡ r) (nat_lt v a) (v ∷ inserted a vs) (a ∷ v ∷ vs) (λ e. ap (λ r. v ∷ r) h) (λ e. absurd (let no : (v < a) → ⊥ = grind (arith, nat_tests) in no k))
+
+-- none of the numbers is smaller
+abbrev pub AllFrom : ℕ → List ℕ → Type 0
+AllFrom a [] = Unit {0}
+AllFrom a (v ∷ vs) = (a ≤ v) × AllFrom a vs
+
+abbrev pub Ascending : List ℕ → Type 0
+Ascending [] = Unit {0}
+Ascending (v ∷ vs) = AllFrom v vs × Ascending vs
+
+-- numbers that are searched: there is one at least
+abbrev pub Searchable : List ℕ → Type 0
+Searchable [] = ⊥
+Searchable (v ∷ vs) = Ascending (v ∷ vs)
+
+pub searchable_ascends : (vs : List ℕ) → Searchable vs → Ascending vs
+searchable_ascends [] h = absurd h
+searchable_ascends (v ∷ vs) h = h
+
+all_from_less : (a b : ℕ) (vs : List ℕ) → a ≤ b → AllFrom b vs → AllFrom a vs
+all_from_less a b [] l h = tt
+all_from_less a b (v ∷ vs) l h = (let k = h.0 in omega arith, all_from_less a b vs l h.1)
+
+all_from_take : (a h : ℕ) (vs : List ℕ) → AllFrom a vs → AllFrom a (take h vs)
+all_from_take a zero [] l = tt
+all_from_take a zero (v ∷ vs) l = tt
+all_from_take a (suc h) [] l = tt
+all_from_take a (suc h) (v ∷ vs) l = (l.0, all_from_take a h vs l.1)
+
+pub ascending_take : (h : ℕ) (vs : List ℕ) → Ascending vs → Ascending (take h vs)
+ascending_take zero [] l = tt
+ascending_take zero (v ∷ vs) l = tt
+ascending_take (suc h) [] l = tt
+ascending_take (suc h) (v ∷ vs) l = (all_from_take v h vs l.0, ascending_take h vs l.1)
+
+pub ascending_drop : (h : ℕ) (vs : List ℕ) → Ascending vs → Ascending (drop h vs)
+ascending_drop zero [] l = tt
+ascending_drop zero (v ∷ vs) l = l
+ascending_drop (suc h) [] l = tt
+ascending_drop (suc h) (v ∷ vs) l = ascending_drop h vs l.1
+
+all_from_inserted : (b a : ℕ) (vs : List ℕ) → b ≤ a → AllFrom b vs → AllFrom b (inserted a vs)
+all_from_inserted b a [] l h = (l, tt)
+all_from_inserted b a (v ∷ vs) l h =
+    if_case (λ xs. AllFrom b xs) (nat_lt v a) _ _ (λ e. (h.0, all_from_inserted b a vs l h.1)) (λ e. (l, h))
+
+pub ascending_inserted : (a : ℕ) (vs : List ℕ) → Ascending vs → Ascending (inserted a vs)
+ascending_inserted a [] h = (tt, tt)
+ascending_inserted a (v ∷ vs) h =
+    if_case (λ xs. Ascending xs) (nat_lt v a) _ _
+    (λ e. let l : v < a = grind (arith, nat_tests) in (all_from_inserted v a vs (omega arith) h.0, ascending_inserted a vs h.1))
+    (λ e. let l : a ≤ v = grind (arith, nat_tests) in ((l, all_from_less a v vs l h.0), h))
+
+pub length_inserted : (a : ℕ) (vs : List ℕ) → length (inserted a vs) ≡ length vs + 1
+length_inserted a [] = refl
+length_inserted a (v ∷ vs) =
+    if_case (λ xs. length xs ≡ length (v ∷ vs) + 1) (nat_lt v a) _ _ (λ e. let h = length_inserted a vs in omega arith) (λ e. omega arith)
+
+or_swap : (a b c : Bool) → (b || (a || c)) ≡ (a || (b || c))
+or_swap true true c = refl
+or_swap true false c = refl
+or_swap false b c = refl
+
+pub one_of_inserted : (x a : ℕ) (vs : List ℕ) → is_one_of x (inserted a vs) ≡ (x == a || is_one_of x vs)
+one_of_inserted x a [] = refl
+one_of_inserted x a (v ∷ vs) =
+    if_case (λ xs. is_one_of x xs ≡ (x == a || (x == v || is_one_of x vs))) (nat_lt v a) _ _
+    (λ e. ap (λ b. x == v || b) (one_of_inserted x a vs) ∙ or_swap (x == a) (x == v) (is_one_of x vs))
+    (λ e. refl)
+
+none_below : (x v : ℕ) (vs : List ℕ) → x < v → AllFrom v vs → is_one_of x vs ≡ false
+none_below x v [] l h = refl
+none_below x v (w ∷ vs) l h =
+    let k = h.0 in
+    let no : (x == w) ≡ false = grind (arith, nat_tests) in
+    ap (λ b. b || is_one_of x vs) no ∙ none_below x v vs l h.1
+
+-- which half a number can be in
+pub lower_half : (x h : ℕ) (vs : List ℕ) → Ascending vs → h < length vs → x < get_or vs h 0 → is_one_of x vs ≡ is_one_of x (take h vs)
+lower_half x h [] up l m = absurd (omega arith)
+lower_half x zero (v ∷ vs) up l m =
+    let no : (x == v) ≡ false = grind (arith, nat_tests) in
+    ap (λ b. b || is_one_of x vs) no ∙ none_below x v vs m up.0
+lower_half x (suc h) (v ∷ vs) up l m = ap (λ b. x == v || b) (lower_half x h vs up.1 (omega arith) m)
+
+at_least : (v h : ℕ) (vs : List ℕ) → AllFrom v vs → h < length vs → v ≤ get_or vs h 0
+at_least v h [] up l = absurd (omega arith)
+at_least v zero (w ∷ vs) up l = up.0
+at_least v (suc h) (w ∷ vs) up l = at_least v h vs up.1 (omega arith)
+
+head_of_half : (x h : ℕ) (vs : List ℕ) → h < length vs → x ≡ get_or vs h 0 → is_one_of x (drop h vs) ≡ true
+head_of_half x h [] l e = absurd (omega arith)
+head_of_half x zero (v ∷ vs) l e = let same : (x == v) ≡ true = grind (arith, nat_tests) in ap (λ b. b || is_one_of x vs) same
+head_of_half x (suc h) (v ∷ vs) l e = head_of_half x h vs (omega arith) e
+
+or_known : (a b : Bool) → (a ≡ true → b ≡ true) → (a || b) ≡ b
+or_known true b h = sym (h refl)
+or_known false b h = refl
+
+pub upper_half : (x h : ℕ) (vs : List ℕ) → Ascending vs → h < length vs → get_or vs h 0 ≤ x → is_one_of x vs ≡ is_one_of x (drop h vs)
+upper_half x h [] up l m = absurd (omega arith)
+upper_half x zero (v ∷ vs) up l m = refl
+upper_half x (suc h) (v ∷ vs) up l m =
+    ap (λ b. x == v || b) (upper_half x h vs up.1 (omega arith) m)
+    ∙ or_known (x == v) (is_one_of x (drop h vs)) (λ e.
+    let same : x ≡ v = grind (arith, nat_tests) in
+    let low = at_least v h vs up.0 (omega arith) in
+    head_of_half x h vs (omega arith) (omega arith))
