@@ -48,13 +48,11 @@ place() {
     *) return 1 ;;
     esac
 }
-if [ -e "$root/crates/cap_pages/stdout" ]; then
-    "$root/packaging/split_pages.sh" "$work/pages"
-    for page in "$work"/pages/*; do
-        install -D -m 644 "$page" "$tree/$(place "${page##*/}")"
-    done
-    gzip -9n "$tree"/usr/share/man/man1/*
-fi
+"$root/packaging/split_pages.sh" "$work/pages"
+for page in "$work"/pages/*; do
+    install -D -m 644 "$page" "$tree/$(place "${page##*/}")"
+done
+gzip -9n "$tree"/usr/share/man/man1/*
 
 # The documents that a user reads, and the samples.
 install -m 644 "$root/README.md" "$documents/"
