@@ -42,7 +42,7 @@ EXPRESSIONS = {
 
 def built_program():
     """The program that the launcher built last; the launcher itself would count its own time."""
-    programs = sorted((ROOT / "out").glob("capkit-*"), key=os.path.getmtime)
+    programs = sorted((ROOT / "out").glob("built-*/capkit"), key=os.path.getmtime)
     if not programs:
         sys.exit("capkit is not built yet: run ./capkit --help first, or name a program by --capkit")
     return str(programs[-1])

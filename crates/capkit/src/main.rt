@@ -5,11 +5,13 @@ ghost use Rattle.std.specs.Prelude.{◌≡◌, ◌≤◌};
 ghost use Rattle.capkit.specs.Status.{status_of};
 
 mod job;
+mod overwrites;
 mod streams;
 #[cfg(test)]
 mod tests;
 
 use crate::job::run;
+use crate::overwrites::overwrites_input;
 use cap_line::{Usage, command_of};
 use std::alloc::AllocError;
 use std::env;
@@ -43,6 +45,7 @@ fn status(rt: &HostRuntime) -> u8
         return refuse(rt, Usage::Memory);
     };
     match command_of(rt.alloc(), words) {
+        Ok(line) if overwrites_input(rt, &line) => refuse(rt, Usage::NameUsedTwice),
         Ok(line) => run(rt, line),
         Err(usage) => refuse(rt, usage),
     }

@@ -1,8 +1,10 @@
 //! Files that are opened, read, created and left alone.
 
 use crate::job::{Stop, create, open, read_listing, run};
+use crate::overwrites::overwrites_input;
 use cap_line::command_of;
 use std::alloc::{AllocError, Global};
+use std::os::unix::fs::symlink;
 use std::test::Fail;
 use std::{env, fs, process};
 
@@ -162,6 +164,40 @@ fn outputs_are_created_before_the_run(rt: HostRuntime) -> Result<(), Fail> {
     let refused = ["capkit", "print", "-w", "@out", "@in", "port"];
     assert!(rt; status_of(&rt, &folder, &refused)? == 2);
     assert!(rt; has_written(&rt, &folder, 0)?);
+    fs::remove_dir_all(&rt, &folder)?;
+    Ok(())
+}
+
+/// Whether the words' output is a file that they read.
+fn is_overwriting(rt: &HostRuntime, folder: &str, words: &[&str]) -> Result<bool, Fail> {
+    let line = line(rt.alloc(), folder, words)?;
+    let line = command_of(rt.alloc(), line)?;
+    Ok(overwrites_input(rt, &line))
+}
+
+/// A file is known again through a path that goes round, a link and a second name; others and new ones are no inputs.
+#[test]
+fn one_file_under_two_names_is_known(rt: HostRuntime) -> Result<(), Fail> {
+    let folder = folder(&rt, "known")?;
+    let input = path(&rt, &folder, "in")?;
+    symlink(&rt, &input, &path(&rt, &folder, "link")?)?;
+    fs::hard_link(&rt, &input, &path(&rt, &folder, "second")?)?;
+    fs::write(&rt, &path(&rt, &folder, "other")?, &capture())?;
+    for (output, wanted) in [
+        ("@./in", true),
+        ("@link", true),
+        ("@second", true),
+        ("@other", false),
+        ("@new", false),
+        ("-", false),
+    ] {
+        let edit = ["capkit", "edit", "@in", output];
+        assert!(rt; is_overwriting(&rt, &folder, &edit)? == wanted, "{output}");
+        let merge = ["capkit", "merge", "-w", output, "@code", "@in"];
+        assert!(rt; is_overwriting(&rt, &folder, &merge)? == wanted, "{output}");
+        let print = ["capkit", "print", "--code", "@in", "-w", output, "@code"];
+        assert!(rt; is_overwriting(&rt, &folder, &print)? == wanted, "{output}");
+    }
     fs::remove_dir_all(&rt, &folder)?;
     Ok(())
 }

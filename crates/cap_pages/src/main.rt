@@ -1,0 +1,57 @@
+//! Writes the manual pages and completions of capkit, made of what its command line says of itself.
+//!
+//! Each page stands behind a line `==> NAME <==`. What is written is stored as this crate's
+//! `stdout`, which `packaging/` cuts into files. The prose of the manual pages lies in `data/`.
+#![tactic(auto)]
+
+mod bash;
+mod fish;
+mod help;
+mod manual;
+mod zsh;
+
+use crate::help::Help;
+use cap_line::{Usage, command_of};
+use std::alloc::Global;
+use std::test::Fail;
+
+/// The help of a command; of the program where the name is empty.
+pub(crate) fn help_text(alloc: Global, name: &str) -> Result<String, Fail> {
+    let mut words = Vec::new(alloc);
+    for word in ["capkit", name, "-h"] {
+        if !word.is_empty() {
+            words.push(String::from_str(alloc, word)?)?;
+        }
+    }
+    match command_of(alloc, words) {
+        Err(Usage::Refused(error)) => Ok(format!(in alloc; "{error}")?),
+        _ => Err(Fail::new(format_args!("{name}: no help"))),
+    }
+}
+
+/// Writes the line that stands before a page.
+fn write_title(rt: &HostRuntime, page: &str) -> Result<(), Fail> {
+    rt.println(format_args!("==> {page} <=="))?;
+    Ok(())
+}
+
+fn main(rt: HostRuntime) -> Result<(), Fail> {
+    let text = help_text(rt.alloc(), "")?;
+    let program = Help::of_text(rt.alloc(), &text)?;
+    write_title(&rt, "capkit.1")?;
+    manual::write_page(&rt, "capkit", &program)?;
+    for command in &program.commands {
+        let name = format!(in rt.alloc(); "capkit-{}", command.form)?;
+        rt.println(format_args!("==> {name}.1 <=="))?;
+        let text = help_text(rt.alloc(), command.form)?;
+        let help = Help::of_text(rt.alloc(), &text)?;
+        manual::write_page(&rt, &name, &help)?;
+    }
+    write_title(&rt, "capkit.bash")?;
+    bash::write_completion(&rt, &program)?;
+    write_title(&rt, "_capkit")?;
+    zsh::write_completion(&rt, &program)?;
+    write_title(&rt, "capkit.fish")?;
+    fish::write_completion(&rt, &program)?;
+    Ok(())
+}

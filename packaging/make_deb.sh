@@ -1,0 +1,95 @@
+#!/bin/sh
+# Makes a Debian package of capkit: the program, its manual pages and completions, the documents and the samples.
+#
+# usage: packaging/make_deb.sh [PROGRAM]
+#
+# The package goes to out/. PROGRAM is the built program; where none is given, ./capkit builds it first. The maintainer is
+# DEBFULLNAME and DEBEMAIL, else git's user. It needs dpkg-dev and binutils, and no rights of root.
+
+set -eu
+umask 022
+
+root=$(CDPATH='' cd -- "$(dirname -- "$0")/.." && pwd -P)
+version=$(cat "$root/packaging/version")-1
+architecture=$(dpkg --print-architecture)
+name=${DEBFULLNAME:-$(git -C "$root" config user.name)}
+email=${DEBEMAIL:-$(git -C "$root" config user.email)}
+SOURCE_DATE_EPOCH=${SOURCE_DATE_EPOCH:-$(git -C "$root" log -1 --format=%ct)}
+export SOURCE_DATE_EPOCH
+
+if [ $# -gt 0 ]; then
+    program=$1
+else
+    "$root/capkit" --help >/dev/null
+    # shellcheck disable=SC2012  # the launcher's own names
+    program=$(ls -t "$root"/out/built-*/capkit | head -n 1)
+fi
+
+work=$(mktemp -d)
+trap 'rm -rf "$work"' EXIT
+tree=$work/tree
+documents=$tree/usr/share/doc/capkit
+mkdir -p "$tree/DEBIAN" "$documents/docs" "$documents/samples"
+
+# The program, and what it needs of the C library.
+install -D "$program" "$tree/usr/bin/capkit"
+strip --strip-unneeded --remove-section=.comment --remove-section=.note "$tree/usr/bin/capkit"
+mkdir "$work/debian"
+: >"$work/debian/control"
+needs=$(cd "$work" && dpkg-shlibdeps -O "$tree/usr/bin/capkit" | sed -n 's/^shlibs:Depends=//p')
+
+# The manual pages and completions, which cap_pages writes one behind another, each after a line '==> NAME <=='.
+place() {
+    case $1 in
+    *.1) printf 'usr/share/man/man1/%s' "$1" ;;
+    *.bash) printf 'usr/share/bash-completion/completions/%s' "${1%.bash}" ;;
+    *.fish) printf 'usr/share/fish/vendor_completions.d/%s' "$1" ;;
+    _*) printf 'usr/share/zsh/vendor-completions/%s' "$1" ;;
+    *) return 1 ;;
+    esac
+}
+"$root/packaging/split_pages.sh" "$work/pages"
+for page in "$work"/pages/*; do
+    install -D -m 644 "$page" "$tree/$(place "${page##*/}")"
+done
+gzip -9n "$tree"/usr/share/man/man1/*
+
+# The documents that a user reads, and the samples.
+install -m 644 "$root/README.md" "$documents/"
+for page in FILTER FORMATS INSTALL MACHINE; do
+    install -m 644 "$root/docs/$page.md" "$documents/docs/"
+done
+install -m 644 "$root"/samples/* "$documents/samples/"
+ln -s samples "$documents/examples"
+install -m 644 "$root/packaging/copyright" "$documents/"
+cat >"$documents/changelog.Debian" <<END
+capkit ($version) unstable; urgency=medium
+
+  * As built from the sources at $(git -C "$root" rev-parse --short=12 HEAD).
+
+ -- $name <$email>  $(LC_ALL=C date -Ru -d "@$SOURCE_DATE_EPOCH")
+END
+gzip -9n "$documents/changelog.Debian"
+
+# What dpkg reads.
+(cd "$tree" && find usr -type f -exec md5sum {} +) | LC_ALL=C sort -k 2 >"$tree/DEBIAN/md5sums"
+cat >"$tree/DEBIAN/control" <<END
+Package: capkit
+Version: $version
+Architecture: $architecture
+Maintainer: $name <$email>
+Installed-Size: $(du -sk --apparent-size "$tree/usr" | cut -f 1)
+Depends: $needs
+Section: net
+Priority: optional
+Description: workbench for saved packet captures
+ Edits, merges, reports on and filters saved packet captures (pcap and
+ pcapng), and compiles expressions as those of tcpdump to listings of a
+ packet-filter machine. It is meant to be trusted with damaged and hostile
+ files: its functions are proved to meet their contracts.
+END
+
+package=$root/out/capkit_${version}_$architecture.deb
+mkdir -p "$root/out"
+dpkg-deb --root-owner-group --build "$tree" "$package" >/dev/null
+printf '%s\n' "$package"
