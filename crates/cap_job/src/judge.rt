@@ -90,8 +90,8 @@ where
 }
 
 impl<A: Allocator> Rule<A> {
-    /// The packet as it passes, or `None` where it doesn't. The errors are `LinkTypeNotFiltered`, where an expression isn't
-    /// read on its link type, and `TimeOutOfRange`.
+    /// The packet as it passes, or `None` where it doesn't. The errors are `LinkTypeNotFiltered`,
+    /// where an expression isn't read on its link type, and `TimeOutOfRange`.
     fn kept<'a>(
         &mut self,
         window: &mut Option<Window<A>>,
@@ -159,7 +159,8 @@ impl<A: Allocator> Judge<A> {
     ghost use Rattle.cap_job.specs.Judged.{Filter as AskedFilter, verdict};
     ghost use Rattle.cap_job.specs.Judging.{Closes, GrowsByOne, HasFewMarks, IsWithin, JudgeView, Tells, judge_stand, spent_by_verdict, stand_with};
 
-    /// A judge that has met nothing. Where it looks for duplicates it takes the memory of their window here.
+    /// A judge that has met nothing. Where it looks for duplicates it takes the memory of their
+    /// window here.
     pub fn new(alloc: A, rule: Rule<A>) -> Result<Self, AllocError>
     where
         A: Copy + Drop,
@@ -174,7 +175,8 @@ impl<A: Allocator> Judge<A> {
         })
     }
 
-    /// A judge that has met nothing, by a filter, up to so many packets that pass where there is a number. It takes no memory.
+    /// A judge that has met nothing, by a filter, up to so many packets that pass where there is a
+    /// number. It takes no memory.
     pub fn filtering(filter: Filter<A>, count: Option<u64>) -> Self
         ensures { result ≡ record { asked = AskedFilter (rule_of filter) count; stand = stand_with 0 nothing_counted; programs = programs_of filter } }
     {

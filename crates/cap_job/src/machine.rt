@@ -191,7 +191,8 @@ impl<I: Input, O: Output, A: Allocator + Copy + Drop> Machine<I, O, A> {
         self.drain.name(index)
     }
 
-    /// From here on packets are judged by this filter, up to so many that pass where there is a number.
+    /// From here on packets are judged by this filter, up to so many that pass where there is a
+    /// number.
     pub fn judge_by(&mut self, filter: Filter<A>, count: Option<u64>)
         ensures stand { machine_stand self.new ≡ asking (AskedFilter (rule_of filter) count) (machine_stand self.old) }
         ensures programs { self.new.programs ≡ programs_of filter }

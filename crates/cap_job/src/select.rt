@@ -124,8 +124,8 @@ fn unless_duplicate<'a, A: Allocator>(
     }
 }
 
-/// The packet as it passes: selected by its number and its time, cut and moved. `None` where it isn't selected or is a
-/// duplicate. The one error is `TimeOutOfRange`.
+/// The packet as it passes: selected by its number and its time, cut and moved. `None` where it
+/// isn't selected or is a duplicate. The one error is `TimeOutOfRange`.
 pub(crate) fn select<'a, A: Allocator>(
     edit: &Edit<A>,
     window: &mut Option<Window<A>>,
@@ -148,8 +148,8 @@ pub(crate) fn select<'a, A: Allocator>(
     Ok(unless_duplicate(window, &changed))
 }
 
-/// A law of the definitions, the contract of a function that does nothing: what passes of an edit, decided packet by
-/// packet, is what is unique of what is selected, as lists.
+/// A law of the definitions, the contract of a function that does nothing: what passes of an edit,
+/// decided packet by packet, is what is unique of what is selected, as lists.
 pub fn edit_passes_unique()
     ensures { PassesUnique }
 {}

@@ -7,14 +7,15 @@ use circular_buffer::HeapCircularBuffer;
 use std::alloc::{AllocError, Allocator};
 use std::marker::Model;
 
-/// Digests are told apart by at most so many heads of chains.
+/// At most so many chains: at 4 bytes each their heads take 4 MiB.
 const MOST_HEADS: u32 = 0x0010_0000;
 
 /// The marks of the last packets, as many as fit.
 ///
-/// The marks of one hash, the low bits of the digest, are chained from the newest to the oldest, as the strings of one
-/// prefix in LZ77. Marks are numbered from 1, and a link is a difference of two numbers: so a chain ends by itself where
-/// it leaves the window, and nothing is ever deleted from it.
+/// The marks of one hash, the low bits of the digest, are chained from the newest to the oldest, as
+/// the strings of one prefix in LZ77. Marks are numbered from 1, and a link is a difference of two
+/// numbers: so a chain ends by itself where it leaves the window, and nothing is ever deleted from
+/// it.
 #[derive(Drop)]
 pub struct Window<A: Allocator> {
     marks: HeapCircularBuffer<Mark, A>,
@@ -44,8 +45,9 @@ impl<A: Allocator> Window<A> {
     ghost use Rattle.cap_window.specs.Marks.{last, mark_of};
     ghost use Rattle.cap_window.specs.View.{window};
 
-    /// A window for the marks of so many packets. It takes all its memory here: 24 bytes for each, and 4 for each of its
-    /// heads, which are as many, rounded up to a power of two, and 2^20 at most.
+    /// A window for the marks of so many packets. It takes all its memory here: 24 bytes for each,
+    /// and 4 for each of its heads, which are as many, rounded up to a power of two, and 2^20 at
+    /// most.
     pub fn new(alloc: A, capacity: u32) -> Result<Self, AllocError>
     where
         A: Clone,
@@ -65,8 +67,9 @@ impl<A: Allocator> Window<A> {
         })
     }
 
-    /// Whether a packet of the window had as many captured bytes with the same digest. The bytes' mark enters the window in
-    /// either case, and the oldest leaves it where it is full. Takes no memory.
+    /// Whether a packet of the window had as many captured bytes with the same digest. The bytes'
+    /// mark enters the window in either case, and the oldest leaves it where it is full. Takes no
+    /// memory.
     pub fn seen_before(&mut self, bytes: &[u8]) -> bool
         requires { length bytes.now < 2 ^ 32 }
         ensures answer { IsTrue result ↔ Contains self.old.marks (mark_of bytes.now) }
@@ -132,8 +135,8 @@ fn lower(numbers: &mut [u32], less: u32)
     }
 }
 
-/// The number of the newest mark, of which so many are kept. Where the numbers run out all become smaller by one
-/// difference, and what left the window becomes 0.
+/// The number of the newest mark, of which so many are kept. Where the numbers run out all become
+/// smaller by one difference, and what left the window becomes 0.
 fn renumbered(heads: &mut [u32], newest: u32, kept: u32) -> u32
     requires { (kept ≤ newest) × (kept + 1 < 2 ^ 32) }
     ensures heads { EachIndex heads.old (λ h. slice_index heads.new h ≡ slice_index heads.old h - (newest - result)) }
