@@ -1,18 +1,19 @@
 #!/usr/bin/env python3
-"""Measures capkit beside editcap and tcpdump, where these are installed, and prints a table.
+"""Measures capkit beside editcap, mergecap, capinfos and tcpdump, where these are installed, and prints a table.
 
 usage: run.py [--packets N] [--rounds N] [--capkit PROGRAM] [NAME..]
 
 A capture is made in a temporary folder. Each job is run by both programs in turn, ROUNDS times (5), and the
 best time of each counts: processor time, the user's and the system's, in seconds. Memory is the most that was
 resident, in MiB, as GNU time tells it, where that is installed. What both programs write is compared first,
-behind the file header. NAMEs choose jobs; none means all.
+behind the file header; a report is compared by its number of packets. NAMEs choose jobs; none means all.
 """
 import argparse
 import math
 import os
 import pathlib
 import random
+import re
 import shutil
 import subprocess
 import sys
@@ -48,7 +49,24 @@ def built_program():
     return str(programs[-1])
 
 
-def jobs(capkit, capture):
+def parts_of(capture, count, folder):
+    """Deals the packets of the capture out to `count` files in turn, so that each is in time order."""
+    names = [str(folder / f"part-{count}-{part}.pcap") for part in range(count)]
+    data = pathlib.Path(capture).read_bytes()
+    files = [open(name, "wb", buffering=1 << 20) for name in names]
+    for file in files:
+        file.write(data[:24])
+    at, packet = 24, 0
+    while at < len(data):
+        end = at + 16 + int.from_bytes(data[at + 8 : at + 12], "little")
+        files[packet % count].write(data[at:end])
+        at, packet = end, packet + 1
+    for file in files:
+        file.close()
+    return names
+
+
+def jobs(capkit, capture, folder):
     """The jobs: their name, the peer's program, and the words of both, with OUT for the output."""
     edits = {
         "copy-pcap": ["-F", "pcap", capture, "OUT"],
@@ -57,6 +75,10 @@ def jobs(capkit, capture):
     }
     for name, words in edits.items():
         yield name, "editcap", [capkit, "edit", *words], ["editcap", *words]
+    for count in (2, 16):
+        words = ["-F", "pcap", "-w", "OUT", *parts_of(capture, count, folder)]
+        yield f"merge-{count}", "mergecap", [capkit, "merge", *words], ["mergecap", *words]
+    yield "infos", "capinfos", [capkit, "infos", capture], ["capinfos", "-M", capture]
     for name, expression in EXPRESSIONS.items():
         own = [capkit, "print", "-w", "OUT", "--format", "pcap", capture, expression]
         yield name, "tcpdump", own, ["tcpdump", "-Z", "root", "-r", capture, "-w", "OUT", expression]
@@ -90,10 +112,20 @@ def packets_of(path):
         return file.read()[24:]
 
 
+def counted(words):
+    """The number of packets that a report tells."""
+    report = subprocess.run(words, capture_output=True, text=True, check=True).stdout
+    counts = re.findall(r"^(?:Packets|Number of packets): *(?:= *)?(\d+)", report, re.MULTILINE)
+    return counts[0] if counts else None
+
+
 def compare(name, own, peer, folder):
     """Whether both write the same packets; only pcap files can be compared byte by byte."""
     if name == "to-pcapng":
         return ""
+    if name == "infos":
+        count = counted(own)
+        return "same" if count is not None and count == counted(peer) else "DIFFERENT"
     for words, out in ((own, "own"), (peer, "peer")):
         run(words, str(folder / out))
     same = packets_of(folder / "own") == packets_of(folder / "peer")
@@ -129,7 +161,7 @@ def main():
         print(f"{arguments.packets} packets, {os.path.getsize(capture)} bytes; seconds of a processor, MiB")
         print(f"{'job':14} {'peer':8} {'capkit':>8} {'peer':>8} {'ratio':>6} {'memory':>8} {'peer':>8}")
         ratios = []
-        for name, program, own, peer in jobs(capkit, capture):
+        for name, program, own, peer in jobs(capkit, capture, folder):
             if arguments.names and name not in arguments.names:
                 continue
             if shutil.which(program) is None:

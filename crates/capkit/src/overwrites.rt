@@ -1,5 +1,6 @@
 //! Outputs that are a file which is read too, under another name or through links.
-ghost use Rattle.std.specs.Prelude.{◌≡◌, false, true, is_none};
+ghost use Rattle.std.specs.Prelude.{◌≡◌, IfSome, false, true, is_none, string_bytes};
+ghost use Rattle.cap_line.specs.Names.{is_standard};
 
 use cap_line::{Line, STANDARD};
 use std::fs;
@@ -38,7 +39,8 @@ fn is_read_as(rt: &HostRuntime, name: &str, output: Identity) -> bool {
 ///
 /// Standard output is no such file. A file that can't be looked up is taken for another one.
 pub fn overwrites_input(rt: &HostRuntime, line: &Line) -> bool
-    ensures { is_none (line.now).output ≡ true → result ≡ false }
+    ensures unnamed { is_none (line.now).output ≡ true → result ≡ false }
+    ensures standard { IfSome (line.now).output (λ name. is_standard (string_bytes name) ≡ true → result ≡ false) }
 {
     let Some(output) = &line.output else {
         return false;
