@@ -1,8 +1,8 @@
 //! Hosts that are looked for together.
 
-ghost use Rattle.std.specs.Prelude.{◌≡◌, ◌≤◌, if◌then◌else◌, Some, None, length, IfOk, OnOk};
+ghost use Rattle.std.specs.Prelude.{◌≡◌, ◌≤◌, if◌then◌else◌, Some, None, length, IfOk};
 ghost use Rattle.std.specs.List.{insert};
-ghost use Rattle.flt_gen.specs.Hosts.{no_hosts, inserted, with_host, same_protocol, same_direction, goes_with, host_address, more_hosts};
+ghost use Rattle.flt_gen.specs.Hosts.{no_hosts, inserted, same_protocol, same_direction, goes_with, host_address, more_hosts};
 
 use flt_lang::{Direction, FullQuals, Value};
 use flt_words::{Join, Protocol, Side, ValueType};
