@@ -118,7 +118,9 @@ pub(crate) fn create<'a>(rt: &HostRuntime, name: &'a str) -> Result<Target, Stop
     let Ok(created) = Created::create(rt, name) else {
         return Err(Stop::CannotCreate(name));
     };
-    let writer = buffered(BufWriter::with_capacity(rt.alloc(), BUFFER, created))?;
+    // A terminal shows each line, report or listing as it is written.
+    let size = if created.is_terminal() { 0 } else { BUFFER };
+    let writer = buffered(BufWriter::with_capacity(rt.alloc(), size, created))?;
     Ok(Watched::new(writer))
 }
 
@@ -145,12 +147,33 @@ fn run_over<'a>(
         StdOutput::new(target),
         StdOutput::new(messages),
     );
-    let _ = messages.into_inner().flush();
-    let mut target = target.into_inner();
-    if target.flush().is_err() && !target.has_failed() {
-        return Err(Stop::WriteFailed(output));
+    end(status, target.into_inner(), messages.into_inner(), output)
+}
+
+/// Ends the output and the messages of a run, and answers the status.
+///
+/// Where the reader of a pipe went away, as of `| head`, nobody is told that the rest can't be written.
+fn end<'a, W: Write + Drop>(
+    status: u8,
+    mut target: Target,
+    mut messages: BufWriter<W>,
+    output: &'a str,
+) -> Result<u8, Stop<'a>>
+    requires { status ≤ 2 }
+    ensures { IfOk result (λ status. status ≤ 2) }
+{
+    let flushed = target.flush();
+    if target.has_failed() && target.is_unread() {
+        let _ = messages.into_parts();
+        return Ok(status);
     }
-    Ok(status)
+    let _ = messages.flush();
+    match flushed {
+        Err(_) if target.has_failed() => Ok(status),
+        Err(_) if target.is_unread() => Ok(FAULT),
+        Err(_) => Err(Stop::WriteFailed(output)),
+        Ok(()) => Ok(status),
+    }
 }
 
 /// Tells the stop, and answers its status.

@@ -3,11 +3,11 @@ ghost use Rattle.std.specs.Prelude.{◌≡◌, ◌||◌, IfOk, None, false, is_e
 ghost use Rattle.std.specs.Io.{WritesAtMost};
 ghost use Rattle.std.specs.Io.KnownBytes.{WriteAppends};
 ghost use Rattle.cap_line.specs.Names.{is_standard};
-ghost use Rattle.capkit.specs.Streams.{is_standard_input, is_standard_output};
+ghost use Rattle.capkit.specs.Streams.{is_standard_input, is_standard_output, is_unread};
 
 use cap_line::STANDARD;
 use std::fs::{self, File};
-use std::io::{self, Read, Stdin, Stdout, Write};
+use std::io::{self, ErrorKind, IsTerminal, Read, Stdin, Stdout, Write};
 
 /// An input that was opened.
 #[derive(Drop)]
@@ -72,22 +72,52 @@ impl Write for Created {
     }
 }
 
-/// A writer that remembers whether a write failed.
+impl Created {
+    /// Whether somebody looks at what is written as it comes.
+    pub fn is_terminal(&self) -> bool {
+        match self {
+            Created::File(_) => false,
+            Created::Stream(stream) => stream.is_terminal(),
+        }
+    }
+}
+
+/// Whether it failed since the reader of a pipe went away.
+fn is_unread<T>(answer: &io::Result<T>) -> bool
+    ensures { result ≡ is_unread answer.now }
+{
+    match answer {
+        Ok(_) => false,
+        Err(error) => error.kind() == ErrorKind::BrokenPipe,
+    }
+}
+
+/// A writer that remembers whether a write failed, and whether the reader of its pipe went away.
 #[derive(Drop)]
 pub struct Watched<W> {
     writer: W,
     has_failed: bool,
+    is_unread: bool,
 }
 
 impl<W: Write> Watched<W> {
     pub fn new(writer: W) -> Self
         ensures writer { result.writer ≡ writer }
         ensures fresh { result.has_failed ≡ false }
+        ensures read { result.is_unread ≡ false }
     {
         Watched {
             writer,
             has_failed: false,
+            is_unread: false,
         }
+    }
+
+    /// Whether the reader of the pipe that it writes to went away.
+    pub fn is_unread(&self) -> bool
+        ensures { result ≡ self.now.is_unread }
+    {
+        self.is_unread
     }
 
     /// Whether a write failed. The caller has told it then.
@@ -103,13 +133,20 @@ impl<W: Write> Write for Watched<W> {
         ensures bound { WritesAtMost result buf.now }
         ensures bytes { WriteAppends None None result buf.now }
         ensures failed { self.new.has_failed ≡ (self.old.has_failed || is_err result) }
+        ensures unread { self.new.is_unread ≡ (self.old.is_unread || is_unread result) }
     {
         let written = self.writer.write(buf);
         self.has_failed = self.has_failed || written.is_err();
+        self.is_unread = self.is_unread || is_unread(&written);
         written
     }
 
-    fn flush(&mut self) -> io::Result<()> {
-        self.writer.flush()
+    fn flush(&mut self) -> io::Result<()>
+        ensures failed { self.new.has_failed ≡ self.old.has_failed }
+        ensures unread { self.new.is_unread ≡ (self.old.is_unread || is_unread result) }
+    {
+        let flushed = self.writer.flush();
+        self.is_unread = self.is_unread || is_unread(&flushed);
+        flushed
     }
 }
