@@ -5,6 +5,7 @@ ghost use Rattle.std.specs.IoError.{error_kind};
 ghost use Rattle.cap_tools.specs.Command.{is_proper};
 ghost use Rattle.cap_line.specs.Line.{has_expression, is_ready, with_code};
 
+use crate::progress::{Counted, Progress};
 use crate::streams::{Created, Opened, Watched};
 use crate::{FAULT, tell};
 use cap_line::{Line, STANDARD, with_code};
@@ -20,7 +21,7 @@ const BUFFER: usize = 65_536;
 /// How many bytes of a listing are read at most: one more than it may have, by which a longer one is known.
 const LISTING_ROOM: u64 = 1_048_577;
 
-pub(crate) type Source = StdInput<BufReader<Opened>>;
+pub(crate) type Source<'a> = StdInput<BufReader<Counted<'a, Opened>>>;
 
 pub(crate) type Target = Watched<BufWriter<Created>>;
 
@@ -98,7 +99,11 @@ fn buffered<'a, T: Drop>(made: io::Result<T>) -> Result<T, Stop<'a>>
 }
 
 /// Opens the inputs in order.
-pub(crate) fn open<'a>(rt: &HostRuntime, names: &'a [String]) -> Result<Vec<Source>, Stop<'a>>
+pub(crate) fn open<'a, 'p>(
+    rt: &HostRuntime,
+    names: &'a [String],
+    progress: &'p Progress<'p>,
+) -> Result<Vec<Source<'p>>, Stop<'a>>
     ensures { IfOk result (λ inputs. vec_len inputs ≡ length names.entry.now) }
 {
     let mut inputs = Vec::new(rt.alloc());
@@ -107,7 +112,8 @@ pub(crate) fn open<'a>(rt: &HostRuntime, names: &'a [String]) -> Result<Vec<Sour
         let Ok(opened) = Opened::open(rt, name) else {
             return Err(Stop::CannotOpen(name));
         };
-        let reader = buffered(BufReader::with_capacity(rt.alloc(), BUFFER, opened))?;
+        let counted = Counted::new(opened, progress);
+        let reader = buffered(BufReader::with_capacity(rt.alloc(), BUFFER, counted))?;
         inputs.push(StdInput::new(reader))?;
     }
     Ok(inputs)
@@ -129,8 +135,9 @@ fn run_over<'a>(
     rt: &HostRuntime,
     command: Command,
     mut names: Vec<String>,
-    inputs: Vec<Source>,
+    inputs: Vec<Source<'_>>,
     output: &'a str,
+    progress: &Progress<'_>,
 ) -> Result<u8, Stop<'a>>
     requires proper { is_proper command (vec_len inputs) ≡ true }
     requires named { vec_len names ≡ vec_len inputs }
@@ -147,6 +154,7 @@ fn run_over<'a>(
         StdOutput::new(target),
         StdOutput::new(messages),
     );
+    progress.erase();
     end(status, target.into_inner(), messages.into_inner(), output)
 }
 
@@ -203,11 +211,12 @@ pub fn run(rt: &HostRuntime, line: Line) -> u8
         Ok(command) => command,
         Err(stop) => return stopped(rt, stop),
     };
-    let inputs = match open(rt, names.as_slice()) {
+    let progress = Progress::new(rt, names.as_slice(), output);
+    let inputs = match open(rt, names.as_slice(), &progress) {
         Ok(inputs) => inputs,
         Err(stop) => return stopped(rt, stop),
     };
-    match run_over(rt, command, names, inputs, output) {
+    match run_over(rt, command, names, inputs, output, &progress) {
         Ok(status) => status,
         Err(stop) => stopped(rt, stop),
     }

@@ -6,6 +6,7 @@ ghost use Rattle.capkit.specs.Status.{status_of};
 
 mod job;
 mod overwrites;
+mod progress;
 mod streams;
 #[cfg(test)]
 mod tests;

@@ -2,6 +2,7 @@
 
 use crate::job::{Stop, create, open, read_listing, run};
 use crate::overwrites::overwrites_input;
+use crate::progress::Progress;
 use cap_line::command_of;
 use std::alloc::{AllocError, Global};
 use std::os::unix::fs::symlink;
@@ -121,7 +122,9 @@ fn stops_have_their_texts(rt: HostRuntime) -> Result<(), Fail> {
     assert!(rt; tells(rt.alloc(), listing, &unopened)?);
     assert!(rt; tells(rt.alloc(), create(&rt, &none), &uncreated)?);
     let names = vec![in rt.alloc(); path(&rt, &folder, "in")?, none]?;
-    assert!(rt; tells(rt.alloc(), open(&rt, names.as_slice()), &unopened)?);
+    let progress = Progress::new(&rt, names.as_slice(), "-");
+    let opened = open(&rt, names.as_slice(), &progress);
+    assert!(rt; tells(rt.alloc(), opened, &unopened)?);
     fs::remove_dir_all(&rt, &folder)?;
     Ok(())
 }

@@ -1,0 +1,127 @@
+//! How far long work is: shown where standard error is a terminal, from two seconds on, and erased at the end.
+
+use cap_line::STANDARD;
+use std::cell::Cell;
+use std::fs;
+use std::io::{self, IsTerminal, Read};
+use std::time::Instant;
+
+/// The second since the start at which progress is shown first.
+const FIRST: u64 = 2;
+
+/// The bytes of a MiB.
+const MIB: u64 = 1_048_576;
+
+/// The size of all files of these names. 0 where one is no plain file, so that its size isn't known.
+fn total_size(rt: &HostRuntime, names: &[String]) -> u64 {
+    let mut total: u64 = 0;
+    for name in names {
+        match fs::metadata(rt, name) {
+            Ok(file) if file.is_file() && name.as_str() != STANDARD => {
+                total = total.saturating_add(file.len());
+            }
+            _ => return 0,
+        }
+    }
+    total
+}
+
+/// Counts the bytes that the inputs of a job read.
+#[derive(Drop)]
+pub struct Progress<'a> {
+    rt: &'a HostRuntime,
+    /// When the job began. None where nothing is to be shown.
+    start: Option<Instant>,
+    /// The size of all inputs; 0 where it isn't known.
+    total: u64,
+    read: Cell<u64>,
+    /// The second at which it is shown next.
+    next: Cell<u64>,
+}
+
+impl<'a> Progress<'a> {
+    /// Nothing is read yet of the inputs of these names. What the job writes to a terminal isn't disturbed.
+    pub fn new(rt: &'a HostRuntime, names: &[String], output: &str) -> Progress<'a> {
+        let is_disturbing = output == STANDARD && rt.stdout().is_terminal();
+        let start = if rt.stderr().is_terminal() && !is_disturbing {
+            Instant::now(rt).ok()
+        } else {
+            None
+        };
+        Progress {
+            rt,
+            start,
+            total: total_size(rt, names),
+            read: Cell::new(0),
+            next: Cell::new(FIRST),
+        }
+    }
+
+    /// Counts bytes that were read, and shows progress once a second.
+    fn count(&self, bytes: usize) {
+        let Some(start) = self.start else {
+            return;
+        };
+        let read = self.read.get().saturating_add(bytes as u64);
+        self.read.set(read);
+        let Ok(elapsed) = start.elapsed(self.rt) else {
+            return;
+        };
+        let seconds = elapsed.as_secs();
+        if seconds >= self.next.get() {
+            self.next.set(seconds.saturating_add(1));
+            self.show(read, seconds);
+        }
+    }
+
+    /// Writes the line, over the one that stands there.
+    fn show(&self, read: u64, seconds: u64) {
+        let mib = read / MIB;
+        let rate = mib / seconds.max(1);
+        let _ = match self.share(read) {
+            Some(share) => self
+                .rt
+                .eprint(format_args!("\r\x1b[K{share}% read, {rate} MiB/s")),
+            None => self
+                .rt
+                .eprint(format_args!("\r\x1b[K{mib} MiB read, {rate} MiB/s")),
+        };
+    }
+
+    /// How much of the inputs is read, in hundredths. None where their size isn't known.
+    fn share(&self, read: u64) -> Option<u128> {
+        if self.total == 0 {
+            return None;
+        }
+        let share = u128::from(read) * 100 / u128::from(self.total);
+        Some(share.min(100))
+    }
+
+    /// Erases the line, if one stands there.
+    pub fn erase(&self) {
+        if self.next.get() > FIRST {
+            let _ = self.rt.eprint(format_args!("\r\x1b[K"));
+        }
+    }
+}
+
+/// A reader whose bytes are counted.
+#[derive(Drop)]
+pub struct Counted<'a, R> {
+    reader: R,
+    progress: &'a Progress<'a>,
+}
+
+impl<'a, R: Read> Counted<'a, R> {
+    pub fn new(reader: R, progress: &'a Progress<'a>) -> Self {
+        Counted { reader, progress }
+    }
+}
+
+impl<R: Read> Read for Counted<'_, R> {
+    fn read(&mut self, buf: &mut [u8]) -> io::Result<usize> {
+        let count = self.reader.read(buf)?;
+        self.progress.count(count);
+        Ok(count)
+    }
+}
