@@ -3,7 +3,7 @@ ghost use Rattle.std.specs.Prelude.{◌≡◌, ◌||◌, IfOk, None, false, is_e
 ghost use Rattle.std.specs.Io.{WritesAtMost};
 ghost use Rattle.std.specs.Io.KnownBytes.{WriteAppends};
 ghost use Rattle.cap_line.specs.Names.{is_standard};
-ghost use Rattle.capkit.specs.Streams.{is_standard_input, is_standard_output, is_unread};
+ghost use Rattle.capkit.specs.Streams.{is_standard_input, is_standard_output};
 
 use cap_line::STANDARD;
 use std::fs::{self, File};
@@ -83,9 +83,7 @@ impl Created {
 }
 
 /// Whether it failed since the reader of a pipe went away.
-fn is_unread<T>(answer: &io::Result<T>) -> bool
-    ensures { result ≡ is_unread answer.now }
-{
+fn is_unread<T>(answer: &io::Result<T>) -> bool {
     match answer {
         Ok(_) => false,
         Err(error) => error.kind() == ErrorKind::BrokenPipe,
@@ -133,7 +131,6 @@ impl<W: Write> Write for Watched<W> {
         ensures bound { WritesAtMost result buf.now }
         ensures bytes { WriteAppends None None result buf.now }
         ensures failed { self.new.has_failed ≡ (self.old.has_failed || is_err result) }
-        ensures unread { self.new.is_unread ≡ (self.old.is_unread || is_unread result) }
     {
         let written = self.writer.write(buf);
         self.has_failed = self.has_failed || written.is_err();
@@ -143,7 +140,6 @@ impl<W: Write> Write for Watched<W> {
 
     fn flush(&mut self) -> io::Result<()>
         ensures failed { self.new.has_failed ≡ self.old.has_failed }
-        ensures unread { self.new.is_unread ≡ (self.old.is_unread || is_unread result) }
     {
         let flushed = self.writer.flush();
         self.is_unread = self.is_unread || is_unread(&flushed);
