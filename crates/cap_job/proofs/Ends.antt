@@ -38,7 +38,8 @@ ends-as ss before names old new (end.Broken input fault) leaves =
         | inl cut ↦ inr (inl (record {
           input = input;
           fault = fault;
-          after = leaves.head.source;
+          head = leaves.head;
+          among = leaves.among;
           cut = cut;
           out = comes-out (cut_at (wholes_of ss) input cut.held) before names old new (Broken input fault leaves.head.source.offset) (end_text names new.feed.heads (end.Broken input fault)) 1 cut.comes text refl;
         }))

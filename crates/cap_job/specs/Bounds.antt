@@ -1,5 +1,5 @@
 -- The bounds of a step, whatever the devices: what it reads, how many steps were made, and what the job holds.
-use Rattle.std.specs.Prelude.{◌≡◌, ℕ, ◌+◌, ◌*◌, ◌-◌, ◌≤◌, Bool, true, false, List, [], ◌∷◌, length, map, Option, None, Some, Result, Ok, Err}
+use Rattle.std.specs.Prelude.{◌≡◌, ℕ, ◌+◌, ◌*◌, ◌-◌, ◌≤◌, Bool, IsTrue, true, false, List, [], ◌∷◌, length, map, Option, None, Some, Result, Ok, Err}
 use Rattle.std.specs.List.{All}
 use Rattle.cap_octet.specs.declared.fault.Fault.{Fault}
 use Rattle.cap_io.specs.Capture.{Declared, Nothing, PcapFile, PcapngFile}
@@ -7,7 +7,7 @@ use Rattle.cap_io.specs.Reading.{most_in_unit}
 use Rattle.cap_io.specs.Source.{HasFew, behind}
 use Rattle.cap_io.specs.Text.{AreFew, most_output_interfaces}
 use Rattle.cap_job.specs.Draining.{DrainView, Target, Capture, Text, Lines}
-use Rattle.cap_job.specs.Feeding.{HeadView, FeedView, Among, FetchSteps, Settles, closes, place_left, waiting_total, weight_of}
+use Rattle.cap_job.specs.Feeding.{HeadView, FeedView, Among, Fetches, FetchSteps, Settles, closes, place_left, waiting_total, weight_of}
 use Rattle.cap_octet.specs.Packet.{Captured}
 use Rattle.cap_tools.specs.Compiling.{spent_in}
 use Rattle.cap_job.specs.Judging.{most_spent, places, spent_by_verdict, window_asked}
@@ -19,8 +19,10 @@ use Rattle.cap_job.specs.Working.{MachineStand, MachineView}
 
 -- One input was read on, to its next packet and no further. No packet is decided, and nothing is written unless the
 -- input was read to its end.
-pub record ReadsOn (old : MachineView) (input : ℕ) (answer : Result Bool Fault) (new : MachineView) : Type 0 where
+pub record ReadsOn (tells : Bool) (old : MachineView) (input : ℕ) (answer : Result Bool Fault) (new : MachineView) : Type 0 where
   pub fetches : FetchSteps old.feed input answer new.feed
+  -- where the input tells its bytes: its next packet, its clean end or its fault, and no more
+  pub told : IsTrue tells → Fetches old.feed input answer new.feed
   pub decided : new.decided ≡ old.decided
   pub drain : closes answer ≡ false → new.drain ≡ old.drain
   pub programs : new.programs ≡ old.programs
@@ -62,11 +64,11 @@ is_fault (Err fault) = true
 
 -- A step reads one input on, or decides one packet, or can't decide it, or does neither. It goes on behind an input that
 -- gave no fault, or a packet that is decided, and not otherwise.
-pub data StepReads (goes : Bool) (old new : MachineView) : Type 0 where
-  reads_on : (input : ℕ) → (answer : Result Bool Fault) → (goes ≡ true → is_fault answer ≡ false) → ReadsOn old input answer new → StepReads goes old new
-  decides_one : (input : ℕ) → DecidesOne old input new → StepReads goes old new
-  leaves_one : (input : ℕ) → goes ≡ false → LeavesOne old input new → StepReads goes old new
-  reads_nothing : goes ≡ false → ReadsNothing old new → StepReads goes old new
+pub data StepReads (tells goes : Bool) (old new : MachineView) : Type 0 where
+  reads_on : (input : ℕ) → (answer : Result Bool Fault) → (goes ≡ true → is_fault answer ≡ false) → ReadsOn tells old input answer new → StepReads tells goes old new
+  decides_one : (input : ℕ) → DecidesOne old input new → StepReads tells goes old new
+  leaves_one : (input : ℕ) → goes ≡ false → LeavesOne old input new → StepReads tells goes old new
+  reads_nothing : goes ≡ false → ReadsNothing old new → StepReads tells goes old new
 
 abbrev pub goes_on : Progress → Bool
 goes_on More = true

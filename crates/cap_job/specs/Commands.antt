@@ -153,9 +153,9 @@ pub record PreparesOnly (old new : MachineView) : Type 0 where
   pub decided : new.decided ≡ old.decided
   pub unspent : spent_in new.programs ≡ spent_in old.programs
 
-abbrev pub StepReadsBy : Option Preparing → Bool → MachineView → MachineView → Type 0
-StepReadsBy None goes old new = StepReads goes old new
-StepReadsBy (Some preparing) goes old new = PreparesOnly old new
+abbrev pub StepReadsBy : Option Preparing → (tells goes : Bool) → MachineView → MachineView → Type 0
+StepReadsBy None tells goes old new = StepReads tells goes old new
+StepReadsBy (Some preparing) tells goes old new = PreparesOnly old new
 
 -- ---- all steps
 

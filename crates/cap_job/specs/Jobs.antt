@@ -2,7 +2,7 @@
 use Rattle.std.specs.Prelude.{◌≡◌, ◌⊎◌, ℕ, ◌+◌, ◌≤◌, Bool, true, false, List, [], ◌++◌, length, map, Option, None, Some}
 use Rattle.std.specs.List.{slice_get}
 use Rattle.cap_octet.specs.declared.fault.Fault.{Fault}
-use Rattle.cap_io.specs.Source.{SourceView, source_at}
+use Rattle.cap_io.specs.Source.{source_at}
 use Rattle.cap_tools.specs.Messages.{fault_message, write_failed_message, no_memory_message}
 use Rattle.cap_tools.specs.Running.{OutputView, IsTold}
 use Rattle.cap_job.specs.declared.feed.Place.{Place}
@@ -18,7 +18,7 @@ use Rattle.cap_job.specs.Judged.{Asked}
 use Rattle.cap_job.specs.Judging.{stand_with}
 use Rattle.cap_job.specs.Reports.{name_at, nothing_counted}
 use Rattle.cap_job.specs.Course.{Work, outcome, out}
-use Rattle.cap_job.specs.Feeding.{HeadView, FeedView, Stood, most_steps, ordering_of}
+use Rattle.cap_job.specs.Feeding.{HeadView, FeedView, Stood, Among, most_steps, ordering_of}
 use Rattle.flt_bpf.specs.Content.{Content}
 use Rattle.cap_job.specs.Working.{MachineStand, MachineView, machine_with, Decided, GoesOn, EndsByCut, WantsMemory, StopsWriting, IsUnderWay, form_of, written_by, failures_by, texts, wholes_of, cut_at}
 
@@ -118,8 +118,10 @@ pub record IsOut (rs : List Rest) (before : List ℕ) (names : List (List ℕ)) 
 pub record IsOutCut (ss : List Stood) (before : List ℕ) (names : List (List ℕ)) (old new : MachineStand) (text : List ℕ) (status : ℕ) : Type 0 where
   pub input : ℕ
   pub fault : Fault
-  pub after : SourceView
-  pub cut : EndsByCut ss before old new input fault after
+  -- as this step left it
+  pub head : HeadView
+  pub among : Among new.feed.heads input head
+  pub cut : EndsByCut ss before old new input fault head.source
   pub out : IsOut (cut_at (wholes_of ss) input cut.held) before names old new text status
 
 -- there was no memory elsewhere: the output stays

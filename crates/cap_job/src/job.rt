@@ -184,7 +184,7 @@ impl<I: Input, O: Output, E: Output, A: Allocator + Copy + Drop> Job<I, O, E, A>
         ensures status { IsStatus result }
         ensures turns { self.old.packets.done ≡ None → self.new.packets.turns ≡ self.old.packets.turns + 1 }
         ensures few { self.old.packets.done ≡ None → self.new.packets.turns ≤ most_turns self.old.packets.machine.feed + 1 }
-        ensures reads { StepReadsBy self.old.preparing (turn_goes_on result) (machine_of self.old.packets) (machine_of self.new.packets) }
+        ensures reads { StepReadsBy self.old.preparing I.tells (turn_goes_on result) (machine_of self.old.packets) (machine_of self.new.packets) }
         ensures light { IsLight self.new.packets.machine }
         ensures left { result ≡ Turn.More → command_left self.new < command_left self.old }
         ensures names { self.new.packets.machine.drain.names ≡ self.old.packets.machine.drain.names }

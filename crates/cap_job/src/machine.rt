@@ -230,7 +230,7 @@ impl<I: Input, O: Output, A: Allocator + Copy + Drop> Machine<I, O, A> {
         ensures asked { self.new.asked ≡ self.old.asked }
         ensures names { self.new.drain.names ≡ self.old.drain.names }
         ensures progress { result ≡ Progress.More → feed_left self.new.feed < feed_left self.old.feed }
-        ensures reads { StepReads (goes_on result) self.old self.new }
+        ensures reads { StepReads I.tells (goes_on result) self.old self.new }
         ensures light { IsLight (machine_stand self.new) }
         ensures paid { result ≡ Progress.More → IsPaid self.old.feed self.new.feed }
     {
@@ -249,7 +249,7 @@ impl<I: Input, O: Output, A: Allocator + Copy + Drop> Machine<I, O, A> {
         ensures asked { self.new.asked ≡ self.old.asked }
         ensures names { self.new.drain.names ≡ self.old.drain.names }
         ensures progress { result ≡ Progress.More → feed_left self.new.feed < feed_left self.old.feed }
-        ensures reads { StepReads (goes_on result) self.old self.new }
+        ensures reads { StepReads I.tells (goes_on result) self.old self.new }
         ensures light { IsLight (machine_stand self.new) }
         ensures paid { result ≡ Progress.More → IsPaid self.old.feed self.new.feed }
     {
@@ -281,7 +281,7 @@ impl<I: Input, O: Output, A: Allocator + Copy + Drop> Machine<I, O, A> {
         ensures asked { self.new.asked ≡ self.old.asked }
         ensures names { self.new.drain.names ≡ self.old.drain.names }
         ensures progress { result ≡ Progress.More → feed_left self.new.feed < feed_left self.old.feed }
-        ensures reads { StepReads (goes_on result) self.old self.new }
+        ensures reads { StepReads I.tells (goes_on result) self.old self.new }
         ensures light { IsLight (machine_stand self.new) }
         ensures paid { result ≡ Progress.More → IsPaid self.old.feed self.new.feed }
     {
@@ -299,7 +299,7 @@ impl<I: Input, O: Output, A: Allocator + Copy + Drop> Machine<I, O, A> {
         ensures asked { self.new.asked ≡ self.old.asked }
         ensures names { self.new.drain.names ≡ self.old.drain.names }
         ensures progress { result ≡ Progress.More → feed_left self.new.feed < feed_left self.old.feed }
-        ensures reads { StepReads (goes_on result) self.old self.new }
+        ensures reads { StepReads I.tells (goes_on result) self.old self.new }
         ensures light { IsLight (machine_stand self.new) }
         ensures paid { result ≡ Progress.More → IsPaid self.old.feed self.new.feed }
     {

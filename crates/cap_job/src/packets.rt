@@ -173,7 +173,7 @@ impl<I: Input, O: Output, E: Output, A: Allocator + Copy + Drop> PacketJob<I, O,
         ensures status { IsStatus result }
         ensures turns { self.old.done ≡ None → self.new.turns ≡ self.old.turns + 1 }
         ensures few { self.old.done ≡ None → self.new.turns ≤ most_turns self.old.machine.feed + 1 }
-        ensures reads { StepReads (turn_goes_on result) (machine_of self.old) (machine_of self.new) }
+        ensures reads { StepReads I.tells (turn_goes_on result) (machine_of self.old) (machine_of self.new) }
         ensures light { IsLight self.new.machine }
         ensures left { result ≡ Turn.More → (self.new.turns ≡ self.old.turns + 1) × (feed_left self.new.machine.feed < feed_left self.old.machine.feed) }
         ensures kept { (self.new.machine.drain.names ≡ self.old.machine.drain.names) × (self.new.machine.asked ≡ self.old.machine.asked) }

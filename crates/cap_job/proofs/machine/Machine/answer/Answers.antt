@@ -62,7 +62,7 @@ invariant_of-self g c =
 
 pub returns-after-last-clause-reads : goal.returns-after-last-clause-reads
 returns-after-last-clause-reads g c =
-    let P : Bool → MachineView → Type 0 = λ b v. StepReads b v (record { feed = c.settle.new.self; asked = c.decide.new.judge.asked; stand = c.decide.new.judge.stand; drain = c.decide.new.drain; decided = c.self.inside.decided + 1; programs = c.decide.new.judge.programs }) in
+    let P : Bool → MachineView → Type 0 = λ b v. StepReads g.I.Input.tells b v (record { feed = c.settle.new.self; asked = c.decide.new.judge.asked; stand = c.decide.new.judge.stand; drain = c.decide.new.drain; decided = c.self.inside.decided + 1; programs = c.decide.new.judge.programs }) in
     let h = held c.head.result.now.source.packet c.self.inside.judge (c.self.inside.decided + 1) c.decide.new.judge c.decide.ensures.spends in
     let waits = answer-waits c.self.inside.feed.place c.self.inside.feed.heads c.args.input c.head.result.now (let N : MachineView → Type 0 = λ v. feeding.Tells v.feed.place v.feed.heads (next.Answer c.args.input) in subst N (sym c.self.view_is) c.requires.next) c.head.ensures in
     let all : (b : Bool) → P b c.args.self.now = λ b. (let Q : MachineView → Type 0 = λ v. P b v in subst Q c.self.view_is (decides_one c.args.input (record {
@@ -77,7 +77,7 @@ returns-after-last-clause-reads g c =
 
 pub returns-in-Err-clause-reads : goal.returns-in-Err-clause-reads
 returns-in-Err-clause-reads g c =
-    let P : MachineView → Type 0 = λ v. StepReads false v (record { feed = c.self.inside.feed; asked = c.decide.new.judge.asked; stand = c.decide.new.judge.stand; drain = c.decide.new.drain; decided = c.self.inside.decided; programs = c.decide.new.judge.programs }) in
+    let P : MachineView → Type 0 = λ v. StepReads g.I.Input.tells false v (record { feed = c.self.inside.feed; asked = c.decide.new.judge.asked; stand = c.decide.new.judge.stand; drain = c.decide.new.drain; decided = c.self.inside.decided; programs = c.decide.new.judge.programs }) in
     let h = held c.head.result.now.source.packet c.self.inside.judge (c.self.inside.decided + 1) c.decide.new.judge c.decide.ensures.spends in
     let waits = answer-waits c.self.inside.feed.place c.self.inside.feed.heads c.args.input c.head.result.now (let N : MachineView → Type 0 = λ v. feeding.Tells v.feed.place v.feed.heads (next.Answer c.args.input) in subst N (sym c.self.view_is) c.requires.next) c.head.ensures in
     subst P c.self.view_is (leaves_one c.args.input refl (record {

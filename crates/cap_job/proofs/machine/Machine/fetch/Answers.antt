@@ -91,8 +91,8 @@ returns-in-Err-clause-told g c = λ ti to ss before d.
 pub returns-in-Ok-true-clause-reads : goal.returns-in-Ok-true-clause-reads
 returns-in-Ok-true-clause-reads g c =
     let j : JudgeView = c.self.inside.judge in
-    let P : MachineView → Type 0 = λ v. StepReads true v (record { feed = c.fetch.new.self; asked = j.asked; stand = j.stand; drain = c.self.inside.drain; decided = c.self.inside.decided; programs = j.programs }) in
-    subst P c.self.view_is (reads_on c.args.input c.fetch.result (λ on. ap is_fault c.in-Ok-true.is) (record { fetches = c.fetch.ensures.steps; decided = refl; programs = refl; drain = λ on. refl }))
+    let P : MachineView → Type 0 = λ v. StepReads g.I.Input.tells true v (record { feed = c.fetch.new.self; asked = j.asked; stand = j.stand; drain = c.self.inside.drain; decided = c.self.inside.decided; programs = j.programs }) in
+    subst P c.self.view_is (reads_on c.args.input c.fetch.result (λ on. ap is_fault c.in-Ok-true.is) (record { fetches = c.fetch.ensures.steps; told = c.fetch.ensures.told; decided = refl; programs = refl; drain = λ on. refl }))
 
 pub returns-in-Ok-true-clause-paid : goal.returns-in-Ok-true-clause-paid
 returns-in-Ok-true-clause-paid g c = λ more.
@@ -102,8 +102,8 @@ returns-in-Ok-true-clause-paid g c = λ more.
 pub returns-in-Ok-false-clause-reads : goal.returns-in-Ok-false-clause-reads
 returns-in-Ok-false-clause-reads g c =
     let j : JudgeView = c.close.new.judge in
-    let P : MachineView → Type 0 = λ v. StepReads (goes_on c.close.result) v (record { feed = c.fetch.new.self; asked = j.asked; stand = j.stand; drain = c.close.new.drain; decided = c.self.inside.decided; programs = j.programs }) in
-    subst P c.self.view_is (reads_on c.args.input c.fetch.result (λ on. ap is_fault c.in-Ok-false.is) (record { fetches = c.fetch.ensures.steps; decided = refl; programs = c.close.ensures.programs; drain = λ on. absurd (let e : closes c.fetch.result ≡ true = ap closes (c.in-Ok-false.is ∙ ap Ok c.in-Ok-false.field-0-test) in cc) }))
+    let P : MachineView → Type 0 = λ v. StepReads g.I.Input.tells (goes_on c.close.result) v (record { feed = c.fetch.new.self; asked = j.asked; stand = j.stand; drain = c.close.new.drain; decided = c.self.inside.decided; programs = j.programs }) in
+    subst P c.self.view_is (reads_on c.args.input c.fetch.result (λ on. ap is_fault c.in-Ok-false.is) (record { fetches = c.fetch.ensures.steps; told = c.fetch.ensures.told; decided = refl; programs = c.close.ensures.programs; drain = λ on. absurd (let e : closes c.fetch.result ≡ true = ap closes (c.in-Ok-false.is ∙ ap Ok c.in-Ok-false.field-0-test) in cc) }))
 
 pub returns-in-Ok-false-clause-paid : goal.returns-in-Ok-false-clause-paid
 returns-in-Ok-false-clause-paid g c = λ more.
@@ -113,8 +113,8 @@ returns-in-Ok-false-clause-paid g c = λ more.
 pub returns-in-Err-clause-reads : goal.returns-in-Err-clause-reads
 returns-in-Err-clause-reads g c =
     let j : JudgeView = c.self.inside.judge in
-    let P : MachineView → Type 0 = λ v. StepReads false v (record { feed = c.fetch.new.self; asked = j.asked; stand = j.stand; drain = c.self.inside.drain; decided = c.self.inside.decided; programs = j.programs }) in
-    subst P c.self.view_is (reads_on c.args.input c.fetch.result (λ on. (cc)) (record { fetches = c.fetch.ensures.steps; decided = refl; programs = refl; drain = λ on. refl }))
+    let P : MachineView → Type 0 = λ v. StepReads g.I.Input.tells false v (record { feed = c.fetch.new.self; asked = j.asked; stand = j.stand; drain = c.self.inside.drain; decided = c.self.inside.decided; programs = j.programs }) in
+    subst P c.self.view_is (reads_on c.args.input c.fetch.result (λ on. (cc)) (record { fetches = c.fetch.ensures.steps; told = c.fetch.ensures.told; decided = refl; programs = refl; drain = λ on. refl }))
 
 pub returns-in-Ok-true-clause-light : goal.returns-in-Ok-true-clause-light
 returns-in-Ok-true-clause-light g c =

@@ -28,12 +28,12 @@ returns-in-Done-clause-told g c = λ ti to none.
 
 pub returns-in-More-clause-reads : goal.returns-in-More-clause-reads
 returns-in-More-clause-reads g c =
-    let P : JobView → Type 0 = λ v. StepReads true (machine_of v) c.step.new.self in
-    let R : Progress → Type 0 = λ r. StepReads (goes_on r) c.self.inside.machine c.step.new.self in
+    let P : JobView → Type 0 = λ v. StepReads g.I.Input.tells true (machine_of v) c.step.new.self in
+    let R : Progress → Type 0 = λ r. StepReads g.I.Input.tells (goes_on r) c.self.inside.machine c.step.new.self in
     subst P c.self.view_is (subst R c.in-More.is c.step.ensures.reads)
 
 pub returns-in-Done-clause-reads : goal.returns-in-Done-clause-reads
 returns-in-Done-clause-reads g c =
-    let P : JobView → Type 0 = λ v. StepReads false (machine_of v) c.step.new.self in
-    let R : Progress → Type 0 = λ r. StepReads (goes_on r) c.self.inside.machine c.step.new.self in
+    let P : JobView → Type 0 = λ v. StepReads g.I.Input.tells false (machine_of v) c.step.new.self in
+    let R : Progress → Type 0 = λ r. StepReads g.I.Input.tells (goes_on r) c.self.inside.machine c.step.new.self in
     subst P c.self.view_is (subst R c.in-Done.is c.step.ensures.reads)
