@@ -145,7 +145,8 @@ impl<I: Input, O: Output, E: Output, A: Allocator> Model for Job<I, O, E, A> {
 }
 
 impl<I: Input, O: Output, E: Output, A: Allocator + Copy + Drop> Job<I, O, E, A> {
-    ghost use Rattle.cap_job.specs.Commands.{GivesBy, StepReadsBy, command_first, command_left};
+    ghost use Rattle.cap_job.specs.Commands.{DecidedBy, GivesBy, StepReadsBy, command_first, command_left};
+    ghost use Rattle.cap_job.specs.Jobs.{stood_at};
     ghost use Rattle.cap_job.specs.Working.{failures_by, written_by};
 
     /// The job of a proper command. `names` are those of the inputs, then of the output. Where there is no memory
@@ -163,6 +164,7 @@ impl<I: Input, O: Output, E: Output, A: Allocator + Copy + Drop> Job<I, O, E, A>
         requires proper { is_proper command (vec_len inputs) ≡ true }
         ensures fresh { IfOk result (λ job. job ≡ command_first command (map string_bytes names.items)
             (map (λ input. opened (I.unread input) (I.given input) (I.failures input) (I.never_fails input)) inputs.items) (seen (O.written out) (O.failures out)) (O.room out) (seen (E.written err) (E.failures err))) }
+        ensures decided { IfOk result (λ job. DecidedBy job.preparing (map stood_at (map (λ input. opened (I.unread input) (I.given input) (I.failures input) (I.never_fails input)) inputs.items)) (O.written out) job.packets.machine) }
         ensures refused { IfErr result (λ devices. (devices.0 ≡ out) × (devices.1 ≡ err)) }
     {
         let Assignment { preparation, work } = assignment_of(command);
