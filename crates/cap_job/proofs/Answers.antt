@@ -1,5 +1,5 @@
 -- The steps that decide the packet in hand.
-use Rattle.std.proofs.Common.{◌≡◌, inl, inr, ℕ, ◌+◌, ◌<◌, ◌≤◌, Bool, true, false, List, [], ◌∷◌, ◌++◌, length, map, Option, None, Some, Result, Ok, Err, refl, sym, ◌∙◌, ap, arith, subst, not, nat_eq, if◌then◌else◌, ◌-◌}
+use Rattle.std.proofs.Common.{◌≡◌, ◌⊎◌, inl, inr, ℕ, ◌+◌, ◌<◌, ◌≤◌, Bool, true, false, List, [], ◌∷◌, ◌++◌, length, map, Option, None, Some, Result, Ok, Err, refl, sym, ◌∙◌, ap, arith, subst, not, nat_eq, if◌then◌else◌, ◌-◌}
 use Rattle.std.proofs.lemmas.List.{append_assoc, append-nil, map-append}
 use Rattle.std.specs.List.{slice_set}
 use Rattle.cap_octet.specs.Device.{Stops}
@@ -35,7 +35,7 @@ use Rattle.cap_job.specs.Judged as judged_spec
 use Rattle.cap_job.specs.Judging.{JudgeStand, GrowsByOne, IsWithin, Tells}
 use Rattle.cap_lines.specs.declared.print.Options.{Options}
 use Rattle.cap_lines.specs.Printed.{printed}
-use Rattle.cap_job.specs.Course.{Form, AsCapture, AsLines, Way, lines_text, set_out, unless_refused, by_verdict, goes, way, course, refused_by, stops_at, output, first_link}
+use Rattle.cap_job.specs.Course.{Form, AsCapture, AsLines, Way, lines_text, set_out, unless_refused, by_verdict, goes, way, course, refused_by, stops_at, output, first_link, written}
 use Rattle.cap_job.specs.Course as course_spec
 use Rattle.cap_job.specs.Draining.{DrainView, Target, Capture, Text, Lines, Drained, DrainedTo, Puts, PutsTo, form_at, form_to, written_to, failures_to}
 use Rattle.cap_job.specs.Feeding.{HeadView, FeedView, Future, Stood, Standing, Among, settled, place_behind, later, wholes, rest_with, rests, left, most_steps, ordering_of}
@@ -43,9 +43,10 @@ use Rattle.cap_job.specs.Feeding as feeding
 use Rattle.cap_job.specs.Working.{MachineStand, Decided, GoesOn, Comes, Decides, Offers, StopsWriting, OneAnswer, EndLeaves, stands_at, wholes_of, written_by, unwritten}
 use Rattle.cap_job.proofs.Splits.{At, stands-split, stands-join, stands-length, rests-join, finish-here, come-on}
 use Rattle.cap_job.proofs.Coming.{carries-decided, true-wholes, true-fit, true-fits}
-use Rattle.cap_job.proofs.Drains.{PutOk, put-ok, WhyUnput, lines-more, lines-one, unput, closing-some}
+use Rattle.cap_job.proofs.Drains.{drained-text, PutOk, put-ok, WhyUnput, lines-more, lines-one, unput, closing-some}
 use Rattle.cap_job.proofs.Growing.{Grows, course-grows}
 use Rattle.cap_job.proofs.Laws.{DecideLaws, DecideAt, decide-at}
+use Rattle.cap_job.proofs.Once.{once-nothing, once-packet}
 use Rattle.cap_job.proofs.Courses.{way-next, course-stop}
 use Rattle.cap_job.proofs.Heads.{set-here}
 use Rattle.cap_job.proofs.Fetches.{mk, among-same, comes-broken}
@@ -59,6 +60,8 @@ end_if false = None
 -- what is written and how the course goes on where a packet is decided
 pub record Took (asked : Asked) (w : Way) (before : List ℕ) (i : ℕ) (x : Placed) (stand' : Stand) (old new : DrainView) (last : Bool) : Type 0 where
   pub passed : List Captured
+  -- one at most
+  pub few : (passed ≡ []) ⊎ ((q : Captured) × (passed ≡ q ∷ []))
   pub went : goes asked (form_at old) w (Came i x) ≡ course_spec.decided w stand' passed (end_if last)
   pub output : Drained before new (w.packets ++ passed) w.reports
   pub form : form_at new ≡ form_at old
@@ -76,6 +79,7 @@ put-took asked w before i x q stand' old new last has puts went =
     let ok : PutOk before w.packets w.reports q old.names new.names old.target new.target = put-ok before w.packets w.reports q old.names new.names old.target new.target puts.names has puts.target in
     record {
       passed = q ∷ [];
+      few = inr (q, refl);
       went = went ∙ ap (λ (f : Option Fault). unless_refused f w i x stand' q (end_if last)) ok.none;
       output = ok.output;
       form = ok.form;
@@ -93,6 +97,7 @@ took asked w before i x old new last stand' code_verdict.Skip has told offers =
     let b : last ≡ false = (cc (offers.0)) in
     rw (b, offers.1) (record {
       passed = [];
+      few = inl refl;
       went = goes-by asked (form_at old) w i x Skip stand' told.0 told.1;
       output = rw (append-nil w.packets) has;
       form = refl;
@@ -180,10 +185,25 @@ decided-goes us vs s before xs ys h place turn asked stand stand' drain drain' d
       });
       at_most_one = omega arith;
       form = t.form;
+      once = elim t.few [
+        | inl none ↦ once-nothing (first_link (wholes_of (us ++ s ∷ vs))) before drain drain' d.packets d.reports d.output (took-nothing none)
+        | inr one ↦ once-packet (first_link (wholes_of (us ++ s ∷ vs))) before drain drain' d.packets one.0 d.reports d.output (took-one one.0 one.1) t.form
+      ];
       output = t.failures;
       names = t.names;
       order = laws.order;
     }
+  where
+    took-one : (q : Captured) → t.passed ≡ q ∷ [] → Drained before drain' (d.packets ++ q ∷ []) d.reports
+    took-one q is = let P : List Captured → Type 0 = λ l. Drained before drain' (d.packets ++ l) d.reports in subst P is t.output
+
+    took-nothing : t.passed ≡ [] → written_to drain'.target ≡ written_to drain.target
+    took-nothing is =
+        let P : List Captured → Type 0 = λ l. Drained before drain' l d.reports in
+        let has : Drained before drain' d.packets d.reports = subst P (ap (λ (l : List Captured). d.packets ++ l) is ∙ append-nil d.packets) t.output in
+        drained-text before drain'.names drain'.target d.packets d.reports has
+        ∙ ap (λ (f : Form). before ++ written f d.packets d.reports) t.form
+        ∙ sym (drained-text before drain.names drain.target d.packets d.reports d.output)
 
 -- ---- it is the last, or it is refused
 
@@ -297,15 +317,15 @@ unput-capture : (ss : List Stood) (before : List ℕ) (heads : List HeadView) (p
     → Ahead ss heads place es (Came turn x) → way asked (AsCapture sink.format) set_out es ≡ stands_at (mk heads place asked stand (record { names = names; target = Capture sink }) decided) packets reports → HasPackets before sink packets
     → goes asked (AsCapture sink.format) (stands_at (mk heads place asked stand (record { names = names; target = Capture sink }) decided) packets reports) (Came turn x)
     ≡ unless_refused (refused sink.format packets q) (stands_at (mk heads place asked stand (record { names = names; target = Capture sink }) decided) packets reports) turn x stand' q o
-    → (head : HeadView) → Among new.feed.heads turn head → head.source.offset ≡ x.offset
+    → feeding.Tells place heads (next.Answer turn) → new.feed ≡ record { heads = heads; place = place } → (head : HeadView) → Among new.feed.heads turn head → head.source.offset ≡ x.offset
     → WhyUnput fault sink packets q sink' → new.drain.target ≡ Capture sink'
     → EndLeaves ss before (mk heads place asked stand (record { names = names; target = Capture sink }) decided) (unwritten turn fault) new
-unput-capture ss before heads place turn asked stand stand' names sink sink' decided new packets reports es x q o WriteFailed ahead far has went head among offset why is =
+unput-capture ss before heads place turn asked stand stand' names sink sink' decided new packets reports es x q o WriteFailed ahead far has went tells same_feed head among offset why is =
     stops-writing ss before heads place asked stand stand' names sink sink' decided new packets reports es (Came turn x) q o ahead far has
     (went ∙ ap (λ (f : Option Fault). unless_refused f (stands_at (mk heads place asked stand (record { names = names; target = Capture sink }) decided) packets reports) turn x stand' q o) why.0) why is
-unput-capture ss before heads place turn asked stand stand' names sink sink' decided new packets reports es x q o NoMemory ahead far has went head among offset why is =
-    record { head = head; among = among; why = inr (inr (record { why = refl; written = ap written_to is ∙ why })) }
-unput-capture ss before heads place turn asked stand stand' names sink sink' decided new packets reports es x q o fault ahead far has went head among offset why is =
+unput-capture ss before heads place turn asked stand stand' names sink sink' decided new packets reports es x q o NoMemory ahead far has went tells same_feed head among offset why is =
+    record { head = head; among = among; why = inr (inr (record { next = tells; feed = same_feed; why = refl; written = ap written_to is ∙ why })) }
+unput-capture ss before heads place turn asked stand stand' names sink sink' decided new packets reports es x q o fault ahead far has went tells same_feed head among offset why is =
     let m : MachineStand = mk heads place asked stand (record { names = names; target = Capture sink }) decided in
     let w : Way = stands_at m packets reports in
     let stop : course asked (AsCapture sink.format) (fed (ordering_of place) (wholes_of ss)) ≡ stops_at w (Broken turn fault x.offset) =
@@ -321,14 +341,14 @@ unput-leaves : (ss : List Stood) (before : List ℕ) (heads : List HeadView) (pl
     → Ahead ss heads place es (Came turn x) → way asked (form_to names target) set_out es ≡ stands_at (mk heads place asked stand (record { names = names; target = target }) decided) packets reports → DrainedTo before names target packets reports
     → goes asked (form_to names target) (stands_at (mk heads place asked stand (record { names = names; target = target }) decided) packets reports) (Came turn x)
     ≡ unless_refused (refused_by (form_to names target) packets q) (stands_at (mk heads place asked stand (record { names = names; target = target }) decided) packets reports) turn x stand' q o
-    → (head : HeadView) → Among new.feed.heads turn head → head.source.offset ≡ x.offset
+    → feeding.Tells place heads (next.Answer turn) → new.feed ≡ record { heads = heads; place = place } → (head : HeadView) → Among new.feed.heads turn head → head.source.offset ≡ x.offset
     → PutsTo q target (Err fault) new.drain.target
     → EndLeaves ss before (mk heads place asked stand (record { names = names; target = target }) decided) (unwritten turn fault) new
-unput-leaves ss before heads place turn asked stand stand' names (Capture sink) decided new packets reports es x q o fault ahead far has went head among offset puts =
-    unput-capture ss before heads place turn asked stand stand' names sink puts.sink decided new packets reports es x q o fault ahead far has went head among offset
+unput-leaves ss before heads place turn asked stand stand' names (Capture sink) decided new packets reports es x q o fault ahead far has went tells same_feed head among offset puts =
+    unput-capture ss before heads place turn asked stand stand' names sink puts.sink decided new packets reports es x q o fault ahead far has went tells same_feed head among offset
     (unput before packets q sink puts.sink fault has puts.puts puts.writes) puts.is
-unput-leaves ss before heads place turn asked stand stand' names (Text bytes failures room) decided new packets reports es x q o fault ahead far has went head among offset puts = absurd (let e = puts.0 in cc)
-unput-leaves ss before heads place turn asked stand stand' names (Lines options bytes failures room) decided new packets reports es x q o fault ahead far has went head among offset puts =
+unput-leaves ss before heads place turn asked stand stand' names (Text bytes failures room) decided new packets reports es x q o fault ahead far has went tells same_feed head among offset puts = absurd (let e = puts.0 in cc)
+unput-leaves ss before heads place turn asked stand stand' names (Lines options bytes failures room) decided new packets reports es x q o fault ahead far has went tells same_feed head among offset puts =
     let m : MachineStand = mk heads place asked stand (record { names = names; target = Lines options bytes failures room }) decided in
     let L : Fault → Type 0 = λ f. EndLeaves ss before m (unwritten turn f) new in
     subst L (sym puts.fault)
@@ -430,17 +450,17 @@ AnswerLeaves ss before old i (Ok true) new failed = Comes (wholes_of ss) before 
 AnswerLeaves ss before old i (Err fault) new failed = EndLeaves ss before old (unwritten i fault) failed
 
 answer-core : (us vs : List Stood) (s : Stood) (before : List ℕ) (xs ys : List HeadView) (h : HeadView) (place : Place) (turn : ℕ) (asked : Asked) (stand stand' : Stand) (drain drain' : DrainView) (decided : ℕ) (p : Captured) (r : Result Bool Fault)
-    → DecideLaws place turn xs ys h → Standing us xs → At s h → Standing vs ys → h.source.packet ≡ Some p → stand'.passed ≤ decided + 1 → GrowsByOne stand.tally stand'.tally
+    → DecideLaws place turn xs ys h → feeding.Tells place (xs ++ h ∷ ys) (next.Answer turn) → Standing us xs → At s h → Standing vs ys → h.source.packet ≡ Some p → stand'.passed ≤ decided + 1 → GrowsByOne stand.tally stand'.tally
     → (d : Decided (us ++ s ∷ vs) before (mk (xs ++ h ∷ ys) place asked stand drain decided))
     → Decides (Some p) (record { asked = asked; stand = stand }) (decided + 1) drain r (record { asked = asked; stand = stand' }) drain'
     → AnswerLeaves (us ++ s ∷ vs) before (mk (xs ++ h ∷ ys) place asked stand drain decided) turn r (mk (xs ++ settled h ∷ ys) (place_behind place turn) asked stand' drain' (decided + 1)) (mk (xs ++ h ∷ ys) place asked stand' drain' decided)
-answer-core us vs s before xs ys h place turn asked stand stand' drain drain' decided p (Ok false) laws front at back held within grows d decides =
+answer-core us vs s before xs ys h place turn asked stand stand' drain drain' decided p (Ok false) laws tells front at back held within grows d decides =
     elim decides [
       | inl j ↦ decided-goes us vs s before xs ys h place turn asked stand stand' drain drain' decided p laws front at back held within grows d
           (took asked (stands_at (mk (xs ++ h ∷ ys) place asked stand drain decided) d.packets d.reports) before turn (record { offset = h.source.offset; packet = p }) drain drain' false stand' j.answer d.output j.told j.offers)
       | inr x ↦ absurd (let e = x.answer in cc)
     ]
-answer-core us vs s before xs ys h place turn asked stand stand' drain drain' decided p (Ok true) laws front at back held within grows d decides =
+answer-core us vs s before xs ys h place turn asked stand stand' drain drain' decided p (Ok true) laws tells front at back held within grows d decides =
     elim decides [
       | inl j ↦
           let w : Way = stands_at (mk (xs ++ h ∷ ys) place asked stand drain decided) d.packets d.reports in
@@ -453,6 +473,7 @@ answer-core us vs s before xs ys h place turn asked stand stand' drain drain' de
             written =
                 closing-some before drain'.names (form_at drain) drain'.target (first_link (wholes_of (us ++ s ∷ vs))) (d.packets ++ l.packet ∷ []) d.reports (decided + 1) stand' l.output l.form (some d.packets l.packet)
                 ∙ ap (λ (v : Way). before ++ output (form_at drain) (first_link (wholes_of (us ++ s ∷ vs))) v) (sym stop);
+            once = once-packet (first_link (wholes_of (us ++ s ∷ vs))) before drain drain' d.packets l.packet d.reports d.output l.output l.form;
           }
       | inr x ↦ absurd (let e = x.answer in cc)
     ]
@@ -460,7 +481,7 @@ answer-core us vs s before xs ys h place turn asked stand stand' drain drain' de
     some : (ps : List Captured) (q : Captured) → 0 ≡ length (ps ++ q ∷ []) → ⊥
     some [] q e = absurd (omega (arith, e))
     some (x ∷ ps) q e = absurd (omega (arith, e))
-answer-core us vs s before xs ys h place turn asked stand stand' drain drain' decided p (Err fault) laws front at back held within grows d decides =
+answer-core us vs s before xs ys h place turn asked stand stand' drain drain' decided p (Err fault) laws tells front at back held within grows d decides =
     elim decides [
       | inl j ↦ by_verdict_of j.answer j.told j.offers
       | inr j ↦
@@ -486,10 +507,10 @@ answer-core us vs s before xs ys h place turn asked stand stand' drain drain' de
     by_verdict_of : (v : code.Verdict) → Tells (verdict asked stand (decided + 1) p) (Ok v) stand' → Offers v drain (Err fault) drain' → EndLeaves (us ++ s ∷ vs) before (mk (xs ++ h ∷ ys) place asked stand drain decided) (unwritten turn fault) failed
     by_verdict_of (code_verdict.Pass q) told offers =
         unput-leaves (us ++ s ∷ vs) before (xs ++ h ∷ ys) place turn asked stand stand' drain.names drain.target decided failed d.packets d.reports d.events x (captured q) None fault ahead d.way d.output
-        (goes-by asked (form_at drain) w turn x (Pass (captured q)) stand' told.0 told.1) h here refl offers.target
+        (goes-by asked (form_at drain) w turn x (Pass (captured q)) stand' told.0 told.1) tells refl h here refl offers.target
     by_verdict_of (code_verdict.Last q) told offers =
         unput-leaves (us ++ s ∷ vs) before (xs ++ h ∷ ys) place turn asked stand stand' drain.names drain.target decided failed d.packets d.reports d.events x (captured q) (Some Over) fault ahead d.way d.output
-        (goes-by asked (form_at drain) w turn x (Last (captured q)) stand' told.0 told.1) h here refl offers.target
+        (goes-by asked (form_at drain) w turn x (Last (captured q)) stand' told.0 told.1) tells refl h here refl offers.target
     by_verdict_of code_verdict.Skip told offers = absurd (let e = offers.0 in cc)
 
 pub answer-leaves : (ss : List Stood) (before : List ℕ) (heads : List HeadView) (place : Place) (asked : Asked) (stand : Stand) (drain : DrainView) (decided i : ℕ) (r : Result Bool Fault) (h : HeadView) (judge' : JudgeStand) (drain' : DrainView)
@@ -506,6 +527,7 @@ answer-leaves ss before heads place asked stand drain decided i r other judge' d
     let d' = subst D among.splits d in
     let st = stands-split ss among.front among.back h d'.standing in
     let E : List Stood → Type 0 = λ l. Decided l before (mk (among.front ++ h ∷ among.back) place asked stand drain decided) in
+    let T : List HeadView → Type 0 = λ l. feeding.Tells place l (next.Answer i) in
     let W : Bool → Type 0 = λ b. IsAt st.here.text st.here.done st.here.packets b h.source in
     let was : IsAt st.here.text st.here.done st.here.packets true h.source = subst W at.laws.waits st.at in
     let has = was.waits refl in
@@ -514,7 +536,7 @@ answer-leaves ss before heads place asked stand drain decided i r other judge' d
     let C' : Asked → Type 0 = λ k. Decides (Some has.packet) (record { asked = asked; stand = stand }) (decided + 1) drain r (record { asked = k; stand = judge'.stand }) drain' in
     let held : other.source.packet ≡ Some has.packet = ap (λ (v : HeadView). v.source.packet) same ∙ has.held in
     let chosen = subst C' asks (subst C held (decides within (within-more decided most_steps stand.tally few d.counted))) in
-    let core = answer-core st.front st.back st.here before among.front among.back h place i asked stand judge'.stand drain drain' decided has.packet r at.laws st.before st.at st.behind has.held
+    let core = answer-core st.front st.back st.here before among.front among.back h place i asked stand judge'.stand drain drain' decided has.packet r at.laws (subst T among.splits tells) st.before st.at st.behind has.held
     (passes (let l = d.passed in omega (arith, l))) grows (subst E st.is d') chosen in
     let heads' : slice_set heads i (settled h) ≡ among.front ++ settled h ∷ among.back = ap (λ (l : List HeadView). slice_set l i (settled h)) among.splits ∙ set-here among.front among.back h (settled h) i among.place in
     let G : List Stood → Type 0 = λ l. AnswerLeaves l before (mk (among.front ++ h ∷ among.back) place asked stand drain decided) i r (mk (among.front ++ settled h ∷ among.back) (place_behind place i) asked judge'.stand drain' (decided + 1)) (mk (among.front ++ h ∷ among.back) place asked judge'.stand drain' decided) in

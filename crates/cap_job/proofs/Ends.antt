@@ -16,6 +16,7 @@ comes-out : (rs : List Rest) (before : List ℕ) (names : List (List ℕ)) (old 
     → IsOut rs before names old new text s
 comes-out rs before names old new close text s comes text_is status_is = record {
   written = comes.written;
+  once = comes.once;
   text_is = text_is ∙ ap (message names) (sym comes.ends);
   status_is = status_is ∙ ap status (sym comes.ends);
 }

@@ -25,12 +25,13 @@ use Rattle.cap_job.specs.Course.{Form, AsReports, Way, set_out, way, course, sto
 use Rattle.cap_job.specs.Draining.{DrainView, Target, Capture, Text, Lines, Drained, Reports, ReportsTo, form_at, written_to, failures_to}
 use Rattle.cap_job.specs.Feeding.{HeadView, FeedView, Future, Stood, Standing, HasCome, Among, EndedBefore, Fetches, Tells, waits_from, in_hand, head_after, place_after, closes, later, whole_with, wholes, rests, left, is_in_turn, ordering_of}
 use Rattle.cap_job.specs.Reports.{report_text, reports_text}
-use Rattle.cap_job.specs.Working.{MachineStand, Decided, GoesOn, Comes, BreaksAt, WhyBroken, StopsWriting, StepLeaves, Closes, ClosesBy, asks_report, report_at, unless_failed, stands_at, form_of, written_by, cut_at, wholes_of}
+use Rattle.cap_job.specs.Working.{MachineStand, AppendsOnce, Decided, GoesOn, Comes, BreaksAt, WhyBroken, StopsWriting, StepLeaves, Closes, ClosesBy, asks_report, report_at, unless_failed, stands_at, form_of, written_by, cut_at, wholes_of}
 use Rattle.cap_job.proofs.Splits.{At, Fit, stands-split, stands-join, stands-length, fits-join, wholes-join, rests-join, finish-here, come-on}
 use Rattle.cap_job.proofs.Coming.{carries-found, carries-closed, true-wholes, true-fits, finds}
 use Rattle.cap_job.proofs.Drains.{drained-text, ReportOk, report-ok, reports-more}
 use Rattle.cap_job.proofs.Growing.{Grows, course-grows}
 use Rattle.cap_job.proofs.Laws.{ReadLaws, ReadAt, closed_in, read-at}
+use Rattle.cap_job.proofs.Once.{once-nothing, once-report}
 use Rattle.cap_job.proofs.Courses.{way-append, course-close}
 use Rattle.cap_job.proofs.Heads.{set-here}
 
@@ -81,6 +82,7 @@ found-goes us vs s before xs ys h s' place turn asked stand drain decided laws f
       });
       at_most_one = omega arith;
       form = refl;
+      once = once-nothing (first_link (wholes_of (us ++ s ∷ vs))) before drain drain d.packets d.reports d.output refl;
       output = refl;
       names = refl;
       order = laws.order false;
@@ -122,10 +124,10 @@ closed-goes : (us vs : List Stood) (s : Stood) (before : List ℕ) (xs ys : List
     → (d : Decided (us ++ s ∷ vs) before (mk (xs ++ h ∷ ys) place asked stand drain decided))
     → closed_in (ordering_of place) asked (stands_at (mk (xs ++ h ∷ ys) place asked stand drain decided) d.packets d.reports) turn (kind_of s'.declared) s'.offset
     ≡ record { number = decided; stand = stand'; packets = d.packets; reports = reports; end = None }
-    → Drained before drain' d.packets reports → form_at drain' ≡ form_at drain → failures_to drain'.target ≡ failures_to drain.target → drain'.names ≡ drain.names
+    → Drained before drain' d.packets reports → AppendsOnce (first_link (wholes_of (us ++ s ∷ vs))) before drain drain' → form_at drain' ≡ form_at drain → failures_to drain'.target ≡ failures_to drain.target → drain'.names ≡ drain.names
     → stand'.passed ≤ decided → IsWithin decided stand'.tally
     → GoesOn (us ++ s ∷ vs) before (mk (xs ++ h ∷ ys) place asked stand drain decided) (mk (xs ++ head_after h (Ok false) s' ∷ ys) (place_after place turn true) asked stand' drain' decided)
-closed-goes us vs s before xs ys h s' place turn asked stand drain decided stand' drain' reports laws front at back advances d goes output form failures names passed counted =
+closed-goes us vs s before xs ys h s' place turn asked stand drain decided stand' drain' reports laws front at back advances d goes output once form failures names passed counted =
     let found : FindsEnd h.source s' = finds s h s' (Ok false) at laws.waits advances in
     let out = closed-out us vs s before xs ys h s' place turn asked stand drain decided laws front at back advances found d in
     let new : MachineStand = mk (xs ++ head_after h (Ok false) s' ∷ ys) (place_after place turn true) asked stand' drain' decided in
@@ -152,6 +154,7 @@ closed-goes us vs s before xs ys h s' place turn asked stand drain decided stand
       });
       at_most_one = omega arith;
       form = form;
+      once = once;
       output = failures;
       names = names;
       order = laws.order true;
@@ -181,6 +184,7 @@ comes-broken rs before m new packets reports input fault offset is has same = re
       same ∙ drained-text before m.drain.names m.drain.target packets reports has
       ∙ ap (λ (l : List ℕ). before ++ l) (sym (append-nil (written (form_of m) packets reports)))
       ∙ ap (λ (w : Way). before ++ output (form_of m) (first_link rs) w) (sym is);
+  once = once-nothing (first_link rs) before m.drain new.drain packets reports has same;
 }
 
 -- a device that failed isn't one that never does
@@ -201,11 +205,11 @@ risen s h s' fault at steps is = by_phase h.source.phase refl steps
     by_phase (Failed other) e b = absurd (at.sound other e)
 
 pub broken-ends : (us vs : List Stood) (s : Stood) (before : List ℕ) (xs ys : List HeadView) (h : HeadView) (s' : SourceView) (fault : Fault) (place : Place) (turn : ℕ) (asked : Asked) (stand : Stand) (drain : DrainView) (decided : ℕ)
-    → ReadLaws place turn xs ys h → Standing us xs → At s h → Standing vs ys → Advances h.source.phase h.source (Err fault) s'
+    → ReadLaws place turn xs ys h → Tells place (xs ++ h ∷ ys) (next.Read turn) → Standing us xs → At s h → Standing vs ys → Advances h.source.phase h.source (Err fault) s'
     → Steps h.source.phase h.source (Err fault) s'
     → Decided (us ++ s ∷ vs) before (mk (xs ++ h ∷ ys) place asked stand drain decided)
     → WhyBroken (us ++ s ∷ vs) before (mk (xs ++ h ∷ ys) place asked stand drain decided) (mk (xs ++ head_after h (Err fault) s' ∷ ys) (place_after place turn false) asked stand drain decided) turn fault s'
-broken-ends us vs s before xs ys h s' fault place turn asked stand drain decided laws front at back advances steps d =
+broken-ends us vs s before xs ys h s' fault place turn asked stand drain decided laws tells front at back advances steps d =
     let waits : h.waiting ≡ false = laws.waits in
     let found : FindsFault h.source s' fault = finds s h s' (Err fault) at waits advances in
     let P : Bool → Type 0 = λ b. IsAt s.text s.done s.packets b h.source in
@@ -224,6 +228,8 @@ broken-ends us vs s before xs ys h s' fault place turn asked stand drain decided
         among = refl;
         head = h;
         head_is = record { front = xs; back = ys; place = laws.here; splits = refl };
+        next = tells;
+        advances = advances;
         held = record { packets = s.packets; declared = s'.declared; ending = FaultAt fault s'.offset };
         cut = cut.cut;
         why = elim cut.why [ inl failed ↦ let rose = risen s h s' fault at steps failed in inl (failed, rose.0, rose.1) | inr full ↦ inr full ];
@@ -351,7 +357,7 @@ closed-core us vs s before xs ys h s' place turn asked stand drain decided r jud
     rw (by.0, by.1, by.2)
     (closed-goes us vs s before xs ys h s' place turn asked stand drain decided stand drain d.reports laws front at back advances d
     (quiet-closed (ordering_of place) asked (stands_at (mk (xs ++ h ∷ ys) place asked stand drain decided) d.packets d.reports) turn (kind_of s'.declared) s'.offset asks)
-    d.output refl refl refl d.passed d.counted)
+    d.output (once-nothing (first_link (wholes_of (us ++ s ∷ vs))) before drain drain d.packets d.reports d.output refl) refl refl refl d.passed d.counted)
 closed-core us vs s before xs ys h s' place turn asked stand drain decided r judge' drain' laws front at back advances d true asks by =
     rw (by.is, by.judge_is) (by_answer by.answer by.reports)
   where
@@ -368,7 +374,7 @@ closed-core us vs s before xs ys h s' place turn asked stand drain decided r jud
         report-ok before d.packets d.reports report drain.names drain'.names drain.target drain'.target reports.names d.output reports.target in
         closed-goes us vs s before xs ys h s' place turn asked stand drain decided (emptied stand) drain' (d.reports ++ report ∷ []) laws front at back advances d
         (told-closed (ordering_of place) asked (stands_at old d.packets d.reports) turn (kind_of s'.declared) s'.offset asks)
-        ok.output ok.form ok.failures reports.names d.passed (omega arith, omega arith, omega arith)
+        ok.output (once-report (first_link (wholes_of (us ++ s ∷ vs))) before drain drain' d.packets d.reports report d.output ok.output ok.form) ok.form ok.failures reports.names d.passed (omega arith, omega arith, omega arith)
     by_answer (Err fault) reports = report-stops us vs s before xs ys h s' place turn asked stand drain.names drain.target decided (emptied stand) drain' fault laws front at back advances d asks reports.target
 
 -- ---- all of them
@@ -385,23 +391,23 @@ Follows (Ok false) feed i judge old r judge' new = Closes feed i judge old r jud
 Follows (Err fault) feed i judge old r judge' new = (judge' ≡ judge) × (new ≡ old)
 
 fetch-core : (us vs : List Stood) (s : Stood) (before : List ℕ) (xs ys : List HeadView) (h : HeadView) (s' : SourceView) (a : Result Bool Fault) (place : Place) (turn : ℕ) (asked : Asked) (stand : Stand) (drain : DrainView) (decided : ℕ) (r : Progress) (judge' : JudgeStand) (drain' : DrainView)
-    → ReadLaws place turn xs ys h → Standing us xs → At s h → Standing vs ys → Advances h.source.phase h.source a s' → Steps h.source.phase h.source a s'
+    → ReadLaws place turn xs ys h → Tells place (xs ++ h ∷ ys) (next.Read turn) → Standing us xs → At s h → Standing vs ys → Advances h.source.phase h.source a s' → Steps h.source.phase h.source a s'
     → Decided (us ++ s ∷ vs) before (mk (xs ++ h ∷ ys) place asked stand drain decided)
     → Follows a (record { heads = xs ++ head_after h a s' ∷ ys; place = place_after place turn (closes a) }) turn (record { asked = asked; stand = stand }) drain r judge' drain'
     → FetchLeaves (us ++ s ∷ vs) before (mk (xs ++ h ∷ ys) place asked stand drain decided) turn a r (mk (xs ++ head_after h a s' ∷ ys) (place_after place turn (closes a)) asked judge'.stand drain' decided)
-fetch-core us vs s before xs ys h s' (Ok true) place turn asked stand drain decided r judge' drain' laws front at back advances steps d follows =
+fetch-core us vs s before xs ys h s' (Ok true) place turn asked stand drain decided r judge' drain' laws tells front at back advances steps d follows =
     rw (follows.0, follows.1) (found-goes us vs s before xs ys h s' place turn asked stand drain decided laws front at back advances d)
-fetch-core us vs s before xs ys h s' (Ok false) place turn asked stand drain decided r judge' drain' laws front at back advances steps d follows =
+fetch-core us vs s before xs ys h s' (Ok false) place turn asked stand drain decided r judge' drain' laws tells front at back advances steps d follows =
     let h' : HeadView = head_after h (Ok false) s' in
     let same : follows.head ≡ h' = among-same (xs ++ h' ∷ ys) turn follows.head h' follows.among (record { front = xs; back = ys; place = laws.here; splits = refl }) in
     let P : HeadView → Type 0 = λ v. ClosesBy (asks_report (ordering_of (place_after place turn true)) asked) turn v (record { asked = asked; stand = stand }) drain r judge' drain' in
     let Q : Ordering → Type 0 = λ o. ClosesBy (asks_report o asked) turn h' (record { asked = asked; stand = stand }) drain r judge' drain' in
     closed-core us vs s before xs ys h s' place turn asked stand drain decided r judge' drain' laws front at back advances d (asks_report (ordering_of place) asked) refl
     (subst Q (laws.order true) (subst P same follows.by))
-fetch-core us vs s before xs ys h s' (Err fault) place turn asked stand drain decided r judge' drain' laws front at back advances steps d follows = rw (follows.0, follows.1) (record {
+fetch-core us vs s before xs ys h s' (Err fault) place turn asked stand drain decided r judge' drain' laws tells front at back advances steps d follows = rw (follows.0, follows.1) (record {
   head = head_after h (Err fault) s';
   among = record { front = xs; back = ys; place = laws.here; splits = refl };
-  why = broken-ends us vs s before xs ys h s' fault place turn asked stand drain decided laws front at back advances steps d;
+  why = broken-ends us vs s before xs ys h s' fault place turn asked stand drain decided laws tells front at back advances steps d;
 })
 
 -- one head taken out of a step's premises
@@ -425,10 +431,11 @@ fetch-leaves ss before heads place asked stand drain decided i a feed' r judge' 
     ∙ ap (λ (l : List HeadView). record { heads = l; place = place' }) heads' in
     let F : FeedView → Type 0 = λ f. Follows a f i (record { asked = asked; stand = stand }) drain r judge' drain' in
     let D : List HeadView → Type 0 = λ l. Decided ss before (mk l place asked stand drain decided) in
+    let T : List HeadView → Type 0 = λ l. Tells place l (next.Read i) in
     let d' = subst D m.splits d in
     let st = stands-split ss m.front m.back h d'.standing in
     let E : List Stood → Type 0 = λ l. Decided l before (mk (m.front ++ h ∷ m.back) place asked stand drain decided) in
-    let core = fetch-core st.front st.back st.here before m.front m.back h fetches.source a place i asked stand drain decided r judge' drain' at.laws st.before st.at st.behind (subst A same fetches.advances) (subst S same fetches.steps) (subst E st.is d') (subst F feed'_is follows) in
+    let core = fetch-core st.front st.back st.here before m.front m.back h fetches.source a place i asked stand drain decided r judge' drain' at.laws (subst T m.splits tells) st.before st.at st.behind (subst A same fetches.advances) (subst S same fetches.steps) (subst E st.is d') (subst F feed'_is follows) in
     let G : List Stood → Type 0 = λ l. FetchLeaves l before (mk (m.front ++ h ∷ m.back) place asked stand drain decided) i a r (mk (m.front ++ h' ∷ m.back) place' asked judge'.stand drain' decided) in
     let H : List HeadView → Type 0 = λ l. FetchLeaves ss before (mk l place asked stand drain decided) i a r (mk (m.front ++ h' ∷ m.back) place' asked judge'.stand drain' decided) in
     let N : FeedView → Type 0 = λ f. FetchLeaves ss before (mk heads place asked stand drain decided) i a r (mk f.heads f.place asked judge'.stand drain' decided) in

@@ -16,7 +16,7 @@ use Rattle.cap_job.specs.declared.feed.Next.TheVariants as next
 use Rattle.cap_job.specs.Reports.{Report}
 use Rattle.cap_job.specs.Fed.{Rest, Over, fed, behind}
 use Rattle.cap_job.specs.Judged.{Asked, Stand}
-use Rattle.cap_job.specs.Course.{Form, AsCapture, Way, course, lines_text, stops_at, output, first_link}
+use Rattle.cap_job.specs.Course.{Form, AsCapture, Way, closing, course, lines_text, stops_at, output, first_link}
 use Rattle.cap_job.specs.Draining.{DrainView, Target, Capture, Text, Lines, DrainedTo, FinishesTo, form_at, form_to, written_to, failures_to}
 use Rattle.cap_job.specs.Feeding.{HeadView, Future, Stood, Standing, EndedTo, Tells, later, ordering_of, first_of}
 use Rattle.cap_job.specs.Reports.{reports_text}
@@ -26,6 +26,7 @@ use Rattle.cap_job.proofs.Coming.{true-whole, true-wholes, true-fit, true-fits}
 use Rattle.cap_job.proofs.Courses.{course-close}
 use Rattle.cap_job.proofs.Laws.{OverAt, over-at}
 use Rattle.cap_job.proofs.Fetches.{mk}
+use Rattle.cap_job.proofs.Once.{once-of}
 
 pub over-course : (ss : List Stood) (before : List ℕ) (heads : List HeadView) (place : Place) (asked : Asked) (stand : Stand) (drain : DrainView) (decided : ℕ) → OverAt place heads → (d : Decided ss before (mk heads place asked stand drain decided))
     → course asked (form_at drain) (fed (ordering_of place) (wholes_of ss)) ≡ stops_at (stands_at (mk heads place asked stand drain decided) d.packets d.reports) Over
@@ -116,6 +117,10 @@ finish-leaves ss before heads place asked stand drain decided (Ok done) new tell
           finish-text before drain.names d.packets d.reports decided stand drain.target new.drain.target (first_of heads) d.output finishes
           ∙ ap (λ (o : Option ℕ). before ++ output (form_at drain) o (over m d.packets d.reports)) (sym link)
           ∙ ap (λ (w : Way). before ++ output (form_at drain) (first_link (wholes_of ss)) w) (sym stop);
+      once = once-of (first_link (wholes_of ss)) before drain new.drain d.packets d.reports (closing (form_at drain) (first_link (wholes_of ss)) d.packets) d.output
+          (finish-text before drain.names d.packets d.reports decided stand drain.target new.drain.target (first_of heads) d.output finishes
+          ∙ ap (λ (o : Option ℕ). before ++ output (form_at drain) o (over m d.packets d.reports)) (sym link))
+          (inr (inr refl));
     }
 finish-leaves ss before heads place asked stand drain decided (Err fault) new tells finishes d =
     let at : OverAt place heads = over-at place heads tells d.ended in

@@ -17,6 +17,7 @@ pub mod Leasts
 pub mod Lines
 pub mod Lefts
 pub mod Merges
+pub mod Once
 pub mod Order
 pub mod Preparing
 pub mod Queues

@@ -91,4 +91,4 @@ pub is-light : (m : MachineStand) → IsBounded m.feed m.drain → HasFewMarks m
 is-light m bounded few =
     let heads = heads-light m.feed.heads bounded.0 in
     let target = target-light m.drain.target bounded.1 in
-    omega (arith, heads, target, few)
+    record { each = bounded; all = omega (arith, heads, target, few) }

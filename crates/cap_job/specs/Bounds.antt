@@ -145,7 +145,8 @@ HasFewInterfaces (Lines options written failures room) = Unit {0}
 abbrev pub IsBounded : FeedView → DrainView → Type 0
 IsBounded feed drain = All IsSmall feed.heads × HasFewInterfaces drain.target
 
--- what a job holds of so many inputs is bounded; a window of n packets has n - 1 marks, and there is none where no
--- duplicates are looked for
-abbrev pub IsLight : MachineStand → Type 0
-IsLight m = weight m ≤ most_weight (length m.feed.heads) (places (window_asked m.asked))
+-- What a job holds of each input is bounded, and of all of them; a window of n packets has n - 1 marks, and there is none
+-- where no duplicates are looked for.
+pub record IsLight (m : MachineStand) : Type 0 where
+  pub each : IsBounded m.feed m.drain
+  pub all : weight m ≤ most_weight (length m.feed.heads) (places (window_asked m.asked))

@@ -17,10 +17,10 @@ use Rattle.cap_job.specs.Draining.{target_at}
 use Rattle.cap_job.specs.Judged.{Asked}
 use Rattle.cap_job.specs.Judging.{stand_with}
 use Rattle.cap_job.specs.Reports.{name_at, nothing_counted}
-use Rattle.cap_job.specs.Course.{Work, outcome, out}
+use Rattle.cap_job.specs.Course.{Work, first_link, outcome, out}
 use Rattle.cap_job.specs.Feeding.{HeadView, FeedView, Stood, Among, most_steps, ordering_of}
 use Rattle.flt_bpf.specs.Content.{Content}
-use Rattle.cap_job.specs.Working.{MachineStand, MachineView, machine_with, Decided, GoesOn, EndsByCut, WantsMemory, StopsWriting, IsUnderWay, form_of, written_by, failures_by, texts, wholes_of, cut_at}
+use Rattle.cap_job.specs.Working.{MachineStand, MachineView, machine_with, AppendsOnce, Decided, GoesOn, EndsByCut, WantsMemory, StopsWriting, IsUnderWay, form_of, written_by, failures_by, texts, wholes_of, cut_at}
 
 -- ---- as it is handed over
 
@@ -111,6 +111,7 @@ work_of m = record { order = ordering_of m.feed.place; asked = m.asked; form = f
 -- output, message and status are those of inputs with these items
 pub record IsOut (rs : List Rest) (before : List ℕ) (names : List (List ℕ)) (old new : MachineStand) (text : List ℕ) (status : ℕ) : Type 0 where
   pub written : written_by new ≡ before ++ (outcome (work_of old) names rs).output
+  pub once : AppendsOnce (first_link rs) before old.drain new.drain
   pub text_is : text ≡ (outcome (work_of old) names rs).messages
   pub status_is : status ≡ (outcome (work_of old) names rs).status
 
@@ -128,7 +129,7 @@ pub record IsOutCut (ss : List Stood) (before : List ℕ) (names : List (List �
 pub record LacksMemory (names : List (List ℕ)) (old new : MachineStand) (text : List ℕ) (status : ℕ) : Type 0 where
   pub input : ℕ
   pub fault : Fault
-  pub wants : WantsMemory old new fault
+  pub wants : WantsMemory old new input fault
   pub text_is : text ≡ fault_message (name_at names input) (offset_at new.feed.heads input) fault
   pub status_is : status ≡ 1
 

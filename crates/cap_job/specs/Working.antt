@@ -6,10 +6,11 @@ use Rattle.cap_octet.specs.declared.fault.Fault.{Fault}
 use Rattle.cap_octet.specs.declared.fault.Fault.TheVariants.{ReadFailed, NoMemory, WriteFailed}
 use Rattle.cap_octet.specs.declared.device.DeviceFault.{DeviceFault}
 use Rattle.cap_io.specs.Capture.{Placed, Items, kind_of}
-use Rattle.cap_io.specs.Source.{SourceView}
+use Rattle.cap_io.specs.Source.{SourceView, Advances}
 use Rattle.cap_io.specs.Standing.{IsCutShort}
 use Rattle.flt_bpf.specs.Content.{Content}
 use Rattle.cap_tools.specs.Compiling.{spent_in}
+use Rattle.cap_job.specs.declared.feed.Next.TheVariants as next
 use Rattle.cap_job.specs.declared.judge.Verdict.{Verdict}
 use Rattle.cap_job.specs.declared.judge.Verdict.TheVariants as code
 use Rattle.cap_job.specs.declared.machine.End.{End}
@@ -23,7 +24,7 @@ use Rattle.cap_job.specs.Judged.{Asked, Stand, verdict}
 use Rattle.cap_job.specs.Judging.{JudgeStand, JudgeView, IsWithin, emptied, is_count, most_spent, spent_by_verdict}
 use Rattle.cap_job.specs.Judging as judging
 use Rattle.cap_job.specs.Course.{Form, Way, set_out, way, course, output, written, closing, first_link}
-use Rattle.cap_job.specs.Feeding.{FeedView, HeadView, Stood, Standing, HasCome, Among, EndedBefore, ordering_of}
+use Rattle.cap_job.specs.Feeding.{FeedView, HeadView, Stood, Standing, HasCome, Among, EndedBefore, Tells, ordering_of}
 
 -- ---- the view
 
@@ -158,51 +159,8 @@ finish_at [] i bytes packets = []
 finish_at (s ∷ ss) zero bytes packets = record { text = s.text; done = s.done ++ bytes; packets = s.packets ++ packets } ∷ ss
 finish_at (s ∷ ss) (suc i) bytes packets = s ∷ finish_at ss i bytes packets
 
--- it goes on, and finished some bytes of one input
-pub record GoesOn (ss : List Stood) (before : List ℕ) (old new : MachineStand) : Type 0 where
-  pub input : ℕ
-  pub finished : List ℕ
-  pub packets : List Placed
-  pub decided : Decided (finish_at ss input finished packets) before new
-  pub at_most_one : new.decided ≤ old.decided + 1
-  pub form : form_of new ≡ form_of old
-  -- the output's device didn't fail
-  pub output : failures_by new ≡ failures_by old
-  pub names : new.drain.names ≡ old.drain.names
-  pub order : ordering_of new.feed.place ≡ ordering_of old.feed.place
-
--- the output is all that the job writes of inputs with these items, and they end so
-pub record Comes (rs : List Rest) (before : List ℕ) (m new : MachineStand) (close : Close) : Type 0 where
-  pub ends : (course m.asked (form_of m) (fed (ordering_of m.feed.place) rs)).end ≡ Some close
-  pub written : written_by new ≡ before ++ output (form_of m) (first_link rs) (course m.asked (form_of m) (fed (ordering_of m.feed.place) rs))
-
--- these items in place of one input's
-abbrev pub cut_at : List Rest → ℕ → Items → List Rest
-cut_at [] i items = []
-cut_at (r ∷ rs) zero items = record { greatest = r.greatest; items = items; size = r.size } ∷ rs
-cut_at (r ∷ rs) (suc i) items = r ∷ cut_at rs i items
-
 abbrev pub wholes_of : List Stood → List Rest
 wholes_of ss = map whole (texts ss)
-
--- This input's device failed in this step, or there was no memory for its next unit: it is cut short there, where `after` stands.
-pub record EndsByCut (ss : List Stood) (before : List ℕ) (old new : MachineStand) (input : ℕ) (fault : Fault) (after : SourceView) : Type 0 where
-  pub front : List Stood
-  pub stood : Stood
-  pub back : List Stood
-  pub place : length front ≡ input
-  pub among : ss ≡ front ++ stood ∷ back
-  pub held : Items
-  pub cut : IsCutShort stood.text fault held
-  pub head : HeadView
-  pub head_is : Among old.feed.heads input head
-  pub why : ((fault ≡ ReadFailed) × (head.source.failures < after.failures) × (head.source.never_fails ≡ false)) ⊎ (fault ≡ NoMemory)
-  pub comes : Comes (cut_at (wholes_of ss) input held) before old new (Broken input fault after.offset)
-
--- there was no memory to decide the packet in hand: the output stays
-pub record WantsMemory (old new : MachineStand) (fault : Fault) : Type 0 where
-  pub why : fault ≡ NoMemory
-  pub written : written_by new ≡ written_by old
 
 -- one answer behind these packets and reports: one packet more, one report more, or what a clean end adds
 abbrev pub IsAnswer : Form → Option ℕ → List Captured → List Report → List ℕ → Type 0
@@ -216,6 +174,64 @@ pub record OneAnswer (form : Form) (link : Option ℕ) (front bytes : List ℕ) 
   pub reports : List Report
   pub so_far : front ≡ written form packets reports
   pub answer : IsAnswer form link packets reports bytes
+
+-- What a step appends to the output is one answer, or nothing.
+pub record AppendsOnce (link : Option ℕ) (before : List ℕ) (old new : DrainView) : Type 0 where
+  pub front : List ℕ
+  pub bytes : List ℕ
+  pub so_far : written_to old.target ≡ before ++ front
+  pub appended : written_to new.target ≡ written_to old.target ++ bytes
+  pub one : (bytes ≡ []) ⊎ OneAnswer (form_at old) link front bytes
+
+-- it goes on, and finished some bytes of one input
+pub record GoesOn (ss : List Stood) (before : List ℕ) (old new : MachineStand) : Type 0 where
+  pub input : ℕ
+  pub finished : List ℕ
+  pub packets : List Placed
+  pub decided : Decided (finish_at ss input finished packets) before new
+  pub at_most_one : new.decided ≤ old.decided + 1
+  pub form : form_of new ≡ form_of old
+  pub once : AppendsOnce (first_link (wholes_of ss)) before old.drain new.drain
+  -- the output's device didn't fail
+  pub output : failures_by new ≡ failures_by old
+  pub names : new.drain.names ≡ old.drain.names
+  pub order : ordering_of new.feed.place ≡ ordering_of old.feed.place
+
+-- the output is all that the job writes of inputs with these items, and they end so
+pub record Comes (rs : List Rest) (before : List ℕ) (m new : MachineStand) (close : Close) : Type 0 where
+  pub ends : (course m.asked (form_of m) (fed (ordering_of m.feed.place) rs)).end ≡ Some close
+  pub written : written_by new ≡ before ++ output (form_of m) (first_link rs) (course m.asked (form_of m) (fed (ordering_of m.feed.place) rs))
+  pub once : AppendsOnce (first_link rs) before m.drain new.drain
+
+-- these items in place of one input's
+abbrev pub cut_at : List Rest → ℕ → Items → List Rest
+cut_at [] i items = []
+cut_at (r ∷ rs) zero items = record { greatest = r.greatest; items = items; size = r.size } ∷ rs
+cut_at (r ∷ rs) (suc i) items = r ∷ cut_at rs i items
+
+-- This input was read on in this step, and its device failed or there was no memory for its next unit: it is cut short
+-- there, where `after` stands.
+pub record EndsByCut (ss : List Stood) (before : List ℕ) (old new : MachineStand) (input : ℕ) (fault : Fault) (after : SourceView) : Type 0 where
+  pub front : List Stood
+  pub stood : Stood
+  pub back : List Stood
+  pub place : length front ≡ input
+  pub among : ss ≡ front ++ stood ∷ back
+  pub held : Items
+  pub cut : IsCutShort stood.text fault held
+  pub head : HeadView
+  pub head_is : Among old.feed.heads input head
+  pub next : Tells old.feed.place old.feed.heads (next.Read input)
+  pub advances : Advances head.source.phase head.source (Err fault) after
+  pub why : ((fault ≡ ReadFailed) × (head.source.failures < after.failures) × (head.source.never_fails ≡ false)) ⊎ (fault ≡ NoMemory)
+  pub comes : Comes (cut_at (wholes_of ss) input held) before old new (Broken input fault after.offset)
+
+-- there was no memory to write the packet in hand of this input, which was next: the output stays
+pub record WantsMemory (old new : MachineStand) (input : ℕ) (fault : Fault) : Type 0 where
+  pub next : Tells old.feed.place old.feed.heads (next.Answer input)
+  pub feed : new.feed ≡ old.feed
+  pub why : fault ≡ NoMemory
+  pub written : written_by new ≡ written_by old
 
 -- The output's device failed in this step, after a beginning of the one answer that it would have appended.
 pub record StopsWriting (ss : List Stood) (before : List ℕ) (old new : MachineStand) : Type 0 where
@@ -231,7 +247,7 @@ pub record StopsWriting (ss : List Stood) (before : List ℕ) (old new : Machine
 -- the inputs end so, or the packet in hand is refused; or the input is cut short; or there was no memory
 abbrev pub WhyBroken : List Stood → List ℕ → MachineStand → MachineStand → ℕ → Fault → SourceView → Type 0
 WhyBroken ss before old new input fault after =
-    Comes (wholes_of ss) before old new (Broken input fault after.offset) ⊎ EndsByCut ss before old new input fault after ⊎ WantsMemory old new fault
+    Comes (wholes_of ss) before old new (Broken input fault after.offset) ⊎ EndsByCut ss before old new input fault after ⊎ WantsMemory old new input fault
 
 pub record BreaksAt (ss : List Stood) (before : List ℕ) (old new : MachineStand) (input : ℕ) (fault : Fault) : Type 0 where
   pub head : HeadView
