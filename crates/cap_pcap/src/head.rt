@@ -1,5 +1,5 @@
 //! What the heads of a savefile and of its records say.
-ghost use Rattle.std.specs.Prelude.{◌≡◌, ◌≤◌, ◌<◌, ◌^◌, length, IfOk};
+ghost use Rattle.std.specs.Prelude.{◌≡◌, ◌/◌, ◌≤◌, ◌<◌, ◌^◌, length, IfOk};
 ghost use Rattle.cap_octet.specs.Checks.{checked, first_failing};
 ghost use Rattle.cap_pcap.specs.Header.{form_in, head_fault, head_in, magic};
 ghost use Rattle.cap_pcap.specs.Record.{field_checks, most_captured, nanoseconds_of_part, parts_of_second, record_head_in};
@@ -76,6 +76,16 @@ impl Resolution {
         match self {
             Resolution::Microseconds => 1_000,
             Resolution::Nanoseconds => 1,
+        }
+    }
+
+    /// How many whole parts so many nanoseconds are. Each divisor is a constant, which costs no division.
+    pub(crate) fn whole_parts(self, nanoseconds: u64) -> u64
+        ensures { result ≡ nanoseconds / nanoseconds_of_part self }
+    {
+        match self {
+            Resolution::Microseconds => nanoseconds / 1_000,
+            Resolution::Nanoseconds => nanoseconds,
         }
     }
 }

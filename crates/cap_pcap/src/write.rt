@@ -57,7 +57,7 @@ pub fn record_bytes(format: Format, packet: &Packet<'_>) -> [u8; 16]
     requires fits { first_failing (fit_checks (captured packet.now)) ≡ None }
     ensures { result ≡ record_heading (resolution_of format) (captured packet.now) }
 {
-    let part = packet.time % SECOND / written_resolution(format).nanoseconds();
+    let part = written_resolution(format).whole_parts(packet.time % SECOND);
     let mut bytes = [0; 16];
     LittleEndian::write_u32(&mut bytes, (packet.time / SECOND) as u32);
     LittleEndian::write_u32(&mut bytes[4..], part as u32);
