@@ -74,6 +74,7 @@ pub trait Output {
 /// Fills the buffer from its front and answers how many bytes came: fewer than it has room for only at the end.
 /// An error is a failure of the device in this call, after fewer bytes than the buffer has room for; these stand in its
 /// front.
+#[inline(always)]
 pub fn read_full<I: Input>(input: &mut I, buf: &mut [u8]) -> Result<usize, DeviceFault>
     ensures within { IfOk result (λ n. n ≤ length buf.old) }
     ensures counted { IfOk result (λ n. I.given input.new ≡ I.given input.old + n) }
@@ -98,6 +99,7 @@ pub fn read_full<I: Input>(input: &mut I, buf: &mut [u8]) -> Result<usize, Devic
 
 /// Writes all of the bytes. An error is a failure of the device in this call, and tells how many bytes, fewer than
 /// all, were written before it.
+#[inline(always)]
 pub fn write_all<O: Output>(output: &mut O, buf: &[u8]) -> Result<(), Stopped>
     ensures front { IfErr result (λ stopped. stopped.written < length buf.now) }
     ensures failed { O.failures output.new ≡ O.failures output.old + failures_of result }
