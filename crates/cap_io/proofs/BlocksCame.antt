@@ -7,7 +7,7 @@ use Rattle.cap_octet.specs.declared.fault.Fault.{Fault}
 use Rattle.cap_octet.specs.declared.fault.Fault.TheVariants.{NoMemory, ReadFailed}
 use Rattle.cap_octet.specs.declared.number.Order.{Order}
 use Rattle.cap_octet.proofs.Checks.{checked_ok, checked_err}
-use Rattle.cap_pcapng.specs.Block.{Parts, SectionParts, InterfaceParts, EnhancedParts, SimpleParts, SkippedParts, block_checks, block_fault, parts_in}
+use Rattle.cap_pcapng.specs.Block.{Parts, SectionParts, InterfaceParts, EnhancedParts, SimpleParts, SkippedParts, block_checks, parts_in}
 use Rattle.cap_pcapng.specs.Frame.{frame_checks, frame_fault, frame_in, most_block}
 use Rattle.cap_pcapng.specs.Interface.{Described}
 use Rattle.cap_pcapng.specs.Unit.{IsBlock, Section, block_size, checks_among, frame_behind, interfaces_before, order_before, packet_by, parts_behind, section_after, section_by, unit_fault}
@@ -127,7 +127,7 @@ entry_refused before section interfaces text unread' block buffer frame fault is
     let f = framed_block before section block unread' frame is (omega arith) (ap (frame_fault section) block_is ∙ came.passes) (ap (frame_in section) block_is ∙ came.says) in
     let whole : block_size before (block ++ unread') ≡ frame.length = ap (λ (g : Frame). g.length) f.behind in
     let long : length (block ++ unread') ≡ length block + length unread' = length-append block unread' in
-    let blocked : first_failing (block_checks (frame_behind before (block ++ unread')) (block ++ unread')) ≡ block_fault frame block =
+    let blocked : first_failing (block_checks (frame_behind before (block ++ unread')) (block ++ unread')) ≡ first_failing (block_checks frame block) =
     ap (λ (g : Frame). first_failing (block_checks g (block ++ unread'))) f.behind ∙ ap first_failing (block_checks-append frame block unread' least (omega arith)) in
     let parts : parts_behind before (block ++ unread') ≡ parts_in frame block =
     ap (λ (g : Frame). parts_in g (block ++ unread')) f.behind ∙ parts_in-append frame block unread' least (omega arith) in
@@ -179,7 +179,7 @@ block_came before section interfaces interfaces' text unread' block buffer frame
     let framed : first_failing (frame_checks (order_before before) block) ≡ None = ap (λ o. frame_fault o block) is ∙ ap (frame_fault section) block_is ∙ came.passes in
     let whole : block_size before block ≡ frame.length = ap (λ (g : Frame). g.length) f.alone in
     let parts : parts_behind before block ≡ parts_in frame block = ap (λ (g : Frame). parts_in g block) f.alone in
-    let blocked : first_failing (block_checks (frame_behind before block) block) ≡ None = ap (λ (g : Frame). block_fault g block) f.alone ∙ enters.passes in
+    let blocked : first_failing (block_checks (frame_behind before block) block) ≡ None = ap (λ (g : Frame). first_failing (block_checks g block)) f.alone ∙ enters.passes in
     let among : unit_fault before block ≡ None =
     unit_fault-among before block (omega arith) framed (omega arith) blocked
     ∙ ap₂ (λ (i : List Described) (p : Parts). first_failing (checks_among i p)) same parts ∙ enters.among in

@@ -1,25 +1,27 @@
 -- A block finds its place in the table of interfaces, and its packet its data.
-use Rattle.std.proofs.Common.{◌≡◌, ℕ, ◌+◌, ◌-◌, ◌/◌, ◌*◌, ◌^◌, ◌<◌, ◌≤◌, Bool, true, false, List, [], ◌∷◌, length, take, drop, Option, Some, None, Ok, refl, sym, ap, ◌∙◌, arith, leb-true, length-drop}
+use Rattle.std.proofs.Common.{◌≡◌, ℕ, ◌+◌, ◌-◌, ◌/◌, ◌*◌, ◌^◌, ◌<◌, ◌≤◌, Bool, true, false, List, [], ◌∷◌, length, take, drop, Option, Some, None, Ok, refl, sym, ap, ◌∙◌, arith, leb-true, length-drop, inl, inr, if◌then◌else◌, nat_lt}
 use Rattle.std.specs.Prelude.{is_some}
-use Rattle.std.specs.List.{slice_get}
+use Rattle.std.specs.List.{AllByRecursion, slice_get}
 use Rattle.std.specs.Option.{option_map, ok_or}
 use Rattle.std.proofs.lemmas.List.{drop-drop, drop-take, take-take, length-take-le, length-take}
 use Rattle.cap_octet.specs.Checks.{first_failing}
 use Rattle.cap_octet.specs.declared.fault.Fault.{Fault}
-use Rattle.cap_octet.specs.declared.fault.Fault.TheVariants.{TimeOutOfRange}
+use Rattle.cap_octet.specs.declared.fault.Fault.TheVariants.{TimeOutOfRange, TooManyInterfaces}
 use Rattle.cap_octet.specs.declared.number.Order.{Order}
 use Rattle.cap_octet.proofs.Checks.{all_met, met_front}
-use Rattle.cap_pcapng.specs.Block.{Parts, EnhancedParts, SimpleParts, block_fault, body_checks, body_in, data_checks, parts_in, parts_in_body, simple_captured}
+use Rattle.cap_pcapng.specs.Block.{Parts, SectionParts, InterfaceParts, EnhancedParts, SimpleParts, SkippedParts, block_checks, block_fault, option_checks, body_checks, body_in, data_checks, parts_in, parts_in_body, simple_captured}
 use Rattle.cap_pcapng.specs.Interface.{Described}
 use Rattle.cap_pcapng.specs.Padding.{padded}
 use Rattle.cap_pcapng.specs.Time.{time_in}
-use Rattle.cap_pcapng.specs.Unit.{checks_among, packet_by, packet_of, section_by}
+use Rattle.cap_pcapng.specs.Unit.{checks_among, most_interfaces, packet_by, packet_of, section_by}
+use Rattle.cap_pcapng.proofs.WholeBlocks.{block_fails}
 use Rattle.cap_pcapng.specs.declared.frames.BlockType.{BlockType}
 use Rattle.cap_pcapng.specs.declared.frames.BlockType.TheVariants as type
 use Rattle.cap_pcapng.specs.declared.frames.Frame.{Frame}
-use Rattle.cap_io.specs.Blocks.{Enters, FitsIfAny, PacketFound, packet_in, section_of}
+use Rattle.cap_io.specs.Blocks.{Enters, FitsIfAny, IsEntryFault, PacketFound, packet_in, section_of, told_behind}
 use Rattle.cap_io.specs.Reading.{data_held}
 use Rattle.cap_io.specs.declared.unit.Held.{Held}
+use Rattle.cap_io.proofs.OwnFaults.{all_failing, all_of_options}
 
 -- ---- a packet's data
 
@@ -112,7 +114,7 @@ rows_behind : (b : Bool) (fault : Fault) (rows : List (Bool × Fault)) → first
 rows_behind true fault rows none = none
 rows_behind false fault rows none = (cc)
 
-pub body_passes : (frame : Frame) (block : List ℕ) → block_fault frame block ≡ None → first_failing (body_checks frame.block_type frame.order (body_in frame block)) ≡ None
+pub body_passes : (frame : Frame) (block : List ℕ) → first_failing (block_checks frame block) ≡ None → first_failing (body_checks frame.block_type frame.order (body_in frame block)) ≡ None
 body_passes frame block none = rows_behind _ _ (body_checks frame.block_type frame.order (body_in frame block)) none
 
 -- the data of a packet that was found in a body are those held of the block
@@ -136,7 +138,7 @@ pub record HasFound (frame : Frame) (interfaces : List Described) (block : List 
   pub fits : FitsIfAny (Some held) frame.length
 
 packet_enters : (frame : Frame) (interfaces : List Described) (block rest : List ℕ) (parts : Parts) (skip : ℕ) (held : Held) → length block ≡ frame.length → 12 ≤ frame.length
-    → parts ≡ parts_in frame block → block_fault frame block ≡ None → rest ≡ drop skip (body_in frame block) → skip ≤ length (body_in frame block)
+    → parts ≡ parts_in frame block → first_failing (block_checks frame block) ≡ None → rest ≡ drop skip (body_in frame block) → skip ≤ length (body_in frame block)
     → held.from ≡ 8 + skip → held.size ≡ length block → PacketFound interfaces parts rest held
     → section_by (Some (section_of frame.order interfaces)) frame.order parts ≡ section_of frame.order interfaces
     → HasFound frame interfaces block held
@@ -157,7 +159,7 @@ packet_enters frame interfaces block rest parts skip held whole least is passes 
     }
 
 pub enhanced_enters : (frame : Frame) (interfaces : List Described) (block rest : List ℕ) (number ticks captured orig : ℕ) (held : Held) → length block ≡ frame.length → 12 ≤ frame.length
-    → EnhancedParts number ticks captured orig rest ≡ parts_in frame block → block_fault frame block ≡ None
+    → EnhancedParts number ticks captured orig rest ≡ parts_in frame block → first_failing (block_checks frame block) ≡ None
     → held.from ≡ 28 → held.size ≡ length block → PacketFound interfaces (EnhancedParts number ticks captured orig rest) rest held
     → HasFound frame interfaces block held
 enhanced_enters frame interfaces block rest number ticks captured orig held whole least is passes from size found =
@@ -165,9 +167,63 @@ enhanced_enters frame interfaces block rest number ticks captured orig held whol
     packet_enters frame interfaces block rest (EnhancedParts number ticks captured orig rest) 20 held whole least is passes body.0 body.1 from size found refl
 
 pub simple_enters : (frame : Frame) (interfaces : List Described) (block rest : List ℕ) (orig : ℕ) (held : Held) → length block ≡ frame.length → 12 ≤ frame.length
-    → SimpleParts orig rest ≡ parts_in frame block → block_fault frame block ≡ None
+    → SimpleParts orig rest ≡ parts_in frame block → first_failing (block_checks frame block) ≡ None
     → held.from ≡ 12 → held.size ≡ length block → PacketFound interfaces (SimpleParts orig rest) rest held
     → HasFound frame interfaces block held
 simple_enters frame interfaces block rest orig held whole least is passes from size found =
     let body = simple_body frame.block_type frame.order (body_in frame block) rest orig (sym is) (body_passes frame block passes) in
     packet_enters frame interfaces block rest (SimpleParts orig rest) 4 held whole least is passes body.0 body.1 from size found refl
+
+-- ---- a block that is refused by itself
+
+-- those of its body don't hang on the interfaces before it
+Stays : Fault → Type 0
+Stays fault = (interfaces : List Described) → told_behind interfaces fault ≡ fault
+
+body_stays : (kind : BlockType) (order : Order) (body : List ℕ) → AllByRecursion (λ row. Stays row.1) (body_checks kind order body)
+unfolding Stays
+body_stays type.Section order body = (λ i. refl, (λ i. refl, tt))
+body_stays type.Interface order body = (λ i. refl, tt)
+body_stays type.ObsoletePacket order body = (λ i. refl, tt)
+body_stays type.SimplePacket order body = (λ i. refl, tt)
+body_stays type.EnhancedPacket order body = (λ i. refl, tt)
+body_stays type.Other order body = tt
+
+block_stays : (frame : Frame) (block : List ℕ) (fault : Fault) → first_failing (block_checks frame block) ≡ Some fault → (interfaces : List Described) → told_behind interfaces fault ≡ fault
+unfolding Stays
+block_stays frame block fault fails =
+    all_failing Stays (block_checks frame block) fault (λ i. refl, body_stays frame.block_type frame.order (body_in frame block)) fails
+
+-- those of its options come behind that of how many interfaces there are
+Yields : Fault → Type 0
+Yields fault = (interfaces : List Described) → told_behind interfaces fault ≡ (if nat_lt (length interfaces) most_interfaces then fault else TooManyInterfaces)
+
+option_yields : (parts : Parts) (fault : Fault) → first_failing (option_checks parts) ≡ Some fault → Yields fault
+unfolding Yields
+option_yields parts fault fails = all_failing Yields (option_checks parts) fault (all_of_options Yields (λ i. refl) (λ i. refl) parts) fails
+
+behind_room : (room : Bool) (rows : List (Bool × Fault)) (fault : Fault) → first_failing rows ≡ Some fault
+    → first_failing ((room, TooManyInterfaces) ∷ rows) ≡ Some (if room then fault else TooManyInterfaces)
+behind_room true rows fault fails = fails
+behind_room false rows fault fails = refl
+
+among_options : (interfaces : List Described) (parts : Parts) (fault : Fault) → first_failing (option_checks parts) ≡ Some fault
+    → first_failing (checks_among interfaces parts) ≡ Some (if nat_lt (length interfaces) most_interfaces then fault else TooManyInterfaces)
+among_options interfaces SectionParts fault fails = (cc)
+among_options interfaces (InterfaceParts link snap order options) fault fails =
+    behind_room (nat_lt (length interfaces) most_interfaces) (option_checks (InterfaceParts link snap order options)) fault fails
+among_options interfaces (EnhancedParts number ticks captured orig rest) fault fails = (cc)
+among_options interfaces (SimpleParts orig rest) fault fails = (cc)
+among_options interfaces SkippedParts fault fails = (cc)
+
+pub refused_entry : (frame : Frame) (interfaces : List Described) (block : List ℕ) (fault : Fault) → length block ≡ frame.length → 12 ≤ frame.length → block_fault frame block ≡ Some fault
+    → IsEntryFault frame interfaces block (told_behind interfaces fault)
+unfolding Yields
+refused_entry frame interfaces block fault whole least fails =
+    elim (block_fails frame block fault least (omega arith) fails) [
+      | inl body ↦ inl (body ∙ ap Some (sym (block_stays frame block fault body interfaces)))
+      | inr options ↦ inr (inl (
+        options.0,
+        among_options interfaces (parts_in frame block) fault options.1 ∙ ap Some (sym (option_yields (parts_in frame block) fault options.1 interfaces)),
+      ))
+    ]

@@ -1,16 +1,16 @@
 -- What reading one block of a pcapng file does, from its first bytes to its place in the table of interfaces.
-use Rattle.std.specs.Prelude.{◌≡◌, ℕ, ◌+◌, ◌^◌, ◌<◌, ◌≤◌, ◌⊎◌, List, [], ◌∷◌, ◌++◌, length, take, drop, Option, None, Some, true, is_some}
+use Rattle.std.specs.Prelude.{◌≡◌, ℕ, ◌+◌, ◌^◌, ◌<◌, ◌≤◌, ◌⊎◌, List, [], ◌∷◌, ◌++◌, length, take, drop, Option, None, Some, true, is_some, if◌then◌else◌, nat_lt}
 use Rattle.std.specs.List.{slice_get}
 use Rattle.std.specs.Option.{option_map}
 use Rattle.cap_octet.specs.Checks.{first_failing}
 use Rattle.cap_octet.specs.Packet.{Captured}
 use Rattle.cap_octet.specs.declared.fault.Fault.{Fault}
-use Rattle.cap_octet.specs.declared.fault.Fault.TheVariants.{NoMemory, ReadFailed}
+use Rattle.cap_octet.specs.declared.fault.Fault.TheVariants.{BadOption, BadTimeResolution, NoMemory, ReadFailed, TooManyInterfaces}
 use Rattle.cap_octet.specs.declared.number.Order.{Order}
-use Rattle.cap_pcapng.specs.Block.{Parts, block_fault, parts_in}
+use Rattle.cap_pcapng.specs.Block.{Parts, block_checks, parts_in}
 use Rattle.cap_pcapng.specs.Frame.{frame_fault, frame_in}
 use Rattle.cap_pcapng.specs.Interface.{Described}
-use Rattle.cap_pcapng.specs.Unit.{IsBlock, Section, block_size, checks_among, interfaces_before, packet_by, packet_of, packets_in, section_after, section_by, unit_fault}
+use Rattle.cap_pcapng.specs.Unit.{IsBlock, Section, block_size, checks_among, interfaces_before, most_interfaces, packet_by, packet_of, packets_in, section_after, section_by, unit_fault}
 use Rattle.cap_pcapng.specs.declared.frames.Frame.{Frame}
 use Rattle.cap_io.specs.declared.blocks.BlockRead.{BlockRead}
 use Rattle.cap_io.specs.declared.unit.Held.{Held}
@@ -66,7 +66,7 @@ PacketIfAny interfaces parts block (Some held) = PacketStands interfaces parts b
 
 -- a block passed all of its checks, and the table of interfaces is that behind it
 pub record Enters (frame : Frame) (interfaces : List Described) (block : List ℕ) (held : Option Held) (interfaces' : List Described) : Type 0 where
-  pub passes : block_fault frame block ≡ None
+  pub passes : first_failing (block_checks frame block) ≡ None
   pub among : first_failing (checks_among interfaces (parts_in frame block)) ≡ None
   pub section : section_by (Some (section_of frame.order interfaces)) frame.order (parts_in frame block) ≡ section_of frame.order interfaces'
   pub packet : PacketIfAny interfaces (parts_in frame block) block held
@@ -74,9 +74,16 @@ pub record Enters (frame : Frame) (interfaces : List Described) (block : List �
 -- the first check that a block fails, or want of memory
 abbrev pub IsEntryFault : Frame → List Described → List ℕ → Fault → Type 0
 IsEntryFault frame interfaces block fault =
-    (block_fault frame block ≡ Some fault)
-    ⊎ ((block_fault frame block ≡ None) × (first_failing (checks_among interfaces (parts_in frame block)) ≡ Some fault))
+    (first_failing (block_checks frame block) ≡ Some fault)
+    ⊎ ((first_failing (block_checks frame block) ≡ None) × (first_failing (checks_among interfaces (parts_in frame block)) ≡ Some fault))
     ⊎ (fault ≡ NoMemory)
+
+-- What a block's refusal by itself tells behind these interfaces: that there are as many as may be comes before what its
+-- options tell.
+abbrev pub told_behind : List Described → Fault → Fault
+told_behind interfaces BadOption = if nat_lt (length interfaces) most_interfaces then BadOption else TooManyInterfaces
+told_behind interfaces BadTimeResolution = if nat_lt (length interfaces) most_interfaces then BadTimeResolution else TooManyInterfaces
+told_behind interfaces fault = fault
 
 -- what is held of it is in the block
 abbrev pub FitsIfAny : Option Held → ℕ → Type 0

@@ -7,11 +7,9 @@ use Rattle.cap_octet.specs.Packet.{Captured}
 use Rattle.cap_octet.specs.declared.fault.Fault.{Fault}
 use Rattle.cap_octet.specs.declared.fault.Fault.TheVariants.{Truncated, UnknownInterface, TimeOutOfRange, TooManyInterfaces}
 use Rattle.cap_octet.specs.declared.number.Order.{Order}
-use Rattle.cap_pcapng.specs.Block.{Parts, SectionParts, InterfaceParts, EnhancedParts, SimpleParts, SkippedParts, block_checks, data_checks, parts_in, simple_captured}
+use Rattle.cap_pcapng.specs.Block.{Parts, SectionParts, InterfaceParts, EnhancedParts, SimpleParts, SkippedParts, block_checks, data_checks, option_checks, parts_in, simple_captured}
 use Rattle.cap_pcapng.specs.Frame.{frame_checks, frame_in}
 use Rattle.cap_pcapng.specs.Interface.{Described, described_in}
-use Rattle.cap_pcapng.specs.InterfaceOptions.{list_checks}
-use Rattle.cap_pcapng.specs.OptionList.{options_in}
 use Rattle.cap_pcapng.specs.Time.{time_in}
 use Rattle.cap_pcapng.specs.declared.frames.Frame.{Frame}
 
@@ -55,7 +53,7 @@ captured_of interface orig = option_map_or (λ (i : Described). simple_captured 
 abbrev pub checks_among : List Described → Parts → List (Bool × Fault)
 checks_among interfaces SectionParts = []
 checks_among interfaces (InterfaceParts link snap order options) =
-    (nat_lt (length interfaces) most_interfaces, TooManyInterfaces) ∷ list_checks [] (options_in order options)
+    (nat_lt (length interfaces) most_interfaces, TooManyInterfaces) ∷ option_checks (InterfaceParts link snap order options)
 checks_among interfaces (EnhancedParts number ticks captured orig rest) =
     (is_some (slice_get interfaces number), UnknownInterface)
     ∷ data_checks captured rest

@@ -1,9 +1,10 @@
 //! What blocks say, with their data lent.
 ghost use Rattle.std.specs.Prelude.{◌≡◌, None, Some, take, IfOk, IfErr};
 ghost use Rattle.cap_octet.specs.Checks.{checked, first_failing};
-ghost use Rattle.cap_pcapng.specs.Block.{EnhancedParts, InterfaceParts, SimpleParts, body_checks, data_checks, parts_in_body, simple_captured};
+ghost use Rattle.cap_pcapng.specs.Block.{EnhancedParts, SimpleParts, body_checks, data_checks, parts_in_body, simple_captured};
 ghost use Rattle.cap_pcapng.specs.declared.frames.BlockType.TheVariants as kind;
 
+use crate::interface::Interface;
 use crate::options::{Options, padded_length};
 use cap_octet::{Fault, Order, u16_at, u32_at};
 
@@ -21,10 +22,9 @@ pub enum Block<'a> {
 /// An interface description block.
 #[derive(Clone, Copy, Debug, PartialEq, Eq)]
 pub struct InterfaceBlock<'a> {
-    /// The link type (tcpdump.org's list of LINKTYPE_ values).
-    pub link: u16,
-    /// The snap length, in bytes; 0 is none.
-    pub snap: u32,
+    /// The interface that it describes.
+    pub interface: Interface<'a>,
+    /// All of its options.
     pub options: Options<'a>,
 }
 
@@ -78,25 +78,6 @@ fn data_in(rest: &[u8], captured: u32) -> Result<&[u8], Fault>
         return Err(Fault::BadBody);
     }
     Ok(&rest[..captured as usize])
-}
-
-impl<'a> InterfaceBlock<'a> {
-    /// Reads a body, or tells that it is shorter than 8 bytes.
-    pub(crate) fn of(order: Order, body: &'a [u8]) -> Result<Self, Fault>
-        ensures found { IfOk result (λ b.
-            InterfaceParts b.link b.snap b.options.order b.options.rest.now ≡ parts_in_body kind.Interface order body.now) }
-        ensures passes { IfOk result (λ _. first_failing (body_checks kind.Interface order body.now) ≡ None) }
-        ensures refused { IfErr result (λ fault. first_failing (body_checks kind.Interface order body.now) ≡ Some fault) }
-    {
-        if body.len() < 8 {
-            return Err(Fault::BadBody);
-        }
-        Ok(InterfaceBlock {
-            link: u16_at(order, body, 0),
-            snap: u32_at(order, body, 4),
-            options: Options::new(order, &body[8..]),
-        })
-    }
 }
 
 impl<'a> EnhancedBlock<'a> {
