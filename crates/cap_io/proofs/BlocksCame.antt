@@ -14,7 +14,7 @@ use Rattle.cap_pcapng.specs.Unit.{IsBlock, Section, block_size, checks_among, fr
 use Rattle.cap_pcapng.proofs.Units.{passes, frame_checks-append, frame_in-append, unit_fault-frame, unit_fault-short, unit_fault-block, unit_fault-among, parts_in-append, block_checks-append}
 use Rattle.cap_pcapng.specs.declared.frames.Frame.{Frame}
 use Rattle.cap_io.specs.Blocks.{BlockCame, BlockMissing, BlockPacketIfAny, Enters, IsEntryFault, PacketIfAny, WholeCame, packet_in, section_of}
-use Rattle.cap_io.specs.Reading.{RestMissing, data_held, most_in_unit, length_by_front, decisive_block_length}
+use Rattle.cap_io.specs.Reading.{RestMissing, data_held, options_held, most_in_unit, length_by_front, decisive_block_length}
 use Rattle.cap_io.specs.declared.unit.Held.{Held}
 use Rattle.cap_io.proofs.OwnFaults.{entry-not_failed, frame-not_failed}
 
@@ -156,17 +156,17 @@ section_same : (before : Option Section) (order : Order) (interfaces : List Desc
     → section_by before order parts ≡ section_by (Some (section_of order interfaces)) order parts
 section_same before order interfaces SectionParts same = refl
 section_same before order interfaces (InterfaceParts link snap own options) same = rw same refl
-section_same before order interfaces (EnhancedParts number ticks captured orig rest) same = rw same refl
+section_same before order interfaces (EnhancedParts number ticks captured orig own rest) same = rw same refl
 section_same before order interfaces (SimpleParts orig rest) same = rw same refl
 section_same before order interfaces SkippedParts same = rw same refl
 
-packet_if_any : (before : Option Section) (interfaces : List Described) (block : List ℕ) (parts : Parts) (held : Option Held) → interfaces_before before ≡ interfaces → parts_behind before block ≡ parts
-    → PacketIfAny interfaces parts block held → BlockPacketIfAny before block held
-packet_if_any before interfaces block parts None same is none = ap₂ (λ (i : List Described) (p : Parts). option_to_list (packet_by i p)) same is ∙ ap option_to_list none
-packet_if_any before interfaces block parts (Some held) same is stands = record {
+packet_if_any : (order : Order) (before : Option Section) (interfaces : List Described) (block : List ℕ) (parts : Parts) (held : Option Held) → interfaces_before before ≡ interfaces → parts_behind before block ≡ parts
+    → PacketIfAny order interfaces parts block held → BlockPacketIfAny order before block held
+packet_if_any order before interfaces block parts None same is none = ap₂ (λ (i : List Described) (p : Parts). option_to_list (packet_by i p)) same is ∙ ap option_to_list none
+packet_if_any order before interfaces block parts (Some held) same is stands = record {
   packet = stands.packet;
   stands = ap₂ (λ (i : List Described) (p : Parts). option_to_list (packet_by i p)) same is ∙ ap option_to_list stands.stands;
-  is_lent = ap (λ (i : List Described). packet_in i held (data_held held block)) same ∙ stands.is_lent;
+  is_lent = ap (λ (i : List Described). packet_in order i held (data_held held block) (options_held held block)) same ∙ stands.is_lent;
 }
 
 pub block_came : (before : Option Section) (section : Option Order) (interfaces interfaces' : List Described) (text unread' block buffer : List ℕ) (frame : Frame) (held : Option Held)
@@ -184,13 +184,13 @@ block_came before section interfaces interfaces' text unread' block buffer frame
     unit_fault-among before block (omega arith) framed (omega arith) blocked
     ∙ ap₂ (λ (i : List Described) (p : Parts). first_failing (checks_among i p)) same parts ∙ enters.among in
     let Q : List ℕ → Type 0 = λ b. IsBlock before b in
-    let R : List ℕ → Type 0 = λ b. BlockPacketIfAny before b held in
+    let R : List ℕ → Type 0 = λ b. BlockPacketIfAny frame.order before b held in
     record {
       is_block = subst Q block_is (record { passes = among; whole = omega (arith, size, whole) });
       section =
           ap (section_after before) (sym block_is)
           ∙ ap₂ (λ (o : Order) (p : Parts). section_by before o p) (ap (λ (g : Frame). g.order) f.alone) parts
           ∙ section_same before frame.order interfaces (parts_in frame block) same ∙ enters.section;
-      packet = subst R block_is (packet_if_any before interfaces block (parts_in frame block) held same parts enters.packet);
+      packet = subst R block_is (packet_if_any frame.order before interfaces block (parts_in frame block) held same parts enters.packet);
       splits = came.splits;
     }

@@ -87,7 +87,7 @@ items_in P bad order text = items_within P bad (length text) order text
 pub all_of_options : (P : Fault → Type 0) → P BadOption → P BadTimeResolution → (parts : Parts) → AllByRecursion (λ row. P row.1) (option_checks parts)
 all_of_options P bad worse SectionParts = tt
 all_of_options P bad worse (InterfaceParts link snap order options) = all_of_list P bad worse [] (options_in order options) (items_in P bad order options)
-all_of_options P bad worse (EnhancedParts number ticks captured orig rest) = tt
+all_of_options P bad worse (EnhancedParts number ticks captured orig own rest) = tt
 all_of_options P bad worse (SimpleParts orig rest) = tt
 all_of_options P bad worse SkippedParts = tt
 
@@ -105,7 +105,7 @@ AreOwn rows = AreAll IsOwn rows
 own_among : (interfaces : List Described) (parts : Parts) → AreOwn (checks_among interfaces parts)
 own_among interfaces SectionParts = tt
 own_among interfaces (InterfaceParts link snap order options) = (refl, all_of_options IsOwn refl refl (InterfaceParts link snap order options))
-own_among interfaces (EnhancedParts number ticks captured orig rest) = (refl, (refl, (refl, tt)))
+own_among interfaces (EnhancedParts number ticks captured orig own rest) = (refl, (refl, (refl, tt)))
 own_among interfaces (SimpleParts orig rest) = (refl, (refl, tt))
 own_among interfaces SkippedParts = tt
 

@@ -112,23 +112,26 @@ fn enhanced_packet<A: Allocator>(
     block: &EnhancedBlock<'_>,
     size: usize,
 ) -> Result<Held, Fault>
-    ensures found { IfOk result (PacketFound table.now
-        (EnhancedParts block.now.interface block.now.ticks block.now.captured block.now.orig block.now.rest.now) block.now.rest.now) }
+    ensures found { IfOk result (PacketFound block.now.order table.now
+        (EnhancedParts block.now.interface block.now.ticks block.now.captured block.now.orig block.now.order block.now.rest.now) block.now.rest.now) }
     ensures size { IfOk result (λ held. held.size ≡ size) }
     ensures known { IfOk result (λ held. is_some (slice_get table.now held.interface) ≡ true) }
     ensures from { IfOk result (λ held. held.from ≡ 28) }
     ensures refused { IfErr result (λ fault. first_failing (checks_among table.now
-        (EnhancedParts block.now.interface block.now.ticks block.now.captured block.now.orig block.now.rest.now)) ≡ Some fault) }
+        (EnhancedParts block.now.interface block.now.ticks block.now.captured block.now.orig block.now.order block.now.rest.now)) ≡ Some fault) }
 {
     let Some(interface) = table.get(block.interface) else {
         return Err(Fault::UnknownInterface);
     };
     let data = block.data()?;
     let time = interface.clock.time(block.ticks)?;
+    let optional = block.options().rest.len();
     Ok(Held {
         size,
         from: ENHANCED_DATA,
         captured: data.len(),
+        options: ENHANCED_DATA + block.rest.len() - optional,
+        optional,
         interface: block.interface,
         time,
         orig: block.orig,
@@ -141,7 +144,8 @@ fn simple_packet<A: Allocator>(
     block: &SimpleBlock<'_>,
     size: usize,
 ) -> Result<Held, Fault>
-    ensures found { IfOk result (PacketFound table.now (SimpleParts block.now.orig block.now.rest.now) block.now.rest.now) }
+    ensures found { IfOk result (λ held. (order : Order)
+        → PacketFound order table.now (SimpleParts block.now.orig block.now.rest.now) block.now.rest.now held) }
     ensures size { IfOk result (λ held. held.size ≡ size) }
     ensures known { IfOk result (λ held. is_some (slice_get table.now held.interface) ≡ true) }
     ensures from { IfOk result (λ held. held.from ≡ 12) }
@@ -156,6 +160,8 @@ fn simple_packet<A: Allocator>(
         size,
         from: SIMPLE_DATA,
         captured: data.len(),
+        options: SIMPLE_DATA,
+        optional: 0,
         interface: 0,
         time: 0,
         orig: block.orig,

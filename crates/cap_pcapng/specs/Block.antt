@@ -55,11 +55,11 @@ data_checks captured rest = (nat_le (padded captured) (length rest), BadBody) �
 
 -- ---- the parts
 
--- what a block says. The rest of a packet's body is its padded data, and what follows that.
+-- what a block says. The rest of a packet's body is its padded data, and the options behind them.
 pub data Parts : Type 0 where
   SectionParts : Parts
   InterfaceParts : (link snap : ℕ) → (order : Order) → (options : List ℕ) → Parts
-  EnhancedParts : (interface ticks captured orig : ℕ) → (rest : List ℕ) → Parts
+  EnhancedParts : (interface ticks captured orig : ℕ) → (order : Order) → (rest : List ℕ) → Parts
   SimpleParts : (orig : ℕ) → (rest : List ℕ) → Parts
   SkippedParts : Parts
 
@@ -70,7 +70,7 @@ parts_in_body type.ObsoletePacket order body = SkippedParts
 parts_in_body type.SimplePacket order body = SimpleParts (u32_in order body 0) (drop 4 body)
 parts_in_body type.EnhancedPacket order body =
     EnhancedParts (u32_in order body 0) (u32_in order body 4 * 4294967296 + u32_in order body 8)
-    (u32_in order body 12) (u32_in order body 16) (drop 20 body)
+    (u32_in order body 12) (u32_in order body 16) order (drop 20 body)
 parts_in_body type.Other order body = SkippedParts
 
 abbrev pub parts_in : Frame → List ℕ → Parts
@@ -83,7 +83,7 @@ parts_of_interface b = InterfaceParts b.interface.link b.interface.snap b.option
 abbrev pub parts_of : Block → Parts
 parts_of a.Section = SectionParts
 parts_of (a.Interface b) = parts_of_interface b
-parts_of (a.Enhanced b) = EnhancedParts b.interface b.ticks b.captured b.orig b.rest.now
+parts_of (a.Enhanced b) = EnhancedParts b.interface b.ticks b.captured b.orig b.order b.rest.now
 parts_of (a.Simple b) = SimpleParts b.orig b.rest.now
 parts_of a.Skipped = SkippedParts
 
@@ -101,7 +101,7 @@ IsDescribedIfAny a.Skipped = Unit {0}
 abbrev pub option_checks : Parts → List (Bool × Fault)
 option_checks SectionParts = []
 option_checks (InterfaceParts link snap order options) = list_checks [] (options_in order options)
-option_checks (EnhancedParts number ticks captured orig rest) = []
+option_checks (EnhancedParts number ticks captured orig order rest) = []
 option_checks (SimpleParts orig rest) = []
 option_checks SkippedParts = []
 
