@@ -159,11 +159,7 @@ fn comment_end(size: u32) -> [u8; 11]
 }
 
 /// Writes the block of a packet without a comment.
-fn write_plain<O: Output>(
-    number: u32,
-    packet: &Packet<'_>,
-    output: &mut O,
-) -> Result<(), Stopped>
+fn write_plain<O: Output>(number: u32, packet: &Packet<'_>, output: &mut O) -> Result<(), Stopped>
     requires fits { first_failing (fit_checks (captured packet.now)) ≡ None }
     requires plain { packet.now.comment.now ≡ [] }
     ensures front { IfErr result (λ stopped. stopped.written < length (packet_text number (captured packet.now))) }
