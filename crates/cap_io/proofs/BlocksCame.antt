@@ -7,14 +7,14 @@ use Rattle.cap_octet.specs.declared.fault.Fault.{Fault}
 use Rattle.cap_octet.specs.declared.fault.Fault.TheVariants.{NoMemory, ReadFailed}
 use Rattle.cap_octet.specs.declared.number.Order.{Order}
 use Rattle.cap_octet.proofs.Checks.{checked_ok, checked_err}
-use Rattle.cap_pcapng.specs.Block.{Parts, SectionParts, InterfaceParts, EnhancedParts, SimpleParts, SkippedParts, block_checks, block_fault, parts_in}
+use Rattle.cap_pcapng.specs.Block.{Parts, SectionParts, InterfaceParts, EnhancedParts, SimpleParts, SkippedParts, block_checks, parts_in}
 use Rattle.cap_pcapng.specs.Frame.{frame_checks, frame_fault, frame_in, most_block}
 use Rattle.cap_pcapng.specs.Interface.{Described}
 use Rattle.cap_pcapng.specs.Unit.{IsBlock, Section, block_size, checks_among, frame_behind, interfaces_before, order_before, packet_by, parts_behind, section_after, section_by, unit_fault}
 use Rattle.cap_pcapng.proofs.Units.{passes, frame_checks-append, frame_in-append, unit_fault-frame, unit_fault-short, unit_fault-block, unit_fault-among, parts_in-append, block_checks-append}
 use Rattle.cap_pcapng.specs.declared.frames.Frame.{Frame}
 use Rattle.cap_io.specs.Blocks.{BlockCame, BlockMissing, BlockPacketIfAny, Enters, IsEntryFault, PacketIfAny, WholeCame, packet_in, section_of}
-use Rattle.cap_io.specs.Reading.{RestMissing, data_held, most_in_unit, length_by_front, decisive_block_length}
+use Rattle.cap_io.specs.Reading.{RestMissing, data_held, options_held, most_in_unit, length_by_front, decisive_block_length}
 use Rattle.cap_io.specs.declared.unit.Held.{Held}
 use Rattle.cap_io.proofs.OwnFaults.{entry-not_failed, frame-not_failed}
 
@@ -127,7 +127,7 @@ entry_refused before section interfaces text unread' block buffer frame fault is
     let f = framed_block before section block unread' frame is (omega arith) (ap (frame_fault section) block_is ∙ came.passes) (ap (frame_in section) block_is ∙ came.says) in
     let whole : block_size before (block ++ unread') ≡ frame.length = ap (λ (g : Frame). g.length) f.behind in
     let long : length (block ++ unread') ≡ length block + length unread' = length-append block unread' in
-    let blocked : first_failing (block_checks (frame_behind before (block ++ unread')) (block ++ unread')) ≡ block_fault frame block =
+    let blocked : first_failing (block_checks (frame_behind before (block ++ unread')) (block ++ unread')) ≡ first_failing (block_checks frame block) =
     ap (λ (g : Frame). first_failing (block_checks g (block ++ unread'))) f.behind ∙ ap first_failing (block_checks-append frame block unread' least (omega arith)) in
     let parts : parts_behind before (block ++ unread') ≡ parts_in frame block =
     ap (λ (g : Frame). parts_in g (block ++ unread')) f.behind ∙ parts_in-append frame block unread' least (omega arith) in
@@ -156,17 +156,17 @@ section_same : (before : Option Section) (order : Order) (interfaces : List Desc
     → section_by before order parts ≡ section_by (Some (section_of order interfaces)) order parts
 section_same before order interfaces SectionParts same = refl
 section_same before order interfaces (InterfaceParts link snap own options) same = rw same refl
-section_same before order interfaces (EnhancedParts number ticks captured orig rest) same = rw same refl
+section_same before order interfaces (EnhancedParts number ticks captured orig own rest) same = rw same refl
 section_same before order interfaces (SimpleParts orig rest) same = rw same refl
 section_same before order interfaces SkippedParts same = rw same refl
 
-packet_if_any : (before : Option Section) (interfaces : List Described) (block : List ℕ) (parts : Parts) (held : Option Held) → interfaces_before before ≡ interfaces → parts_behind before block ≡ parts
-    → PacketIfAny interfaces parts block held → BlockPacketIfAny before block held
-packet_if_any before interfaces block parts None same is none = ap₂ (λ (i : List Described) (p : Parts). option_to_list (packet_by i p)) same is ∙ ap option_to_list none
-packet_if_any before interfaces block parts (Some held) same is stands = record {
+packet_if_any : (order : Order) (before : Option Section) (interfaces : List Described) (block : List ℕ) (parts : Parts) (held : Option Held) → interfaces_before before ≡ interfaces → parts_behind before block ≡ parts
+    → PacketIfAny order interfaces parts block held → BlockPacketIfAny order before block held
+packet_if_any order before interfaces block parts None same is none = ap₂ (λ (i : List Described) (p : Parts). option_to_list (packet_by i p)) same is ∙ ap option_to_list none
+packet_if_any order before interfaces block parts (Some held) same is stands = record {
   packet = stands.packet;
   stands = ap₂ (λ (i : List Described) (p : Parts). option_to_list (packet_by i p)) same is ∙ ap option_to_list stands.stands;
-  is_lent = ap (λ (i : List Described). packet_in i held (data_held held block)) same ∙ stands.is_lent;
+  is_lent = ap (λ (i : List Described). packet_in order i held (data_held held block) (options_held held block)) same ∙ stands.is_lent;
 }
 
 pub block_came : (before : Option Section) (section : Option Order) (interfaces interfaces' : List Described) (text unread' block buffer : List ℕ) (frame : Frame) (held : Option Held)
@@ -179,18 +179,18 @@ block_came before section interfaces interfaces' text unread' block buffer frame
     let framed : first_failing (frame_checks (order_before before) block) ≡ None = ap (λ o. frame_fault o block) is ∙ ap (frame_fault section) block_is ∙ came.passes in
     let whole : block_size before block ≡ frame.length = ap (λ (g : Frame). g.length) f.alone in
     let parts : parts_behind before block ≡ parts_in frame block = ap (λ (g : Frame). parts_in g block) f.alone in
-    let blocked : first_failing (block_checks (frame_behind before block) block) ≡ None = ap (λ (g : Frame). block_fault g block) f.alone ∙ enters.passes in
+    let blocked : first_failing (block_checks (frame_behind before block) block) ≡ None = ap (λ (g : Frame). first_failing (block_checks g block)) f.alone ∙ enters.passes in
     let among : unit_fault before block ≡ None =
     unit_fault-among before block (omega arith) framed (omega arith) blocked
     ∙ ap₂ (λ (i : List Described) (p : Parts). first_failing (checks_among i p)) same parts ∙ enters.among in
     let Q : List ℕ → Type 0 = λ b. IsBlock before b in
-    let R : List ℕ → Type 0 = λ b. BlockPacketIfAny before b held in
+    let R : List ℕ → Type 0 = λ b. BlockPacketIfAny frame.order before b held in
     record {
       is_block = subst Q block_is (record { passes = among; whole = omega (arith, size, whole) });
       section =
           ap (section_after before) (sym block_is)
           ∙ ap₂ (λ (o : Order) (p : Parts). section_by before o p) (ap (λ (g : Frame). g.order) f.alone) parts
           ∙ section_same before frame.order interfaces (parts_in frame block) same ∙ enters.section;
-      packet = subst R block_is (packet_if_any before interfaces block (parts_in frame block) held same parts enters.packet);
+      packet = subst R block_is (packet_if_any frame.order before interfaces block (parts_in frame block) held same parts enters.packet);
       splits = came.splits;
     }

@@ -203,7 +203,7 @@ data_missing head unread unread1 unread2 front found fault size is splits few fi
 
 -- what is held of a record
 abbrev pub record_held : RecordHead → ℕ → Held
-record_held found size = record { size = size; from = 16; captured = found.captured; interface = 0; time = found.time; orig = found.orig }
+record_held found size = record { size = size; from = 16; captured = found.captured; options = 16; optional = 0; interface = 0; time = found.time; orig = found.orig }
 
 pub record_came : (head : Head) (unread unread1 unread2 front unit buffer : List ℕ) (found : RecordHead) (size : ℕ) → unread ≡ front ++ unread1 → length front ≡ 16 → FieldsCame head front found
     → size ≡ 16 + found.captured → length unit ≡ size → take (length front) unit ≡ front → unread1 ≡ drop (length front) unit ++ unread2 → take size buffer ≡ unit
@@ -215,8 +215,8 @@ record_came head unread unread1 unread2 front unit buffer found size splits few 
     let joined : front ++ drop 16 unit ≡ unit = ap (λ (l : List ℕ). l ++ drop 16 unit) (sym same) ∙ take-append-drop 16 unit in
     let says : record_head_in head unit ≡ found = ap (record_head_in head) (sym joined) ∙ record_head_in-append head front (drop 16 unit) (omega arith) ∙ sym fields.says in
     let bytes : take found.captured (drop 16 unit) ≡ drop 16 unit = take_all found.captured (drop 16 unit) (omega (arith, length-drop 16 unit)) in
-    let packet : record { link = head.link; snap = head.snap; name = []; time = found.time; orig = found.orig; bytes = take found.captured (drop 16 unit) } ≡ packet_in head unit =
-    ap₂ (λ (h : RecordHead) (l : List ℕ). record { link = head.link; snap = head.snap; name = []; time = h.time; orig = h.orig; bytes = l }) (sym says) bytes in
+    let packet : record { link = head.link; snap = head.snap; name = []; time = found.time; orig = found.orig; bytes = take found.captured (drop 16 unit); comment = [] } ≡ packet_in head unit =
+    ap₂ (λ (h : RecordHead) (l : List ℕ). record { link = head.link; snap = head.snap; name = []; time = h.time; orig = h.orig; bytes = l; comment = [] }) (sym says) bytes in
     record {
       packet = packet_in head unit;
       is_lent = rw there (ap Some packet);

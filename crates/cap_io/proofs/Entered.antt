@@ -1,25 +1,30 @@
 -- A block finds its place in the table of interfaces, and its packet its data.
-use Rattle.std.proofs.Common.{◌≡◌, ℕ, ◌+◌, ◌-◌, ◌/◌, ◌*◌, ◌^◌, ◌<◌, ◌≤◌, Bool, true, false, List, [], ◌∷◌, length, take, drop, Option, Some, None, Ok, refl, sym, ap, ◌∙◌, arith, leb-true, length-drop}
-use Rattle.std.specs.Prelude.{is_some}
-use Rattle.std.specs.List.{slice_get}
+use Rattle.std.proofs.Common.{◌≡◌, ℕ, ◌+◌, ◌-◌, ◌/◌, ◌*◌, ◌^◌, ◌<◌, ◌≤◌, Bool, true, false, List, [], ◌∷◌, length, take, drop, Option, Some, None, Ok, refl, sym, ap, ap₂, subst, ◌∙◌, arith, lit≤, leb-true, length-drop, inl, inr, if◌then◌else◌, nat_lt}
+use Rattle.std.specs.Prelude.{is_some, unwrap_or}
+use Rattle.std.specs.List.{AllByRecursion, slice_get}
 use Rattle.std.specs.Option.{option_map, ok_or}
-use Rattle.std.proofs.lemmas.List.{drop-drop, drop-take, take-take, length-take-le, length-take}
+use Rattle.std.proofs.lemmas.List.{drop-drop, drop-take, take-take, length-take-le, length-take, take_all}
 use Rattle.cap_octet.specs.Checks.{first_failing}
 use Rattle.cap_octet.specs.declared.fault.Fault.{Fault}
-use Rattle.cap_octet.specs.declared.fault.Fault.TheVariants.{TimeOutOfRange}
+use Rattle.cap_octet.specs.declared.fault.Fault.TheVariants.{TimeOutOfRange, TooManyInterfaces}
 use Rattle.cap_octet.specs.declared.number.Order.{Order}
 use Rattle.cap_octet.proofs.Checks.{all_met, met_front}
-use Rattle.cap_pcapng.specs.Block.{Parts, EnhancedParts, SimpleParts, block_fault, body_checks, body_in, data_checks, parts_in, parts_in_body, simple_captured}
+use Rattle.cap_pcapng.specs.Block.{Parts, SectionParts, InterfaceParts, EnhancedParts, SimpleParts, SkippedParts, block_checks, block_fault, option_checks, body_checks, body_in, data_checks, parts_in, parts_in_body, simple_captured}
+use Rattle.cap_pcapng.specs.Comment.{comment_code, comment_in}
 use Rattle.cap_pcapng.specs.Interface.{Described}
+use Rattle.cap_pcapng.specs.InterfaceOptions.{first_value, given}
 use Rattle.cap_pcapng.specs.Padding.{padded}
 use Rattle.cap_pcapng.specs.Time.{time_in}
-use Rattle.cap_pcapng.specs.Unit.{checks_among, packet_by, packet_of, section_by}
+use Rattle.cap_pcapng.specs.Unit.{checks_among, most_interfaces, packet_by, packet_of, section_by}
+use Rattle.cap_pcapng.proofs.OptionLists.{options_in-none}
+use Rattle.cap_pcapng.proofs.WholeBlocks.{block_fails}
 use Rattle.cap_pcapng.specs.declared.frames.BlockType.{BlockType}
 use Rattle.cap_pcapng.specs.declared.frames.BlockType.TheVariants as type
 use Rattle.cap_pcapng.specs.declared.frames.Frame.{Frame}
-use Rattle.cap_io.specs.Blocks.{Enters, FitsIfAny, PacketFound, packet_in, section_of}
-use Rattle.cap_io.specs.Reading.{data_held}
+use Rattle.cap_io.specs.Blocks.{Enters, FitsIfAny, IsEntryFault, PacketFound, packet_in, section_of, told_behind}
+use Rattle.cap_io.specs.Reading.{data_held, options_held}
 use Rattle.cap_io.specs.declared.unit.Held.{Held}
+use Rattle.cap_io.proofs.OwnFaults.{all_failing, all_of_options}
 
 -- ---- a packet's data
 
@@ -37,37 +42,62 @@ time_found : (told : Option ℕ) (time : ℕ) → ok_or told TimeOutOfRange ≡ 
 time_found None time e = (cc)
 time_found (Some t) time e = (cc)
 
-pub enhanced_found : (interfaces : List Described) (i : Described) (number ticks captured orig time size : ℕ) (rest bytes : List ℕ)
+-- options lie behind the padded data
+options_behind : (padding optional : ℕ) (rest options : List ℕ) → padding ≤ length rest → options ≡ drop padding rest → optional ≡ length options
+    → take optional (drop (28 + length rest - optional - 28) rest) ≡ options
+options_behind padding optional rest options there is count =
+    let size : length options ≡ length rest - padding = ap length is ∙ length-drop padding rest in
+    let at : 28 + length rest - optional - 28 ≡ padding = omega arith in
+    ap (λ n. take optional (drop n rest)) at ∙ ap (take optional) (sym is) ∙ take_all optional options (omega arith)
+
+pub enhanced_found : (order : Order) (interfaces : List Described) (i : Described) (number ticks captured orig time size optional : ℕ) (rest bytes options : List ℕ)
     → slice_get interfaces number ≡ Some i → bytes ≡ take captured rest → first_failing (data_checks captured rest) ≡ None
     → Ok time ≡ ok_or (time_in ticks i.units i.offset) TimeOutOfRange → time < 2 ^ 63
-    → PacketFound interfaces (EnhancedParts number ticks captured orig rest) rest
-    (record { size = size; from = 28; captured = length bytes; interface = number; time = time; orig = orig })
-enhanced_found interfaces i number ticks captured orig time size rest bytes known is few told small =
+    → options ≡ drop (padded captured) rest → optional ≡ length options
+    → PacketFound order interfaces (EnhancedParts number ticks captured orig order rest) rest
+    (record {
+      size = size;
+      from = 28;
+      captured = length bytes;
+      options = 28 + length rest - optional;
+      optional = optional;
+      interface = number;
+      time = time;
+      orig = orig;
+    })
+enhanced_found order interfaces i number ticks captured orig time size optional rest bytes options known is few told small behind optional_is =
+    let room : padded captured ≤ length rest = leb-true (padded captured) (length rest) (all_met (data_checks captured rest) few).0 in
+    let lies_there : take optional (drop (28 + length rest - optional - 28) rest) ≡ options = options_behind (padded captured) optional rest options room behind optional_is in
+    let left : length options ≡ length rest - padded captured = ap length behind ∙ length-drop (padded captured) rest in
     let fits : captured ≤ length rest = captured_fits captured rest few in
     let count : length bytes ≡ captured = ap length is ∙ length-take-le captured rest fits in
     let at : time_in ticks i.units i.offset ≡ Some time = time_found (time_in ticks i.units i.offset) time (sym told) in
     record {
       passes = rw (known, at) (met_front (data_checks captured rest) ((is_some (Some time), TimeOutOfRange) ∷ []) few);
-      packet = packet_of i time orig (take captured rest);
+      packet = packet_of i time orig (take captured rest) (comment_in order (drop (padded captured) rest));
       stands = rw (known, at) refl;
-      is_lent = rw (known, count) refl;
+      is_lent = rw (known, count, lies_there ∙ behind) refl;
       there = omega (arith, count, fits);
+      behind = omega (arith, left, optional_is);
+      optional = omega (arith, left, optional_is);
       time = small;
     }
 
-pub simple_found : (interfaces : List Described) (i : Described) (orig size : ℕ) (rest bytes : List ℕ)
+pub simple_found : (order : Order) (interfaces : List Described) (i : Described) (orig size : ℕ) (rest bytes : List ℕ)
     → slice_get interfaces 0 ≡ Some i → bytes ≡ take (simple_captured orig i.snap) rest → first_failing (data_checks (simple_captured orig i.snap) rest) ≡ None
-    → PacketFound interfaces (SimpleParts orig rest) rest
-    (record { size = size; from = 12; captured = length bytes; interface = 0; time = 0; orig = orig })
-simple_found interfaces i orig size rest bytes known is few =
+    → PacketFound order interfaces (SimpleParts orig rest) rest
+    (record { size = size; from = 12; captured = length bytes; options = 12; optional = 0; interface = 0; time = 0; orig = orig })
+simple_found order interfaces i orig size rest bytes known is few =
     let fits : simple_captured orig i.snap ≤ length rest = captured_fits (simple_captured orig i.snap) rest few in
     let count : length bytes ≡ simple_captured orig i.snap = ap length is ∙ length-take-le (simple_captured orig i.snap) rest fits in
     record {
       passes = rw known few;
-      packet = packet_of i 0 orig (take (simple_captured orig i.snap) rest);
+      packet = packet_of i 0 orig (take (simple_captured orig i.snap) rest) [];
       stands = rw known refl;
-      is_lent = rw (known, count) refl;
+      is_lent = rw (known, count) (ap (λ items. Some (packet_of i 0 orig (take (simple_captured orig i.snap) rest) (unwrap_or (first_value comment_code (given items)) []))) (options_in-none order));
       there = omega (arith, count, fits);
+      behind = lit≤ tt;
+      optional = omega arith;
       time = omega arith;
     }
 
@@ -88,15 +118,15 @@ record BodyIs (skip : ℕ) (rest : List ℕ) (frame : Frame) (block : List ℕ) 
   left : rest ≡ drop skip (body_in frame block)
   there : skip ≤ length (body_in frame block)
 
-enhanced_body : (kind : BlockType) (order : Order) (body rest : List ℕ) (number ticks captured orig : ℕ) → parts_in_body kind order body ≡ EnhancedParts number ticks captured orig rest
-    → first_failing (body_checks kind order body) ≡ None → (rest ≡ drop 20 body) × (20 ≤ length body)
-enhanced_body type.Section order body rest number ticks captured orig e none = absurd (cc)
-enhanced_body type.Interface order body rest number ticks captured orig e none = absurd (cc)
-enhanced_body type.ObsoletePacket order body rest number ticks captured orig e none = absurd (cc)
-enhanced_body type.SimplePacket order body rest number ticks captured orig e none = absurd (cc)
-enhanced_body type.Other order body rest number ticks captured orig e none = absurd (cc)
-enhanced_body type.EnhancedPacket order body rest number ticks captured orig e none =
-    ((cc), leb-true 20 (length body) (all_met (body_checks type.EnhancedPacket order body) none).0)
+enhanced_body : (kind : BlockType) (order own : Order) (body rest : List ℕ) (number ticks captured orig : ℕ) → parts_in_body kind order body ≡ EnhancedParts number ticks captured orig own rest
+    → first_failing (body_checks kind order body) ≡ None → (rest ≡ drop 20 body) × (20 ≤ length body) × (own ≡ order)
+enhanced_body type.Section order own body rest number ticks captured orig e none = absurd (cc)
+enhanced_body type.Interface order own body rest number ticks captured orig e none = absurd (cc)
+enhanced_body type.ObsoletePacket order own body rest number ticks captured orig e none = absurd (cc)
+enhanced_body type.SimplePacket order own body rest number ticks captured orig e none = absurd (cc)
+enhanced_body type.Other order own body rest number ticks captured orig e none = absurd (cc)
+enhanced_body type.EnhancedPacket order own body rest number ticks captured orig e none =
+    ((cc), leb-true 20 (length body) (all_met (body_checks type.EnhancedPacket order body) none).0, (cc))
 
 simple_body : (kind : BlockType) (order : Order) (body rest : List ℕ) (orig : ℕ) → parts_in_body kind order body ≡ SimpleParts orig rest
     → first_failing (body_checks kind order body) ≡ None → (rest ≡ drop 4 body) × (4 ≤ length body)
@@ -112,22 +142,52 @@ rows_behind : (b : Bool) (fault : Fault) (rows : List (Bool × Fault)) → first
 rows_behind true fault rows none = none
 rows_behind false fault rows none = (cc)
 
-pub body_passes : (frame : Frame) (block : List ℕ) → block_fault frame block ≡ None → first_failing (body_checks frame.block_type frame.order (body_in frame block)) ≡ None
+pub body_passes : (frame : Frame) (block : List ℕ) → first_failing (block_checks frame block) ≡ None → first_failing (body_checks frame.block_type frame.order (body_in frame block)) ≡ None
 body_passes frame block none = rows_behind _ _ (body_checks frame.block_type frame.order (body_in frame block)) none
 
--- the data of a packet that was found in a body are those held of the block
-held_lies : (frame : Frame) (block rest : List ℕ) (skip : ℕ) (held : Held) → length block ≡ frame.length → 12 ≤ frame.length
-    → rest ≡ drop skip (body_in frame block) → skip ≤ length (body_in frame block) → held.from ≡ 8 + skip → held.captured ≤ length rest
-    → (data_held held block ≡ take held.captured rest) × (held.from + held.captured ≤ frame.length)
-held_lies frame block rest skip held whole least left there from few =
+-- bytes of what is left of a body, as bytes of the block
+record LiesIn (frame : Frame) (block rest : List ℕ) (skip at count : ℕ) : Type 0 where
+  same : take count (drop (8 + (skip + at)) block) ≡ take count (drop at rest)
+  within : 8 + (skip + at) + count ≤ frame.length
+
+part_lies : (frame : Frame) (block rest : List ℕ) (skip at count : ℕ) → length block ≡ frame.length → 12 ≤ frame.length
+    → rest ≡ drop skip (body_in frame block) → skip ≤ length (body_in frame block) → at + count ≤ length rest → LiesIn frame block rest skip at count
+part_lies frame block rest skip at count whole least left there few =
     let most : length (body_in frame block) ≡ frame.length - 12 =
     length-take-le (frame.length - 12) (drop 8 block) (omega (arith, length-drop 8 block)) in
-    let size : length rest ≡ frame.length - 12 - skip = ap length left ∙ length-drop skip (body_in frame block) ∙ ap (λ n. n - skip) most in (
-      ap (λ n. take held.captured (drop n block)) from
-          ∙ lies block skip (frame.length - 12) held.captured (omega (arith, few, ap length left)) (omega (arith, there, most))
-          ∙ ap (take held.captured) (sym left),
-      omega (arith, from, few, size, there, most),
-    )
+    let size : length rest ≡ frame.length - 12 - skip = ap length left ∙ length-drop skip (body_in frame block) ∙ ap (λ n. n - skip) most in
+    let further : drop at rest ≡ drop (skip + at) (body_in frame block) =
+    ap (drop at) left ∙ drop-drop at skip (body_in frame block) in
+    let long : length (drop (skip + at) (body_in frame block)) ≡ frame.length - 12 - (skip + at) =
+    length-drop (skip + at) (body_in frame block) ∙ ap (λ n. n - (skip + at)) most in
+    record {
+      same =
+          lies block (skip + at) (frame.length - 12) count (omega (arith, few, size, long, there, most)) (omega (arith, few, size, there, most))
+          ∙ ap (take count) (sym further);
+      within = omega (arith, few, size, there, most);
+    }
+
+-- the data and the options of a packet that was found in a body are those held of the block
+record HeldLies (frame : Frame) (block rest : List ℕ) (held : Held) : Type 0 where
+  bytes : data_held held block ≡ take held.captured rest
+  bytes_within : held.from + held.captured ≤ frame.length
+  options : options_held held block ≡ take held.optional (drop (held.options - held.from) rest)
+  options_within : held.options + held.optional ≤ frame.length
+
+held_lies : (frame : Frame) (block rest : List ℕ) (skip : ℕ) (held : Held) → length block ≡ frame.length → 12 ≤ frame.length
+    → rest ≡ drop skip (body_in frame block) → skip ≤ length (body_in frame block) → held.from ≡ 8 + skip → held.captured ≤ length rest
+    → held.from ≤ held.options → held.options - held.from + held.optional ≤ length rest → HeldLies frame block rest held
+held_lies frame block rest skip held whole least left there from few behind optional =
+    let bytes = part_lies frame block rest skip 0 held.captured whole least left there (omega (arith, few)) in
+    let options = part_lies frame block rest skip (held.options - held.from) held.optional whole least left there optional in
+    let data_at : held.from ≡ 8 + (skip + 0) = omega (arith, from) in
+    let options_at : held.options ≡ 8 + (skip + (held.options - held.from)) = omega (arith, from, behind) in
+    record {
+      bytes = ap (λ n. take held.captured (drop n block)) data_at ∙ bytes.same;
+      bytes_within = omega (arith, data_at, bytes.within);
+      options = ap (λ n. take held.optional (drop n block)) options_at ∙ options.same;
+      options_within = omega (arith, options_at, options.within);
+    }
 
 -- ---- a block with a packet
 
@@ -136,12 +196,12 @@ pub record HasFound (frame : Frame) (interfaces : List Described) (block : List 
   pub fits : FitsIfAny (Some held) frame.length
 
 packet_enters : (frame : Frame) (interfaces : List Described) (block rest : List ℕ) (parts : Parts) (skip : ℕ) (held : Held) → length block ≡ frame.length → 12 ≤ frame.length
-    → parts ≡ parts_in frame block → block_fault frame block ≡ None → rest ≡ drop skip (body_in frame block) → skip ≤ length (body_in frame block)
-    → held.from ≡ 8 + skip → held.size ≡ length block → PacketFound interfaces parts rest held
+    → parts ≡ parts_in frame block → first_failing (block_checks frame block) ≡ None → rest ≡ drop skip (body_in frame block) → skip ≤ length (body_in frame block)
+    → held.from ≡ 8 + skip → held.size ≡ length block → PacketFound frame.order interfaces parts rest held
     → section_by (Some (section_of frame.order interfaces)) frame.order parts ≡ section_of frame.order interfaces
     → HasFound frame interfaces block held
 packet_enters frame interfaces block rest parts skip held whole least is passes left there from size found stays =
-    let lie = held_lies frame block rest skip held whole least left there from found.there in
+    let lie = held_lies frame block rest skip held whole least left there from found.there found.behind found.optional in
     record {
       enters = record {
         passes = passes;
@@ -150,24 +210,79 @@ packet_enters frame interfaces block rest parts skip held whole least is passes 
         packet = record {
           packet = found.packet;
           stands = ap (packet_by interfaces) (sym is) ∙ found.stands;
-          is_lent = ap (packet_in interfaces held) lie.0 ∙ found.is_lent;
+          is_lent = ap₂ (packet_in frame.order interfaces held) lie.bytes lie.options ∙ found.is_lent;
         };
       };
-      fits = (size ∙ whole, lie.1, found.time);
+      fits = (size ∙ whole, lie.bytes_within, found.time, lie.options_within);
     }
 
-pub enhanced_enters : (frame : Frame) (interfaces : List Described) (block rest : List ℕ) (number ticks captured orig : ℕ) (held : Held) → length block ≡ frame.length → 12 ≤ frame.length
-    → EnhancedParts number ticks captured orig rest ≡ parts_in frame block → block_fault frame block ≡ None
-    → held.from ≡ 28 → held.size ≡ length block → PacketFound interfaces (EnhancedParts number ticks captured orig rest) rest held
+pub enhanced_enters : (frame : Frame) (interfaces : List Described) (block rest : List ℕ) (number ticks captured orig : ℕ) (own : Order) (held : Held) → length block ≡ frame.length → 12 ≤ frame.length
+    → EnhancedParts number ticks captured orig own rest ≡ parts_in frame block → first_failing (block_checks frame block) ≡ None
+    → held.from ≡ 28 → held.size ≡ length block → PacketFound own interfaces (EnhancedParts number ticks captured orig own rest) rest held
     → HasFound frame interfaces block held
-enhanced_enters frame interfaces block rest number ticks captured orig held whole least is passes from size found =
-    let body = enhanced_body frame.block_type frame.order (body_in frame block) rest number ticks captured orig (sym is) (body_passes frame block passes) in
-    packet_enters frame interfaces block rest (EnhancedParts number ticks captured orig rest) 20 held whole least is passes body.0 body.1 from size found refl
+enhanced_enters frame interfaces block rest number ticks captured orig own held whole least is passes from size found =
+    let body = enhanced_body frame.block_type frame.order own (body_in frame block) rest number ticks captured orig (sym is) (body_passes frame block passes) in
+    let P : Order → Type 0 = λ order. PacketFound order interfaces (EnhancedParts number ticks captured orig own rest) rest held in
+    packet_enters frame interfaces block rest (EnhancedParts number ticks captured orig own rest) 20 held whole least is passes body.0 body.1 from size (subst P body.2 found) refl
 
 pub simple_enters : (frame : Frame) (interfaces : List Described) (block rest : List ℕ) (orig : ℕ) (held : Held) → length block ≡ frame.length → 12 ≤ frame.length
-    → SimpleParts orig rest ≡ parts_in frame block → block_fault frame block ≡ None
-    → held.from ≡ 12 → held.size ≡ length block → PacketFound interfaces (SimpleParts orig rest) rest held
+    → SimpleParts orig rest ≡ parts_in frame block → first_failing (block_checks frame block) ≡ None
+    → held.from ≡ 12 → held.size ≡ length block → ((order : Order) → PacketFound order interfaces (SimpleParts orig rest) rest held)
     → HasFound frame interfaces block held
 simple_enters frame interfaces block rest orig held whole least is passes from size found =
     let body = simple_body frame.block_type frame.order (body_in frame block) rest orig (sym is) (body_passes frame block passes) in
-    packet_enters frame interfaces block rest (SimpleParts orig rest) 4 held whole least is passes body.0 body.1 from size found refl
+    packet_enters frame interfaces block rest (SimpleParts orig rest) 4 held whole least is passes body.0 body.1 from size (found frame.order) refl
+
+-- ---- a block that is refused by itself
+
+-- those of its body don't hang on the interfaces before it
+Stays : Fault → Type 0
+Stays fault = (interfaces : List Described) → told_behind interfaces fault ≡ fault
+
+body_stays : (kind : BlockType) (order : Order) (body : List ℕ) → AllByRecursion (λ row. Stays row.1) (body_checks kind order body)
+unfolding Stays
+body_stays type.Section order body = (λ i. refl, (λ i. refl, tt))
+body_stays type.Interface order body = (λ i. refl, tt)
+body_stays type.ObsoletePacket order body = (λ i. refl, tt)
+body_stays type.SimplePacket order body = (λ i. refl, tt)
+body_stays type.EnhancedPacket order body = (λ i. refl, tt)
+body_stays type.Other order body = tt
+
+block_stays : (frame : Frame) (block : List ℕ) (fault : Fault) → first_failing (block_checks frame block) ≡ Some fault → (interfaces : List Described) → told_behind interfaces fault ≡ fault
+unfolding Stays
+block_stays frame block fault fails =
+    all_failing Stays (block_checks frame block) fault (λ i. refl, body_stays frame.block_type frame.order (body_in frame block)) fails
+
+-- those of its options come behind that of how many interfaces there are
+Yields : Fault → Type 0
+Yields fault = (interfaces : List Described) → told_behind interfaces fault ≡ (if nat_lt (length interfaces) most_interfaces then fault else TooManyInterfaces)
+
+option_yields : (parts : Parts) (fault : Fault) → first_failing (option_checks parts) ≡ Some fault → Yields fault
+unfolding Yields
+option_yields parts fault fails = all_failing Yields (option_checks parts) fault (all_of_options Yields (λ i. refl) (λ i. refl) parts) fails
+
+behind_room : (room : Bool) (rows : List (Bool × Fault)) (fault : Fault) → first_failing rows ≡ Some fault
+    → first_failing ((room, TooManyInterfaces) ∷ rows) ≡ Some (if room then fault else TooManyInterfaces)
+behind_room true rows fault fails = fails
+behind_room false rows fault fails = refl
+
+among_options : (interfaces : List Described) (parts : Parts) (fault : Fault) → first_failing (option_checks parts) ≡ Some fault
+    → first_failing (checks_among interfaces parts) ≡ Some (if nat_lt (length interfaces) most_interfaces then fault else TooManyInterfaces)
+among_options interfaces SectionParts fault fails = (cc)
+among_options interfaces (InterfaceParts link snap order options) fault fails =
+    behind_room (nat_lt (length interfaces) most_interfaces) (option_checks (InterfaceParts link snap order options)) fault fails
+among_options interfaces (EnhancedParts number ticks captured orig own rest) fault fails = (cc)
+among_options interfaces (SimpleParts orig rest) fault fails = (cc)
+among_options interfaces SkippedParts fault fails = (cc)
+
+pub refused_entry : (frame : Frame) (interfaces : List Described) (block : List ℕ) (fault : Fault) → length block ≡ frame.length → 12 ≤ frame.length → block_fault frame block ≡ Some fault
+    → IsEntryFault frame interfaces block (told_behind interfaces fault)
+unfolding Yields
+refused_entry frame interfaces block fault whole least fails =
+    elim (block_fails frame block fault least (omega arith) fails) [
+      | inl body ↦ inl (body ∙ ap Some (sym (block_stays frame block fault body interfaces)))
+      | inr options ↦ inr (inl (
+        options.0,
+        among_options interfaces (parts_in frame block) fault options.1 ∙ ap Some (sym (option_yields (parts_in frame block) fault options.1 interfaces)),
+      ))
+    ]

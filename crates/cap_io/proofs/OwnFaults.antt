@@ -1,12 +1,12 @@
--- No check tells that the device failed.
-use Rattle.std.proofs.Common.{◌≡◌, ℕ, zero, suc, inl, inr, Bool, true, false, List, [], ◌∷◌, ◌++◌, length, drop, Option, Some, Result, Ok, Err, refl, cond, arith}
+-- Which faults checks tell: none of them that the device failed.
+use Rattle.std.proofs.Common.{◌≡◌, ℕ, zero, suc, inl, inr, Bool, true, false, List, [], ◌∷◌, ◌++◌, length, drop, Option, Some, Result, Ok, Err, refl, cond, arith, subst}
 use Rattle.std.specs.Prelude.{◌==◌, is_some, if◌then◌else◌}
 use Rattle.std.specs.List.{AllByRecursion}
 use Rattle.cap_octet.specs.Checks.{first_failing}
 use Rattle.cap_octet.specs.declared.fault.Fault.{Fault}
-use Rattle.cap_octet.specs.declared.fault.Fault.TheVariants.{ReadFailed}
+use Rattle.cap_octet.specs.declared.fault.Fault.TheVariants.{BadOption, BadTimeResolution, ReadFailed}
 use Rattle.cap_octet.specs.declared.number.Order.{Order}
-use Rattle.cap_pcapng.specs.Block.{Parts, SectionParts, InterfaceParts, EnhancedParts, SimpleParts, SkippedParts, block_checks, body_checks, body_in, parts_in}
+use Rattle.cap_pcapng.specs.Block.{Parts, SectionParts, InterfaceParts, EnhancedParts, SimpleParts, SkippedParts, block_checks, body_checks, body_in, option_checks, parts_in}
 use Rattle.cap_pcap.specs.declared.head.Head.{Head}
 use Rattle.cap_pcap.specs.Header.{head_checks, head_fault}
 use Rattle.cap_pcap.specs.Record.{field_checks}
@@ -22,71 +22,90 @@ use Rattle.cap_pcapng.specs.declared.frames.Frame.{Frame}
 use Rattle.cap_io.specs.Blocks.{IsEntryFault}
 use Rattle.cap_io.specs.Reading.{failures_told}
 
+-- ---- the faults of some rows
+
+-- what holds of the faults of all rows holds of the first that fails
+abbrev AreAll : (Fault → Type 0) → List (Bool × Fault) → Type 0
+AreAll P rows = AllByRecursion (λ row. P row.1) rows
+
+pub all_failing : (P : Fault → Type 0) (rows : List (Bool × Fault)) (fault : Fault) → AllByRecursion (λ row. P row.1) rows → first_failing rows ≡ Some fault → P fault
+all_failing P [] fault all fails = (cc)
+all_failing P ((true, other) ∷ rows) fault all fails = all_failing P rows fault all.1 fails
+all_failing P ((false, other) ∷ rows) fault all fails = let same : other ≡ fault = cc in subst P same all.0
+
+all_append : (P : Fault → Type 0) (rows more : List (Bool × Fault)) → AreAll P rows → AreAll P more → AreAll P (rows ++ more)
+all_append P [] more all others = others
+all_append P (row ∷ rows) more all others = (all.0, all_append P rows more all.1 others)
+
+all_cond : (P : Fault → Type 0) (b : Bool) (xs ys : List (Bool × Fault)) → AreAll P xs → AreAll P ys → AreAll P (cond b xs ys)
+all_cond P true xs ys x y = x
+all_cond P false xs ys x y = y
+
+-- ---- the options of an interface
+
+abbrev IsItemOf : (Fault → Type 0) → Result CodedValue Fault → Type 0
+IsItemOf P (Ok option) = Unit {0}
+IsItemOf P (Err fault) = P fault
+
+all_of_option : (P : Fault → Type 0) → P BadOption → P BadTimeResolution → (before : List CodedValue) (option : CodedValue) → AreAll P (checks_behind before option)
+all_of_option P bad worse before option =
+    let offset : AreAll P (if option.code == offset_code then offset_checks option.value else []) =
+    all_cond P (option.code == offset_code) (offset_checks option.value) [] (bad, tt) tt in
+    let resolution : AreAll P (if option.code == resolution_code then resolution_checks option.value else (if option.code == offset_code then offset_checks option.value else [])) =
+    all_cond P (option.code == resolution_code) (resolution_checks option.value) (if option.code == offset_code then offset_checks option.value else []) (bad, (worse, tt)) offset in
+    all_cond P (is_some (first_value option.code before)) [] (first_checks option) tt
+    (all_cond P (option.code == name_code) (name_checks option.value)
+    (if option.code == resolution_code then resolution_checks option.value else (if option.code == offset_code then offset_checks option.value else []))
+    (bad, tt) resolution)
+
+all_of_list : (P : Fault → Type 0) → P BadOption → P BadTimeResolution → (before : List CodedValue) (items : List (Result CodedValue Fault)) → AllByRecursion (IsItemOf P) items
+    → AreAll P (list_checks before items)
+all_of_list P bad worse before [] all = tt
+all_of_list P bad worse before (Err fault ∷ items) all = (all.0, all_of_list P bad worse before items all.1)
+all_of_list P bad worse before (Ok option ∷ items) all =
+    all_append P (checks_behind before option) (list_checks (before ++ option ∷ []) items) (all_of_option P bad worse before option)
+    (all_of_list P bad worse (before ++ option ∷ []) items all.1)
+
+items_cond : (P : Fault → Type 0) (b : Bool) (xs ys : List (Result CodedValue Fault)) → AllByRecursion (IsItemOf P) xs → AllByRecursion (IsItemOf P) ys
+    → AllByRecursion (IsItemOf P) (cond b xs ys)
+items_cond P true xs ys x y = x
+items_cond P false xs ys x y = y
+
+items_within : (P : Fault → Type 0) → P BadOption → (most : ℕ) (order : Order) (text : List ℕ) → AllByRecursion (IsItemOf P) (options_within most order text)
+unfolding options_within
+items_within P bad zero order text = tt
+items_within P bad (suc most) order text =
+    items_cond P (ends_at order text) [] _ tt
+    (items_cond P (fits_at order text) (Ok (option_at order text) ∷ options_within most order (drop (padded (option_size order text)) text)) _
+    (tt, items_within P bad most order (drop (padded (option_size order text)) text)) (bad, tt))
+
+items_in : (P : Fault → Type 0) → P BadOption → (order : Order) (text : List ℕ) → AllByRecursion (IsItemOf P) (options_in order text)
+unfolding options_in
+items_in P bad order text = items_within P bad (length text) order text
+
+-- a refusal of options is of one of two kinds
+pub all_of_options : (P : Fault → Type 0) → P BadOption → P BadTimeResolution → (parts : Parts) → AllByRecursion (λ row. P row.1) (option_checks parts)
+all_of_options P bad worse SectionParts = tt
+all_of_options P bad worse (InterfaceParts link snap order options) = all_of_list P bad worse [] (options_in order options) (items_in P bad order options)
+all_of_options P bad worse (EnhancedParts number ticks captured orig own rest) = tt
+all_of_options P bad worse (SimpleParts orig rest) = tt
+all_of_options P bad worse SkippedParts = tt
+
+-- ---- no check tells that the device failed
+
 -- a fault that is told where the device did not fail
 abbrev pub IsOwn : Fault → Type 0
 IsOwn fault = failures_told {X = ℕ} (Err fault) ≡ 0
 
 abbrev AreOwn : List (Bool × Fault) → Type 0
-AreOwn rows = AllByRecursion (λ row. IsOwn row.1) rows
-
-own_failing : (rows : List (Bool × Fault)) (fault : Fault) → AreOwn rows → first_failing rows ≡ Some fault → IsOwn fault
-own_failing [] fault own fails = (cc)
-own_failing ((true, other) ∷ rows) fault own fails = own_failing rows fault own.1 fails
-own_failing ((false, other) ∷ rows) fault own fails = let same : other ≡ fault = cc in rw (← same) own.0
-
-own_append : (rows more : List (Bool × Fault)) → AreOwn rows → AreOwn more → AreOwn (rows ++ more)
-own_append [] more own others = others
-own_append (row ∷ rows) more own others = (own.0, own_append rows more own.1 others)
-
-own_cond : (b : Bool) (xs ys : List (Bool × Fault)) → AreOwn xs → AreOwn ys → AreOwn (cond b xs ys)
-own_cond true xs ys x y = x
-own_cond false xs ys x y = y
-
--- ---- the options of an interface
-
-abbrev IsOwnItem : Result CodedValue Fault → Type 0
-IsOwnItem (Ok option) = Unit {0}
-IsOwnItem (Err fault) = IsOwn fault
-
-own_option : (before : List CodedValue) (option : CodedValue) → AreOwn (checks_behind before option)
-own_option before option =
-    let offset : AreOwn (if option.code == offset_code then offset_checks option.value else []) =
-    own_cond (option.code == offset_code) (offset_checks option.value) [] (refl, tt) tt in
-    let resolution : AreOwn (if option.code == resolution_code then resolution_checks option.value else (if option.code == offset_code then offset_checks option.value else [])) =
-    own_cond (option.code == resolution_code) (resolution_checks option.value) (if option.code == offset_code then offset_checks option.value else []) (refl, (refl, tt)) offset in
-    own_cond (is_some (first_value option.code before)) [] (first_checks option) tt
-    (own_cond (option.code == name_code) (name_checks option.value)
-    (if option.code == resolution_code then resolution_checks option.value else (if option.code == offset_code then offset_checks option.value else []))
-    (refl, tt) resolution)
-
-own_list : (before : List CodedValue) (items : List (Result CodedValue Fault)) → AllByRecursion IsOwnItem items → AreOwn (list_checks before items)
-own_list before [] own = tt
-own_list before (Err fault ∷ items) own = (own.0, own_list before items own.1)
-own_list before (Ok option ∷ items) own =
-    own_append (checks_behind before option) (list_checks (before ++ option ∷ []) items) (own_option before option) (own_list (before ++ option ∷ []) items own.1)
-
-items_cond : (b : Bool) (xs ys : List (Result CodedValue Fault)) → AllByRecursion IsOwnItem xs → AllByRecursion IsOwnItem ys → AllByRecursion IsOwnItem (cond b xs ys)
-items_cond true xs ys x y = x
-items_cond false xs ys x y = y
-
-own_items : (most : ℕ) (order : Order) (text : List ℕ) → AllByRecursion IsOwnItem (options_within most order text)
-unfolding options_within
-own_items zero order text = tt
-own_items (suc most) order text =
-    items_cond (ends_at order text) [] _ tt
-    (items_cond (fits_at order text) (Ok (option_at order text) ∷ options_within most order (drop (padded (option_size order text)) text)) _
-    (tt, own_items most order (drop (padded (option_size order text)) text)) (refl, tt))
-
-own_options : (order : Order) (text : List ℕ) → AllByRecursion IsOwnItem (options_in order text)
-unfolding options_in
-own_options order text = own_items (length text) order text
+AreOwn rows = AreAll IsOwn rows
 
 -- ---- a block
 
 own_among : (interfaces : List Described) (parts : Parts) → AreOwn (checks_among interfaces parts)
 own_among interfaces SectionParts = tt
-own_among interfaces (InterfaceParts link snap order options) = (refl, own_list [] (options_in order options) (own_options order options))
-own_among interfaces (EnhancedParts number ticks captured orig rest) = (refl, (refl, (refl, tt)))
+own_among interfaces (InterfaceParts link snap order options) = (refl, all_of_options IsOwn refl refl (InterfaceParts link snap order options))
+own_among interfaces (EnhancedParts number ticks captured orig own rest) = (refl, (refl, (refl, tt)))
 own_among interfaces (SimpleParts orig rest) = (refl, (refl, tt))
 own_among interfaces SkippedParts = tt
 
@@ -101,9 +120,9 @@ own_body type.Other order body = tt
 pub entry-own : (frame : Frame) (interfaces : List Described) (block : List ℕ) (fault : Fault) → IsEntryFault frame interfaces block fault → IsOwn fault
 entry-own frame interfaces block fault is =
     elim is [
-      | inl blocked ↦ own_failing (block_checks frame block) fault (refl, own_body frame.block_type frame.order (body_in frame block)) blocked
+      | inl blocked ↦ all_failing IsOwn (block_checks frame block) fault (refl, own_body frame.block_type frame.order (body_in frame block)) blocked
       | inr more ↦ elim more [
-        | inl among ↦ own_failing (checks_among interfaces (parts_in frame block)) fault (own_among interfaces (parts_in frame block)) among.1
+        | inl among ↦ all_failing IsOwn (checks_among interfaces (parts_in frame block)) fault (own_among interfaces (parts_in frame block)) among.1
         | inr memory ↦ rw memory refl
       ]
     ]
@@ -112,13 +131,13 @@ own-not_failed : (fault : Fault) → IsOwn fault → fault ≡ ReadFailed → �
 own-not_failed fault own failed = let told : IsOwn ReadFailed = rw failed at own in omega (arith, told)
 
 pub header-not_failed : (text : List ℕ) (fault : Fault) → head_fault text ≡ Some fault → fault ≡ ReadFailed → ⊥
-header-not_failed text fault fails = own-not_failed fault (own_failing (head_checks text) fault (refl, (refl, (refl, (refl, tt)))) fails)
+header-not_failed text fault fails = own-not_failed fault (all_failing IsOwn (head_checks text) fault (refl, (refl, (refl, (refl, tt)))) fails)
 
 pub fields-not_failed : (head : Head) (text : List ℕ) (fault : Fault) → first_failing (field_checks head text) ≡ Some fault → fault ≡ ReadFailed → ⊥
-fields-not_failed head text fault fails = own-not_failed fault (own_failing (field_checks head text) fault (refl, (refl, tt)) fails)
+fields-not_failed head text fault fails = own-not_failed fault (all_failing IsOwn (field_checks head text) fault (refl, (refl, tt)) fails)
 
 pub frame-not_failed : (section : Option Order) (text : List ℕ) (fault : Fault) → first_failing (frame_checks section text) ≡ Some fault → fault ≡ ReadFailed → ⊥
-frame-not_failed section text fault fails = own-not_failed fault (own_failing (frame_checks section text) fault (refl, (refl, (refl, (refl, tt)))) fails)
+frame-not_failed section text fault fails = own-not_failed fault (all_failing IsOwn (frame_checks section text) fault (refl, (refl, (refl, (refl, tt)))) fails)
 
 pub entry-not_failed : (frame : Frame) (interfaces : List Described) (block : List ℕ) (fault : Fault) → IsEntryFault frame interfaces block fault → fault ≡ ReadFailed → ⊥
 entry-not_failed frame interfaces block fault is = own-not_failed fault (entry-own frame interfaces block fault is)

@@ -6,6 +6,7 @@ use Rattle.std.proofs.lemmas.List.{append_assoc, drop-take, take-take, length-ap
 use Rattle.cap_octet.specs.declared.number.Order.{Order}
 use Rattle.cap_pcap.specs.declared.head.Head.{Head}
 use Rattle.cap_pcapng.specs.Interface.{Described}
+use Rattle.cap_pcapng.specs.Comment.{comment_in}
 use Rattle.cap_pcapng.specs.Unit.{packet_of}
 use Rattle.cap_io.specs.declared.source.Stage.{Stage}
 use Rattle.cap_io.specs.declared.source.Stage.TheVariants as stage
@@ -14,7 +15,7 @@ use Rattle.cap_io.specs.declared.unit.Held.{Held}
 use Rattle.cap_io.specs.Capture.{Declared, PcapFile, PcapngFile, AreUnits, no_unit}
 use Rattle.cap_io.proofs.Items.{AreUnits-append}
 use Rattle.cap_io.proofs.Units.{one_unit}
-use Rattle.cap_io.specs.Reading.{EndCame, PacketCame, Refuses, UnitPassed, data_held, packet_held}
+use Rattle.cap_io.specs.Reading.{EndCame, PacketCame, Refuses, UnitPassed, data_held, options_held, packet_held}
 use Rattle.cap_io.specs.Source.{SourceView, Reading, Ended, Passes, IsBetween, IsBroken, FindsPacket, FindsEnd, HoldsIfAny, behind, block_at, left, phase_at}
 
 -- ---- no unit is gone over
@@ -130,27 +131,28 @@ IsBroken-then old mid new fault first none broken = record {
 
 -- ---- the packet in hand
 
--- its data, as they lie in the buffer
-pub data-lent : (held : Held) (bytes buffer : List ℕ) → held.from + held.captured ≤ held.size → bytes ≡ buffer
-    → take (held.from + held.captured - held.from) (drop held.from bytes) ≡ data_held held (take held.size buffer)
-data-lent held bytes buffer within same =
-    let count : held.from + held.captured - held.from ≡ held.captured = omega arith in
-    let whole : held.from + (held.size - held.from) ≡ held.size = omega arith in
-    let rest : drop held.from (take held.size buffer) ≡ take (held.size - held.from) (drop held.from buffer) =
-    ap (λ n. drop held.from (take n buffer)) (sym whole) ∙ drop-take held.from (held.size - held.from) buffer in
-    ap₂ (λ (n : ℕ) (l : List ℕ). take n (drop held.from l)) count same
-    ∙ sym (take-take held.captured (held.size - held.from) (drop held.from buffer) (omega arith))
-    ∙ ap (take held.captured) (sym rest)
+-- its data or its options, as they lie in the buffer
+pub part-lent : (from count size : ℕ) (bytes buffer : List ℕ) → from + count ≤ size → bytes ≡ buffer
+    → take (from + count - from) (drop from bytes) ≡ take count (drop from (take size buffer))
+part-lent from count size bytes buffer within same =
+    let few : from + count - from ≡ count = omega arith in
+    let whole : from + (size - from) ≡ size = omega arith in
+    let rest : drop from (take size buffer) ≡ take (size - from) (drop from buffer) =
+    ap (λ n. drop from (take n buffer)) (sym whole) ∙ drop-take from (size - from) buffer in
+    ap₂ (λ (n : ℕ) (l : List ℕ). take n (drop from l)) few same
+    ∙ sym (take-take count (size - from) (drop from buffer) (omega arith))
+    ∙ ap (take count) (sym rest)
 
 pub pcap-lent : (head : Head) (held : Held) (bytes block : List ℕ) → bytes ≡ data_held held block
-    → Some (record { link = head.link; snap = head.snap; name = []; time = held.time; orig = held.orig; bytes = bytes }) ≡ packet_held (PcapFile head) held block
-pcap-lent head held bytes block same = ap (λ (l : List ℕ). Some (record { link = head.link; snap = head.snap; name = []; time = held.time; orig = held.orig; bytes = l })) same
+    → Some (record { link = head.link; snap = head.snap; name = []; time = held.time; orig = held.orig; bytes = bytes; comment = [] }) ≡ packet_held (PcapFile head) held block
+pcap-lent head held bytes block same = ap (λ (l : List ℕ). Some (record { link = head.link; snap = head.snap; name = []; time = held.time; orig = held.orig; bytes = l; comment = [] })) same
 
-pub pcapng-lent : (order : Order) (first : Option ℕ) (interfaces : List Described) (i : Described) (held : Held) (bytes block : List ℕ) → slice_get interfaces held.interface ≡ Some i → bytes ≡ data_held held block
-    → Some (packet_of i held.time held.orig bytes) ≡ packet_held (PcapngFile first (record { order = order; interfaces = interfaces })) held block
-pcapng-lent order first interfaces i held bytes block known same =
-    ap (λ (l : List ℕ). Some (packet_of i held.time held.orig l)) same
-    ∙ ap (option_map (λ (j : Described). packet_of j held.time held.orig (data_held held block))) (sym known)
+pub pcapng-lent : (order : Order) (first : Option ℕ) (interfaces : List Described) (i : Described) (held : Held) (bytes comment options block : List ℕ) → slice_get interfaces held.interface ≡ Some i
+    → bytes ≡ data_held held block → comment ≡ comment_in order options → options ≡ options_held held block
+    → Some (packet_of i held.time held.orig bytes comment) ≡ packet_held (PcapngFile first (record { order = order; interfaces = interfaces })) held block
+pcapng-lent order first interfaces i held bytes comment options block known same commented optional =
+    ap₂ (λ (l m : List ℕ). Some (packet_of i held.time held.orig l m)) same (commented ∙ ap (comment_in order) optional)
+    ∙ ap (option_map (λ (j : Described). packet_of j held.time held.orig (data_held held block) (comment_in order (options_held held block)))) (sym known)
 
 -- ---- nothing is in hand
 

@@ -19,7 +19,7 @@ use Rattle.cap_pcap.specs.declared.head.Resolution.TheVariants.{Microseconds, Na
 use Rattle.cap_pcap.proofs.Records.{record_fault-whole}
 use Rattle.cap_pcapng.proofs.Numerals.{number_at}
 use Rattle.cap_io.specs.Capture.{PcapFile, a_pcap_header, a_pcap_record}
-use Rattle.cap_io.specs.Carried.{Back, InRange, IsNameless, ReadsBack}
+use Rattle.cap_io.specs.Carried.{Back, InRange, IsPlain, ReadsBack}
 use Rattle.cap_io.specs.Text.{has_first_link, packets_text, record_text}
 use Rattle.cap_io.proofs.Backs.{Holds, each-behind, holds-none, holds-unit, reads-back}
 
@@ -48,7 +48,7 @@ time-back Nanoseconds time whole = omega arith
 -- a packet that a form keeps
 record IsKept (r : Resolution) (link : ℕ) (p : Captured) : Type 0 where
   link_is : p.link ≡ link
-  nameless : IsNameless p
+  plain : IsPlain p
   whole : IsWhole r p.time
   orig : p.orig < 2 ^ 32
   few : length p.bytes ≤ most_captured
@@ -79,7 +79,7 @@ record-back r link p kept =
         passes = record_fault-whole head bytes (omega arith) fields (omega (arith, captured_is));
         whole = omega (arith, captured_is);
       };
-      packet = λ k. record { link = sym kept.link_is k; snap = sym kept.nameless.snap k; name = sym kept.nameless.name k; time = time_is k; orig = orig_is k; bytes = p.bytes };
+      packet = λ k. record { link = sym kept.link_is k; snap = sym kept.plain.snap k; name = sym kept.plain.name k; time = time_is k; orig = orig_is k; bytes = p.bytes; comment = sym kept.plain.comment k };
     }
 
 -- ---- the file header
@@ -142,13 +142,13 @@ same-first first p rest (q ∷ qs) later is none =
     let e : first ≡ q = cc in
     sym (eqb-true q.link p.link (all_met (link_check (q ∷ qs) p) none).0) ∙ ap (λ (x : Captured). x.link) (sym e)
 
-kept-of : (r : Resolution) (first p : Captured) (rest earlier later : List Captured) → first ∷ rest ≡ earlier ++ p ∷ later → InRange p → IsNameless p → IsWhole r p.time
+kept-of : (r : Resolution) (first p : Captured) (rest earlier later : List Captured) → first ∷ rest ≡ earlier ++ p ∷ later → InRange p → IsPlain p → IsWhole r p.time
     → first_failing (form_checks earlier p) ≡ None → IsKept r first.link p
-kept-of r first p rest earlier later is in_range nameless whole none =
+kept-of r first p rest earlier later is in_range plain whole none =
     let met = all_met (form_checks earlier p) none in
     record {
       link_is = same-first first p rest earlier later is (none_failing (link_check earlier p) (met.0, tt));
-      nameless = nameless;
+      plain = plain;
       whole = whole;
       orig = in_range.orig;
       few = leb-true (length p.bytes) most_captured met.1.0;

@@ -71,7 +71,7 @@ packet-holds interfaces number p more ps known few kept later first at =
     let told : slice_get (map described interfaces) number ≡ Some (written_interface p.link p.snap p.name) =
     slice_get-map described interfaces number ∙ ap (option_map described) known in
     let unit = unit-of first (section_of interfaces) (section_of interfaces) (pcapng.packet_text number p) (p ∷ [])
-    (packet_back (map described interfaces) number p told (omega arith) kept.in_range.time kept.in_range.orig kept.fits) in
+    (packet_back (map described interfaces) number p told (omega arith) kept.in_range.time kept.in_range.orig kept.in_range.comment kept.fits) in
     holds-unit unit at more ps (later _ _)
 
 -- the description of a new interface

@@ -66,7 +66,7 @@ refused-failure Pcap ps p fault is e =
 refused-failure NsecPcap ps p fault is e =
     record_by (has_first_link ps p) (nat_le (length p.bytes) most_captured) (nat_lt (p.time / 1000000000) (2 ^ 32)) fault is e
 refused-failure Pcapng ps p fault is e =
-    block_by (nat_le (32 + padded (length p.bytes)) most_block) (nat_le (length (interfaces_of (ps ++ p ∷ []))) most_output_interfaces) fault is e
+    block_by (nat_le (32 + padded (length p.bytes) + length (pcapng.comment_text p.comment)) most_block) (nat_le (length (interfaces_of (ps ++ p ∷ []))) most_output_interfaces) fault is e
 
 pub refused-write_failed : (format : Format) (ps : List Captured) (p : Captured) → refused format ps p ≡ Some WriteFailed → ⊥
 refused-write_failed format ps p e = refused-failure format ps p WriteFailed (inl refl) e

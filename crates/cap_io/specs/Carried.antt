@@ -15,16 +15,19 @@ pub record InRange (p : Captured) : Type 0 where
   pub name : length p.name ≤ 255
   pub time : p.time < 2 ^ 63
   pub orig : p.orig < 2 ^ 32
+  pub comment : length p.comment ≤ 65535
 
--- what a pcap form tells of each packet's interface: the snap length of the heading, and no name
-pub record IsNameless (p : Captured) : Type 0 where
+-- what a pcap form tells of each packet beside its time, lengths and bytes: the snap length of the heading, no name, and
+-- no comment
+pub record IsPlain (p : Captured) : Type 0 where
   pub snap : p.snap ≡ most_captured
   pub name : p.name ≡ []
+  pub comment : p.comment ≡ []
 
 -- A format keeps all of a packet.
 abbrev pub Keeps : Format → Captured → Type 0
-Keeps Pcap p = IsNameless p × (p.time % 1000 ≡ 0)
-Keeps NsecPcap p = IsNameless p
+Keeps Pcap p = IsPlain p × (p.time % 1000 ≡ 0)
+Keeps NsecPcap p = IsPlain p
 Keeps Pcapng p = Unit {0}
 
 -- a packet that comes after these

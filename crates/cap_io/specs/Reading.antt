@@ -8,6 +8,7 @@ use Rattle.cap_octet.specs.declared.fault.Fault.TheVariants.{NoMemory, ReadFaile
 use Rattle.cap_octet.specs.Checks.{first_failing}
 use Rattle.cap_pcap.specs.Header.{IsHeader, form_in}
 use Rattle.cap_pcap.specs.Record.{field_checks, record_size}
+use Rattle.cap_pcapng.specs.Comment.{comment_in}
 use Rattle.cap_pcapng.specs.Frame.{frame_checks, most_block}
 use Rattle.cap_pcapng.specs.Interface.{Described}
 use Rattle.cap_pcapng.specs.Unit.{Section, block_size, order_before, packet_of}
@@ -108,9 +109,10 @@ IsTold (savefile.Pcapng order first) interfaces = first_after first (record { or
 
 -- ---- the packet in hand
 
--- its unit lies in the buffer, and its data in its unit
+-- its unit lies in the buffer, and its data and its options in its unit
 pub record IsHeld (held : Held) (buffer : List ℕ) : Type 0 where
   pub within : held.from + held.captured ≤ held.size
+  pub optional : held.options + held.optional ≤ held.size
   pub there : held.size ≤ length buffer
   pub some : 0 < held.size
   pub small : held.size ≤ most_in_unit
@@ -118,6 +120,9 @@ pub record IsHeld (held : Held) (buffer : List ℕ) : Type 0 where
 
 abbrev pub data_held : Held → List ℕ → List ℕ
 data_held held block = take held.captured (drop held.from block)
+
+abbrev pub options_held : Held → List ℕ → List ℕ
+options_held held block = take held.optional (drop held.options block)
 
 abbrev pub packet_held : Declared → Held → List ℕ → Option Captured
 packet_held Nothing held block = None
@@ -128,9 +133,12 @@ packet_held (PcapFile head) held block = Some (record {
   time = held.time;
   orig = held.orig;
   bytes = data_held held block;
+  comment = [];
 })
 packet_held (PcapngFile first section) held block =
-    option_map (λ (i : Described). packet_of i held.time held.orig (data_held held block)) (slice_get section.interfaces held.interface)
+    option_map
+    (λ (i : Described). packet_of i held.time held.orig (data_held held block) (comment_in section.order (options_held held block)))
+    (slice_get section.interfaces held.interface)
 
 -- its interface is known
 abbrev pub HasInterface : Declared → Held → Type 0

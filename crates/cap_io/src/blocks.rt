@@ -2,10 +2,10 @@
 ghost use Rattle.std.specs.Prelude.{◌≡◌, ◌+◌, ◌^◌, ◌<◌, ◌≤◌, ◌++◌, ◌∷◌, ◌⊎◌, IsTrue, IfOk, IfErr, OnOk, OnErr, Option, [], length, vec_len, None, Some, true, is_some};
 ghost use Rattle.std.specs.List.{slice_get};
 ghost use Rattle.cap_octet.specs.Checks.{first_failing};
-ghost use Rattle.cap_pcapng.specs.Block.{EnhancedParts, InterfaceParts, SimpleParts};
-ghost use Rattle.cap_pcapng.specs.Interface.{described_in};
+ghost use Rattle.cap_pcapng.specs.Block.{EnhancedParts, IsDescribedIfAny, SimpleParts, block_checks, option_checks, parts_in, parts_of, parts_of_interface};
+ghost use Rattle.cap_pcapng.specs.Interface.{IsDescribed, described};
 ghost use Rattle.cap_pcapng.specs.Unit.{Section, checks_among, interfaces_before, order_before};
-ghost use Rattle.cap_io.specs.Blocks.{BlockCame, BlockMissing, Enters, FitsIfAny, IsEntryFault, KnowsIfAny, PacketFound, WholeCame};
+ghost use Rattle.cap_io.specs.Blocks.{BlockCame, BlockMissing, Enters, FitsIfAny, IsEntryFault, KnowsIfAny, PacketFound, WholeCame, told_behind};
 ghost use Rattle.cap_io.specs.Reading.{failures_told, most_in_unit};
 
 use crate::reading::{make_room, read_data};
@@ -56,25 +56,54 @@ fn read_whole<I: Input, A: Allocator>(
     Ok(found)
 }
 
-/// Gives the interface of a block the next number. The check of how many there are comes before those of its options.
+/// What a block's refusal by itself tells behind the interfaces of a table.
+fn refusal<A: Allocator>(table: &Table<A>, fault: Fault) -> Fault
+    ensures { result ≡ told_behind table.now fault }
+{
+    match fault {
+        Fault::BadOption | Fault::BadTimeResolution if table.is_full() => Fault::TooManyInterfaces,
+        _ => fault,
+    }
+}
+
+/// Reads a whole block of this frame, or tells the first check that it fails by itself or behind these interfaces. Of
+/// those that passed, a packet's aren't made yet, nor that there is room for an interface.
+fn own_block<'a, A: Allocator>(
+    table: &Table<A>,
+    frame: &Frame,
+    bytes: &'a [u8],
+) -> Result<Block<'a>, Fault>
+    requires whole { length bytes.now ≡ frame.now.length }
+    requires shortest { 12 ≤ frame.now.length }
+    ensures parts { IfOk result (λ block. parts_of block ≡ parts_in frame.now bytes.now) }
+    ensures described { IfOk result IsDescribedIfAny }
+    ensures passes { IfOk result (λ _. first_failing (block_checks frame.now bytes.now) ≡ None) }
+    ensures options { IfOk result (λ _. first_failing (option_checks (parts_in frame.now bytes.now)) ≡ None) }
+    ensures refused { IfErr result (IsEntryFault frame.now table.now bytes.now) }
+{
+    match block(frame, bytes) {
+        Ok(found) => Ok(found),
+        Err(fault) => Err(refusal(table, fault)),
+    }
+}
+
+/// Gives the interface of a block, whose options passed, the next number.
 fn add_interface<A: Allocator>(
     table: &mut Table<A>,
     block: &InterfaceBlock<'_>,
 ) -> Result<(), Fault>
-    ensures passes { OnOk result (first_failing
-        (checks_among table.old (InterfaceParts block.now.link block.now.snap block.now.options.order block.now.options.rest.now)) ≡ None) }
-    ensures added { OnOk result (table.new
-        ≡ table.old ++ described_in block.now.link block.now.snap block.now.options.order block.now.options.rest.now ∷ []) }
-    ensures refused { IfErr result (λ fault. (first_failing
-        (checks_among table.old (InterfaceParts block.now.link block.now.snap block.now.options.order block.now.options.rest.now)) ≡ Some fault)
+    requires described { IsDescribed block.now }
+    requires options { first_failing (option_checks (parts_of_interface block.now)) ≡ None }
+    ensures passes { OnOk result (first_failing (checks_among table.old (parts_of_interface block.now)) ≡ None) }
+    ensures added { OnOk result (table.new ≡ table.old ++ described block.now.interface ∷ []) }
+    ensures refused { IfErr result (λ fault. (first_failing (checks_among table.old (parts_of_interface block.now)) ≡ Some fault)
         ⊎ (fault ≡ Fault.NoMemory)) }
     ensures kept { OnErr result (table.new ≡ table.old) }
 {
     if table.is_full() {
         return Err(Fault::TooManyInterfaces);
     }
-    let interface = block.described()?;
-    table.push(&interface)
+    table.push(&block.interface)
 }
 
 /// The packet of an enhanced packet block of so many bytes.
@@ -83,23 +112,26 @@ fn enhanced_packet<A: Allocator>(
     block: &EnhancedBlock<'_>,
     size: usize,
 ) -> Result<Held, Fault>
-    ensures found { IfOk result (PacketFound table.now
-        (EnhancedParts block.now.interface block.now.ticks block.now.captured block.now.orig block.now.rest.now) block.now.rest.now) }
+    ensures found { IfOk result (PacketFound block.now.order table.now
+        (EnhancedParts block.now.interface block.now.ticks block.now.captured block.now.orig block.now.order block.now.rest.now) block.now.rest.now) }
     ensures size { IfOk result (λ held. held.size ≡ size) }
     ensures known { IfOk result (λ held. is_some (slice_get table.now held.interface) ≡ true) }
     ensures from { IfOk result (λ held. held.from ≡ 28) }
     ensures refused { IfErr result (λ fault. first_failing (checks_among table.now
-        (EnhancedParts block.now.interface block.now.ticks block.now.captured block.now.orig block.now.rest.now)) ≡ Some fault) }
+        (EnhancedParts block.now.interface block.now.ticks block.now.captured block.now.orig block.now.order block.now.rest.now)) ≡ Some fault) }
 {
     let Some(interface) = table.get(block.interface) else {
         return Err(Fault::UnknownInterface);
     };
     let data = block.data()?;
     let time = interface.clock.time(block.ticks)?;
+    let optional = block.options().rest.len();
     Ok(Held {
         size,
         from: ENHANCED_DATA,
         captured: data.len(),
+        options: ENHANCED_DATA + block.rest.len() - optional,
+        optional,
         interface: block.interface,
         time,
         orig: block.orig,
@@ -112,7 +144,8 @@ fn simple_packet<A: Allocator>(
     block: &SimpleBlock<'_>,
     size: usize,
 ) -> Result<Held, Fault>
-    ensures found { IfOk result (PacketFound table.now (SimpleParts block.now.orig block.now.rest.now) block.now.rest.now) }
+    ensures found { IfOk result (λ held. (order : Order)
+        → PacketFound order table.now (SimpleParts block.now.orig block.now.rest.now) block.now.rest.now held) }
     ensures size { IfOk result (λ held. held.size ≡ size) }
     ensures known { IfOk result (λ held. is_some (slice_get table.now held.interface) ≡ true) }
     ensures from { IfOk result (λ held. held.from ≡ 12) }
@@ -127,6 +160,8 @@ fn simple_packet<A: Allocator>(
         size,
         from: SIMPLE_DATA,
         captured: data.len(),
+        options: SIMPLE_DATA,
+        optional: 0,
         interface: 0,
         time: 0,
         orig: block.orig,
@@ -147,7 +182,7 @@ fn enter<A: Allocator>(
     ensures err { IfErr result (IsEntryFault frame.now table.old bytes.now) }
     ensures kept { OnErr result (table.new ≡ table.old) }
 {
-    match block(frame, bytes)? {
+    match own_block(table, frame, bytes)? {
         Block::Section => {
             table.clear();
             Ok(None)

@@ -152,6 +152,8 @@ pub(crate) fn next_record<I: Input, A: Allocator>(
         size,
         from: RECORD_HEAD,
         captured,
+        options: RECORD_HEAD,
+        optional: 0,
         interface: 0,
         time: found.time,
         orig: found.orig,

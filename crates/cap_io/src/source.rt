@@ -3,7 +3,7 @@ use crate::capture::read_unit;
 use crate::unit::{Came, Held, Savefile};
 use cap_octet::{Fault, Input, Packet};
 use cap_pcap::Resolution;
-use cap_pcapng::Table;
+use cap_pcapng::{Options, Table};
 use std::alloc::Allocator;
 use std::marker::Model;
 
@@ -110,7 +110,7 @@ impl<I: Input, A: Allocator> Source<I, A> {
         }
     }
 
-    /// The packet in hand, lent from the block.
+    /// The packet in hand, lent from the block, with its comment.
     pub fn head(&self) -> Option<Packet<'_>>
         ensures packet { option_map captured result ≡ self.now.packet }
         ensures short { IfSome result (λ packet. length packet.bytes.now ≤ most_in_unit) }
@@ -128,9 +128,11 @@ impl<I: Input, A: Allocator> Source<I, A> {
                 time: held.time,
                 orig: held.orig,
                 bytes,
+                comment: &[],
             }),
-            Savefile::Pcapng(_, _) => {
+            Savefile::Pcapng(order, _) => {
                 let interface = self.table.get(held.interface)?;
+                let rest = &self.buffer[held.options..held.options + held.optional];
                 Some(Packet {
                     link: interface.link,
                     snap: interface.snap,
@@ -138,6 +140,7 @@ impl<I: Input, A: Allocator> Source<I, A> {
                     time: held.time,
                     orig: held.orig,
                     bytes,
+                    comment: Options { order, rest }.comment(),
                 })
             }
         }

@@ -20,6 +20,9 @@ pub(crate) struct Held {
     /// Where its data begin in the unit, and how many bytes they are.
     pub(crate) from: usize,
     pub(crate) captured: usize,
+    /// Where the options of its block begin in the unit, and how many bytes they are; none but in an enhanced packet.
+    pub(crate) options: usize,
+    pub(crate) optional: usize,
     /// The number of its interface in its section; 0 in pcap.
     pub(crate) interface: u32,
     /// Nanoseconds since 1970-01-01 00:00:00 UTC, below 2^63.

@@ -93,5 +93,6 @@ pub(crate) fn packet(link: u16, snap: u32, time: u64, bytes: &[u8]) -> Packet<'_
         time,
         orig: 9,
         bytes,
+        comment: &[],
     }
 }

@@ -18,7 +18,7 @@ use Rattle.cap_tools.specs.Messages.{fault_message}
 use Rattle.md5.specs.Md5.{md5, digest_bytes, hash_after, compress, rounds, block_words}
 
 abbrev at_time : ℕ → Captured
-at_time time = record { link = 1; snap = 0; name = []; time = time; orig = 4; bytes = time ∷ [] }
+at_time time = record { link = 1; snap = 0; name = []; time = time; orig = 4; bytes = time ∷ []; comment = [] }
 
 abbrev placed : ℕ → ℕ → Placed
 placed offset time = record { offset = offset; packet = at_time time }
@@ -57,7 +57,7 @@ count-before-fault = (refl, refl)
 -- ---- the duplicate window
 
 abbrev letter : ℕ → Placed
-letter x = record { offset = 24; packet = record { link = 1; snap = 0; name = []; time = 0; orig = 1; bytes = x ∷ [] } }
+letter x = record { offset = 24; packet = record { link = 1; snap = 0; name = []; time = 0; orig = 1; bytes = x ∷ []; comment = [] } }
 
 dups : Way
 dups = course
@@ -81,7 +81,7 @@ unfolding deleted md5 digest_bytes hash_after compress rounds block_words
 deleted-between = refl
 
 abbrev of_bytes : List ℕ → Placed
-of_bytes bytes = record { offset = 24; packet = record { link = 1; snap = 0; name = []; time = 0; orig = length bytes; bytes = bytes } }
+of_bytes bytes = record { offset = 24; packet = record { link = 1; snap = 0; name = []; time = 0; orig = length bytes; bytes = bytes; comment = [] } }
 
 -- bytes that are cut off aren't compared
 cut : Way
@@ -112,7 +112,7 @@ chopped = course
     (AsReports [])
     (fed InTurn (held (of_bytes (0 ∷ 1 ∷ 2 ∷ 3 ∷ 4 ∷ 5 ∷ 6 ∷ 7 ∷ []) ∷ []) End ∷ []))
 
-chop : chopped.packets ≡ record { link = 1; snap = 0; name = []; time = 0; orig = 8; bytes = 2 ∷ 3 ∷ 4 ∷ 5 ∷ [] } ∷ []
+chop : chopped.packets ≡ record { link = 1; snap = 0; name = []; time = 0; orig = 8; bytes = 2 ∷ 3 ∷ 4 ∷ 5 ∷ []; comment = [] } ∷ []
 unfolding chopped
 chop = refl
 

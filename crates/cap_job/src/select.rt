@@ -99,6 +99,7 @@ fn changed<'a, A: Allocator>(edit: &Edit<A>, packet: &Packet<'a>, time: u64) -> 
         time,
         orig: packet.orig,
         bytes: snapped(edit.snap, chopped),
+        comment: packet.comment,
     }
 }
 

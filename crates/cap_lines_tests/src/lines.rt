@@ -179,6 +179,7 @@ fn a_line_has_the_date_of_its_packet(rt: HostRuntime) {
         time: 1_000_976_562,
         orig: 1,
         bytes: b"E",
+        comment: &[],
     };
     let mut text = Text::new();
     write_line(&mut text, false, &packet);

@@ -90,6 +90,7 @@ fn long_packets(rt: HostRuntime) -> Result<(), Fail> {
         time: 0,
         orig: 0,
         bytes: &zeros,
+        comment: &[],
     };
     // The line has 49 bytes, each of 4,096 rows 49, the next one 50 and the last one 13.
     let mut place = vec![in rt.alloc(); 0u8; 200_816]?;

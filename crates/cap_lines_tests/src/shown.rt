@@ -40,6 +40,7 @@ pub fn check(
         time: 0,
         orig: case.orig,
         bytes: &bytes,
+        comment: &[],
     };
     let mut place = [0; 1024];
     let mut output = MemOutput::new(&mut place);

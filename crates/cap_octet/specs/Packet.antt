@@ -9,6 +9,16 @@ pub record Captured : Type 0 where
   pub time : ℕ
   pub orig : ℕ
   pub bytes : List ℕ
+  -- empty where there is none
+  pub comment : List ℕ
 
 abbrev pub captured : Packet → Captured
-captured p = record { link = p.link; snap = p.snap; name = p.name.now; time = p.time; orig = p.orig; bytes = p.bytes.now }
+captured p = record {
+  link = p.link;
+  snap = p.snap;
+  name = p.name.now;
+  time = p.time;
+  orig = p.orig;
+  bytes = p.bytes.now;
+  comment = p.comment.now;
+}

@@ -1,7 +1,7 @@
 //! A packet, whatever file it came from.
 ghost use Rattle.std.specs.Prelude.{◌≤◌, ◌<◌, ◌^◌, length};
 
-/// A packet whose name and bytes are lent.
+/// A packet whose name, bytes and comment are lent.
 #[derive(Clone, Copy)]
 pub struct Packet<'a> {
     /// The link type (tcpdump.org's list of LINKTYPE_ values).
@@ -16,6 +16,9 @@ pub struct Packet<'a> {
     pub orig: u32,
     /// The captured bytes.
     pub bytes: &'a [u8],
+    /// Its comment, at most 65,535 bytes; empty where there is none, as in pcap.
+    pub comment: &'a [u8],
     ghost short_name: { length name.now ≤ 255 },
+    ghost short_comment: { length comment.now ≤ 65535 },
     ghost time_in_range: { time < 2 ^ 63 },
 }

@@ -80,4 +80,5 @@ packet_in head bytes = record {
   time = time_in head bytes;
   orig = orig_in head bytes;
   bytes = drop 16 bytes;
+  comment = [];
 }

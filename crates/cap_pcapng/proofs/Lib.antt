@@ -3,5 +3,6 @@ pub mod Numerals
 pub mod OptionLists
 pub mod OptionsBack
 pub mod Units
+pub mod WholeBlocks
 pub mod WrittenBack
 pub mod WrittenBlocks

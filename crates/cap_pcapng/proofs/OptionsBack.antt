@@ -1,19 +1,21 @@
 -- Options that were written read back.
 use Rattle.std.proofs.Common.{◌≡◌, ℕ, ◌+◌, ◌-◌, ◌^◌, ◌<◌, ◌≤◌, List, [], ◌∷◌, ◌++◌, length, take, drop, replicate, refl, sym, ap, ap₂, ◌∙◌, arith, append_assoc, length-append, None, Result, Ok, le-leb}
+use Rattle.std.specs.Prelude.{unwrap_or}
 use Rattle.std.proofs.lemmas.List.{length-replicate, take_at, drop_at}
 use Rattle.byteorder.specs.Endian.{little_bytes}
 use Rattle.cap_octet.specs.Checks.{first_failing}
 use Rattle.cap_octet.specs.Number.{number_in, u16_in}
 use Rattle.cap_octet.specs.declared.fault.Fault.{Fault}
 use Rattle.cap_octet.specs.declared.number.Order.TheVariants.{Little}
+use Rattle.cap_pcapng.specs.Comment.{comment_code, comment_in}
 use Rattle.cap_pcapng.specs.Interface.{described_by, described_in}
-use Rattle.cap_pcapng.specs.InterfaceOptions.{given, list_checks}
+use Rattle.cap_pcapng.specs.InterfaceOptions.{first_value, given, list_checks}
 use Rattle.cap_pcapng.specs.Laws.{written_interface}
 use Rattle.cap_pcapng.specs.OptionList.{CodedValue, option_at, option_size, options_in, options_within}
 use Rattle.cap_pcapng.specs.Padding.{padded}
-use Rattle.cap_pcapng.specs.Written.{end_text, name_text, option_text, padded_text, resolution_text}
+use Rattle.cap_pcapng.specs.Written.{comment_text, end_text, name_text, option_text, padded_text, resolution_text}
 use Rattle.cap_pcapng.proofs.Numerals.{number_at}
-use Rattle.cap_pcapng.proofs.OptionLists.{goes_on, options_in-more}
+use Rattle.cap_pcapng.proofs.OptionLists.{goes_on, options_in-more, options_in-none}
 
 length-option_text : (code : ℕ) (value : List ℕ) → length (option_text code value) ≡ padded (4 + length value)
 length-option_text code value = simp (length-append, length-replicate) (omega arith)
@@ -74,3 +76,10 @@ pub options_describe : (link snap : ℕ) (name : List ℕ) → length name ≤ 2
     → described_in link snap Little (name_text name ++ resolution_text ++ end_text) ≡ written_interface link snap name
 options_describe link snap name short =
     ap (λ items. described_by link snap Little (given items)) (options_back name short) ∙ described_back link snap name
+
+-- a comment
+pub comment_back : (comment : List ℕ) → length comment ≤ 65535 → comment_in Little (comment_text comment) ≡ comment
+comment_back [] short = ap (λ items. unwrap_or (first_value comment_code (given items)) []) (options_in-none Little)
+comment_back (b ∷ bytes) short =
+    ap (λ items. unwrap_or (first_value comment_code (given items)) [])
+    (options_in-option comment_code (b ∷ bytes) end_text (omega arith) (λ is. absurd (omega arith)) (omega arith))

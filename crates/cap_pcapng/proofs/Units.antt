@@ -113,7 +113,7 @@ pub record Passes (before : Option Section) (text : List ℕ) : Type 0 where
   pub blocked : first_failing (block_checks (frame_behind before text) text) ≡ None
   pub among : first_failing (checks_among (interfaces_before before) (parts_behind before text)) ≡ None
 
-both_none : (rows more : List (Bool × Fault)) → first_failing (rows ++ more) ≡ None → (first_failing rows ≡ None) × (first_failing more ≡ None)
+pub both_none : (rows more : List (Bool × Fault)) → first_failing (rows ++ more) ≡ None → (first_failing rows ≡ None) × (first_failing more ≡ None)
 both_none [] more none = (refl, none)
 both_none ((true, fault) ∷ rows) more none = both_none rows more none
 both_none ((false, fault) ∷ rows) more none = (cc)

@@ -1,5 +1,5 @@
 -- Blocks that were written read back.
-use Rattle.std.proofs.Common.{◌≡◌, ℕ, ◌+◌, ◌-◌, ◌*◌, ◌/◌, ◌%◌, ◌^◌, ◌<◌, ◌≤◌, Bool, true, false, List, [], ◌∷◌, ◌++◌, length, take, drop, replicate, refl, sym, ap, ap₂, ◌∙◌, arith, length-append, Option, Some, None, le-leb, leb-true, lt-ltb, eq-eqb, lit≤, pos}
+use Rattle.std.proofs.Common.{◌≡◌, ℕ, ◌+◌, ◌-◌, ◌*◌, ◌/◌, ◌%◌, ◌^◌, ◌<◌, ◌≤◌, Bool, true, false, List, [], ◌∷◌, ◌++◌, length, take, drop, replicate, refl, sym, ap, ap₂, ◌∙◌, arith, append_assoc, length-append, Option, Some, None, le-leb, leb-true, lt-ltb, eq-eqb, lit≤, pos}
 use Rattle.std.specs.Prelude.{◌==◌, nat_le}
 use Rattle.std.specs.List.{slice_get}
 use Rattle.std.specs.Option.{option_to_list}
@@ -12,6 +12,7 @@ use Rattle.cap_octet.specs.declared.fault.Fault.{Fault}
 use Rattle.cap_octet.specs.declared.fault.Fault.TheVariants.{Truncated}
 use Rattle.cap_octet.specs.declared.number.Order.TheVariants.{Little}
 use Rattle.cap_pcapng.specs.Block.{EnhancedParts, InterfaceParts, Parts, block_checks, body_checks, body_in, parts_in, parts_in_body}
+use Rattle.cap_pcapng.specs.Comment.{comment_in}
 use Rattle.cap_pcapng.specs.Frame.{frame_checks, frame_in, most_block, section_type, type_of}
 use Rattle.cap_octet.specs.Packet.{Captured}
 use Rattle.cap_pcapng.specs.Interface.{Described}
@@ -19,10 +20,10 @@ use Rattle.cap_pcapng.specs.Laws.{InterfaceBack, PacketBack, SectionBack, ReadsA
 use Rattle.cap_pcapng.specs.Padding.{padded}
 use Rattle.cap_pcapng.specs.Time.{second, time_by, time_in}
 use Rattle.cap_pcapng.specs.Unit.{Section, checks_among, frame_behind, interfaces_before, most_interfaces, order_before, packet_by, section_by, unit_fault}
-use Rattle.cap_pcapng.specs.Written.{block_text, end_text, fit_checks, interface_body, name_text, packet_body, padded_text, resolution_text}
+use Rattle.cap_pcapng.specs.Written.{block_text, comment_text, end_text, fit_checks, interface_body, name_text, packet_body, padded_text, resolution_text}
 use Rattle.cap_pcapng.proofs.Numerals.{number_at}
-use Rattle.cap_pcapng.proofs.OptionsBack.{options_describe, options_pass}
-use Rattle.cap_pcapng.proofs.WrittenBlocks.{length-interface_body, length-packet_body}
+use Rattle.cap_pcapng.proofs.OptionsBack.{comment_back, options_describe, options_pass}
+use Rattle.cap_pcapng.proofs.WrittenBlocks.{comment_text-whole, length-interface_body, length-packet_body}
 use Rattle.cap_pcapng.specs.declared.frames.Frame.{Frame}
 
 -- ---- a section header
@@ -133,7 +134,7 @@ same_time : (time : ℕ) → time / 2 ^ 32 * 4294967296 + time % 2 ^ 32 ≡ time
 same_time time = omega arith
 
 pub packet_parts : (number : ℕ) (p : Captured) → number < 2 ^ 32 → p.time < 2 ^ 63 → p.orig < 2 ^ 32 → length p.bytes < 2 ^ 32
-    → parts_in_body (type_of 6) Little (packet_body number p) ≡ EnhancedParts number p.time (length p.bytes) p.orig (padded_text p.bytes)
+    → parts_in_body (type_of 6) Little (packet_body number p) ≡ EnhancedParts number p.time (length p.bytes) p.orig Little (padded_text p.bytes ++ comment_text p.comment)
 packet_parts number p number_fits time_fits orig_fits few =
     let body : List ℕ = packet_body number p in
     let number_is : u32_in Little body 0 ≡ number = number_at 4 body 0 number (drop 4 body) refl number_fits in
@@ -149,36 +150,50 @@ nanoseconds_back time few =
     let same : time * second / second + 0 ≡ time = omega arith in
     ap (λ n. time_by (pos n)) same ∙ (rw (lt-ltb time (2 ^ 63) few) refl)
 
-padded_fits : (bytes : List ℕ) → padded (length bytes) ≤ length (padded_text bytes)
-padded_fits bytes = simp (length-append, length-replicate) (omega arith)
+padded_size : (bytes : List ℕ) → length (padded_text bytes) ≡ padded (length bytes)
+padded_size bytes = simp (length-append, length-replicate) (omega arith)
+
+padded_fits : (bytes more : List ℕ) → padded (length bytes) ≤ length (padded_text bytes ++ more)
+padded_fits bytes more = omega (arith, length-append (padded_text bytes) more, padded_size bytes)
 
 packet_among : (interfaces : List Described) (number : ℕ) (p : Captured) → slice_get interfaces number ≡ Some (written_interface p.link p.snap p.name)
-    → p.time < 2 ^ 63 → first_failing (checks_among interfaces (EnhancedParts number p.time (length p.bytes) p.orig (padded_text p.bytes))) ≡ None
+    → p.time < 2 ^ 63 → first_failing (checks_among interfaces (EnhancedParts number p.time (length p.bytes) p.orig Little (padded_text p.bytes ++ comment_text p.comment))) ≡ None
 packet_among interfaces number p known few =
-    rw (known, le-leb (padded (length p.bytes)) (length (padded_text p.bytes)) (padded_fits p.bytes), nanoseconds_back p.time few) refl
+    rw (known, le-leb (padded (length p.bytes)) (length (padded_text p.bytes ++ comment_text p.comment)) (padded_fits p.bytes (comment_text p.comment)), nanoseconds_back p.time few) refl
+
+-- the data and the comment of a body
+data_back : (bytes more : List ℕ) → take (length bytes) (padded_text bytes ++ more) ≡ bytes
+data_back bytes more =
+    let zeros : List ℕ = replicate (padded (length bytes) - length bytes) 0 in
+    ap (λ t. take (length bytes) t) (append_assoc bytes zeros more) ∙ take_at bytes (zeros ++ more) (length bytes) refl
+
+comment_behind : (bytes comment : List ℕ) → length comment ≤ 65535 → comment_in Little (drop (padded (length bytes)) (padded_text bytes ++ comment_text comment)) ≡ comment
+comment_behind bytes comment short =
+    ap (λ t. comment_in Little t) (drop_at (padded_text bytes) (comment_text comment) (padded (length bytes)) (padded_size bytes)) ∙ comment_back comment short
 
 packet_held : (interfaces : List Described) (number : ℕ) (p : Captured) → slice_get interfaces number ≡ Some (written_interface p.link p.snap p.name)
-    → p.time < 2 ^ 63 → packet_by interfaces (EnhancedParts number p.time (length p.bytes) p.orig (padded_text p.bytes)) ≡ Some p
-packet_held interfaces number p known few =
-    rw (known, nanoseconds_back p.time few, take_at p.bytes (replicate (padded (length p.bytes) - length p.bytes) 0) (length p.bytes) refl) refl
+    → p.time < 2 ^ 63 → length p.comment ≤ 65535 → packet_by interfaces (EnhancedParts number p.time (length p.bytes) p.orig Little (padded_text p.bytes ++ comment_text p.comment)) ≡ Some p
+packet_held interfaces number p known few short =
+    rw (known, nanoseconds_back p.time few, data_back p.bytes (comment_text p.comment), comment_behind p.bytes p.comment short) refl
 
-fits_told : (p : Captured) → first_failing (fit_checks p) ≡ None → 32 + padded (length p.bytes) ≤ most_block
-fits_told p fits = leb-true (32 + padded (length p.bytes)) most_block (all_met (fit_checks p) fits).0
+fits_told : (p : Captured) → first_failing (fit_checks p) ≡ None → 32 + padded (length p.bytes) + length (comment_text p.comment) ≤ most_block
+fits_told p fits = leb-true (32 + padded (length p.bytes) + length (comment_text p.comment)) most_block (all_met (fit_checks p) fits).0
 
 pub packet_back : PacketBack
-packet_back interfaces number p known number_fits time_fits orig_fits fits =
-    let most : 32 + padded (length p.bytes) ≤ most_block = fits_told p fits in
+packet_back interfaces number p known number_fits time_fits orig_fits short fits =
+    let most : 32 + padded (length p.bytes) + length (comment_text p.comment) ≤ most_block = fits_told p fits in
+    let whole : length (comment_text p.comment) % 4 ≡ 0 = comment_text-whole p.comment in
     let body : List ℕ = packet_body number p in
-    let size : length body ≡ 20 + padded (length p.bytes) = length-packet_body number p in
+    let size : length body ≡ 20 + padded (length p.bytes) + length (comment_text p.comment) = length-packet_body number p in
     let w : IsWritten 6 body = block_written 6 body (omega arith) refl (omega arith) (omega arith) in
-    let parts : parts_in_body (type_of 6) Little body ≡ EnhancedParts number p.time (length p.bytes) p.orig (padded_text p.bytes) =
+    let parts : parts_in_body (type_of 6) Little body ≡ EnhancedParts number p.time (length p.bytes) p.orig Little (padded_text p.bytes ++ comment_text p.comment) =
     packet_parts number p number_fits time_fits orig_fits (omega arith) in
     let reads = block_reads interfaces 6 body w (rw (le-leb 20 (length body) (omega arith)) refl)
     (ap (λ q. first_failing (checks_among interfaces q)) parts ∙ packet_among interfaces number p known time_fits) in
     record {
       is_block = reads.is_block;
       declares = reads.declares ∙ ap (λ q. section_by (Some (written_section interfaces)) Little q) parts;
-      holds = reads.holds ∙ ap (λ q. option_to_list (packet_by interfaces q)) parts ∙ ap option_to_list (packet_held interfaces number p known time_fits);
+      holds = reads.holds ∙ ap (λ q. option_to_list (packet_by interfaces q)) parts ∙ ap option_to_list (packet_held interfaces number p known time_fits short);
     }
 
 -- ---- an interface

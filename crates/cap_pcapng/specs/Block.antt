@@ -1,13 +1,17 @@
 -- The bodies of blocks: their checks, in order, and their parts (draft-ietf-opsawg-pcapng, "Block Types").
-use Rattle.std.specs.Prelude.{ℕ, ◌+◌, ◌-◌, ◌*◌, ◌==◌, ◌&&◌, ◌||◌, if◌then◌else◌, min, Bool, false, List, [], ◌∷◌, length, take, drop, nat_le, Option}
+use Rattle.std.specs.Prelude.{ℕ, ◌+◌, ◌-◌, ◌*◌, ◌==◌, ◌&&◌, ◌||◌, if◌then◌else◌, min, Bool, false, List, [], ◌∷◌, ◌++◌, length, take, drop, nat_le, Option}
 use Rattle.cap_octet.specs.Checks.{first_failing}
 use Rattle.cap_octet.specs.Number.{u16_in, u32_in}
 use Rattle.cap_octet.specs.declared.fault.Fault.{Fault}
-use Rattle.cap_octet.specs.declared.fault.Fault.TheVariants.{BadVersion, BadBlockLength, BadBody, ObsoletePacketBlock}
+use Rattle.cap_octet.specs.declared.fault.Fault.TheVariants.{BadVersion, BadBlockLength, BadBody, ObsoletePacketBlock, Truncated}
 use Rattle.cap_octet.specs.declared.number.Order.{Order}
+use Rattle.cap_pcapng.specs.Interface.{IsDescribed}
+use Rattle.cap_pcapng.specs.InterfaceOptions.{list_checks}
+use Rattle.cap_pcapng.specs.OptionList.{options_in}
 use Rattle.cap_pcapng.specs.Padding.{padded}
 use Rattle.cap_pcapng.specs.declared.blocks.Block.{Block}
 use Rattle.cap_pcapng.specs.declared.blocks.Block.TheVariants as a
+use Rattle.cap_pcapng.specs.declared.blocks.InterfaceBlock.{InterfaceBlock}
 use Rattle.cap_pcapng.specs.declared.frames.BlockType.{BlockType}
 use Rattle.cap_pcapng.specs.declared.frames.BlockType.TheVariants as type
 use Rattle.cap_pcapng.specs.declared.frames.Frame.{Frame}
@@ -35,8 +39,9 @@ block_checks frame text =
     (u32_in frame.order text (frame.length - 4) == frame.length, BadBlockLength)
     ∷ body_checks frame.block_type frame.order (body_in frame text)
 
-abbrev pub block_fault : Frame → List ℕ → Option Fault
-block_fault frame text = first_failing (block_checks frame text)
+-- that there is room for a block's head and end, and that all its bytes are there
+abbrev pub size_checks : Frame → List ℕ → List (Bool × Fault)
+size_checks frame text = (nat_le 12 frame.length, BadBlockLength) ∷ (nat_le frame.length (length text), Truncated) ∷ []
 
 -- ---- a packet's data
 
@@ -50,11 +55,11 @@ data_checks captured rest = (nat_le (padded captured) (length rest), BadBody) �
 
 -- ---- the parts
 
--- what a block says. The rest of a packet's body is its padded data, and what follows that.
+-- what a block says. The rest of a packet's body is its padded data, and the options behind them.
 pub data Parts : Type 0 where
   SectionParts : Parts
   InterfaceParts : (link snap : ℕ) → (order : Order) → (options : List ℕ) → Parts
-  EnhancedParts : (interface ticks captured orig : ℕ) → (rest : List ℕ) → Parts
+  EnhancedParts : (interface ticks captured orig : ℕ) → (order : Order) → (rest : List ℕ) → Parts
   SimpleParts : (orig : ℕ) → (rest : List ℕ) → Parts
   SkippedParts : Parts
 
@@ -65,16 +70,42 @@ parts_in_body type.ObsoletePacket order body = SkippedParts
 parts_in_body type.SimplePacket order body = SimpleParts (u32_in order body 0) (drop 4 body)
 parts_in_body type.EnhancedPacket order body =
     EnhancedParts (u32_in order body 0) (u32_in order body 4 * 4294967296 + u32_in order body 8)
-    (u32_in order body 12) (u32_in order body 16) (drop 20 body)
+    (u32_in order body 12) (u32_in order body 16) order (drop 20 body)
 parts_in_body type.Other order body = SkippedParts
 
 abbrev pub parts_in : Frame → List ℕ → Parts
 parts_in frame text = parts_in_body frame.block_type frame.order (body_in frame text)
 
 -- the same as a block was read, without the places in memory where they lie
+abbrev pub parts_of_interface : InterfaceBlock → Parts
+parts_of_interface b = InterfaceParts b.interface.link b.interface.snap b.options.order b.options.rest.now
+
 abbrev pub parts_of : Block → Parts
 parts_of a.Section = SectionParts
-parts_of (a.Interface b) = InterfaceParts b.link b.snap b.options.order b.options.rest.now
-parts_of (a.Enhanced b) = EnhancedParts b.interface b.ticks b.captured b.orig b.rest.now
+parts_of (a.Interface b) = parts_of_interface b
+parts_of (a.Enhanced b) = EnhancedParts b.interface b.ticks b.captured b.orig b.order b.rest.now
 parts_of (a.Simple b) = SimpleParts b.orig b.rest.now
 parts_of a.Skipped = SkippedParts
+
+-- an interface that was read is that which its options describe
+abbrev pub IsDescribedIfAny : Block → Type 0
+IsDescribedIfAny a.Section = Unit {0}
+IsDescribedIfAny (a.Interface b) = IsDescribed b
+IsDescribedIfAny (a.Enhanced b) = Unit {0}
+IsDescribedIfAny (a.Simple b) = Unit {0}
+IsDescribedIfAny a.Skipped = Unit {0}
+
+-- ---- all checks of a block by itself
+
+-- the checks of an interface's options
+abbrev pub option_checks : Parts → List (Bool × Fault)
+option_checks SectionParts = []
+option_checks (InterfaceParts link snap order options) = list_checks [] (options_in order options)
+option_checks (EnhancedParts number ticks captured orig order rest) = []
+option_checks (SimpleParts orig rest) = []
+option_checks SkippedParts = []
+
+-- The first check that the block fails which a text begins with, behind those of its frame. Those that need the
+-- interfaces before it stand in `Unit`: one of them, of how many there are, comes before those of options.
+abbrev pub block_fault : Frame → List ℕ → Option Fault
+block_fault frame text = first_failing (size_checks frame text ++ block_checks frame text ++ option_checks (parts_in frame text))

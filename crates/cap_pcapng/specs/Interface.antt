@@ -5,6 +5,7 @@ use Rattle.cap_octet.specs.declared.number.Order.{Order}
 use Rattle.cap_pcapng.specs.InterfaceOptions.{first_value, given, name_code, offset_code, offset_told, resolution_code, units_told}
 use Rattle.cap_pcapng.specs.OptionList.{CodedValue, options_in}
 use Rattle.cap_pcapng.specs.Time.{microseconds}
+use Rattle.cap_pcapng.specs.declared.blocks.InterfaceBlock.{InterfaceBlock}
 use Rattle.cap_pcapng.specs.declared.interface.Found.{Found}
 use Rattle.cap_pcapng.specs.declared.interface.Interface.{Interface}
 
@@ -38,6 +39,10 @@ described_by link snap order options = record {
 
 abbrev pub described_in : (link snap : ℕ) → Order → List ℕ → Described
 described_in link snap order text = described_by link snap order (given (options_in order text))
+
+-- the interface of a block is that which its options describe
+abbrev pub IsDescribed : InterfaceBlock → Type 0
+IsDescribed b = described b.interface ≡ described_in b.interface.link b.interface.snap b.options.order b.options.rest.now
 
 -- ---- while they are read
 

@@ -38,5 +38,5 @@ InterfaceBack = (interfaces : List Described) (link snap : ℕ) (name : List ℕ
 abbrev pub PacketBack : Type 0
 PacketBack = (interfaces : List Described) (number : ℕ) (p : Captured)
     → slice_get interfaces number ≡ Some (written_interface p.link p.snap p.name)
-    → number < 2 ^ 32 → p.time < 2 ^ 63 → p.orig < 2 ^ 32 → first_failing (fit_checks p) ≡ None
+    → number < 2 ^ 32 → p.time < 2 ^ 63 → p.orig < 2 ^ 32 → length p.comment ≤ 65535 → first_failing (fit_checks p) ≡ None
     → ReadsAs (Some (written_section interfaces)) (packet_text number p) (written_section interfaces) (p ∷ [])

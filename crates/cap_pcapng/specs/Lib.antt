@@ -1,4 +1,5 @@
 pub mod Block
+pub mod Comment
 pub mod Frame
 pub mod Interface
 pub mod InterfaceOptions

@@ -1,5 +1,5 @@
 -- A block behind the blocks in front of it: all of its checks, in order, what it declares, and its packet.
-use Rattle.std.specs.Prelude.{◌≡◌, ℕ, Bool, List, [], ◌∷◌, ◌++◌, length, nat_le, nat_lt, take, Option, None, is_some, unwrap_or}
+use Rattle.std.specs.Prelude.{◌≡◌, ℕ, Bool, List, [], ◌∷◌, ◌++◌, length, nat_le, nat_lt, take, drop, Option, None, is_some, unwrap_or}
 use Rattle.std.specs.List.{slice_get}
 use Rattle.std.specs.Option.{option_and_then, option_map, option_map_or, option_to_list}
 use Rattle.cap_octet.specs.Checks.{first_failing}
@@ -7,11 +7,11 @@ use Rattle.cap_octet.specs.Packet.{Captured}
 use Rattle.cap_octet.specs.declared.fault.Fault.{Fault}
 use Rattle.cap_octet.specs.declared.fault.Fault.TheVariants.{Truncated, UnknownInterface, TimeOutOfRange, TooManyInterfaces}
 use Rattle.cap_octet.specs.declared.number.Order.{Order}
-use Rattle.cap_pcapng.specs.Block.{Parts, SectionParts, InterfaceParts, EnhancedParts, SimpleParts, SkippedParts, block_checks, data_checks, parts_in, simple_captured}
+use Rattle.cap_pcapng.specs.Block.{Parts, SectionParts, InterfaceParts, EnhancedParts, SimpleParts, SkippedParts, block_checks, data_checks, option_checks, parts_in, simple_captured}
+use Rattle.cap_pcapng.specs.Comment.{comment_in}
 use Rattle.cap_pcapng.specs.Frame.{frame_checks, frame_in}
 use Rattle.cap_pcapng.specs.Interface.{Described, described_in}
-use Rattle.cap_pcapng.specs.InterfaceOptions.{list_checks}
-use Rattle.cap_pcapng.specs.OptionList.{options_in}
+use Rattle.cap_pcapng.specs.Padding.{padded}
 use Rattle.cap_pcapng.specs.Time.{time_in}
 use Rattle.cap_pcapng.specs.declared.frames.Frame.{Frame}
 
@@ -55,8 +55,8 @@ captured_of interface orig = option_map_or (λ (i : Described). simple_captured 
 abbrev pub checks_among : List Described → Parts → List (Bool × Fault)
 checks_among interfaces SectionParts = []
 checks_among interfaces (InterfaceParts link snap order options) =
-    (nat_lt (length interfaces) most_interfaces, TooManyInterfaces) ∷ list_checks [] (options_in order options)
-checks_among interfaces (EnhancedParts number ticks captured orig rest) =
+    (nat_lt (length interfaces) most_interfaces, TooManyInterfaces) ∷ option_checks (InterfaceParts link snap order options)
+checks_among interfaces (EnhancedParts number ticks captured orig order rest) =
     (is_some (slice_get interfaces number), UnknownInterface)
     ∷ data_checks captured rest
     ++ (is_some (time_of (slice_get interfaces number) ticks), TimeOutOfRange)
@@ -90,7 +90,7 @@ abbrev pub section_by : Option Section → Order → Parts → Section
 section_by before order SectionParts = record { order = order; interfaces = [] }
 section_by before order (InterfaceParts link snap own options) =
     record { order = order; interfaces = interfaces_before before ++ described_in link snap own options ∷ [] }
-section_by before order (EnhancedParts number ticks captured orig rest) = record { order = order; interfaces = interfaces_before before }
+section_by before order (EnhancedParts number ticks captured orig own rest) = record { order = order; interfaces = interfaces_before before }
 section_by before order (SimpleParts orig rest) = record { order = order; interfaces = interfaces_before before }
 section_by before order SkippedParts = record { order = order; interfaces = interfaces_before before }
 
@@ -98,20 +98,30 @@ abbrev pub section_after : Option Section → List ℕ → Section
 section_after before bytes = section_by before (frame_behind before bytes).order (parts_behind before bytes)
 
 -- a packet of an interface
-abbrev pub packet_of : Described → (time orig : ℕ) → List ℕ → Captured
-packet_of i time orig bytes = record { link = i.link; snap = i.snap; name = i.name; time = time; orig = orig; bytes = bytes }
+abbrev pub packet_of : Described → (time orig : ℕ) → (bytes comment : List ℕ) → Captured
+packet_of i time orig bytes comment = record {
+  link = i.link;
+  snap = i.snap;
+  name = i.name;
+  time = time;
+  orig = orig;
+  bytes = bytes;
+  comment = comment;
+}
 
--- A simple packet is one of interface 0, at time 0.
+-- The comment of an enhanced packet is among the options behind its data. A simple packet is one of interface 0, at time 0,
+-- without a comment.
 abbrev pub packet_by : List Described → Parts → Option Captured
 packet_by interfaces SectionParts = None
 packet_by interfaces (InterfaceParts link snap order options) = None
-packet_by interfaces (EnhancedParts number ticks captured orig rest) =
+packet_by interfaces (EnhancedParts number ticks captured orig order rest) =
     option_map
-    (λ (i : Described). packet_of i (unwrap_or (time_in ticks i.units i.offset) 0) orig (take captured rest))
+    (λ (i : Described). packet_of i (unwrap_or (time_in ticks i.units i.offset) 0) orig
+    (take captured rest) (comment_in order (drop (padded captured) rest)))
     (slice_get interfaces number)
 packet_by interfaces (SimpleParts orig rest) =
     option_map
-    (λ (i : Described). packet_of i 0 orig (take (simple_captured orig i.snap) rest))
+    (λ (i : Described). packet_of i 0 orig (take (simple_captured orig i.snap) rest) [])
     (slice_get interfaces 0)
 packet_by interfaces SkippedParts = None
 

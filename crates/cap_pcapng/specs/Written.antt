@@ -4,6 +4,7 @@ use Rattle.byteorder.specs.Endian.{little_bytes}
 use Rattle.cap_octet.specs.Packet.{Captured}
 use Rattle.cap_octet.specs.declared.fault.Fault.{Fault}
 use Rattle.cap_octet.specs.declared.fault.Fault.TheVariants.{TooLong}
+use Rattle.cap_pcapng.specs.Comment.{comment_code}
 use Rattle.cap_pcapng.specs.Frame.{byte_order_magic, most_block, section_type}
 use Rattle.cap_pcapng.specs.InterfaceOptions.{name_code, resolution_code}
 use Rattle.cap_pcapng.specs.Padding.{padded}
@@ -51,11 +52,16 @@ interface_heading size link snap len =
     little_bytes 4 1 ++ little_bytes 4 size ++ little_bytes 2 link ++ little_bytes 2 0 ++ little_bytes 4 snap
     ++ little_bytes 2 name_code ++ little_bytes 2 len
 
--- interface, time, captured length, original length, and the data
+-- a comment and the end of the options; one that is empty isn't written
+abbrev pub comment_text : List ℕ → List ℕ
+comment_text [] = []
+comment_text (b ∷ bytes) = option_text comment_code (b ∷ bytes) ++ end_text
+
+-- interface, time, captured length, original length, the data, and the comment
 abbrev pub packet_body : (number : ℕ) → Captured → List ℕ
 packet_body number p =
     little_bytes 4 number ++ little_bytes 4 (p.time / 2 ^ 32) ++ little_bytes 4 (p.time % 2 ^ 32)
-    ++ little_bytes 4 (length p.bytes) ++ little_bytes 4 p.orig ++ padded_text p.bytes
+    ++ little_bytes 4 (length p.bytes) ++ little_bytes 4 p.orig ++ padded_text p.bytes ++ comment_text p.comment
 
 abbrev pub packet_text : (number : ℕ) → Captured → List ℕ
 packet_text number p = block_text 6 (packet_body number p)
@@ -68,4 +74,4 @@ packet_heading size number p =
 
 -- the checks of a packet that is to be written: its block isn't too long to be read
 abbrev pub fit_checks : Captured → List (Bool × Fault)
-fit_checks p = (nat_le (32 + padded (length p.bytes)) most_block, TooLong) ∷ []
+fit_checks p = (nat_le (32 + padded (length p.bytes) + length (comment_text p.comment)) most_block, TooLong) ∷ []

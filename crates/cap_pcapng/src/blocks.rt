@@ -1,9 +1,11 @@
 //! What blocks say, with their data lent.
-ghost use Rattle.std.specs.Prelude.{◌≡◌, None, Some, take, IfOk, IfErr};
+ghost use Rattle.std.specs.Prelude.{◌≡◌, None, Some, drop, take, IfOk, IfErr};
 ghost use Rattle.cap_octet.specs.Checks.{checked, first_failing};
-ghost use Rattle.cap_pcapng.specs.Block.{EnhancedParts, InterfaceParts, SimpleParts, body_checks, data_checks, parts_in_body, simple_captured};
+ghost use Rattle.cap_pcapng.specs.Block.{EnhancedParts, SimpleParts, body_checks, data_checks, parts_in_body, simple_captured};
+ghost use Rattle.cap_pcapng.specs.Padding.{padded};
 ghost use Rattle.cap_pcapng.specs.declared.frames.BlockType.TheVariants as kind;
 
+use crate::interface::Interface;
 use crate::options::{Options, padded_length};
 use cap_octet::{Fault, Order, u16_at, u32_at};
 
@@ -21,16 +23,17 @@ pub enum Block<'a> {
 /// An interface description block.
 #[derive(Clone, Copy, Debug, PartialEq, Eq)]
 pub struct InterfaceBlock<'a> {
-    /// The link type (tcpdump.org's list of LINKTYPE_ values).
-    pub link: u16,
-    /// The snap length, in bytes; 0 is none.
-    pub snap: u32,
+    /// The interface that it describes.
+    pub interface: Interface<'a>,
+    /// All of its options.
     pub options: Options<'a>,
 }
 
 /// An enhanced packet block.
 #[derive(Clone, Copy, Debug, PartialEq, Eq)]
 pub struct EnhancedBlock<'a> {
+    /// The byte order of the block.
+    pub order: Order,
     /// The number of its interface, counted from 0 in its section.
     pub interface: u32,
     /// The time, in ticks of its interface.
@@ -39,7 +42,7 @@ pub struct EnhancedBlock<'a> {
     pub captured: u32,
     /// The original length, in bytes.
     pub orig: u32,
-    /// The padded data and what follows it in the body.
+    /// The padded data and the options behind them.
     pub rest: &'a [u8],
 }
 
@@ -80,30 +83,11 @@ fn data_in(rest: &[u8], captured: u32) -> Result<&[u8], Fault>
     Ok(&rest[..captured as usize])
 }
 
-impl<'a> InterfaceBlock<'a> {
-    /// Reads a body, or tells that it is shorter than 8 bytes.
-    pub(crate) fn of(order: Order, body: &'a [u8]) -> Result<Self, Fault>
-        ensures found { IfOk result (λ b.
-            InterfaceParts b.link b.snap b.options.order b.options.rest.now ≡ parts_in_body kind.Interface order body.now) }
-        ensures passes { IfOk result (λ _. first_failing (body_checks kind.Interface order body.now) ≡ None) }
-        ensures refused { IfErr result (λ fault. first_failing (body_checks kind.Interface order body.now) ≡ Some fault) }
-    {
-        if body.len() < 8 {
-            return Err(Fault::BadBody);
-        }
-        Ok(InterfaceBlock {
-            link: u16_at(order, body, 0),
-            snap: u32_at(order, body, 4),
-            options: Options::new(order, &body[8..]),
-        })
-    }
-}
-
 impl<'a> EnhancedBlock<'a> {
     /// Reads a body, or tells that it is shorter than 20 bytes.
     pub(crate) fn of(order: Order, body: &'a [u8]) -> Result<Self, Fault>
         ensures found { IfOk result (λ b.
-            EnhancedParts b.interface b.ticks b.captured b.orig b.rest.now ≡ parts_in_body kind.EnhancedPacket order body.now) }
+            EnhancedParts b.interface b.ticks b.captured b.orig b.order b.rest.now ≡ parts_in_body kind.EnhancedPacket order body.now) }
         ensures passes { IfOk result (λ _. first_failing (body_checks kind.EnhancedPacket order body.now) ≡ None) }
         ensures refused { IfErr result (λ fault. first_failing (body_checks kind.EnhancedPacket order body.now) ≡ Some fault) }
     {
@@ -113,6 +97,7 @@ impl<'a> EnhancedBlock<'a> {
         let high = u64::from(u32_at(order, body, 4));
         let low = u64::from(u32_at(order, body, 8));
         Ok(EnhancedBlock {
+            order,
             interface: u32_at(order, body, 0),
             ticks: high * 4_294_967_296 + low,
             captured: u32_at(order, body, 12),
@@ -128,6 +113,15 @@ impl<'a> EnhancedBlock<'a> {
         ensures refused { IfErr result (λ fault. first_failing (data_checks self.now.captured self.now.rest.now) ≡ Some fault) }
     {
         data_in(self.rest, self.captured)
+    }
+
+    /// The options behind the padded data.
+    pub fn options(&self) -> Options<'a>
+        ensures order { result.order ≡ self.now.order }
+        ensures rest { result.rest.now ≡ drop (padded self.now.captured) self.now.rest.now }
+    {
+        let padded = padded_length(u64::from(self.captured)) as usize;
+        Options::new(self.order, &self.rest[padded.min(self.rest.len())..])
     }
 }
 

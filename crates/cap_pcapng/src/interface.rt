@@ -1,5 +1,5 @@
 //! Interfaces, as their options describe them.
-ghost use Rattle.std.specs.Prelude.{◌≡◌, ◌≤◌, ◌<◌, if◌then◌else◌, [], length, slice_index, None, Some, IfOk, IfErr};
+ghost use Rattle.std.specs.Prelude.{◌≡◌, ◌≤◌, ◌<◌, ◌++◌, if◌then◌else◌, [], length, slice_index, None, Some, IfOk, IfErr};
 ghost use Rattle.cap_octet.specs.Checks.{checked, first_failing};
 ghost use Rattle.cap_pcapng.specs.InterfaceOptions.{name_checks, resolution_checks, offset_checks, first_checks, value_for, name_code, resolution_code, offset_code, units_told, offset_told};
 
@@ -7,7 +7,7 @@ use crate::blocks::InterfaceBlock;
 use crate::clock::{Clock, units_of};
 use crate::options::{BlockOption, Options};
 use byteorder::{BigEndian, ByteOrder, LittleEndian};
-use cap_octet::{Fault, Order};
+use cap_octet::{Fault, Order, u16_at, u32_at};
 
 /// The code of a name (option if_name).
 const NAME: u16 = 2;
@@ -149,28 +149,53 @@ impl<'a> Found<'a> {
     }
 }
 
-impl<'a> InterfaceBlock<'a> {
+impl<'a> Interface<'a> {
     ghost use Rattle.cap_pcapng.specs.Interface.{described, described_in};
     ghost use Rattle.cap_pcapng.specs.InterfaceOptions.{options_fault};
 
-    /// The interface that the block describes, or the first check that its options fail, in their order: a value that
-    /// doesn't fit, a first name of more than 255 bytes, a first resolution of other than 1 byte or a first offset of
-    /// other than 8 (fault 8), a first resolution out of range (fault 12).
-    pub fn described(&self) -> Result<Interface<'a>, Fault>
+    /// The interface that options describe, or the first check that they fail, in their order: a value that doesn't fit,
+    /// a first name of more than 255 bytes, a first resolution of other than 1 byte or a first offset of other than 8
+    /// (fault 8), a first resolution out of range (fault 12).
+    fn by(link: u16, snap: u32, options: Options<'a>) -> Result<Self, Fault>
         ensures found { IfOk result (λ interface. described interface
-            ≡ described_in self.now.link self.now.snap self.now.options.order self.now.options.rest.now) }
-        ensures passes { IfOk result (λ _. options_fault self.now.options.order self.now.options.rest.now ≡ None) }
-        ensures refused { IfErr result (λ fault. options_fault self.now.options.order self.now.options.rest.now ≡ Some fault) }
+            ≡ described_in link snap options.entry.order options.entry.rest.now) }
+        ensures link { IfOk result (λ interface. interface.link ≡ link) }
+        ensures snap { IfOk result (λ interface. interface.snap ≡ snap) }
+        ensures passes { IfOk result (λ _. options_fault options.entry.order options.entry.rest.now ≡ None) }
+        ensures refused { IfErr result (λ fault. options_fault options.entry.order options.entry.rest.now ≡ Some fault) }
     {
-        let found = Found::of(self.options)?;
+        let found = Found::of(options)?;
         Ok(Interface {
-            link: self.link,
-            snap: self.snap,
+            link,
+            snap,
             name: found.name.unwrap_or(&[]),
             clock: Clock {
                 units: found.units.unwrap_or(MICROSECONDS),
                 offset: found.offset.unwrap_or(0),
             },
         })
+    }
+}
+
+impl<'a> InterfaceBlock<'a> {
+    ghost use Rattle.cap_pcapng.specs.Block.{InterfaceParts, body_checks, option_checks, parts_in_body, parts_of_interface};
+    ghost use Rattle.cap_pcapng.specs.Interface.{IsDescribed};
+    ghost use Rattle.cap_pcapng.specs.declared.frames.BlockType.TheVariants as kind;
+
+    /// Reads a body, or tells the first check that it fails: it is shorter than 8 bytes, or one of its options.
+    pub(crate) fn of(order: Order, body: &'a [u8]) -> Result<Self, Fault>
+        ensures found { IfOk result (λ b. parts_of_interface b ≡ parts_in_body kind.Interface order body.now) }
+        ensures described { IfOk result IsDescribed }
+        ensures passes { IfOk result (λ _. first_failing (body_checks kind.Interface order body.now
+            ++ option_checks (parts_in_body kind.Interface order body.now)) ≡ None) }
+        ensures refused { IfErr result (λ fault. first_failing (body_checks kind.Interface order body.now
+            ++ option_checks (parts_in_body kind.Interface order body.now)) ≡ Some fault) }
+    {
+        if body.len() < 8 {
+            return Err(Fault::BadBody);
+        }
+        let options = Options::new(order, &body[8..]);
+        let interface = Interface::by(u16_at(order, body, 0), u32_at(order, body, 4), options)?;
+        Ok(InterfaceBlock { interface, options })
     }
 }

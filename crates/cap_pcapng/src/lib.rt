@@ -5,6 +5,7 @@
 
 pub mod blocks;
 pub mod clock;
+pub mod comment;
 pub mod frames;
 pub mod interface;
 pub mod laws;

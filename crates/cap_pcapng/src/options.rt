@@ -1,5 +1,5 @@
 //! Options: codes and values, one after another, at the end of a block's body.
-ghost use Rattle.std.specs.Prelude.{◌≡◌, ◌+◌, ◌<◌, ◌^◌};
+ghost use Rattle.std.specs.Prelude.{◌≡◌, ◌≤◌, ◌+◌, ◌<◌, ◌^◌, length};
 ghost use Rattle.cap_pcapng.specs.Padding.{padded};
 
 use cap_octet::{Fault, Order, u16_at};
@@ -21,7 +21,9 @@ pub struct Options<'a> {
 #[derive(Clone, Copy, Debug, PartialEq, Eq)]
 pub struct BlockOption<'a> {
     pub code: u16,
+    /// At most 65,535 bytes.
     pub value: &'a [u8],
+    ghost short: { length value.now ≤ 65535 },
 }
 
 /// A length with the padding to a multiple of four.

@@ -1,7 +1,7 @@
 //! A block is read in two steps: its first 12 bytes, then all of them.
-ghost use Rattle.std.specs.Prelude.{◌≡◌, ◌≤◌, ◌%◌, length, IfOk, IfErr, None, Some};
-ghost use Rattle.cap_octet.specs.Checks.{checked};
-ghost use Rattle.cap_pcapng.specs.Block.{block_fault, parts_in, parts_of};
+ghost use Rattle.std.specs.Prelude.{◌≡◌, ◌≤◌, ◌%◌, ◌++◌, IfOk, IfErr, None, Some};
+ghost use Rattle.cap_octet.specs.Checks.{checked, first_failing};
+ghost use Rattle.cap_pcapng.specs.Block.{IsDescribedIfAny, block_fault, body_checks, option_checks, parts_in, parts_in_body, parts_of};
 ghost use Rattle.cap_pcapng.specs.Frame.{frame_fault, frame_in, is_section, most_block};
 
 use crate::blocks::{Block, EnhancedBlock, InterfaceBlock, SimpleBlock, check_section};
@@ -61,21 +61,15 @@ pub fn frame(section: Option<Order>, bytes: &[u8; 12]) -> Result<Frame, Fault>
     })
 }
 
-/// Reads a whole block, whose first 12 bytes this frame was read from and which has as many bytes as that says; or
-/// tells the first check that it fails: the two total lengths differ, an obsolete packet block, a body that is too
-/// short for its type, a section header of another version than 1.0 and 1.2.
-pub fn block<'a>(frame: &Frame, bytes: &'a [u8]) -> Result<Block<'a>, Fault>
-    requires whole { length bytes.now ≡ frame.now.length }
-    requires shortest { 12 ≤ frame.now.length }
-    ensures parts { IfOk result (λ block. parts_of block ≡ parts_in frame.now bytes.now) }
-    ensures passes { IfOk result (λ _. block_fault frame.now bytes.now ≡ None) }
-    ensures refused { IfErr result (λ fault. block_fault frame.now bytes.now ≡ Some fault) }
+/// Reads the body of a block, or tells the first check that it fails.
+fn body_of<'a>(frame: &Frame, body: &'a [u8]) -> Result<Block<'a>, Fault>
+    ensures parts { IfOk result (λ block. parts_of block ≡ parts_in_body frame.now.block_type frame.now.order body.now) }
+    ensures described { IfOk result IsDescribedIfAny }
+    ensures passes { IfOk result (λ _. first_failing (body_checks frame.now.block_type frame.now.order body.now
+        ++ option_checks (parts_in_body frame.now.block_type frame.now.order body.now)) ≡ None) }
+    ensures refused { IfErr result (λ fault. first_failing (body_checks frame.now.block_type frame.now.order body.now
+        ++ option_checks (parts_in_body frame.now.block_type frame.now.order body.now)) ≡ Some fault) }
 {
-    let end = bytes.len() - 4;
-    if u32_at(frame.order, bytes, end) != frame.length {
-        return Err(Fault::BadBlockLength);
-    }
-    let body = &bytes[8..end];
     match frame.block_type {
         BlockType::Section => {
             check_section(frame.order, body)?;
@@ -87,4 +81,28 @@ pub fn block<'a>(frame: &Frame, bytes: &'a [u8]) -> Result<Block<'a>, Fault>
         BlockType::EnhancedPacket => Ok(Block::Enhanced(EnhancedBlock::of(frame.order, body)?)),
         BlockType::Other => Ok(Block::Skipped),
     }
+}
+
+/// Reads the block of this frame at the front of bytes; or tells the first check that it fails: there is no room for its
+/// head and its end, some of its bytes aren't there, its two total lengths differ, an obsolete packet block, a body that
+/// is too short for its type, a section header of another version than 1.0 and 1.2, an option of an interface. The
+/// checks that need the interfaces before it are its caller's.
+pub fn block<'a>(frame: &Frame, bytes: &'a [u8]) -> Result<Block<'a>, Fault>
+    ensures parts { IfOk result (λ block. parts_of block ≡ parts_in frame.now bytes.now) }
+    ensures described { IfOk result IsDescribedIfAny }
+    ensures passes { IfOk result (λ _. block_fault frame.now bytes.now ≡ None) }
+    ensures refused { IfErr result (λ fault. block_fault frame.now bytes.now ≡ Some fault) }
+{
+    let size = frame.length as usize;
+    if size < 12 {
+        return Err(Fault::BadBlockLength);
+    }
+    if bytes.len() < size {
+        return Err(Fault::Truncated);
+    }
+    let end = size - 4;
+    if u32_at(frame.order, bytes, end) != frame.length {
+        return Err(Fault::BadBlockLength);
+    }
+    body_of(frame, &bytes[8..end])
 }

@@ -6,23 +6,23 @@ use Rattle.cap_io.proofs.blocks.enter.Goals as goal
 pub returns-in_ok-enhanced_packet-in-Enhanced-clause-ok : goal.returns-in_ok-enhanced_packet-in-Enhanced-clause-ok
 returns-in_ok-enhanced_packet-in-Enhanced-clause-ok g c =
     let e = c.in_ok-enhanced_packet-in-Enhanced.ensures in
-    (enhanced_enters c.args.frame.now c.args.table.now c.args.bytes.now c.in-Enhanced.found.rest.now c.in-Enhanced.found.interface c.in-Enhanced.found.ticks c.in-Enhanced.found.captured c.in-Enhanced.found.orig
-    c.in_ok-enhanced_packet-in-Enhanced.field-0 c.requires.whole c.requires.shortest (sym (ap parts_of c.in-Enhanced.is) ∙ c.in_ok-block.ensures.parts) c.in_ok-block.ensures.passes e.from e.size e.found).enters
+    (enhanced_enters c.args.frame.now c.args.table.now c.args.bytes.now c.in-Enhanced.found.rest.now c.in-Enhanced.found.interface c.in-Enhanced.found.ticks c.in-Enhanced.found.captured c.in-Enhanced.found.orig c.in-Enhanced.found.order
+    c.in_ok-enhanced_packet-in-Enhanced.field-0 c.requires.whole c.requires.shortest (sym (ap parts_of c.in-Enhanced.is) ∙ c.in_ok-own_block.ensures.parts) c.in_ok-own_block.ensures.passes e.from e.size e.found).enters
 
 pub returns-in_ok-enhanced_packet-in-Enhanced-clause-fits : goal.returns-in_ok-enhanced_packet-in-Enhanced-clause-fits
 returns-in_ok-enhanced_packet-in-Enhanced-clause-fits g c =
     let e = c.in_ok-enhanced_packet-in-Enhanced.ensures in
-    (enhanced_enters c.args.frame.now c.args.table.now c.args.bytes.now c.in-Enhanced.found.rest.now c.in-Enhanced.found.interface c.in-Enhanced.found.ticks c.in-Enhanced.found.captured c.in-Enhanced.found.orig
-    c.in_ok-enhanced_packet-in-Enhanced.field-0 c.requires.whole c.requires.shortest (sym (ap parts_of c.in-Enhanced.is) ∙ c.in_ok-block.ensures.parts) c.in_ok-block.ensures.passes e.from e.size e.found).fits
+    (enhanced_enters c.args.frame.now c.args.table.now c.args.bytes.now c.in-Enhanced.found.rest.now c.in-Enhanced.found.interface c.in-Enhanced.found.ticks c.in-Enhanced.found.captured c.in-Enhanced.found.orig c.in-Enhanced.found.order
+    c.in_ok-enhanced_packet-in-Enhanced.field-0 c.requires.whole c.requires.shortest (sym (ap parts_of c.in-Enhanced.is) ∙ c.in_ok-own_block.ensures.parts) c.in_ok-own_block.ensures.passes e.from e.size e.found).fits
 
 pub returns-in_ok-simple_packet-in-Simple-clause-ok : goal.returns-in_ok-simple_packet-in-Simple-clause-ok
 returns-in_ok-simple_packet-in-Simple-clause-ok g c =
     let e = c.in_ok-simple_packet-in-Simple.ensures in
     (simple_enters c.args.frame.now c.args.table.now c.args.bytes.now c.in-Simple.found.rest.now c.in-Simple.found.orig
-    c.in_ok-simple_packet-in-Simple.field-0 c.requires.whole c.requires.shortest (sym (ap parts_of c.in-Simple.is) ∙ c.in_ok-block.ensures.parts) c.in_ok-block.ensures.passes e.from e.size e.found).enters
+    c.in_ok-simple_packet-in-Simple.field-0 c.requires.whole c.requires.shortest (sym (ap parts_of c.in-Simple.is) ∙ c.in_ok-own_block.ensures.parts) c.in_ok-own_block.ensures.passes e.from e.size e.found).enters
 
 pub returns-in_ok-simple_packet-in-Simple-clause-fits : goal.returns-in_ok-simple_packet-in-Simple-clause-fits
 returns-in_ok-simple_packet-in-Simple-clause-fits g c =
     let e = c.in_ok-simple_packet-in-Simple.ensures in
     (simple_enters c.args.frame.now c.args.table.now c.args.bytes.now c.in-Simple.found.rest.now c.in-Simple.found.orig
-    c.in_ok-simple_packet-in-Simple.field-0 c.requires.whole c.requires.shortest (sym (ap parts_of c.in-Simple.is) ∙ c.in_ok-block.ensures.parts) c.in_ok-block.ensures.passes e.from e.size e.found).fits
+    c.in_ok-simple_packet-in-Simple.field-0 c.requires.whole c.requires.shortest (sym (ap parts_of c.in-Simple.is) ∙ c.in_ok-own_block.ensures.parts) c.in_ok-own_block.ensures.passes e.from e.size e.found).fits

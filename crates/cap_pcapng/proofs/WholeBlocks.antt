@@ -1,0 +1,40 @@
+-- All checks of a block by itself, and those of a block among others.
+use Rattle.std.proofs.Common.{◌≡◌, ℕ, ◌-◌, ◌≤◌, ◌⊎◌, inl, inr, Bool, true, false, List, [], ◌∷◌, ◌++◌, length, Some, None, refl, sym, ap, ◌∙◌, le-leb, eq-eqb}
+use Rattle.cap_octet.specs.Checks.{first_failing}
+use Rattle.cap_octet.specs.Number.{u32_in}
+use Rattle.cap_octet.specs.declared.fault.Fault.{Fault}
+use Rattle.cap_pcapng.specs.Block.{block_checks, block_fault, body_checks, body_in, option_checks, parts_in, parts_in_body}
+use Rattle.cap_pcapng.specs.declared.frames.Frame.{Frame}
+use Rattle.cap_pcapng.proofs.Units.{both_none}
+
+-- the checks of a body and of its options decide where those before them are met
+pub block_fault-body : (frame : Frame) (text body : List ℕ) → 12 ≤ frame.length → frame.length ≤ length text → u32_in frame.order text (frame.length - 4) ≡ frame.length
+    → body ≡ body_in frame text
+    → first_failing (body_checks frame.block_type frame.order body ++ option_checks (parts_in_body frame.block_type frame.order body)) ≡ block_fault frame text
+block_fault-body frame text body least whole same is =
+    rw (le-leb 12 frame.length least, le-leb frame.length (length text) whole, eq-eqb (u32_in frame.order text (frame.length - 4)) frame.length same)
+    (ap (λ t. first_failing (body_checks frame.block_type frame.order t ++ option_checks (parts_in_body frame.block_type frame.order t))) is)
+
+-- ---- what the answer of all checks says of each
+
+either_fails : (rows more : List (Bool × Fault)) (fault : Fault) → first_failing (rows ++ more) ≡ Some fault
+    → (first_failing rows ≡ Some fault) ⊎ ((first_failing rows ≡ None) × (first_failing more ≡ Some fault))
+either_fails [] more fault fails = inr (refl, fails)
+either_fails ((true, other) ∷ rows) more fault fails = either_fails rows more fault fails
+either_fails ((false, other) ∷ rows) more fault fails = inl fails
+
+-- checks of a block whose bytes are there
+behind_size : (frame : Frame) (text : List ℕ) → 12 ≤ frame.length → frame.length ≤ length text
+    → block_fault frame text ≡ first_failing (block_checks frame text ++ option_checks (parts_in frame text))
+behind_size frame text least whole = rw (le-leb 12 frame.length least, le-leb frame.length (length text) whole) refl
+
+pub block_passes : (frame : Frame) (text : List ℕ) → 12 ≤ frame.length → frame.length ≤ length text → block_fault frame text ≡ None
+    → (first_failing (block_checks frame text) ≡ None) × (first_failing (option_checks (parts_in frame text)) ≡ None)
+block_passes frame text least whole none =
+    both_none (block_checks frame text) (option_checks (parts_in frame text)) (sym (behind_size frame text least whole) ∙ none)
+
+pub block_fails : (frame : Frame) (text : List ℕ) (fault : Fault) → 12 ≤ frame.length → frame.length ≤ length text → block_fault frame text ≡ Some fault
+    → (first_failing (block_checks frame text) ≡ Some fault)
+    ⊎ ((first_failing (block_checks frame text) ≡ None) × (first_failing (option_checks (parts_in frame text)) ≡ Some fault))
+block_fails frame text fault least whole fails =
+    either_fails (block_checks frame text) (option_checks (parts_in frame text)) fault (sym (behind_size frame text least whole) ∙ fails)
