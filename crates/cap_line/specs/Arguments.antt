@@ -157,9 +157,9 @@ compile_app links = with_rule (with_rule (new_app (codes "compile")) (link_rule 
 abbrev pub bare_line : App
 bare_line =
     let app = new_app (codes "capkit") in
-    record app { top = record app.top { subcommand_required = true; disable_help_subcommand = true } }
+    record app { top = record app.top { has_version = true; subcommand_required = true; disable_help_subcommand = true } }
 
--- the whole line, with no subcommand `help`
+-- the whole line, with `--version` and no subcommand `help`
 abbrev pub line_app : (formats links : ValueParser) → App
 line_app formats links =
     with_subcommand (with_subcommand (with_subcommand (with_subcommand (with_subcommand bare_line

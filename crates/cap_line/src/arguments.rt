@@ -8,6 +8,9 @@ ghost use Rattle.cap_line.specs.Arguments.{line_app, lining, selecting, shifting
 ghost use Rattle.cap_line.specs.Arguments.{AreChoices, Takes, Refuses, format_names, link_names};
 ghost use Rattle.cap_line.specs.Arguments.{subcommand_named};
 
+use crate::examples::{
+    COMPILE_HELP, EDIT_HELP, INFOS_HELP, LINE_HELP, MERGE_HELP, PRINT_HELP, VERSION,
+};
 use crate::options::{
     append_arg, bytes_arg, capture_arg, chop_end_arg, chop_start_arg, count_arg, earlier_arg,
     file_arg, format_arg, keep_arg, later_arg, link_arg, link_header_arg, listing_arg,
@@ -124,7 +127,7 @@ fn edit_command<'a>(alloc: Global, formats: &'a [&'a str]) -> Result<Command<'a>
     );
     let bare = Command::new(alloc, "edit")
         .about("Select packets of a capture, change them, and leave out duplicates")
-        .after_help("Example: capkit edit -r -s 96 in.pcapng out.pcapng 1-1000");
+        .after_help(EDIT_HELP);
     let selected = selecting(alloc, bare)?;
     let shortened = shortening(alloc, selected)?;
     let shifted = shifting(alloc, shortened)?;
@@ -143,7 +146,7 @@ fn merge_command<'a>(alloc: Global, formats: &'a [&'a str]) -> Result<Command<'a
     let more = many_arg(alloc, "MORE", MORE_HELP);
     let command = Command::new(alloc, "merge")
         .about("Write the packets of captures as one capture, by time")
-        .after_help("Example: capkit merge -w all.pcapng first.pcap second.pcap")
+        .after_help(MERGE_HELP)
         .arg(append)?
         .arg(format)?
         .arg(output)?
@@ -160,7 +163,7 @@ fn infos_command<'a>(alloc: Global) -> Result<Command<'a>, AllocError>
     let more = many_arg(alloc, "MORE", MORE_HELP);
     let command = Command::new(alloc, "infos")
         .about("Write a report on each capture")
-        .after_help("Example: capkit infos first.pcap second.pcap")
+        .after_help(INFOS_HELP)
         .arg(input)?
         .arg(more)?;
     Ok(command)
@@ -176,8 +179,8 @@ fn print_command<'a>(alloc: Global, formats: &'a [&'a str]) -> Result<Command<'a
     let input = file_arg(alloc, "FILE", FILE_HELP);
     let words = many_arg(alloc, "WORD", WORD_HELP);
     let bare = Command::new(alloc, "print")
-        .about("Print or write the packets of a capture that match an expression or a listing")
-        .after_help("Example: capkit print -c 10 -e in.pcap 'tcp port 80 and not host 10.0.0.1'");
+        .about("Print or write the packets that match an expression or a listing")
+        .after_help(PRINT_HELP);
     let lined = lining(alloc, bare)?;
     let command = lined
         .arg(output)?
@@ -196,7 +199,7 @@ fn compile_command<'a>(alloc: Global, links: &'a [&'a str]) -> Result<Command<'a
     let words = many_arg(alloc, "WORD", WORD_HELP);
     let command = Command::new(alloc, "compile")
         .about("Write the listing of a program that an expression compiles to")
-        .after_help("Example: capkit compile --link ether 'tcp port 80' > listing")
+        .after_help(COMPILE_HELP)
         .arg(link)?
         .arg(words)?;
     Ok(command)
@@ -216,6 +219,8 @@ fn line_command<'a>(alloc: Global) -> Result<Command<'a>, AllocError>
     let compile = compile_command(alloc, links)?;
     let command = Command::new(alloc, "capkit")
         .about("A workbench for saved packet captures")
+        .after_help(LINE_HELP)
+        .version(VERSION)
         .subcommand_required(true)
         .disable_help_subcommand(true)
         .subcommand(edit)?

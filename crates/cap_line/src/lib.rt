@@ -4,6 +4,7 @@
 mod arguments;
 mod compile_line;
 mod edit_line;
+mod examples;
 mod files;
 mod infos_line;
 pub mod line;

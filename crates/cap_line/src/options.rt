@@ -13,8 +13,8 @@ use clap::builder::ValueParser;
 use clap::{Arg, ArgAction};
 use std::alloc::Global;
 
-/// What the option of a format is for.
-const FORMAT_HELP: &str = "The format that is written: pcapng where none is given";
+/// What the option of a format is for. `{n}` ends a line of help, which has 80 columns at most.
+const FORMAT_HELP: &str = "Format to write, pcapng if none is given{n}";
 
 /// The greatest number of 32 bits.
 const MOST: i64 = 4_294_967_295;
@@ -63,7 +63,7 @@ pub fn start_arg<'a>(alloc: Global) -> Arg<'a>
     ensures local { result.global ≡ false }
 {
     letter_arg(alloc, "start", 'A', "T").help(
-        "Keep packets from this time on: 2024-02-29T23:59:59.5Z, or seconds since 1970",
+        "Keep times from T on: 2026-01-31T12:00:00Z, or seconds",
     )
 }
 
@@ -71,7 +71,7 @@ pub fn stop_arg<'a>(alloc: Global) -> Arg<'a>
     ensures rule { rule_of result ≡ stop_rule }
     ensures local { result.global ≡ false }
 {
-    letter_arg(alloc, "stop", 'B', "T").help("Keep packets before this time")
+    letter_arg(alloc, "stop", 'B', "T").help("Keep times before T")
 }
 
 pub fn chop_start_arg<'a>(alloc: Global) -> Arg<'a>
@@ -89,7 +89,7 @@ pub fn chop_end_arg<'a>(alloc: Global) -> Arg<'a>
 {
     name_arg(alloc, "chop_end", "chop-end", "N")
         .value_parser(ValueParser::Signed(0, MOST))
-        .help("Remove the last N captured bytes of each packet, after --chop-start")
+        .help("Remove the last N captured bytes, after --chop-start")
 }
 
 pub fn snap_arg<'a>(alloc: Global) -> Arg<'a>
@@ -98,23 +98,21 @@ pub fn snap_arg<'a>(alloc: Global) -> Arg<'a>
 {
     letter_arg(alloc, "snap", 's', "N")
         .value_parser(ValueParser::Signed(1, MOST))
-        .help("Keep at most N captured bytes of each packet, from 1 on, after the removals")
+        .help("Keep at most N captured bytes, after the chops")
 }
 
 pub fn later_arg<'a>(alloc: Global) -> Arg<'a>
     ensures rule { rule_of result ≡ later_rule }
     ensures local { result.global ≡ false }
 {
-    name_arg(alloc, "later", "later", "S").help(
-        "Shift times to later ones by S seconds, as 0.000000001",
-    )
+    name_arg(alloc, "later", "later", "S").help("Move times S seconds later, as 0.000000001")
 }
 
 pub fn earlier_arg<'a>(alloc: Global) -> Arg<'a>
     ensures rule { rule_of result ≡ earlier_rule }
     ensures local { result.global ≡ false }
 {
-    name_arg(alloc, "earlier", "earlier", "S").help("Shift times to earlier ones by S seconds")
+    name_arg(alloc, "earlier", "earlier", "S").help("Move times S seconds earlier")
 }
 
 pub fn window_arg<'a>(alloc: Global) -> Arg<'a>
@@ -123,7 +121,7 @@ pub fn window_arg<'a>(alloc: Global) -> Arg<'a>
 {
     letter_arg(alloc, "window", 'D', "N")
         .value_parser(ValueParser::Signed(2, 1_000_000))
-        .help("Leave out packets that are duplicates within N in a row: 2 to 1000000")
+        .help("Leave out duplicates within N packets, 2 to 1000000")
 }
 
 pub fn count_arg<'a>(alloc: Global) -> Arg<'a>
@@ -132,7 +130,7 @@ pub fn count_arg<'a>(alloc: Global) -> Arg<'a>
 {
     letter_arg(alloc, "count", 'c', "N")
         .value_parser(ValueParser::Unsigned(1, u64::MAX))
-        .help("End after N packets that match, from 1 on")
+        .help("End after N packets that match, 1 or more")
 }
 
 pub fn link_header_arg<'a>(alloc: Global) -> Arg<'a>
@@ -155,7 +153,7 @@ pub fn bytes_arg<'a>(alloc: Global) -> Arg<'a>
         alloc,
         "bytes",
         'x',
-        "Print the captured bytes of each packet behind its link header too",
+        "Print the bytes behind the link header too",
     )
 }
 
@@ -167,7 +165,7 @@ pub fn append_arg<'a>(alloc: Global) -> Arg<'a>
         alloc,
         "append",
         'a',
-        "Write the captures one after another, and don't merge them by time",
+        "Join the captures, one behind another, and don't merge by time",
     )
 }
 
@@ -213,18 +211,18 @@ pub fn capture_arg<'a>(alloc: Global) -> Arg<'a>
     ensures rule { rule_of result ≡ capture_rule }
     ensures local { result.global ≡ false }
 {
-    Arg::new(alloc, "OUT").short('w').help(
-        "Write the packets to this capture, or - for standard output, and print no lines",
-    )
+    Arg::new(alloc, "OUT")
+        .short('w')
+        .help("Write the packets to OUT (- is standard output) instead")
 }
 
 pub fn listing_arg<'a>(alloc: Global) -> Arg<'a>
     ensures rule { rule_of result ≡ listing_rule }
     ensures local { result.global ≡ false }
 {
-    Arg::new(alloc, "LISTING").long("code").help(
-        "A listing of a program that stands in place of an expression",
-    )
+    Arg::new(alloc, "LISTING")
+        .long("code")
+        .help("Program to match by, in place of an expression")
 }
 
 pub fn link_arg<'a>(alloc: Global, links: &'a [&'a str]) -> Arg<'a>
@@ -234,7 +232,7 @@ pub fn link_arg<'a>(alloc: Global, links: &'a [&'a str]) -> Arg<'a>
     Arg::new(alloc, "LINK")
         .long("link")
         .value_parser(links)
-        .help("What packets begin with: ether where none is given")
+        .help("What packets begin with, ether if none is given{n}")
 }
 
 /// The last argument of a command, of as many words as there are.

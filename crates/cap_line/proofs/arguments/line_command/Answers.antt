@@ -4,6 +4,9 @@ use Rattle.clap.specs.Words.{App, app_of, new_app, with_subcommand}
 use Rattle.cap_line.specs.Arguments.{bare_line}
 use Rattle.cap_line.proofs.arguments.line_command.Goals as goal
 
+abbrev versioned : App → App
+versioned a = record a { top = record a.top { has_version = true } }
+
 abbrev requiring : App → App
 requiring a = record a { top = record a.top { subcommand_required = true } }
 
@@ -16,8 +19,11 @@ named = new_app (codes "capkit")
 pub returns : goal.returns
 returns c =
     let about : app_of c.about.result ≡ named = ap app_of_fields c.about.ensures ∙ c.new.ensures.app in
-    let required : app_of c.subcommand_required.result ≡ requiring named =
-    ap app_of_fields c.subcommand_required.ensures ∙ ap requiring about in
+    let helped : app_of c.after_help.result ≡ named = ap app_of_fields c.after_help.ensures ∙ about in
+    let numbered : app_of c.version.result ≡ versioned named =
+    ap app_of_fields c.version.ensures ∙ ap versioned helped in
+    let required : app_of c.subcommand_required.result ≡ requiring (versioned named) =
+    ap app_of_fields c.subcommand_required.ensures ∙ ap requiring numbered in
     let alone : app_of c.disable_help_subcommand.result ≡ bare_line =
     ap app_of_fields c.disable_help_subcommand.ensures ∙ ap without_help required in (
       _,

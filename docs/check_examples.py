@@ -1,0 +1,158 @@
+#!/usr/bin/env python3
+"""Runs the examples of the pages and compares what they print with what the pages show.
+
+usage: check_examples.py [--capkit PROGRAM] [--update] [PAGE..]
+
+An example is a fenced block whose first line begins with "$ ". The examples under one heading run one after another in one
+shell, in a folder of their own with a copy of samples/. Standard output and standard error are shown together. A line that
+begins with "> " continues the command above it. With --update the pages get what is printed, to be read before it is
+committed. A heading under which a program is called that isn't installed is left out, and told.
+"""
+import argparse
+import os
+import pathlib
+import re
+import shutil
+import subprocess
+import sys
+import tempfile
+
+ROOT = pathlib.Path(__file__).resolve().parent.parent
+PAGES = ["README.md", "docs/RECIPES.md", "docs/SCALE.md"]
+OTHER_PROGRAMS = ["tcpdump", "editcap", "mergecap", "capinfos", "parallel", "dot", "python3"]
+MARK = "==== next example ===="
+
+
+def built_program():
+    """The program that the launcher built last."""
+    programs = sorted((ROOT / "out").glob("built-*/capkit"), key=os.path.getmtime)
+    if not programs:
+        sys.exit("capkit is not built yet: run ./capkit --help first, or name a program by --capkit")
+    return programs[-1]
+
+
+def parts_of(page):
+    """The lines of the page in turn: ("text", lines) or ("example", command lines, lines that it prints)."""
+    parts, text, lines = [], [], page.split("\n")
+    place, is_fenced, is_example = 0, False, False
+    while place < len(lines):
+        line = lines[place]
+        if line.startswith("```"):
+            is_fenced = not is_fenced
+            following = lines[place + 1] if place + 1 < len(lines) else ""
+            is_example = is_fenced and following.startswith("$ ")
+            text.append(line)
+            place += 1
+            continue
+        if not is_example:
+            text.append(line)
+            place += 1
+            continue
+        parts.append(("text", text))
+        text, command = [], [line]
+        place += 1
+        while lines[place].startswith("> "):
+            command.append(lines[place])
+            place += 1
+        shown = []
+        while not lines[place].startswith(("$ ", "```")):
+            shown.append(lines[place])
+            place += 1
+        parts.append(("example", command, shown))
+    parts.append(("text", text))
+    return parts
+
+
+def sections_of(parts):
+    """The places of the examples under each heading."""
+    sections, heading = {}, ""
+    for place, part in enumerate(parts):
+        if part[0] == "example":
+            sections.setdefault(heading, []).append(place)
+            continue
+        for line in part[1]:
+            if re.match("#+ ", line):
+                heading = line
+    return sections
+
+
+def command_of(lines):
+    return "\n".join(line[2:] for line in lines)
+
+
+def run(commands, capkit):
+    """What each of the commands prints, in one shell and a new folder."""
+    script = ""
+    for command in commands:
+        script += f"__status=$?; printf '{MARK}\\n'; (exit $__status)\n{command}\n"
+    with tempfile.TemporaryDirectory() as temporary:
+        folder = pathlib.Path(temporary)
+        shutil.copytree(ROOT / "samples", folder / "samples")
+        (folder / "bin").mkdir()
+        (folder / "bin" / "capkit").symlink_to(pathlib.Path(capkit).resolve())
+        (folder / "bench").symlink_to(ROOT / "bench")
+        path = f"{folder / 'bin'}:{os.environ['PATH']}"
+        kept = {"PATH": path, "TZ": "UTC", "LC_ALL": "C", "HOME": temporary}
+        words = ["bash", "-c", script]
+        place = folder / "samples"
+        pipes = {"stdin": subprocess.DEVNULL, "stdout": subprocess.PIPE, "stderr": subprocess.STDOUT}
+        done = subprocess.run(words, cwd=place, env=kept, **pipes)
+    printed = done.stdout.decode(errors="replace").split(MARK + "\n")[1:]
+    return [text.rstrip("\n").split("\n") if text.rstrip("\n") else [] for text in printed]
+
+
+def missing_program(commands):
+    for program in OTHER_PROGRAMS:
+        if re.search(rf"(^|[|;(]|\s){program}\s", "\n".join(commands)) and shutil.which(program) is None:
+            return program
+    return None
+
+
+def check_section(name, heading, parts, places, capkit):
+    """Runs the examples under a heading, and returns how many of them print something else; puts in what they print."""
+    commands = [command_of(parts[place][1]) for place in places]
+    missing = missing_program(commands)
+    if missing:
+        print(f"{name}: {heading}: left out, {missing} is not installed")
+        return 0
+    wrong = 0
+    for place, printed in zip(places, run(commands, capkit), strict=True):
+        shown = list(parts[place][2])
+        while shown and not shown[-1]:
+            shown.pop()
+        if printed != shown:
+            wrong += 1
+            print(f"{name}: {heading}: $ {command_of(parts[place][1])}\nshown:   {shown}\nprinted: {printed}")
+        blank = parts[place][2][len(shown) :]
+        parts[place] = ("example", parts[place][1], printed + blank)
+    return wrong
+
+
+def check_page(name, capkit, is_update):
+    path = ROOT / name
+    parts = parts_of(path.read_text())
+    count = wrong = 0
+    for heading, places in sections_of(parts).items():
+        count += len(places)
+        wrong += check_section(name, heading, parts, places, capkit)
+    print(f"{name}: {count} examples, {wrong} print something else", flush=True)
+    if is_update and wrong:
+        lines = [line for part in parts for shown in part[1:] for line in shown]
+        path.write_text("\n".join(lines))
+    return wrong
+
+
+def main():
+    parser = argparse.ArgumentParser(description=__doc__.split("\n")[0])
+    parser.add_argument("--capkit", default=None)
+    parser.add_argument("--update", action="store_true")
+    parser.add_argument("pages", nargs="*")
+    arguments = parser.parse_args()
+    capkit = arguments.capkit or built_program()
+    names = arguments.pages or [page for page in PAGES if (ROOT / page).exists()]
+    wrong = sum(check_page(name, capkit, arguments.update) for name in names)
+    sys.exit(1 if wrong else 0)
+
+
+if __name__ == "__main__":
+    main()
