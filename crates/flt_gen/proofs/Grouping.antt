@@ -27,7 +27,7 @@ use Rattle.flt_gen.specs.Group.{Group, no_group, inserted, with_member, same_typ
 use Rattle.flt_gen.proofs.Onward.{both_true}
 use Rattle.flt_gen.proofs.Ascending.{Ascending, Searchable, ascending_inserted, length_inserted, one_of_inserted}
 use Rattle.flt_gen.proofs.Exclusive.{Apt, ip_no_arp, ip_no_rarp, arp_no_rarp}
-use Rattle.flt_gen.proofs.Counted.{Bare, bare_one, bare_either, bare_guard, bare_choice, bare_any, bare_net, bare_ports, net_tests_fit, port_tests_by, port_tests_fit, tests_fit, nodes_fit, words_fit, formula_apt, left_false, right_false}
+use Rattle.flt_gen.proofs.Counted.{Bare, bare_one, bare_guard, bare_choice, bare_any, bare_net, bare_ports, net_tests_fit, port_tests_by, port_tests_fit, tests_fit, nodes_fit, words_fit, formula_apt, left_false, right_false}
 use Rattle.flt_gen.proofs.Together.{Merged, Common, together, more_together, plain_together}
 
 -- a group that waits: the numbers ascend, and the first is among them

@@ -33,7 +33,7 @@ use Rattle.flt_gen.specs.Code.{plain, indirect_code, operator_code, branch_insn,
 use Rattle.flt_gen.specs.declared.follow.Knowledge.{Knowledge}
 use Rattle.flt_gen.specs.Follow.{and_fork, load_code, fact, always, and_fact, target}
 use Rattle.flt_gen.specs.declared.elementary.Elementary.{Elementary}
-use Rattle.flt_gen.proofs.Onward.{followed_inside, target_inside}
+use Rattle.flt_gen.proofs.Onward.{target_inside}
 use Rattle.flt_bpf.proofs.Suffix.{IsFaultless}
 use Rattle.flt_gen.proofs.Tails.{one_of_four, by_test}
 

@@ -14,7 +14,6 @@ use Rattle.flt_words.specs.declared.token.Comparison.{Comparison}
 use Rattle.flt_words.specs.declared.token.Comparison.TheVariants.{Equal, NotEqual, Less, AtMost, Greater, AtLeast}
 use Rattle.flt_gen.specs.declared.elementary.Place.{Place}
 use Rattle.flt_gen.specs.declared.elementary.Place.TheVariants.{At, Past}
-use Rattle.flt_gen.specs.declared.elementary.FieldTest.{FieldTest}
 use Rattle.flt_gen.specs.declared.elementary.Elementary.{Elementary}
 use Rattle.flt_gen.specs.declared.elementary.Elementary.TheVariants.{Known, Field}
 use Rattle.flt_gen.specs.declared.elementary.Fact.{Fact}

@@ -1,5 +1,5 @@
 -- The code of both sides is that of the ports' formula.
-use Rattle.std.proofs.Common.{◌≡◌, ap}
+use Rattle.std.proofs.Common.{ap}
 use Rattle.flt_gen.specs.declared.elementary.Ports.{Ports}
 use Rattle.flt_gen.specs.Primitives.{port_is, port_between, port_sides}
 use Rattle.flt_gen.proofs.Joined.{ports_put}
