@@ -24,16 +24,19 @@ use Rattle.flt_gen.specs.declared.elementary.Kind.TheVariants as kind
 use Rattle.flt_gen.specs.declared.elementary.Place.{Place}
 use Rattle.flt_gen.specs.declared.elementary.Elementary.{Elementary}
 use Rattle.flt_gen.specs.declared.elementary.Ports.{Ports}
-use Rattle.flt_gen.specs.declared.elementary.Ports.TheVariants.{One, Between}
-use Rattle.flt_gen.specs.declared.elementary.Place.TheVariants.{At, Past}
-use Rattle.flt_gen.specs.Elementary.{network, has_ip_proto, has_ip6_proto}
+use Rattle.flt_gen.specs.declared.elementary.Ports.TheVariants.{One, Between, Several}
+use Rattle.flt_bpf.specs.declared.operation.Width.{Width}
+use Rattle.flt_gen.specs.declared.elementary.Sides.{Sides}
+use Rattle.flt_gen.specs.declared.elementary.Transport.{Transport}
+use Rattle.flt_gen.specs.Elementary.{has_ip_proto, has_ip6_proto}
 use Rattle.flt_gen.specs.Numbers.{accessors, accessor_tests}
-use Rattle.flt_gen.specs.Formula.{Formula, Single, Compare, Both, Either, Guard, Choose, all_of, sides, checked, guarded}
-use Rattle.flt_gen.specs.Primitives.{any_proto, mac_tests, check_formula, cast_formula, proto_formula, net_of_kind, net_formula, net_test, ip6_formula, ether_host, port_formula, port_test, port_tests, ports_behind, ip_transport, ip6_transport, transport, value_formula}
+use Rattle.flt_gen.specs.Formula.{Formula, Single, Compare, Both, Either, Guard, Choose, Among, all_of, sides, checked, guarded}
+use Rattle.flt_gen.specs.Primitives.{any_proto, mac_tests, check_formula, cast_formula, proto_formula, net_of_kind, net_formula, net_test, ip6_formula, ether_host, port_formula, port_test, whole_field, any_sides, port_places, port_sides, ports_behind, ip_transport, ip6_transport, transport, value_formula}
 use Rattle.flt_gen.specs.Reading.{formula}
 use Rattle.flt_gen.specs.Counts.{tests, nodes, words}
 use Rattle.flt_gen.specs.declared.elementary.NetTest.{NetTest}
 use Rattle.flt_gen.specs.declared.elementary.PortTest.{PortTest}
+use Rattle.flt_gen.proofs.Ascending.{Searchable}
 use Rattle.flt_gen.proofs.Exclusive.{Excluded, Apt, ip_no_ip6, ip_no_arp, ip_no_rarp, arp_no_rarp}
 
 check_tests_are : (link : Link) (p : Protocol) → tests (check_formula link p) ≡ count.check_tests p
@@ -123,25 +126,37 @@ transport_tests_fit (Some protocol.Icmp6) s t f = omega arith
 abbrev a_side : Ports → ℕ
 a_side (One n) = 1
 a_side (Between a b) = 2
+a_side (Several n) = 0
 
-sides_tests : (d : Direction) (ports : Ports) (s t : Place) → tests (sides d (port_tests ports s) (port_tests ports t)) ≡ count.side_tests d (a_side ports)
-sides_tests (direction.One Source) (One n) s t = refl
-sides_tests (direction.One Destination) (One n) s t = refl
-sides_tests (direction.Both Or) (One n) s t = refl
-sides_tests (direction.Both And) (One n) s t = refl
-sides_tests (direction.One Source) (Between a b) s t = refl
-sides_tests (direction.One Destination) (Between a b) s t = refl
-sides_tests (direction.Both Or) (Between a b) s t = refl
-sides_tests (direction.Both And) (Between a b) s t = refl
+-- not those of a list beside
+abbrev IsTold : Ports → Type 0
+IsTold (Several n) = ⊥
+IsTold _ = Unit {0}
 
-port_tests_fit : (link : Link) (p : Option Protocol) (d : Direction) (ports : Ports) → tests (port_formula link (port_test p d ports)) ≤ count.port_tests p d (a_side ports)
-port_tests_fit link p d ports =
-    let l = network link in
+sides_tests : (d : Direction) (ports : Ports) (header : Transport) → IsTold ports → tests (port_sides ports d header []) ≡ count.side_tests d (a_side ports)
+sides_tests (direction.One Source) (One n) header e = refl
+sides_tests (direction.One Destination) (One n) header e = refl
+sides_tests (direction.Both Or) (One n) header e = refl
+sides_tests (direction.Both And) (One n) header e = refl
+sides_tests (direction.One Source) (Between a b) header e = refl
+sides_tests (direction.One Destination) (Between a b) header e = refl
+sides_tests (direction.Both Or) (Between a b) header e = refl
+sides_tests (direction.Both And) (Between a b) header e = refl
+sides_tests d (Several n) header e = absurd e
+
+-- the tests of a formula of ports by those of its sides
+pub port_tests_by : (link : Link) (p : Option Protocol) (d : Direction) (ports : Ports) (numbers : List ℕ) → tests (port_formula link (port_test p d ports) numbers) ≤ 3 + count.transport_tests p + tests (port_sides ports d (ip_transport link) numbers) + count.transport_tests p + tests (port_sides ports d (ip6_transport link) numbers)
+port_tests_by link p d ports numbers =
     let wanted = port_test p d ports in
-    let a = sides_tests d ports (Past l l) (Past l (l + 2)) in
-    let b = sides_tests d ports (At (l + 40)) (At (l + 42)) in
-    let t = transport_tests_fit p (has_ip_proto link 6) (has_ip_proto link 17) (ports_behind (ip_transport link) wanted) in
-    let u = transport_tests_fit p (has_ip6_proto link 6) (has_ip6_proto link 17) (ports_behind (ip6_transport link) wanted) in
+    let t = transport_tests_fit p (has_ip_proto link 6) (has_ip_proto link 17) (ports_behind (ip_transport link) wanted numbers) in
+    let u = transport_tests_fit p (has_ip6_proto link 6) (has_ip6_proto link 17) (ports_behind (ip6_transport link) wanted numbers) in
+    omega arith
+
+pub port_tests_fit : (link : Link) (p : Option Protocol) (d : Direction) (ports : Ports) → IsTold ports → tests (port_formula link (port_test p d ports) []) ≤ count.port_tests p d (a_side ports)
+port_tests_fit link p d ports e =
+    let a = sides_tests d ports (ip_transport link) e in
+    let b = sides_tests d ports (ip6_transport link) e in
+    let t = port_tests_by link p d ports [] in
     omega arith
 
 some_ip4 : (p : Option Protocol) (d : Direction) → 1 ≤ count.ip4_tests p d
@@ -163,9 +178,9 @@ value_tests_fit link Net p d (value.Dotted a m) = net_tests_fit link p d _ _
 value_tests_fit link Net p d (value.Ip6 a n) = omega (arith, ip6_tests_are link d n a)
 value_tests_fit link Net p d (value.Mac a) = omega arith
 value_tests_fit link Net p d (value.Range a b) = some_ip4 p d
-value_tests_fit link Port p d (value.Number n m) = port_tests_fit link p d (One n)
+value_tests_fit link Port p d (value.Number n m) = port_tests_fit link p d (One n) tt
 value_tests_fit link Port p d _ = omega arith
-value_tests_fit link PortRange p d (value.Range a b) = port_tests_fit link p d (Between (min a b) (max a b))
+value_tests_fit link PortRange p d (value.Range a b) = port_tests_fit link p d (Between (min a b) (max a b)) tt
 value_tests_fit link PortRange p d _ = omega arith
 value_tests_fit link Proto p d (value.Number n m) = proto_tests_fit link p n
 value_tests_fit link Proto p d _ = some_proto p
@@ -323,11 +338,32 @@ bare_transport (Some protocol.Tcp) s t f h = bare_guard s f h
 bare_transport (Some protocol.Udp) s t f h = bare_guard t f h
 bare_transport (Some _) s t f h = bare_one _
 
-bare_ports : (link : Link) (wanted : PortTest) → Bare (port_formula link wanted)
-bare_ports link wanted =
+-- numbers that are looked for on a side, or on either
+bare_among : (place : Place) (width : Width) (bs : List ℕ) → Searchable bs → Bare (Among (whole_field place width) bs)
+bare_among place width bs h = record { no_nodes = refl; no_words = refl; apt = λ p. h }
+
+pub bare_any : (d : Direction) (at : Sides) (f : ℕ) (bs : List ℕ) → Searchable bs → Bare (any_sides d at f bs)
+bare_any (direction.One Source) at f bs h = bare_among at.source at.width bs h
+bare_any (direction.One Destination) at f bs h = bare_among at.destination at.width bs h
+bare_any (direction.Both Or) at f bs h =
+    bare_either _ _ (bare_one _) (bare_either _ _ (bare_among at.destination at.width bs h) (bare_among at.source at.width bs h))
+bare_any (direction.Both And) at f bs h = bare_one _
+
+-- ports of a list beside ascend
+abbrev pub Listed : Ports → List ℕ → Type 0
+Listed (Several n) bs = Searchable bs
+Listed _ bs = Unit {0}
+
+bare_port_sides : (ports : Ports) (d : Direction) (header : Transport) (bs : List ℕ) → Listed ports bs → Bare (port_sides ports d header bs)
+bare_port_sides (One n) d header bs h = bare_sides d _ _
+bare_port_sides (Between a b) d header bs h = bare_sides d _ _
+bare_port_sides (Several n) d header bs h = bare_any d (port_places header) n bs h
+
+pub bare_ports : (link : Link) (wanted : PortTest) (bs : List ℕ) → Listed wanted.ports bs → Bare (port_formula link wanted bs)
+bare_ports link wanted bs h =
     bare_choice _ _ _ (λ p. ip_no_ip6 p link)
-    (bare_transport wanted.protocol _ _ _ (bare_guard _ _ (bare_sides wanted.direction _ _)))
-    (bare_guard _ _ (bare_transport wanted.protocol _ _ _ (bare_sides wanted.direction _ _)))
+    (bare_transport wanted.protocol _ _ _ (bare_guard _ _ (bare_port_sides wanted.ports wanted.direction (ip_transport link) bs h)))
+    (bare_guard _ _ (bare_transport wanted.protocol _ _ _ (bare_port_sides wanted.ports wanted.direction (ip6_transport link) bs h)))
 
 pub bare_value : (link : Link) (k : ValueType) (p : Option Protocol) (d : Direction) (v : Value) → Bare (value_formula link k p d v)
 bare_value link Host p d (value.Dotted a m) = bare_net link p (net_test d None a.address)
@@ -338,9 +374,9 @@ bare_value link Net p d (value.Number n m) = bare_net link p (net_test d _ _)
 bare_value link Net p d (value.Dotted a m) = bare_net link p (net_test d _ _)
 bare_value link Net p d (value.Ip6 a n) = bare_ip6 link d n a
 bare_value link Net p d _ = bare_one _
-bare_value link Port p d (value.Number n m) = bare_ports link (port_test p d (One n))
+bare_value link Port p d (value.Number n m) = bare_ports link (port_test p d (One n)) [] tt
 bare_value link Port p d _ = bare_one _
-bare_value link PortRange p d (value.Range a b) = bare_ports link (port_test p d (Between (min a b) (max a b)))
+bare_value link PortRange p d (value.Range a b) = bare_ports link (port_test p d (Between (min a b) (max a b))) [] tt
 bare_value link PortRange p d _ = bare_one _
 bare_value link Proto p d (value.Number n m) = bare_proto_value link p n
 bare_value link Proto p d _ = bare_one _

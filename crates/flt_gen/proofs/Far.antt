@@ -26,7 +26,7 @@ use Rattle.flt_gen.specs.Numbers.{width_of}
 use Rattle.flt_gen.specs.Formula.{Formula, Single, Compare, Both, Either, Except, Guard, Fork, Choose, Among}
 use Rattle.flt_gen.specs.Code.{plain, indirect_code, operator_code, test_code, branch_insn, jump_before, branch_before, comparison_before, field_before, mask_before, base_before, transport_before, accessor_before, number_before, Entered, at_top, chain_before, search_before, LEVELS, elementary_before, fork_before, emitted, NEAR}
 use Rattle.flt_gen.specs.declared.follow.Knowledge.{Knowledge}
-use Rattle.flt_gen.specs.Follow.{and_fork, load_code, fact, always, and_fact, followed}
+use Rattle.flt_gen.specs.Follow.{and_fork, load_code, fact, always, and_fact, target}
 use Rattle.flt_gen.specs.declared.elementary.Elementary.{Elementary}
 use Rattle.flt_gen.specs.Layout.{is_branch, JUMP, IsNeeded, JumpsAreNeeded}
 use Rattle.flt_gen.proofs.Tails.{tail, Extends, extends_none, extends_on, test_extends, relation_extends, emitted_extends, by_test}
@@ -278,7 +278,7 @@ emitted_needed link known (Choose t a b) hit miss c lh lm n h m =
     record { needed = pt.needed; inside = pt.inside; extends = extends_on c e.code _ pb.extends (extends_on e.code d.code _ pa.extends pt.extends) }
 emitted_needed link known (Among f vs) hit miss c lh lm n h m =
     record {
-      needed = needed_top _ (field_needed (At f.at) f.width _ (mask_needed f.mask _ (search_needed LEVELS vs (followed c known always hit) (followed c known always miss) c n)));
+      needed = needed_top _ (field_needed f.place f.width _ (mask_needed f.mask _ (search_needed LEVELS vs (target c known f.place always hit) (target c known f.place always miss) c n)));
       inside = omega arith;
       extends = emitted_extends link known (Among f vs) hit miss c;
     }

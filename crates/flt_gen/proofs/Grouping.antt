@@ -1,9 +1,9 @@
--- The formula of a truth in which hosts are looked for together reads as the truth's own, and has no more tests.
+-- The formula of a truth in which hosts or ports are looked for together reads as the truth's own, and has no more tests.
 use Rattle.std.proofs.Common.{◌≡◌, ℕ, ◌+◌, ◌*◌, ◌<◌, ◌≤◌, List, [], ◌∷◌, length, Bool, true, false, Option, Some, None, refl, sym, ap, ◌∙◌, subst, arith}
 use Rattle.std.specs.Prelude.{◌==◌, ◌||◌, ◌&&◌, nat_lt, if◌then◌else◌}
 use Rattle.std.proofs.lemmas.Bool.Decides.{nat_tests}
 use Rattle.flt_words.specs.declared.token.Protocol.{Protocol}
-use Rattle.flt_words.specs.declared.token.Protocol.TheVariants.{Ip}
+use Rattle.flt_words.specs.declared.token.Protocol.TheVariants.{Ip, Tcp, Udp}
 use Rattle.flt_words.specs.declared.token.Side.TheVariants.{Source, Destination}
 use Rattle.flt_words.specs.declared.token.Join.TheVariants.{And, Or}
 use Rattle.flt_words.specs.declared.token.ValueType.{ValueType}
@@ -18,87 +18,122 @@ use Rattle.flt_lang.specs.Counts as count
 use Rattle.flt_lang.specs.Resolved.{is_unfilled, any_primitive}
 use Rattle.flt_gen.specs.declared.link.Link.{Link}
 use Rattle.flt_gen.specs.Elementary.{Reading, Yes, No, Rejected}
-use Rattle.flt_gen.specs.Formula.{Formula, Both, Either, Except, Among, is_one_of, both, either, negated, reads}
-use Rattle.flt_gen.specs.Primitives.{net_test, net_formula, qualified_formula, value_formula}
+use Rattle.flt_gen.specs.declared.elementary.Ports.TheVariants.{One, Several}
+use Rattle.flt_gen.specs.Formula.{Formula, Both, Either, Except, is_one_of, both, either, negated, reads}
+use Rattle.flt_gen.specs.Primitives.{net_test, net_formula, port_test, port_formula, qualified_formula, value_formula}
 use Rattle.flt_gen.specs.Reading.{formula}
 use Rattle.flt_gen.specs.Counts.{tests, nodes, words}
-use Rattle.flt_gen.specs.Hosts.{Hosts, no_hosts, inserted, with_host, same_protocol, same_direction, goes_with, host_address, hosts_and, more_hosts, address_field, any_sides, several_formula, formula_by, hosts_formula, or_any, or_hosts, truth_host, choice, grouped, MOST_HOSTS}
+use Rattle.flt_gen.specs.Group.{Group, no_group, inserted, with_member, same_type, same_protocol, same_direction, goes_with, member_number, group_and, larger_group, hosts_formula, one_formula, several_formula, formula_by, group_formula, or_any, or_group, truth_member, choice, grouped, MOST_TOGETHER}
 use Rattle.flt_gen.proofs.Onward.{both_true}
 use Rattle.flt_gen.proofs.Ascending.{Ascending, Searchable, ascending_inserted, length_inserted, one_of_inserted}
 use Rattle.flt_gen.proofs.Exclusive.{Apt, ip_no_arp, ip_no_rarp, arp_no_rarp}
-use Rattle.flt_gen.proofs.Counted.{Bare, bare_one, bare_either, bare_guard, bare_choice, bare_net, net_tests_fit, tests_fit, nodes_fit, words_fit, formula_apt, left_false, right_false}
+use Rattle.flt_gen.proofs.Counted.{Bare, bare_one, bare_guard, bare_choice, bare_any, bare_net, bare_ports, net_tests_fit, port_tests_by, port_tests_fit, tests_fit, nodes_fit, words_fit, formula_apt, left_false, right_false}
 use Rattle.flt_gen.proofs.Together.{Merged, Common, together, more_together, plain_together}
 
--- hosts that wait: the addresses ascend, and the first is among them
-pub record Kept (hosts : Hosts) : Type 0 where
-  pub ascending : Ascending hosts.addresses
-  pub first : 0 < length hosts.addresses → is_one_of hosts.first hosts.addresses ≡ true
+-- a group that waits: the numbers ascend, and the first is among them
+pub record Kept (group : Group) : Type 0 where
+  pub ascending : Ascending group.numbers
+  pub first : 0 < length group.numbers → is_one_of group.first group.numbers ≡ true
 
-pub kept_none : Kept no_hosts
+pub kept_none : Kept no_group
 kept_none = record { ascending = tt; first = λ l. absurd (omega arith) }
 
-kept_with : (q : FullQuals) (a : ℕ) (hosts : Hosts) → Kept hosts → Kept (with_host q a hosts)
-kept_with q a hosts h =
+kept_with : (q : FullQuals) (a : ℕ) (group : Group) → Kept group → Kept (with_member q a group)
+kept_with q a group h =
     record {
-      ascending = ascending_inserted a hosts.addresses h.ascending;
-      first = λ l. one_of_inserted a a hosts.addresses ∙ (let same : (a == a) ≡ true = grind (arith, nat_tests) in ap (λ b. b || is_one_of a hosts.addresses) same);
+      ascending = ascending_inserted a group.numbers h.ascending;
+      first = λ l. one_of_inserted a a group.numbers ∙ (let same : (a == a) ≡ true = grind (arith, nat_tests) in ap (λ b. b || is_one_of a group.numbers) same);
     }
 
--- the formula of hosts has no comparisons
-bare_among : (at : ℕ) (bs : List ℕ) → Searchable bs → Bare (Among (address_field at) bs)
-bare_among at bs h = record { no_nodes = refl; no_words = refl; apt = λ p. h }
+-- the formula of several members has no comparisons
+bare_several_hosts : (link : Link) (protocol : Option Protocol) (d : Direction) (f : ℕ) (bs : List ℕ) → Searchable bs → Bare (hosts_formula link protocol d f bs)
+bare_several_hosts link None d f bs h =
+    bare_choice _ _ _ (λ p. (ip_no_arp p link, ip_no_rarp p link)) (bare_any d _ f bs h)
+    (bare_choice _ _ _ (λ p. arp_no_rarp p link) (bare_any d _ f bs h) (bare_guard _ _ (bare_any d _ f bs h)))
+bare_several_hosts link (Some Ip) d f bs h = bare_guard _ _ (bare_any d _ f bs h)
+bare_several_hosts link (Some _) d f bs h = bare_one _
 
-bare_sides : (s t : ℕ) (d : Direction) (f : ℕ) (bs : List ℕ) → Searchable bs → Bare (any_sides s t d f bs)
-bare_sides s t (direction.One Source) f bs h = bare_among s bs h
-bare_sides s t (direction.One Destination) f bs h = bare_among t bs h
-bare_sides s t (direction.Both Or) f bs h = bare_either _ _ (bare_one _) (bare_either _ _ (bare_among t bs h) (bare_among s bs h))
-bare_sides s t (direction.Both And) f bs h = bare_one _
+bare_several : (link : Link) (k : ValueType) (protocol : Option Protocol) (d : Direction) (f : ℕ) (bs : List ℕ) → Searchable bs → Bare (several_formula link k protocol d f bs)
+bare_several link Host protocol d f bs h = bare_several_hosts link protocol d f bs h
+bare_several link Port protocol d f bs h = bare_ports link (port_test protocol d (Several f)) bs h
+bare_several link Net protocol d f bs h = bare_one _
+bare_several link PortRange protocol d f bs h = bare_one _
+bare_several link Proto protocol d f bs h = bare_one _
 
-bare_several : (link : Link) (protocol : Option Protocol) (hosts : Hosts) → Searchable hosts.addresses → Bare (several_formula link protocol hosts)
-bare_several link None hosts h =
-    bare_choice _ _ _ (λ p. (ip_no_arp p link, ip_no_rarp p link)) (bare_sides _ _ hosts.direction hosts.first hosts.addresses h)
-    (bare_choice _ _ _ (λ p. arp_no_rarp p link) (bare_sides _ _ hosts.direction hosts.first hosts.addresses h) (bare_guard _ _ (bare_sides _ _ hosts.direction hosts.first hosts.addresses h)))
-bare_several link (Some Ip) hosts h = bare_guard _ _ (bare_sides _ _ hosts.direction hosts.first hosts.addresses h)
-bare_several link (Some _) hosts h = bare_one _
+bare_single : (link : Link) (k : ValueType) (protocol : Option Protocol) (d : Direction) (f : ℕ) → Bare (one_formula link k protocol d f)
+bare_single link Host protocol d f = bare_net link protocol (net_test d None f)
+bare_single link Port protocol d f = bare_ports link (port_test protocol d (One f)) [] tt
+bare_single link Net protocol d f = bare_one _
+bare_single link PortRange protocol d f = bare_one _
+bare_single link Proto protocol d f = bare_one _
 
-bare_hosts : (link : Link) (hosts : Hosts) (bs : List ℕ) → Searchable hosts.addresses → Bare (formula_by link hosts bs)
-bare_hosts link hosts [] h = bare_several link hosts.protocol hosts h
-bare_hosts link hosts (b ∷ []) h = bare_net link hosts.protocol (net_test hosts.direction None hosts.first)
-bare_hosts link hosts (b ∷ c ∷ bs) h = bare_several link hosts.protocol hosts h
+bare_group : (link : Link) (group : Group) (bs : List ℕ) → Searchable group.numbers → Bare (formula_by link group bs)
+bare_group link group [] h = bare_several link group.value_type group.protocol group.direction group.first group.numbers h
+bare_group link group (b ∷ []) h = bare_single link group.value_type group.protocol group.direction group.first
+bare_group link group (b ∷ c ∷ bs) h = bare_several link group.value_type group.protocol group.direction group.first group.numbers h
 
 -- and no more tests than they have one by one
-abbrev pub hosts_tests : Hosts → ℕ
-hosts_tests hosts = length hosts.addresses * count.ip4_tests hosts.protocol hosts.direction
+abbrev member_tests : ValueType → Option Protocol → Direction → ℕ
+member_tests Host protocol d = count.ip4_tests protocol d
+member_tests Port protocol d = count.port_tests protocol d 1
+member_tests _ protocol d = 1
 
-several_tests : (link : Link) (protocol : Option Protocol) (d : Direction) (f : ℕ) (bs : List ℕ) → 2 ≤ length bs → tests (several_formula link protocol (record { protocol = protocol; direction = d; first = f; addresses = bs })) ≤ length bs * count.ip4_tests protocol d
-several_tests link None (direction.One Source) f bs l = omega arith
-several_tests link None (direction.One Destination) f bs l = omega arith
-several_tests link None (direction.Both Or) f bs l = omega arith
-several_tests link None (direction.Both And) f bs l = omega arith
-several_tests link (Some Ip) (direction.One Source) f bs l = omega arith
-several_tests link (Some Ip) (direction.One Destination) f bs l = omega arith
-several_tests link (Some Ip) (direction.Both Or) f bs l = omega arith
-several_tests link (Some Ip) (direction.Both And) f bs l = omega arith
-several_tests link (Some _) (direction.One Source) f bs l = omega arith
-several_tests link (Some _) (direction.One Destination) f bs l = omega arith
-several_tests link (Some _) (direction.Both j) f bs l = omega arith
+abbrev pub group_tests : Group → ℕ
+group_tests group = length group.numbers * member_tests group.value_type group.protocol group.direction
 
-hosts_tests_fit : (link : Link) (hosts : Hosts) (bs : List ℕ) → hosts.addresses ≡ bs → 0 < length bs → tests (formula_by link hosts bs) ≤ hosts_tests hosts
-hosts_tests_fit link hosts [] e l = absurd (omega arith)
-hosts_tests_fit link hosts (b ∷ []) e l =
-    let t = net_tests_fit link hosts.protocol hosts.direction None hosts.first in
-    let m : 1 * count.ip4_tests hosts.protocol hosts.direction ≡ hosts_tests hosts = ap (λ xs. length xs * count.ip4_tests hosts.protocol hosts.direction) (sym e) in
+several_hosts_tests : (link : Link) (protocol : Option Protocol) (d : Direction) (f : ℕ) (bs : List ℕ) → 2 ≤ length bs → tests (hosts_formula link protocol d f bs) ≤ length bs * count.ip4_tests protocol d
+several_hosts_tests link None (direction.One Source) f bs l = omega arith
+several_hosts_tests link None (direction.One Destination) f bs l = omega arith
+several_hosts_tests link None (direction.Both Or) f bs l = omega arith
+several_hosts_tests link None (direction.Both And) f bs l = omega arith
+several_hosts_tests link (Some Ip) (direction.One Source) f bs l = omega arith
+several_hosts_tests link (Some Ip) (direction.One Destination) f bs l = omega arith
+several_hosts_tests link (Some Ip) (direction.Both Or) f bs l = omega arith
+several_hosts_tests link (Some Ip) (direction.Both And) f bs l = omega arith
+several_hosts_tests link (Some _) (direction.One Source) f bs l = omega arith
+several_hosts_tests link (Some _) (direction.One Destination) f bs l = omega arith
+several_hosts_tests link (Some _) (direction.Both j) f bs l = omega arith
+
+several_ports_tests : (link : Link) (protocol : Option Protocol) (d : Direction) (f : ℕ) (bs : List ℕ) → 2 ≤ length bs → tests (port_formula link (port_test protocol d (Several f)) bs) ≤ length bs * count.port_tests protocol d 1
+several_ports_tests link None (direction.One Source) f bs l = let t = port_tests_by link None (direction.One Source) (Several f) bs in omega arith
+several_ports_tests link None (direction.One Destination) f bs l = let t = port_tests_by link None (direction.One Destination) (Several f) bs in omega arith
+several_ports_tests link None (direction.Both Or) f bs l = let t = port_tests_by link None (direction.Both Or) (Several f) bs in omega arith
+several_ports_tests link None (direction.Both And) f bs l = let t = port_tests_by link None (direction.Both And) (Several f) bs in omega arith
+several_ports_tests link (Some q) (direction.One Source) f bs l = let t = port_tests_by link (Some q) (direction.One Source) (Several f) bs in omega arith
+several_ports_tests link (Some q) (direction.One Destination) f bs l = let t = port_tests_by link (Some q) (direction.One Destination) (Several f) bs in omega arith
+several_ports_tests link (Some q) (direction.Both Or) f bs l = let t = port_tests_by link (Some q) (direction.Both Or) (Several f) bs in omega arith
+several_ports_tests link (Some q) (direction.Both And) f bs l = let t = port_tests_by link (Some q) (direction.Both And) (Several f) bs in omega arith
+
+several_tests : (link : Link) (k : ValueType) (protocol : Option Protocol) (d : Direction) (f : ℕ) (bs : List ℕ) → 2 ≤ length bs → tests (several_formula link k protocol d f bs) ≤ length bs * member_tests k protocol d
+several_tests link Host protocol d f bs l = several_hosts_tests link protocol d f bs l
+several_tests link Port protocol d f bs l = several_ports_tests link protocol d f bs l
+several_tests link Net protocol d f bs l = omega arith
+several_tests link PortRange protocol d f bs l = omega arith
+several_tests link Proto protocol d f bs l = omega arith
+
+one_tests : (link : Link) (k : ValueType) (protocol : Option Protocol) (d : Direction) (f : ℕ) → tests (one_formula link k protocol d f) ≤ member_tests k protocol d
+one_tests link Host protocol d f = net_tests_fit link protocol d None f
+one_tests link Port protocol d f = port_tests_fit link protocol d (One f) tt
+one_tests link Net protocol d f = omega arith
+one_tests link PortRange protocol d f = omega arith
+one_tests link Proto protocol d f = omega arith
+
+group_tests_fit : (link : Link) (group : Group) (bs : List ℕ) → group.numbers ≡ bs → 0 < length bs → tests (formula_by link group bs) ≤ group_tests group
+group_tests_fit link group [] e l = absurd (omega arith)
+group_tests_fit link group (b ∷ []) e l =
+    let t = one_tests link group.value_type group.protocol group.direction group.first in
+    let m : 1 * member_tests group.value_type group.protocol group.direction ≡ group_tests group = ap (λ xs. length xs * member_tests group.value_type group.protocol group.direction) (sym e) in
     omega arith
-hosts_tests_fit link hosts (b ∷ c ∷ bs) e l =
-    let n : length hosts.addresses ≡ length (b ∷ c ∷ bs) = ap length e in
-    several_tests link hosts.protocol hosts.direction hosts.first hosts.addresses (omega arith)
+group_tests_fit link group (b ∷ c ∷ bs) e l =
+    let n : length group.numbers ≡ length (b ∷ c ∷ bs) = ap length e in
+    several_tests link group.value_type group.protocol group.direction group.first group.numbers (omega arith)
 
--- what is read of a truth, or else of the hosts behind it
+-- what is read of a truth, or else of the group behind it
 abbrev pub or_reads : List ℕ → Reading → Reading → Reading
 or_reads [] r s = r
 or_reads (b ∷ bs) r s = either r s
 
--- a formula f stands for a formula g with at most t tests, or else for hosts with a formula o and at most u tests
+-- a formula f stands for a formula g with at most t tests, or else for a group with a formula o and at most u tests
 pub record Stands (link : Link) (f g : Formula) (t : ℕ) (bs : List ℕ) (o : Formula) (u : ℕ) : Type 0 where
   pub nodes_are : nodes f ≡ nodes g
   pub words_are : words f ≡ words g
@@ -106,8 +141,8 @@ pub record Stands (link : Link) (f g : Formula) (t : ℕ) (bs : List ℕ) (o : F
   pub tests_fit : tests f ≤ t + u
   pub reads_are : (p : List ℕ) (n : ℕ) → reads link f p n ≡ or_reads bs (reads link g p n) (reads link o p n)
 
-abbrev pub StandsBy : Link → Formula → Formula → ℕ → Hosts → Type 0
-StandsBy link f g t hosts = Stands link f g t hosts.addresses (hosts_formula link hosts) (hosts_tests hosts)
+abbrev pub StandsBy : Link → Formula → Formula → ℕ → Group → Type 0
+StandsBy link f g t group = Stands link f g t group.numbers (group_formula link group) (group_tests group)
 
 or_stands_by : (link : Link) (f g : Formula) (t : ℕ) (o : Formula) (u : ℕ) (bs : List ℕ) → Stands link f g t [] o 0 → (0 < length bs → Bare o × (tests o ≤ u)) → Stands link (or_any f o bs) g t bs o u
 or_stands_by link f g t o u [] h k =
@@ -132,25 +167,46 @@ searchable_if : (bs : List ℕ) → 0 < length bs → Ascending bs → Searchabl
 searchable_if [] l h = absurd (omega arith)
 searchable_if (b ∷ bs) l h = h
 
-hosts_fit : (link : Link) (hosts : Hosts) → Kept hosts → 0 < length hosts.addresses → Bare (hosts_formula link hosts) × (tests (hosts_formula link hosts) ≤ hosts_tests hosts)
-hosts_fit link hosts h l =
-    (bare_hosts link hosts hosts.addresses (searchable_if hosts.addresses l h.ascending), hosts_tests_fit link hosts hosts.addresses refl l)
+group_fit : (link : Link) (group : Group) → Kept group → 0 < length group.numbers → Bare (group_formula link group) × (tests (group_formula link group) ≤ group_tests group)
+group_fit link group h l =
+    (bare_group link group group.numbers (searchable_if group.numbers l h.ascending), group_tests_fit link group group.numbers refl l)
 
--- hosts behind a formula that stands for another
-or_stands : (link : Link) (f g : Formula) (t : ℕ) (hosts : Hosts) → Kept hosts → Stands link f g t [] (hosts_formula link no_hosts) 0 → StandsBy link (or_hosts link f hosts) g t hosts
-or_stands link f g t hosts k h =
-    or_stands_by link f g t (hosts_formula link hosts) (hosts_tests hosts) hosts.addresses
+-- a group behind a formula that stands for another
+or_stands : (link : Link) (f g : Formula) (t : ℕ) (group : Group) → Kept group → Stands link f g t [] (group_formula link no_group) 0 → StandsBy link (or_group link f group) g t group
+or_stands link f g t group k h =
+    or_stands_by link f g t (group_formula link group) (group_tests group) group.numbers
     (record { nodes_are = h.nodes_are; words_are = h.words_are; apt = h.apt; tests_fit = h.tests_fit; reads_are = h.reads_are })
-    (λ l. hosts_fit link hosts k l)
+    (λ l. group_fit link group k l)
 
--- which hosts go together
+-- which members go together
 protocols_are : (a b : Option Protocol) → same_protocol a b ≡ true → (b ≡ a) × Common a
 protocols_are None None e = (refl, tt)
 protocols_are None (Some q) e = cc
 protocols_are (Some Ip) None e = cc
 protocols_are (Some Ip) (Some Ip) e = (refl, tt)
 protocols_are (Some Ip) (Some _) e = cc
+protocols_are (Some Tcp) None e = cc
+protocols_are (Some Tcp) (Some Tcp) e = (refl, tt)
+protocols_are (Some Tcp) (Some _) e = cc
+protocols_are (Some Udp) None e = cc
+protocols_are (Some Udp) (Some Udp) e = (refl, tt)
+protocols_are (Some Udp) (Some _) e = cc
 protocols_are (Some _) b e = cc
+
+types_are : (a b : ValueType) → same_type a b ≡ true → b ≡ a
+types_are Host Host e = refl
+types_are Port Port e = refl
+types_are Host Port e = cc
+types_are Host Net e = cc
+types_are Host PortRange e = cc
+types_are Host Proto e = cc
+types_are Port Host e = cc
+types_are Port Net e = cc
+types_are Port PortRange e = cc
+types_are Port Proto e = cc
+types_are Net b e = cc
+types_are PortRange b e = cc
+types_are Proto b e = cc
 
 directions_are : (a b : Direction) → same_direction a b ≡ true → (b ≡ a) × Merged a
 directions_are (direction.One Source) (direction.One Source) e = (refl, tt)
@@ -164,36 +220,40 @@ directions_are (direction.Both Or) (direction.One s) e = cc
 directions_are (direction.Both Or) (direction.Both And) e = cc
 directions_are (direction.Both And) b e = cc
 
--- the formula of a host, and its tests
-host_formula_is : (link : Link) (k : ValueType) (p : Option Protocol) (d : Direction) (v : Value) (a : ℕ) → host_address k v ≡ Some a → value_formula link k p d v ≡ net_formula link p (net_test d None a)
-host_formula_is link Host p d (value.Dotted x m) a e = let same : x.address ≡ a = cc in ap (λ y. net_formula link p (net_test d None y)) same
-host_formula_is link Host p d (value.Number n m) a e = cc
-host_formula_is link Host p d (value.Ip6 x n) a e = cc
-host_formula_is link Host p d (value.Mac x) a e = cc
-host_formula_is link Host p d (value.Range x y) a e = cc
-host_formula_is link Net p d v a e = cc
-host_formula_is link Port p d v a e = cc
-host_formula_is link PortRange p d v a e = cc
-host_formula_is link Proto p d v a e = cc
+-- the formula of a member, and its tests
+member_formula_is : (link : Link) (k : ValueType) (p : Option Protocol) (d : Direction) (v : Value) (a : ℕ) → member_number k v ≡ Some a → value_formula link k p d v ≡ one_formula link k p d a
+member_formula_is link Host p d (value.Dotted x m) a e = let same : x.address ≡ a = cc in ap (λ y. net_formula link p (net_test d None y)) same
+member_formula_is link Host p d (value.Number n m) a e = cc
+member_formula_is link Host p d (value.Ip6 x n) a e = cc
+member_formula_is link Host p d (value.Mac x) a e = cc
+member_formula_is link Host p d (value.Range x y) a e = cc
+member_formula_is link Port p d (value.Number n m) a e = let same : n ≡ a = cc in ap (λ y. port_formula link (port_test p d (One y)) []) same
+member_formula_is link Port p d (value.Dotted x m) a e = cc
+member_formula_is link Port p d (value.Ip6 x n) a e = cc
+member_formula_is link Port p d (value.Mac x) a e = cc
+member_formula_is link Port p d (value.Range x y) a e = cc
+member_formula_is link Net p d v a e = cc
+member_formula_is link PortRange p d v a e = cc
+member_formula_is link Proto p d v a e = cc
 
-host_tests_are : (k : ValueType) (p : Option Protocol) (d : Direction) (v : Value) (a : ℕ) → host_address k v ≡ Some a → count.typed_tests k p d v ≡ count.ip4_tests p d
-host_tests_are Host p d (value.Dotted x m) a e = refl
-host_tests_are Host p d (value.Number n m) a e = cc
-host_tests_are Host p d (value.Ip6 x n) a e = cc
-host_tests_are Host p d (value.Mac x) a e = cc
-host_tests_are Host p d (value.Range x y) a e = cc
-host_tests_are Net p d v a e = cc
-host_tests_are Port p d v a e = cc
-host_tests_are PortRange p d v a e = cc
-host_tests_are Proto p d v a e = cc
+member_tests_are : (k : ValueType) (p : Option Protocol) (d : Direction) (v : Value) (a : ℕ) → member_number k v ≡ Some a → count.typed_tests k p d v ≡ member_tests k p d
+member_tests_are Host p d (value.Dotted x m) a e = refl
+member_tests_are Host p d (value.Number n m) a e = cc
+member_tests_are Host p d (value.Ip6 x n) a e = cc
+member_tests_are Host p d (value.Mac x) a e = cc
+member_tests_are Host p d (value.Range x y) a e = cc
+member_tests_are Port p d v a e = refl
+member_tests_are Net p d v a e = cc
+member_tests_are PortRange p d v a e = cc
+member_tests_are Proto p d v a e = cc
 
-several_is : (link : Link) (hosts : Hosts) (bs : List ℕ) → 2 ≤ length bs → formula_by link hosts bs ≡ several_formula link hosts.protocol hosts
-several_is link hosts [] l = absurd (omega arith)
-several_is link hosts (b ∷ []) l = absurd (omega arith)
-several_is link hosts (b ∷ c ∷ bs) l = refl
+several_is : (link : Link) (group : Group) (bs : List ℕ) → 2 ≤ length bs → formula_by link group bs ≡ several_formula link group.value_type group.protocol group.direction group.first group.numbers
+several_is link group [] l = absurd (omega arith)
+several_is link group (b ∷ []) l = absurd (omega arith)
+several_is link group (b ∷ c ∷ bs) l = refl
 
-abbrev hosts_of : Option Protocol → Direction → ℕ → List ℕ → Hosts
-hosts_of protocol d f bs = record { protocol = protocol; direction = d; first = f; addresses = bs }
+abbrev group_of : ValueType → Option Protocol → Direction → ℕ → List ℕ → Group
+group_of k protocol d f bs = record { value_type = k; protocol = protocol; direction = d; first = f; numbers = bs }
 
 one_address : (f b : ℕ) → is_one_of f (b ∷ []) ≡ true → f ≡ b
 one_address f b e = by_test (f == b) refl e
@@ -202,78 +262,92 @@ one_address f b e = by_test (f == b) refl e
     by_test true g h = grind (arith, nat_tests)
     by_test false g h = cc
 
+-- a value that goes with members has their type, protocol and direction
+record SameQuals (q : FullQuals) (k : ValueType) (protocol : Option Protocol) (d : Direction) : Type 0 where
+  types : k ≡ q.value_type
+  protocols : protocol ≡ q.protocol
+  directions : d ≡ q.direction
+  common : Common q.protocol
+  merged : Merged q.direction
+
+same_quals : (q : FullQuals) (k : ValueType) (protocol : Option Protocol) (d : Direction) (bs : List ℕ) → (same_type q.value_type k && (same_protocol q.protocol protocol && (same_direction q.direction d && nat_lt (length bs) MOST_TOGETHER))) ≡ true → SameQuals q k protocol d
+same_quals q k protocol d bs g =
+    let few = nat_lt (length bs) MOST_TOGETHER in
+    let b = both_true (same_type q.value_type k) (same_protocol q.protocol protocol && (same_direction q.direction d && few)) g in
+    let c = both_true (same_protocol q.protocol protocol) (same_direction q.direction d && few) b.1 in
+    let sp = protocols_are q.protocol protocol c.0 in
+    let sd = directions_are q.direction d (both_true (same_direction q.direction d) few c.1).0 in
+    record { types = types_are q.value_type k b.0; protocols = sp.0; directions = sd.0; common = sp.1; merged = sd.1 }
+
 -- one more of the same reads as it, or else the others
 module _ (link : Link) (p : List ℕ) (n : ℕ) where
-  others_read : (protocol : Option Protocol) (d : Direction) (f b : ℕ) (bs : List ℕ) → Common protocol → Merged d → is_one_of f (b ∷ bs) ≡ true → together link p n protocol d f (b ∷ bs) ≡ reads link (hosts_formula link (hosts_of protocol d f (b ∷ bs))) p n
-  others_read protocol d f b [] c m h =
-      ap (λ x. together link p n protocol d f (x ∷ [])) (sym (one_address f b h)) ∙ sym (plain_together link p n protocol d f c m)
-  others_read protocol d f b (x ∷ bs) c m h = refl
+  others_read : (k : ValueType) (protocol : Option Protocol) (d : Direction) (f b : ℕ) (bs : List ℕ) → Common protocol → Merged d → is_one_of f (b ∷ bs) ≡ true → together link p n k protocol d f (b ∷ bs) ≡ reads link (group_formula link (group_of k protocol d f (b ∷ bs))) p n
+  others_read k protocol d f b [] c m h =
+      ap (λ x. together link p n k protocol d f (x ∷ [])) (sym (one_address f b h)) ∙ sym (plain_together link p n k protocol d f c m)
+  others_read k protocol d f b (x ∷ bs) c m h = refl
 
-  same_more : (protocol : Option Protocol) (d : Direction) (a f b : ℕ) (bs : List ℕ) → Common protocol → Merged d → is_one_of f (b ∷ bs) ≡ true → reads link (hosts_formula link (hosts_of protocol d a (inserted a (b ∷ bs)))) p n ≡ either (reads link (net_formula link protocol (net_test d None a)) p n) (reads link (hosts_formula link (hosts_of protocol d f (b ∷ bs))) p n)
-  same_more protocol d a f b bs c m h =
+  same_more : (k : ValueType) (protocol : Option Protocol) (d : Direction) (a f b : ℕ) (bs : List ℕ) → Common protocol → Merged d → is_one_of f (b ∷ bs) ≡ true → reads link (group_formula link (group_of k protocol d a (inserted a (b ∷ bs)))) p n ≡ either (reads link (one_formula link k protocol d a) p n) (reads link (group_formula link (group_of k protocol d f (b ∷ bs))) p n)
+  same_more k protocol d a f b bs c m h =
       let l = length_inserted a (b ∷ bs) in
-      ap (λ g. reads link g p n) (several_is link (hosts_of protocol d a (inserted a (b ∷ bs))) (inserted a (b ∷ bs)) (omega arith))
-      ∙ more_together link p n protocol d a f (b ∷ bs) c m h
-      ∙ ap (λ r. either r (together link p n protocol d f (b ∷ bs))) (sym (plain_together link p n protocol d a c m))
-      ∙ ap (λ r. either (reads link (net_formula link protocol (net_test d None a)) p n) r) (others_read protocol d f b bs c m h)
+      ap (λ g. reads link g p n) (several_is link (group_of k protocol d a (inserted a (b ∷ bs))) (inserted a (b ∷ bs)) (omega arith))
+      ∙ more_together link p n k protocol d a f (b ∷ bs) m h
+      ∙ ap (λ r. either r (together link p n k protocol d f (b ∷ bs))) (sym (plain_together link p n k protocol d a c m))
+      ∙ ap (λ r. either (reads link (one_formula link k protocol d a) p n) r) (others_read k protocol d f b bs c m h)
 
-  with_host_reads : (q : FullQuals) (a : ℕ) (protocol : Option Protocol) (d : Direction) (f : ℕ) (bs : List ℕ) → goes_with q (hosts_of protocol d f bs) bs ≡ true → (0 < length bs → is_one_of f bs ≡ true) → reads link (hosts_formula link (with_host q a (hosts_of protocol d f bs))) p n ≡ or_reads bs (reads link (net_formula link q.protocol (net_test q.direction None a)) p n) (reads link (hosts_formula link (hosts_of protocol d f bs)) p n)
-  with_host_reads q a protocol d f [] g h = refl
-  with_host_reads q a protocol d f (b ∷ bs) g h =
-      let both = both_true (same_protocol q.protocol protocol) (same_direction q.direction d && nat_lt (length (b ∷ bs)) MOST_HOSTS) g in
-      let sp = protocols_are q.protocol protocol both.0 in
-      let sd = directions_are q.direction d (both_true (same_direction q.direction d) (nat_lt (length (b ∷ bs)) MOST_HOSTS) both.1).0 in
-      let one = reads link (net_formula link q.protocol (net_test q.direction None a)) p n in
-      same_more q.protocol q.direction a f b bs sp.1 sd.1 (h (omega arith))
-      ∙ ap (λ x. either one (reads link (hosts_formula link (hosts_of x q.direction f (b ∷ bs))) p n)) (sym sp.0)
-      ∙ ap (λ x. either one (reads link (hosts_formula link (hosts_of protocol x f (b ∷ bs))) p n)) (sym sd.0)
+  with_member_reads : (q : FullQuals) (a : ℕ) (k : ValueType) (protocol : Option Protocol) (d : Direction) (f : ℕ) (bs : List ℕ) → goes_with q (group_of k protocol d f bs) bs ≡ true → (0 < length bs → is_one_of f bs ≡ true) → reads link (group_formula link (with_member q a (group_of k protocol d f bs))) p n ≡ or_reads bs (reads link (one_formula link q.value_type q.protocol q.direction a) p n) (reads link (group_formula link (group_of k protocol d f bs)) p n)
+  with_member_reads q a k protocol d f [] g h = refl
+  with_member_reads q a k protocol d f (b ∷ bs) g h =
+      let s = same_quals q k protocol d (b ∷ bs) g in
+      let one = reads link (one_formula link q.value_type q.protocol q.direction a) p n in
+      same_more q.value_type q.protocol q.direction a f b bs s.common s.merged (h (omega arith))
+      ∙ ap (λ x. either one (reads link (group_formula link (group_of x q.protocol q.direction f (b ∷ bs))) p n)) (sym s.types)
+      ∙ ap (λ x. either one (reads link (group_formula link (group_of k x q.direction f (b ∷ bs))) p n)) (sym s.protocols)
+      ∙ ap (λ x. either one (reads link (group_formula link (group_of k protocol x f (b ∷ bs))) p n)) (sym s.directions)
 
--- what a host and those behind it are, and how they read
-record Taken (link : Link) (q : FullQuals) (v : Value) (hosts more : Hosts) : Type 0 where
+-- what a member and those behind it are, and how they read
+record Taken (link : Link) (q : FullQuals) (v : Value) (group more : Group) : Type 0 where
   kept : Kept more
-  some : 0 < length more.addresses
-  tests_fit : hosts_tests more ≤ count.value_tests q v + hosts_tests hosts
-  reads_are : (p : List ℕ) (n : ℕ) → reads link (hosts_formula link more) p n ≡ or_reads hosts.addresses (reads link (qualified_formula link q v) p n) (reads link (hosts_formula link hosts) p n)
+  some : 0 < length more.numbers
+  tests_fit : group_tests more ≤ count.value_tests q v + group_tests group
+  reads_are : (p : List ℕ) (n : ℕ) → reads link (group_formula link more) p n ≡ or_reads group.numbers (reads link (qualified_formula link q v) p n) (reads link (group_formula link group) p n)
 
 more_times : (n k m : ℕ) → m ≡ n + 1 → m * k ≡ k + n * k
 more_times n k m e = ap (λ x. x * k) e ∙ omega arith
 
-with_host_tests : (q : FullQuals) (a : ℕ) (protocol : Option Protocol) (d : Direction) (f : ℕ) (bs : List ℕ) → goes_with q (hosts_of protocol d f bs) bs ≡ true → hosts_tests (with_host q a (hosts_of protocol d f bs)) ≤ count.ip4_tests q.protocol q.direction + hosts_tests (hosts_of protocol d f bs)
-with_host_tests q a protocol d f [] g = omega arith
-with_host_tests q a protocol d f (b ∷ bs) g =
-    let both = both_true (same_protocol q.protocol protocol) (same_direction q.direction d && nat_lt (length (b ∷ bs)) MOST_HOSTS) g in
-    let sp = (protocols_are q.protocol protocol both.0).0 in
-    let sd = (directions_are q.direction d (both_true (same_direction q.direction d) (nat_lt (length (b ∷ bs)) MOST_HOSTS) both.1).0).0 in
-    let m = more_times (length (b ∷ bs)) (count.ip4_tests q.protocol q.direction) (length (inserted a (b ∷ bs))) (length_inserted a (b ∷ bs)) in
-    let same : length (b ∷ bs) * count.ip4_tests protocol d ≡ length (b ∷ bs) * count.ip4_tests q.protocol q.direction =
-    ap (λ x. length (b ∷ bs) * count.ip4_tests x d) sp ∙ ap (λ x. length (b ∷ bs) * count.ip4_tests q.protocol x) sd in
+with_member_tests : (q : FullQuals) (a : ℕ) (k : ValueType) (protocol : Option Protocol) (d : Direction) (f : ℕ) (bs : List ℕ) → goes_with q (group_of k protocol d f bs) bs ≡ true → group_tests (with_member q a (group_of k protocol d f bs)) ≤ member_tests q.value_type q.protocol q.direction + group_tests (group_of k protocol d f bs)
+with_member_tests q a k protocol d f [] g = omega arith
+with_member_tests q a k protocol d f (b ∷ bs) g =
+    let s = same_quals q k protocol d (b ∷ bs) g in
+    let m = more_times (length (b ∷ bs)) (member_tests q.value_type q.protocol q.direction) (length (inserted a (b ∷ bs))) (length_inserted a (b ∷ bs)) in
+    let same : length (b ∷ bs) * member_tests k protocol d ≡ length (b ∷ bs) * member_tests q.value_type q.protocol q.direction =
+    ap (λ x. length (b ∷ bs) * member_tests x protocol d) s.types ∙ ap (λ x. length (b ∷ bs) * member_tests q.value_type x d) s.protocols ∙ ap (λ x. length (b ∷ bs) * member_tests q.value_type q.protocol x) s.directions in
     omega arith
 
-some_is : (a b : Hosts) → Some a ≡ Some b → a ≡ b
+some_is : (a b : Group) → Some a ≡ Some b → a ≡ b
 some_is a b e = cc
 
-taken : (link : Link) (q : FullQuals) (v : Value) (hosts more : Hosts) → Kept hosts → more_hosts q v hosts ≡ Some more → Taken link q v hosts more
-taken link q v hosts more k e = by_address (host_address q.value_type v) refl e
+taken : (link : Link) (q : FullQuals) (v : Value) (group more : Group) → Kept group → larger_group q v group ≡ Some more → Taken link q v group more
+taken link q v group more k e = by_address (member_number q.value_type v) refl e
   where
-    by_test : (a : ℕ) (t : Bool) → host_address q.value_type v ≡ Some a → goes_with q hosts hosts.addresses ≡ t → (if t then Some (with_host q a hosts) else None) ≡ Some more → Taken link q v hosts more
+    by_test : (a : ℕ) (t : Bool) → member_number q.value_type v ≡ Some a → goes_with q group group.numbers ≡ t → (if t then Some (with_member q a group) else None) ≡ Some more → Taken link q v group more
     by_test a false h g e = cc
     by_test a true h g e =
-        let same = some_is (with_host q a hosts) more e in
-        let l = length_inserted a hosts.addresses in
-        let t = with_host_tests q a hosts.protocol hosts.direction hosts.first hosts.addresses g in
-        let u = host_tests_are q.value_type q.protocol q.direction v a h in
-        let f = host_formula_is link q.value_type q.protocol q.direction v a h in
-        subst (λ (m : Hosts). Taken link q v hosts m) same (record {
-          kept = kept_with q a hosts k;
+        let same = some_is (with_member q a group) more e in
+        let l = length_inserted a group.numbers in
+        let t = with_member_tests q a group.value_type group.protocol group.direction group.first group.numbers g in
+        let u = member_tests_are q.value_type q.protocol q.direction v a h in
+        let f = member_formula_is link q.value_type q.protocol q.direction v a h in
+        subst (λ (m : Group). Taken link q v group m) same (record {
+          kept = kept_with q a group k;
           some = omega arith;
           tests_fit = omega arith;
-          reads_are = λ p n. with_host_reads link p n q a hosts.protocol hosts.direction hosts.first hosts.addresses g k.first
-              ∙ ap (λ (x : Formula). or_reads hosts.addresses (reads link x p n) (reads link (hosts_formula link hosts) p n)) (sym f);
+          reads_are = λ p n. with_member_reads link p n q a group.value_type group.protocol group.direction group.first group.numbers g k.first
+              ∙ ap (λ (x : Formula). or_reads group.numbers (reads link x p n) (reads link (group_formula link group) p n)) (sym f);
         })
 
-    by_address : (o : Option ℕ) → host_address q.value_type v ≡ o → hosts_and q hosts o ≡ Some more → Taken link q v hosts more
+    by_address : (o : Option ℕ) → member_number q.value_type v ≡ o → group_and q group o ≡ Some more → Taken link q v group more
     by_address None h e = cc
-    by_address (Some a) h e = by_test a (goes_with q hosts hosts.addresses) h refl e
+    by_address (Some a) h e = by_test a (goes_with q group group.numbers) h refl e
 
 -- readings behind readings
 or_again : (bs : List ℕ) (a b o : Reading) → either a (or_reads bs b o) ≡ or_reads bs (either a b) o
@@ -286,16 +360,16 @@ or_some : (bs : List ℕ) (a o : Reading) → 0 < length bs → or_reads bs a o 
 or_some [] a o l = absurd (omega arith)
 or_some (b ∷ bs) a o l = refl
 
-leaf_stands : (link : Link) (a : TruthTree) (hosts : Hosts) → Kept hosts → any_primitive is_unfilled a ≡ false → StandsBy link (or_hosts link (formula link a) hosts) (formula link a) (count.truth_tests a) hosts
-leaf_stands link a hosts k u =
-    or_stands link (formula link a) (formula link a) (count.truth_tests a) hosts k
+leaf_stands : (link : Link) (a : TruthTree) (group : Group) → Kept group → any_primitive is_unfilled a ≡ false → StandsBy link (or_group link (formula link a) group) (formula link a) (count.truth_tests a) group
+leaf_stands link a group k u =
+    or_stands link (formula link a) (formula link a) (count.truth_tests a) group k
     (record { nodes_are = refl; words_are = refl; apt = λ p. formula_apt p link a; tests_fit = let l = tests_fit link a u in omega arith; reads_are = λ p n. refl })
 
-value_stands : (link : Link) (q : FullQuals) (v : Value) (hosts : Hosts) → Kept hosts → any_primitive is_unfilled (qualified q v) ≡ false → (o : Option Hosts) → more_hosts q v hosts ≡ o → StandsBy link (choice o (λ more. hosts_formula link more) (or_hosts link (qualified_formula link q v) hosts)) (qualified_formula link q v) (count.value_tests q v) hosts
-value_stands link q v hosts k u None e = leaf_stands link (qualified q v) hosts k u
-value_stands link q v hosts k u (Some more) e =
-    let t = taken link q v hosts more k e in
-    let f = hosts_fit link more t.kept t.some in
+value_stands : (link : Link) (q : FullQuals) (v : Value) (group : Group) → Kept group → any_primitive is_unfilled (qualified q v) ≡ false → (o : Option Group) → larger_group q v group ≡ o → StandsBy link (choice o (λ more. group_formula link more) (or_group link (qualified_formula link q v) group)) (qualified_formula link q v) (count.value_tests q v) group
+value_stands link q v group k u None e = leaf_stands link (qualified q v) group k u
+value_stands link q v group k u (Some more) e =
+    let t = taken link q v group more k e in
+    let f = group_fit link more t.kept t.some in
     let n = nodes_fit link (qualified q v) in
     let w = words_fit link (qualified q v) in
     let fn = f.0.no_nodes in
@@ -304,42 +378,42 @@ value_stands link q v hosts k u (Some more) e =
     let tt' = t.tests_fit in
     record { nodes_are = omega arith; words_are = omega arith; apt = f.0.apt; tests_fit = omega arith; reads_are = t.reads_are }
 
-denied_stands : (link : Link) (a : TruthTree) (hosts : Hosts) → Kept hosts → StandsBy link (grouped link no_hosts a) (formula link a) (count.truth_tests a) no_hosts → StandsBy link (or_hosts link (Except (grouped link no_hosts a)) hosts) (Except (formula link a)) (count.truth_tests a) hosts
-denied_stands link a hosts k h =
-    or_stands link (Except (grouped link no_hosts a)) (Except (formula link a)) (count.truth_tests a) hosts k
+denied_stands : (link : Link) (a : TruthTree) (group : Group) → Kept group → StandsBy link (grouped link no_group a) (formula link a) (count.truth_tests a) no_group → StandsBy link (or_group link (Except (grouped link no_group a)) group) (Except (formula link a)) (count.truth_tests a) group
+denied_stands link a group k h =
+    or_stands link (Except (grouped link no_group a)) (Except (formula link a)) (count.truth_tests a) group k
     (record { nodes_are = h.nodes_are; words_are = h.words_are; apt = h.apt; tests_fit = h.tests_fit; reads_are = λ p n. ap negated (h.reads_are p n) })
 
-both_stands : (link : Link) (a b : TruthTree) (hosts : Hosts) → Kept hosts → StandsBy link (grouped link no_hosts a) (formula link a) (count.truth_tests a) no_hosts → StandsBy link (grouped link no_hosts b) (formula link b) (count.truth_tests b) no_hosts → StandsBy link (or_hosts link (Both (grouped link no_hosts a) (grouped link no_hosts b)) hosts) (Both (formula link a) (formula link b)) (count.truth_tests a + count.truth_tests b) hosts
-both_stands link a b hosts k h g =
+both_stands : (link : Link) (a b : TruthTree) (group : Group) → Kept group → StandsBy link (grouped link no_group a) (formula link a) (count.truth_tests a) no_group → StandsBy link (grouped link no_group b) (formula link b) (count.truth_tests b) no_group → StandsBy link (or_group link (Both (grouped link no_group a) (grouped link no_group b)) group) (Both (formula link a) (formula link b)) (count.truth_tests a + count.truth_tests b) group
+both_stands link a b group k h g =
     let n = h.nodes_are in
     let m = g.nodes_are in
     let v = h.words_are in
     let w = g.words_are in
     let s = h.tests_fit in
     let t = g.tests_fit in
-    or_stands link (Both (grouped link no_hosts a) (grouped link no_hosts b)) (Both (formula link a) (formula link b)) (count.truth_tests a + count.truth_tests b) hosts k
+    or_stands link (Both (grouped link no_group a) (grouped link no_group b)) (Both (formula link a) (formula link b)) (count.truth_tests a + count.truth_tests b) group k
     (record {
       nodes_are = omega arith;
       words_are = omega arith;
       apt = λ p. (h.apt p, g.apt p);
       tests_fit = omega arith;
-      reads_are = λ p n. ap (λ r. both r (reads link (grouped link no_hosts b) p n)) (h.reads_are p n) ∙ ap (λ r. both (reads link (formula link a) p n) r) (g.reads_are p n);
+      reads_are = λ p n. ap (λ r. both r (reads link (grouped link no_group b) p n)) (h.reads_are p n) ∙ ap (λ r. both (reads link (formula link a) p n) r) (g.reads_are p n);
     })
 
-host_taken : (link : Link) (b : TruthTree) (hosts more : Hosts) → Kept hosts → truth_host b hosts ≡ Some more → (q : FullQuals) × (v : Value) × (b ≡ qualified q v) × Taken link q v hosts more
-host_taken link (qualified q v) hosts more k e = (q, v, refl, taken link q v hosts more k e)
-host_taken link (check p) hosts more k e = cc
-host_taken link (cast p x) hosts more k e = cc
-host_taken link (sized s n) hosts more k e = cc
-host_taken link (bare v) hosts more k e = cc
-host_taken link (valued q v) hosts more k e = cc
-host_taken link (compared x a b) hosts more k e = cc
-host_taken link (denied a) hosts more k e = cc
-host_taken link (joined j a b) hosts more k e = cc
+member_taken : (link : Link) (b : TruthTree) (group more : Group) → Kept group → truth_member b group ≡ Some more → (q : FullQuals) × (v : Value) × (b ≡ qualified q v) × Taken link q v group more
+member_taken link (qualified q v) group more k e = (q, v, refl, taken link q v group more k e)
+member_taken link (check p) group more k e = cc
+member_taken link (cast p x) group more k e = cc
+member_taken link (sized s n) group more k e = cc
+member_taken link (bare v) group more k e = cc
+member_taken link (valued q v) group more k e = cc
+member_taken link (compared x a b) group more k e = cc
+member_taken link (denied a) group more k e = cc
+member_taken link (joined j a b) group more k e = cc
 
-chain_stands : (link : Link) (a b : TruthTree) (hosts more : Hosts) (q : FullQuals) (v : Value) → b ≡ qualified q v → Taken link q v hosts more → StandsBy link (grouped link more a) (formula link a) (count.truth_tests a) more → StandsBy link (grouped link more a) (Either (formula link a) (formula link b)) (count.truth_tests a + count.truth_tests b) hosts
-chain_stands link a b hosts more q v e t h =
-    subst (λ (x : TruthTree). StandsBy link (grouped link more a) (Either (formula link a) (formula link x)) (count.truth_tests a + count.truth_tests x) hosts) (sym e)
+chain_stands : (link : Link) (a b : TruthTree) (group more : Group) (q : FullQuals) (v : Value) → b ≡ qualified q v → Taken link q v group more → StandsBy link (grouped link more a) (formula link a) (count.truth_tests a) more → StandsBy link (grouped link more a) (Either (formula link a) (formula link b)) (count.truth_tests a + count.truth_tests b) group
+chain_stands link a b group more q v e t h =
+    subst (λ (x : TruthTree). StandsBy link (grouped link more a) (Either (formula link a) (formula link x)) (count.truth_tests a + count.truth_tests x) group) (sym e)
     (let n = h.nodes_are in
     let w = h.words_are in
     let s = h.tests_fit in
@@ -352,13 +426,13 @@ chain_stands link a b hosts more q v e t h =
       apt = h.apt;
       tests_fit = omega arith;
       reads_are = λ p n. h.reads_are p n
-          ∙ or_some more.addresses (reads link (formula link a) p n) (reads link (hosts_formula link more) p n) t.some
+          ∙ or_some more.numbers (reads link (formula link a) p n) (reads link (group_formula link more) p n) t.some
           ∙ ap (λ r. either (reads link (formula link a) p n) r) (t.reads_are p n)
-          ∙ or_again hosts.addresses (reads link (formula link a) p n) (reads link (qualified_formula link q v) p n) (reads link (hosts_formula link hosts) p n);
+          ∙ or_again group.numbers (reads link (formula link a) p n) (reads link (qualified_formula link q v) p n) (reads link (group_formula link group) p n);
     })
 
-either_stands : (link : Link) (a b : TruthTree) (hosts : Hosts) → Kept hosts → (o : Option Hosts) → truth_host b hosts ≡ o → StandsBy link (grouped link no_hosts a) (formula link a) (count.truth_tests a) no_hosts → StandsBy link (grouped link hosts b) (formula link b) (count.truth_tests b) hosts → ((more : Hosts) → Kept more → StandsBy link (grouped link more a) (formula link a) (count.truth_tests a) more) → StandsBy link (choice o (λ more. grouped link more a) (Either (grouped link no_hosts a) (grouped link hosts b))) (Either (formula link a) (formula link b)) (count.truth_tests a + count.truth_tests b) hosts
-either_stands link a b hosts k None e h g m =
+either_stands : (link : Link) (a b : TruthTree) (group : Group) → Kept group → (o : Option Group) → truth_member b group ≡ o → StandsBy link (grouped link no_group a) (formula link a) (count.truth_tests a) no_group → StandsBy link (grouped link group b) (formula link b) (count.truth_tests b) group → ((more : Group) → Kept more → StandsBy link (grouped link more a) (formula link a) (count.truth_tests a) more) → StandsBy link (choice o (λ more. grouped link more a) (Either (grouped link no_group a) (grouped link group b))) (Either (formula link a) (formula link b)) (count.truth_tests a + count.truth_tests b) group
+either_stands link a b group k None e h g m =
     let n = h.nodes_are in
     let i = g.nodes_are in
     let v = h.words_are in
@@ -370,25 +444,25 @@ either_stands link a b hosts k None e h g m =
       words_are = omega arith;
       apt = λ p. (h.apt p, g.apt p);
       tests_fit = omega arith;
-      reads_are = λ p n. ap (λ r. either r (reads link (grouped link hosts b) p n)) (h.reads_are p n)
+      reads_are = λ p n. ap (λ r. either r (reads link (grouped link group b) p n)) (h.reads_are p n)
           ∙ ap (λ r. either (reads link (formula link a) p n) r) (g.reads_are p n)
-          ∙ or_again hosts.addresses (reads link (formula link a) p n) (reads link (formula link b) p n) (reads link (hosts_formula link hosts) p n);
+          ∙ or_again group.numbers (reads link (formula link a) p n) (reads link (formula link b) p n) (reads link (group_formula link group) p n);
     }
-either_stands link a b hosts k (Some more) e h g m =
-    let t = host_taken link b hosts more k e in
-    chain_stands link a b hosts more t.0 t.1 t.2 t.3 (m more (t.3).kept)
+either_stands link a b group k (Some more) e h g m =
+    let t = member_taken link b group more k e in
+    chain_stands link a b group more t.0 t.1 t.2 t.3 (m more (t.3).kept)
 
--- hosts that are looked for together change neither the reading nor what is counted
-pub grouped_stands : (link : Link) (a : TruthTree) (hosts : Hosts) → Kept hosts → any_primitive is_unfilled a ≡ false → StandsBy link (grouped link hosts a) (formula link a) (count.truth_tests a) hosts
-grouped_stands link (check p) hosts k u = leaf_stands link (check p) hosts k u
-grouped_stands link (cast p c) hosts k u = leaf_stands link (cast p c) hosts k u
-grouped_stands link (sized s n) hosts k u = leaf_stands link (sized s n) hosts k u
-grouped_stands link (bare v) hosts k u = leaf_stands link (bare v) hosts k u
-grouped_stands link (valued q v) hosts k u = leaf_stands link (valued q v) hosts k u
-grouped_stands link (qualified q v) hosts k u = value_stands link q v hosts k u (more_hosts q v hosts) refl
-grouped_stands link (compared c l r) hosts k u = leaf_stands link (compared c l r) hosts k u
-grouped_stands link (denied a) hosts k u = denied_stands link a hosts k (grouped_stands link a no_hosts kept_none u)
-grouped_stands link (joined And a b) hosts k u =
-    both_stands link a b hosts k (grouped_stands link a no_hosts kept_none (left_false _ _ u)) (grouped_stands link b no_hosts kept_none (right_false _ _ u))
-grouped_stands link (joined Or a b) hosts k u =
-    either_stands link a b hosts k (truth_host b hosts) refl (grouped_stands link a no_hosts kept_none (left_false _ _ u)) (grouped_stands link b hosts k (right_false _ _ u)) (λ more j. grouped_stands link a more j (left_false _ _ u))
+-- members that are looked for together change neither the reading nor what is counted
+pub grouped_stands : (link : Link) (a : TruthTree) (group : Group) → Kept group → any_primitive is_unfilled a ≡ false → StandsBy link (grouped link group a) (formula link a) (count.truth_tests a) group
+grouped_stands link (check p) group k u = leaf_stands link (check p) group k u
+grouped_stands link (cast p c) group k u = leaf_stands link (cast p c) group k u
+grouped_stands link (sized s n) group k u = leaf_stands link (sized s n) group k u
+grouped_stands link (bare v) group k u = leaf_stands link (bare v) group k u
+grouped_stands link (valued q v) group k u = leaf_stands link (valued q v) group k u
+grouped_stands link (qualified q v) group k u = value_stands link q v group k u (larger_group q v group) refl
+grouped_stands link (compared c l r) group k u = leaf_stands link (compared c l r) group k u
+grouped_stands link (denied a) group k u = denied_stands link a group k (grouped_stands link a no_group kept_none u)
+grouped_stands link (joined And a b) group k u =
+    both_stands link a b group k (grouped_stands link a no_group kept_none (left_false _ _ u)) (grouped_stands link b no_group kept_none (right_false _ _ u))
+grouped_stands link (joined Or a b) group k u =
+    either_stands link a b group k (truth_member b group) refl (grouped_stands link a no_group kept_none (left_false _ _ u)) (grouped_stands link b group k (right_false _ _ u)) (λ more j. grouped_stands link a more j (left_false _ _ u))

@@ -31,9 +31,9 @@ use Rattle.flt_lang.specs.Counts.{number_words, number_size}
 use Rattle.flt_gen.specs.Counts.{words, nodes, tests}
 use Rattle.flt_gen.specs.Code.{plain, indirect_code, operator_code, branch_insn, jump_before, branch_before, comparison_before, field_before, mask_before, base_before, transport_before, accessor_before, number_before, Entered, at_top, chain_before, search_before, LEVELS, elementary_before, fork_before, emitted, NEAR}
 use Rattle.flt_gen.specs.declared.follow.Knowledge.{Knowledge}
-use Rattle.flt_gen.specs.Follow.{and_fork, load_code, fact, always, and_fact, followed}
+use Rattle.flt_gen.specs.Follow.{and_fork, load_code, fact, always, and_fact, target}
 use Rattle.flt_gen.specs.declared.elementary.Elementary.{Elementary}
-use Rattle.flt_gen.proofs.Onward.{followed_inside, target_inside}
+use Rattle.flt_gen.proofs.Onward.{target_inside}
 use Rattle.flt_bpf.proofs.Suffix.{IsFaultless}
 use Rattle.flt_gen.proofs.Tails.{one_of_four, by_test}
 
@@ -224,8 +224,8 @@ elementary_sits : (known : Knowledge) (t : Elementary) (hit miss : ℕ) (c : Lis
 elementary_sits known (Known true) hit miss c s e ph lh pm lm = record { grows = grows_more c c 0 6 (omega arith) (grows_none c s e); low = ph; inside = lh }
 elementary_sits known (Known false) hit miss c s e ph lh pm lm = record { grows = grows_more c c 0 6 (omega arith) (grows_none c s e); low = pm; inside = lm }
 elementary_sits known (Field k) hit miss c s e ph lh pm lm =
-    let h = target_inside c known k true hit ph lh in
-    let m = target_inside c known k false miss pm lm in
+    let h = target_inside c known k.place (fact (Field k) true) hit ph lh in
+    let m = target_inside c known k.place (fact (Field k) false) miss pm lm in
     sits_top c _ 6 _ (omega arith) (field_grows k.place k.width c _ 4 (mask_grows k.mask c _ 3 (comparison_grows k.comparison Constant k.value _ _ c s e h.0 h.1 m.0 m.1)))
 
 -- one part of the code in front of another
@@ -319,7 +319,7 @@ emitted_sits link known (Choose t a b) hit miss c few s e ph lh pm lm =
     let st = elementary_sits known t f.entry d.entry f.code sa.grows.sound sa.grows.ends sa.low sa.inside sb.low ld in
     sits_on f (elementary_before known t f.entry d.entry f.code) c (6 * (tests b + nodes b) + 6 * (tests a + nodes a)) 6 _ (sits_on d f c (6 * (tests b + nodes b)) (6 * (tests a + nodes a)) _ sb sa (omega arith)) st (omega arith)
 emitted_sits link known (Among f vs) hit miss c few s e ph lh pm lm =
-    let h = followed_inside c known always hit ph lh in
-    let m = followed_inside c known always miss pm lm in
-    let g = search_sits LEVELS vs (followed c known always hit) (followed c known always miss) c s e h.0 h.1 m.0 m.1 in
-    sits_top c _ (3 + 6 * (length vs - 1) + 1 + 2) _ (omega arith) (field_grows (At f.at) f.width c _ (3 + 6 * (length vs - 1) + 1) (mask_grows f.mask c _ (3 + 6 * (length vs - 1)) g.grows))
+    let h = target_inside c known f.place always hit ph lh in
+    let m = target_inside c known f.place always miss pm lm in
+    let g = search_sits LEVELS vs (target c known f.place always hit) (target c known f.place always miss) c s e h.0 h.1 m.0 m.1 in
+    sits_top c _ (3 + 6 * (length vs - 1) + 1 + 2) _ (omega arith) (field_grows f.place f.width c _ (3 + 6 * (length vs - 1) + 1) (mask_grows f.mask c _ (3 + 6 * (length vs - 1)) g.grows))

@@ -37,6 +37,13 @@ pub sides_put : (link : Link) (known : Knowledge) (d : Direction) (s s' t t' : L
 sides_put link known d s s' t t' hit miss c e p q h =
     sides_emitted link known d s t hit miss c ∙ sym (ap (λ (x : List Elementary). sides_before known d x t hit miss c) p) ∙ sym (ap (λ (y : List Elementary). sides_before known d s' y hit miss c) q) ∙ h
 
+-- the code of both sides is that of a formula of ports
+pub ports_put : (r : Result ℕ AllocError) (link : Link) (known : Knowledge) (f : Formula) (d : Direction) (s s' t t' : List Elementary) (hit miss : ℕ) (c new : List Insn) → f ≡ sides d s t → s' ≡ s → t' ≡ t → IfOk r (λ entry. sides_before known d s' t' hit miss c ≡ entered new entry) → IfOk r (λ entry. emitted link known f hit miss c ≡ entered new entry)
+ports_put r link known f d s s' t t' hit miss c new is p q h =
+    let same : emitted link known f hit miss c ≡ sides_before known d s' t' hit miss c =
+    ap (λ (g : Formula). emitted link known g hit miss c) is ∙ sides_put link known d s s' t t' hit miss c (sides_before known d s' t' hit miss c) p q refl in
+    subst (λ (x : Entered). IfOk r (λ entry. x ≡ entered new entry)) (sym same) h
+
 -- a test stands in front of the code of a formula
 pub test_put : (r : Result ℕ AllocError) (link : Link) (known : Knowledge) (t t' : Elementary) (f : Formula) (hit miss : ℕ) (c new : List Insn) (e : Entered) → t' ≡ t → emitted link known f hit miss c ≡ e → IfOk r (λ entry. elementary_before known t' e.entry miss e.code ≡ entered new entry) → IfOk r (λ entry. emitted link known (Both (Single t) f) hit miss c ≡ entered new entry)
 test_put r link known t t' f hit miss c new e p q h =

@@ -14,7 +14,6 @@ use Rattle.flt_words.specs.declared.token.Comparison.{Comparison}
 use Rattle.flt_words.specs.declared.token.Comparison.TheVariants.{Equal, NotEqual, Less, AtMost, Greater, AtLeast}
 use Rattle.flt_gen.specs.declared.elementary.Place.{Place}
 use Rattle.flt_gen.specs.declared.elementary.Place.TheVariants.{At, Past}
-use Rattle.flt_gen.specs.declared.elementary.FieldTest.{FieldTest}
 use Rattle.flt_gen.specs.declared.elementary.Elementary.{Elementary}
 use Rattle.flt_gen.specs.declared.elementary.Elementary.TheVariants.{Known, Field}
 use Rattle.flt_gen.specs.declared.elementary.Fact.{Fact}
@@ -431,27 +430,26 @@ module _ (p : List ℕ) (n : ℕ) where
           ap (λ k. answer_of (i ∷ is) p n k s) one ∙ there
 
   -- a test's target has an answer wherever X is ready, which is that of the place where what is known holds
-  pub record Reached (c : List Insn) (known : Knowledge) (t : FieldTest) (truth : Bool) (u r : ℕ) : Type 0 where
+  pub record Reached (c : List Insn) (known : Knowledge) (tested : Place) (own : Fact) (u r : ℕ) : Type 0 where
     pub v : ℕ
-    pub leads : LeadsReady t.place c r v
+    pub leads : LeadsReady tested c r v
     pub inside : r ≤ length c
-    pub right : KnowledgeHolds known → elementary_reads (Field t) p ≡ outcome truth → v ≡ u
+    pub right : KnowledgeHolds known → FactHolds own → v ≡ u
 
-  pub target_leads : (c : List Insn) (known : Knowledge) (t : FieldTest) (truth : Bool) (u place : ℕ) → Settled c → place ≤ length c → Leads c place u → Reached c known t truth u (target c known t truth place)
+  pub target_leads : (c : List Insn) (known : Knowledge) (tested : Place) (own : Fact) (u place : ℕ) → Settled c → place ≤ length c → Leads c place u → Reached c known tested own u (target c known tested own place)
   unfolding target
-  target_leads c known t truth u place s l h =
-      let own = fact (Field t) truth in
+  target_leads c known tested own u place s l h =
       let f = followed_leads c known own u place s l h in
       let r = followed c known own place in
       let d = tail c r in
       let x = tail_extends c r f.inside in
       let long_is : length d ≡ r = omega (arith, length-drop (length c - r) c) in
       let top : Leads d (length d) f.v = record { by = λ t long. (let none : length d - length d ≡ 0 = omega arith in ap (λ k. answer_of d p n k t) none) ∙ answer_drop c p n (length c - r) t ∙ f.leads.by t long } in
-      let o : LeadsReady t.place d (past_index t.place r d) f.v = subst (λ m. LeadsReady t.place d (past_index t.place m d) f.v) long_is (index_leads t.place d f.v top) in
-      let i : past_index t.place r d ≤ length d = subst (λ m. past_index t.place r d ≤ m) (sym long_is) (index_most t.place r d (omega arith)) in
+      let o : LeadsReady tested d (past_index tested r d) f.v = subst (λ m. LeadsReady tested d (past_index tested m d) f.v) long_is (index_leads tested d f.v top) in
+      let i : past_index tested r d ≤ length d = subst (λ m. past_index tested r d ≤ m) (sym long_is) (index_most tested r d (omega arith)) in
       record {
         v = f.v;
-        leads = ready_on t.place d c (past_index t.place r d) f.v i x o;
+        leads = ready_on tested d c (past_index tested r d) f.v i x o;
         inside = omega (arith, i, x.longer);
         right = λ k o. f.right k o;
       }
@@ -520,13 +518,13 @@ index_inside (Past header a) place [] p l = (p, omega arith)
 index_inside (Past header a) place (i ∷ is) p l =
     by_bool (λ r. Inside place r) (i.code == 177 && i.k == header) _ _ (λ e. (omega arith, omega arith)) (λ e. (p, omega arith))
 
-pub target_inside : (c : List Insn) (known : Knowledge) (t : FieldTest) (truth : Bool) (place : ℕ) → 0 < place → place ≤ length c → Inside (length c) (target c known t truth place)
+pub target_inside : (c : List Insn) (known : Knowledge) (tested : Place) (own : Fact) (place : ℕ) → 0 < place → place ≤ length c → Inside (length c) (target c known tested own place)
 unfolding target
-target_inside c known t truth place p l =
-    let f = followed_inside c known (fact (Field t) truth) place p l in
-    let r = followed c known (fact (Field t) truth) place in
+target_inside c known tested own place p l =
+    let f = followed_inside c known own place p l in
+    let r = followed c known own place in
     let fi = f.1 in
     let long_is = length-drop (length c - r) c in
-    let i = index_inside t.place r (drop (length c - r) c) f.0 (omega arith) in
+    let i = index_inside tested r (drop (length c - r) c) f.0 (omega arith) in
     let j = i.1 in
     (i.0, omega arith)

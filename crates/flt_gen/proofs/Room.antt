@@ -7,7 +7,7 @@ use Rattle.flt_words.specs.declared.token.Join.TheVariants.{And, Or}
 use Rattle.flt_lang.specs.declared.quals.FullQuals.{FullQuals}
 use Rattle.flt_lang.specs.declared.value.Value.{Value}
 use Rattle.flt_gen.specs.Formula.{Formula}
-use Rattle.flt_gen.specs.Hosts.{Hosts, MOST_HOSTS, same_protocol, same_direction, goes_with, with_host, host_address, hosts_and, more_hosts, hosts_formula}
+use Rattle.flt_gen.specs.Group.{Group, MOST_TOGETHER, same_type, same_protocol, same_direction, goes_with, with_member, member_number, group_and, larger_group, group_formula}
 use Rattle.flt_gen.proofs.Ascending.{length_inserted}
 use Rattle.flt_gen.proofs.Onward.{both_true}
 use Rattle.flt_bpf.specs.declared.insn.Insn.{Insn}
@@ -21,7 +21,7 @@ use Rattle.flt_gen.specs.Numbers.{width_of}
 use Rattle.flt_gen.specs.Primitives.{check_formula, cast_formula, sized_formula, qualified_formula}
 use Rattle.flt_gen.specs.Follow.{nothing}
 use Rattle.flt_gen.specs.Code.{plain}
-use Rattle.flt_gen.specs.Walk.{Walk, relation_put, number_put, with_code, operands_put, formula_put, settled_by, settled, hosts_put, value_put, join_put, truth_node_put, is_truth_node, with_node, walked}
+use Rattle.flt_gen.specs.Walk.{Walk, relation_put, number_put, with_code, operands_put, formula_put, settled_by, settled, group_put, value_put, join_put, truth_node_put, is_truth_node, with_node, walked}
 use Rattle.flt_gen.proofs.Tails.{extends_none, comparison_extends, accessor_extends, emitted_extends, accessors_extend}
 
 -- each left operand that waits has a word below n
@@ -34,7 +34,7 @@ AllLow (Left s ∷ ns) n = (s ≤ n) × AllLow ns n
 pub record IsLow (w : Walk) : Type 0 where
   pub slot : w.slot ≤ length w.code
   pub waiting : AllLow w.numbers (length w.code)
-  pub few : length w.hosts.addresses ≤ MOST_HOSTS
+  pub few : length w.group.numbers ≤ MOST_TOGETHER
 
 low_more : (ns : List Waiting) (m n : ℕ) → m ≤ n → AllLow ns m → AllLow ns n
 low_more [] m n l h = tt
@@ -46,7 +46,7 @@ record Grown (w v : Walk) : Type 0 where
   low : IsLow v
   longer : length w.code ≤ length v.code
 
-grown_on : (w v : Walk) → IsLow w → length w.code ≤ length v.code → v.slot ≡ w.slot → v.numbers ≡ w.numbers → length v.hosts.addresses ≤ MOST_HOSTS → Grown w v
+grown_on : (w v : Walk) → IsLow w → length w.code ≤ length v.code → v.slot ≡ w.slot → v.numbers ≡ w.numbers → length v.group.numbers ≤ MOST_TOGETHER → Grown w v
 grown_on w v h l s n f =
     record {
       low = record { slot = let k = h.slot in omega arith; waiting = same_low v.numbers w.numbers n (low_more w.numbers (length w.code) (length v.code) l h.waiting); few = f };
@@ -99,43 +99,44 @@ formula_grown link f w h = grown_on w (formula_put link f w) h (emitted_extends 
 settled_grown : (link : Link) (w : Walk) (bs : List ℕ) → IsLow w → Grown w (settled_by link w bs)
 settled_grown link w [] h = grown_on w (settled_by link w []) h (omega arith) refl refl (omega arith)
 settled_grown link w (b ∷ bs) h =
-    grown_on w (settled_by link w (b ∷ bs)) h (emitted_extends link nothing (hosts_formula link w.hosts) w.to.yes w.to.no w.code).longer refl refl (omega arith)
+    grown_on w (settled_by link w (b ∷ bs)) h (emitted_extends link nothing (group_formula link w.group) w.to.yes w.to.no w.code).longer refl refl (omega arith)
 
--- one more host is one of the most at most
-pub more_few : (q : FullQuals) (v : Value) (hosts more : Hosts) → more_hosts q v hosts ≡ Some more → length more.addresses ≤ MOST_HOSTS
-more_few q v hosts more e = by_address (host_address q.value_type v) e
+-- with one more they are no more than the most
+pub more_few : (q : FullQuals) (v : Value) (group more : Group) → larger_group q v group ≡ Some more → length more.numbers ≤ MOST_TOGETHER
+more_few q v group more e = by_address (member_number q.value_type v) e
   where
-    some_is : (a b : Hosts) → Some a ≡ Some b → a ≡ b
+    some_is : (a b : Group) → Some a ≡ Some b → a ≡ b
     some_is a b e = cc
 
-    fits : (bs : List ℕ) → goes_with q hosts bs ≡ true → length bs < MOST_HOSTS
+    fits : (bs : List ℕ) → goes_with q group bs ≡ true → length bs < MOST_TOGETHER
     fits [] e = omega arith
     fits (b ∷ bs) e =
-        let both = both_true (same_protocol q.protocol hosts.protocol) (same_direction q.direction hosts.direction && nat_lt (length (b ∷ bs)) MOST_HOSTS) e in
-        let last = (both_true (same_direction q.direction hosts.direction) (nat_lt (length (b ∷ bs)) MOST_HOSTS) both.1).1 in
+        let types = both_true (same_type q.value_type group.value_type) (same_protocol q.protocol group.protocol && (same_direction q.direction group.direction && nat_lt (length (b ∷ bs)) MOST_TOGETHER)) e in
+        let both = both_true (same_protocol q.protocol group.protocol) (same_direction q.direction group.direction && nat_lt (length (b ∷ bs)) MOST_TOGETHER) types.1 in
+        let last = (both_true (same_direction q.direction group.direction) (nat_lt (length (b ∷ bs)) MOST_TOGETHER) both.1).1 in
         grind (arith, nat_tests)
 
-    by_test : (a : ℕ) (t : Bool) → goes_with q hosts hosts.addresses ≡ t → (if t then Some (with_host q a hosts) else None) ≡ Some more → length more.addresses ≤ MOST_HOSTS
+    by_test : (a : ℕ) (t : Bool) → goes_with q group group.numbers ≡ t → (if t then Some (with_member q a group) else None) ≡ Some more → length more.numbers ≤ MOST_TOGETHER
     by_test a false g e = cc
     by_test a true g e =
-        let same = ap (λ (h : Hosts). length h.addresses) (some_is (with_host q a hosts) more e) in
-        let n = length_inserted a hosts.addresses in
-        let l = fits hosts.addresses g in
+        let same = ap (λ (h : Group). length h.numbers) (some_is (with_member q a group) more e) in
+        let n = length_inserted a group.numbers in
+        let l = fits group.numbers g in
         omega arith
 
-    by_address : (o : Option ℕ) → hosts_and q hosts o ≡ Some more → length more.addresses ≤ MOST_HOSTS
+    by_address : (o : Option ℕ) → group_and q group o ≡ Some more → length more.numbers ≤ MOST_TOGETHER
     by_address None e = cc
-    by_address (Some a) e = by_test a (goes_with q hosts hosts.addresses) refl e
+    by_address (Some a) e = by_test a (goes_with q group group.numbers) refl e
 
-value_grown : (link : Link) (q : FullQuals) (v : Value) (w : Walk) → IsLow w → (o : Option Hosts) → more_hosts q v w.hosts ≡ o → Grown w (value_put link q v w o)
+value_grown : (link : Link) (q : FullQuals) (v : Value) (w : Walk) → IsLow w → (o : Option Group) → larger_group q v w.group ≡ o → Grown w (value_put link q v w o)
 value_grown link q v w h None e =
-    let g = settled_grown link w w.hosts.addresses h in
+    let g = settled_grown link w w.group.numbers h in
     grown_after w (settled link w) (value_put link q v w None) g (formula_grown link (qualified_formula link q v) (settled link w) g.low)
 value_grown link q v w h (Some more) e = by_chain w.chained
   where
-    by_chain : (k : Bool) → Grown w (hosts_put link w more k)
-    by_chain true = grown_on w (hosts_put link w more true) h (omega arith) refl refl (more_few q v w.hosts more e)
-    by_chain false = grown_on w (hosts_put link w more false) h (emitted_extends link nothing (hosts_formula link more) w.to.yes w.to.no w.code).longer refl refl (omega arith)
+    by_chain : (k : Bool) → Grown w (group_put link w more k)
+    by_chain true = grown_on w (group_put link w more true) h (omega arith) refl refl (more_few q v w.group more e)
+    by_chain false = grown_on w (group_put link w more false) h (emitted_extends link nothing (group_formula link more) w.to.yes w.to.no w.code).longer refl refl (omega arith)
 
 truth_grown : (link : Link) (w : Walk) (n : Node) → is_truth_node n ≡ true → IsLow w → Grown w (truth_node_put link w n)
 truth_grown link w (node.Check p) t h = formula_grown link (check_formula link p) w h
@@ -154,16 +155,16 @@ truth_grown link w (node.Load p s) t h = cc
 truth_grown link w node.Negate t h = cc
 truth_grown link w (node.Apply o) t h = cc
 
--- the hosts that wait come first
+-- the group that waits comes first
 settled_truth_grown : (link : Link) (w : Walk) (n : Node) → is_truth_node n ≡ true → IsLow w → Grown w (truth_node_put link (settled link w) n)
 settled_truth_grown link w n t h =
-    let g = settled_grown link w w.hosts.addresses h in
+    let g = settled_grown link w w.group.numbers h in
     grown_after w (settled link w) (truth_node_put link (settled link w) n) g (truth_grown link (settled link w) n t g.low)
 
 join_grown : (link : Link) (j : Join) (w : Walk) → IsLow w → Grown w (join_put link j w)
 join_grown link Or w h = grown_on w (join_put link Or w) h (omega arith) refl refl h.few
 join_grown link And w h =
-    let g = settled_grown link w w.hosts.addresses h in
+    let g = settled_grown link w w.group.numbers h in
     let l = g.low in
     grown_after w (settled link w) (join_put link And w) g (grown_on (settled link w) (join_put link And w) l (omega arith) refl refl l.few)
 
@@ -175,7 +176,7 @@ node_grown link w (node.Bare v) h = settled_truth_grown link w (node.Bare v) ref
 node_grown link w (node.Valued q v) h = settled_truth_grown link w (node.Valued q v) refl h
 node_grown link w (node.Compare c) h = settled_truth_grown link w (node.Compare c) refl h
 node_grown link w node.Not h = settled_truth_grown link w node.Not refl h
-node_grown link w (node.Qualified q v) h = value_grown link q v w h (more_hosts q v w.hosts) refl
+node_grown link w (node.Qualified q v) h = value_grown link q v w h (larger_group q v w.group) refl
 node_grown link w (node.Join j) h = join_grown link j w h
 node_grown link w (node.Literal n) h = code_grown link w (plain 0 n ∷ w.code) (omega arith) h
 node_grown link w (node.Named n) h = code_grown link w (plain 0 n ∷ w.code) (omega arith) h

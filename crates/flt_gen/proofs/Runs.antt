@@ -14,10 +14,10 @@ use Rattle.flt_gen.specs.declared.elementary.Elementary.{Elementary}
 use Rattle.flt_gen.specs.Elementary.{network}
 use Rattle.flt_gen.specs.Numbers.{width_of}
 use Rattle.flt_gen.specs.declared.follow.Knowledge.{Knowledge}
-use Rattle.flt_gen.specs.Follow.{and_fork, fact, always, and_fact, followed, target}
+use Rattle.flt_gen.specs.Follow.{and_fork, fact, always, and_fact, target}
 use Rattle.flt_gen.specs.declared.elementary.Fact.{Fact}
 use Rattle.flt_gen.proofs.Exclusive.{Apt, excluded_no}
-use Rattle.flt_gen.proofs.Onward.{is_load, Leads, leads_on, Settles, Branches, MaskedBranches, Settled, FactHolds, KnowledgeHolds, Ready, LeadsReady, ready_anyhow, ready_on, followed_leads, target_leads}
+use Rattle.flt_gen.proofs.Onward.{is_load, Leads, leads_on, Settles, Branches, MaskedBranches, Settled, FactHolds, KnowledgeHolds, Ready, LeadsReady, ready_anyhow, ready_on, target_leads}
 use Rattle.flt_bpf.specs.declared.operation.Test.{Test}
 use Rattle.flt_bpf.specs.declared.operation.Test.TheVariants as test
 use Rattle.flt_bpf.specs.declared.operation.Operand.{Operand}
@@ -461,10 +461,10 @@ module _ (p : List ℕ) (n : ℕ) where
   elementary_works known (Known true) hit miss v w c lh lm z h m = record { inside = lh; extends = extends_none c; settled = z; u = v; leads = h; right = λ k. refl }
   elementary_works known (Known false) hit miss v w c lh lm z h m = record { inside = lm; extends = extends_none c; settled = z; u = w; leads = m; right = λ k. refl }
   elementary_works known (Field k) hit miss v w c lh lm z h m =
-      let th = target_leads p n c known k true v hit z.by lh h in
-      let tm = target_leads p n c known k false w miss z.by lm m in
-      let hit' = target c known k true hit in
-      let miss' = target c known k false miss in
+      let th = target_leads p n c known k.place (fact (Field k) true) v hit z.by lh h in
+      let tm = target_leads p n c known k.place (fact (Field k) false) w miss z.by lm m in
+      let hit' = target c known k.place (fact (Field k) true) hit in
+      let miss' = target c known k.place (fact (Field k) false) miss in
       record {
         inside = omega arith;
         extends = test_extends k hit' miss' c;
@@ -493,33 +493,53 @@ module _ (p : List ℕ) (n : ℕ) where
       masks None = refl
       masks (Some mask) = run_mask p n mask d (record s { accumulator = x })
 
+  -- the same behind what loads the field
+  abbrev Finds : Place → List ℕ → List Insn → ℕ → ℕ → Type 0
+  Finds place vs d v w =
+      (s : State) → length s.memory ≡ 16 → Ready p n place s.index → answer_of d p n 0 s ≡ Some (if is_one_of s.accumulator vs then v else w)
+
+  past_picks : (header at : ℕ) (f : MaskedField) (vs : List ℕ) (d : List Insn) (s : State) (v w : ℕ) → length s.memory ≡ 16 → Finds (Past header at) vs d v w → (o : Option ℕ) → field p header Byte ≡ o → answer_after (answer_of (plain (indirect_code f.width) at ∷ mask_before f.mask d) p n) (into Index (option_map header_length o) s) ≡ Some (pick (reading_of (with (with (with o (λ b. Some (header_length b))) (λ x. field p ((x + at) % 2 ^ 32) f.width)) (λ x. Some (is_one_of (masked f.mask x) vs)))) v w)
+  past_picks header at f vs d s v w long h None e = refl
+  past_picks header at f vs d s v w long h (Some b) e =
+      run_indirect p n f.width at (mask_before f.mask d) (record s { index = header_length b })
+      ∙ picks_one (field p ((header_length b + at) % 2 ^ 32) f.width) f vs d (record s { index = header_length b }) v w (λ x. h (record s { index = header_length b; accumulator = masked f.mask x }) long (ap (option_map header_length) e))
+
+  field_picks : (place : Place) (f : MaskedField) (vs : List ℕ) (d : List Insn) (s : State) (v w : ℕ) → length s.memory ≡ 16 → Finds place vs d v w → answer_of (field_before place f.width (mask_before f.mask d)) p n 0 s ≡ Some (pick (reading_of (with (field_at place f.width p) (λ x. Some (is_one_of (masked f.mask x) vs)))) v w)
+  field_picks (At at) f vs d s v w long h =
+      run_load p n f.width at (mask_before f.mask d) s ∙ picks_one (field p at f.width) f vs d s v w (λ x. h (record s { accumulator = masked f.mask x }) long tt)
+  field_picks (Past header at) f vs d s v w long h =
+      run_header p n header (plain (indirect_code f.width) at ∷ mask_before f.mask d) s ∙ past_picks header at f vs d s v w long h (field p header Byte) refl
+
+  among_settled : (place : Place) (width : Width) (mask : Option ℕ) (vs : List ℕ) (hit miss v w : ℕ) (c : List Insn) → Searchable vs → hit ≤ length c → miss ≤ length c → Calm c → LeadsReady p n place c hit v → LeadsReady p n place c miss w → Calm (field_before place width (mask_before mask (search_before LEVELS vs hit miss c).code))
+  among_settled (At a) width mask vs hit miss v w c up lh lm z h m =
+      let behind = mask_behind mask _ (search_behind 15 vs hit miss v w c up lh lm (record { by = λ s long. h.by s long tt }) (record { by = λ s long. m.by s long tt })) in
+      let z' = mask_settled mask _ (search_settled LEVELS vs hit miss c z) in
+      record { by = (λ e. (behind.branches, behind.masked), z'.by) }
+  among_settled (Past header a) width mask vs hit miss v w c up lh lm z h m =
+      settled_put _ _ refl (settled_put _ _ (indirect_no_load width) (mask_settled mask _ (search_settled LEVELS vs hit miss c z)))
+
+  search_finds : (place : Place) (vs : List ℕ) (hit miss v w : ℕ) (c : List Insn) → Searchable vs → hit ≤ length c → miss ≤ length c → LeadsReady p n place c hit v → LeadsReady p n place c miss w → Finds place vs (search_before LEVELS vs hit miss c).code v w
+  search_finds place vs hit miss v w c up lh lm h m s long ready =
+      let e = search_before LEVELS vs hit miss c in
+      let r = search_answers LEVELS vs hit miss v w c s (searchable_ascends vs up) lh lm (h.by s long ready) (m.by s long ready) in
+      (let none : 0 ≡ length e.code - e.entry = search_top 15 vs hit miss c up in ap (λ k. answer_of e.code p n k s) none) ∙ r.by
+
   among_works : (known : Knowledge) (f : MaskedField) (vs : List ℕ) (hit miss v w : ℕ) (c : List Insn) → Searchable vs → hit ≤ length c → miss ≤ length c → Calm c → Leads p n c hit v → Leads p n c miss w → Works (among_before known f vs hit miss c) c known (pick (among_reads f vs p) v w)
   among_works known f vs hit miss v w c up lh lm z h m =
-      let th = followed_leads p n c known always v hit z.by lh h in
-      let tm = followed_leads p n c known always w miss z.by lm m in
-      let hit' = followed c known always hit in
-      let miss' = followed c known always miss in
+      let th = target_leads p n c known f.place always v hit z.by lh h in
+      let tm = target_leads p n c known f.place always w miss z.by lm m in
+      let hit' = target c known f.place always hit in
+      let miss' = target c known f.place always miss in
       let e = search_before LEVELS vs hit' miss' c in
-      let behind = mask_behind f.mask _ (search_behind 15 vs hit' miss' th.v tm.v c up th.inside tm.inside th.leads tm.leads) in
-      let z' = mask_settled f.mask _ (search_settled LEVELS vs hit' miss' c z) in
       record {
         inside = omega arith;
-        extends = field_extends (At f.at) f.width c _ (mask_extends f.mask c _ (search_extends LEVELS vs hit' miss' c));
-        settled = record { by = (λ e. (behind.branches, behind.masked), z'.by) };
+        extends = field_extends f.place f.width c _ (mask_extends f.mask c _ (search_extends LEVELS vs hit' miss' c));
+        settled = among_settled f.place f.width f.mask vs hit' miss' th.v tm.v c up th.inside tm.inside z th.leads tm.leads;
         u = pick (among_reads f vs p) th.v tm.v;
-        leads = leads_top (field_before (At f.at) f.width (mask_before f.mask e.code)) _ (λ s long.
-            run_load p n f.width f.at (mask_before f.mask e.code) s
-            ∙ picks_one (field p f.at f.width) f vs e.code s th.v tm.v (λ x. found (record s { accumulator = masked f.mask x }) long));
+        leads = leads_top (field_before f.place f.width (mask_before f.mask e.code)) _ (λ s long.
+            field_picks f.place f vs e.code s th.v tm.v long (search_finds f.place vs hit' miss' th.v tm.v c up th.inside tm.inside th.leads tm.leads));
         right = λ k. pick_same (among_reads f vs p) th.v tm.v v w (λ y. th.right k refl) (λ y. tm.right k refl);
       }
-    where
-      found : (s : State) → length s.memory ≡ 16 → answer_of (search_before LEVELS vs (followed c known always hit) (followed c known always miss) c).code p n 0 s ≡ Some (if is_one_of s.accumulator vs then (followed_leads p n c known always v hit z.by lh h).v else (followed_leads p n c known always w miss z.by lm m).v)
-      found s long =
-          let th = followed_leads p n c known always v hit z.by lh h in
-          let tm = followed_leads p n c known always w miss z.by lm m in
-          let e = search_before LEVELS vs (followed c known always hit) (followed c known always miss) c in
-          let r = search_answers LEVELS vs (followed c known always hit) (followed c known always miss) th.v tm.v c s (searchable_ascends vs up) th.inside tm.inside (th.leads.by s long) (tm.leads.by s long) in
-          (let none : 0 ≡ length e.code - e.entry = search_top 15 vs _ _ c up in ap (λ k. answer_of e.code p n k s) none) ∙ r.by
 
   pub emitted_works : (link : Link) (known : Knowledge) (f : Formula) (hit miss v w : ℕ) (c : List Insn) → words f ≤ 16 → Apt p f → hit ≤ length c → miss ≤ length c → Calm c → Leads p n c hit v → Leads p n c miss w → Works (emitted link known f hit miss c) c known (pick (reads link f p n) v w)
   emitted_works link known (Single t) hit miss v w c few apt lh lm z h m = elementary_works known t hit miss v w c lh lm z h m

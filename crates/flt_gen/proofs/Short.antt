@@ -24,7 +24,7 @@ use Rattle.flt_lang.specs.Counts.{number_size}
 use Rattle.flt_gen.specs.Counts.{nodes, tests}
 use Rattle.flt_gen.specs.Code.{plain, branch_insn, branch_before, comparison_before, field_before, mask_before, base_before, transport_before, accessor_before, number_before, Entered, chain_before, search_before, LEVELS, elementary_before, fork_before, emitted, NEAR}
 use Rattle.flt_gen.specs.declared.follow.Knowledge.{Knowledge}
-use Rattle.flt_gen.specs.Follow.{and_fork, fact, always, and_fact, followed}
+use Rattle.flt_gen.specs.Follow.{and_fork, fact, always, and_fact, target}
 use Rattle.flt_gen.specs.declared.elementary.Elementary.{Elementary}
 use Rattle.flt_gen.specs.Layout.{JUMP}
 use Rattle.flt_gen.proofs.Tails.{by_test}
@@ -181,5 +181,5 @@ emitted_slim link known (Choose t a b) hit miss c l n =
     let st = elementary_slim known t d.entry e.entry d.code (omega (arith, sa.shorter, sb.shorter)) sa.none in
     record { none = st.none; longer = omega (arith, st.longer, sa.longer, sb.longer); shorter = omega (arith, st.shorter, sa.shorter, sb.shorter) }
 emitted_slim link known (Among f vs) hit miss c l n =
-    let s = search_slim LEVELS vs (followed c known always hit) (followed c known always miss) c (omega arith) n in
-    slim_more c _ (1 + 2 * (length vs - 1) + 1 + 2) _ (omega arith) (field_slim (At f.at) f.width c _ (1 + 2 * (length vs - 1) + 1) (mask_slim f.mask c _ (1 + 2 * (length vs - 1)) s))
+    let s = search_slim LEVELS vs (target c known f.place always hit) (target c known f.place always miss) c (omega arith) n in
+    slim_more c _ (1 + 2 * (length vs - 1) + 1 + 2) _ (omega arith) (field_slim f.place f.width c _ (1 + 2 * (length vs - 1) + 1) (mask_slim f.mask c _ (1 + 2 * (length vs - 1)) s))

@@ -23,7 +23,7 @@ use Rattle.flt_gen.specs.Numbers.{width_of, accessor_tests}
 use Rattle.flt_gen.specs.Formula.{Formula, Single, Compare, Both, Either, Except, Guard, Fork, Choose, Among}
 use Rattle.flt_gen.specs.Code.{plain, branch_before, comparison_before, field_before, mask_before, test_before, accessor_before, number_before, relation_before, Entered, chain_before, search_before, LEVELS, elementary_before, fork_before, emitted, all_before, accessors_before, base_before, transport_before, NEAR}
 use Rattle.flt_gen.specs.declared.follow.Knowledge.{Knowledge}
-use Rattle.flt_gen.specs.Follow.{and_fork, fact, always, nothing, and_fact, followed}
+use Rattle.flt_gen.specs.Follow.{and_fork, fact, always, nothing, and_fact, target}
 
 -- by a test
 pub by_test : {A : Type 0} (P : A → Type 0) (b : Bool) (x y : A) → (b ≡ true → P x) → (b ≡ false → P y) → P (if b then x else y)
@@ -161,7 +161,7 @@ emitted_extends link known (Choose t a b) hit miss c =
     let d = emitted link (and_fact (fact t true) known) a hit miss e.code in
     extends_on c e.code _ (emitted_extends link (and_fact (fact t false) known) b hit miss c) (extends_on e.code d.code _ (emitted_extends link (and_fact (fact t true) known) a hit miss e.code) (elementary_extends known t d.entry e.entry d.code))
 emitted_extends link known (Among f vs) hit miss c =
-    field_extends (At f.at) f.width c _ (mask_extends f.mask c _ (search_extends LEVELS vs (followed c known always hit) (followed c known always miss) c))
+    field_extends f.place f.width c _ (mask_extends f.mask c _ (search_extends LEVELS vs (target c known f.place always hit) (target c known f.place always miss) c))
 
 pub all_extends : (known : Knowledge) (ts : List Elementary) (hit miss : ℕ) (c : List Insn) → Extends c (all_before known ts hit miss c).code
 all_extends known [] hit miss c = extends_none c

@@ -1,11 +1,12 @@
--- Hosts that are looked for together read as one after the other.
-use Rattle.std.proofs.Common.{◌≡◌, ℕ, ◌+◌, List, [], ◌∷◌, Bool, true, false, Option, Some, None, refl, sym, ap, ◌∙◌, arith}
+-- Hosts or ports that are looked for together read as one after the other.
+use Rattle.std.proofs.Common.{◌≡◌, ℕ, List, [], ◌∷◌, Bool, true, false, Option, Some, None, refl, sym, ap, ◌∙◌, arith}
 use Rattle.std.specs.Prelude.{◌==◌, ◌||◌}
 use Rattle.std.proofs.lemmas.Bool.Decides.{nat_tests}
-use Rattle.flt_bpf.specs.declared.operation.Width.TheVariants.{Word}
-use Rattle.flt_bpf.specs.Machine.{field}
 use Rattle.flt_words.specs.declared.token.Protocol.{Protocol}
-use Rattle.flt_words.specs.declared.token.Protocol.TheVariants.{Ip}
+use Rattle.flt_words.specs.declared.token.Protocol.TheVariants.{Ip, Tcp, Udp}
+use Rattle.flt_words.specs.declared.token.Comparison.TheVariants.{Equal}
+use Rattle.flt_words.specs.declared.token.ValueType.{ValueType}
+use Rattle.flt_words.specs.declared.token.ValueType.TheVariants.{Host, Net, Port, PortRange, Proto}
 use Rattle.flt_words.specs.declared.token.Side.TheVariants.{Source, Destination}
 use Rattle.flt_words.specs.declared.token.Join.TheVariants.{And, Or}
 use Rattle.flt_lang.specs.declared.quals.Direction.{Direction}
@@ -13,12 +14,17 @@ use Rattle.flt_lang.specs.declared.quals.Direction.TheVariants as direction
 use Rattle.flt_gen.specs.declared.link.Link.{Link}
 use Rattle.flt_gen.specs.declared.elementary.Kind.{Kind}
 use Rattle.flt_gen.specs.declared.elementary.Kind.TheVariants as kind
-use Rattle.flt_gen.specs.Elementary.{Reading, Yes, No, Rejected, reading_of, with, network, kind_test, elementary_reads}
-use Rattle.flt_gen.specs.Formula.{is_one_of, both, either, sides, reads}
-use Rattle.flt_gen.specs.Primitives.{address_test, source_offset, destination_offset, net_test, net_formula}
-use Rattle.flt_gen.specs.Hosts.{inserted, any_sides, several_formula}
+use Rattle.flt_gen.specs.declared.elementary.Elementary.{Elementary}
+use Rattle.flt_gen.specs.declared.elementary.Ports.{Ports}
+use Rattle.flt_gen.specs.declared.elementary.Ports.TheVariants.{One, Several}
+use Rattle.flt_gen.specs.declared.elementary.Sides.{Sides}
+use Rattle.flt_gen.specs.declared.elementary.Transport.{Transport}
+use Rattle.flt_gen.specs.Elementary.{Reading, Yes, No, Rejected, reading_of, with, field_at, compares_at, kind_test, elementary_reads}
+use Rattle.flt_gen.specs.Formula.{Formula, is_one_of, both, either, sides, reads}
+use Rattle.flt_gen.specs.Primitives.{net_test, net_formula, any_sides, port_places, port_sides, transport, behind, transport_ports, ip_transport, ip6_transport, port_test, port_formula}
+use Rattle.flt_gen.specs.Group.{inserted, address_places, hosts_formula, one_formula, several_formula}
 use Rattle.flt_gen.proofs.Ascending.{one_of_inserted}
-use Rattle.flt_gen.proofs.Exclusive.{ip_no_arp, ip_no_rarp, arp_no_rarp}
+use Rattle.flt_gen.proofs.Exclusive.{ip_no_ip6, ip_no_arp, ip_no_rarp, arp_no_rarp}
 
 yes_or : (b c : Bool) → reading_of (Some (b || c)) ≡ either (reading_of (Some b)) (reading_of (Some c))
 yes_or true c = refl
@@ -67,21 +73,23 @@ abbrev pub Merged : Direction → Type 0
 Merged (direction.Both And) = ⊥
 Merged _ = Unit {0}
 
--- without a protocol, or of IPv4
+-- without a protocol, or of one whose members are looked for together
 abbrev pub Common : Option Protocol → Type 0
 Common None = Unit {0}
 Common (Some Ip) = Unit {0}
+Common (Some Tcp) = Unit {0}
+Common (Some Udp) = Unit {0}
 Common _ = ⊥
 
 module _ (link : Link) (p : List ℕ) (n : ℕ) where
-  abbrev side_reads : ℕ → ℕ → Direction → ℕ → List ℕ → Reading
-  side_reads s t d f bs = reads link (any_sides s t d f bs) p n
+  abbrev pub side_reads : Sides → Direction → ℕ → List ℕ → Reading
+  side_reads at d f bs = reads link (any_sides d at f bs) p n
 
-  sides_more : (s t : ℕ) (d : Direction) (a f : ℕ) (bs : List ℕ) → Merged d → is_one_of f bs ≡ true → side_reads s t d a (inserted a bs) ≡ either (side_reads s t d a (a ∷ [])) (side_reads s t d f bs)
-  sides_more s t (direction.One Source) a f bs m h = one_side (field p s Word) a bs
-  sides_more s t (direction.One Destination) a f bs m h = one_side (field p t Word) a bs
-  sides_more s t (direction.Both Or) a f bs m h = two_sides (field p s Word) (field p t Word) a f bs h
-  sides_more s t (direction.Both And) a f bs m h = absurd m
+  sides_more : (at : Sides) (d : Direction) (a f : ℕ) (bs : List ℕ) → Merged d → is_one_of f bs ≡ true → side_reads at d a (inserted a bs) ≡ either (side_reads at d a (a ∷ [])) (side_reads at d f bs)
+  sides_more at (direction.One Source) a f bs m h = one_side (field_at at.source at.width p) a bs
+  sides_more at (direction.One Destination) a f bs m h = one_side (field_at at.destination at.width p) a bs
+  sides_more at (direction.Both Or) a f bs m h = two_sides (field_at at.source at.width p) (field_at at.destination at.width p) a f bs h
+  sides_more at (direction.Both And) a f bs m h = absurd m
 
   plain_one : (o : Option ℕ) (a : ℕ) → reading_of (with o (λ x. Some (x == a))) ≡ reading_of (with o (λ x. Some (is_one_of x (a ∷ []))))
   plain_one None a = refl
@@ -94,16 +102,21 @@ module _ (link : Link) (p : List ℕ) (n : ℕ) where
   again No Rejected = refl
   again Rejected b = refl
 
-  -- one address
-  sides_plain : (s t : ℕ) (d : Direction) (a : ℕ) → Merged d → reads link (sides d (address_test None a s ∷ []) (address_test None a t ∷ [])) p n ≡ side_reads s t d a (a ∷ [])
-  sides_plain s t (direction.One Source) a m = plain_one (field p s Word) a
-  sides_plain s t (direction.One Destination) a m = plain_one (field p t Word) a
-  sides_plain s t (direction.Both Or) a m =
-      let r = reading_of (with (field p s Word) (λ x. Some (x == a))) in
-      again r (reading_of (with (field p t Word) (λ x. Some (x == a))))
-      ∙ ap (λ q. either r (either q r)) (plain_one (field p t Word) a)
-      ∙ ap (λ q. either r (either (reading_of (with (field p t Word) (λ x. Some (is_one_of x (a ∷ []))))) q)) (plain_one (field p s Word) a)
-  sides_plain s t (direction.Both And) a m = absurd m
+  -- one number
+  abbrev sides_of_one : Sides → Direction → ℕ → Formula
+  sides_of_one at d a = sides d (compares_at at.source at.width Equal a ∷ []) (compares_at at.destination at.width Equal a ∷ [])
+
+  sides_plain : (at : Sides) (d : Direction) (a : ℕ) → Merged d → reads link (sides_of_one at d a) p n ≡ side_reads at d a (a ∷ [])
+  sides_plain at (direction.One Source) a m = plain_one (field_at at.source at.width p) a
+  sides_plain at (direction.One Destination) a m = plain_one (field_at at.destination at.width p) a
+  sides_plain at (direction.Both Or) a m =
+      let s = field_at at.source at.width p in
+      let t = field_at at.destination at.width p in
+      let r = reading_of (with s (λ x. Some (x == a))) in
+      again r (reading_of (with t (λ x. Some (x == a))))
+      ∙ ap (λ q. either r (either q r)) (plain_one t a)
+      ∙ ap (λ q. either r (either (reading_of (with t (λ x. Some (is_one_of x (a ∷ []))))) q)) (plain_one s a)
+  sides_plain at (direction.Both And) a m = absurd m
 
   or_no : (s : Reading) → either s No ≡ s
   or_no Yes = refl
@@ -129,32 +142,141 @@ module _ (link : Link) (p : List ℕ) (n : ℕ) where
   three_kinds Yes No Rejected a b c x y z ir iq rq = absurd (let e = iq refl in cc)
   three_kinds Yes No No a b c x y z ir iq rq = or_no (either a x) ∙ ap (λ v. either v x) (sym (or_no a)) ∙ ap (λ v. either (either a No) v) (sym (or_no x))
 
-  -- what is looked for as several hosts
-  abbrev pub together : Option Protocol → Direction → ℕ → List ℕ → Reading
-  together protocol d f bs = reads link (several_formula link protocol (record { protocol = protocol; direction = d; first = f; addresses = bs })) p n
-
   abbrev kind_reads : Kind → Reading
   kind_reads k = elementary_reads (kind_test link k) p
 
+  -- hosts
   abbrev of_kind : Kind → Direction → ℕ → List ℕ → Reading
-  of_kind k d f bs = side_reads (network link + source_offset k) (network link + destination_offset k) d f bs
+  of_kind k d f bs = side_reads (address_places link k) d f bs
 
-  kinds_are : (d : Direction) (f g : ℕ) (bs : List ℕ) (a b c : Reading) → of_kind kind.Ip d f bs ≡ a → of_kind kind.Arp d f bs ≡ b → of_kind kind.Rarp d f bs ≡ c → together None d f bs ≡ either (both (kind_reads kind.Ip) a) (either (both (kind_reads kind.Arp) b) (both (kind_reads kind.Rarp) c))
-  kinds_are d f g bs a b c i r q =
+  abbrev hosts_read : Option Protocol → Direction → ℕ → List ℕ → Reading
+  hosts_read protocol d f bs = reads link (hosts_formula link protocol d f bs) p n
+
+  kinds_are : (d : Direction) (f : ℕ) (bs : List ℕ) (a b c : Reading) → of_kind kind.Ip d f bs ≡ a → of_kind kind.Arp d f bs ≡ b → of_kind kind.Rarp d f bs ≡ c → hosts_read None d f bs ≡ either (both (kind_reads kind.Ip) a) (either (both (kind_reads kind.Arp) b) (both (kind_reads kind.Rarp) c))
+  kinds_are d f bs a b c i r q =
       ap (λ v. either (both (kind_reads kind.Ip) v) (either (both (kind_reads kind.Arp) (of_kind kind.Arp d f bs)) (both (kind_reads kind.Rarp) (of_kind kind.Rarp d f bs)))) i
       ∙ ap (λ v. either (both (kind_reads kind.Ip) a) (either (both (kind_reads kind.Arp) v) (both (kind_reads kind.Rarp) (of_kind kind.Rarp d f bs)))) r
       ∙ ap (λ v. either (both (kind_reads kind.Ip) a) (either (both (kind_reads kind.Arp) b) (both (kind_reads kind.Rarp) v))) q
 
-  pub more_together : (protocol : Option Protocol) (d : Direction) (a f : ℕ) (bs : List ℕ) → Common protocol → Merged d → is_one_of f bs ≡ true → together protocol d a (inserted a bs) ≡ either (together protocol d a (a ∷ [])) (together protocol d f bs)
-  more_together None d a f bs c m h =
-      kinds_are d a f (inserted a bs) _ _ _ (sides_more _ _ d a f bs m h) (sides_more _ _ d a f bs m h) (sides_more _ _ d a f bs m h)
+  hosts_more : (protocol : Option Protocol) (d : Direction) (a f : ℕ) (bs : List ℕ) → Merged d → is_one_of f bs ≡ true → hosts_read protocol d a (inserted a bs) ≡ either (hosts_read protocol d a (a ∷ [])) (hosts_read protocol d f bs)
+  hosts_more None d a f bs m h =
+      kinds_are d a (inserted a bs) _ _ _ (sides_more _ d a f bs m h) (sides_more _ d a f bs m h) (sides_more _ d a f bs m h)
       ∙ three_kinds (kind_reads kind.Ip) (kind_reads kind.Arp) (kind_reads kind.Rarp) _ _ _ _ _ _ (ip_no_arp p link) (ip_no_rarp p link) (arp_no_rarp p link)
-  more_together (Some Ip) d a f bs c m h =
-      ap (λ v. both (kind_reads kind.Ip) v) (sides_more _ _ d a f bs m h) ∙ one_kind (kind_reads kind.Ip) _ _
-  more_together (Some _) d a f bs c m h = absurd c
+  hosts_more (Some Ip) d a f bs m h =
+      ap (λ v. both (kind_reads kind.Ip) v) (sides_more _ d a f bs m h) ∙ one_kind (kind_reads kind.Ip) _ _
+  hosts_more (Some _) d a f bs m h = refl
 
-  pub plain_together : (protocol : Option Protocol) (d : Direction) (a : ℕ) → Common protocol → Merged d → reads link (net_formula link protocol (net_test d None a)) p n ≡ together protocol d a (a ∷ [])
-  plain_together None d a c m =
-      sym (kinds_are d a a (a ∷ []) _ _ _ (sym (sides_plain _ _ d a m)) (sym (sides_plain _ _ d a m)) (sym (sides_plain _ _ d a m)))
-  plain_together (Some Ip) d a c m = ap (λ v. both (kind_reads kind.Ip) v) (sides_plain _ _ d a m)
-  plain_together (Some _) d a c m = absurd c
+  hosts_plain : (protocol : Option Protocol) (d : Direction) (a : ℕ) → Common protocol → Merged d → reads link (net_formula link protocol (net_test d None a)) p n ≡ hosts_read protocol d a (a ∷ [])
+  hosts_plain None d a c m =
+      sym (kinds_are d a (a ∷ []) _ _ _ (sym (sides_plain _ d a m)) (sym (sides_plain _ d a m)) (sym (sides_plain _ d a m)))
+  hosts_plain (Some Ip) d a c m = ap (λ v. both (kind_reads kind.Ip) v) (sides_plain _ d a m)
+  hosts_plain (Some Tcp) d a c m = refl
+  hosts_plain (Some Udp) d a c m = refl
+  hosts_plain (Some _) d a c m = absurd c
+
+  -- ports: what stands before the sides
+  abbrev whole_reads : Option Elementary → Reading → Reading
+  whole_reads None r = r
+  whole_reads (Some t) r = both (elementary_reads t p) r
+
+  abbrev transport_reads : Option Protocol → Elementary → Elementary → Reading → Reading
+  transport_reads None t u r = both (either (elementary_reads t p) (elementary_reads u p)) r
+  transport_reads (Some Tcp) t u r = both (elementary_reads t p) r
+  transport_reads (Some Udp) t u r = both (elementary_reads u p) r
+  transport_reads (Some _) t u r = No
+
+  abbrev behind_reads : Option Protocol → Transport → Reading → Reading
+  behind_reads protocol header r = transport_reads protocol header.tcp header.udp (whole_reads header.whole r)
+
+  whole_more : (o : Option Elementary) (a b : Reading) → whole_reads o (either a b) ≡ either (whole_reads o a) (whole_reads o b)
+  whole_more None a b = refl
+  whole_more (Some t) a b = one_kind (elementary_reads t p) a b
+
+  transport_more : (protocol : Option Protocol) (t u : Elementary) (a b : Reading) → transport_reads protocol t u (either a b) ≡ either (transport_reads protocol t u a) (transport_reads protocol t u b)
+  transport_more None t u a b = one_kind (either (elementary_reads t p) (elementary_reads u p)) a b
+  transport_more (Some Tcp) t u a b = one_kind (elementary_reads t p) a b
+  transport_more (Some Udp) t u a b = one_kind (elementary_reads u p) a b
+  transport_more (Some _) t u a b = refl
+
+  behind_more : (protocol : Option Protocol) (header : Transport) (a b : Reading) → behind_reads protocol header (either a b) ≡ either (behind_reads protocol header a) (behind_reads protocol header b)
+  behind_more protocol header a b =
+      ap (λ r. transport_reads protocol header.tcp header.udp r) (whole_more header.whole a b)
+      ∙ transport_more protocol header.tcp header.udp (whole_reads header.whole a) (whole_reads header.whole b)
+
+  behind_is : (protocol : Option Protocol) (t u : Elementary) (o : Option Elementary) (f : Formula) → reads link (transport protocol t u (behind o f)) p n ≡ transport_reads protocol t u (whole_reads o (reads link f p n))
+  behind_is None t u None f = refl
+  behind_is None t u (Some w) f = refl
+  behind_is (Some Tcp) t u None f = refl
+  behind_is (Some Tcp) t u (Some w) f = refl
+  behind_is (Some Udp) t u None f = refl
+  behind_is (Some Udp) t u (Some w) f = refl
+  behind_is (Some _) t u o f = refl
+
+  abbrev ports_read : Option Protocol → Direction → Ports → List ℕ → Reading
+  ports_read protocol d ports bs = reads link (port_formula link (port_test protocol d ports) bs) p n
+
+  abbrev two_headers : Option Protocol → Reading → Reading → Reading
+  two_headers protocol a b =
+      either (both (kind_reads kind.Ip) (behind_reads protocol (ip_transport link) a)) (both (kind_reads kind.Ip6) (behind_reads protocol (ip6_transport link) b))
+
+  ports_are : (protocol : Option Protocol) (d : Direction) (ports : Ports) (bs : List ℕ) (a b : Reading) → reads link (port_sides ports d (ip_transport link) bs) p n ≡ a → reads link (port_sides ports d (ip6_transport link) bs) p n ≡ b → ports_read protocol d ports bs ≡ two_headers protocol a b
+  ports_are protocol d ports bs a b e g =
+      let h = ip_transport link in
+      let k = ip6_transport link in
+      ap (λ v. either (both (kind_reads kind.Ip) v) (both (kind_reads kind.Ip6) (reads link (transport_ports k (port_test protocol d ports) bs) p n))) (behind_is protocol h.tcp h.udp h.whole (port_sides ports d h bs))
+      ∙ ap (λ v. either (both (kind_reads kind.Ip) (behind_reads protocol h (reads link (port_sides ports d h bs) p n))) (both (kind_reads kind.Ip6) v)) (behind_is protocol k.tcp k.udp k.whole (port_sides ports d k bs))
+      ∙ ap (λ v. two_headers protocol v (reads link (port_sides ports d k bs) p n)) e
+      ∙ ap (λ v. two_headers protocol a v) g
+
+  -- of two kinds one at most is yes
+  two_kinds : (i r a b x y : Reading) → (i ≡ Yes → r ≡ No) → either (both i (either a x)) (both r (either b y)) ≡ either (either (both i a) (both r b)) (either (both i x) (both r y))
+  two_kinds Rejected r a b x y ir = refl
+  two_kinds No r a b x y ir = one_kind r b y
+  two_kinds Yes Yes a b x y ir = absurd (let e = ir refl in cc)
+  two_kinds Yes Rejected a b x y ir = absurd (let e = ir refl in cc)
+  two_kinds Yes No a b x y ir = or_no (either a x) ∙ ap (λ v. either v x) (sym (or_no a)) ∙ ap (λ v. either (either a No) v) (sym (or_no x))
+
+  headers_more : (protocol : Option Protocol) (a b x y : Reading) → two_headers protocol (either a x) (either b y) ≡ either (two_headers protocol a b) (two_headers protocol x y)
+  headers_more protocol a b x y =
+      let h = ip_transport link in
+      let k = ip6_transport link in
+      ap (λ v. either (both (kind_reads kind.Ip) v) (both (kind_reads kind.Ip6) (behind_reads protocol k (either b y)))) (behind_more protocol h a x)
+      ∙ ap (λ v. either (both (kind_reads kind.Ip) (either (behind_reads protocol h a) (behind_reads protocol h x))) (both (kind_reads kind.Ip6) v)) (behind_more protocol k b y)
+      ∙ two_kinds (kind_reads kind.Ip) (kind_reads kind.Ip6) (behind_reads protocol h a) (behind_reads protocol k b) (behind_reads protocol h x) (behind_reads protocol k y) (ip_no_ip6 p link)
+
+  abbrev of_header : Transport → Direction → ℕ → List ℕ → Reading
+  of_header header d f bs = side_reads (port_places header) d f bs
+
+  ports_more : (protocol : Option Protocol) (d : Direction) (a f : ℕ) (bs : List ℕ) → Merged d → is_one_of f bs ≡ true → ports_read protocol d (Several a) (inserted a bs) ≡ either (ports_read protocol d (Several a) (a ∷ [])) (ports_read protocol d (Several f) bs)
+  ports_more protocol d a f bs m h =
+      let i = ip_transport link in
+      let j = ip6_transport link in
+      ports_are protocol d (Several a) (inserted a bs) (either (of_header i d a (a ∷ [])) (of_header i d f bs)) (either (of_header j d a (a ∷ [])) (of_header j d f bs)) (sides_more (port_places i) d a f bs m h) (sides_more (port_places j) d a f bs m h)
+      ∙ headers_more protocol (of_header i d a (a ∷ [])) (of_header j d a (a ∷ [])) (of_header i d f bs) (of_header j d f bs)
+      ∙ ap (λ v. either v (two_headers protocol (of_header i d f bs) (of_header j d f bs))) (sym (ports_are protocol d (Several a) (a ∷ []) _ _ refl refl))
+      ∙ ap (λ v. either (ports_read protocol d (Several a) (a ∷ [])) v) (sym (ports_are protocol d (Several f) bs _ _ refl refl))
+
+  ports_plain : (protocol : Option Protocol) (d : Direction) (a : ℕ) → Merged d → ports_read protocol d (One a) [] ≡ ports_read protocol d (Several a) (a ∷ [])
+  ports_plain protocol d a m =
+      let i = ip_transport link in
+      let j = ip6_transport link in
+      ports_are protocol d (One a) [] (of_header i d a (a ∷ [])) (of_header j d a (a ∷ [])) (sides_plain (port_places i) d a m) (sides_plain (port_places j) d a m)
+      ∙ sym (ports_are protocol d (Several a) (a ∷ []) _ _ refl refl)
+
+  -- members of a group
+  abbrev pub together : ValueType → Option Protocol → Direction → ℕ → List ℕ → Reading
+  together k protocol d f bs = reads link (several_formula link k protocol d f bs) p n
+
+  pub more_together : (k : ValueType) (protocol : Option Protocol) (d : Direction) (a f : ℕ) (bs : List ℕ) → Merged d → is_one_of f bs ≡ true → together k protocol d a (inserted a bs) ≡ either (together k protocol d a (a ∷ [])) (together k protocol d f bs)
+  more_together Host protocol d a f bs m h = hosts_more protocol d a f bs m h
+  more_together Port protocol d a f bs m h = ports_more protocol d a f bs m h
+  more_together Net protocol d a f bs m h = refl
+  more_together PortRange protocol d a f bs m h = refl
+  more_together Proto protocol d a f bs m h = refl
+
+  pub plain_together : (k : ValueType) (protocol : Option Protocol) (d : Direction) (a : ℕ) → Common protocol → Merged d → reads link (one_formula link k protocol d a) p n ≡ together k protocol d a (a ∷ [])
+  plain_together Host protocol d a c m = hosts_plain protocol d a c m
+  plain_together Port protocol d a c m = ports_plain protocol d a m
+  plain_together Net protocol d a c m = refl
+  plain_together PortRange protocol d a c m = refl
+  plain_together Proto protocol d a c m = refl

@@ -60,7 +60,7 @@ last_node link ns m other w some within =
 -- the walk so far has room, and so has the next node
 pub record HasRoom (link : Link) (w : Walk) (n : Node) : Type 0 where
   pub few : w.slot ≤ 32768
-  pub some : length w.hosts.addresses ≤ 4096
+  pub some : length w.group.numbers ≤ 4096
   pub before : length w.code ≤ 32768
   pub after : length (with_node link w n).code ≤ 32768
 

@@ -9,7 +9,7 @@ use Rattle.flt_lang.specs.declared.node.Node.{Node}
 use Rattle.flt_lang.specs.declared.node.Node.TheVariants.{Compare, Not}
 use Rattle.flt_gen.specs.declared.elementary.Elementary.TheVariants.{Known}
 use Rattle.flt_gen.specs.Primitives.{check_formula, cast_formula, sized_formula, qualified_formula}
-use Rattle.flt_gen.specs.Hosts.{Hosts, no_hosts, more_hosts, truth_host, choice, or_any, or_hosts, hosts_formula, grouped}
+use Rattle.flt_gen.specs.Group.{Group, no_group, larger_group, truth_member, choice, or_any, or_group, group_formula, grouped}
 use Rattle.flt_lang.specs.Tree.{NumberTree, literal, len, named, load, negated, applied, TruthTree, check, cast, sized, bare, valued, qualified, compared, denied, joined, Expression, empty, truth}
 use Rattle.flt_lang.specs.Machine.{number_onto, truth_onto, expr_onto}
 use Rattle.flt_gen.specs.declared.link.Link.{Link}
@@ -36,88 +36,88 @@ number_walked link (negated a) w d = number_walked link a _ d
 number_walked link (applied o a b) w d = number_walked link b _ (number_onto a d) ∙ number_walked link a _ d
 
 -- a walk between two truths, with hosts that wait
-abbrev pub waiting : List Insn → Targets → List LeftTruth → Hosts → Bool → Walk
-waiting c to ts hosts k = record { code = c; to = to; slot = 0; truths = ts; numbers = []; accessors = []; hosts = hosts; chained = k }
+abbrev pub waiting : List Insn → Targets → List LeftTruth → Group → Bool → Walk
+waiting c to ts group k = record { code = c; to = to; slot = 0; truths = ts; numbers = []; accessors = []; group = group; chained = k }
 
 abbrev pub between : List Insn → Targets → List LeftTruth → Walk
-between c to ts = waiting c to ts no_hosts false
+between c to ts = waiting c to ts no_group false
 
 -- where a truth and the hosts behind it go on
 abbrev put_of : Link → Formula → List Insn → Targets → List LeftTruth → Walk
 put_of link f c to ts = truth_put (emitted link nothing f to.yes to.no c) (between c to ts)
 
-leaf_put : (link : Link) (f : Formula) (c : List Insn) (to : Targets) (ts : List LeftTruth) (hosts : Hosts) (k : Bool) (bs : List ℕ) → formula_put link f (settled_by link (waiting c to ts hosts k) bs) ≡ put_of link (or_any f (hosts_formula link hosts) bs) c to ts
-leaf_put link f c to ts hosts k [] = refl
-leaf_put link f c to ts hosts k (b ∷ bs) = refl
+leaf_put : (link : Link) (f : Formula) (c : List Insn) (to : Targets) (ts : List LeftTruth) (group : Group) (k : Bool) (bs : List ℕ) → formula_put link f (settled_by link (waiting c to ts group k) bs) ≡ put_of link (or_any f (group_formula link group) bs) c to ts
+leaf_put link f c to ts group k [] = refl
+leaf_put link f c to ts group k (b ∷ bs) = refl
 
-value_walked : (link : Link) (q : FullQuals) (v : Value) (c : List Insn) (to : Targets) (ts : List LeftTruth) (hosts : Hosts) (k : Bool) (o : Option Hosts) → (k ≡ false) ⊎ (o ≡ None) → value_put link q v (waiting c to ts hosts k) o ≡ put_of link (choice o (λ more. hosts_formula link more) (or_hosts link (qualified_formula link q v) hosts)) c to ts
-value_walked link q v c to ts hosts k None h = leaf_put link (qualified_formula link q v) c to ts hosts k hosts.addresses
-value_walked link q v c to ts hosts false (Some more) h = refl
-value_walked link q v c to ts hosts true (Some more) (inl e) = cc
-value_walked link q v c to ts hosts true (Some more) (inr e) = cc
+value_walked : (link : Link) (q : FullQuals) (v : Value) (c : List Insn) (to : Targets) (ts : List LeftTruth) (group : Group) (k : Bool) (o : Option Group) → (k ≡ false) ⊎ (o ≡ None) → value_put link q v (waiting c to ts group k) o ≡ put_of link (choice o (λ more. group_formula link more) (or_group link (qualified_formula link q v) group)) c to ts
+value_walked link q v c to ts group k None h = leaf_put link (qualified_formula link q v) c to ts group k group.numbers
+value_walked link q v c to ts group false (Some more) h = refl
+value_walked link q v c to ts group true (Some more) (inl e) = cc
+value_walked link q v c to ts group true (Some more) (inr e) = cc
 
 relation_walked : (link : Link) (k : Comparison) (a b : NumberTree) (c : List Insn) (to : Targets) (ts : List LeftTruth) (d : List Node) → walked link (truth_node_put link (between c to ts) (Compare k)) (number_onto b (number_onto a d)) ≡ walked link (put_of link (formula link (compared k a b)) c to ts) d
 relation_walked link k a b c to ts d =
     number_walked link b _ (number_onto a d) ∙ number_walked link a _ d
     ∙ ap (λ (e : Entered). walked link (truth_put e (between c to ts)) d) (sym (checked_emitted link (accessors a (accessors b [])) (compare k a b) to.yes to.no c))
 
-relation_settled : (link : Link) (k : Comparison) (a b : NumberTree) (c : List Insn) (to : Targets) (ts : List LeftTruth) (hosts : Hosts) (chained : Bool) (d : List Node) (bs : List ℕ) → walked link (truth_node_put link (settled_by link (waiting c to ts hosts chained) bs) (Compare k)) (number_onto b (number_onto a d)) ≡ walked link (put_of link (or_any (formula link (compared k a b)) (hosts_formula link hosts) bs) c to ts) d
-relation_settled link k a b c to ts hosts chained d [] = relation_walked link k a b c to ts d
-relation_settled link k a b c to ts hosts chained d (h ∷ hs) =
-    let e = emitted link nothing (hosts_formula link hosts) to.yes to.no c in
+relation_settled : (link : Link) (k : Comparison) (a b : NumberTree) (c : List Insn) (to : Targets) (ts : List LeftTruth) (group : Group) (chained : Bool) (d : List Node) (bs : List ℕ) → walked link (truth_node_put link (settled_by link (waiting c to ts group chained) bs) (Compare k)) (number_onto b (number_onto a d)) ≡ walked link (put_of link (or_any (formula link (compared k a b)) (group_formula link group) bs) c to ts) d
+relation_settled link k a b c to ts group chained d [] = relation_walked link k a b c to ts d
+relation_settled link k a b c to ts group chained d (h ∷ hs) =
+    let e = emitted link nothing (group_formula link group) to.yes to.no c in
     relation_walked link k a b e.code (targets to.yes e.entry) ts d
 
 -- a host that is the right operand of an or waits with those behind it
-host_waits : (link : Link) (b : TruthTree) (c : List Insn) (to : Targets) (t : LeftTruth) (ts : List LeftTruth) (hosts more : Hosts) (d : List Node) → truth_host b hosts ≡ Some more → walked link (waiting c to (t ∷ ts) hosts true) (truth_onto b d) ≡ walked link (waiting c to ts more false) d
-host_waits link (qualified q v) c to t ts hosts more d e = ap (λ o. walked link (value_put link q v (waiting c to (t ∷ ts) hosts true) o) d) e
-host_waits link (check p) c to t ts hosts more d e = cc
-host_waits link (cast p k) c to t ts hosts more d e = cc
-host_waits link (sized s n) c to t ts hosts more d e = cc
-host_waits link (bare v) c to t ts hosts more d e = cc
-host_waits link (valued q v) c to t ts hosts more d e = cc
-host_waits link (compared k a b) c to t ts hosts more d e = cc
-host_waits link (denied a) c to t ts hosts more d e = cc
-host_waits link (joined j a b) c to t ts hosts more d e = cc
+member_waits : (link : Link) (b : TruthTree) (c : List Insn) (to : Targets) (t : LeftTruth) (ts : List LeftTruth) (group more : Group) (d : List Node) → truth_member b group ≡ Some more → walked link (waiting c to (t ∷ ts) group true) (truth_onto b d) ≡ walked link (waiting c to ts more false) d
+member_waits link (qualified q v) c to t ts group more d e = ap (λ o. walked link (value_put link q v (waiting c to (t ∷ ts) group true) o) d) e
+member_waits link (check p) c to t ts group more d e = cc
+member_waits link (cast p k) c to t ts group more d e = cc
+member_waits link (sized s n) c to t ts group more d e = cc
+member_waits link (bare v) c to t ts group more d e = cc
+member_waits link (valued q v) c to t ts group more d e = cc
+member_waits link (compared k a b) c to t ts group more d e = cc
+member_waits link (denied a) c to t ts group more d e = cc
+member_waits link (joined j a b) c to t ts group more d e = cc
 
-abbrev Walks : Link → TruthTree → Hosts → Bool → Type 0
-Walks link a hosts k =
-    (c : List Insn) (to : Targets) (ts : List LeftTruth) (d : List Node) → walked link (waiting c to ts hosts k) (truth_onto a d) ≡ walked link (put_of link (grouped link hosts a) c to ts) d
+abbrev Walks : Link → TruthTree → Group → Bool → Type 0
+Walks link a group k =
+    (c : List Insn) (to : Targets) (ts : List LeftTruth) (d : List Node) → walked link (waiting c to ts group k) (truth_onto a d) ≡ walked link (put_of link (grouped link group a) c to ts) d
 
-denied_walked : (link : Link) (a : TruthTree) → Walks link a no_hosts false → (c : List Insn) (to : Targets) (ts : List LeftTruth) (hosts : Hosts) (k : Bool) (d : List Node) (bs : List ℕ) → walked link (truth_node_put link (settled_by link (waiting c to ts hosts k) bs) Not) (truth_onto a d) ≡ walked link (put_of link (or_any (Except (grouped link no_hosts a)) (hosts_formula link hosts) bs) c to ts) d
-denied_walked link a h c to ts hosts k d [] = h c (targets to.no to.yes) ts d
-denied_walked link a h c to ts hosts k d (b ∷ bs) =
-    let e = emitted link nothing (hosts_formula link hosts) to.yes to.no c in h e.code (targets e.entry to.yes) ts d
+denied_walked : (link : Link) (a : TruthTree) → Walks link a no_group false → (c : List Insn) (to : Targets) (ts : List LeftTruth) (group : Group) (k : Bool) (d : List Node) (bs : List ℕ) → walked link (truth_node_put link (settled_by link (waiting c to ts group k) bs) Not) (truth_onto a d) ≡ walked link (put_of link (or_any (Except (grouped link no_group a)) (group_formula link group) bs) c to ts) d
+denied_walked link a h c to ts group k d [] = h c (targets to.no to.yes) ts d
+denied_walked link a h c to ts group k d (b ∷ bs) =
+    let e = emitted link nothing (group_formula link group) to.yes to.no c in h e.code (targets e.entry to.yes) ts d
 
-both_walked : (link : Link) (a b : TruthTree) → Walks link a no_hosts false → Walks link b no_hosts false → (c : List Insn) (to : Targets) (ts : List LeftTruth) (d : List Node) → walked link (between c to (record { join = And; to = to } ∷ ts)) (truth_onto b (truth_onto a d)) ≡ walked link (put_of link (Both (grouped link no_hosts a) (grouped link no_hosts b)) c to ts) d
+both_walked : (link : Link) (a b : TruthTree) → Walks link a no_group false → Walks link b no_group false → (c : List Insn) (to : Targets) (ts : List LeftTruth) (d : List Node) → walked link (between c to (record { join = And; to = to } ∷ ts)) (truth_onto b (truth_onto a d)) ≡ walked link (put_of link (Both (grouped link no_group a) (grouped link no_group b)) c to ts) d
 both_walked link a b ha hb c to ts d =
-    let e = emitted link nothing (grouped link no_hosts b) to.yes to.no c in
+    let e = emitted link nothing (grouped link no_group b) to.yes to.no c in
     hb c to (record { join = And; to = to } ∷ ts) (truth_onto a d) ∙ ha e.code (targets e.entry to.no) ts d
 
-settled_both : (link : Link) (a b : TruthTree) → Walks link a no_hosts false → Walks link b no_hosts false → (c : List Insn) (to : Targets) (ts : List LeftTruth) (hosts : Hosts) (k : Bool) (d : List Node) (bs : List ℕ) → (let v = settled_by link (waiting c to ts hosts k) bs in walked link (record v { truths = record { join = And; to = v.to } ∷ v.truths }) (truth_onto b (truth_onto a d))) ≡ walked link (put_of link (or_any (Both (grouped link no_hosts a) (grouped link no_hosts b)) (hosts_formula link hosts) bs) c to ts) d
-settled_both link a b ha hb c to ts hosts k d [] = both_walked link a b ha hb c to ts d
-settled_both link a b ha hb c to ts hosts k d (x ∷ xs) =
-    let e = emitted link nothing (hosts_formula link hosts) to.yes to.no c in both_walked link a b ha hb e.code (targets to.yes e.entry) ts d
+settled_both : (link : Link) (a b : TruthTree) → Walks link a no_group false → Walks link b no_group false → (c : List Insn) (to : Targets) (ts : List LeftTruth) (group : Group) (k : Bool) (d : List Node) (bs : List ℕ) → (let v = settled_by link (waiting c to ts group k) bs in walked link (record v { truths = record { join = And; to = v.to } ∷ v.truths }) (truth_onto b (truth_onto a d))) ≡ walked link (put_of link (or_any (Both (grouped link no_group a) (grouped link no_group b)) (group_formula link group) bs) c to ts) d
+settled_both link a b ha hb c to ts group k d [] = both_walked link a b ha hb c to ts d
+settled_both link a b ha hb c to ts group k d (x ∷ xs) =
+    let e = emitted link nothing (group_formula link group) to.yes to.no c in both_walked link a b ha hb e.code (targets to.yes e.entry) ts d
 
-either_walked : (link : Link) (a b : TruthTree) (hosts : Hosts) (o : Option Hosts) → truth_host b hosts ≡ o → Walks link a no_hosts false → ((more : Hosts) → Walks link a more false) → (truth_host b hosts ≡ None → Walks link b hosts true) → (c : List Insn) (to : Targets) (ts : List LeftTruth) (d : List Node) → walked link (waiting c to (record { join = Or; to = to } ∷ ts) hosts true) (truth_onto b (truth_onto a d)) ≡ walked link (put_of link (choice o (λ more. grouped link more a) (Either (grouped link no_hosts a) (grouped link hosts b))) c to ts) d
-either_walked link a b hosts None e ha hm hb c to ts d =
-    let x = emitted link nothing (grouped link hosts b) to.yes to.no c in
+either_walked : (link : Link) (a b : TruthTree) (group : Group) (o : Option Group) → truth_member b group ≡ o → Walks link a no_group false → ((more : Group) → Walks link a more false) → (truth_member b group ≡ None → Walks link b group true) → (c : List Insn) (to : Targets) (ts : List LeftTruth) (d : List Node) → walked link (waiting c to (record { join = Or; to = to } ∷ ts) group true) (truth_onto b (truth_onto a d)) ≡ walked link (put_of link (choice o (λ more. grouped link more a) (Either (grouped link no_group a) (grouped link group b))) c to ts) d
+either_walked link a b group None e ha hm hb c to ts d =
+    let x = emitted link nothing (grouped link group b) to.yes to.no c in
     hb e c to (record { join = Or; to = to } ∷ ts) (truth_onto a d) ∙ ha x.code (targets to.yes x.entry) ts d
-either_walked link a b hosts (Some more) e ha hm hb c to ts d =
-    host_waits link b c to (record { join = Or; to = to }) ts hosts more (truth_onto a d) e ∙ hm more c to ts d
+either_walked link a b group (Some more) e ha hm hb c to ts d =
+    member_waits link b c to (record { join = Or; to = to }) ts group more (truth_onto a d) e ∙ hm more c to ts d
 
-pub truth_walked : (link : Link) (a : TruthTree) (hosts : Hosts) (k : Bool) → (k ≡ false) ⊎ (truth_host a hosts ≡ None) → Walks link a hosts k
-truth_walked link (check p) hosts k free = λ c to ts d. ap (λ w. walked link w d) (leaf_put link (check_formula link p) c to ts hosts k hosts.addresses)
-truth_walked link (cast p x) hosts k free = λ c to ts d. ap (λ w. walked link w d) (leaf_put link (cast_formula link p x) c to ts hosts k hosts.addresses)
-truth_walked link (sized s n) hosts k free = λ c to ts d. ap (λ w. walked link w d) (leaf_put link (sized_formula s n) c to ts hosts k hosts.addresses)
-truth_walked link (bare v) hosts k free = λ c to ts d. ap (λ w. walked link w d) (leaf_put link (Single (Known false)) c to ts hosts k hosts.addresses)
-truth_walked link (valued q v) hosts k free = λ c to ts d. ap (λ w. walked link w d) (leaf_put link (Single (Known false)) c to ts hosts k hosts.addresses)
-truth_walked link (qualified q v) hosts k free = λ c to ts d. ap (λ w. walked link w d) (value_walked link q v c to ts hosts k (more_hosts q v hosts) free)
-truth_walked link (compared x a b) hosts k free = λ c to ts d. relation_settled link x a b c to ts hosts k d hosts.addresses
-truth_walked link (denied a) hosts k free = λ c to ts d. denied_walked link a (truth_walked link a no_hosts false (inl refl)) c to ts hosts k d hosts.addresses
-truth_walked link (joined And a b) hosts k free =
-    λ c to ts d. settled_both link a b (truth_walked link a no_hosts false (inl refl)) (truth_walked link b no_hosts false (inl refl)) c to ts hosts k d hosts.addresses
-truth_walked link (joined Or a b) hosts k free =
-    λ c to ts d. either_walked link a b hosts (truth_host b hosts) refl (truth_walked link a no_hosts false (inl refl)) (λ more. truth_walked link a more false (inl refl)) (λ e. truth_walked link b hosts true (inr e)) c to ts d
+pub truth_walked : (link : Link) (a : TruthTree) (group : Group) (k : Bool) → (k ≡ false) ⊎ (truth_member a group ≡ None) → Walks link a group k
+truth_walked link (check p) group k free = λ c to ts d. ap (λ w. walked link w d) (leaf_put link (check_formula link p) c to ts group k group.numbers)
+truth_walked link (cast p x) group k free = λ c to ts d. ap (λ w. walked link w d) (leaf_put link (cast_formula link p x) c to ts group k group.numbers)
+truth_walked link (sized s n) group k free = λ c to ts d. ap (λ w. walked link w d) (leaf_put link (sized_formula s n) c to ts group k group.numbers)
+truth_walked link (bare v) group k free = λ c to ts d. ap (λ w. walked link w d) (leaf_put link (Single (Known false)) c to ts group k group.numbers)
+truth_walked link (valued q v) group k free = λ c to ts d. ap (λ w. walked link w d) (leaf_put link (Single (Known false)) c to ts group k group.numbers)
+truth_walked link (qualified q v) group k free = λ c to ts d. ap (λ w. walked link w d) (value_walked link q v c to ts group k (larger_group q v group) free)
+truth_walked link (compared x a b) group k free = λ c to ts d. relation_settled link x a b c to ts group k d group.numbers
+truth_walked link (denied a) group k free = λ c to ts d. denied_walked link a (truth_walked link a no_group false (inl refl)) c to ts group k d group.numbers
+truth_walked link (joined And a b) group k free =
+    λ c to ts d. settled_both link a b (truth_walked link a no_group false (inl refl)) (truth_walked link b no_group false (inl refl)) c to ts group k d group.numbers
+truth_walked link (joined Or a b) group k free =
+    λ c to ts d. either_walked link a b group (truth_member b group) refl (truth_walked link a no_group false (inl refl)) (λ more. truth_walked link a more false (inl refl)) (λ e. truth_walked link b group true (inr e)) c to ts d
 
 -- the walk over a whole expression ends with its code, entered where both targets are
 pub record Ends (w : Walk) (e : Entered) : Type 0 where
@@ -127,5 +127,5 @@ pub record Ends (w : Walk) (e : Entered) : Type 0 where
 pub expression_walked : (link : Link) (e : Expression) → Ends (walked link start (expr_onto e)) (expression_code link e)
 expression_walked link empty = record { code = refl; entry = refl }
 expression_walked link (truth a) =
-    let h = truth_walked link a no_hosts false (inl refl) start.code start.to [] [] in
+    let h = truth_walked link a no_group false (inl refl) start.code start.to [] [] in
     record { code = ap (λ (w : Walk). w.code) h; entry = ap (λ (w : Walk). w.to.yes) h }

@@ -29,13 +29,13 @@ use Rattle.flt_gen.proofs.Far.{emitted_needed}
 use Rattle.flt_gen.proofs.Short.{emitted_slim, all_put}
 use Rattle.flt_gen.proofs.Grows.{Sits, emitted_sits}
 use Rattle.flt_gen.proofs.Counted.{nodes_fit, words_fit}
-use Rattle.flt_gen.specs.Hosts.{no_hosts, grouped}
+use Rattle.flt_gen.specs.Group.{no_group, grouped}
 use Rattle.flt_gen.proofs.Grouping.{kept_none, grouped_stands}
 
 -- the empty expression as a formula, which has no code either; hosts are looked for together
 abbrev pub formula_of : Link → Expression → Formula
 formula_of link empty = Single (Known true)
-formula_of link (truth a) = grouped link no_hosts a
+formula_of link (truth a) = grouped link no_group a
 
 code_of : (link : Link) (e : Expression) → emitted link nothing (formula_of link e) 2 1 returns_code ≡ expression_code link e
 code_of link empty = refl
@@ -43,7 +43,7 @@ code_of link (truth a) = refl
 
 reads_of : (link : Link) (e : Expression) → some_primitive is_unfilled e ≡ false → (p : List ℕ) (n : ℕ) → reads link (formula_of link e) p n ≡ holds e link p n
 reads_of link empty filled p n = refl
-reads_of link (truth a) filled p n = (grouped_stands link a no_hosts kept_none filled).reads_are p n
+reads_of link (truth a) filled p n = (grouped_stands link a no_group kept_none filled).reads_are p n
 
 returns_sound : IsFaultless returns_code
 unfolding fault_of operation_of
@@ -75,14 +75,14 @@ entry_length e l = omega (arith, length-drop (length e.code - e.entry) e.code)
 few_words : (link : Link) (e : Expression) → some_primitive is_unfilled e ≡ false → words_of e ≤ 16 → words (formula_of link e) ≤ 16
 few_words link empty filled h = omega arith
 few_words link (truth a) filled h =
-    let w = (grouped_stands link a no_hosts kept_none filled).words_are in omega (arith, words_fit link a)
+    let w = (grouped_stands link a no_group kept_none filled).words_are in omega (arith, words_fit link a)
 
 -- the counts of an expression's formula
-tests_of_formula : (link : Link) (a : TruthTree) → any_primitive is_unfilled a ≡ false → tests (grouped link no_hosts a) ≤ truth_tests a
-tests_of_formula link a filled = let t = (grouped_stands link a no_hosts kept_none filled).tests_fit in omega arith
+tests_of_formula : (link : Link) (a : TruthTree) → any_primitive is_unfilled a ≡ false → tests (grouped link no_group a) ≤ truth_tests a
+tests_of_formula link a filled = let t = (grouped_stands link a no_group kept_none filled).tests_fit in omega arith
 
-nodes_of_formula : (link : Link) (a : TruthTree) → any_primitive is_unfilled a ≡ false → nodes (grouped link no_hosts a) ≡ truth_size a
-nodes_of_formula link a filled = (grouped_stands link a no_hosts kept_none filled).nodes_are ∙ nodes_fit link a
+nodes_of_formula : (link : Link) (a : TruthTree) → any_primitive is_unfilled a ≡ false → nodes (grouped link no_group a) ≡ truth_size a
+nodes_of_formula link a filled = (grouped_stands link a no_group kept_none filled).nodes_are ∙ nodes_fit link a
 
 -- how the code of an expression sits on the two returns
 sits : (link : Link) (e : Expression) → some_primitive is_unfilled e ≡ false → words_of e ≤ 16 → Sits (expression_code link e) returns_code (6 * (tests (formula_of link e) + nodes (formula_of link e)))
@@ -129,7 +129,7 @@ program_decides link e filled few short =
 
     apt : (p : List ℕ) (e : Expression) → some_primitive is_unfilled e ≡ false → Apt p (formula_of link e)
     apt p empty filled = tt
-    apt p (truth a) filled = (grouped_stands link a no_hosts kept_none filled).apt p
+    apt p (truth a) filled = (grouped_stands link a no_group kept_none filled).apt p
 
     decided : (p : List ℕ) (n : ℕ) → Decides (program_code link e) e link p n
     decided p n =
@@ -164,7 +164,7 @@ program_layout link e =
 pub program_short : (link : Link) (e : Expression) → some_primitive is_unfilled e ≡ false → short_bound_of e ≤ 256 → IsShort (program_code link e) (short_bound_of e)
 program_short link empty filled l = record { no_jump = returns_no_jump; short = omega arith }
 program_short link (truth a) filled l =
-    let f = grouped link no_hosts a in
+    let f = grouped link no_group a in
     let e = emitted link nothing f 2 1 returns_code in
     let t = tests_of_formula link a filled in
     let n = nodes_of_formula link a filled in

@@ -29,10 +29,10 @@ use Rattle.flt_gen.specs.declared.elementary.Elementary.{Elementary}
 use Rattle.flt_gen.specs.declared.elementary.MaskedField.{MaskedField}
 use Rattle.flt_gen.specs.declared.elementary.Elementary.TheVariants.{Known, Field}
 use Rattle.flt_gen.specs.Elementary.{network}
-use Rattle.flt_gen.specs.Follow.{load_code, fact, always, nothing, and_fact, and_fork, followed, target}
+use Rattle.flt_gen.specs.Follow.{load_code, fact, always, nothing, and_fact, and_fork, target}
 use Rattle.flt_gen.specs.Numbers.{width_of, accessor_tests}
 use Rattle.flt_gen.specs.Formula.{Formula, Single, Compare, Both, Either, Except, Guard, Fork, Choose, Among}
-use Rattle.flt_gen.specs.Hosts.{no_hosts, grouped}
+use Rattle.flt_gen.specs.Group.{no_group, grouped}
 
 -- an instruction that isn't a test
 abbrev pub plain : ℕ → ℕ → Insn
@@ -168,7 +168,7 @@ abbrev pub elementary_before : Knowledge → Elementary → ℕ → ℕ → List
 elementary_before known (Known true) hit miss c = record { code = c; entry = hit }
 elementary_before known (Known false) hit miss c = record { code = c; entry = miss }
 elementary_before known (Field t) hit miss c =
-    at_top (test_before t (target c known t true hit) (target c known t false miss) c)
+    at_top (test_before t (target c known t.place (fact (Field t) true) hit) (target c known t.place (fact (Field t) false) miss) c)
 
 -- the code of one of two tests
 abbrev pub fork_before : Knowledge → Elementary → Elementary → ℕ → ℕ → List Insn → Entered
@@ -201,10 +201,10 @@ search_before (suc k) vs hit miss c =
 abbrev pub LEVELS : ℕ
 LEVELS = 16
 
--- the field goes into A; the targets are followed under what is known
+-- the field goes into A; the targets are followed under what is known, and past a load of X that the field's made
 abbrev pub among_before : Knowledge → MaskedField → List ℕ → ℕ → ℕ → List Insn → Entered
 among_before known f vs hit miss c =
-    at_top (field_before (At f.at) f.width (mask_before f.mask (search_before LEVELS vs (followed c known always hit) (followed c known always miss) c).code))
+    at_top (field_before f.place f.width (mask_before f.mask (search_before LEVELS vs (target c known f.place always hit) (target c known f.place always miss) c).code))
 
 -- the code of a formula that goes on at one of two places
 abbrev pub emitted : Link → Knowledge → Formula → ℕ → ℕ → List Insn → Entered
@@ -244,11 +244,11 @@ accessors_before link (p ∷ ps) hit miss c =
 abbrev pub returns_code : List Insn
 returns_code = plain 6 262144 ∷ plain 6 0 ∷ []
 
--- the code of an expression, in front of the two returns; the empty expression has none. Hosts that stand one after the
--- other between or are looked for together
+-- the code of an expression, in front of the two returns; the empty expression has none. Hosts and ports that
+-- stand one after the other between or are looked for together
 abbrev pub expression_code : Link → Expression → Entered
 expression_code link empty = record { code = returns_code; entry = 2 }
-expression_code link (truth a) = emitted link nothing (grouped link no_hosts a) 2 1 returns_code
+expression_code link (truth a) = emitted link nothing (grouped link no_group a) 2 1 returns_code
 
 -- the instructions from the entry on
 abbrev pub from_entry : Entered → List Insn

@@ -135,6 +135,6 @@ past_index (Past header a) place (i ∷ is) = if i.code == 177 && i.k == header 
 abbrev pub entered_at : Place → List Insn → ℕ → ℕ
 entered_at place c r = past_index place r (drop (length c - r) c)
 
--- where a test's jump goes: its target followed, and past a load of X
-unfoldable pub target : List Insn → Knowledge → FieldTest → Bool → ℕ → ℕ
-target c known t truth place = entered_at t.place c (followed c known (fact (Field t) truth) place)
+-- where a jump behind a test at a place goes, which is taken where a fact holds: its target followed, and past a load of X
+unfoldable pub target : List Insn → Knowledge → Place → Fact → ℕ → ℕ
+target c known tested own place = entered_at tested c (followed c known own place)

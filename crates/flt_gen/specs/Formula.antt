@@ -7,12 +7,11 @@ use Rattle.flt_words.specs.declared.token.Join.TheVariants.{And, Or}
 use Rattle.flt_lang.specs.declared.quals.Direction.{Direction}
 use Rattle.flt_lang.specs.declared.quals.Direction.TheVariants as direction
 use Rattle.flt_lang.specs.Tree.{NumberTree}
-use Rattle.flt_bpf.specs.Machine.{field}
 use Rattle.flt_gen.specs.declared.link.Link.{Link}
 use Rattle.flt_gen.specs.declared.elementary.Elementary.{Elementary}
 use Rattle.flt_gen.specs.declared.elementary.MaskedField.{MaskedField}
 use Rattle.flt_gen.specs.declared.elementary.Elementary.TheVariants.{Known}
-use Rattle.flt_gen.specs.Elementary.{Reading, Yes, No, Rejected, reading_of, with, compares, masked, elementary_reads}
+use Rattle.flt_gen.specs.Elementary.{Reading, Yes, No, Rejected, reading_of, with, compares, field_at, masked, elementary_reads}
 use Rattle.flt_gen.specs.Numbers.{number, accessor_tests}
 
 pub data Formula : Type 0 where
@@ -58,7 +57,7 @@ is_one_of x (v ∷ vs) = x == v || is_one_of x vs
 
 -- a field that is one of some numbers is a yes, another one a no, and one that isn't all captured is rejected
 abbrev pub among_reads : MaskedField → List ℕ → List ℕ → Reading
-among_reads f vs p = reading_of (with (field p f.at f.width) (λ x. Some (is_one_of (masked f.mask x) vs)))
+among_reads f vs p = reading_of (with (field_at f.place f.width p) (λ x. Some (is_one_of (masked f.mask x) vs)))
 
 -- the reading of a formula on a packet of original length n
 abbrev pub reads : Link → Formula → List ℕ → ℕ → Reading

@@ -3,7 +3,7 @@ pub mod Formula
 pub mod Numbers
 pub mod Primitives
 pub mod Reading
-pub mod Hosts
+pub mod Group
 pub mod Code
 pub mod Counts
 pub mod Layout

@@ -1,11 +1,13 @@
 -- The table of primitives: each is a formula of elementary tests.
 use Rattle.std.specs.Prelude.{ℕ, ◌+◌, ◌-◌, ◌*◌, ◌/◌, ◌%◌, ◌^◌, min, max, false, List, [], ◌∷◌, Option, Some, None}
 use Rattle.std.specs.Option.{option_map}
+use Rattle.flt_bpf.specs.declared.operation.Width.{Width}
 use Rattle.flt_bpf.specs.declared.operation.Width.TheVariants.{Word, HalfWord, Byte}
 use Rattle.flt_words.specs.declared.token.Comparison.TheVariants.{NotEqual, AtMost, AtLeast, Equal}
 use Rattle.flt_words.specs.declared.token.Protocol.{Protocol}
 use Rattle.flt_words.specs.declared.token.Protocol.TheVariants as protocol
-use Rattle.flt_words.specs.declared.token.Side.TheVariants.{Destination}
+use Rattle.flt_words.specs.declared.token.Side.TheVariants.{Source, Destination}
+use Rattle.flt_words.specs.declared.token.Join.TheVariants.{And, Or}
 use Rattle.flt_words.specs.declared.token.ValueType.{ValueType}
 use Rattle.flt_words.specs.declared.token.ValueType.TheVariants.{Host, Net, Port, PortRange, Proto}
 use Rattle.flt_words.specs.declared.token.Size.{Size}
@@ -28,13 +30,15 @@ use Rattle.flt_gen.specs.declared.elementary.Place.{Place}
 use Rattle.flt_gen.specs.declared.elementary.Place.TheVariants.{At, Past}
 use Rattle.flt_gen.specs.declared.elementary.Elementary.{Elementary}
 use Rattle.flt_gen.specs.declared.elementary.Elementary.TheVariants.{Known, Field}
+use Rattle.flt_gen.specs.declared.elementary.MaskedField.{MaskedField}
 use Rattle.flt_gen.specs.declared.elementary.Ports.{Ports}
+use Rattle.flt_gen.specs.declared.elementary.Sides.{Sides}
 use Rattle.flt_gen.specs.declared.elementary.NetTest.{NetTest}
 use Rattle.flt_gen.specs.declared.elementary.PortTest.{PortTest}
 use Rattle.flt_gen.specs.declared.elementary.Transport.{Transport}
-use Rattle.flt_gen.specs.declared.elementary.Ports.TheVariants.{One, Between}
+use Rattle.flt_gen.specs.declared.elementary.Ports.TheVariants.{One, Between, Several}
 use Rattle.flt_gen.specs.Elementary.{is_at, compares_at, network, kind_test, first_fragment, has_ip_proto, has_ip6_proto}
-use Rattle.flt_gen.specs.Formula.{Formula, Single, Compare, Guard, Fork, Choose, all_of, guarded, sides}
+use Rattle.flt_gen.specs.Formula.{Formula, Single, Compare, Either, Guard, Fork, Choose, Among, all_of, guarded, sides}
 
 -- protocols; of the kinds of frames at most one is yes
 
@@ -138,11 +142,36 @@ abbrev pub ip6_formula : Link → Direction → Option ℕ → ℕ → Formula
 ip6_formula link direction prefix address =
     Guard (kind_test link Ip6) (sides direction (ip6_tests prefix address (network link + 8)) (ip6_tests prefix address (network link + 24)))
 
+-- several numbers on a side, or on either. The source is compared with the first alone before the destination is looked at:
+-- so a packet that ends between the two is read as by tests of one number after the other
+
+abbrev pub whole_field : Place → Width → MaskedField
+whole_field place width = record { place = place; width = width; mask = None }
+
+abbrev pub any_sides : Direction → Sides → ℕ → List ℕ → Formula
+any_sides (direction.One Source) at first numbers = Among (whole_field at.source at.width) numbers
+any_sides (direction.One Destination) at first numbers = Among (whole_field at.destination at.width) numbers
+any_sides (direction.Both Or) at first numbers =
+    Either (Single (compares_at at.source at.width Equal first))
+    (Either (Among (whole_field at.destination at.width) numbers) (Among (whole_field at.source at.width) numbers))
+any_sides (direction.Both And) at first numbers = Single (Known false)
+
 -- ports
 
-abbrev pub port_tests : Ports → Place → List Elementary
-port_tests (One n) place = compares_at place HalfWord Equal n ∷ []
-port_tests (Between a b) place = compares_at place HalfWord AtLeast a ∷ compares_at place HalfWord AtMost b ∷ []
+abbrev pub port_is : ℕ → Place → List Elementary
+port_is n place = compares_at place HalfWord Equal n ∷ []
+
+abbrev pub port_between : ℕ → ℕ → Place → List Elementary
+port_between a b place = compares_at place HalfWord AtLeast a ∷ compares_at place HalfWord AtMost b ∷ []
+
+abbrev pub port_places : Transport → Sides
+port_places header = record { width = HalfWord; source = header.source; destination = header.destination }
+
+-- the ports that are looked for, of which several are told beside
+abbrev pub port_sides : Ports → Direction → Transport → List ℕ → Formula
+port_sides (One n) direction header numbers = sides direction (port_is n header.source) (port_is n header.destination)
+port_sides (Between a b) direction header numbers = sides direction (port_between a b header.source) (port_between a b header.destination)
+port_sides (Several first) direction header numbers = any_sides direction (port_places header) first numbers
 
 -- the test of TCP, that of UDP, or either, and then a formula
 abbrev pub transport : Option Protocol → Elementary → Elementary → Formula → Formula
@@ -156,12 +185,11 @@ abbrev pub behind : Option Elementary → Formula → Formula
 behind None f = f
 behind (Some t) f = Guard t f
 
-abbrev pub ports_behind : Transport → PortTest → Formula
-ports_behind header wanted =
-    behind header.whole (sides wanted.direction (port_tests wanted.ports header.source) (port_tests wanted.ports header.destination))
+abbrev pub ports_behind : Transport → PortTest → List ℕ → Formula
+ports_behind header wanted numbers = behind header.whole (port_sides wanted.ports wanted.direction header numbers)
 
-abbrev pub transport_ports : Transport → PortTest → Formula
-transport_ports header wanted = transport wanted.protocol header.tcp header.udp (ports_behind header wanted)
+abbrev pub transport_ports : Transport → PortTest → List ℕ → Formula
+transport_ports header wanted numbers = transport wanted.protocol header.tcp header.udp (ports_behind header wanted numbers)
 
 -- behind an IPv4 header, which has no fixed length; no later fragment has ports
 abbrev pub ip_transport : Link → Transport
@@ -183,10 +211,10 @@ ip6_transport link = record {
   destination = At (network link + 42);
 }
 
-abbrev pub port_formula : Link → PortTest → Formula
-port_formula link wanted =
-    Choose (kind_test link Ip) (transport_ports (ip_transport link) wanted)
-    (Guard (kind_test link Ip6) (transport_ports (ip6_transport link) wanted))
+abbrev pub port_formula : Link → PortTest → List ℕ → Formula
+port_formula link wanted numbers =
+    Choose (kind_test link Ip) (transport_ports (ip_transport link) wanted numbers)
+    (Guard (kind_test link Ip6) (transport_ports (ip6_transport link) wanted numbers))
 
 abbrev pub port_test : Option Protocol → Direction → Ports → PortTest
 port_test protocol direction ports = record { protocol = protocol; direction = direction; ports = ports }
@@ -209,11 +237,11 @@ net_value_formula link protocol direction (value.Ip6 address prefix) = ip6_formu
 net_value_formula link protocol direction v = ip4_formula link protocol direction (ip4_net v)
 
 abbrev pub port_value_formula : Link → Option Protocol → Direction → Value → Formula
-port_value_formula link protocol direction (value.Number n mask) = port_formula link (port_test protocol direction (One n))
+port_value_formula link protocol direction (value.Number n mask) = port_formula link (port_test protocol direction (One n)) []
 port_value_formula link protocol direction _ = Single (Known false)
 
 abbrev pub range_value_formula : Link → Option Protocol → Direction → Value → Formula
-range_value_formula link protocol direction (value.Range a b) = port_formula link (port_test protocol direction (Between (min a b) (max a b)))
+range_value_formula link protocol direction (value.Range a b) = port_formula link (port_test protocol direction (Between (min a b) (max a b))) []
 range_value_formula link protocol direction _ = Single (Known false)
 
 abbrev pub proto_value_formula : Link → Option Protocol → Value → Formula

@@ -16,7 +16,7 @@ use Rattle.flt_gen.specs.declared.waiting.Waiting.{Waiting}
 use Rattle.flt_gen.specs.declared.waiting.Waiting.TheVariants.{Index, Left}
 use Rattle.flt_gen.specs.Numbers.{width_of}
 use Rattle.flt_gen.specs.Formula.{Formula}
-use Rattle.flt_gen.specs.Hosts.{Hosts, no_hosts, more_hosts, hosts_formula}
+use Rattle.flt_gen.specs.Group.{Group, no_group, larger_group, group_formula}
 use Rattle.flt_gen.specs.Primitives.{check_formula, cast_formula, sized_formula, qualified_formula}
 use Rattle.flt_gen.specs.Follow.{nothing}
 use Rattle.flt_gen.specs.Code.{plain, comparison_before, accessor_before, operator_code, operands_before, Entered, entered, emitted, accessors_before, returns_code}
@@ -30,9 +30,9 @@ pub record Walk : Type 0 where
   pub truths : List LeftTruth
   pub numbers : List Waiting
   pub accessors : List Protocol
-  -- hosts that are tested in front of the code, and whose code isn't there yet; whether an or was the last node, whose
+  -- hosts or ports that are tested in front of the code, and whose code isn't there yet; whether an or was the last node, whose
   -- right operand is next
-  pub hosts : Hosts
+  pub group : Group
   pub chained : Bool
 
 abbrev pub targets : ℕ → ℕ → Targets
@@ -81,23 +81,23 @@ abbrev pub formula_put : Link → Formula → Walk → Walk
 formula_put link f w = truth_put (emitted link nothing f w.to.yes w.to.no w.code) w
 
 abbrev pub settled_by : Link → Walk → List ℕ → Walk
-settled_by link w [] = record w { hosts = no_hosts; chained = false }
+settled_by link w [] = record w { group = no_group; chained = false }
 settled_by link w (a ∷ others) =
-    let e = emitted link nothing (hosts_formula link w.hosts) w.to.yes w.to.no w.code in
-    record w { code = e.code; to = targets w.to.yes e.entry; hosts = no_hosts; chained = false }
+    let e = emitted link nothing (group_formula link w.group) w.to.yes w.to.no w.code in
+    record w { code = e.code; to = targets w.to.yes e.entry; group = no_group; chained = false }
 
--- the code of the hosts that wait is put
+-- the code of the group that waits is put
 abbrev pub settled : Link → Walk → Walk
-settled link w = settled_by link w w.hosts.addresses
+settled link w = settled_by link w w.group.numbers
 
--- a host and those behind it: they wait for one more if the host is the right operand of an or
-abbrev pub hosts_put : Link → Walk → Hosts → Bool → Walk
-hosts_put link w hosts true = record w { hosts = hosts; truths = others w.truths; chained = false }
-hosts_put link w hosts false = formula_put link (hosts_formula link hosts) (record w { hosts = no_hosts; chained = false })
+-- a host or port and those behind it: they wait for one more if it is the right operand of an or
+abbrev pub group_put : Link → Walk → Group → Bool → Walk
+group_put link w group true = record w { group = group; truths = others w.truths; chained = false }
+group_put link w group false = formula_put link (group_formula link group) (record w { group = no_group; chained = false })
 
-abbrev pub value_put : Link → FullQuals → Value → Walk → Option Hosts → Walk
+abbrev pub value_put : Link → FullQuals → Value → Walk → Option Group → Walk
 value_put link q v w None = formula_put link (qualified_formula link q v) (settled link w)
-value_put link q v w (Some hosts) = hosts_put link w hosts w.chained
+value_put link q v w (Some group) = group_put link w group w.chained
 
 abbrev pub join_put : Link → Join → Walk → Walk
 join_put link Or w = record w { truths = record { join = Or; to = w.to } ∷ w.truths; chained = true }
@@ -114,7 +114,7 @@ truth_node_put link w _ = truth_put (entered w.code w.to.no) w
 -- one more node
 abbrev pub with_node : Link → Walk → Node → Walk
 with_node link w (node.Join join) = join_put link join w
-with_node link w (node.Qualified quals v) = value_put link quals v w (more_hosts quals v w.hosts)
+with_node link w (node.Qualified quals v) = value_put link quals v w (larger_group quals v w.group)
 with_node link w (node.Literal n) = number_put link w.numbers (with_code (plain 0 n ∷ w.code) w)
 with_node link w (node.Named n) = number_put link w.numbers (with_code (plain 0 n ∷ w.code) w)
 with_node link w node.Len = number_put link w.numbers (with_code (plain 128 0 ∷ w.code) w)
@@ -153,7 +153,7 @@ is_truth_node _ = false
 
 -- the two returns are there, and nothing waits
 abbrev pub start : Walk
-start = record { code = returns_code; to = targets 2 1; slot = 0; truths = []; numbers = []; accessors = []; hosts = no_hosts; chained = false }
+start = record { code = returns_code; to = targets 2 1; slot = 0; truths = []; numbers = []; accessors = []; group = no_group; chained = false }
 
 -- the walk over nodes, the last first
 abbrev pub walked : Link → Walk → List Node → Walk

@@ -5,20 +5,20 @@ ghost use Rattle.flt_lang.specs.Nets.{first_bits};
 ghost use Rattle.flt_gen.specs.Elementary.{kind_test};
 ghost use Rattle.flt_gen.specs.Follow.{nothing, fact, and_fact};
 ghost use Rattle.flt_gen.specs.Code.{emitted, entered, behind_test};
-ghost use Rattle.flt_gen.specs.Hosts.{address_field, any_sides, hosts_sides, several_formula, hosts_formula};
+ghost use Rattle.flt_gen.specs.Group.{address_places, hosts_sides, hosts_formula};
 ghost use Rattle.flt_gen.specs.Primitives.{address_test, source_offset, destination_offset, net_sides, net_formula, ip6_test, ip6_tests, ip6_formula};
 
-use crate::among::put_among;
+use crate::among::put_any_sides;
 use crate::code::{Code, Targets};
-use crate::elementary::{Elementary, FieldTest, Kind, MaskedField, NetTest, Place};
+use crate::elementary::{Elementary, FieldTest, Kind, NetTest, Place, Sides};
 use crate::follow::Knowledge;
-use crate::hosts::Hosts;
+use crate::group::Group;
 use crate::link::Link;
 use crate::put::{put_elementary, put_sides};
 use crate::table::{kind_test, network};
 use flt_bpf::operation::Width;
 use flt_lang::Direction;
-use flt_words::{Comparison, Join, Protocol, Side};
+use flt_words::{Comparison, Protocol};
 use std::alloc::{AllocError, Allocator};
 
 // The word at a place is an address, as far as the mask goes.
@@ -128,57 +128,14 @@ pub fn put_net<A: Allocator>(
     }
 }
 
-fn address_field(at: u32) -> MaskedField
-    ensures { result ≡ address_field at }
+fn address_places(link: Link, kind: Kind) -> Sides
+    ensures { result ≡ address_places link kind }
 {
-    MaskedField {
-        at,
+    let start = network(link);
+    Sides {
         width: Width::Word,
-        mask: None,
-    }
-}
-
-// One of several addresses on a side, or on either. The source is compared with the first address
-// alone before the destination is looked at, as by the hosts one after the other.
-fn put_any_sides<A: Allocator>(
-    code: &mut Code<A>,
-    link: Link,
-    known: Knowledge,
-    source: u32,
-    destination: u32,
-    hosts: &Hosts<A>,
-    to: Targets,
-) -> Result<usize, AllocError>
-    requires { length code.old + 12 * length hosts.now.addresses + 18 < 2 ^ 31 }
-    ensures code { IfOk result
-        (λ entry. emitted link known (any_sides source destination hosts.now.direction
-        hosts.now.first hosts.now.addresses)
-        to.yes to.no code.old
-        ≡ entered code.new entry) }
-    ensures room { OnOk result
-        (length code.new ≤ length code.old + 12 * length hosts.now.addresses + 18) }
-{
-    let addresses = hosts.addresses();
-    let source_field = address_field(source);
-    let destination_field = address_field(destination);
-    match hosts.direction() {
-        Direction::One(Side::Source) => put_among(code, known, source_field, addresses, to),
-        Direction::One(Side::Destination) => {
-            put_among(code, known, destination_field, addresses, to)
-        }
-        Direction::Both(Join::Or) => {
-            let no = put_among(code, known, source_field, addresses, to)?;
-            let no = put_among(
-                code,
-                known,
-                destination_field,
-                addresses,
-                Targets { yes: to.yes, no },
-            )?;
-            let first = address_test(None, hosts.first(), source);
-            put_elementary(code, known, first, Targets { yes: to.yes, no })
-        }
-        Direction::Both(Join::And) => Ok(to.no),
+        source: Place::At(start + source_offset(kind)),
+        destination: Place::At(start + destination_offset(kind)),
     }
 }
 
@@ -188,83 +145,55 @@ fn put_hosts_behind<A: Allocator>(
     link: Link,
     known: Knowledge,
     kind: Kind,
-    hosts: &Hosts<A>,
+    group: &Group<A>,
     to: Targets,
     other: usize,
 ) -> Result<usize, AllocError>
-    requires { length code.old + 12 * length hosts.now.addresses + 24 < 2 ^ 31 }
+    requires { length code.old + 12 * length group.now.numbers + 24 < 2 ^ 31 }
     ensures code { IfOk result
         (λ entry. behind_test known (kind_test link kind) other
         (emitted link (and_fact (fact (kind_test link kind) true) known)
-        (hosts_sides link kind hosts.now)
+        (hosts_sides link kind group.now.direction group.now.first group.now.numbers)
         to.yes to.no code.old)
         ≡ entered code.new entry) }
     ensures room { OnOk result
-        (length code.new ≤ length code.old + 12 * length hosts.now.addresses + 24) }
+        (length code.new ≤ length code.old + 12 * length group.now.numbers + 24) }
 {
-    let start = network(link);
-    let source = start + source_offset(kind);
-    let destination = start + destination_offset(kind);
+    let at = address_places(link, kind);
     let kind = kind_test(link, kind);
-    let behind = known.and_yes(kind);
-    let yes = put_any_sides(code, link, behind, source, destination, hosts, to)?;
+    let (behind, direction) = (known.and_yes(kind), group.direction());
+    let (first, numbers) = (group.first(), group.numbers());
+    let yes = put_any_sides(code, link, behind, direction, at, first, numbers, to)?;
     put_elementary(code, known, kind, Targets { yes, no: other })
 }
 
-// Several hosts by the forms that their protocol allows.
-fn put_several<A: Allocator>(
+/// Several hosts, by the forms that their protocol allows.
+pub fn put_hosts<A: Allocator>(
     code: &mut Code<A>,
     link: Link,
-    hosts: &Hosts<A>,
+    group: &Group<A>,
     to: Targets,
 ) -> Result<usize, AllocError>
-    requires { length code.old + 36 * length hosts.now.addresses + 72 < 2 ^ 31 }
+    requires { length code.old + 36 * length group.now.numbers + 72 < 2 ^ 31 }
     ensures code { IfOk result
-        (λ entry. emitted link nothing (several_formula link hosts.now.protocol hosts.now)
+        (λ entry. emitted link nothing (hosts_formula link group.now.protocol group.now.direction
+        group.now.first group.now.numbers)
         to.yes to.no code.old
         ≡ entered code.new entry) }
     ensures room { OnOk result
-        (length code.new ≤ length code.old + 36 * length hosts.now.addresses + 72) }
+        (length code.new ≤ length code.old + 36 * length group.now.numbers + 72) }
 {
     let none = Knowledge::nothing();
-    match hosts.protocol() {
-        Some(Protocol::Ip) => put_hosts_behind(code, link, none, Kind::Ip, hosts, to, to.no),
+    match group.protocol() {
+        Some(Protocol::Ip) => put_hosts_behind(code, link, none, Kind::Ip, group, to, to.no),
         Some(_) => Ok(to.no),
         None => {
             let not_ip = none.and_no(kind_test(link, Kind::Ip));
             let neither = not_ip.and_no(kind_test(link, Kind::Arp));
-            let rarp = put_hosts_behind(code, link, neither, Kind::Rarp, hosts, to, to.no)?;
-            let arp = put_hosts_behind(code, link, not_ip, Kind::Arp, hosts, to, rarp)?;
-            put_hosts_behind(code, link, none, Kind::Ip, hosts, to, arp)
+            let rarp = put_hosts_behind(code, link, neither, Kind::Rarp, group, to, to.no)?;
+            let arp = put_hosts_behind(code, link, not_ip, Kind::Arp, group, to, rarp)?;
+            put_hosts_behind(code, link, none, Kind::Ip, group, to, arp)
         }
-    }
-}
-
-/// Hosts that are looked for together.
-pub fn put_hosts<A: Allocator>(
-    code: &mut Code<A>,
-    link: Link,
-    hosts: &Hosts<A>,
-    to: Targets,
-) -> Result<usize, AllocError>
-    requires { length code.old + 36 * length hosts.now.addresses + 72 < 2 ^ 31 }
-    ensures code { IfOk result
-        (λ entry. emitted link nothing (hosts_formula link hosts.now) to.yes to.no code.old
-        ≡ entered code.new entry) }
-    ensures room { OnOk result
-        (length code.new ≤ length code.old + 36 * length hosts.now.addresses + 72) }
-{
-    match hosts.addresses() {
-        [_] => {
-            let (direction, mask, address) = (hosts.direction(), None, hosts.first());
-            let net = NetTest {
-                direction,
-                mask,
-                address,
-            };
-            put_net(code, link, hosts.protocol(), net, to)
-        }
-        _ => put_several(code, link, hosts, to),
     }
 }
 

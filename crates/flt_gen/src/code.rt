@@ -1,10 +1,10 @@
 //! Code that grows from its end to its beginning.
 
 ghost use Rattle.std.specs.Prelude.{◌≡◌, ◌+◌, ◌-◌, ◌^◌, ◌<◌, ◌≤◌, List, [], ◌∷◌, length, drop, OnOk};
-ghost use Rattle.flt_gen.specs.Follow.{one_on, two_on, four_on, eight_on, always, followed, entered_at, target};
+ghost use Rattle.flt_gen.specs.Follow.{one_on, two_on, four_on, eight_on, followed, entered_at, target};
 ghost use Rattle.flt_gen.specs.Code.{plain, jump_before, branch_before, test_code};
 
-use crate::elementary::{Elementary, Fact, FieldTest, Place};
+use crate::elementary::{Fact, Place};
 use crate::follow::{Knowledge, onward, past_index};
 use flt_bpf::insn::Insn;
 use flt_bpf::operation::{Operand, Test};
@@ -194,14 +194,6 @@ impl<A: Allocator> Code<A> {
         }
     }
 
-    /// A place followed as far as what is known leads.
-    pub fn followed_always(&self, known: Knowledge, place: usize) -> usize
-        ensures { result ≡ followed self.now known always place }
-    {
-        let test = Elementary::Known(true);
-        self.followed(known, Fact { test, truth: true }, place)
-    }
-
     // Where code is entered behind a test at a place.
     fn entered_at(&self, tested: Place, place: usize) -> usize
         ensures { result ≡ entered_at tested self.now place }
@@ -210,17 +202,13 @@ impl<A: Allocator> Code<A> {
         past_index(&self.backwards[..within], tested, place)
     }
 
-    /// Where a test's jump goes: its target followed, and past a load of the header length that is
-    /// in X already.
+    /// Where a jump behind a test at a place goes, which is taken where a fact holds: its target
+    /// followed, and past a load of the header length that is in X already.
     #[tactic(auto, unfolding(crate::specs::Follow::target))]
-    pub fn target(&self, known: Knowledge, test: FieldTest, truth: bool, place: usize) -> usize
-        ensures { result ≡ target self.now known test truth place }
+    pub fn target(&self, known: Knowledge, tested: Place, own: Fact, place: usize) -> usize
+        ensures { result ≡ target self.now known tested own place }
     {
-        let own = Fact {
-            test: Elementary::Field(test),
-            truth,
-        };
-        self.entered_at(test.place, self.followed(known, own, place))
+        self.entered_at(tested, self.followed(known, own, place))
     }
 
     /// The instructions from a place on, in their order.

@@ -24,11 +24,10 @@ pub enum Place {
     Past(u32, u32),
 }
 
-/// A field: how many bytes behind the start of the packet it stands, how wide it is, and the mask
-/// where not all of its bits count.
+/// A field: where it stands, how wide it is, and the mask where not all of its bits count.
 #[derive(Clone, Copy)]
 pub struct MaskedField {
-    pub at: u32,
+    pub place: Place,
     pub width: Width,
     pub mask: Option<u32>,
 }
@@ -51,11 +50,14 @@ pub enum Elementary {
     Field(FieldTest),
 }
 
-/// The ports that are looked for: one, or those from the first to the second.
+/// The ports that are looked for.
 #[derive(Clone, Copy)]
 pub enum Ports {
     One(u32),
+    /// Those from the first to the second.
     Between(u32, u32),
+    /// Those of a list that is told beside, of which this one stands first.
+    Several(u32),
 }
 
 /// A test of ports: the protocol, if one is asked for, the sides, and the ports.
@@ -73,6 +75,14 @@ pub struct Transport {
     pub tcp: Elementary,
     pub udp: Elementary,
     pub whole: Option<Elementary>,
+    pub source: Place,
+    pub destination: Place,
+}
+
+/// Where a source and a destination stand, and how wide they are.
+#[derive(Clone, Copy)]
+pub struct Sides {
+    pub width: Width,
     pub source: Place,
     pub destination: Place,
 }

@@ -6,7 +6,7 @@ mod among;
 mod code;
 mod elementary;
 mod follow;
-mod hosts;
+mod group;
 mod link;
 mod number;
 mod port;

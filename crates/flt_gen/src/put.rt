@@ -4,7 +4,7 @@ ghost use Rattle.std.specs.Prelude.{◌≡◌, ◌+◌, ◌*◌, ◌^◌, ◌<�
 ghost use Rattle.flt_gen.specs.Code.{indirect_code, field_before, mask_before, comparison_before, test_before, elementary_before, all_before, sides_before, fork_before, entered};
 
 use crate::code::{Code, Targets};
-use crate::elementary::{Elementary, FieldTest, Place};
+use crate::elementary::{Elementary, Fact, FieldTest, Place};
 use crate::follow::{Knowledge, load_code};
 use flt_bpf::operation::{Operand, Test, Width};
 use flt_lang::Direction;
@@ -104,9 +104,10 @@ pub fn put_elementary<A: Allocator>(
         Elementary::Known(true) => Ok(to.yes),
         Elementary::Known(false) => Ok(to.no),
         Elementary::Field(field) => {
+            let (yes, no) = (Fact { test, truth: true }, Fact { test, truth: false });
             let to = Targets {
-                yes: code.target(known, field, true, to.yes),
-                no: code.target(known, field, false, to.no),
+                yes: code.target(known, field.place, yes, to.yes),
+                no: code.target(known, field.place, no, to.no),
             };
             put_test(code, field, to)?;
             Ok(code.top())

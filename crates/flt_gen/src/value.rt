@@ -1,13 +1,15 @@
 //! The code of values with their qualifiers.
 
-ghost use Rattle.std.specs.Prelude.{◌≡◌, ◌+◌, ◌^◌, ◌<◌, ◌≤◌, length, OnOk, IfOk};
+ghost use Rattle.std.specs.Prelude.{◌≡◌, ◌+◌, ◌*◌, ◌^◌, ◌<◌, ◌≤◌, length, OnOk, IfOk};
 ghost use Rattle.flt_gen.specs.Follow.{nothing};
 ghost use Rattle.flt_gen.specs.Code.{emitted, entered, at_top, sized_before};
 ghost use Rattle.flt_gen.specs.Primitives.{host_formula, net_value_formula, qualified_formula};
+ghost use Rattle.flt_gen.specs.Group.{one_formula, several_formula, group_formula};
 
-use crate::address::{put_ip6, put_net};
+use crate::address::{put_hosts, put_ip6, put_net};
 use crate::code::{Code, Targets};
 use crate::elementary::{NetTest, PortTest, Ports};
+use crate::group::Group;
 use crate::link::Link;
 use crate::number::put_operands;
 use crate::port::put_ports;
@@ -106,7 +108,7 @@ pub fn put_qualified<A: Allocator>(
                 direction,
                 ports,
             };
-            put_ports(code, link, wanted, to)
+            put_ports(code, link, wanted, &[], to)
         }
         (ValueType::PortRange, Value::Range { first, last }) => {
             let ports = Ports::Between(first.min(last), first.max(last));
@@ -115,10 +117,101 @@ pub fn put_qualified<A: Allocator>(
                 direction,
                 ports,
             };
-            put_ports(code, link, wanted, to)
+            put_ports(code, link, wanted, &[], to)
         }
         (ValueType::Proto, Value::Number(number, _)) => put_proto(code, link, protocol, number, to),
         _ => Ok(to.no),
+    }
+}
+
+// The only member of a group.
+fn put_one<A: Allocator>(
+    code: &mut Code<A>,
+    link: Link,
+    group: &Group<A>,
+    to: Targets,
+) -> Result<usize, AllocError>
+    requires { length code.old + 96 < 2 ^ 31 }
+    ensures code { IfOk result
+        (λ entry. emitted link nothing (one_formula link group.now.value_type group.now.protocol
+        group.now.direction group.now.first)
+        to.yes to.no code.old
+        ≡ entered code.new entry) }
+    ensures room { OnOk result (length code.new ≤ length code.old + 96) }
+{
+    let (protocol, direction) = (group.protocol(), group.direction());
+    match group.value_type() {
+        ValueType::Host => {
+            let (mask, address) = (None, group.first());
+            let net = NetTest {
+                direction,
+                mask,
+                address,
+            };
+            put_net(code, link, protocol, net, to)
+        }
+        ValueType::Port => {
+            let ports = Ports::One(group.first());
+            let wanted = PortTest {
+                protocol,
+                direction,
+                ports,
+            };
+            put_ports(code, link, wanted, &[], to)
+        }
+        _ => Ok(to.no),
+    }
+}
+
+// Several members of a group.
+fn put_several<A: Allocator>(
+    code: &mut Code<A>,
+    link: Link,
+    group: &Group<A>,
+    to: Targets,
+) -> Result<usize, AllocError>
+    requires { length code.old + 36 * length group.now.numbers + 96 < 2 ^ 31 }
+    ensures code { IfOk result
+        (λ entry. emitted link nothing (several_formula link group.now.value_type
+        group.now.protocol group.now.direction group.now.first group.now.numbers)
+        to.yes to.no code.old
+        ≡ entered code.new entry) }
+    ensures room { OnOk result
+        (length code.new ≤ length code.old + 36 * length group.now.numbers + 96) }
+{
+    let (protocol, direction) = (group.protocol(), group.direction());
+    match group.value_type() {
+        ValueType::Host => put_hosts(code, link, group, to),
+        ValueType::Port => {
+            let ports = Ports::Several(group.first());
+            let wanted = PortTest {
+                protocol,
+                direction,
+                ports,
+            };
+            put_ports(code, link, wanted, group.numbers(), to)
+        }
+        _ => Ok(to.no),
+    }
+}
+
+/// The members of a group, which are looked for together.
+pub fn put_group<A: Allocator>(
+    code: &mut Code<A>,
+    link: Link,
+    group: &Group<A>,
+    to: Targets,
+) -> Result<usize, AllocError>
+    requires { length code.old + 36 * length group.now.numbers + 96 < 2 ^ 31 }
+    ensures code { IfOk result
+        (λ entry. emitted link nothing (group_formula link group.now) to.yes to.no code.old
+        ≡ entered code.new entry) }
+    ensures room { OnOk result
+        (length code.new ≤ length code.old + 36 * length group.now.numbers + 96) }
+{
+    match group.numbers() {
+        [_] => put_one(code, link, group, to),
+        _ => put_several(code, link, group, to),
     }
 }
 

@@ -3,18 +3,17 @@
 //! processor's stack than a short one.
 
 ghost use Rattle.std.specs.Prelude.{◌≡◌, ◌+◌, ◌^◌, ◌<◌, ◌≤◌, true, length, OnOk, IfOk};
-ghost use Rattle.flt_gen.specs.Hosts.{more_hosts};
+ghost use Rattle.flt_gen.specs.Group.{larger_group};
 ghost use Rattle.flt_gen.specs.Code.{entered};
-ghost use Rattle.flt_gen.specs.Walk.{start, truth_put, relation_put, number_put, is_number_node, is_truth_node, operands_put, settled, hosts_put, value_put, join_put, truth_node_put, with_node, insns_of};
+ghost use Rattle.flt_gen.specs.Walk.{start, truth_put, relation_put, number_put, is_number_node, is_truth_node, operands_put, settled, group_put, value_put, join_put, truth_node_put, with_node, insns_of};
 
-use crate::address::put_hosts;
 use crate::code::{Code, Targets};
-use crate::hosts::Hosts;
+use crate::group::Group;
 use crate::link::Link;
 use crate::number::{operator_code, put_accessor, put_accessors, put_operands, width_of};
 use crate::primitive::{put_cast, put_check};
 use crate::put::put_comparison;
-use crate::value::{put_qualified, put_sized};
+use crate::value::{put_group, put_qualified, put_sized};
 use crate::waiting::{LeftTruth, Numbers, Truths, Waiting};
 use flt_bpf::insn::Insn;
 use flt_bpf::operation::Operand;
@@ -38,8 +37,8 @@ pub struct Walk<A: Allocator> {
     numbers: Numbers<A>,
     /// The protocols of the relation's accessors, that of the last word first.
     accessors: Vec<Protocol, A>,
-    /// Hosts that are tested in front of the code, and whose code isn't there yet.
-    hosts: Hosts<A>,
+    /// Hosts or ports that are tested in front of the code, and whose code isn't there yet.
+    group: Group<A>,
     /// Whether an or was the last node: its right operand is next.
     chained: bool,
 }
@@ -57,7 +56,7 @@ impl<A: Allocator> Model for Walk<A> {
       truths = w.truths;
       numbers = w.numbers;
       accessors = reverse w.accessors.items;
-      hosts = w.hosts;
+      group = w.group;
       chained = w.chained;
     } };
 }
@@ -160,34 +159,34 @@ impl<A: Allocator> Walk<A> {
         }
     }
 
-    // The code of the hosts that wait is put.
+    // The code of the group that waits is put.
     fn settle(&mut self, link: Link) -> Result<(), AllocError>
         requires room { length self.old.code < 2 ^ 30 }
-        requires some { length self.old.hosts.addresses ≤ 4096 }
+        requires some { length self.old.group.numbers ≤ 4096 }
         ensures walk { OnOk result (self.new ≡ settled link self.old) }
         ensures room { OnOk result (length self.new.code ≤ length self.old.code + 150000) }
     {
-        if !self.hosts.addresses().is_empty() {
-            self.to.no = put_hosts(&mut self.code, link, &self.hosts, self.to)?;
+        if !self.group.numbers().is_empty() {
+            self.to.no = put_group(&mut self.code, link, &self.group, self.to)?;
         }
-        self.hosts.clear();
+        self.group.clear();
         self.chained = false;
         Ok(())
     }
 
-    // A host and those behind it: they wait for one more if the host is the right operand of an or.
-    fn finish_hosts(&mut self, link: Link) -> Result<(), AllocError>
+    // A host or port and those behind it: they wait for one more if the host is the right operand of an or.
+    fn finish_group(&mut self, link: Link) -> Result<(), AllocError>
         requires room { length self.old.code < 2 ^ 30 }
-        requires some { length self.old.hosts.addresses ≤ 4096 }
-        ensures { OnOk result (self.new ≡ hosts_put link self.old self.old.hosts self.old.chained) }
+        requires some { length self.old.group.numbers ≤ 4096 }
+        ensures { OnOk result (self.new ≡ group_put link self.old self.old.group self.old.chained) }
     {
         if self.chained {
             let _ = self.truths.pop();
             self.chained = false;
             return Ok(());
         }
-        let entry = put_hosts(&mut self.code, link, &self.hosts, self.to)?;
-        self.hosts.clear();
+        let entry = put_group(&mut self.code, link, &self.group, self.to)?;
+        self.group.clear();
         self.finish_truth(entry);
         Ok(())
     }
@@ -195,12 +194,12 @@ impl<A: Allocator> Walk<A> {
     // A value with all its qualifiers.
     fn put_value(&mut self, link: Link, quals: FullQuals, value: Value) -> Result<(), AllocError>
         requires before { length self.old.code < 2 ^ 30 }
-        requires some { length self.old.hosts.addresses ≤ 4096 }
+        requires some { length self.old.group.numbers ≤ 4096 }
         ensures { OnOk result (self.new ≡ value_put link quals value self.old
-            (more_hosts quals value self.old.hosts)) }
+            (larger_group quals value self.old.group)) }
     {
-        if self.hosts.put(quals, value)? {
-            return self.finish_hosts(link);
+        if self.group.put(quals, value)? {
+            return self.finish_group(link);
         }
         self.settle(link)?;
         let entry = put_qualified(&mut self.code, link, quals, value, self.to)?;
@@ -211,7 +210,7 @@ impl<A: Allocator> Walk<A> {
     // An operator between two truths.
     fn put_join(&mut self, link: Link, join: Join) -> Result<(), AllocError>
         requires room { length self.old.code < 2 ^ 30 }
-        requires some { length self.old.hosts.addresses ≤ 4096 }
+        requires some { length self.old.group.numbers ≤ 4096 }
         ensures { OnOk result (self.new ≡ join_put link join self.old) }
     {
         match join {
@@ -251,7 +250,7 @@ impl<A: Allocator> Walk<A> {
     /// One more node, the one before those that were put.
     pub fn put_node(&mut self, link: Link, node: &Node) -> Result<(), AllocError>
         requires few { self.old.slot < 2 ^ 31 }
-        requires some { length self.old.hosts.addresses ≤ 4096 }
+        requires some { length self.old.group.numbers ≤ 4096 }
         requires before { length self.old.code < 2 ^ 30 }
         requires after { length (with_node link self.old node.now).code < 2 ^ 30 }
         ensures { OnOk result (self.new ≡ with_node link self.old node.now) }
@@ -284,7 +283,7 @@ impl<A: Allocator> Walk<A> {
             truths: _,
             numbers: _,
             accessors: _,
-            hosts: _,
+            group: _,
             chained: _,
         } = self;
         code.into_insns(to.yes)
@@ -299,7 +298,7 @@ impl<A: Allocator + Clone> Walk<A> {
         let truths = Truths::new(alloc.clone()?);
         let numbers = Numbers::new(alloc.clone()?);
         let accessors = Vec::new(alloc.clone()?);
-        let hosts = Hosts::new(alloc.clone()?);
+        let group = Group::new(alloc.clone()?);
         let mut code = Code::new(alloc);
         code.put_plain(6, 0)?;
         code.put_plain(6, KEEP)?;
@@ -310,7 +309,7 @@ impl<A: Allocator + Clone> Walk<A> {
             truths,
             numbers,
             accessors,
-            hosts,
+            group,
             chained: false,
         })
     }

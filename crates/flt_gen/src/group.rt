@@ -1,0 +1,180 @@
+//! Hosts or ports that are looked for together.
+
+ghost use Rattle.std.specs.Prelude.{◌≡◌, ◌≤◌, if◌then◌else◌, Some, None, length, IfOk};
+ghost use Rattle.std.specs.List.{insert};
+ghost use Rattle.flt_gen.specs.Group.{no_group, inserted, same_type, same_protocol, same_direction, goes_with, member_number, larger_group};
+
+use flt_lang::{Direction, FullQuals, Value};
+use flt_words::{Join, Protocol, Side, ValueType};
+use std::alloc::{AllocError, Allocator};
+use std::marker::Model;
+
+/// How many are looked for together at most.
+const MOST_TOGETHER: usize = 4096;
+
+/// Hosts or ports with the same protocol and direction: the address or number of the one that
+/// stands first, and those of all, which ascend.
+#[derive(Drop)]
+pub struct Group<A: Allocator> {
+    value_type: ValueType,
+    protocol: Option<Protocol>,
+    direction: Direction,
+    first: u32,
+    numbers: Vec<u32, A>,
+}
+
+impl<A: Allocator> Model for Group<A> {
+    ghost use Rattle.flt_gen.specs.Group.{Group};
+
+    ghost Value = { Group };
+
+    ghost view = { λ g. record {
+      value_type = g.value_type;
+      protocol = g.protocol;
+      direction = g.direction;
+      first = g.first;
+      numbers = g.numbers.items;
+    } };
+}
+
+fn same_type(one: ValueType, other: ValueType) -> bool
+    ensures { result ≡ same_type one other }
+{
+    match (one, other) {
+        (ValueType::Host, ValueType::Host) | (ValueType::Port, ValueType::Port) => true,
+        _ => false,
+    }
+}
+
+fn same_protocol(one: Option<Protocol>, other: Option<Protocol>) -> bool
+    ensures { result ≡ same_protocol one other }
+{
+    match (one, other) {
+        (None, None) => true,
+        (Some(Protocol::Ip), Some(Protocol::Ip)) => true,
+        (Some(Protocol::Tcp), Some(Protocol::Tcp)) => true,
+        (Some(Protocol::Udp), Some(Protocol::Udp)) => true,
+        _ => false,
+    }
+}
+
+// Those that ask for both sides at once are never the same.
+fn same_direction(one: Direction, other: Direction) -> bool
+    ensures { result ≡ same_direction one other }
+{
+    match (one, other) {
+        (Direction::One(Side::Source), Direction::One(Side::Source)) => true,
+        (Direction::One(Side::Destination), Direction::One(Side::Destination)) => true,
+        (Direction::Both(Join::Or), Direction::Both(Join::Or)) => true,
+        _ => false,
+    }
+}
+
+// The address of a host of four parts, or the number of a port.
+fn member_number(value_type: ValueType, value: Value) -> Option<u32>
+    ensures { result ≡ member_number value_type value }
+{
+    match (value_type, value) {
+        (ValueType::Host, Value::Dotted(host, _)) => Some(host.address),
+        (ValueType::Port, Value::Number(port, _)) => Some(port),
+        _ => None,
+    }
+}
+
+// Where a number comes among others that ascend.
+fn place_among(numbers: &[u32], number: u32) -> usize
+    ensures inside { result ≤ length numbers.now }
+    ensures place { insert numbers.now result number ≡ inserted number numbers.now }
+{
+    let mut at = 0;
+    'lower: while at < numbers.len() && numbers[at] < number {
+        at += 1;
+    }
+    at
+}
+
+impl<A: Allocator> Group<A> {
+    pub fn new(alloc: A) -> Self
+        ensures { result ≡ no_group }
+    {
+        Group {
+            value_type: ValueType::Host,
+            protocol: None,
+            direction: Direction::Both(Join::Or),
+            first: 0,
+            numbers: Vec::new(alloc),
+        }
+    }
+
+    pub fn clear(&mut self)
+        ensures { self.new ≡ no_group }
+    {
+        self.value_type = ValueType::Host;
+        self.protocol = None;
+        self.direction = Direction::Both(Join::Or);
+        self.first = 0;
+        self.numbers.clear();
+    }
+
+    /// The type of the members.
+    pub fn value_type(&self) -> ValueType
+        ensures { result ≡ self.now.value_type }
+    {
+        self.value_type
+    }
+
+    pub fn protocol(&self) -> Option<Protocol>
+        ensures { result ≡ self.now.protocol }
+    {
+        self.protocol
+    }
+
+    pub fn direction(&self) -> Direction
+        ensures { result ≡ self.now.direction }
+    {
+        self.direction
+    }
+
+    /// The address or number of the member that stands first.
+    pub fn first(&self) -> u32
+        ensures { result ≡ self.now.first }
+    {
+        self.first
+    }
+
+    pub fn numbers(&self) -> &[u32]
+        ensures { result.now ≡ self.now.numbers }
+    {
+        &self.numbers
+    }
+
+    fn goes_with(&self, quals: FullQuals) -> bool
+        ensures { result ≡ goes_with quals self.now self.now.numbers }
+    {
+        self.numbers.is_empty()
+            || (same_type(quals.value_type, self.value_type)
+                && (same_protocol(quals.protocol, self.protocol)
+                    && (same_direction(quals.direction, self.direction)
+                        && self.numbers.len() < MOST_TOGETHER)))
+    }
+
+    /// A member in front of the others, if it goes with them. The answer is whether it does.
+    pub fn put(&mut self, quals: FullQuals, value: Value) -> Result<bool, AllocError>
+        ensures taken { IfOk result (λ taken. larger_group quals value self.old
+            ≡ (if taken then Some self.new else None)) }
+        ensures same { IfOk result (λ taken. self.new ≡ (if taken then self.new else self.old)) }
+    {
+        match member_number(quals.value_type, value) {
+            Some(number) if self.goes_with(quals) => {
+                let at = place_among(&self.numbers, number);
+                self.numbers.insert(at, number)?;
+                self.value_type = quals.value_type;
+                self.protocol = quals.protocol;
+                self.direction = quals.direction;
+                self.first = number;
+                Ok(true)
+            }
+            _ => Ok(false),
+        }
+    }
+}
