@@ -25,6 +25,15 @@ else
     program=$(ls -t "$root"/out/built-*/capkit | head -n 1)
 fi
 
+# The program tells its version itself.
+case $("$program" --version) in
+"capkit ${version%-1} ("*) ;;
+*)
+    printf '%s: packaging/version is %s, and the program is: %s\n' "$0" "${version%-1}" "$("$program" --version)" >&2
+    exit 1
+    ;;
+esac
+
 work=$(mktemp -d)
 trap 'rm -rf "$work"' EXIT
 tree=$work/tree
@@ -56,7 +65,7 @@ gzip -9n "$tree"/usr/share/man/man1/*
 
 # The documents that a user reads, and the samples.
 install -m 644 "$root/README.md" "$documents/"
-for page in FILTER FORMATS INSTALL MACHINE; do
+for page in FILTER FORMATS FROM_TCPDUMP INSTALL LINES MACHINE RECIPES SCALE; do
     install -m 644 "$root/docs/$page.md" "$documents/docs/"
 done
 install -m 644 "$root"/samples/* "$documents/samples/"
@@ -70,6 +79,7 @@ capkit ($version) unstable; urgency=medium
  -- $name <$email>  $(LC_ALL=C date -Ru -d "@$SOURCE_DATE_EPOCH")
 END
 gzip -9n "$documents/changelog.Debian"
+gzip -9nc "$root/CHANGELOG.md" >"$documents/changelog.gz"
 
 # What dpkg reads.
 (cd "$tree" && find usr -type f -exec md5sum {} +) | LC_ALL=C sort -k 2 >"$tree/DEBIAN/md5sums"

@@ -57,9 +57,21 @@ fn write_command(rt: &HostRuntime, name: &str) -> Result<(), Fail> {
     Ok(())
 }
 
+/// Writes the options that stand in place of a command.
+fn write_program_options(rt: &HostRuntime, program: &Help<'_>) -> Result<(), Fail> {
+    for option in &program.options {
+        let words = words_of(rt.alloc(), option)?;
+        let text = escaped(rt.alloc(), option.text)?;
+        let place = "complete -c capkit -n __fish_use_subcommand";
+        rt.println(format_args!("{place}{words} -d '{text}'"))?;
+    }
+    Ok(())
+}
+
 /// Writes the completion.
 pub fn write_completion(rt: &HostRuntime, program: &Help<'_>) -> Result<(), Fail> {
     rt.println(format_args!("# Completion of capkit for fish.\ncomplete -c capkit -f"))?;
+    write_program_options(rt, program)?;
     for command in &program.commands {
         let text = escaped(rt.alloc(), command.text)?;
         let name = command.form;

@@ -5,6 +5,14 @@ use std::alloc::{AllocError, Global};
 /// The values and arguments that name files.
 const FILES: [&str; 5] = ["IN", "OUT", "FILE", "LISTING", "[MORE]..."];
 
+/// What stands before the values that an option may have, at the end of its line or on one of its own.
+const CHOICES: &str = "[possible values: ";
+
+/// The names between these brackets.
+fn without_bracket(choices: &str) -> &str {
+    choices.strip_suffix("]").unwrap_or(choices)
+}
+
 /// A command, an argument or an option, as a line of help lists it.
 #[derive(Clone, Copy, Drop)]
 pub struct Entry<'a> {
@@ -21,11 +29,11 @@ impl<'a> Entry<'a> {
     fn of_line(line: &'a str) -> Entry<'a> {
         let (form, text) = line.trim().split_once("  ").unwrap_or((line.trim(), ""));
         let text = text.trim_start();
-        let (text, choices) = text.split_once(" [possible values: ").unwrap_or((text, ""));
+        let (text, choices) = text.split_once(CHOICES).unwrap_or((text, ""));
         Entry {
             form,
-            text,
-            choices: choices.strip_suffix("]").unwrap_or(choices),
+            text: text.trim_end(),
+            choices: without_bracket(choices),
         }
     }
 
@@ -62,14 +70,15 @@ impl<'a> Entry<'a> {
     }
 }
 
-/// The part of help that a line belongs to.
+/// The part of help that a line belongs to. An empty line ends a part.
 #[derive(Clone, Copy, PartialEq, Eq)]
 enum Part {
-    Head,
+    About,
     Commands,
     Arguments,
     Options,
     Examples,
+    Other,
 }
 
 /// The parts of help.
@@ -82,6 +91,7 @@ pub struct Help<'a> {
     pub commands: Vec<Entry<'a>>,
     pub arguments: Vec<Entry<'a>>,
     pub options: Vec<Entry<'a>>,
+    /// The lines of the examples: command lines stand deeper than their descriptions.
     pub examples: Vec<&'a str>,
 }
 
@@ -96,10 +106,10 @@ impl<'a> Help<'a> {
             options: Vec::new(alloc),
             examples: Vec::new(alloc),
         };
-        let mut part = Part::Head;
+        let mut part = Part::About;
         for line in text.lines() {
             match line {
-                "" => {}
+                "" => part = Part::Other,
                 "Commands:" => part = Part::Commands,
                 "Arguments:" => part = Part::Arguments,
                 "Options:" => part = Part::Options,
@@ -116,16 +126,27 @@ impl<'a> Help<'a> {
             self.usage = usage.split_once("[OPTIONS]").unwrap_or(("", "")).1.trim();
             return Ok(());
         }
-        if let Some(example) = line.strip_prefix("Example: ") {
-            self.examples.push(example)?;
-            return Ok(());
-        }
         match part {
-            Part::Head => self.about = line,
+            Part::About => self.about = line,
             Part::Commands => self.commands.push(Entry::of_line(line))?,
             Part::Arguments => self.arguments.push(Entry::of_line(line))?,
-            Part::Options => self.options.push(Entry::of_line(line))?,
-            Part::Examples => self.examples.push(line.trim())?,
+            Part::Options => self.read_option(line)?,
+            Part::Examples => self.examples.push(line)?,
+            Part::Other => {}
+        }
+        Ok(())
+    }
+
+    /// Reads an option, or the values of the one above.
+    fn read_option(&mut self, line: &'a str) -> Result<(), AllocError> {
+        let Some(choices) = line.trim().strip_prefix(CHOICES) else {
+            return self
+                .options
+                .push(Entry::of_line(line))
+                .map_err(|_| AllocError);
+        };
+        if let Some(option) = self.options.last_mut() {
+            option.choices = without_bracket(choices);
         }
         Ok(())
     }

@@ -15,18 +15,43 @@ use cap_line::{Usage, command_of};
 use std::alloc::Global;
 use std::test::Fail;
 
-/// The help of a command; of the program where the name is empty.
-pub(crate) fn help_text(alloc: Global, name: &str) -> Result<String, Fail> {
-    let mut words = Vec::new(alloc);
-    for word in ["capkit", name, "-h"] {
-        if !word.is_empty() {
-            words.push(String::from_str(alloc, word)?)?;
+/// The columns of a terminal, which no line of help exceeds.
+const COLUMNS: usize = 80;
+
+/// Refuses help that a terminal would break.
+fn check_width(text: &str) -> Result<(), Fail> {
+    for line in text.lines() {
+        if line.chars().count() > COLUMNS {
+            return Err(Fail::new(format_args!("over {COLUMNS} columns: {line}")));
         }
     }
-    match command_of(alloc, words) {
-        Err(Usage::Refused(error)) => Ok(format!(in alloc; "{error}")?),
-        _ => Err(Fail::new(format_args!("{name}: no help"))),
+    Ok(())
+}
+
+/// What clap answers to these words, of which an empty one is left out: help, or the version.
+fn answer_to(alloc: Global, words: &[&str]) -> Result<String, Fail> {
+    let mut line = Vec::new(alloc);
+    for word in words {
+        if !word.is_empty() {
+            line.push(String::from_str(alloc, word)?)?;
+        }
     }
+    match command_of(alloc, line) {
+        Err(Usage::Refused(error)) => Ok(format!(in alloc; "{error}")?),
+        _ => Err(Fail::new(format_args!("{words:?}: no answer"))),
+    }
+}
+
+/// The help of a command; of the program where the name is empty.
+pub(crate) fn help_text(alloc: Global, name: &str) -> Result<String, Fail> {
+    let text = answer_to(alloc, &["capkit", name, "-h"])?;
+    check_width(&text)?;
+    Ok(text)
+}
+
+/// The version of the program, with its name in front.
+pub(crate) fn version_text(alloc: Global) -> Result<String, Fail> {
+    answer_to(alloc, &["capkit", "--version"])
 }
 
 /// Writes the line that stands before a page.

@@ -1,6 +1,7 @@
 //! Manual pages in mdoc(7): the prose of a file, with lists of what help says in the places of lines with `@`.
 
 use crate::help::{Entry, Help};
+use crate::version_text;
 use std::alloc::{AllocError, Global};
 use std::fs;
 use std::test::Fail;
@@ -115,12 +116,31 @@ fn write_options(rt: &HostRuntime, help: &Help<'_>) -> Result<(), Fail> {
     Ok(())
 }
 
-/// Writes the examples of help.
+/// Writes the examples of help: descriptions, and command lines, which stand deeper.
 fn write_examples(rt: &HostRuntime, help: &Help<'_>) -> Result<(), Fail> {
-    for example in &help.examples {
-        let text = escaped(rt.alloc(), example)?;
-        rt.println(format_args!(".Bd -literal -offset indent\n{text}\n.Ed"))?;
+    let mut is_command = false;
+    for line in &help.examples {
+        let text = escaped(rt.alloc(), line.trim())?;
+        let was_command = is_command;
+        is_command = line.starts_with("    ");
+        if was_command && !is_command {
+            rt.println(format_args!(".Ed\n.Pp"))?;
+        } else if is_command && !was_command {
+            rt.println(format_args!(".Bd -literal -offset indent"))?;
+        }
+        rt.println(format_args!("{text}"))?;
     }
+    if is_command {
+        rt.println(format_args!(".Ed"))?;
+    }
+    Ok(())
+}
+
+/// Writes the version of the program.
+fn write_version(rt: &HostRuntime) -> Result<(), Fail> {
+    let text = version_text(rt.alloc())?;
+    let version = escaped(rt.alloc(), text.trim())?;
+    rt.println(format_args!("{version}."))?;
     Ok(())
 }
 
@@ -132,6 +152,7 @@ fn write_line(rt: &HostRuntime, name: &str, help: &Help<'_>, line: &str) -> Resu
         "@arguments" => write_values(rt, "Ar", &help.arguments),
         "@options" => write_options(rt, help),
         "@examples" => write_examples(rt, help),
+        "@version" => write_version(rt),
         line => {
             rt.println(format_args!("{line}"))?;
             Ok(())
