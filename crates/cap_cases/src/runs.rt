@@ -226,11 +226,11 @@ fn left(status: Option<u8>, out: &TrialOutput<'_>, err: &TrialOutput<'_>) -> Lef
 }
 
 /// Runs the command to its end.
-fn run_whole(
-    memory: &Memory,
-    command: Command<&Memory>,
-    names: Vec<String<&Memory>, &Memory>,
-    inputs: Vec<TrialInput<'_>, &Memory>,
+fn run_whole<'m>(
+    memory: &'m Memory,
+    command: Command<&'m Memory>,
+    names: Vec<String<&'m Memory>, &'m Memory>,
+    inputs: Vec<TrialInput<'_>, &'m Memory>,
     out: TrialOutput<'_>,
     err: TrialOutput<'_>,
 ) -> Left
@@ -260,11 +260,11 @@ where
 }
 
 /// Runs the command for so many steps.
-fn run_steps(
-    memory: &Memory,
-    command: Command<&Memory>,
-    names: Vec<String<&Memory>, &Memory>,
-    inputs: Vec<TrialInput<'_>, &Memory>,
+fn run_steps<'m>(
+    memory: &'m Memory,
+    command: Command<&'m Memory>,
+    names: Vec<String<&'m Memory>, &'m Memory>,
+    inputs: Vec<TrialInput<'_>, &'m Memory>,
     out: TrialOutput<'_>,
     err: TrialOutput<'_>,
     steps: u64,
