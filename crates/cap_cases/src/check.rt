@@ -77,7 +77,7 @@ fn is_listing(outcome: &Outcome, most: Option<usize>) -> bool {
         Some(most) => most.saturating_add(1),
         None => usize::MAX,
     };
-    outcome.status == 0 && outcome.messages.is_empty() && 1 < lines && lines <= most
+    outcome.status == Some(0) && outcome.messages.is_empty() && 1 < lines && lines <= most
 }
 
 /// What runs of a line that writes a listing do that the case doesn't state; what the first one

@@ -1,12 +1,14 @@
 //! Runs of a command line over memory.
+ghost use Rattle.std.specs.Prelude.{◌≡◌, true, vec_len};
+ghost use Rattle.cap_tools.specs.Command.{is_proper};
 
 use crate::case::Case;
-use cap_job::run;
+use cap_job::{Job, Turn, run};
 use cap_line::Line;
-use cap_octet::{TrialInput, TrialOutput};
+use cap_octet::{Input, Output, TrialInput, TrialOutput};
 use cap_tools::{Command, Compile, Edit, Print};
 use cap_trial::Trial;
-use std::alloc::{AllocError, Global};
+use std::alloc::{AllocError, Allocator, Global};
 use std::test::Fail;
 
 /// More than any call moves.
@@ -40,6 +42,8 @@ pub struct Devices {
     pub output: usize,
     /// How many bytes of messages are taken.
     pub messages: usize,
+    /// After how many steps the job is closed; else it is run to its end.
+    pub steps: Option<u64>,
 }
 
 /// How many bytes listings of the words' expressions take at most, besides what any listing takes.
@@ -67,6 +71,7 @@ pub fn roomy(piece: usize, output: usize) -> Devices {
         failed_allocation: 0,
         output,
         messages: MESSAGES,
+        steps: None,
     }
 }
 
@@ -83,7 +88,8 @@ pub fn for_listing(case: &Case<'_>) -> Devices {
 /// What a run leaves.
 #[derive(Drop)]
 pub struct Outcome {
-    pub status: u8,
+    /// None where the job was closed before its end.
+    pub status: Option<u8>,
     pub written: Vec<u8>,
     pub messages: Vec<u8>,
     /// How many allocations were asked for.
@@ -100,9 +106,14 @@ impl Outcome {
         is_counted && self.is(&case.written, &case.messages, case.status)
     }
 
+    /// Whether the run ended well, whatever it wrote.
+    pub fn is_clean(&self) -> bool {
+        self.status == Some(0) && self.messages.is_empty()
+    }
+
     /// Whether the run wrote these bytes and reported this, with this status.
     pub fn is(&self, written: &[u8], messages: &[u8], status: u8) -> bool {
-        self.status == status
+        self.status == Some(status)
             && self.written.as_slice() == written
             && self.messages.as_slice() == messages
     }
@@ -199,11 +210,57 @@ fn inputs_over<'m, 'c>(
     for name in line.inputs.iter() {
         let bytes = case.file(name, &case.input);
         let piece = devices.piece.max(1);
-        let fails = case.failing.is_empty() || name.as_str() == case.failing;
+        let fails = case.about.is_empty() || name.as_str() == case.about;
         let failed_read = if fails { devices.failed_read } else { None };
         inputs.push(TrialInput::new(bytes, piece, failed_read))?;
     }
     Ok(inputs)
+}
+
+/// Makes so many steps, closes the job, and returns the status of the last step.
+fn step_on<I, O, E, A>(mut job: Job<I, O, E, A>, steps: u64) -> (Option<u8>, O, E)
+where
+    I: Input + Drop,
+    O: Output,
+    E: Output,
+    A: Allocator + Copy + Drop,
+{
+    let mut status = None;
+    for _ in 0..steps {
+        status = match job.step() {
+            Turn::More => None,
+            Turn::Done(status) => Some(status),
+        };
+    }
+    let (out, err) = job.close();
+    (status, out, err)
+}
+
+/// Runs the command for so many steps, or to its end.
+fn run_for<I, O, E, A>(
+    alloc: A,
+    command: Command<A>,
+    names: Vec<String<A>, A>,
+    inputs: Vec<I, A>,
+    out: O,
+    err: E,
+    steps: Option<u64>,
+) -> (Option<u8>, O, E)
+where
+    I: Input + Drop,
+    O: Output,
+    E: Output,
+    A: Allocator + Copy + Drop,
+    requires proper { is_proper command (vec_len inputs) ≡ true }
+{
+    let Some(steps) = steps else {
+        let (status, out, err) = run(alloc, command, names, inputs, out, err);
+        return (Some(status), out, err);
+    };
+    match Job::new(alloc, command, names, inputs, out, err) {
+        Ok(job) => step_on(job, steps),
+        Err((out, err)) => (Some(1), out, err),
+    }
 }
 
 /// Runs the line's command, and returns its status and how many bytes it wrote and reported.
@@ -213,7 +270,7 @@ fn run_in(
     case: &Case<'_>,
     devices: Devices,
     (output, messages): (&mut [u8], &mut [u8]),
-) -> Result<(u8, usize, usize), Fail> {
+) -> Result<(Option<u8>, usize, usize), Fail> {
     let command = command_over(memory, line, case)?;
     let names = names_over(memory, line)?;
     let inputs = inputs_over(memory, line, case, devices)?;
@@ -224,7 +281,7 @@ fn run_in(
     let out = TrialOutput::new(output, piece);
     let err = TrialOutput::new(messages, piece);
     memory.refuse(devices.failed_allocation);
-    let (status, out, err) = run(memory, command, names, inputs, out, err);
+    let (status, out, err) = run_for(memory, command, names, inputs, out, err, devices.steps);
     Ok((status, out.written().len(), err.written().len()))
 }
 

@@ -10,13 +10,13 @@ const SHOWN: usize = 400;
 /// What a run leaves: its status, its messages and its first bytes in hexadecimal digits.
 pub fn outcome_text(alloc: Global, outcome: &Outcome) -> Result<String, AllocError> {
     let mut text = String::new(alloc);
-    let status = outcome.status;
     let size = outcome.written.len();
     let count = outcome.allocations;
-    write!(
-        text,
-        "  status {status}, {size} bytes written, {count} allocations\n"
-    )?;
+    match outcome.status {
+        Some(status) => write!(text, "  status {status}, ")?,
+        None => text.push_str("  closed, ")?,
+    }
+    write!(text, "{size} bytes written, {count} allocations\n")?;
     for byte in outcome.messages.iter() {
         text.push(if byte.is_ascii() { *byte as char } else { '?' })?;
     }
