@@ -23,8 +23,12 @@ Examples:
     capkit edit -s 96 in.pcap headers.pcapng
   Remove 8 bytes that a tap puts before each packet:
     capkit edit --chop-start 8 tapped.pcap plain.pcapng
+  Remove the checksum that ends each frame:
+    capkit edit --chop-end 4 with-fcs.pcap frames.pcapng
   Move times from winter time to summer time:
     capkit edit --later 3600 winter.pcap summer.pcapng
+  Move the times of a clock that was half a second fast:
+    capkit edit --earlier 0.5 fast.pcap right.pcapng
   Leave out the duplicates of a mirror port:
     capkit edit -D 5 mirrored.pcap single.pcapng
 
