@@ -170,6 +170,8 @@ pub fn decode(code: u16) -> Option<Operation>
 
 impl Operation {
     /// The code that stands for the operation. `decode` gives the operation back.
+    // Where this is inlined, the code of an operation that is written out costs nothing.
+    #[inline(always)]
     #[tactic(auto, unfolding(crate::specs::Instructions::operation_of))]
     pub fn code(self) -> u16
         ensures code { result ≡ code_of self }

@@ -20,28 +20,29 @@ use Rattle.flt_gen.specs.declared.link.Link.{Link}
 use Rattle.flt_gen.specs.declared.elementary.Place.{Place}
 use Rattle.flt_gen.specs.declared.elementary.Place.TheVariants.{At, Past}
 use Rattle.flt_gen.specs.declared.elementary.Elementary.TheVariants.{Known, Field}
-use Rattle.flt_bpf.specs.Instructions.{operation_of}
+use Rattle.flt_bpf.specs.Instructions.{operation_of, code_of}
 use Rattle.flt_gen.specs.Elementary.{network}
 use Rattle.flt_gen.specs.Numbers.{width_of}
 use Rattle.flt_gen.specs.Formula.{Formula, Single, Compare, Both, Either, Except, Guard, Fork, Choose, Among}
-use Rattle.flt_gen.specs.Code.{plain, indirect_code, operator_code, test_code, branch_insn, jump_before, branch_before, comparison_before, field_before, mask_before, base_before, transport_before, accessor_before, number_before, Entered, at_top, chain_before, search_before, LEVELS, elementary_before, fork_before, emitted, NEAR}
+use Rattle.flt_gen.specs.Code.{plain, computation, branch_insn, jump_before, branch_before, comparison_before, field_before, mask_before, base_before, transport_before, accessor_before, number_before, Entered, at_top, chain_before, search_before, LEVELS, elementary_before, fork_before, emitted, NEAR}
 use Rattle.flt_gen.specs.declared.follow.Knowledge.{Knowledge}
 use Rattle.flt_gen.specs.Follow.{and_fork, load_code, fact, always, and_fact, target}
 use Rattle.flt_gen.specs.declared.elementary.Elementary.{Elementary}
 use Rattle.flt_gen.specs.Layout.{is_branch, JUMP, IsNeeded, JumpsAreNeeded}
 use Rattle.flt_gen.proofs.Tails.{tail, Extends, extends_none, extends_on, test_extends, relation_extends, emitted_extends, by_test}
+use Rattle.flt_bpf.specs.declared.operation.Operation.TheVariants.{Jump, JumpIf, LoadIndirect}
 
 pub load_no_jump : (w : Width) → load_code w ≢ JUMP
 load_no_jump Word = λ e. absurd (omega arith)
 load_no_jump HalfWord = λ e. absurd (omega arith)
 load_no_jump Byte = λ e. absurd (omega arith)
 
-pub indirect_no_jump : (w : Width) → indirect_code w ≢ JUMP
+pub indirect_no_jump : (w : Width) → code_of (LoadIndirect w) ≢ JUMP
 indirect_no_jump Word = λ e. absurd (omega arith)
 indirect_no_jump HalfWord = λ e. absurd (omega arith)
 indirect_no_jump Byte = λ e. absurd (omega arith)
 
-pub operator_no_jump : (a : Operator) → operator_code a ≢ JUMP
+pub operator_no_jump : (a : Operator) → code_of (computation a) ≢ JUMP
 operator_no_jump Add = λ e. absurd (omega arith)
 operator_no_jump Subtract = λ e. absurd (omega arith)
 operator_no_jump Multiply = λ e. absurd (omega arith)
@@ -53,7 +54,7 @@ operator_no_jump ShiftRight = λ e. absurd (omega arith)
 operator_no_jump Remainder = λ e. absurd (omega arith)
 operator_no_jump ExclusiveOr = λ e. absurd (omega arith)
 
-pub branch_no_jump : (t : Test) (o : Operand) → test_code t o ≢ JUMP
+pub branch_no_jump : (t : Test) (o : Operand) → code_of (JumpIf t o) ≢ JUMP
 branch_no_jump test.Equal Constant = λ e. absurd (omega arith)
 branch_no_jump test.Greater Constant = λ e. absurd (omega arith)
 branch_no_jump test.AtLeast Constant = λ e. absurd (omega arith)
@@ -104,7 +105,7 @@ needed_one c t o k jt jf to way far h = record { each = at }
     at : (place : ℕ) (jump : Insn) → slice_get all place ≡ Some jump → jump.code ≡ JUMP → IsNeeded all place jump
     at zero jump g e = let same : branch_insn t o k jt jf ≡ jump = cc in absurd (branch_no_jump t o (ap (λ j. j.code) same ∙ e))
     at (suc zero) jump g e =
-        let same : plain 5 (length c - to) ≡ jump = cc in
+        let same : plain Jump (length c - to) ≡ jump = cc in
         let offset : length c - to ≡ jump.k = ap (λ j. j.k) same in
         record { from = 0; branch = branch_insn t o k jt jf; there = refl; branches = branch_tests t o k jt jf; leads = leads way; far = omega arith }
     at (suc (suc place)) jump g e = one_later (jump_before to c) _ (suc place) jump (one_later c _ place jump (h.each place jump g e))
@@ -119,11 +120,11 @@ needed_two c t o k hit miss far_hit far_miss h = record { each = at }
     at : (place : ℕ) (jump : Insn) → slice_get all place ≡ Some jump → jump.code ≡ JUMP → IsNeeded all place jump
     at zero jump g e = let same : branch_insn t o k 0 1 ≡ jump = cc in absurd (branch_no_jump t o (ap (λ j. j.code) same ∙ e))
     at (suc zero) jump g e =
-        let same : plain 5 (length (jump_before miss c) - hit) ≡ jump = cc in
+        let same : plain Jump (length (jump_before miss c) - hit) ≡ jump = cc in
         let offset : length (jump_before miss c) - hit ≡ jump.k = ap (λ j. j.k) same in
         record { from = 0; branch = branch_insn t o k 0 1; there = refl; branches = branch_tests t o k 0 1; leads = inl refl; far = omega arith }
     at (suc (suc zero)) jump g e =
-        let same : plain 5 (length c - miss) ≡ jump = cc in
+        let same : plain Jump (length c - miss) ≡ jump = cc in
         let offset : length c - miss ≡ jump.k = ap (λ j. j.k) same in
         record { from = 0; branch = branch_insn t o k 0 1; there = refl; branches = branch_tests t o k 0 1; leads = inr refl; far = omega arith }
     at (suc (suc (suc place))) jump g e = one_later _ _ (suc (suc place)) jump (one_later _ _ (suc place) jump (one_later c _ place jump (h.each place jump g e)))

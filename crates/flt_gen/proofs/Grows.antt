@@ -29,13 +29,17 @@ use Rattle.flt_gen.specs.Numbers.{width_of}
 use Rattle.flt_gen.specs.Formula.{Formula, Single, Compare, Both, Either, Except, Guard, Fork, Choose, Among}
 use Rattle.flt_lang.specs.Counts.{number_words, number_size}
 use Rattle.flt_gen.specs.Counts.{words, nodes, tests}
-use Rattle.flt_gen.specs.Code.{plain, indirect_code, operator_code, branch_insn, jump_before, branch_before, comparison_before, field_before, mask_before, base_before, transport_before, accessor_before, number_before, Entered, at_top, chain_before, search_before, LEVELS, elementary_before, fork_before, emitted, NEAR}
+use Rattle.flt_gen.specs.Code.{plain, computation, branch_insn, jump_before, branch_before, comparison_before, field_before, mask_before, base_before, transport_before, accessor_before, number_before, Entered, at_top, chain_before, search_before, LEVELS, elementary_before, fork_before, emitted, NEAR}
 use Rattle.flt_gen.specs.declared.follow.Knowledge.{Knowledge}
-use Rattle.flt_gen.specs.Follow.{and_fork, load_code, fact, always, and_fact, target}
+use Rattle.flt_gen.specs.Follow.{and_fork, fact, always, and_fact, target}
 use Rattle.flt_gen.specs.declared.elementary.Elementary.{Elementary}
 use Rattle.flt_gen.proofs.Onward.{target_inside}
 use Rattle.flt_bpf.proofs.Suffix.{IsFaultless}
 use Rattle.flt_gen.proofs.Tails.{one_of_four, by_test}
+use Rattle.flt_bpf.specs.declared.operation.Operation.TheVariants.{LoadAbsolute, LoadIndirect, Load, LoadHeaderLength, Store, Compute, Negate, Jump, CopyToIndex}
+use Rattle.flt_bpf.specs.declared.operation.Register.TheVariants.{Accumulator}
+use Rattle.flt_bpf.specs.declared.operation.Source.TheVariants.{Immediate, Memory, Length}
+use Rattle.flt_bpf.specs.declared.operation.Operator.TheVariants as arithmetic
 
 passes : (k m : ℕ) (f : CheckFault) → k < m → unless (nat_lt k m) f ≡ None
 passes k m f l = let t : nat_lt k m ≡ true = grind (arith, nat_tests) in ap (λ b. unless b f) t
@@ -47,15 +51,15 @@ passes_both j k m f a b =
     ap (λ x. unless (x && nat_lt k m) f) s ∙ ap (λ x. unless (true && x) f) t
 
 -- instructions without a fault
-store_fine : (k m : ℕ) → k < 16 → fault_of (plain 2 k) m ≡ None
+store_fine : (k m : ℕ) → k < 16 → fault_of (plain (Store Accumulator) k) m ≡ None
 unfolding fault_of operation_of
 store_fine k m l = passes k 16 NoSuchWord l
 
-word_fine : (k m : ℕ) → k < 16 → fault_of (plain 96 k) m ≡ None
+word_fine : (k m : ℕ) → k < 16 → fault_of (plain (Load Accumulator Memory) k) m ≡ None
 unfolding fault_of operation_of
 word_fine k m l = passes k 16 NoSuchWord l
 
-jump_fine : (k m : ℕ) → k < m → fault_of (plain 5 k) m ≡ None
+jump_fine : (k m : ℕ) → k < m → fault_of (plain Jump k) m ≡ None
 unfolding fault_of operation_of
 jump_fine k m l = passes k m JumpOut l
 
@@ -70,47 +74,47 @@ branch_fine test.Greater IndexRegister k jt jf m a b = passes_both jt jf m JumpO
 branch_fine test.AtLeast IndexRegister k jt jf m a b = passes_both jt jf m JumpOut a b
 branch_fine test.AnyBit IndexRegister k jt jf m a b = passes_both jt jf m JumpOut a b
 
-literal_fine : (k m : ℕ) → fault_of (plain 0 k) m ≡ None
+literal_fine : (k m : ℕ) → fault_of (plain (Load Accumulator Immediate) k) m ≡ None
 unfolding fault_of operation_of
 literal_fine k m = refl
 
-length_fine : (k m : ℕ) → fault_of (plain 128 k) m ≡ None
+length_fine : (k m : ℕ) → fault_of (plain (Load Accumulator Length) k) m ≡ None
 unfolding fault_of operation_of
 length_fine k m = refl
 
-minus_fine : (k m : ℕ) → fault_of (plain 132 k) m ≡ None
+minus_fine : (k m : ℕ) → fault_of (plain Negate k) m ≡ None
 unfolding fault_of operation_of
 minus_fine k m = refl
 
-to_x_fine : (k m : ℕ) → fault_of (plain 7 k) m ≡ None
+to_x_fine : (k m : ℕ) → fault_of (plain CopyToIndex k) m ≡ None
 unfolding fault_of operation_of
 to_x_fine k m = refl
 
-header_fine : (k m : ℕ) → fault_of (plain 177 k) m ≡ None
+header_fine : (k m : ℕ) → fault_of (plain LoadHeaderLength k) m ≡ None
 unfolding fault_of operation_of
 header_fine k m = refl
 
-mask_fine : (k m : ℕ) → fault_of (plain 84 k) m ≡ None
+mask_fine : (k m : ℕ) → fault_of (plain (Compute arithmetic.And Constant) k) m ≡ None
 unfolding fault_of operation_of
 mask_fine k m = refl
 
-add_fine : (k m : ℕ) → fault_of (plain 12 k) m ≡ None
+add_fine : (k m : ℕ) → fault_of (plain (Compute arithmetic.Add IndexRegister) k) m ≡ None
 unfolding fault_of operation_of
 add_fine k m = refl
 
-load_fine : (w : Width) (k m : ℕ) → fault_of (plain (load_code w) k) m ≡ None
+load_fine : (w : Width) (k m : ℕ) → fault_of (plain (LoadAbsolute w) k) m ≡ None
 unfolding fault_of operation_of
 load_fine Word k m = refl
 load_fine HalfWord k m = refl
 load_fine Byte k m = refl
 
-indirect_fine : (w : Width) (k m : ℕ) → fault_of (plain (indirect_code w) k) m ≡ None
+indirect_fine : (w : Width) (k m : ℕ) → fault_of (plain (LoadIndirect w) k) m ≡ None
 unfolding fault_of operation_of
 indirect_fine Word k m = refl
 indirect_fine HalfWord k m = refl
 indirect_fine Byte k m = refl
 
-operator_fine : (operator : Operator) (k m : ℕ) → fault_of (plain (operator_code operator) k) m ≡ None
+operator_fine : (operator : Operator) (k m : ℕ) → fault_of (plain (computation operator) k) m ≡ None
 unfolding fault_of operation_of
 operator_fine Add k m = refl
 operator_fine Subtract k m = refl
@@ -155,10 +159,10 @@ grows_on c d f m m' a b =
 branch_grows : (t : Test) (operand : Operand) (k hit miss : ℕ) (c : List Insn) → IsFaultless c → ends_in_return c ≡ true → 0 < hit → hit ≤ length c → 0 < miss → miss ≤ length c → Grows c (branch_before t operand k hit miss c) 3
 branch_grows t operand k hit miss c s e ph lh pm lm =
     let none = grows_none c s e in
-    let one_hit = grows_put c c 0 1 (plain 5 (length c - hit)) none (jump_fine (length c - hit) (length c) (omega arith)) (omega arith) in
-    let one_miss = grows_put c c 0 1 (plain 5 (length c - miss)) none (jump_fine (length c - miss) (length c) (omega arith)) (omega arith) in
-    let j = plain 5 (length c - miss) in
-    let two = grows_put c (j ∷ c) 1 2 (plain 5 (length (j ∷ c) - hit)) one_miss (jump_fine (length (j ∷ c) - hit) (length (j ∷ c)) (omega arith)) (omega arith) in
+    let one_hit = grows_put c c 0 1 (plain Jump (length c - hit)) none (jump_fine (length c - hit) (length c) (omega arith)) (omega arith) in
+    let one_miss = grows_put c c 0 1 (plain Jump (length c - miss)) none (jump_fine (length c - miss) (length c) (omega arith)) (omega arith) in
+    let j = plain Jump (length c - miss) in
+    let two = grows_put c (j ∷ c) 1 2 (plain Jump (length (j ∷ c) - hit)) one_miss (jump_fine (length (j ∷ c) - hit) (length (j ∷ c)) (omega arith)) (omega arith) in
     one_of_four (λ d. Grows c d 3) (nat_le (length c - hit) NEAR && nat_le (length c - miss) NEAR) (nat_le (length c + 1 - miss) NEAR) (nat_le (length c + 1 - hit) NEAR) _ _ _ _
     (grows_put c c 0 3 _ none (branch_fine t operand k (length c - hit) (length c - miss) (length c) (omega arith) (omega arith)) (omega arith))
     (grows_put c (jump_before hit c) 1 3 _ one_hit (branch_fine t operand k 0 (length c + 1 - miss) (length (jump_before hit c)) (omega arith) (omega arith)) (omega arith))
@@ -200,15 +204,15 @@ number_grows link (literal k) slot c d m few g = grows_put c d m _ _ g (literal_
 number_grows link (named k) slot c d m few g = grows_put c d m _ _ g (literal_fine k (length d)) (omega arith)
 number_grows link len slot c d m few g = grows_put c d m _ _ g (length_fine 0 (length d)) (omega arith)
 number_grows link (negated a) slot c d m few g =
-    grows_more c _ (m + 1 + 6 * number_size a) _ (omega arith) (number_grows link a slot c (plain 132 0 ∷ d) (m + 1) few (grows_put c d m (m + 1) _ g (minus_fine 0 (length d)) (omega arith)))
+    grows_more c _ (m + 1 + 6 * number_size a) _ (omega arith) (number_grows link a slot c (plain Negate 0 ∷ d) (m + 1) few (grows_put c d m (m + 1) _ g (minus_fine 0 (length d)) (omega arith)))
 number_grows link (load protocol size i) slot c d m few g =
     grows_more c _ (m + 4 + 6 * number_size i) _ (omega arith) (number_grows link i slot c (accessor_before link protocol (width_of size) d) (m + 4) few (accessor_grows link protocol (width_of size) c d m g))
 number_grows link (applied operator l r) slot c d m few g =
-    let g1 = grows_put c d m (m + 1) (plain (operator_code operator) 0) g (operator_fine operator 0 (length d)) (omega arith) in
-    let g2 = grows_put c _ (m + 1) (m + 2) (plain 96 slot) g1 (word_fine slot _ (omega arith)) (omega arith) in
-    let g3 = grows_put c _ (m + 2) (m + 3) (plain 7 0) g2 (to_x_fine 0 _) (omega arith) in
+    let g1 = grows_put c d m (m + 1) (plain (computation operator) 0) g (operator_fine operator 0 (length d)) (omega arith) in
+    let g2 = grows_put c _ (m + 1) (m + 2) (plain (Load Accumulator Memory) slot) g1 (word_fine slot _ (omega arith)) (omega arith) in
+    let g3 = grows_put c _ (m + 2) (m + 3) (plain CopyToIndex 0) g2 (to_x_fine 0 _) (omega arith) in
     let g4 = number_grows link r (slot + 1) c _ (m + 3) (omega arith) g3 in
-    let g5 = grows_put c _ (m + 3 + 6 * number_size r) (m + 4 + 6 * number_size r) (plain 2 slot) g4 (store_fine slot _ (omega arith)) (omega arith) in
+    let g5 = grows_put c _ (m + 3 + 6 * number_size r) (m + 4 + 6 * number_size r) (plain (Store Accumulator) slot) g4 (store_fine slot _ (omega arith)) (omega arith) in
     grows_more c _ (m + 4 + 6 * number_size r + 6 * number_size l) _ (omega arith) (number_grows link l slot c _ (m + 4 + 6 * number_size r) (omega arith) g5)
 
 -- grown code, with its entry inside
@@ -278,10 +282,10 @@ pub emitted_sits : (link : Link) (known : Knowledge) (f : Formula) (hit miss : �
 emitted_sits link known (Single t) hit miss c few s e ph lh pm lm = elementary_sits known t hit miss c s e ph lh pm lm
 emitted_sits link known (Compare comparison l r) hit miss c few s e ph lh pm lm =
     let g0 = comparison_grows comparison IndexRegister 0 hit miss c s e ph lh pm lm in
-    let g1 = grows_put c _ 3 4 (plain 96 0) g0 (word_fine 0 _ (omega arith)) (omega arith) in
-    let g2 = grows_put c _ 4 5 (plain 7 0) g1 (to_x_fine 0 _) (omega arith) in
+    let g1 = grows_put c _ 3 4 (plain (Load Accumulator Memory) 0) g0 (word_fine 0 _ (omega arith)) (omega arith) in
+    let g2 = grows_put c _ 4 5 (plain CopyToIndex 0) g1 (to_x_fine 0 _) (omega arith) in
     let g3 = number_grows link r 1 c _ 5 (omega arith) g2 in
-    let g4 = grows_put c _ (5 + 6 * number_size r) (6 + 6 * number_size r) (plain 2 0) g3 (store_fine 0 _ (omega arith)) (omega arith) in
+    let g4 = grows_put c _ (5 + 6 * number_size r) (6 + 6 * number_size r) (plain (Store Accumulator) 0) g3 (store_fine 0 _ (omega arith)) (omega arith) in
     sits_top c _ (6 + 6 * number_size r + 6 * number_size l) _ (omega arith) (number_grows link l 0 c _ (6 + 6 * number_size r) (omega arith) g4)
 emitted_sits link known (Both a b) hit miss c few s e ph lh pm lm =
     let d = emitted link known b hit miss c in

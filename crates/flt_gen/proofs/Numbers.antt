@@ -27,9 +27,11 @@ use Rattle.flt_gen.specs.declared.link.Link.{Link}
 use Rattle.flt_gen.specs.Elementary.{with, network}
 use Rattle.flt_gen.specs.Numbers.{width_of, base, result_of, number}
 use Rattle.flt_lang.specs.Counts.{number_words}
-use Rattle.flt_gen.specs.Code.{plain, indirect_code, operator_code, branch_insn, base_before, transport_before, accessor_before, operands_before, number_before}
-use Rattle.flt_gen.specs.Follow.{load_code}
+use Rattle.flt_gen.specs.Code.{plain, computation, branch_insn, base_before, transport_before, accessor_before, operands_before, number_before}
 use Rattle.flt_bpf.proofs.Suffix.{answer_of, answer_after}
+use Rattle.flt_bpf.specs.declared.operation.Operation.TheVariants.{LoadAbsolute, LoadIndirect, Load, LoadHeaderLength, Store, Compute, Negate, Jump, CopyToIndex}
+use Rattle.flt_bpf.specs.declared.operation.Source.TheVariants.{Immediate, Memory, Length}
+use Rattle.flt_bpf.specs.declared.operation.Operator.TheVariants as arithmetic
 
 get_set_same : (xs : List ℕ) (i v : ℕ) → i < length xs → slice_get (slice_set xs i v) i ≡ Some v
 get_set_same xs i v l =
@@ -43,23 +45,23 @@ get_set_below xs i j v less l =
 
 module _ (p : List ℕ) (n : ℕ) where
   -- one instruction
-  pub run_literal : (k : ℕ) (c : List Insn) (s : State) → answer_of (plain 0 k ∷ c) p n 0 s ≡ answer_of c p n 0 (record s { accumulator = k })
+  pub run_literal : (k : ℕ) (c : List Insn) (s : State) → answer_of (plain (Load Accumulator Immediate) k ∷ c) p n 0 s ≡ answer_of c p n 0 (record s { accumulator = k })
   unfolding step operation_of
   run_literal k c s = refl
 
-  pub run_length : (k : ℕ) (c : List Insn) (s : State) → answer_of (plain 128 k ∷ c) p n 0 s ≡ answer_of c p n 0 (record s { accumulator = n })
+  pub run_length : (k : ℕ) (c : List Insn) (s : State) → answer_of (plain (Load Accumulator Length) k ∷ c) p n 0 s ≡ answer_of c p n 0 (record s { accumulator = n })
   unfolding step operation_of
   run_length k c s = refl
 
-  pub run_minus : (k : ℕ) (c : List Insn) (s : State) → answer_of (plain 132 k ∷ c) p n 0 s ≡ answer_of c p n 0 (record s { accumulator = (2 ^ 32 - s.accumulator) % 2 ^ 32 })
+  pub run_minus : (k : ℕ) (c : List Insn) (s : State) → answer_of (plain Negate k ∷ c) p n 0 s ≡ answer_of c p n 0 (record s { accumulator = (2 ^ 32 - s.accumulator) % 2 ^ 32 })
   unfolding step operation_of
   run_minus k c s = refl
 
-  pub run_to_x : (k : ℕ) (c : List Insn) (s : State) → answer_of (plain 7 k ∷ c) p n 0 s ≡ answer_of c p n 0 (record s { index = s.accumulator })
+  pub run_to_x : (k : ℕ) (c : List Insn) (s : State) → answer_of (plain CopyToIndex k ∷ c) p n 0 s ≡ answer_of c p n 0 (record s { index = s.accumulator })
   unfolding step operation_of
   run_to_x k c s = refl
 
-  pub run_operator : (operator : Operator) (k : ℕ) (c : List Insn) (s : State) → answer_of (plain (operator_code operator) k ∷ c) p n 0 s ≡ answer_after (answer_of c p n) (into Accumulator (result_of operator s.accumulator s.index) s)
+  pub run_operator : (operator : Operator) (k : ℕ) (c : List Insn) (s : State) → answer_of (plain (computation operator) k ∷ c) p n 0 s ≡ answer_after (answer_of c p n) (into Accumulator (result_of operator s.accumulator s.index) s)
   unfolding step operation_of
   run_operator Add k c s = refl
   run_operator Subtract k c s = refl
@@ -72,27 +74,27 @@ module _ (p : List ℕ) (n : ℕ) where
   run_operator Remainder k c s = refl
   run_operator ExclusiveOr k c s = refl
 
-  pub run_load : (w : Width) (k : ℕ) (c : List Insn) (s : State) → answer_of (plain (load_code w) k ∷ c) p n 0 s ≡ answer_after (answer_of c p n) (into Accumulator (field p k w) s)
+  pub run_load : (w : Width) (k : ℕ) (c : List Insn) (s : State) → answer_of (plain (LoadAbsolute w) k ∷ c) p n 0 s ≡ answer_after (answer_of c p n) (into Accumulator (field p k w) s)
   unfolding step operation_of
   run_load Word k c s = refl
   run_load HalfWord k c s = refl
   run_load Byte k c s = refl
 
-  pub run_indirect : (w : Width) (k : ℕ) (c : List Insn) (s : State) → answer_of (plain (indirect_code w) k ∷ c) p n 0 s ≡ answer_after (answer_of c p n) (into Accumulator (field p ((s.index + k) % 2 ^ 32) w) s)
+  pub run_indirect : (w : Width) (k : ℕ) (c : List Insn) (s : State) → answer_of (plain (LoadIndirect w) k ∷ c) p n 0 s ≡ answer_after (answer_of c p n) (into Accumulator (field p ((s.index + k) % 2 ^ 32) w) s)
   unfolding step operation_of
   run_indirect Word k c s = refl
   run_indirect HalfWord k c s = refl
   run_indirect Byte k c s = refl
 
-  pub run_header : (k : ℕ) (c : List Insn) (s : State) → answer_of (plain 177 k ∷ c) p n 0 s ≡ answer_after (answer_of c p n) (into Index (option_map header_length (field p k Byte)) s)
+  pub run_header : (k : ℕ) (c : List Insn) (s : State) → answer_of (plain LoadHeaderLength k ∷ c) p n 0 s ≡ answer_after (answer_of c p n) (into Index (option_map header_length (field p k Byte)) s)
   unfolding step operation_of
   run_header k c s = refl
 
-  pub run_mask : (k : ℕ) (c : List Insn) (s : State) → answer_of (plain 84 k ∷ c) p n 0 s ≡ answer_of c p n 0 (record s { accumulator = bit_and s.accumulator k })
+  pub run_mask : (k : ℕ) (c : List Insn) (s : State) → answer_of (plain (Compute arithmetic.And Constant) k ∷ c) p n 0 s ≡ answer_of c p n 0 (record s { accumulator = bit_and s.accumulator k })
   unfolding step operation_of
   run_mask k c s = refl
 
-  pub run_jump : (k : ℕ) (c : List Insn) (s : State) → answer_of (plain 5 k ∷ c) p n 0 s ≡ answer_of c p n k s
+  pub run_jump : (k : ℕ) (c : List Insn) (s : State) → answer_of (plain Jump k ∷ c) p n 0 s ≡ answer_of c p n k s
   unfolding step operation_of
   run_jump k c s = refl
 
@@ -111,11 +113,11 @@ module _ (p : List ℕ) (n : ℕ) where
   stored true c t e = refl
   stored false c t e = cc
 
-  pub run_store : (k : ℕ) (c : List Insn) (s : State) → k < length s.memory → answer_of (plain 2 k ∷ c) p n 0 s ≡ answer_of c p n 0 (record s { memory = slice_set s.memory k s.accumulator })
+  pub run_store : (k : ℕ) (c : List Insn) (s : State) → k < length s.memory → answer_of (plain (Store Accumulator) k ∷ c) p n 0 s ≡ answer_of c p n 0 (record s { memory = slice_set s.memory k s.accumulator })
   unfolding step operation_of
   run_store k c s l = let t : nat_lt k (length s.memory) ≡ true = grind (arith, nat_tests) in stored _ c _ t
 
-  pub run_word : (k v : ℕ) (c : List Insn) (s : State) → slice_get s.memory k ≡ Some v → answer_of (plain 96 k ∷ c) p n 0 s ≡ answer_of c p n 0 (record s { accumulator = v })
+  pub run_word : (k v : ℕ) (c : List Insn) (s : State) → slice_get s.memory k ≡ Some v → answer_of (plain (Load Accumulator Memory) k ∷ c) p n 0 s ≡ answer_of c p n 0 (record s { accumulator = v })
   unfolding step operation_of
   run_word k v c s e = rw e refl
 
@@ -148,14 +150,14 @@ module _ (p : List ℕ) (n : ℕ) where
 
   transport_runs : (link : Link) (w : Width) (c : List Insn) (slot : ℕ) (v : ℕ) (s : State) → length s.memory ≡ 16 → s.accumulator ≡ v → (o : Option ℕ) → field p (network link) Byte ≡ o → NumberRuns (transport_before link w c) c slot s (with (with (with o (λ b. Some (header_length b))) (λ x. Some (x + network link))) (λ at. field p ((at + v) % 2 ^ 32) w))
   transport_runs link w c slot v s long e None f =
-      run_header (network link) (plain 12 0 ∷ plain 7 0 ∷ plain (indirect_code w) (network link) ∷ c) s ∙ ap (λ o. answer_after (answer_of (plain 12 0 ∷ plain 7 0 ∷ plain (indirect_code w) (network link) ∷ c) p n) (into Index (option_map header_length o) s)) f
+      run_header (network link) (plain (Compute arithmetic.Add IndexRegister) 0 ∷ plain CopyToIndex 0 ∷ plain (LoadIndirect w) (network link) ∷ c) s ∙ ap (λ o. answer_after (answer_of (plain (Compute arithmetic.Add IndexRegister) 0 ∷ plain CopyToIndex 0 ∷ plain (LoadIndirect w) (network link) ∷ c) p n) (into Index (option_map header_length o) s)) f
   transport_runs link w c slot v s long e (Some b) f =
       let x = header_length b in
       let l = network link in
       let u : State = record { accumulator = (s.accumulator + x) % 2 ^ 32; index = (s.accumulator + x) % 2 ^ 32; memory = s.memory } in
-      let to_x = run_header l (plain 12 0 ∷ plain 7 0 ∷ plain (indirect_code w) l ∷ c) s ∙ ap (λ o. answer_after (answer_of (plain 12 0 ∷ plain 7 0 ∷ plain (indirect_code w) l ∷ c) p n) (into Index (option_map header_length o) s)) f in
-      let added = run_operator Add 0 (plain 7 0 ∷ plain (indirect_code w) l ∷ c) (record s { index = x }) in
-      let moved = run_to_x 0 (plain (indirect_code w) l ∷ c) (record { accumulator = (s.accumulator + x) % 2 ^ 32; index = x; memory = s.memory }) in
+      let to_x = run_header l (plain (Compute arithmetic.Add IndexRegister) 0 ∷ plain CopyToIndex 0 ∷ plain (LoadIndirect w) l ∷ c) s ∙ ap (λ o. answer_after (answer_of (plain (Compute arithmetic.Add IndexRegister) 0 ∷ plain CopyToIndex 0 ∷ plain (LoadIndirect w) l ∷ c) p n) (into Index (option_map header_length o) s)) f in
+      let added = run_operator Add 0 (plain CopyToIndex 0 ∷ plain (LoadIndirect w) l ∷ c) (record s { index = x }) in
+      let moved = run_to_x 0 (plain (LoadIndirect w) l ∷ c) (record { accumulator = (s.accumulator + x) % 2 ^ 32; index = x; memory = s.memory }) in
       let loaded = run_indirect w l c u in
       let sum : s.accumulator + x + l ≡ x + l + v = omega (arith, e) in
       let place : ((s.accumulator + x) % 2 ^ 32 + l) % 2 ^ 32 ≡ (x + l + v) % 2 ^ 32 = mod-add-mod (s.accumulator + x) (2 ^ 32) l ∙ ap (λ m. m % 2 ^ 32) sum in
@@ -165,7 +167,7 @@ module _ (p : List ℕ) (n : ℕ) where
   base_runs at w c slot v s long e =
       let u : State = record s { index = s.accumulator } in
       let place : s.accumulator + at ≡ at + v = omega (arith, e) in
-      into_runs (base_before at w c) c slot s u long refl (field p ((at + v) % 2 ^ 32) w) (run_to_x 0 (plain (indirect_code w) at ∷ c) s ∙ run_indirect w at c u ∙ ap (λ b. answer_after (answer_of c p n) (into Accumulator (field p (b % 2 ^ 32) w) u)) place)
+      into_runs (base_before at w c) c slot s u long refl (field p ((at + v) % 2 ^ 32) w) (run_to_x 0 (plain (LoadIndirect w) at ∷ c) s ∙ run_indirect w at c u ∙ ap (λ b. answer_after (answer_of c p n) (into Accumulator (field p (b % 2 ^ 32) w) u)) place)
 
   accessor_runs : (link : Link) (protocol : Protocol) (w : Width) (c : List Insn) (slot v : ℕ) (s : State) → length s.memory ≡ 16 → s.accumulator ≡ v → NumberRuns (accessor_before link protocol w c) c slot s (with (base link protocol p) (λ at. field p ((at + v) % 2 ^ 32) w))
   accessor_runs link Ether w c slot v s long e = base_runs 0 w c slot v s long e
@@ -181,7 +183,7 @@ module _ (p : List ℕ) (n : ℕ) where
   TwoRuns c' c slot s (Some x) (Some y) = (t : State) × Keeps slot s t × (t.accumulator ≡ x) × (t.index ≡ y) × (answer_of c' p n 0 s ≡ answer_of c p n 0 t)
 
   -- a number, a word for it, a second number, and both brought to A and X
-  pub two_runs : (c' cr c : List Insn) (slot : ℕ) (s : State) (ox oy : Option ℕ) → slot < 16 → NumberRuns c' (plain 2 slot ∷ cr) slot s ox → ((t : State) → length t.memory ≡ 16 → NumberRuns cr (operands_before slot c) (slot + 1) t oy) → TwoRuns c' c slot s ox oy
+  pub two_runs : (c' cr c : List Insn) (slot : ℕ) (s : State) (ox oy : Option ℕ) → slot < 16 → NumberRuns c' (plain (Store Accumulator) slot ∷ cr) slot s ox → ((t : State) → length t.memory ≡ 16 → NumberRuns cr (operands_before slot c) (slot + 1) t oy) → TwoRuns c' c slot s ox oy
   two_runs c' cr c slot s None oy few rx ry = rx
   two_runs c' cr c slot s (Some x) oy few rx ry =
       second oy (ry t1 long)
@@ -209,18 +211,18 @@ module _ (p : List ℕ) (n : ℕ) where
       second (Some y) r =
           let u = r.0 in
           let word : slice_get u.memory slot ≡ Some x = r.1.kept slot (omega arith) ∙ get_set_same t.memory slot t.accumulator inside ∙ ap Some rx.2 in
-          let moved = run_to_x 0 (plain 96 slot ∷ c) u ∙ run_word slot x c (record u { index = u.accumulator }) word in
+          let moved = run_to_x 0 (plain (Load Accumulator Memory) slot ∷ c) u ∙ run_word slot x c (record u { index = u.accumulator }) word in
           (record { accumulator = x; index = u.accumulator; memory = u.memory }, record { long = r.1.long; kept = λ j l. r.1.kept j (omega arith) ∙ kept_below j l }, refl, r.2, to_word ∙ r.3 ∙ moved)
 
-  binary_runs : (operator : Operator) (c' c : List Insn) (slot : ℕ) (s : State) (ox oy : Option ℕ) → TwoRuns c' (plain (operator_code operator) 0 ∷ c) slot s ox oy → NumberRuns c' c slot s (with ox (λ x. with oy (λ y. result_of operator x y)))
+  binary_runs : (operator : Operator) (c' c : List Insn) (slot : ℕ) (s : State) (ox oy : Option ℕ) → TwoRuns c' (plain (computation operator) 0 ∷ c) slot s ox oy → NumberRuns c' c slot s (with ox (λ x. with oy (λ y. result_of operator x y)))
   binary_runs operator c' c slot s None oy r = r
   binary_runs operator c' c slot s (Some x) None r = r
   binary_runs operator c' c slot s (Some x) (Some y) r =
       let t = r.0 in
       let same : result_of operator t.accumulator t.index ≡ result_of operator x y = ap (λ v. result_of operator v t.index) r.2 ∙ ap (λ v. result_of operator x v) r.3 in
-      chain c' (plain (operator_code operator) 0 ∷ c) c slot slot s t (omega arith) r.1 r.4 (result_of operator x y) (into_runs (plain (operator_code operator) 0 ∷ c) c slot t t r.1.long refl (result_of operator x y) (run_operator operator 0 c t ∙ ap (λ o. answer_after (answer_of c p n) (into Accumulator o t)) same))
+      chain c' (plain (computation operator) 0 ∷ c) c slot slot s t (omega arith) r.1 r.4 (result_of operator x y) (into_runs (plain (computation operator) 0 ∷ c) c slot t t r.1.long refl (result_of operator x y) (run_operator operator 0 c t ∙ ap (λ o. answer_after (answer_of c p n) (into Accumulator o t)) same))
 
-  minus_runs : (c : List Insn) (slot v : ℕ) (s : State) → length s.memory ≡ 16 → s.accumulator ≡ v → NumberRuns (plain 132 0 ∷ c) c slot s (Some ((2 ^ 32 - v) % 2 ^ 32))
+  minus_runs : (c : List Insn) (slot v : ℕ) (s : State) → length s.memory ≡ 16 → s.accumulator ≡ v → NumberRuns (plain Negate 0 ∷ c) c slot s (Some ((2 ^ 32 - v) % 2 ^ 32))
   minus_runs c slot v s long e =
       (record s { accumulator = (2 ^ 32 - s.accumulator) % 2 ^ 32 }, record { long = long; kept = λ j l. refl }, ap (λ m. (2 ^ 32 - m) % 2 ^ 32) e, run_minus 0 c s)
 
@@ -232,6 +234,6 @@ module _ (p : List ℕ) (n : ℕ) where
   number_runs link (load protocol size i) slot c s long few =
       number_then _ (accessor_before link protocol (width_of size) c) c slot s (number link i p n) _ (number_runs link i slot (accessor_before link protocol (width_of size) c) s long few) (λ v t l a. accessor_runs link protocol (width_of size) c slot v t l a)
   number_runs link (negated e) slot c s long few =
-      number_then _ (plain 132 0 ∷ c) c slot s (number link e p n) (λ v. Some ((2 ^ 32 - v) % 2 ^ 32)) (number_runs link e slot (plain 132 0 ∷ c) s long few) (λ v t l a. minus_runs c slot v t l a)
+      number_then _ (plain Negate 0 ∷ c) c slot s (number link e p n) (λ v. Some ((2 ^ 32 - v) % 2 ^ 32)) (number_runs link e slot (plain Negate 0 ∷ c) s long few) (λ v t l a. minus_runs c slot v t l a)
   number_runs link (applied operator l r) slot c s long few =
-      binary_runs operator _ c slot s (number link l p n) (number link r p n) (two_runs _ (number_before link r (slot + 1) (operands_before slot (plain (operator_code operator) 0 ∷ c))) (plain (operator_code operator) 0 ∷ c) slot s (number link l p n) (number link r p n) (omega arith) (number_runs link l slot _ s long (omega arith)) (λ t lt. number_runs link r (slot + 1) _ t lt (omega arith)))
+      binary_runs operator _ c slot s (number link l p n) (number link r p n) (two_runs _ (number_before link r (slot + 1) (operands_before slot (plain (computation operator) 0 ∷ c))) (plain (computation operator) 0 ∷ c) slot s (number link l p n) (number link r p n) (omega arith) (number_runs link l slot _ s long (omega arith)) (λ t lt. number_runs link r (slot + 1) _ t lt (omega arith)))

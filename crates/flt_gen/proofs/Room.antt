@@ -23,6 +23,9 @@ use Rattle.flt_gen.specs.Follow.{nothing}
 use Rattle.flt_gen.specs.Code.{plain}
 use Rattle.flt_gen.specs.Walk.{Walk, relation_put, number_put, with_code, operands_put, formula_put, settled_by, settled, group_put, value_put, join_put, truth_node_put, is_truth_node, with_node, walked}
 use Rattle.flt_gen.proofs.Tails.{extends_none, comparison_extends, accessor_extends, emitted_extends, accessors_extend}
+use Rattle.flt_bpf.specs.declared.operation.Operation.TheVariants.{Load, Store}
+use Rattle.flt_bpf.specs.declared.operation.Register.TheVariants.{Accumulator}
+use Rattle.flt_bpf.specs.declared.operation.Source.TheVariants.{Immediate, Length}
 
 -- each left operand that waits has a word below n
 abbrev AllLow : List Waiting → ℕ → Type 0
@@ -69,7 +72,7 @@ number_grown link (Index p ∷ ns) w e h =
 number_grown link (Left s ∷ ns) w e h =
     let a : AllLow (Left s ∷ ns) (length w.code) = subst (λ xs. AllLow xs (length w.code)) e h.waiting in
     let k = a.0 in
-    record { low = record { slot = omega arith; waiting = low_more ns (length w.code) (length (plain 2 s ∷ w.code)) (omega arith) a.1; few = h.few }; longer = omega arith }
+    record { low = record { slot = omega arith; waiting = low_more ns (length w.code) (length (plain (Store Accumulator) s ∷ w.code)) (omega arith) a.1; few = h.few }; longer = omega arith }
 
 -- code in front, and then a number is complete
 code_grown : (link : Link) (w : Walk) (c : List Insn) → length w.code ≤ length c → IsLow w → Grown w (number_put link w.numbers (with_code c w))
@@ -178,9 +181,9 @@ node_grown link w (node.Compare c) h = settled_truth_grown link w (node.Compare 
 node_grown link w node.Not h = settled_truth_grown link w node.Not refl h
 node_grown link w (node.Qualified q v) h = value_grown link q v w h (larger_group q v w.group) refl
 node_grown link w (node.Join j) h = join_grown link j w h
-node_grown link w (node.Literal n) h = code_grown link w (plain 0 n ∷ w.code) (omega arith) h
-node_grown link w (node.Named n) h = code_grown link w (plain 0 n ∷ w.code) (omega arith) h
-node_grown link w node.Len h = code_grown link w (plain 128 0 ∷ w.code) (omega arith) h
+node_grown link w (node.Literal n) h = code_grown link w (plain (Load Accumulator Immediate) n ∷ w.code) (omega arith) h
+node_grown link w (node.Named n) h = code_grown link w (plain (Load Accumulator Immediate) n ∷ w.code) (omega arith) h
+node_grown link w node.Len h = code_grown link w (plain (Load Accumulator Length) 0 ∷ w.code) (omega arith) h
 node_grown link w (node.Load p s) h =
     let l = (accessor_extends link p (width_of s) w.code w.code (extends_none w.code)).longer in
     let v = with_node link w (node.Load p s) in

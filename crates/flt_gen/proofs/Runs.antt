@@ -3,6 +3,7 @@ use Rattle.std.proofs.Common.{◌≡◌, ℕ, zero, suc, ◌+◌, ◌-◌, ◌/�
 use Rattle.std.specs.Prelude.{◌≢◌, nat_le, nat_lt, ◌==◌, not, ◌&&◌, ◌||◌, if◌then◌else◌, bit_and}
 use Rattle.std.specs.Option.{option_map}
 use Rattle.std.proofs.lemmas.Bool.Decides.{nat_tests}
+use Rattle.flt_bpf.specs.Instructions.{code_of}
 use Rattle.flt_bpf.specs.declared.insn.Insn.{Insn}
 use Rattle.flt_bpf.specs.declared.operation.Width.{Width}
 use Rattle.flt_bpf.specs.declared.operation.Width.TheVariants.{Word, HalfWord, Byte}
@@ -38,13 +39,14 @@ use Rattle.flt_gen.specs.Numbers.{number}
 use Rattle.flt_gen.specs.Formula.{Formula, Single, Compare, Both, Either, Except, Guard, Fork, Choose, Among, is_one_of, among_reads, relation_reads, both, either, negated as exchanged, reads}
 use Rattle.flt_lang.specs.Counts.{number_words}
 use Rattle.flt_gen.specs.Counts.{words}
-use Rattle.flt_gen.specs.Code.{plain, indirect_code, operator_code, test_code, base_before, transport_before, accessor_before, elementary_before, jump_before, branch_before, comparison_before, field_before, mask_before, test_before, operands_before, number_before, relation_before, Entered, at_top, chain_before, search_before, LEVELS, among_before, emitted, NEAR}
+use Rattle.flt_gen.specs.Code.{plain, computation, base_before, transport_before, accessor_before, elementary_before, jump_before, branch_before, comparison_before, field_before, mask_before, test_before, operands_before, number_before, relation_before, Entered, at_top, chain_before, search_before, LEVELS, among_before, emitted, NEAR}
 use Rattle.flt_bpf.proofs.Suffix.{answer_of, answer_after}
 use Rattle.flt_gen.proofs.Tails.{Extends, extends_none, extends_put, extends_on, branch_extends, field_extends, mask_extends, one_of_four, by_test, test_extends, relation_extends, search_extends}
 use Rattle.flt_gen.proofs.Ascending.{Ascending, Searchable, searchable_ascends, ascending_take, ascending_drop, lower_half, upper_half}
 use Rattle.flt_gen.specs.declared.elementary.MaskedField.{MaskedField}
 use Rattle.flt_bpf.proofs.Suffix.{answer_drop}
 use Rattle.flt_gen.proofs.Numbers.{TwoRuns, run_load, run_indirect, run_header, run_mask, run_jump, run_branch, number_runs, two_runs}
+use Rattle.flt_bpf.specs.declared.operation.Operation.TheVariants.{LoadIndirect, Jump, JumpIf}
 
 -- one of two answers, by a reading; a rejected one ends the run with 0
 abbrev pub pick : Reading → ℕ → ℕ → ℕ
@@ -120,7 +122,7 @@ module _ (p : List ℕ) (n : ℕ) where
       Fine d = answer_of d p n 0 s ≡ Some (if truth then v else w)
 
       far : answer_of (jump_before miss c) p n (length (jump_before miss c) - hit) s ≡ Some v
-      far = (let one : length (jump_before miss c) - hit ≡ length c + 1 - hit = omega arith in ap (λ k. answer_of (jump_before miss c) p n k s) one) ∙ past_at c (plain 5 (length c - miss)) hit v s lh h
+      far = (let one : length (jump_before miss c) - hit ≡ length c + 1 - hit = omega arith in ap (λ k. answer_of (jump_before miss c) p n k s) one) ∙ past_at c (plain Jump (length c - miss)) hit v s lh h
 
   -- a longer code has the same answer from the places of the shorter
   same_at : (c d : List Insn) (place v : ℕ) (s : State) → place ≤ length c → Extends c d → answer_of c p n (length c - place) s ≡ Some v → answer_of d p n (length d - place) s ≡ Some v
@@ -216,7 +218,7 @@ module _ (p : List ℕ) (n : ℕ) where
   loaded_runs tested k hit miss v w c s long ready lh lm h m (Some x) =
       masked_runs tested k hit miss v w x c (record s { accumulator = x }) long ready lh lm h m k.mask refl ∙ ap Some (reading_picks (compares k.comparison (masked k.mask x) k.value) v w)
 
-  past_runs : (header at : ℕ) (k : FieldTest) (hit miss v w : ℕ) (c : List Insn) (s : State) → length s.memory ≡ 16 → hit ≤ length c → miss ≤ length c → LeadsReady p n (Past header at) c hit v → LeadsReady p n (Past header at) c miss w → (o : Option ℕ) → field p header Byte ≡ o → answer_after (answer_of (plain (indirect_code k.width) at ∷ mask_before k.mask (comparison_before k.comparison Constant k.value hit miss c)) p n) (into Index (option_map header_length o) s) ≡ Some (pick (reading_of (with (with (with o (λ b. Some (header_length b))) (λ x. field p ((x + at) % 2 ^ 32) k.width)) (λ x. Some (compares k.comparison (masked k.mask x) k.value)))) v w)
+  past_runs : (header at : ℕ) (k : FieldTest) (hit miss v w : ℕ) (c : List Insn) (s : State) → length s.memory ≡ 16 → hit ≤ length c → miss ≤ length c → LeadsReady p n (Past header at) c hit v → LeadsReady p n (Past header at) c miss w → (o : Option ℕ) → field p header Byte ≡ o → answer_after (answer_of (plain (LoadIndirect k.width) at ∷ mask_before k.mask (comparison_before k.comparison Constant k.value hit miss c)) p n) (into Index (option_map header_length o) s) ≡ Some (pick (reading_of (with (with (with o (λ b. Some (header_length b))) (λ x. field p ((x + at) % 2 ^ 32) k.width)) (λ x. Some (compares k.comparison (masked k.mask x) k.value)))) v w)
   past_runs header at k hit miss v w c s long lh lm h m None e = refl
   past_runs header at k hit miss v w c s long lh lm h m (Some b) e =
       run_indirect p n k.width at _ (record s { index = header_length b }) ∙ loaded_runs (Past header at) k hit miss v w c (record s { index = header_length b }) long (ap (option_map header_length) e) lh lm h m (field p ((header_length b + at) % 2 ^ 32) k.width)
@@ -225,7 +227,7 @@ module _ (p : List ℕ) (n : ℕ) where
   field_runs (At at) k hit miss v w c s long lh lm h m =
       run_load p n k.width at _ s ∙ loaded_runs (At at) k hit miss v w c s long tt lh lm h m (field p at k.width)
   field_runs (Past header at) k hit miss v w c s long lh lm h m =
-      run_header p n header (plain (indirect_code k.width) at ∷ mask_before k.mask (comparison_before k.comparison Constant k.value hit miss c)) s ∙ past_runs header at k hit miss v w c s long lh lm h m (field p header Byte) refl
+      run_header p n header (plain (LoadIndirect k.width) at ∷ mask_before k.mask (comparison_before k.comparison Constant k.value hit miss c)) s ∙ past_runs header at k hit miss v w c s long lh lm h m (field p header Byte) refl
 
   -- both numbers of a relation, and its test
   compared_runs : (comparison : Comparison) (hit miss v w : ℕ) (c c' : List Insn) (s : State) → hit ≤ length c → miss ≤ length c → Leads p n c hit v → Leads p n c miss w → (ox oy : Option ℕ) → TwoRuns p n c' (comparison_before comparison IndexRegister 0 hit miss c) 0 s ox oy → answer_of c' p n 0 s ≡ Some (pick (reading_of (with ox (λ x. with oy (λ y. Some (compares comparison x y))))) v w)
@@ -263,7 +265,7 @@ module _ (p : List ℕ) (n : ℕ) where
   settles_jump : (c : List Insn) (to v : ℕ) → Leads p n c to v → Settles p n (jump_before to c) 0
   settles_jump c to v h = record { v = v; by = λ s long. jump_top (At 0) c to v s long tt (ready_anyhow p n (At 0) c to v h) }
 
-  test_no_load : (t : Test) (o : Operand) → is_load (test_code t o) ≡ false
+  test_no_load : (t : Test) (o : Operand) → is_load (code_of (JumpIf t o)) ≡ false
   test_no_load test.Equal Constant = refl
   test_no_load test.Greater Constant = refl
   test_no_load test.AtLeast Constant = refl
@@ -273,7 +275,7 @@ module _ (p : List ℕ) (n : ℕ) where
   test_no_load test.AtLeast IndexRegister = refl
   test_no_load test.AnyBit IndexRegister = refl
 
-  test_no_mask : (t : Test) (o : Operand) → test_code t o ≢ 84
+  test_no_mask : (t : Test) (o : Operand) → code_of (JumpIf t o) ≢ 84
   test_no_mask test.Equal Constant = λ e. absurd (omega arith)
   test_no_mask test.Greater Constant = λ e. absurd (omega arith)
   test_no_mask test.AtLeast Constant = λ e. absurd (omega arith)
@@ -300,8 +302,8 @@ module _ (p : List ℕ) (n : ℕ) where
   branch_behind t operand k hit miss v w c lh lm h m =
       one_of_four (λ d. Behind d) (nat_le (length c - hit) NEAR && nat_le (length c - miss) NEAR) (nat_le (length c + 1 - miss) NEAR) (nat_le (length c + 1 - hit) NEAR) _ _ _ _
       (record { branches = λ e. (settles_at c hit v h, settles_at c miss w m); masked = λ e. absurd (test_no_mask t operand e) })
-      (record { branches = λ e. (settles_jump c hit v h, settles_past c (plain 5 (length c - hit)) miss w lm m); masked = λ e. absurd (test_no_mask t operand e) })
-      (record { branches = λ e. (settles_past c (plain 5 (length c - miss)) hit v lh h, settles_jump c miss w m); masked = λ e. absurd (test_no_mask t operand e) })
+      (record { branches = λ e. (settles_jump c hit v h, settles_past c (plain Jump (length c - hit)) miss w lm m); masked = λ e. absurd (test_no_mask t operand e) })
+      (record { branches = λ e. (settles_past c (plain Jump (length c - miss)) hit v lh h, settles_jump c miss w m); masked = λ e. absurd (test_no_mask t operand e) })
       (record { branches = λ e. (settles_jump (jump_before miss c) hit v far, behind); masked = λ e. absurd (test_no_mask t operand e) })
     where
       far : Leads p n (jump_before miss c) hit v
@@ -310,12 +312,12 @@ module _ (p : List ℕ) (n : ℕ) where
       behind : Settles p n (jump_before hit (jump_before miss c)) 1
       behind = record { v = w; by = λ s long. jump_top (At 0) c miss w s long tt (ready_anyhow p n (At 0) c miss w m) }
 
-  indirect_no_load : (w : Width) → is_load (indirect_code w) ≡ false
+  indirect_no_load : (w : Width) → is_load (code_of (LoadIndirect w)) ≡ false
   indirect_no_load Word = refl
   indirect_no_load HalfWord = refl
   indirect_no_load Byte = refl
 
-  operator_no_load : (a : Operator) → is_load (operator_code a) ≡ false
+  operator_no_load : (a : Operator) → is_load (code_of (computation a)) ≡ false
   operator_no_load Add = refl
   operator_no_load Subtract = refl
   operator_no_load Multiply = refl
@@ -498,7 +500,7 @@ module _ (p : List ℕ) (n : ℕ) where
   Finds place vs d v w =
       (s : State) → length s.memory ≡ 16 → Ready p n place s.index → answer_of d p n 0 s ≡ Some (if is_one_of s.accumulator vs then v else w)
 
-  past_picks : (header at : ℕ) (f : MaskedField) (vs : List ℕ) (d : List Insn) (s : State) (v w : ℕ) → length s.memory ≡ 16 → Finds (Past header at) vs d v w → (o : Option ℕ) → field p header Byte ≡ o → answer_after (answer_of (plain (indirect_code f.width) at ∷ mask_before f.mask d) p n) (into Index (option_map header_length o) s) ≡ Some (pick (reading_of (with (with (with o (λ b. Some (header_length b))) (λ x. field p ((x + at) % 2 ^ 32) f.width)) (λ x. Some (is_one_of (masked f.mask x) vs)))) v w)
+  past_picks : (header at : ℕ) (f : MaskedField) (vs : List ℕ) (d : List Insn) (s : State) (v w : ℕ) → length s.memory ≡ 16 → Finds (Past header at) vs d v w → (o : Option ℕ) → field p header Byte ≡ o → answer_after (answer_of (plain (LoadIndirect f.width) at ∷ mask_before f.mask d) p n) (into Index (option_map header_length o) s) ≡ Some (pick (reading_of (with (with (with o (λ b. Some (header_length b))) (λ x. field p ((x + at) % 2 ^ 32) f.width)) (λ x. Some (is_one_of (masked f.mask x) vs)))) v w)
   past_picks header at f vs d s v w long h None e = refl
   past_picks header at f vs d s v w long h (Some b) e =
       run_indirect p n f.width at (mask_before f.mask d) (record s { index = header_length b })
@@ -508,7 +510,7 @@ module _ (p : List ℕ) (n : ℕ) where
   field_picks (At at) f vs d s v w long h =
       run_load p n f.width at (mask_before f.mask d) s ∙ picks_one (field p at f.width) f vs d s v w (λ x. h (record s { accumulator = masked f.mask x }) long tt)
   field_picks (Past header at) f vs d s v w long h =
-      run_header p n header (plain (indirect_code f.width) at ∷ mask_before f.mask d) s ∙ past_picks header at f vs d s v w long h (field p header Byte) refl
+      run_header p n header (plain (LoadIndirect f.width) at ∷ mask_before f.mask d) s ∙ past_picks header at f vs d s v w long h (field p header Byte) refl
 
   among_settled : (place : Place) (width : Width) (mask : Option ℕ) (vs : List ℕ) (hit miss v w : ℕ) (c : List Insn) → Searchable vs → hit ≤ length c → miss ≤ length c → Calm c → LeadsReady p n place c hit v → LeadsReady p n place c miss w → Calm (field_before place width (mask_before mask (search_before LEVELS vs hit miss c).code))
   among_settled (At a) width mask vs hit miss v w c up lh lm z h m =

@@ -29,6 +29,9 @@ use Rattle.flt_gen.specs.declared.elementary.Elementary.{Elementary}
 use Rattle.flt_gen.specs.Layout.{JUMP}
 use Rattle.flt_gen.proofs.Tails.{by_test}
 use Rattle.flt_gen.proofs.Far.{load_no_jump, indirect_no_jump, operator_no_jump, branch_no_jump}
+use Rattle.flt_bpf.specs.declared.operation.Operation.TheVariants.{Load, Store, Negate, CopyToIndex}
+use Rattle.flt_bpf.specs.declared.operation.Register.TheVariants.{Accumulator}
+use Rattle.flt_bpf.specs.declared.operation.Source.TheVariants.{Memory}
 
 -- code d without a jump, at most m instructions longer than code c
 pub record Slim (c d : List Insn) (m : ℕ) : Type 0 where
@@ -119,15 +122,15 @@ number_slim link (literal k) slot c d m s = slim_put c d m _ _ s (λ e. absurd (
 number_slim link (named k) slot c d m s = slim_put c d m _ _ s (λ e. absurd (omega arith)) (omega arith)
 number_slim link len slot c d m s = slim_put c d m _ _ s (λ e. absurd (omega arith)) (omega arith)
 number_slim link (negated a) slot c d m s =
-    slim_more c _ (m + 1 + 6 * number_size a) _ (omega arith) (number_slim link a slot c (plain 132 0 ∷ d) (m + 1) (slim_put c d m (m + 1) _ s (λ e. absurd (omega arith)) (omega arith)))
+    slim_more c _ (m + 1 + 6 * number_size a) _ (omega arith) (number_slim link a slot c (plain Negate 0 ∷ d) (m + 1) (slim_put c d m (m + 1) _ s (λ e. absurd (omega arith)) (omega arith)))
 number_slim link (load protocol size i) slot c d m s =
     slim_more c _ (m + 4 + 6 * number_size i) _ (omega arith) (number_slim link i slot c (accessor_before link protocol (width_of size) d) (m + 4) (accessor_slim link protocol (width_of size) c d m s))
 number_slim link (applied operator l r) slot c d m s =
     let s1 = slim_put c d m (m + 1) _ s (operator_no_jump operator) (omega arith) in
-    let s2 = slim_put c _ (m + 1) (m + 2) (plain 96 slot) s1 (λ e. absurd (omega arith)) (omega arith) in
-    let s3 = slim_put c _ (m + 2) (m + 3) (plain 7 0) s2 (λ e. absurd (omega arith)) (omega arith) in
+    let s2 = slim_put c _ (m + 1) (m + 2) (plain (Load Accumulator Memory) slot) s1 (λ e. absurd (omega arith)) (omega arith) in
+    let s3 = slim_put c _ (m + 2) (m + 3) (plain CopyToIndex 0) s2 (λ e. absurd (omega arith)) (omega arith) in
     let s4 = number_slim link r (slot + 1) c _ (m + 3) s3 in
-    let s5 = slim_put c _ (m + 3 + 6 * number_size r) (m + 4 + 6 * number_size r) (plain 2 slot) s4 (λ e. absurd (omega arith)) (omega arith) in
+    let s5 = slim_put c _ (m + 3 + 6 * number_size r) (m + 4 + 6 * number_size r) (plain (Store Accumulator) slot) s4 (λ e. absurd (omega arith)) (omega arith) in
     slim_more c _ (m + 4 + 6 * number_size r + 6 * number_size l) _ (omega arith) (number_slim link l slot c _ (m + 4 + 6 * number_size r) s5)
 
 elementary_slim : (known : Knowledge) (t : Elementary) (hit miss : ℕ) (c : List Insn) → length c + 4 ≤ 256 → All (λ i. i.code ≢ JUMP) c → Slim c (elementary_before known t hit miss c).code 4
@@ -147,10 +150,10 @@ pub emitted_slim : (link : Link) (known : Knowledge) (f : Formula) (hit miss : �
 emitted_slim link known (Single t) hit miss c l n = elementary_slim known t hit miss c (omega arith) n
 emitted_slim link known (Compare comparison x y) hit miss c l n =
     let s1 = comparison_slim comparison IndexRegister 0 hit miss c (omega arith) n in
-    let s2 = slim_put c _ 1 2 (plain 96 0) s1 (λ e. absurd (omega arith)) (omega arith) in
-    let s3 = slim_put c _ 2 3 (plain 7 0) s2 (λ e. absurd (omega arith)) (omega arith) in
+    let s2 = slim_put c _ 1 2 (plain (Load Accumulator Memory) 0) s1 (λ e. absurd (omega arith)) (omega arith) in
+    let s3 = slim_put c _ 2 3 (plain CopyToIndex 0) s2 (λ e. absurd (omega arith)) (omega arith) in
     let s4 = number_slim link y 1 c _ 3 s3 in
-    let s5 = slim_put c _ (3 + 6 * number_size y) (4 + 6 * number_size y) (plain 2 0) s4 (λ e. absurd (omega arith)) (omega arith) in
+    let s5 = slim_put c _ (3 + 6 * number_size y) (4 + 6 * number_size y) (plain (Store Accumulator) 0) s4 (λ e. absurd (omega arith)) (omega arith) in
     slim_more c _ (4 + 6 * number_size y + 6 * number_size x) _ (omega arith) (number_slim link x 0 c _ (4 + 6 * number_size y) s5)
 emitted_slim link known (Both a b) hit miss c l n =
     let e = emitted link known b hit miss c in

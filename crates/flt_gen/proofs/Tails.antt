@@ -24,6 +24,7 @@ use Rattle.flt_gen.specs.Formula.{Formula, Single, Compare, Both, Either, Except
 use Rattle.flt_gen.specs.Code.{plain, branch_before, comparison_before, field_before, mask_before, test_before, accessor_before, number_before, relation_before, Entered, chain_before, search_before, LEVELS, elementary_before, fork_before, emitted, all_before, accessors_before, base_before, transport_before, NEAR}
 use Rattle.flt_gen.specs.declared.follow.Knowledge.{Knowledge}
 use Rattle.flt_gen.specs.Follow.{and_fork, fact, always, nothing, and_fact, target}
+use Rattle.flt_bpf.specs.declared.operation.Operation.TheVariants.{Negate, Jump}
 
 -- by a test
 pub by_test : {A : Type 0} (P : A → Type 0) (b : Bool) (x y : A) → (b ≡ true → P x) → (b ≡ false → P y) → P (if b then x else y)
@@ -65,8 +66,8 @@ one_of_four P false false false w x y z pw px py pz = pz
 pub branch_extends : (t : Test) (operand : Operand) (k hit miss : ℕ) (c : List Insn) → Extends c (branch_before t operand k hit miss c)
 branch_extends t operand k hit miss c =
     let none = extends_none c in
-    let one_hit = extends_put c c (plain 5 (length c - hit)) none in
-    let one_miss = extends_put c c (plain 5 (length c - miss)) none in
+    let one_hit = extends_put c c (plain Jump (length c - hit)) none in
+    let one_miss = extends_put c c (plain Jump (length c - miss)) none in
     one_of_four (λ d. Extends c d) (nat_le (length c - hit) NEAR && nat_le (length c - miss) NEAR) (nat_le (length c + 1 - miss) NEAR) (nat_le (length c + 1 - hit) NEAR) _ _ _ _
     (extends_put c c _ none) (extends_put c _ _ one_hit) (extends_put c _ _ one_miss) (extends_put c _ _ (extends_put c _ _ one_miss))
 
@@ -104,7 +105,7 @@ number_extends link (literal k) slot c d e = extends_put c d _ e
 number_extends link (named k) slot c d e = extends_put c d _ e
 number_extends link len slot c d e = extends_put c d _ e
 number_extends link (load protocol size i) slot c d e = number_extends link i slot c _ (accessor_extends link protocol (width_of size) c d e)
-number_extends link (negated a) slot c d e = number_extends link a slot c (plain 132 0 ∷ d) (extends_put c d _ e)
+number_extends link (negated a) slot c d e = number_extends link a slot c (plain Negate 0 ∷ d) (extends_put c d _ e)
 number_extends link (applied operator l r) slot c d e =
     number_extends link l slot c _ (extends_put c _ _ (number_extends link r (slot + 1) c _ (extends_put c _ _ (extends_put c _ _ (extends_put c d _ e)))))
 

@@ -31,6 +31,7 @@ use Rattle.flt_gen.proofs.Grows.{Sits, emitted_sits}
 use Rattle.flt_gen.proofs.Counted.{nodes_fit, words_fit}
 use Rattle.flt_gen.specs.Group.{no_group, grouped}
 use Rattle.flt_gen.proofs.Grouping.{kept_none, grouped_stands}
+use Rattle.flt_bpf.specs.declared.operation.Operation.TheVariants.{ReturnConstant}
 
 -- the empty expression as a formula, which has no code either; hosts are looked for together
 abbrev pub formula_of : Link → Expression → Formula
@@ -148,7 +149,7 @@ program_decides link e filled few short =
 
 returns_no_jump : All (λ i. i.code ≢ JUMP) returns_code
 returns_no_jump =
-    all_put (λ i. i.code ≢ JUMP) (plain 6 262144) (plain 6 0 ∷ []) (λ e. absurd (omega arith)) (all_put (λ i. i.code ≢ JUMP) (plain 6 0) [] (λ e. absurd (omega arith)) (All-nil (λ i. i.code ≢ JUMP)))
+    all_put (λ i. i.code ≢ JUMP) (plain ReturnConstant 262144) (plain ReturnConstant 0 ∷ []) (λ e. absurd (omega arith)) (all_put (λ i. i.code ≢ JUMP) (plain ReturnConstant 0) [] (λ e. absurd (omega arith)) (All-nil (λ i. i.code ≢ JUMP)))
 
 -- code without jumps needs none
 none_needed : (c : List Insn) → All (λ i. i.code ≢ JUMP) c → JumpsAreNeeded c

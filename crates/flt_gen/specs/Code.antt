@@ -2,7 +2,6 @@
 use Rattle.std.specs.Prelude.{ℕ, zero, suc, ◌+◌, ◌-◌, ◌/◌, true, false, nat_le, nat_lt, ◌&&◌, if◌then◌else◌, List, [], ◌∷◌, length, take, drop, get_or, Option, Some, None}
 use Rattle.flt_bpf.specs.declared.insn.Insn.{Insn}
 use Rattle.flt_bpf.specs.declared.operation.Width.{Width}
-use Rattle.flt_bpf.specs.declared.operation.Width.TheVariants.{Word, HalfWord, Byte}
 use Rattle.flt_bpf.specs.declared.operation.Test.{Test}
 use Rattle.flt_bpf.specs.declared.operation.Test.TheVariants as test
 use Rattle.flt_bpf.specs.declared.operation.Operand.{Operand}
@@ -29,53 +28,49 @@ use Rattle.flt_gen.specs.declared.elementary.Elementary.{Elementary}
 use Rattle.flt_gen.specs.declared.elementary.MaskedField.{MaskedField}
 use Rattle.flt_gen.specs.declared.elementary.Elementary.TheVariants.{Known, Field}
 use Rattle.flt_gen.specs.Elementary.{network}
-use Rattle.flt_gen.specs.Follow.{load_code, fact, always, nothing, and_fact, and_fork, target}
+use Rattle.flt_gen.specs.Follow.{fact, always, nothing, and_fact, and_fork, target}
 use Rattle.flt_gen.specs.Numbers.{width_of, accessor_tests}
 use Rattle.flt_gen.specs.Formula.{Formula, Single, Compare, Both, Either, Except, Guard, Fork, Choose, Among}
 use Rattle.flt_gen.specs.Group.{no_group, grouped}
+use Rattle.flt_bpf.specs.declared.operation.Operation.{Operation}
+use Rattle.flt_bpf.specs.declared.operation.Operation.TheVariants.{LoadAbsolute, LoadIndirect, Load, LoadHeaderLength, Store, Compute, Negate, Jump, JumpIf, ReturnConstant, CopyToIndex}
+use Rattle.flt_bpf.specs.declared.operation.Register.TheVariants.{Accumulator}
+use Rattle.flt_bpf.specs.declared.operation.Source.TheVariants.{Immediate, Memory, Length}
+use Rattle.flt_bpf.specs.declared.operation.Operator.{Operator as MachineOperator}
+use Rattle.flt_bpf.specs.declared.operation.Operator.TheVariants as arithmetic
+use Rattle.flt_bpf.specs.Instructions.{code_of}
 
 -- an instruction that isn't a test
-abbrev pub plain : ℕ → ℕ → Insn
-plain code k = record { code = code; jt = 0; jf = 0; k = k }
+abbrev pub plain : Operation → ℕ → Insn
+plain operation k = record { code = code_of operation; jt = 0; jf = 0; k = k }
 
-abbrev pub indirect_code : Width → ℕ
-indirect_code Word = 64
-indirect_code HalfWord = 72
-indirect_code Byte = 80
+-- the machine's operator that stands for one of an expression
+abbrev pub machine_operator : Operator → MachineOperator
+machine_operator Add = arithmetic.Add
+machine_operator Subtract = arithmetic.Subtract
+machine_operator Multiply = arithmetic.Multiply
+machine_operator Divide = arithmetic.Divide
+machine_operator Or = arithmetic.Or
+machine_operator And = arithmetic.And
+machine_operator ShiftLeft = arithmetic.ShiftLeft
+machine_operator ShiftRight = arithmetic.ShiftRight
+machine_operator Remainder = arithmetic.Remainder
+machine_operator ExclusiveOr = arithmetic.ExclusiveOr
 
 -- an operator with X
-abbrev pub operator_code : Operator → ℕ
-operator_code Add = 12
-operator_code Subtract = 28
-operator_code Multiply = 44
-operator_code Divide = 60
-operator_code Or = 76
-operator_code And = 92
-operator_code ShiftLeft = 108
-operator_code ShiftRight = 124
-operator_code Remainder = 156
-operator_code ExclusiveOr = 172
-
-abbrev pub test_code : Test → Operand → ℕ
-test_code test.Equal Constant = 21
-test_code test.Greater Constant = 37
-test_code test.AtLeast Constant = 53
-test_code test.AnyBit Constant = 69
-test_code test.Equal IndexRegister = 29
-test_code test.Greater IndexRegister = 45
-test_code test.AtLeast IndexRegister = 61
-test_code test.AnyBit IndexRegister = 77
+abbrev pub computation : Operator → Operation
+computation operator = Compute (machine_operator operator) IndexRegister
 
 -- the greatest offset of a conditional jump
 abbrev pub NEAR : ℕ
 NEAR = 255
 
 abbrev pub branch_insn : Test → Operand → ℕ → ℕ → ℕ → Insn
-branch_insn test operand k jt jf = record { code = test_code test operand; jt = jt; jf = jf; k = k }
+branch_insn test operand k jt jf = record { code = code_of (JumpIf test operand); jt = jt; jf = jf; k = k }
 
 -- a jump to a place, which is given as the number of instructions from there to the end
 abbrev pub jump_before : ℕ → List Insn → List Insn
-jump_before to c = plain 5 (length c - to) ∷ c
+jump_before to c = plain Jump (length c - to) ∷ c
 
 -- a test that goes on at one of two places; a place that is too far is reached by a jump right behind the test
 abbrev pub branch_before : Test → Operand → ℕ → ℕ → ℕ → List Insn → List Insn
@@ -99,12 +94,12 @@ comparison_before AtLeast operand k hit miss c = branch_before test.AtLeast oper
 
 -- a field's number goes into A
 abbrev pub field_before : Place → Width → List Insn → List Insn
-field_before (At k) width c = plain (load_code width) k ∷ c
-field_before (Past header k) width c = plain 177 header ∷ plain (indirect_code width) k ∷ c
+field_before (At k) width c = plain (LoadAbsolute width) k ∷ c
+field_before (Past header k) width c = plain LoadHeaderLength header ∷ plain (LoadIndirect width) k ∷ c
 
 abbrev pub mask_before : Option ℕ → List Insn → List Insn
 mask_before None c = c
-mask_before (Some mask) c = plain 84 mask ∷ c
+mask_before (Some mask) c = plain (Compute arithmetic.And Constant) mask ∷ c
 
 abbrev pub test_before : FieldTest → ℕ → ℕ → List Insn → List Insn
 test_before t hit miss c = field_before t.place t.width (mask_before t.mask (comparison_before t.comparison Constant t.value hit miss c))
@@ -112,10 +107,10 @@ test_before t hit miss c = field_before t.place t.width (mask_before t.mask (com
 -- what loads an accessor's field where its first byte stands at the number in A
 abbrev pub transport_before : Link → Width → List Insn → List Insn
 transport_before link width c =
-    plain 177 (network link) ∷ plain 12 0 ∷ plain 7 0 ∷ plain (indirect_code width) (network link) ∷ c
+    plain LoadHeaderLength (network link) ∷ plain (Compute arithmetic.Add IndexRegister) 0 ∷ plain CopyToIndex 0 ∷ plain (LoadIndirect width) (network link) ∷ c
 
 abbrev pub base_before : ℕ → Width → List Insn → List Insn
-base_before at width c = plain 7 0 ∷ plain (indirect_code width) at ∷ c
+base_before at width c = plain CopyToIndex 0 ∷ plain (LoadIndirect width) at ∷ c
 
 -- an accessor's field goes into A, its index being there
 abbrev pub accessor_before : Link → Protocol → Width → List Insn → List Insn
@@ -127,21 +122,21 @@ accessor_before link _ width c = base_before (network link) width c
 
 -- the left operand is in A when it goes into a word; later it comes back from there, and the right one is in X
 abbrev pub operands_before : ℕ → List Insn → List Insn
-operands_before slot c = plain 7 0 ∷ plain 96 slot ∷ c
+operands_before slot c = plain CopyToIndex 0 ∷ plain (Load Accumulator Memory) slot ∷ c
 
 -- arithmetic's value goes into A; the words from slot on are free for it
 abbrev pub number_before : Link → NumberTree → ℕ → List Insn → List Insn
-number_before link (literal k) slot c = plain 0 k ∷ c
-number_before link (named k) slot c = plain 0 k ∷ c
-number_before link len slot c = plain 128 0 ∷ c
+number_before link (literal k) slot c = plain (Load Accumulator Immediate) k ∷ c
+number_before link (named k) slot c = plain (Load Accumulator Immediate) k ∷ c
+number_before link len slot c = plain (Load Accumulator Length) 0 ∷ c
 number_before link (load protocol size i) slot c = number_before link i slot (accessor_before link protocol (width_of size) c)
-number_before link (negated a) slot c = number_before link a slot (plain 132 0 ∷ c)
+number_before link (negated a) slot c = number_before link a slot (plain Negate 0 ∷ c)
 number_before link (applied operator l r) slot c =
-    number_before link l slot (plain 2 slot ∷ number_before link r (slot + 1) (operands_before slot (plain (operator_code operator) 0 ∷ c)))
+    number_before link l slot (plain (Store Accumulator) slot ∷ number_before link r (slot + 1) (operands_before slot (plain (computation operator) 0 ∷ c)))
 
 abbrev pub relation_before : Link → Comparison → NumberTree → NumberTree → ℕ → ℕ → List Insn → List Insn
 relation_before link comparison l r hit miss c =
-    number_before link l 0 (plain 2 0 ∷ number_before link r 1 (operands_before 0 (comparison_before comparison IndexRegister 0 hit miss c)))
+    number_before link l 0 (plain (Store Accumulator) 0 ∷ number_before link r 1 (operands_before 0 (comparison_before comparison IndexRegister 0 hit miss c)))
 
 -- the original length, compared with a number
 abbrev pub sized_comparison : Size → Comparison
@@ -150,7 +145,7 @@ sized_comparison size.Greater = AtLeast
 
 abbrev pub sized_before : Size → ℕ → ℕ → ℕ → List Insn → List Insn
 sized_before size number hit miss c =
-    plain 128 0 ∷ plain 2 0 ∷ plain 0 number ∷ operands_before 0 (comparison_before (sized_comparison size) IndexRegister 0 hit miss c)
+    plain (Load Accumulator Length) 0 ∷ plain (Store Accumulator) 0 ∷ plain (Load Accumulator Immediate) number ∷ operands_before 0 (comparison_before (sized_comparison size) IndexRegister 0 hit miss c)
 
 -- code, and the place at which it is entered
 pub record Entered : Type 0 where
@@ -242,7 +237,7 @@ accessors_before link (p ∷ ps) hit miss c =
 
 -- the two returns at the end
 abbrev pub returns_code : List Insn
-returns_code = plain 6 262144 ∷ plain 6 0 ∷ []
+returns_code = plain ReturnConstant 262144 ∷ plain ReturnConstant 0 ∷ []
 
 -- the code of an expression, in front of the two returns; the empty expression has none. Hosts and ports that
 -- stand one after the other between or are looked for together

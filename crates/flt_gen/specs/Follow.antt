@@ -2,7 +2,12 @@
 use Rattle.std.specs.Prelude.{ℕ, ◌-◌, ◌==◌, max, Bool, true, false, if◌then◌else◌, ◌&&◌, List, [], ◌∷◌, length, drop, Option, Some, None}
 use Rattle.flt_bpf.specs.declared.insn.Insn.{Insn}
 use Rattle.flt_bpf.specs.declared.operation.Width.{Width}
-use Rattle.flt_bpf.specs.declared.operation.Width.TheVariants.{Word, HalfWord, Byte}
+use Rattle.flt_bpf.specs.declared.operation.Operation.TheVariants.{LoadAbsolute, LoadHeaderLength, Compute, JumpIf}
+use Rattle.flt_bpf.specs.declared.operation.Operator.TheVariants as arithmetic
+use Rattle.flt_bpf.specs.declared.operation.Test.TheVariants as test
+use Rattle.flt_bpf.specs.declared.operation.Operand.TheVariants.{Constant}
+use Rattle.flt_bpf.specs.Instructions.{code_of}
+use Rattle.flt_gen.specs.Layout.{JUMP}
 use Rattle.flt_words.specs.declared.token.Comparison.{Comparison}
 use Rattle.flt_words.specs.declared.token.Comparison.TheVariants.{Equal}
 use Rattle.flt_gen.specs.declared.elementary.Place.{Place}
@@ -14,10 +19,16 @@ use Rattle.flt_gen.specs.declared.elementary.Fact.{Fact}
 use Rattle.flt_gen.specs.declared.elementary.Alternatives.{Alternatives}
 use Rattle.flt_gen.specs.declared.follow.Knowledge.{Knowledge}
 
+-- the code of a load at a fixed place
 abbrev pub load_code : Width → ℕ
-load_code Word = 32
-load_code HalfWord = 40
-load_code Byte = 48
+load_code width = code_of (LoadAbsolute width)
+
+-- the code of a mask, and that of a test whether A is a number
+abbrev pub MASK : ℕ
+MASK = code_of (Compute arithmetic.And Constant)
+
+abbrev pub EQUAL : ℕ
+EQUAL = code_of (JumpIf test.Equal Constant)
 
 abbrev pub same_mask : Option ℕ → Option ℕ → Bool
 same_mask None None = true
@@ -64,18 +75,18 @@ chosen (Some false) place hit miss = max 1 miss
 abbrev pub past_mask : List Fact → ℕ → ℕ → ℕ → Option ℕ → List Insn → ℕ
 past_mask facts place load at mask [] = place
 past_mask facts place load at mask (j ∷ is) =
-    if j.code == 21 then chosen (decided facts load at mask j.k) place (length is - j.jt) (length is - j.jf) else place
+    if j.code == EQUAL then chosen (decided facts load at mask j.k) place (length is - j.jt) (length is - j.jf) else place
 
 -- the same past its load
 abbrev pub past_load : List Fact → ℕ → ℕ → ℕ → List Insn → ℕ
 past_load facts place load at [] = place
 past_load facts place load at (m ∷ is) =
-    if m.code == 84 then past_mask facts place load at (Some m.k) is else past_mask facts place load at None (m ∷ is)
+    if m.code == MASK then past_mask facts place load at (Some m.k) is else past_mask facts place load at None (m ∷ is)
 
 -- the place where the code behind a place goes on: past a jump, and past a test that is decided
 abbrev pub onward : List Fact → ℕ → List Insn → ℕ
 onward facts place [] = place
-onward facts place (i ∷ is) = if i.code == 5 then max 1 (length is - i.k) else past_load facts place i.code i.k is
+onward facts place (i ∷ is) = if i.code == JUMP then max 1 (length is - i.k) else past_load facts place i.code i.k is
 
 -- one step from a place, two, four, eight
 abbrev pub one_on : List Insn → List Fact → ℕ → ℕ
@@ -130,7 +141,7 @@ followed c known own place =
 abbrev pub past_index : Place → ℕ → List Insn → ℕ
 past_index (At a) place c = place
 past_index (Past header a) place [] = place
-past_index (Past header a) place (i ∷ is) = if i.code == 177 && i.k == header then max 1 (length is) else place
+past_index (Past header a) place (i ∷ is) = if i.code == code_of LoadHeaderLength && i.k == header then max 1 (length is) else place
 
 abbrev pub entered_at : Place → List Insn → ℕ → ℕ
 entered_at place c r = past_index place r (drop (length c - r) c)

@@ -19,7 +19,10 @@ use Rattle.flt_gen.specs.Formula.{Formula}
 use Rattle.flt_gen.specs.Group.{Group, no_group, larger_group, group_formula}
 use Rattle.flt_gen.specs.Primitives.{check_formula, cast_formula, sized_formula, qualified_formula}
 use Rattle.flt_gen.specs.Follow.{nothing}
-use Rattle.flt_gen.specs.Code.{plain, comparison_before, accessor_before, operator_code, operands_before, Entered, entered, emitted, accessors_before, returns_code}
+use Rattle.flt_gen.specs.Code.{plain, comparison_before, accessor_before, computation, operands_before, Entered, entered, emitted, accessors_before, returns_code}
+use Rattle.flt_bpf.specs.declared.operation.Operation.TheVariants.{Load, Store, Negate}
+use Rattle.flt_bpf.specs.declared.operation.Register.TheVariants.{Accumulator}
+use Rattle.flt_bpf.specs.declared.operation.Source.TheVariants.{Immediate, Length}
 
 -- how far the walk has come: the code so far, the targets of the next truth, the word for the next left operand; what
 -- waits, latest first; and the protocols of the relation's accessors, the one of the first word first
@@ -66,7 +69,7 @@ relation_put link w =
 abbrev pub number_put : Link → List Waiting → Walk → Walk
 number_put link [] w = relation_put link w
 number_put link (Index protocol ∷ ns) w = number_put link ns (record w { numbers = ns; accessors = protocol ∷ w.accessors })
-number_put link (Left slot ∷ ns) w = record w { code = plain 2 slot ∷ w.code; slot = slot; numbers = ns }
+number_put link (Left slot ∷ ns) w = record w { code = plain (Store Accumulator) slot ∷ w.code; slot = slot; numbers = ns }
 
 -- code of a number is put in front
 abbrev pub with_code : List Insn → Walk → Walk
@@ -115,13 +118,13 @@ truth_node_put link w _ = truth_put (entered w.code w.to.no) w
 abbrev pub with_node : Link → Walk → Node → Walk
 with_node link w (node.Join join) = join_put link join w
 with_node link w (node.Qualified quals v) = value_put link quals v w (larger_group quals v w.group)
-with_node link w (node.Literal n) = number_put link w.numbers (with_code (plain 0 n ∷ w.code) w)
-with_node link w (node.Named n) = number_put link w.numbers (with_code (plain 0 n ∷ w.code) w)
-with_node link w node.Len = number_put link w.numbers (with_code (plain 128 0 ∷ w.code) w)
+with_node link w (node.Literal n) = number_put link w.numbers (with_code (plain (Load Accumulator Immediate) n ∷ w.code) w)
+with_node link w (node.Named n) = number_put link w.numbers (with_code (plain (Load Accumulator Immediate) n ∷ w.code) w)
+with_node link w node.Len = number_put link w.numbers (with_code (plain (Load Accumulator Length) 0 ∷ w.code) w)
 with_node link w (node.Load protocol size) =
     record w { code = accessor_before link protocol (width_of size) w.code; numbers = Index protocol ∷ w.numbers }
-with_node link w node.Negate = with_code (plain 132 0 ∷ w.code) w
-with_node link w (node.Apply operator) = operands_put w.slot (plain (operator_code operator) 0 ∷ w.code) w
+with_node link w node.Negate = with_code (plain Negate 0 ∷ w.code) w
+with_node link w (node.Apply operator) = operands_put w.slot (plain (computation operator) 0 ∷ w.code) w
 with_node link w (node.Check protocol) = truth_node_put link (settled link w) (node.Check protocol)
 with_node link w (node.Cast protocol c) = truth_node_put link (settled link w) (node.Cast protocol c)
 with_node link w (node.Sized size n) = truth_node_put link (settled link w) (node.Sized size n)

@@ -2,12 +2,12 @@
 
 ghost use Rattle.std.specs.Prelude.{◌≡◌, ◌+◌, ◌-◌, ◌^◌, ◌<◌, ◌≤◌, List, [], ◌∷◌, length, drop, OnOk};
 ghost use Rattle.flt_gen.specs.Follow.{one_on, two_on, four_on, eight_on, followed, entered_at, target};
-ghost use Rattle.flt_gen.specs.Code.{plain, jump_before, branch_before, test_code};
+ghost use Rattle.flt_gen.specs.Code.{plain, jump_before, branch_before};
 
 use crate::elementary::{Fact, Place};
 use crate::follow::{Knowledge, onward, past_index};
 use flt_bpf::insn::Insn;
-use flt_bpf::operation::{Operand, Test};
+use flt_bpf::operation::{Operand, Operation, Test};
 use std::alloc::{AllocError, Allocator};
 use std::marker::Model;
 
@@ -90,11 +90,11 @@ impl<A: Allocator> Code<A> {
     }
 
     /// One that isn't a test.
-    pub fn put_plain(&mut self, code: u16, k: u32) -> Result<(), AllocError>
-        ensures { OnOk result (self.new ≡ plain code k ∷ self.old) }
+    pub fn put_plain(&mut self, operation: Operation, k: u32) -> Result<(), AllocError>
+        ensures { OnOk result (self.new ≡ plain operation k ∷ self.old) }
     {
         self.put(Insn {
-            code,
+            code: operation.code(),
             jt: 0,
             jf: 0,
             k,
@@ -107,7 +107,7 @@ impl<A: Allocator> Code<A> {
         ensures { OnOk result (self.new ≡ jump_before to self.old) }
     {
         let offset = self.distance(to) as u32;
-        self.put_plain(5, offset)
+        self.put_plain(Operation::Jump, offset)
     }
 
     /// A test that goes on at one of two places, a far one by a jump right behind it.
@@ -122,7 +122,7 @@ impl<A: Allocator> Code<A> {
         ensures code { OnOk result (self.new ≡ branch_before test operand k to.yes to.no self.old) }
         ensures room { OnOk result (length self.new ≤ length self.old + 3) }
     {
-        let code = branch_code(test, operand);
+        let code = Operation::JumpIf(test, operand).code();
         let (yes, no) = (self.distance(to.yes), self.distance(to.no));
         let (past_yes, past_no) = (self.distance_past(to.yes), self.distance_past(to.no));
         if yes <= NEAR && no <= NEAR {
@@ -220,20 +220,5 @@ impl<A: Allocator> Code<A> {
         backwards.truncate(entry);
         backwards.reverse();
         backwards
-    }
-}
-
-fn branch_code(test: Test, operand: Operand) -> u16
-    ensures { result ≡ test_code test operand }
-{
-    match (test, operand) {
-        (Test::Equal, Operand::Constant) => 21,
-        (Test::Greater, Operand::Constant) => 37,
-        (Test::AtLeast, Operand::Constant) => 53,
-        (Test::AnyBit, Operand::Constant) => 69,
-        (Test::Equal, Operand::IndexRegister) => 29,
-        (Test::Greater, Operand::IndexRegister) => 45,
-        (Test::AtLeast, Operand::IndexRegister) => 61,
-        (Test::AnyBit, Operand::IndexRegister) => 77,
     }
 }

@@ -1,5 +1,8 @@
 //! The tests that primitives are made of: each looks at one field of a packet.
 
+ghost use Rattle.std.specs.Prelude.{◌≡◌};
+ghost use Rattle.flt_gen.specs.Primitives.{net_test, port_test};
+
 use flt_bpf::operation::Width;
 use flt_lang::Direction;
 use flt_words::{Comparison, Protocol};
@@ -68,6 +71,19 @@ pub struct PortTest {
     pub ports: Ports,
 }
 
+impl PortTest {
+    /// A test of these ports.
+    pub fn new(protocol: Option<Protocol>, direction: Direction, ports: Ports) -> Self
+        ensures { result ≡ port_test protocol direction ports }
+    {
+        PortTest {
+            protocol,
+            direction,
+            ports,
+        }
+    }
+}
+
 /// What stands behind a network header: the tests of TCP and UDP, the test that no later fragment
 /// is there, where there are fragments, and the places of both ports.
 #[derive(Clone, Copy)]
@@ -94,6 +110,19 @@ pub struct NetTest {
     pub direction: Direction,
     pub mask: Option<u32>,
     pub address: u32,
+}
+
+impl NetTest {
+    /// A test of this address, as far as the mask goes.
+    pub fn new(direction: Direction, mask: Option<u32>, address: u32) -> Self
+        ensures { result ≡ net_test direction mask address }
+    {
+        NetTest {
+            direction,
+            mask,
+            address,
+        }
+    }
 }
 
 /// A test with its outcome, where that is known of a packet.

@@ -1,23 +1,12 @@
 //! Where a jump goes on at once, since what is known of the packet decides the test at its target.
 
 ghost use Rattle.std.specs.Prelude.{◌≡◌, ◌∷◌, [], length, reverse, MatchOption, true, false};
-ghost use Rattle.flt_gen.specs.Follow.{load_code, same_mask, looks_at, test_says, decided, past_mask, past_load, onward, past_index, nothing, fact, and_fact, and_fork};
+ghost use Rattle.flt_gen.specs.Follow.{same_mask, looks_at, test_says, decided, past_mask, past_load, onward, past_index, nothing, fact, and_fact, and_fork};
 
 use crate::elementary::{Alternatives, Elementary, Fact, FieldTest, Place};
 use flt_bpf::insn::Insn;
-use flt_bpf::operation::Width;
+use flt_bpf::operation::{Operand, Operation, Operator, Test};
 use flt_words::Comparison;
-
-/// The code of a load.
-pub fn load_code(width: Width) -> u16
-    ensures { result ≡ load_code width }
-{
-    match width {
-        Width::Word => 32,
-        Width::HalfWord => 40,
-        Width::Byte => 48,
-    }
-}
 
 fn same_mask(one: Option<u32>, other: Option<u32>) -> bool
     ensures { result ≡ same_mask one other }
@@ -43,7 +32,8 @@ fn looks_at(test: FieldTest, look: Look) -> bool
 {
     match (test.comparison, test.place) {
         (Comparison::Equal, Place::At(at)) => {
-            at == look.at && (load_code(test.width) == look.load && same_mask(test.mask, look.mask))
+            let load = Operation::LoadAbsolute(test.width).code();
+            at == look.at && (load == look.load && same_mask(test.mask, look.mask))
         }
         _ => false,
     }
@@ -167,7 +157,7 @@ fn past_mask(behind: &[Insn], facts: &[Fact], look: Look, place: usize) -> usize
     match first_insn(behind) {
         None => place,
         Some((insn, others)) => {
-            if insn.code == 21 {
+            if insn.code == Operation::JumpIf(Test::Equal, Operand::Constant).code() {
                 match decided(facts, look, insn.k) {
                     None => place,
                     Some(true) => others.len().saturating_sub(insn.jt as usize).max(1),
@@ -186,7 +176,7 @@ fn past_load(behind: &[Insn], facts: &[Fact], load: u16, at: u32, place: usize) 
     match first_insn(behind) {
         None => place,
         Some((insn, others)) => {
-            if insn.code == 84 {
+            if insn.code == Operation::Compute(Operator::And, Operand::Constant).code() {
                 let mask = Some(insn.k);
                 past_mask(others, facts, Look { load, at, mask }, place)
             } else {
@@ -205,7 +195,7 @@ pub fn onward(behind: &[Insn], facts: &[Fact], place: usize) -> usize
     match first_insn(behind) {
         None => place,
         Some((insn, others)) => {
-            if insn.code == 5 {
+            if insn.code == Operation::Jump.code() {
                 others.len().saturating_sub(insn.k as usize).max(1)
             } else {
                 past_load(others, facts, insn.code, insn.k, place)
@@ -224,7 +214,7 @@ pub fn past_index(behind: &[Insn], tested: Place, place: usize) -> usize
         Place::Past(header, _) => match first_insn(behind) {
             None => place,
             Some((insn, others)) => {
-                if insn.code == 177 && insn.k == header {
+                if insn.code == Operation::LoadHeaderLength.code() && insn.k == header {
                     others.len().max(1)
                 } else {
                     place

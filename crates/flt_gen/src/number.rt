@@ -1,7 +1,7 @@
 //! The code of arithmetic and of the tests that accessors ask for.
 
 ghost use Rattle.std.specs.Prelude.{◌≡◌, ◌+◌, ◌*◌, ◌^◌, ◌<◌, ◌≤◌, length, OnOk, IfOk, reverse};
-ghost use Rattle.flt_gen.specs.Code.{entered, base_before, transport_before, accessor_before, operator_code, operands_before, all_before, accessors_before};
+ghost use Rattle.flt_gen.specs.Code.{entered, base_before, transport_before, accessor_before, machine_operator, computation, operands_before, all_before, accessors_before};
 ghost use Rattle.flt_gen.specs.Follow.{nothing};
 ghost use Rattle.flt_gen.specs.Numbers.{accessor_tests, width_of};
 
@@ -9,28 +9,34 @@ use crate::code::{Code, Targets};
 use crate::elementary::Kind;
 use crate::follow::Knowledge;
 use crate::link::Link;
-use crate::put::{indirect_code, put_all};
+use crate::put::put_all;
 use crate::table::{first_fragment, has_ip_proto, kind_test, network};
-use flt_bpf::operation::Width;
+use flt_bpf::operation::{self, Operand, Operation, Register, Source, Width};
 use flt_words::{Operator, Protocol};
 use std::alloc::{AllocError, Allocator};
 
-/// The code of an operator with X.
-pub fn operator_code(operator: Operator) -> u16
-    ensures { result ≡ operator_code operator }
+fn machine_operator(operator: Operator) -> operation::Operator
+    ensures { result ≡ machine_operator operator }
 {
     match operator {
-        Operator::Add => 12,
-        Operator::Subtract => 28,
-        Operator::Multiply => 44,
-        Operator::Divide => 60,
-        Operator::Or => 76,
-        Operator::And => 92,
-        Operator::ShiftLeft => 108,
-        Operator::ShiftRight => 124,
-        Operator::Remainder => 156,
-        Operator::ExclusiveOr => 172,
+        Operator::Add => operation::Operator::Add,
+        Operator::Subtract => operation::Operator::Subtract,
+        Operator::Multiply => operation::Operator::Multiply,
+        Operator::Divide => operation::Operator::Divide,
+        Operator::Or => operation::Operator::Or,
+        Operator::And => operation::Operator::And,
+        Operator::ShiftLeft => operation::Operator::ShiftLeft,
+        Operator::ShiftRight => operation::Operator::ShiftRight,
+        Operator::Remainder => operation::Operator::Remainder,
+        Operator::ExclusiveOr => operation::Operator::ExclusiveOr,
     }
+}
+
+/// An operator between A and X.
+pub fn computation(operator: Operator) -> Operation
+    ensures { result ≡ computation operator }
+{
+    Operation::Compute(machine_operator(operator), Operand::IndexRegister)
 }
 
 /// How much an accessor reads of which the size in bytes is written: 1, 2 or 4.
@@ -48,16 +54,16 @@ pub fn width_of(size: u32) -> Width
 pub fn put_operands<A: Allocator>(code: &mut Code<A>, slot: u32) -> Result<(), AllocError>
     ensures { OnOk result (code.new ≡ operands_before slot code.old) }
 {
-    code.put_plain(96, slot)?;
-    code.put_plain(7, 0)
+    code.put_plain(Operation::Load(Register::Accumulator, Source::Memory), slot)?;
+    code.put_plain(Operation::CopyToIndex, 0)
 }
 
 // A field goes into A that stands as far behind a place as A says.
 fn put_base<A: Allocator>(code: &mut Code<A>, at: u32, width: Width) -> Result<(), AllocError>
     ensures { OnOk result (code.new ≡ base_before at width code.old) }
 {
-    code.put_plain(indirect_code(width), at)?;
-    code.put_plain(7, 0)
+    code.put_plain(Operation::LoadIndirect(width), at)?;
+    code.put_plain(Operation::CopyToIndex, 0)
 }
 
 // The same behind an IPv4 header.
@@ -69,10 +75,10 @@ fn put_transport<A: Allocator>(
     ensures { OnOk result (code.new ≡ transport_before link width code.old) }
 {
     let start = network(link);
-    code.put_plain(indirect_code(width), start)?;
-    code.put_plain(7, 0)?;
-    code.put_plain(12, 0)?;
-    code.put_plain(177, start)
+    code.put_plain(Operation::LoadIndirect(width), start)?;
+    code.put_plain(Operation::CopyToIndex, 0)?;
+    code.put_plain(computation(Operator::Add), 0)?;
+    code.put_plain(Operation::LoadHeaderLength, start)
 }
 
 /// An accessor's field goes into A, where its index is.

@@ -1,26 +1,15 @@
 //! The code of elementary tests, and of several that are joined.
 
 ghost use Rattle.std.specs.Prelude.{◌≡◌, ◌+◌, ◌*◌, ◌^◌, ◌<◌, ◌≤◌, [], ◌∷◌, length, OnOk, IfOk};
-ghost use Rattle.flt_gen.specs.Code.{indirect_code, field_before, mask_before, comparison_before, test_before, elementary_before, all_before, sides_before, fork_before, entered};
+ghost use Rattle.flt_gen.specs.Code.{field_before, mask_before, comparison_before, test_before, elementary_before, all_before, sides_before, fork_before, entered};
 
 use crate::code::{Code, Targets};
 use crate::elementary::{Elementary, Fact, FieldTest, Place};
-use crate::follow::{Knowledge, load_code};
-use flt_bpf::operation::{Operand, Test, Width};
+use crate::follow::Knowledge;
+use flt_bpf::operation::{Operand, Operation, Operator, Test, Width};
 use flt_lang::Direction;
 use flt_words::{Comparison, Join, Side};
 use std::alloc::{AllocError, Allocator};
-
-/// The code of a load at X and an offset.
-pub fn indirect_code(width: Width) -> u16
-    ensures { result ≡ indirect_code width }
-{
-    match width {
-        Width::Word => 64,
-        Width::HalfWord => 72,
-        Width::Byte => 80,
-    }
-}
 
 /// A field goes into A.
 pub fn put_field<A: Allocator>(
@@ -31,10 +20,10 @@ pub fn put_field<A: Allocator>(
     ensures { OnOk result (code.new ≡ field_before place width code.old) }
 {
     match place {
-        Place::At(at) => code.put_plain(load_code(width), at),
+        Place::At(at) => code.put_plain(Operation::LoadAbsolute(width), at),
         Place::Past(header, at) => {
-            code.put_plain(indirect_code(width), at)?;
-            code.put_plain(177, header)
+            code.put_plain(Operation::LoadIndirect(width), at)?;
+            code.put_plain(Operation::LoadHeaderLength, header)
         }
     }
 }
@@ -45,7 +34,10 @@ pub fn put_mask<A: Allocator>(code: &mut Code<A>, mask: Option<u32>) -> Result<(
 {
     match mask {
         None => Ok(()),
-        Some(mask) => code.put_plain(84, mask),
+        Some(mask) => {
+            let and = Operation::Compute(Operator::And, Operand::Constant);
+            code.put_plain(and, mask)
+        }
     }
 }
 

@@ -15,7 +15,7 @@ use crate::number::put_operands;
 use crate::port::put_ports;
 use crate::primitive::{put_ether_host, put_proto};
 use crate::put::put_comparison;
-use flt_bpf::operation::Operand;
+use flt_bpf::operation::{Operand, Operation, Register, Source};
 use flt_lang::{Direction, FullQuals, Value};
 use flt_words::{Comparison, Protocol, Size, ValueType};
 use std::alloc::{AllocError, Allocator};
@@ -37,12 +37,7 @@ fn put_host<A: Allocator>(
 {
     match value {
         Value::Dotted(host, _) => {
-            let (mask, address) = (None, host.address);
-            let net = NetTest {
-                direction,
-                mask,
-                address,
-            };
+            let net = NetTest::new(direction, None, host.address);
             put_net(code, link, protocol, net, to)
         },
         Value::Ip6(address, _) => put_ip6(code, link, direction, None, address, to),
@@ -70,12 +65,7 @@ fn put_net_value<A: Allocator>(
         Value::Ip6(address, prefix) => put_ip6(code, link, direction, prefix, address, to),
         _ => match value.ip4_net() {
             Some(net) => {
-                let (mask, address) = (Some(net.mask), net.address);
-                let net = NetTest {
-                    direction,
-                    mask,
-                    address,
-                };
+                let net = NetTest::new(direction, Some(net.mask), net.address);
                 put_net(code, link, protocol, net, to)
             }
             None => Ok(to.no),
@@ -102,21 +92,12 @@ pub fn put_qualified<A: Allocator>(
         (ValueType::Host, value) => put_host(code, link, protocol, direction, value, to),
         (ValueType::Net, value) => put_net_value(code, link, protocol, direction, value, to),
         (ValueType::Port, Value::Number(port, _)) => {
-            let ports = Ports::One(port);
-            let wanted = PortTest {
-                protocol,
-                direction,
-                ports,
-            };
+            let wanted = PortTest::new(protocol, direction, Ports::One(port));
             put_ports(code, link, wanted, &[], to)
         }
         (ValueType::PortRange, Value::Range { first, last }) => {
             let ports = Ports::Between(first.min(last), first.max(last));
-            let wanted = PortTest {
-                protocol,
-                direction,
-                ports,
-            };
+            let wanted = PortTest::new(protocol, direction, ports);
             put_ports(code, link, wanted, &[], to)
         }
         (ValueType::Proto, Value::Number(number, _)) => put_proto(code, link, protocol, number, to),
@@ -142,21 +123,11 @@ fn put_one<A: Allocator>(
     let (protocol, direction) = (group.protocol(), group.direction());
     match group.value_type() {
         ValueType::Host => {
-            let (mask, address) = (None, group.first());
-            let net = NetTest {
-                direction,
-                mask,
-                address,
-            };
+            let net = NetTest::new(direction, None, group.first());
             put_net(code, link, protocol, net, to)
         }
         ValueType::Port => {
-            let ports = Ports::One(group.first());
-            let wanted = PortTest {
-                protocol,
-                direction,
-                ports,
-            };
+            let wanted = PortTest::new(protocol, direction, Ports::One(group.first()));
             put_ports(code, link, wanted, &[], to)
         }
         _ => Ok(to.no),
@@ -183,12 +154,7 @@ fn put_several<A: Allocator>(
     match group.value_type() {
         ValueType::Host => put_hosts(code, link, group, to),
         ValueType::Port => {
-            let ports = Ports::Several(group.first());
-            let wanted = PortTest {
-                protocol,
-                direction,
-                ports,
-            };
+            let wanted = PortTest::new(protocol, direction, Ports::Several(group.first()));
             put_ports(code, link, wanted, group.numbers(), to)
         }
         _ => Ok(to.no),
@@ -233,8 +199,11 @@ pub fn put_sized<A: Allocator>(
     };
     put_comparison(code, comparison, Operand::IndexRegister, 0, to)?;
     put_operands(code, 0)?;
-    code.put_plain(0, number)?;
-    code.put_plain(2, 0)?;
-    code.put_plain(128, 0)?;
+    code.put_plain(
+        Operation::Load(Register::Accumulator, Source::Immediate),
+        number,
+    )?;
+    code.put_plain(Operation::Store(Register::Accumulator), 0)?;
+    code.put_plain(Operation::Load(Register::Accumulator, Source::Length), 0)?;
     Ok(code.top())
 }

@@ -10,13 +10,13 @@ ghost use Rattle.flt_gen.specs.Walk.{start, truth_put, relation_put, number_put,
 use crate::code::{Code, Targets};
 use crate::group::Group;
 use crate::link::Link;
-use crate::number::{operator_code, put_accessor, put_accessors, put_operands, width_of};
+use crate::number::{computation, put_accessor, put_accessors, put_operands, width_of};
 use crate::primitive::{put_cast, put_check};
 use crate::put::put_comparison;
 use crate::value::{put_group, put_qualified, put_sized};
 use crate::waiting::{LeftTruth, Numbers, Truths, Waiting};
 use flt_bpf::insn::Insn;
-use flt_bpf::operation::Operand;
+use flt_bpf::operation::{Operand, Operation, Register, Source};
 use flt_lang::{FullQuals, Node, Value};
 use flt_words::{Join, Protocol};
 use std::alloc::{AllocError, Allocator};
@@ -113,7 +113,9 @@ impl<A: Allocator> Walk<A> {
                 Some(Waiting::Index(protocol)) => self.accessors.push(protocol)?,
                 Some(Waiting::Left(slot)) => {
                     self.slot = slot;
-                    return self.code.put_plain(2, slot);
+                    return self
+                        .code
+                        .put_plain(Operation::Store(Register::Accumulator), slot);
                 }
                 None => return self.finish_relation(link),
             }
@@ -139,20 +141,24 @@ impl<A: Allocator> Walk<A> {
     {
         match node {
             Node::Literal(n) | Node::Named(n) => {
-                self.code.put_plain(0, *n)?;
+                self.code.put_plain(
+                    Operation::Load(Register::Accumulator, Source::Immediate),
+                    *n,
+                )?;
                 self.finish_number(link)
             }
             Node::Len => {
-                self.code.put_plain(128, 0)?;
+                self.code
+                    .put_plain(Operation::Load(Register::Accumulator, Source::Length), 0)?;
                 self.finish_number(link)
             }
             Node::Load(protocol, size) => {
                 put_accessor(&mut self.code, link, *protocol, width_of(*size))?;
                 self.numbers.push(Waiting::Index(*protocol))
             }
-            Node::Negate => self.code.put_plain(132, 0),
+            Node::Negate => self.code.put_plain(Operation::Negate, 0),
             Node::Apply(operator) => {
-                self.code.put_plain(operator_code(*operator), 0)?;
+                self.code.put_plain(computation(*operator), 0)?;
                 self.put_both(self.slot)
             }
             _ => unreachable!(),
@@ -300,8 +306,8 @@ impl<A: Allocator + Clone> Walk<A> {
         let accessors = Vec::new(alloc.clone()?);
         let group = Group::new(alloc.clone()?);
         let mut code = Code::new(alloc);
-        code.put_plain(6, 0)?;
-        code.put_plain(6, KEEP)?;
+        code.put_plain(Operation::ReturnConstant, 0)?;
+        code.put_plain(Operation::ReturnConstant, KEEP)?;
         Ok(Walk {
             code,
             to: Targets { yes: 2, no: 1 },
