@@ -1,11 +1,16 @@
 //! One block of a pcapng file, read from a device.
-ghost use Rattle.std.specs.Prelude.{◌≡◌, ◌+◌, ◌^◌, ◌<◌, ◌≤◌, ◌++◌, ◌∷◌, ◌⊎◌, IsTrue, IfOk, IfErr, OnOk, OnErr, Option, [], length, vec_len, None, Some, true, is_some};
+ghost use Rattle.std.specs.Prelude.{◌≡◌, ◌+◌, ◌^◌, ◌<◌, ◌≤◌, ◌++◌, ◌∷◌, ◌⊎◌, IsTrue, IfOk, IfErr};
+ghost use Rattle.std.specs.Prelude.{OnOk, OnErr, Option, [], length, vec_len, None, Some, true};
+ghost use Rattle.std.specs.Prelude.{is_some};
 ghost use Rattle.std.specs.List.{slice_get};
 ghost use Rattle.cap_octet.specs.Checks.{first_failing};
-ghost use Rattle.cap_pcapng.specs.Block.{EnhancedParts, IsDescribedIfAny, SimpleParts, block_checks, option_checks, parts_in, parts_of, parts_of_interface};
+ghost use Rattle.cap_pcapng.specs.Block.{EnhancedParts, IsDescribedIfAny, SimpleParts};
+ghost use Rattle.cap_pcapng.specs.Block.{block_checks, option_checks, parts_in, parts_of};
+ghost use Rattle.cap_pcapng.specs.Block.{parts_of_interface};
 ghost use Rattle.cap_pcapng.specs.Interface.{IsDescribed, described};
 ghost use Rattle.cap_pcapng.specs.Unit.{Section, checks_among, interfaces_before, order_before};
-ghost use Rattle.cap_io.specs.Blocks.{BlockCame, BlockMissing, Enters, FitsIfAny, IsEntryFault, KnowsIfAny, PacketFound, WholeCame, told_behind};
+ghost use Rattle.cap_io.specs.Blocks.{BlockCame, BlockMissing, Enters, FitsIfAny, IsEntryFault};
+ghost use Rattle.cap_io.specs.Blocks.{KnowsIfAny, PacketFound, WholeCame, told_behind};
 ghost use Rattle.cap_io.specs.Reading.{failures_told, most_in_unit};
 
 use crate::reading::{make_room, read_data};
@@ -20,7 +25,8 @@ const ENHANCED_DATA: usize = 28;
 /// Where the data of a simple packet begin in its block.
 const SIMPLE_DATA: usize = 12;
 
-/// A block that was read: the byte order of its section, its size in bytes, and its packet if it has one.
+/// A block that was read: the byte order of its section, its size in bytes, and its packet if it
+/// has one.
 #[derive(Clone, Copy, Debug, PartialEq, Eq)]
 pub(crate) struct BlockRead {
     pub(crate) order: Order,
@@ -28,15 +34,16 @@ pub(crate) struct BlockRead {
     pub(crate) packet: Option<Held>,
 }
 
-/// Reads what is left of a block behind its first 12 bytes, to the front of the buffer. Its limits are looked at
-/// before the buffer grows.
+/// Reads what is left of a block behind its first 12 bytes, to the front of the buffer. Its limits
+/// are looked at before the buffer grows.
 fn read_whole<I: Input, A: Allocator>(
     input: &mut I,
     section: Option<Order>,
     front: &[u8; 12],
     buffer: &mut Vec<u8, A>,
 ) -> Result<Frame, Fault>
-    ensures counted { IfOk result (λ frame. I.given input.new + 12 ≡ I.given input.old + frame.length) }
+    ensures counted { IfOk result (λ frame. I.given input.new + 12
+        ≡ I.given input.old + frame.length) }
     ensures grown { I.given input.old ≤ I.given input.new }
     ensures bounded { IfOk result (λ frame. 12 < frame.length → I.given input.new < 2 ^ 63) }
     ensures few { IfErr result (λ _. I.given input.new + 12 ≤ I.given input.old + most_in_unit) }
@@ -45,8 +52,10 @@ fn read_whole<I: Input, A: Allocator>(
     ensures least { IfOk result (λ frame. 12 ≤ frame.length) }
     ensures most { IfOk result (λ frame. frame.length ≤ most_in_unit) }
     ensures there { IfOk result (λ frame. frame.length ≤ vec_len buffer.new) }
-    ensures ok { IfOk result (λ frame. IsTrue I.tells → WholeCame section (front.now ++ I.unread input.old) buffer.new.items frame (I.unread input.new)) }
-    ensures err { IfErr result (λ fault. IsTrue I.tells → (before : Option Section) → order_before before ≡ section
+    ensures ok { IfOk result (λ frame. IsTrue I.tells → WholeCame section
+        (front.now ++ I.unread input.old) buffer.new.items frame (I.unread input.new)) }
+    ensures err { IfErr result (λ fault. IsTrue I.tells → (before : Option Section)
+        → order_before before ≡ section
         → BlockMissing before (front.now ++ I.unread input.old) (I.unread input.new) fault) }
 {
     let found = frame(section, front)?;
@@ -66,8 +75,9 @@ fn refusal<A: Allocator>(table: &Table<A>, fault: Fault) -> Fault
     }
 }
 
-/// Reads a whole block of this frame, or tells the first check that it fails by itself or behind these interfaces. Of
-/// those that passed, a packet's aren't made yet, nor that there is room for an interface.
+/// Reads a whole block of this frame, or tells the first check that it fails by itself or behind
+/// these interfaces. Of those that passed, a packet's aren't made yet, nor that there is room for
+/// an interface.
 fn own_block<'a, A: Allocator>(
     table: &Table<A>,
     frame: &Frame,
@@ -78,7 +88,8 @@ fn own_block<'a, A: Allocator>(
     ensures parts { IfOk result (λ block. parts_of block ≡ parts_in frame.now bytes.now) }
     ensures described { IfOk result IsDescribedIfAny }
     ensures passes { IfOk result (λ _. first_failing (block_checks frame.now bytes.now) ≡ None) }
-    ensures options { IfOk result (λ _. first_failing (option_checks (parts_in frame.now bytes.now)) ≡ None) }
+    ensures options { IfOk result (λ _. first_failing (option_checks (parts_in frame.now bytes.now))
+        ≡ None) }
     ensures refused { IfErr result (IsEntryFault frame.now table.now bytes.now) }
 {
     match block(frame, bytes) {
@@ -94,9 +105,11 @@ fn add_interface<A: Allocator>(
 ) -> Result<(), Fault>
     requires described { IsDescribed block.now }
     requires options { first_failing (option_checks (parts_of_interface block.now)) ≡ None }
-    ensures passes { OnOk result (first_failing (checks_among table.old (parts_of_interface block.now)) ≡ None) }
+    ensures passes { OnOk result (first_failing (checks_among table.old
+        (parts_of_interface block.now)) ≡ None) }
     ensures added { OnOk result (table.new ≡ table.old ++ described block.now.interface ∷ []) }
-    ensures refused { IfErr result (λ fault. (first_failing (checks_among table.old (parts_of_interface block.now)) ≡ Some fault)
+    ensures refused { IfErr result (λ fault. (first_failing (checks_among table.old
+        (parts_of_interface block.now)) ≡ Some fault)
         ⊎ (fault ≡ Fault.NoMemory)) }
     ensures kept { OnErr result (table.new ≡ table.old) }
 {
@@ -113,12 +126,14 @@ fn enhanced_packet<A: Allocator>(
     size: usize,
 ) -> Result<Held, Fault>
     ensures found { IfOk result (PacketFound block.now.order table.now
-        (EnhancedParts block.now.interface block.now.ticks block.now.captured block.now.orig block.now.order block.now.rest.now) block.now.rest.now) }
+        (EnhancedParts block.now.interface block.now.ticks block.now.captured block.now.orig
+        block.now.order block.now.rest.now) block.now.rest.now) }
     ensures size { IfOk result (λ held. held.size ≡ size) }
     ensures known { IfOk result (λ held. is_some (slice_get table.now held.interface) ≡ true) }
     ensures from { IfOk result (λ held. held.from ≡ 28) }
     ensures refused { IfErr result (λ fault. first_failing (checks_among table.now
-        (EnhancedParts block.now.interface block.now.ticks block.now.captured block.now.orig block.now.order block.now.rest.now)) ≡ Some fault) }
+        (EnhancedParts block.now.interface block.now.ticks block.now.captured block.now.orig
+        block.now.order block.now.rest.now)) ≡ Some fault) }
 {
     let Some(interface) = table.get(block.interface) else {
         return Err(Fault::UnknownInterface);
@@ -145,12 +160,14 @@ fn simple_packet<A: Allocator>(
     size: usize,
 ) -> Result<Held, Fault>
     ensures found { IfOk result (λ held. (order : Order)
-        → PacketFound order table.now (SimpleParts block.now.orig block.now.rest.now) block.now.rest.now held) }
+        → PacketFound order table.now (SimpleParts block.now.orig block.now.rest.now)
+        block.now.rest.now held) }
     ensures size { IfOk result (λ held. held.size ≡ size) }
     ensures known { IfOk result (λ held. is_some (slice_get table.now held.interface) ≡ true) }
     ensures from { IfOk result (λ held. held.from ≡ 12) }
     ensures refused { IfErr result (λ fault.
-        first_failing (checks_among table.now (SimpleParts block.now.orig block.now.rest.now)) ≡ Some fault) }
+        first_failing (checks_among table.now (SimpleParts block.now.orig block.now.rest.now))
+        ≡ Some fault) }
 {
     let Some(interface) = table.get(0) else {
         return Err(Fault::UnknownInterface);
@@ -168,7 +185,8 @@ fn simple_packet<A: Allocator>(
     })
 }
 
-/// Makes the checks of a whole block of this frame, and brings the table of interfaces behind it. A fault leaves it.
+/// Makes the checks of a whole block of this frame, and brings the table of interfaces behind it. A
+/// fault leaves it.
 fn enter<A: Allocator>(
     table: &mut Table<A>,
     frame: &Frame,
@@ -197,8 +215,8 @@ fn enter<A: Allocator>(
     }
 }
 
-/// Reads a block behind its first 12 bytes to the front of the buffer, and brings the table of interfaces behind it. A
-/// fault leaves the table.
+/// Reads a block behind its first 12 bytes to the front of the buffer, and brings the table of
+/// interfaces behind it. A fault leaves the table.
 pub(crate) fn read_block<I: Input, A: Allocator>(
     input: &mut I,
     section: Option<Order>,
@@ -217,9 +235,12 @@ pub(crate) fn read_block<I: Input, A: Allocator>(
     ensures there { IfOk result (λ read. read.size ≤ vec_len buffer.new) }
     ensures fits { IfOk result (λ read. FitsIfAny read.packet read.size) }
     ensures known { IfOk result (λ read. KnowsIfAny table.new read.packet) }
-    ensures ok { IfOk result (λ read. IsTrue I.tells → (before : Option Section) → order_before before ≡ section → interfaces_before before ≡ table.old
-        → BlockCame before (front.now ++ I.unread input.old) buffer.new.items read table.new (I.unread input.new)) }
-    ensures err { IfErr result (λ fault. IsTrue I.tells → (before : Option Section) → order_before before ≡ section → interfaces_before before ≡ table.old
+    ensures ok { IfOk result (λ read. IsTrue I.tells → (before : Option Section)
+        → order_before before ≡ section → interfaces_before before ≡ table.old
+        → BlockCame before (front.now ++ I.unread input.old) buffer.new.items read table.new
+        (I.unread input.new)) }
+    ensures err { IfErr result (λ fault. IsTrue I.tells → (before : Option Section)
+        → order_before before ≡ section → interfaces_before before ≡ table.old
         → BlockMissing before (front.now ++ I.unread input.old) (I.unread input.new) fault) }
     ensures kept { OnErr result (table.new ≡ table.old) }
 {

@@ -1,12 +1,14 @@
 //! One unit of a capture of any kind, read from a device.
-ghost use Rattle.std.specs.Prelude.{◌≡◌, ◌+◌, ◌^◌, ◌<◌, ◌≤◌, ◌++◌, true, IsTrue, IfOk, IfErr, OnOk, OnErr, None, [], vec_len};
+ghost use Rattle.std.specs.Prelude.{◌≡◌, ◌+◌, ◌^◌, ◌<◌, ◌≤◌, ◌++◌, true, IsTrue, IfOk, IfErr, OnOk};
+ghost use Rattle.std.specs.Prelude.{OnErr, None, [], vec_len};
 ghost use Rattle.std.specs.List.{slice_get};
 ghost use Rattle.std.specs.Option.{option_map, option_or};
 ghost use Rattle.cap_pcapng.specs.Frame.{is_section};
 ghost use Rattle.cap_pcapng.specs.Interface.{Described};
 ghost use Rattle.cap_io.specs.Capture.{Nothing, PcapngFile};
 ghost use Rattle.cap_io.specs.Blocks.{BlockCame, section_of};
-ghost use Rattle.cap_io.specs.Reading.{failures_told, most_in_unit, size_of, came_by, declared_by, HasInterfaceIfAny, IsSized, IsTold, Refuses, UnitCame};
+ghost use Rattle.cap_io.specs.Reading.{failures_told, most_in_unit, size_of, came_by, declared_by};
+ghost use Rattle.cap_io.specs.Reading.{HasInterfaceIfAny, IsSized, IsTold, Refuses, UnitCame};
 ghost use Rattle.cap_io.specs.declared.unit.Savefile.TheVariants as file;
 
 use crate::blocks::{BlockRead, read_block};
@@ -16,7 +18,8 @@ use cap_octet::{Fault, Input, Order, read_full};
 use cap_pcapng::{Table, begins_section};
 use std::alloc::Allocator;
 
-/// The bytes of a block in front of its body, and as many behind them as tell a section header's byte order.
+/// The bytes of a block in front of its body, and as many behind them as tell a section header's
+/// byte order.
 const BLOCK_FRONT: usize = 12;
 
 /// The bytes of the file header of pcap.
@@ -30,8 +33,10 @@ fn read_first<I: Input>(input: &mut I) -> Result<[u8; 4], Fault>
     ensures few { IfErr result (λ _. I.given input.new ≤ I.given input.old + 4) }
     ensures failed { I.failures input.new ≡ I.failures input.old + failures_told result }
     ensures never { I.never_fails input.new ≡ I.never_fails input.old }
-    ensures ok { IfOk result (λ first. IsTrue I.tells → I.unread input.old ≡ first ++ I.unread input.new) }
-    ensures err { IfErr result (λ fault. IsTrue I.tells → Refuses Nothing (I.unread input.old) (I.unread input.new) fault) }
+    ensures ok { IfOk result (λ first. IsTrue I.tells → I.unread input.old
+        ≡ first ++ I.unread input.new) }
+    ensures err { IfErr result (λ fault. IsTrue I.tells → Refuses Nothing (I.unread input.old)
+        (I.unread input.new) fault) }
 {
     let mut first = [0; 4];
     let Ok(count) = read_full(input, &mut first) else {
@@ -43,7 +48,8 @@ fn read_first<I: Input>(input: &mut I) -> Result<[u8; 4], Fault>
     Ok(first)
 }
 
-/// Reads the first block of a file behind its first four bytes, which are the type of a section header.
+/// Reads the first block of a file behind its first four bytes, which are the type of a section
+/// header.
 fn first_block<I: Input, A: Allocator>(
     input: &mut I,
     first: &[u8; 4],
@@ -61,8 +67,10 @@ fn first_block<I: Input, A: Allocator>(
     ensures least { IfOk result (λ read. 12 ≤ read.size) }
     ensures there { IfOk result (λ read. read.size ≤ vec_len buffer.new) }
     ensures ok { IfOk result (λ read. IsTrue I.tells
-        → BlockCame None (first.now ++ I.unread input.old) buffer.new.items read table.new (I.unread input.new)) }
-    ensures err { IfErr result (λ fault. IsTrue I.tells → Refuses Nothing (first.now ++ I.unread input.old) (I.unread input.new) fault) }
+        → BlockCame None (first.now ++ I.unread input.old) buffer.new.items read table.new
+        (I.unread input.new)) }
+    ensures err { IfErr result (λ fault. IsTrue I.tells → Refuses Nothing
+        (first.now ++ I.unread input.old) (I.unread input.new) fault) }
     ensures kept { OnErr result (table.new ≡ table.old) }
 {
     let mut front = [0; BLOCK_FRONT];
@@ -73,7 +81,8 @@ fn first_block<I: Input, A: Allocator>(
 
 /// The first link type of a file behind a block, given that before it and the interfaces behind it.
 fn link_behind<A: Allocator>(first: Option<u16>, table: &Table<A>) -> Option<u16>
-    ensures { result ≡ option_or first (option_map (λ (i : Described). i.link) (slice_get table.now 0)) }
+    ensures { result ≡ option_or first (option_map (λ (i : Described). i.link)
+        (slice_get table.now 0)) }
 {
     match first {
         Some(link) => Some(link),
@@ -97,8 +106,10 @@ fn first_unit<I: Input, A: Allocator>(
     ensures told { IfOk result (λ r. IsTold r.0 table.new) }
     ensures known { IfOk result (λ r. HasInterfaceIfAny (declared_by r.0 table.new) r.1) }
     ensures ok { IfOk result (λ r. IsTrue I.tells
-        → UnitCame Nothing (I.unread input.old) buffer.new.items r.1 (declared_by r.0 table.new) (I.unread input.new)) }
-    ensures err { IfErr result (λ fault. IsTrue I.tells → Refuses Nothing (I.unread input.old) (I.unread input.new) fault) }
+        → UnitCame Nothing (I.unread input.old) buffer.new.items r.1 (declared_by r.0 table.new)
+        (I.unread input.new)) }
+    ensures err { IfErr result (λ fault. IsTrue I.tells → Refuses Nothing (I.unread input.old)
+        (I.unread input.new) fault) }
     ensures kept { OnErr result (table.new ≡ table.old) }
 {
     let first = read_first(input)?;
@@ -138,10 +149,12 @@ fn next_block<I: Input, A: Allocator>(
     ensures sized { IfOk result (λ r. IsSized r.1 buffer.new.items (I.given input.new)) }
     ensures told { IfOk result (λ r. IsTold r.0 table.new) }
     ensures known { IfOk result (λ r. HasInterfaceIfAny (declared_by r.0 table.new) r.1) }
-    ensures ok { IfOk result (λ r. IsTrue I.tells → UnitCame (PcapngFile first (section_of order table.old)) (I.unread input.old)
+    ensures ok { IfOk result (λ r. IsTrue I.tells → UnitCame
+        (PcapngFile first (section_of order table.old)) (I.unread input.old)
         buffer.new.items r.1 (declared_by r.0 table.new) (I.unread input.new)) }
     ensures err { IfErr result (λ fault. IsTrue I.tells
-        → Refuses (PcapngFile first (section_of order table.old)) (I.unread input.old) (I.unread input.new) fault) }
+        → Refuses (PcapngFile first (section_of order table.old)) (I.unread input.old)
+        (I.unread input.new) fault) }
     ensures kept { OnErr result (table.new ≡ table.old) }
 {
     let mut front = [0; BLOCK_FRONT];
@@ -153,35 +166,36 @@ fn next_block<I: Input, A: Allocator>(
     Ok((Savefile::Pcapng(read.order, link), came_of(&read)))
 }
 
-/// Reads the next unit of a file of which this much is known, or finds the clean end. A packet stands then at the
-/// front of the buffer. A fault leaves the table of interfaces.
+/// Reads the next unit of a file of which this much is known, or finds the clean end. A packet
+/// stands then at the front of the buffer. A fault leaves what is known.
 pub(crate) fn read_unit<I: Input, A: Allocator>(
     input: &mut I,
-    savefile: Savefile,
+    savefile: &mut Savefile,
     buffer: &mut Vec<u8, A>,
     table: &mut Table<A>,
-) -> Result<(Savefile, Came), Fault>
-    requires { IsTold savefile table.old }
-    ensures counted { IfOk result (λ r. I.given input.new ≡ I.given input.old + size_of r.1) }
+) -> Result<Came, Fault>
+    requires { IsTold savefile.old table.old }
+    ensures counted { IfOk result (λ came. I.given input.new ≡ I.given input.old + size_of came) }
     ensures grown { I.given input.old ≤ I.given input.new }
     ensures few { IfErr result (λ _. I.given input.new ≤ I.given input.old + most_in_unit) }
     ensures failed { I.failures input.new ≡ I.failures input.old + failures_told result }
     ensures never { I.never_fails input.new ≡ I.never_fails input.old }
-    ensures sized { IfOk result (λ r. IsSized r.1 buffer.new.items (I.given input.new)) }
-    ensures told { IfOk result (λ r. IsTold r.0 table.new) }
-    ensures known { IfOk result (λ r. HasInterfaceIfAny (declared_by r.0 table.new) r.1) }
-    ensures ok { IfOk result (λ r. IsTrue I.tells → UnitCame (declared_by savefile table.old) (I.unread input.old)
-        buffer.new.items r.1 (declared_by r.0 table.new) (I.unread input.new)) }
+    ensures sized { IfOk result (λ came. IsSized came buffer.new.items (I.given input.new)) }
+    ensures told { OnOk result (IsTold savefile.new table.new) }
+    ensures known { IfOk result (HasInterfaceIfAny (declared_by savefile.new table.new)) }
+    ensures ok { IfOk result (λ came. IsTrue I.tells → UnitCame (declared_by savefile.old table.old)
+        (I.unread input.old)
+        buffer.new.items came (declared_by savefile.new table.new) (I.unread input.new)) }
     ensures err { IfErr result (λ fault. IsTrue I.tells
-        → Refuses (declared_by savefile table.old) (I.unread input.old) (I.unread input.new) fault) }
-    ensures kept { OnErr result (table.new ≡ table.old) }
+        → Refuses (declared_by savefile.old table.old) (I.unread input.old) (I.unread input.new)
+        fault) }
+    ensures kept { OnErr result ((savefile.new ≡ savefile.old) × (table.new ≡ table.old)) }
 {
-    match savefile {
-        Savefile::Unknown => first_unit(input, buffer, table),
-        Savefile::Pcap(head) => {
-            let came = next_record(input, &head, buffer)?;
-            Ok((savefile, came))
-        }
-        Savefile::Pcapng(order, first) => next_block(input, order, first, buffer, table),
-    }
+    let (found, came) = match *savefile {
+        Savefile::Unknown => first_unit(input, buffer, table)?,
+        Savefile::Pcap(head) => return next_record(input, &head, buffer),
+        Savefile::Pcapng(order, first) => next_block(input, order, first, buffer, table)?,
+    };
+    *savefile = found;
+    Ok(came)
 }

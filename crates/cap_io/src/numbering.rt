@@ -62,7 +62,8 @@ impl InterfaceKey {
 }
 
 impl PartialEq for InterfaceKey {
-    ghost eq = { eq_of_both (on (λ key. key.link) nat_eq) (eq_of_both (on (λ key. key.snap) nat_eq) (on (λ key. take key.name_length key.name) (pointwise nat_eq))) };
+    ghost eq = { eq_of_both (on (λ key. key.link) nat_eq) (eq_of_both (on (λ key. key.snap) nat_eq)
+        (on (λ key. take key.name_length key.name) (pointwise nat_eq))) };
 
     ghost laws = { Prim.search (comparing, rules) };
 
@@ -76,7 +77,8 @@ impl Eq for InterfaceKey {
 }
 
 impl Hash for InterfaceKey {
-    ghost hash_input = { λ key. fed.u16 key.link ++ fed.u32 key.snap ++ fed.slice fed.u8 (take key.name_length key.name) };
+    ghost hash_input = { λ key. fed.u16 key.link ++ fed.u32 key.snap ++ fed.slice fed.u8
+        (take key.name_length key.name) };
 
     ghost respects_eq = { Prim.search (hashing, rules) };
 
@@ -92,8 +94,10 @@ fn number_key<A: Allocator>(
     keys: &mut IndexSet<InterfaceKey, BuildHasherDefault<FoldHasher>, A>,
     key: InterfaceKey,
 ) -> Result<Place, Fault>
-    requires { length (map interface_in keys.old.keys ++ new_among (map interface_in keys.old.keys) (interface_in key)) ≤ most_output_interfaces }
-    ensures { Numbers (map interface_in keys.old.keys) (interface_in key) result (map interface_in keys.new.keys) }
+    requires { length (map interface_in keys.old.keys ++ new_among (map interface_in keys.old.keys)
+        (interface_in key)) ≤ most_output_interfaces }
+    ensures { Numbers (map interface_in keys.old.keys) (interface_in key) result
+        (map interface_in keys.new.keys) }
 {
     match keys.insert_full(key) {
         Ok((index, is_new)) => Ok(Place {
@@ -136,7 +140,8 @@ impl<A: Allocator + Copy> OutputInterfaces<A> {
 impl<A: Allocator> OutputInterfaces<A> {
     ghost use Rattle.cap_io.specs.Text.{AreFew};
 
-    /// Tells the caller's proof that there are at most 4,096, with names of at most 255 bytes. Nothing happens at run time.
+    /// Tells the caller's proof that there are at most 4,096, with names of at most 255 bytes.
+    /// Nothing happens at run time.
     pub fn bounds(&self)
         ensures { AreFew self.now }
     {
@@ -145,15 +150,18 @@ impl<A: Allocator> OutputInterfaces<A> {
 
     /// Whether a packet's interface is one of these, or one more may be had.
     pub fn has_room(&self, packet: &Packet<'_>) -> bool
-        ensures { result ≡ nat_le (length (self.now ++ new_among self.now (interface_of (captured packet.now)))) most_output_interfaces }
+        ensures { result ≡ nat_le (length (self.now ++ new_among self.now
+            (interface_of (captured packet.now)))) most_output_interfaces }
     {
         self.keys.len() < MOST_INTERFACES || self.keys.contains(&InterfaceKey::of(packet))
     }
 
-    /// The place of a packet's interface, which comes last where it is new. `NoMemory` comes only where a new one found
-    /// none, and leaves them. The caller knows by `has_room` that there are not too many.
+    /// The place of a packet's interface, which comes last where it is new. `NoMemory` comes only
+    /// where a new one found none, and leaves them. The caller knows by `has_room` that there are
+    /// not too many.
     pub fn place(&mut self, packet: &Packet<'_>) -> Result<Place, Fault>
-        requires { length (self.old ++ new_among self.old (interface_of (captured packet.now))) ≤ most_output_interfaces }
+        requires { length (self.old ++ new_among self.old (interface_of (captured packet.now))) ≤
+            most_output_interfaces }
         ensures { Numbers self.old (interface_of (captured packet.now)) result self.new }
     {
         number_key(&mut self.keys, InterfaceKey::of(packet))

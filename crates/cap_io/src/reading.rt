@@ -1,8 +1,11 @@
 //! The bytes of a unit, and the units of a pcap file, read from a device.
-ghost use Rattle.std.specs.Prelude.{◌≡◌, ℕ, ◌+◌, ◌^◌, ◌<◌, ◌≤◌, ◌++◌, true, false, IsTrue, IfOk, IfErr, OnOk, if◌then◌else◌, length, take, drop, vec_len};
+ghost use Rattle.std.specs.Prelude.{◌≡◌, ℕ, ◌+◌, ◌^◌, ◌<◌, ◌≤◌, ◌++◌, true, false, IsTrue, IfOk};
+ghost use Rattle.std.specs.Prelude.{IfErr, OnOk, if◌then◌else◌, length, take, drop, vec_len};
 ghost use Rattle.cap_pcapng.specs.Frame.{is_section};
 ghost use Rattle.cap_io.specs.Capture.{Nothing, PcapFile};
-ghost use Rattle.cap_io.specs.Reading.{failures_told, most_in_unit, size_of, FrontCame, FrontMissing, HasInterfaceIfAny, HeaderCame, IsSized, Refuses, RestMissing, UnitCame};
+ghost use Rattle.cap_io.specs.Reading.{failures_told, most_in_unit, size_of, FrontCame};
+ghost use Rattle.cap_io.specs.Reading.{FrontMissing, HasInterfaceIfAny, HeaderCame, IsSized};
+ghost use Rattle.cap_io.specs.Reading.{Refuses, RestMissing, UnitCame};
 
 use crate::unit::{Came, Held};
 use cap_octet::{Fault, Input, read_full};
@@ -17,15 +20,19 @@ const RECORD_HEAD: usize = 16;
 /// Reads behind the first `from` bytes of the buffer until it is full.
 pub(crate) fn read_rest<I: Input>(input: &mut I, bytes: &mut [u8], from: usize) -> Result<(), Fault>
     requires { from ≤ length bytes.old }
-    ensures counted { OnOk result (I.given input.new + from ≡ I.given input.old + length bytes.old) }
+    ensures counted { OnOk result (I.given input.new + from ≡ I.given input.old + length
+        bytes.old) }
     ensures grown { I.given input.old ≤ I.given input.new }
     ensures bounded { OnOk result (from < length bytes.old → I.given input.new < 2 ^ 63) }
-    ensures few { IfErr result (λ _. I.given input.new + from < I.given input.old + length bytes.old) }
+    ensures few { IfErr result (λ _. I.given input.new + from < I.given input.old + length
+        bytes.old) }
     ensures failed { I.failures input.new ≡ I.failures input.old + failures_told result }
     ensures never { I.never_fails input.new ≡ I.never_fails input.old }
     ensures same { OnOk result (take from bytes.new ≡ take from bytes.old) }
-    ensures ok { OnOk result (IsTrue I.tells → I.unread input.old ≡ drop from bytes.new ++ I.unread input.new) }
-    ensures err { IfErr result (λ fault. IsTrue I.tells → RestMissing from (length bytes.old) (I.unread input.old) (I.unread input.new) fault) }
+    ensures ok { OnOk result (IsTrue I.tells → I.unread input.old
+        ≡ drop from bytes.new ++ I.unread input.new) }
+    ensures err { IfErr result (λ fault. IsTrue I.tells → RestMissing from (length bytes.old)
+        (I.unread input.old) (I.unread input.new) fault) }
 {
     let rest = &mut bytes[from..];
     let room = rest.len();
@@ -38,17 +45,21 @@ pub(crate) fn read_rest<I: Input>(input: &mut I, bytes: &mut [u8], from: usize) 
     Ok(())
 }
 
-/// Reads the bytes at the front of a unit that stands behind others; `false` is the end of the file.
+/// Reads the bytes at the front of a unit that stands behind others; `false` is the end of the
+/// file.
 pub(crate) fn read_front<I: Input>(input: &mut I, front: &mut [u8]) -> Result<bool, Fault>
     requires { 0 < length front.old }
-    ensures counted { IfOk result (λ found. I.given input.new ≡ I.given input.old + (if found then length front.old else 0)) }
+    ensures counted { IfOk result (λ found. I.given input.new
+        ≡ I.given input.old + (if found then length front.old else 0)) }
     ensures grown { I.given input.old ≤ I.given input.new }
     ensures bounded { IfOk result (λ found. found ≡ true → I.given input.new < 2 ^ 63) }
     ensures few { IfErr result (λ _. I.given input.new < I.given input.old + length front.old) }
     ensures failed { I.failures input.new ≡ I.failures input.old + failures_told result }
     ensures never { I.never_fails input.new ≡ I.never_fails input.old }
-    ensures ok { IfOk result (λ found. IsTrue I.tells → FrontCame (I.unread input.old) front.new found (I.unread input.new)) }
-    ensures err { IfErr result (λ fault. IsTrue I.tells → FrontMissing (length front.old) (I.unread input.old) (I.unread input.new) fault) }
+    ensures ok { IfOk result (λ found. IsTrue I.tells → FrontCame (I.unread input.old) front.new
+        found (I.unread input.new)) }
+    ensures err { IfErr result (λ fault. IsTrue I.tells → FrontMissing (length front.old)
+        (I.unread input.old) (I.unread input.new) fault) }
 {
     let room = front.len();
     let Ok(count) = read_full(input, front) else {
@@ -74,7 +85,8 @@ pub(crate) fn make_room<A: Allocator>(buffer: &mut Vec<u8, A>, size: usize) -> R
     Ok(())
 }
 
-/// Reads what is left of a unit of so many bytes to the front of the buffer, behind the front of it that came.
+/// Reads what is left of a unit of so many bytes to the front of the buffer, behind the front of it
+/// that came.
 pub(crate) fn read_data<I: Input>(
     input: &mut I,
     front: &[u8],
@@ -83,15 +95,19 @@ pub(crate) fn read_data<I: Input>(
 ) -> Result<(), Fault>
     requires whole { length front.now ≤ size }
     requires room { size ≤ length buffer.old }
-    ensures counted { OnOk result (I.given input.new + length front.now ≡ I.given input.old + size) }
+    ensures counted { OnOk result (I.given input.new + length front.now
+        ≡ I.given input.old + size) }
     ensures grown { I.given input.old ≤ I.given input.new }
     ensures bounded { OnOk result (length front.now < size → I.given input.new < 2 ^ 63) }
-    ensures few { IfErr result (λ _. I.given input.new + length front.now < I.given input.old + size) }
+    ensures few { IfErr result (λ _. I.given input.new + length front.now < I.given input.old
+        + size) }
     ensures failed { I.failures input.new ≡ I.failures input.old + failures_told result }
     ensures never { I.never_fails input.new ≡ I.never_fails input.old }
     ensures same { OnOk result (take (length front.now) (take size buffer.new) ≡ front.now) }
-    ensures ok { OnOk result (IsTrue I.tells → I.unread input.old ≡ drop (length front.now) (take size buffer.new) ++ I.unread input.new) }
-    ensures err { IfErr result (λ fault. IsTrue I.tells → RestMissing (length front.now) size (I.unread input.old) (I.unread input.new) fault) }
+    ensures ok { OnOk result (IsTrue I.tells → I.unread input.old
+        ≡ drop (length front.now) (take size buffer.new) ++ I.unread input.new) }
+    ensures err { IfErr result (λ fault. IsTrue I.tells → RestMissing (length front.now) size
+        (I.unread input.old) (I.unread input.new) fault) }
 {
     let unit = &mut buffer[..size];
     let from = front.len();
@@ -110,8 +126,10 @@ pub(crate) fn read_header<I: Input>(input: &mut I, first: &[u8; 4]) -> Result<He
     ensures few { IfErr result (λ _. I.given input.new ≤ I.given input.old + 20) }
     ensures failed { I.failures input.new ≡ I.failures input.old + failures_told result }
     ensures never { I.never_fails input.new ≡ I.never_fails input.old }
-    ensures ok { IfOk result (λ head. IsTrue I.tells → HeaderCame (first.now ++ I.unread input.old) head (I.unread input.new)) }
-    ensures err { IfErr result (λ fault. IsTrue I.tells → Refuses Nothing (first.now ++ I.unread input.old) (I.unread input.new) fault) }
+    ensures ok { IfOk result (λ head. IsTrue I.tells → HeaderCame (first.now ++ I.unread input.old)
+        head (I.unread input.new)) }
+    ensures err { IfErr result (λ fault. IsTrue I.tells → Refuses Nothing
+        (first.now ++ I.unread input.old) (I.unread input.new) fault) }
 {
     if read_magic(first).is_none() {
         return Err(Fault::NotACaptureFile);
@@ -122,7 +140,8 @@ pub(crate) fn read_header<I: Input>(input: &mut I, first: &[u8; 4]) -> Result<He
     read_head(&bytes)
 }
 
-/// Reads the next record to the front of the buffer. Its limits are looked at before the buffer grows.
+/// Reads the next record to the front of the buffer. Its limits are looked at before the buffer
+/// grows.
 pub(crate) fn next_record<I: Input, A: Allocator>(
     input: &mut I,
     head: &Head,
@@ -136,8 +155,10 @@ pub(crate) fn next_record<I: Input, A: Allocator>(
     ensures sized { IfOk result (λ came. IsSized came buffer.new.items (I.given input.new)) }
     ensures known { IfOk result (HasInterfaceIfAny (PcapFile head.now)) }
     ensures ok { IfOk result (λ came. IsTrue I.tells
-        → UnitCame (PcapFile head.now) (I.unread input.old) buffer.new.items came (PcapFile head.now) (I.unread input.new)) }
-    ensures err { IfErr result (λ fault. IsTrue I.tells → Refuses (PcapFile head.now) (I.unread input.old) (I.unread input.new) fault) }
+        → UnitCame (PcapFile head.now) (I.unread input.old) buffer.new.items came
+        (PcapFile head.now) (I.unread input.new)) }
+    ensures err { IfErr result (λ fault. IsTrue I.tells → Refuses (PcapFile head.now)
+        (I.unread input.old) (I.unread input.new) fault) }
 {
     let mut front = [0; RECORD_HEAD];
     if !read_front(input, &mut front)? {

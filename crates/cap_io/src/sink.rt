@@ -35,7 +35,14 @@ impl<O: Output, A: Allocator> Model for Sink<O, A> {
 
     ghost Value = { SinkView };
 
-    ghost view = { λ s. record { format = s.format; state = s.state; interfaces = s.interfaces; written = O.written s.output; failures = O.failures s.output; room = O.room s.output } };
+    ghost view = { λ s. record {
+      format = s.format;
+      state = s.state;
+      interfaces = s.interfaces;
+      written = O.written s.output;
+      failures = O.failures s.output;
+      room = O.room s.output;
+    } };
 }
 
 impl<O: Output, A: Allocator + Copy> Sink<O, A> {
@@ -59,15 +66,18 @@ impl<O: Output, A: Allocator> Sink<O, A> {
     ghost use Rattle.cap_octet.specs.Device.{AppendsOrStops};
     ghost use Rattle.cap_octet.specs.Packet.{captured};
     ghost use Rattle.cap_io.specs.Text.{AreFew, heading};
-    ghost use Rattle.cap_io.specs.Sink.{Adds, Puts, PutWrites, WritesPacket, Finishes, FinishesEmpty, FinishWrites, added_in, refusal_in};
+    ghost use Rattle.cap_io.specs.Sink.{Adds, Puts, PutWrites, WritesPacket, Finishes};
+    ghost use Rattle.cap_io.specs.Sink.{FinishesEmpty, FinishWrites, added_in, refusal_in};
 
-    /// Writes a packet, the first one behind the heading; in pcapng behind the description of its interface where that
-    /// is new. Nothing of a packet that is refused is written: by `LinkTypesDiffer` (pcap forms), `TooLong`,
-    /// `TimeOutOfRange` (pcap forms) or `TooManyOutputInterfaces` (pcapng), the first of them, or by `NoMemory` for a new
-    /// interface. `WriteFailed` comes where the device failed, after a beginning of what the packet adds. After a fault
-    /// it answers that again, and writes nothing.
+    /// Writes a packet, the first one behind the heading; in pcapng behind the description of its
+    /// interface where that is new. Nothing of a packet that is refused is written: by
+    /// `LinkTypesDiffer` (pcap forms), `TooLong`, `TimeOutOfRange` (pcap forms) or
+    /// `TooManyOutputInterfaces` (pcapng), the first of them, or by `NoMemory` for a new interface.
+    /// `WriteFailed` comes where the device failed, after a beginning of what the packet adds.
+    /// After a fault it answers that again, and writes nothing.
     pub fn put(&mut self, packet: &Packet<'_>) -> Result<(), Fault>
-        ensures told { IsTrue O.tells → PutWrites self.old.state self.old (captured packet.now) result self.new }
+        ensures told { IsTrue O.tells → PutWrites self.old.state self.old (captured packet.now)
+            result self.new }
         ensures answer { Puts self.old.state self.old (captured packet.now) result self.new }
         ensures few { AreFew self.new.interfaces }
     {
@@ -84,9 +94,9 @@ impl<O: Output, A: Allocator> Sink<O, A> {
         Err(fault)
     }
 
-    /// Writes the heading where nothing was put, with the link type `first`, or 1 where there is none. `WriteFailed`
-    /// comes where the device failed, after a beginning of it. After a fault it answers that again. It takes no memory,
-    /// and nothing but `into_output` is of use behind it.
+    /// Writes the heading where nothing was put, with the link type `first`, or 1 where there is
+    /// none. `WriteFailed` comes where the device failed, after a beginning of it. After a fault it
+    /// answers that again. It takes no memory, and nothing but `into_output` is of use behind it.
     pub fn finish(&mut self, first: Option<u16>) -> Result<(), Fault>
         ensures told { IsTrue O.tells → FinishWrites self.old.state self.old first result self.new }
         ensures answer { Finishes self.old.state self.old first result self.new }
@@ -115,7 +125,8 @@ impl<O: Output, A: Allocator> Sink<O, A> {
 
     /// Writes a packet, or tells why not.
     fn add(&mut self, packet: &Packet<'_>) -> Result<(), Fault>
-        ensures told { IsTrue O.tells → WritesPacket (refusal_in self.old (captured packet.now)) (added_in self.old (captured packet.now)) self.old.written result self.new.written }
+        ensures told { IsTrue O.tells → WritesPacket (refusal_in self.old (captured packet.now))
+            (added_in self.old (captured packet.now)) self.old.written result self.new.written }
         ensures answer { Adds self.old (captured packet.now) result self.new }
     {
         check(self.format, self.state, &self.interfaces, packet)?;
@@ -134,7 +145,8 @@ impl<O: Output, A: Allocator> Sink<O, A> {
 
     /// Writes the heading where nothing was put.
     fn head(&mut self, link: u16) -> Result<(), Fault>
-        ensures told { IsTrue O.tells → AppendsOrStops result self.old.written (heading self.old.format link) self.new.written }
+        ensures told { IsTrue O.tells → AppendsOrStops result self.old.written
+            (heading self.old.format link) self.new.written }
         ensures answer { FinishesEmpty self.old link result self.new }
     {
         let Ok(()) = write_heading(&mut self.output, self.format, link) else {

@@ -39,8 +39,8 @@ enum Next {
     End,
 }
 
-/// Reads the packets of a capture from a device, through one block of memory, and beside it for pcapng the table of
-/// a section's interfaces.
+/// Reads the packets of a capture from a device, through one block of memory, and beside it for
+/// pcapng the table of a section's interfaces.
 #[derive(Drop)]
 pub struct Source<I: Input, A: Allocator> {
     input: I,
@@ -56,9 +56,11 @@ impl<I: Input, A: Allocator> Model for Source<I, A> {
 
     ghost Value = { SourceView };
 
-    ghost view = { λ s. view_of s.stage s.savefile s.table s.buffer.items s.offset (I.unread s.input) (I.given s.input) (I.failures s.input) (I.never_fails s.input) };
+    ghost view = { λ s. view_of s.stage s.savefile s.table s.buffer.items s.offset
+        (I.unread s.input) (I.given s.input) (I.failures s.input) (I.never_fails s.input) };
 
-    ghost invariant = { λ s. IsSound s.stage s.savefile s.table s.offset s.buffer.items (I.given s.input) };
+    ghost invariant = { λ s. IsSound s.stage s.savefile s.table s.offset s.buffer.items
+        (I.given s.input) };
 }
 
 impl<I: Input, A: Allocator> Source<I, A> {
@@ -67,13 +69,16 @@ impl<I: Input, A: Allocator> Source<I, A> {
     ghost use Rattle.cap_octet.specs.Packet.{captured};
     ghost use Rattle.cap_io.specs.Capture.{kind_of, first_link_of};
     ghost use Rattle.cap_io.specs.Reading.{most_in_unit};
-    ghost use Rattle.cap_io.specs.Source.{Reading, Advances, Continues, FindsNext, IsBetween, KeepsBounds, HasFew, NextBounds, Steps, left, phase_told, source_at};
+    ghost use Rattle.cap_io.specs.Source.{Reading, Advances, Continues, FindsNext, IsBetween};
+    ghost use Rattle.cap_io.specs.Source.{KeepsBounds, HasFew, NextBounds, Steps, left, phase_told};
+    ghost use Rattle.cap_io.specs.Source.{source_at};
 
     /// A source of which nothing is read yet. It takes no memory.
     pub fn new(alloc: A, input: I) -> Self
     where
         A: Copy,
-        ensures { result ≡ source_at (I.unread input) (I.given input) (I.failures input) (I.never_fails input) }
+        ensures { result ≡ source_at (I.unread input) (I.given input) (I.failures input)
+            (I.never_fails input) }
     {
         Source {
             input,
@@ -85,10 +90,10 @@ impl<I: Input, A: Allocator> Source<I, A> {
         }
     }
 
-    /// Reads on to the next packet, which `head` lends; `false` at the clean end, then and ever after. A fault is that
-    /// of the first check which the unit at `offset` fails; `ReadFailed` where the device failed in this call;
-    /// `NoMemory` where the block or the table of interfaces could not grow. After a fault it answers that again, and
-    /// reads nothing.
+    /// Reads on to the next packet, which `head` lends; `false` at the clean end, then and ever
+    /// after. A fault is that of the first check which the unit at `offset` fails; `ReadFailed`
+    /// where the device failed in this call; `NoMemory` where the block or the table of interfaces
+    /// could not grow. After a fault it answers that again, and reads nothing.
     pub fn advance(&mut self) -> Result<bool, Fault>
         ensures told { IsTrue I.tells → Advances self.old.phase self.old result self.new }
         ensures bounds { Steps self.old.phase self.old result self.new }
@@ -146,8 +151,26 @@ impl<I: Input, A: Allocator> Source<I, A> {
         }
     }
 
-    /// Where the unit in hand begins, in bytes from the start of the file; after a fault, where the unit that has it
-    /// begins; at a clean end, the number of bytes.
+    /// The time of the packet in hand, in nanoseconds since 1970-01-01 00:00:00 UTC; what `head`
+    /// lends is not made.
+    pub fn time(&self) -> Option<u64>
+        ensures { result ≡ option_map (λ p. p.time) self.now.packet }
+    {
+        let Stage::InHand(held) = self.stage else {
+            return None;
+        };
+        match self.savefile {
+            Savefile::Unknown => None,
+            Savefile::Pcap(_) => Some(held.time),
+            Savefile::Pcapng(_, _) => {
+                let _interface = self.table.get(held.interface)?;
+                Some(held.time)
+            }
+        }
+    }
+
+    /// Where the unit in hand begins, in bytes from the start of the file; after a fault, where the
+    /// unit that has it begins; at a clean end, the number of bytes.
     pub fn offset(&self) -> u64
         ensures { result ≡ self.now.offset }
     {
@@ -235,13 +258,12 @@ impl<I: Input, A: Allocator> Source<I, A> {
         ensures bounds { NextBounds self.old result self.new }
         ensures err { OnErr result (IsBetween self.new) }
     {
-        let (savefile, came) = read_unit(
+        let came = read_unit(
             &mut self.input,
-            self.savefile,
+            &mut self.savefile,
             &mut self.buffer,
             &mut self.table,
         )?;
-        self.savefile = savefile;
         match came {
             Came::Packet(held) => {
                 self.stage = Stage::InHand(held);

@@ -8,7 +8,8 @@ pub(crate) enum Savefile {
     /// Nothing was read.
     Unknown,
     Pcap(Head),
-    /// The byte order of the section in hand, and the first link type that an interface of the file declared.
+    /// The byte order of the section in hand, and the first link type that an interface of the file
+    /// declared.
     Pcapng(Order, Option<u16>),
 }
 
@@ -20,7 +21,8 @@ pub(crate) struct Held {
     /// Where its data begin in the unit, and how many bytes they are.
     pub(crate) from: usize,
     pub(crate) captured: usize,
-    /// Where the options of its block begin in the unit, and how many bytes they are; none but in an enhanced packet.
+    /// Where the options of its block begin in the unit, and how many bytes they are; none but in
+    /// an enhanced packet.
     pub(crate) options: usize,
     pub(crate) optional: usize,
     /// The number of its interface in its section; 0 in pcap.

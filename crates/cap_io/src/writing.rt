@@ -6,7 +6,10 @@ ghost use Rattle.cap_octet.specs.Packet.{captured};
 ghost use Rattle.cap_pcap.specs.Written.{IsPcap, fit_checks, resolution_of};
 ghost use Rattle.cap_pcapng.specs.Written.{fit_checks as block_fit_checks};
 ghost use Rattle.cap_io.specs.Text.{heading, record_text};
-ghost use Rattle.cap_io.specs.Sink.{IsPutAnswer, WritesPacket, answer_of, block_checks, block_text, description_text, checks_in, heading_in, interfaces_behind, interfaces_left, packet_in, record_checks, takes_memory_in, write_failures};
+ghost use Rattle.cap_io.specs.Sink.{IsPutAnswer, WritesPacket, answer_of, block_checks, block_text};
+ghost use Rattle.cap_io.specs.Sink.{description_text, checks_in, heading_in, interfaces_behind};
+ghost use Rattle.cap_io.specs.Sink.{interfaces_left, packet_in, record_checks, takes_memory_in};
+ghost use Rattle.cap_io.specs.Sink.{write_failures};
 
 use crate::numbering::{OutputInterfaces, Place};
 use crate::sink::SinkState;
@@ -33,7 +36,8 @@ fn check_block<A: Allocator>(
     interfaces: &OutputInterfaces<A>,
     packet: &Packet<'_>,
 ) -> Result<(), Fault>
-    ensures { result ≡ checked (first_failing (block_checks interfaces.now (captured packet.now))) tt }
+    ensures { result ≡ checked (first_failing (block_checks interfaces.now (captured packet.now)))
+        tt }
 {
     cap_pcapng::fits(packet)?;
     if !interfaces.has_room(packet) {
@@ -49,7 +53,8 @@ pub(crate) fn check<A: Allocator>(
     interfaces: &OutputInterfaces<A>,
     packet: &Packet<'_>,
 ) -> Result<(), Fault>
-    ensures { result ≡ checked (first_failing (checks_in format state interfaces.now (captured packet.now))) tt }
+    ensures { result ≡ checked (first_failing (checks_in format state interfaces.now
+        (captured packet.now))) tt }
 {
     match format {
         Format::Pcap | Format::NsecPcap => check_record(format, state, packet),
@@ -63,7 +68,8 @@ pub(crate) fn write_heading<O: Output>(
     format: Format,
     link: u16,
 ) -> Result<(), DeviceFault>
-    ensures told { IsTrue O.tells → AppendsOrStops result (O.written output.old) (heading format link) (O.written output.new) }
+    ensures told { IsTrue O.tells → AppendsOrStops result (O.written output.old)
+        (heading format link) (O.written output.new) }
     ensures failed { O.failures output.new ≡ O.failures output.old + failures_of result }
     ensures room { O.room output.new ≡ O.room output.old }
 {
@@ -81,7 +87,8 @@ fn start<O: Output>(
     state: SinkState,
     link: u16,
 ) -> Result<(), DeviceFault>
-    ensures told { IsTrue O.tells → AppendsOrStops result (O.written output.old) (heading_in format state link) (O.written output.new) }
+    ensures told { IsTrue O.tells → AppendsOrStops result (O.written output.old)
+        (heading_in format state link) (O.written output.new) }
     ensures failed { O.failures output.new ≡ O.failures output.old + failures_of result }
     ensures room { O.room output.new ≡ O.room output.old }
 {
@@ -99,7 +106,8 @@ fn write_record<O: Output>(
 ) -> Result<(), DeviceFault>
     requires form { IsPcap format }
     requires fits { first_failing (fit_checks (captured packet.now)) ≡ None }
-    ensures told { IsTrue O.tells → AppendsOrStops result (O.written output.old) (record_text (resolution_of format) (captured packet.now)) (O.written output.new) }
+    ensures told { IsTrue O.tells → AppendsOrStops result (O.written output.old)
+        (record_text (resolution_of format) (captured packet.now)) (O.written output.new) }
     ensures failed { O.failures output.new ≡ O.failures output.old + failures_of result }
     ensures room { O.room output.new ≡ O.room output.old }
 {
@@ -153,7 +161,8 @@ fn add_record<O: Output>(
     requires form { IsPcap format }
     requires fits { first_failing (fit_checks (captured packet.now)) ≡ None }
     ensures told { IsTrue O.tells → AppendsOrStops result (O.written output.old)
-        (heading_in format state packet.now.link ++ record_text (resolution_of format) (captured packet.now)) (O.written output.new) }
+        (heading_in format state packet.now.link ++ record_text (resolution_of format)
+        (captured packet.now)) (O.written output.new) }
     ensures failed { O.failures output.new ≡ O.failures output.old + failures_of result }
     ensures room { O.room output.new ≡ O.room output.old }
 {
@@ -172,7 +181,8 @@ fn add_block<O: Output>(
 ) -> Result<(), DeviceFault>
     requires { first_failing (block_fit_checks (captured packet.now)) ≡ None }
     ensures told { IsTrue O.tells → AppendsOrStops result (O.written output.old)
-        (heading_in Format.Pcapng state packet.now.link ++ block_text place (captured packet.now)) (O.written output.new) }
+        (heading_in Format.Pcapng state packet.now.link ++ block_text place (captured packet.now))
+        (O.written output.new) }
     ensures failed { O.failures output.new ≡ O.failures output.old + failures_of result }
     ensures room { O.room output.new ≡ O.room output.old }
 {
@@ -192,8 +202,8 @@ fn as_fault(outcome: Result<(), DeviceFault>) -> Result<(), Fault>
     }
 }
 
-/// Writes a packet in pcapng, whose interface is numbered first. `NoMemory` comes where a new interface found none, with
-/// nothing written.
+/// Writes a packet in pcapng, whose interface is numbered first. `NoMemory` comes where a new
+/// interface found none, with nothing written.
 fn number_and_add<O: Output, A: Allocator>(
     output: &mut O,
     interfaces: &mut OutputInterfaces<A>,
@@ -201,9 +211,13 @@ fn number_and_add<O: Output, A: Allocator>(
     packet: &Packet<'_>,
 ) -> Result<(), Fault>
     requires { first_failing (block_checks interfaces.old (captured packet.now)) ≡ None }
-    ensures told { IsTrue O.tells → WritesPacket None (heading_in Format.Pcapng state packet.now.link ++ packet_in Format.Pcapng interfaces.old (captured packet.now)) (O.written output.old) result (O.written output.new) }
-    ensures answer { IsPutAnswer None (takes_memory_in Format.Pcapng interfaces.old (captured packet.now)) result }
-    ensures interfaces { interfaces.new ≡ interfaces_left result interfaces.old (interfaces_behind Format.Pcapng interfaces.old (captured packet.now)) }
+    ensures told { IsTrue O.tells → WritesPacket None (heading_in Format.Pcapng state
+        packet.now.link ++ packet_in Format.Pcapng interfaces.old (captured packet.now))
+        (O.written output.old) result (O.written output.new) }
+    ensures answer { IsPutAnswer None (takes_memory_in Format.Pcapng interfaces.old
+        (captured packet.now)) result }
+    ensures interfaces { interfaces.new ≡ interfaces_left result interfaces.old
+        (interfaces_behind Format.Pcapng interfaces.old (captured packet.now)) }
     ensures failures { O.failures output.new ≡ O.failures output.old + write_failures result }
     ensures room { O.room output.new ≡ O.room output.old }
 {
@@ -211,7 +225,8 @@ fn number_and_add<O: Output, A: Allocator>(
     as_fault(add_block(output, state, place, packet))
 }
 
-/// Writes a packet that isn't refused, the first one behind the heading. `WriteFailed` comes where the device failed.
+/// Writes a packet that isn't refused, the first one behind the heading. `WriteFailed` comes where
+/// the device failed.
 pub(crate) fn write<O: Output, A: Allocator>(
     output: &mut O,
     interfaces: &mut OutputInterfaces<A>,
@@ -220,9 +235,13 @@ pub(crate) fn write<O: Output, A: Allocator>(
     packet: &Packet<'_>,
 ) -> Result<(), Fault>
     requires { first_failing (checks_in format state interfaces.old (captured packet.now)) ≡ None }
-    ensures told { IsTrue O.tells → WritesPacket None (heading_in format state packet.now.link ++ packet_in format interfaces.old (captured packet.now)) (O.written output.old) result (O.written output.new) }
-    ensures answer { IsPutAnswer None (takes_memory_in format interfaces.old (captured packet.now)) result }
-    ensures interfaces { interfaces.new ≡ interfaces_left result interfaces.old (interfaces_behind format interfaces.old (captured packet.now)) }
+    ensures told { IsTrue O.tells → WritesPacket None (heading_in format state packet.now.link
+        ++ packet_in format interfaces.old (captured packet.now)) (O.written output.old) result
+        (O.written output.new) }
+    ensures answer { IsPutAnswer None (takes_memory_in format interfaces.old (captured packet.now))
+        result }
+    ensures interfaces { interfaces.new ≡ interfaces_left result interfaces.old
+        (interfaces_behind format interfaces.old (captured packet.now)) }
     ensures failures { O.failures output.new ≡ O.failures output.old + write_failures result }
     ensures room { O.room output.new ≡ O.room output.old }
 {

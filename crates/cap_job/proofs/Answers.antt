@@ -3,7 +3,7 @@ use Rattle.std.proofs.Common.{◌≡◌, ◌⊎◌, inl, inr, ℕ, ◌+◌, ◌<
 use Rattle.std.proofs.lemmas.List.{append_assoc, append-nil, map-append}
 use Rattle.std.specs.List.{slice_set}
 use Rattle.cap_octet.specs.Device.{Stops}
-use Rattle.cap_octet.specs.Packet.{Captured, captured}
+use Rattle.cap_octet.specs.Packet.{Captured}
 use Rattle.cap_octet.specs.declared.fault.Fault.{Fault}
 use Rattle.cap_octet.specs.declared.fault.Fault.TheVariants.{NoMemory, TooManyPackets, WriteFailed}
 use Rattle.cap_io.specs.Capture.{Placed}
@@ -28,19 +28,19 @@ use Rattle.cap_job.specs.declared.machine.End.TheVariants as end
 use Rattle.cap_job.specs.declared.feed.Place.{Place}
 use Rattle.cap_job.specs.declared.feed.Next.TheVariants as next
 use Rattle.cap_job.specs.Reports.{Report, Tally}
-use Rattle.cap_job.specs.Fed.{Rest, Event, Came, Close, Over, Broken, Fed, fed, behind}
-use Rattle.cap_job.specs.Judged.{Asked, Select, Filter, Everything, Count, Selection, Stand, Verdict, Pass, Last, Skip, Refuse, verdict}
+use Rattle.cap_job.specs.Events.{Rest, Event, Came, Close, Over, Broken, Fed, fed, behind}
+use Rattle.cap_job.specs.Verdicts.{Asked, Select, Filter, Everything, Count, Selection, Stand, Verdict, Pass, Last, Skip, Refuse, verdict}
 use Rattle.cap_window.specs.Marks.{mark_of, has_same}
-use Rattle.cap_job.specs.Judged as judged_spec
-use Rattle.cap_job.specs.Judging.{JudgeStand, GrowsByOne, IsWithin, Tells}
+use Rattle.cap_job.specs.Verdicts as judged_spec
+use Rattle.cap_job.specs.Judge.{JudgeStand, GrowsByOne, IsWithin, Tells}
 use Rattle.cap_lines.specs.declared.print.Options.{Options}
 use Rattle.cap_lines.specs.Printed.{printed}
 use Rattle.cap_job.specs.Course.{Form, AsCapture, AsLines, Way, lines_text, set_out, unless_refused, by_verdict, goes, way, course, refused_by, stops_at, output, first_link, written}
 use Rattle.cap_job.specs.Course as course_spec
-use Rattle.cap_job.specs.Draining.{DrainView, Target, Capture, Text, Lines, Drained, DrainedTo, Puts, PutsTo, form_at, form_to, written_to, failures_to}
-use Rattle.cap_job.specs.Feeding.{HeadView, FeedView, Future, Stood, Standing, Among, settled, place_behind, later, wholes, rest_with, rests, left, most_steps, ordering_of}
-use Rattle.cap_job.specs.Feeding as feeding
-use Rattle.cap_job.specs.Working.{MachineStand, Decided, GoesOn, Comes, Decides, Offers, StopsWriting, OneAnswer, EndLeaves, stands_at, wholes_of, written_by, unwritten}
+use Rattle.cap_job.specs.Drain.{DrainView, Target, Capture, Text, Lines, Drained, DrainedTo, Puts, PutsTo, form_at, form_to, written_to, failures_to}
+use Rattle.cap_job.specs.Feed.{HeadView, FeedView, Future, Stood, Standing, Among, settled, place_behind, later, wholes, rest_with, rests, left, most_steps, ordering_of}
+use Rattle.cap_job.specs.Feed as feeding
+use Rattle.cap_job.specs.Machine.{MachineStand, Decided, GoesOn, Comes, Decides, Offers, StopsWriting, OneAnswer, EndLeaves, stands_at, wholes_of, written_by, unwritten}
 use Rattle.cap_job.proofs.Splits.{At, stands-split, stands-join, stands-length, rests-join, finish-here, come-on}
 use Rattle.cap_job.proofs.Coming.{carries-decided, true-wholes, true-fit, true-fits}
 use Rattle.cap_job.proofs.Drains.{drained-text, PutOk, put-ok, WhyUnput, lines-more, lines-one, unput, closing-some}
@@ -87,13 +87,13 @@ put-took asked w before i x q stand' old new last has puts went =
       names = puts.names;
     }
 
-pub took : (asked : Asked) (w : Way) (before : List ℕ) (i : ℕ) (x : Placed) (old new : DrainView) (last : Bool) (stand' : Stand) (v : code.Verdict) → Drained before old w.packets w.reports
-    → Tells (verdict asked w.stand (w.number + 1) x.packet) (Ok v) stand' → Offers v old (Ok last) new → Took asked w before i x stand' old new last
-took asked w before i x old new last stand' (code_verdict.Pass q) has told offers =
-    rw offers.0 (put-took asked w before i x (captured q) stand' old new false has offers.1 (goes-by asked (form_at old) w i x (Pass (captured q)) stand' told.0 told.1))
-took asked w before i x old new last stand' (code_verdict.Last q) has told offers =
-    rw offers.0 (put-took asked w before i x (captured q) stand' old new true has offers.1 (goes-by asked (form_at old) w i x (Last (captured q)) stand' told.0 told.1))
-took asked w before i x old new last stand' code_verdict.Skip has told offers =
+pub took : (asked : Asked) (w : Way) (before : List ℕ) (i : ℕ) (x : Placed) (old new : DrainView) (last : Bool) (stand' : Stand) (v : code.Verdict) (q : Captured) → Drained before old w.packets w.reports
+    → Tells (verdict asked w.stand (w.number + 1) x.packet) (Ok v) q stand' → Offers v q old (Ok last) new → Took asked w before i x stand' old new last
+took asked w before i x old new last stand' code_verdict.Pass q has told offers =
+    rw offers.0 (put-took asked w before i x q stand' old new false has offers.1 (goes-by asked (form_at old) w i x (Pass q) stand' told.0 told.1))
+took asked w before i x old new last stand' code_verdict.Last q has told offers =
+    rw offers.0 (put-took asked w before i x q stand' old new true has offers.1 (goes-by asked (form_at old) w i x (Last q) stand' told.0 told.1))
+took asked w before i x old new last stand' code_verdict.Skip q has told offers =
     let b : last ≡ false = (cc (offers.0)) in
     rw (b, offers.1) (record {
       passed = [];
@@ -220,18 +220,18 @@ pub record LastTook (asked : Asked) (w : Way) (before : List ℕ) (i : ℕ) (x :
   pub output : Drained before new (w.packets ++ packet ∷ []) w.reports
   pub form : form_at new ≡ form_at old
 
-pub last-took : (asked : Asked) (w : Way) (before : List ℕ) (i : ℕ) (x : Placed) (old new : DrainView) (stand' : Stand) (v : code.Verdict) → Tells (verdict asked w.stand (w.number + 1) x.packet) (Ok v) stand' → Offers v old (Ok true) new
+pub last-took : (asked : Asked) (w : Way) (before : List ℕ) (i : ℕ) (x : Placed) (old new : DrainView) (stand' : Stand) (v : code.Verdict) (q : Captured) → Tells (verdict asked w.stand (w.number + 1) x.packet) (Ok v) q stand' → Offers v q old (Ok true) new
     → Drained before old w.packets w.reports → LastTook asked w before i x stand' old new
-last-took asked w before i x old new stand' (code_verdict.Pass q) told offers has = absurd (let b = offers.0 in cc)
-last-took asked w before i x old new stand' (code_verdict.Last q) told offers has =
-    let ok : PutOk before w.packets w.reports (captured q) old.names new.names old.target new.target = put-ok before w.packets w.reports (captured q) old.names new.names old.target new.target offers.1.names has offers.1.target in
+last-took asked w before i x old new stand' code_verdict.Pass q told offers has = absurd (let b = offers.0 in cc)
+last-took asked w before i x old new stand' code_verdict.Last q told offers has =
+    let ok : PutOk before w.packets w.reports q old.names new.names old.target new.target = put-ok before w.packets w.reports q old.names new.names old.target new.target offers.1.names has offers.1.target in
     record {
-      packet = captured q;
-      went = goes-by asked (form_at old) w i x (Last (captured q)) stand' told.0 told.1 ∙ ap (λ (f : Option Fault). unless_refused f w i x stand' (captured q) (Some Over)) ok.none;
+      packet = q;
+      went = goes-by asked (form_at old) w i x (Last q) stand' told.0 told.1 ∙ ap (λ (f : Option Fault). unless_refused f w i x stand' q (Some Over)) ok.none;
       output = ok.output;
       form = ok.form;
     }
-last-took asked w before i x old new stand' code_verdict.Skip told offers has = absurd (let b = offers.0 in cc)
+last-took asked w before i x old new stand' code_verdict.Skip q told offers has = absurd (let b = offers.0 in cc)
 
 -- ---- it is not put
 
@@ -356,7 +356,7 @@ unput-leaves ss before heads place turn asked stand stand' names (Lines options 
 
 reject-leaves : (ss : List Stood) (before : List ℕ) (heads : List HeadView) (place : Place) (turn : ℕ) (asked : Asked) (stand stand' : Stand) (drain : DrainView) (decided : ℕ) (new : MachineStand) (packets : List Captured) (reports : List Report) (es : List Event) (x : Placed) (fault : Fault)
     → Ahead ss heads place es (Came turn x) → way asked (form_at drain) set_out es ≡ stands_at (mk heads place asked stand drain decided) packets reports → Drained before drain packets reports
-    → Tells (verdict asked stand (decided + 1) x.packet) (Err fault) stand'
+    → Tells (verdict asked stand (decided + 1) x.packet) (Err fault) x.packet stand'
     → (head : HeadView) → Among new.feed.heads turn head → head.source.offset ≡ x.offset → new.drain ≡ drain → (fault ≡ WriteFailed → ⊥)
     → EndLeaves ss before (mk heads place asked stand drain decided) (unwritten turn fault) new
 reject-leaves ss before heads place turn asked stand stand' drain decided new packets reports es x fault ahead far has told head among offset same device =
@@ -440,7 +440,7 @@ own-verdict asked stand number p =
     elim (judged_spec.is_too_many asked number) as (λ b. Own (if b then judged_spec.refuses stand TooManyPackets else judged_spec.judged asked stand number p).verdict)
     [ true ↦ (λ is. (cc)) | false ↦ own-judged asked stand number p ]
 
-never-device : (asked : Asked) (stand stand' : Stand) (number : ℕ) (p : Captured) (fault : Fault) → Tells (verdict asked stand number p) (Err fault) stand' → fault ≡ WriteFailed → ⊥
+never-device : (asked : Asked) (stand stand' : Stand) (number : ℕ) (p : Captured) (fault : Fault) → Tells (verdict asked stand number p) (Err fault) p stand' → fault ≡ WriteFailed → ⊥
 never-device asked stand stand' number p fault told is = (let P : Verdict → Type 0 = λ v. Own v in subst P told (own-verdict asked stand number p)) is
 
 -- what an answer leaves: `new` is the machine where the packet is decided, `failed` where it isn't
@@ -457,7 +457,7 @@ answer-core : (us vs : List Stood) (s : Stood) (before : List ℕ) (xs ys : List
 answer-core us vs s before xs ys h place turn asked stand stand' drain drain' decided p (Ok false) laws tells front at back held within grows d decides =
     elim decides [
       | inl j ↦ decided-goes us vs s before xs ys h place turn asked stand stand' drain drain' decided p laws front at back held within grows d
-          (took asked (stands_at (mk (xs ++ h ∷ ys) place asked stand drain decided) d.packets d.reports) before turn (record { offset = h.source.offset; packet = p }) drain drain' false stand' j.answer d.output j.told j.offers)
+          (took asked (stands_at (mk (xs ++ h ∷ ys) place asked stand drain decided) d.packets d.reports) before turn (record { offset = h.source.offset; packet = p }) drain drain' false stand' j.answer j.packet d.output j.told j.offers)
       | inr x ↦ absurd (let e = x.answer in cc)
     ]
 answer-core us vs s before xs ys h place turn asked stand stand' drain drain' decided p (Ok true) laws tells front at back held within grows d decides =
@@ -465,7 +465,7 @@ answer-core us vs s before xs ys h place turn asked stand stand' drain drain' de
       | inl j ↦
           let w : Way = stands_at (mk (xs ++ h ∷ ys) place asked stand drain decided) d.packets d.reports in
           let x : Placed = record { offset = h.source.offset; packet = p } in
-          let l = last-took asked w before turn x drain drain' stand' j.answer j.told j.offers d.output in
+          let l = last-took asked w before turn x drain drain' stand' j.answer j.packet j.told j.offers d.output in
           let stop = stops-course (us ++ s ∷ vs) (xs ++ h ∷ ys) place d.events (Came turn x) asked (form_at drain) w (course_spec.decided w stand' (l.packet ∷ []) (Some Over)) Over
           (next-true us vs s before xs ys h place turn asked stand drain decided p laws front at back held d) d.way refl l.went refl in
           record {
@@ -483,7 +483,7 @@ answer-core us vs s before xs ys h place turn asked stand stand' drain drain' de
     some (x ∷ ps) q e = absurd (omega (arith, e))
 answer-core us vs s before xs ys h place turn asked stand stand' drain drain' decided p (Err fault) laws tells front at back held within grows d decides =
     elim decides [
-      | inl j ↦ by_verdict_of j.answer j.told j.offers
+      | inl j ↦ by_verdict_of j.answer j.packet j.told j.offers
       | inr j ↦
           let e : fault ≡ j.fault = (let e = j.answer in cc) in
           rw e (reject-leaves (us ++ s ∷ vs) before (xs ++ h ∷ ys) place turn asked stand stand' drain decided failed d.packets d.reports d.events x j.fault ahead d.way d.output j.told h here refl j.same (never-device asked stand stand' (decided + 1) p j.fault j.told))
@@ -504,14 +504,14 @@ answer-core us vs s before xs ys h place turn asked stand stand' drain drain' de
     w : Way
     w = stands_at (mk (xs ++ h ∷ ys) place asked stand drain decided) d.packets d.reports
 
-    by_verdict_of : (v : code.Verdict) → Tells (verdict asked stand (decided + 1) p) (Ok v) stand' → Offers v drain (Err fault) drain' → EndLeaves (us ++ s ∷ vs) before (mk (xs ++ h ∷ ys) place asked stand drain decided) (unwritten turn fault) failed
-    by_verdict_of (code_verdict.Pass q) told offers =
-        unput-leaves (us ++ s ∷ vs) before (xs ++ h ∷ ys) place turn asked stand stand' drain.names drain.target decided failed d.packets d.reports d.events x (captured q) None fault ahead d.way d.output
-        (goes-by asked (form_at drain) w turn x (Pass (captured q)) stand' told.0 told.1) tells refl h here refl offers.target
-    by_verdict_of (code_verdict.Last q) told offers =
-        unput-leaves (us ++ s ∷ vs) before (xs ++ h ∷ ys) place turn asked stand stand' drain.names drain.target decided failed d.packets d.reports d.events x (captured q) (Some Over) fault ahead d.way d.output
-        (goes-by asked (form_at drain) w turn x (Last (captured q)) stand' told.0 told.1) tells refl h here refl offers.target
-    by_verdict_of code_verdict.Skip told offers = absurd (let e = offers.0 in cc)
+    by_verdict_of : (v : code.Verdict) (q : Captured) → Tells (verdict asked stand (decided + 1) p) (Ok v) q stand' → Offers v q drain (Err fault) drain' → EndLeaves (us ++ s ∷ vs) before (mk (xs ++ h ∷ ys) place asked stand drain decided) (unwritten turn fault) failed
+    by_verdict_of code_verdict.Pass q told offers =
+        unput-leaves (us ++ s ∷ vs) before (xs ++ h ∷ ys) place turn asked stand stand' drain.names drain.target decided failed d.packets d.reports d.events x q None fault ahead d.way d.output
+        (goes-by asked (form_at drain) w turn x (Pass q) stand' told.0 told.1) tells refl h here refl offers.target
+    by_verdict_of code_verdict.Last q told offers =
+        unput-leaves (us ++ s ∷ vs) before (xs ++ h ∷ ys) place turn asked stand stand' drain.names drain.target decided failed d.packets d.reports d.events x q (Some Over) fault ahead d.way d.output
+        (goes-by asked (form_at drain) w turn x (Last q) stand' told.0 told.1) tells refl h here refl offers.target
+    by_verdict_of code_verdict.Skip q told offers = absurd (let e = offers.0 in cc)
 
 pub answer-leaves : (ss : List Stood) (before : List ℕ) (heads : List HeadView) (place : Place) (asked : Asked) (stand : Stand) (drain : DrainView) (decided i : ℕ) (r : Result Bool Fault) (h : HeadView) (judge' : JudgeStand) (drain' : DrainView)
     → feeding.Tells place heads (next.Answer i) → Among heads i h → judge'.asked ≡ asked → (stand.passed ≤ decided + 1 → judge'.stand.passed ≤ decided + 1) → GrowsByOne stand.tally judge'.stand.tally → decided ≤ most_steps

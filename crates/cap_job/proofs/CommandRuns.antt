@@ -9,11 +9,11 @@ use Rattle.cap_tools.specs.Compiled.{CompileLeaves, ListingLeaves}
 use Rattle.cap_tools.specs.declared.refusal.Refusal.TheVariants.{Expression}
 use Rattle.flt_gen.specs.declared.link.Link.{Link}
 use Rattle.cap_job.specs.declared.packets.Turn.TheVariants as turn
-use Rattle.cap_job.specs.Judged.{Filter}
-use Rattle.cap_job.specs.Feeding.{Stood}
-use Rattle.cap_job.specs.Working.{MachineStand, Decided, IsUnderWay, written_by, failures_by}
+use Rattle.cap_job.specs.Verdicts.{Filter}
+use Rattle.cap_job.specs.Feed.{Stood}
+use Rattle.cap_job.specs.Machine.{MachineStand, Decided, IsUnderWay, written_by, failures_by}
 use Rattle.cap_job.specs.Jobs.{JobView, JobGives, JobRuns, EndsAs, EndsJob}
-use Rattle.cap_job.specs.Starting.{asking, filtering, output_of, output_name}
+use Rattle.cap_job.specs.FirstStep.{asking, filtering, output_of, output_name}
 use Rattle.cap_job.specs.Commands.{Preparing, ReadsFilter, Compiles, CommandView, GivesBy, DecidedBy, RunsBy, ListsSome, RefusesExpression}
 use Rattle.cap_job.proofs.Ends.{ends-whole}
 use Rattle.cap_job.proofs.Runs.{goes-on}

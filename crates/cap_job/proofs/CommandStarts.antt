@@ -4,9 +4,9 @@ use Rattle.std.proofs.lemmas.List.{append-nil}
 use Rattle.cap_octet.specs.declared.device.Stopped.{Stopped}
 use Rattle.flt_bpf.specs.Listing.{listing}
 use Rattle.cap_tools.specs.Messages.{write_failed_message}
-use Rattle.cap_job.specs.Draining.{Target, Capture, Text, Lines, Lists, ListsTo, written_to, failures_to}
+use Rattle.cap_job.specs.Drain.{Target, Capture, Text, Lines, Lists, ListsTo, written_to, failures_to}
 use Rattle.cap_job.specs.Reports.{name_at}
-use Rattle.cap_job.specs.Working.{MachineStand, written_by}
+use Rattle.cap_job.specs.Machine.{MachineStand, written_by}
 use Rattle.std.proofs.lemmas.Bool.{and_parts, eqb-true, leb-true}
 use Rattle.cap_tools.specs.Command.{is_proper, is_proper_edit, is_proper_print}
 use Rattle.cap_tools.specs.declared.command.Command.{Command}
@@ -19,10 +19,10 @@ use Rattle.cap_job.specs.declared.packets.Turn.{Turn}
 use Rattle.cap_job.specs.declared.packets.Turn.TheVariants as turn
 use Rattle.cap_job.specs.declared.drain.Writing.{Writing}
 use Rattle.cap_job.specs.declared.drain.Writing.TheVariants as writing
-use Rattle.cap_job.specs.Fed.{Ordering, InTurn}
-use Rattle.cap_job.specs.Judged.{Asked, Count, Everything}
+use Rattle.cap_job.specs.Events.{Ordering, InTurn}
+use Rattle.cap_job.specs.Verdicts.{Asked, Count, Everything}
 use Rattle.cap_job.specs.Jobs.{JobView, Opened, job_first, most_inputs, order_of, stood_at}
-use Rattle.cap_job.specs.Starting.{EndsList, ListsInto, is_text}
+use Rattle.cap_job.specs.FirstStep.{EndsList, ListsInto, is_text}
 use Rattle.cap_job.specs.Commands.{CommandView, IsReadyIf, CompileGives, DecidedBy, RunsBy, RunsCommand, assigned, command_first}
 use Rattle.cap_job.proofs.Starts.{Decided-start, first-few, first-less}
 

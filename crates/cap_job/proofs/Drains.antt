@@ -14,10 +14,10 @@ use Rattle.cap_io.specs.Sink.{SinkView, HasPackets, PutsAfter, IsPutAnswer, PutW
 use Rattle.cap_io.specs.Text.{added, refused}
 use Rattle.cap_io.proofs.Texts.{put-answers, put-writes, put-taken, HasPackets-put, refused-write_failed, refused-no_memory}
 use Rattle.cap_job.specs.Reports.{Report}
-use Rattle.cap_job.specs.Fed.{Over}
-use Rattle.cap_job.specs.Judged.{Stand}
+use Rattle.cap_job.specs.Events.{Over}
+use Rattle.cap_job.specs.Verdicts.{Stand}
 use Rattle.cap_job.specs.Course.{Form, AsCapture, AsReports, AsLines, closing, lines_text, output, refused_by, written}
-use Rattle.cap_job.specs.Draining.{Target, Capture, Text, Lines, DrainedTo, PutsTo, ReportsTo, form_to, written_to, failures_to}
+use Rattle.cap_job.specs.Drain.{Target, Capture, Text, Lines, DrainedTo, PutsTo, ReportsTo, form_to, written_to, failures_to}
 use Rattle.cap_job.specs.Reports.{report_text, reports_text}
 
 -- what is written is the form's

@@ -8,8 +8,8 @@ use Rattle.cap_io.specs.Capture.{Placed}
 use Rattle.cap_window.specs.declared.mark.Mark.{Mark}
 use Rattle.cap_window.specs.Marks.{mark_of, has_same, last}
 use Rattle.cap_window.proofs.Marks.{last-last}
-use Rattle.cap_job.specs.Fed.{Came, Broken}
-use Rattle.cap_job.specs.Judged.{Judged, Select, Selection, Stand, at_first, changed, is_selected, moved, passes, refuses, selects, skipped, unique, with_mark}
+use Rattle.cap_job.specs.Events.{Came, Broken}
+use Rattle.cap_job.specs.Verdicts.{Judged, Select, Selection, Stand, at_first, changed, is_selected, moved, passes, refuses, selects, skipped, unique, with_mark}
 use Rattle.cap_job.specs.Course.{Form, AsReports, Way, by_verdict, steps, stops_at, way}
 use Rattle.cap_job.specs.Edits.{PassesUnique, coming, is_repeated, selected, unique_behind}
 use Rattle.cap_job.proofs.Judges.{few}

@@ -4,12 +4,12 @@ use Rattle.std.specs.List.{slice_get}
 use Rattle.cap_tools.specs.Messages.{fault_message}
 use Rattle.cap_job.specs.declared.machine.End.{End}
 use Rattle.cap_job.specs.declared.machine.End.TheVariants as end
-use Rattle.cap_job.specs.Fed.{Rest, Close, Over, Broken, Ordering}
+use Rattle.cap_job.specs.Events.{Rest, Close, Over, Broken, Ordering}
 use Rattle.cap_job.specs.Reports.{name_at}
-use Rattle.cap_job.specs.Judged.{Asked}
+use Rattle.cap_job.specs.Verdicts.{Asked}
 use Rattle.cap_job.specs.Course.{Form, Work, Outcome, outcome, out, message, status}
-use Rattle.cap_job.specs.Feeding.{HeadView, Stood, Among, ordering_of}
-use Rattle.cap_job.specs.Working.{MachineStand, Comes, EndLeaves, IsUnderWay, form_of, written_by, texts, wholes_of, cut_at}
+use Rattle.cap_job.specs.Feed.{HeadView, Stood, Among, ordering_of}
+use Rattle.cap_job.specs.Machine.{MachineStand, Comes, EndLeaves, IsUnderWay, form_of, written_by, texts, wholes_of, cut_at}
 use Rattle.cap_job.specs.Jobs.{IsOut, EndsAs, EndsElse, IsOutOf, work_of, end_text, end_status, offset_at, offset_of}
 
 comes-out : (rs : List Rest) (before : List ℕ) (names : List (List ℕ)) (old new : MachineStand) (close : Close) (text : List ℕ) (s : ℕ) → Comes rs before old new close → text ≡ message names (Some close) → s ≡ status (Some close)

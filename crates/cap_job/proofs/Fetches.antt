@@ -17,15 +17,15 @@ use Rattle.cap_job.specs.declared.feed.Place.TheVariants.{Turn, Merge}
 use Rattle.cap_job.specs.declared.feed.Next.TheVariants as next
 use Rattle.cap_job.specs.declared.machine.Progress.{Progress}
 use Rattle.cap_job.specs.Reports.{Report, Tally}
-use Rattle.cap_job.specs.Fed.{Rest, Event, Broken, Ordering, InTurn, Merging, fed, behind, whole}
-use Rattle.cap_job.specs.Judged.{Asked, Select, Filter, Everything, Count, Stand}
-use Rattle.cap_job.specs.Judging as judging
-use Rattle.cap_job.specs.Judging.{JudgeStand, IsWithin, emptied, is_count}
+use Rattle.cap_job.specs.Events.{Rest, Event, Broken, Ordering, InTurn, Merging, fed, behind, whole}
+use Rattle.cap_job.specs.Verdicts.{Asked, Select, Filter, Everything, Count, Stand}
+use Rattle.cap_job.specs.Judge as judging
+use Rattle.cap_job.specs.Judge.{JudgeStand, IsWithin, emptied, is_count}
 use Rattle.cap_job.specs.Course.{Form, AsReports, Way, set_out, way, course, stops_at, output, written, closing_by, first_link}
-use Rattle.cap_job.specs.Draining.{DrainView, Target, Capture, Text, Lines, Drained, Reports, ReportsTo, form_at, written_to, failures_to}
-use Rattle.cap_job.specs.Feeding.{HeadView, FeedView, Future, Stood, Standing, HasCome, Among, EndedBefore, Fetches, Tells, waits_from, in_hand, head_after, place_after, closes, later, whole_with, wholes, rests, left, is_in_turn, ordering_of}
+use Rattle.cap_job.specs.Drain.{DrainView, Target, Capture, Text, Lines, Drained, Reports, ReportsTo, form_at, written_to, failures_to}
+use Rattle.cap_job.specs.Feed.{HeadView, FeedView, Future, Stood, Standing, HasCome, Among, EndedBefore, Fetches, Tells, waits_from, in_hand, head_after, place_after, closes, later, whole_with, wholes, rests, left, is_in_turn, ordering_of}
 use Rattle.cap_job.specs.Reports.{report_text, reports_text}
-use Rattle.cap_job.specs.Working.{MachineStand, AppendsOnce, Decided, GoesOn, Comes, BreaksAt, WhyBroken, StopsWriting, StepLeaves, Closes, ClosesBy, asks_report, report_at, unless_failed, stands_at, form_of, written_by, cut_at, wholes_of}
+use Rattle.cap_job.specs.Machine.{MachineStand, AppendsOnce, Decided, GoesOn, Comes, BreaksAt, WhyBroken, StopsWriting, StepLeaves, Closes, ClosesBy, asks_report, report_at, unless_failed, stands_at, form_of, written_by, cut_at, wholes_of}
 use Rattle.cap_job.proofs.Splits.{At, Fit, stands-split, stands-join, stands-length, fits-join, wholes-join, rests-join, finish-here, come-on}
 use Rattle.cap_job.proofs.Coming.{carries-found, carries-closed, true-wholes, true-fits, finds}
 use Rattle.cap_job.proofs.Drains.{drained-text, ReportOk, report-ok, reports-more}

@@ -14,13 +14,13 @@ use Rattle.cap_io.proofs.Texts.{finish-none, finish-none-writes, finish-some}
 use Rattle.cap_job.specs.declared.feed.Place.{Place}
 use Rattle.cap_job.specs.declared.feed.Next.TheVariants as next
 use Rattle.cap_job.specs.Reports.{Report}
-use Rattle.cap_job.specs.Fed.{Rest, Over, fed, behind}
-use Rattle.cap_job.specs.Judged.{Asked, Stand}
+use Rattle.cap_job.specs.Events.{Rest, Over, fed, behind}
+use Rattle.cap_job.specs.Verdicts.{Asked, Stand}
 use Rattle.cap_job.specs.Course.{Form, AsCapture, Way, closing, course, lines_text, stops_at, output, first_link}
-use Rattle.cap_job.specs.Draining.{DrainView, Target, Capture, Text, Lines, DrainedTo, FinishesTo, form_at, form_to, written_to, failures_to}
-use Rattle.cap_job.specs.Feeding.{HeadView, Future, Stood, Standing, EndedTo, Tells, later, ordering_of, first_of}
+use Rattle.cap_job.specs.Drain.{DrainView, Target, Capture, Text, Lines, DrainedTo, FinishesTo, form_at, form_to, written_to, failures_to}
+use Rattle.cap_job.specs.Feed.{HeadView, Future, Stood, Standing, EndedTo, Tells, later, ordering_of, first_of}
 use Rattle.cap_job.specs.Reports.{reports_text}
-use Rattle.cap_job.specs.Working.{MachineStand, Decided, Comes, StopsWriting, stands_at, wholes_of}
+use Rattle.cap_job.specs.Machine.{MachineStand, Decided, Comes, StopsWriting, stands_at, wholes_of}
 use Rattle.cap_job.proofs.Splits.{At}
 use Rattle.cap_job.proofs.Coming.{true-whole, true-wholes, true-fit, true-fits}
 use Rattle.cap_job.proofs.Courses.{course-close}

@@ -6,8 +6,8 @@ use Rattle.cap_octet.specs.declared.fault.Fault.{Fault}
 use Rattle.cap_io.specs.Capture.{Placed}
 use Rattle.cap_io.specs.declared.source.Kind.{Kind}
 use Rattle.cap_job.specs.Reports.{Report}
-use Rattle.cap_job.specs.Fed.{Event, Came, Closed, Close, Over, Fed, behind}
-use Rattle.cap_job.specs.Judged.{Asked, Select, Filter, Everything, Count, Stand, Verdict, Pass, Last, Skip, Refuse, verdict}
+use Rattle.cap_job.specs.Events.{Event, Came, Closed, Close, Over, Fed, behind}
+use Rattle.cap_job.specs.Verdicts.{Asked, Select, Filter, Everything, Count, Stand, Verdict, Pass, Last, Skip, Refuse, verdict}
 use Rattle.cap_job.specs.Course.{Form, Way, set_out, unless_refused, by_verdict, closed, goes, steps, way, course, refused_by, stops_at, ended_by, unless_ended}
 use Rattle.cap_job.proofs.Courses.{way-append}
 

@@ -4,10 +4,10 @@ use Rattle.cap_octet.specs.Packet.{Captured}
 use Rattle.cap_job.specs.declared.feed.Place.{Place}
 use Rattle.cap_job.specs.declared.feed.Place.TheVariants.{Turn, Merge}
 use Rattle.cap_job.specs.declared.feed.Next.TheVariants as next
-use Rattle.cap_job.specs.Feeding.{HeadView, Among, Tells}
-use Rattle.cap_job.specs.Judging.{JudgeView, most_spent, spent_by_verdict}
+use Rattle.cap_job.specs.Feed.{HeadView, Among, Tells}
+use Rattle.cap_job.specs.Judge.{JudgeView, most_spent, spent_by_verdict}
 use Rattle.cap_tools.specs.Compiling.{spent_in}
-use Rattle.cap_job.specs.Working.{Spends}
+use Rattle.cap_job.specs.Machine.{Spends}
 use Rattle.cap_job.proofs.Fetches.{among-same}
 
 pub answer-waits : (place : Place) (heads : List HeadView) (i : ℕ) (h : HeadView) → Tells place heads (next.Answer i) → Among heads i h → h.waiting ≡ true

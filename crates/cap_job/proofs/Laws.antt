@@ -8,10 +8,10 @@ use Rattle.cap_io.specs.Source.{Ended}
 use Rattle.cap_job.specs.declared.feed.Place.{Place}
 use Rattle.cap_job.specs.declared.feed.Place.TheVariants.{Turn, Merge}
 use Rattle.cap_job.specs.declared.feed.Next.TheVariants as next
-use Rattle.cap_job.specs.Fed.{Rest, Event, Came, Closed, Close, Over, Broken, Ordering, InTurn, Merging, behind, in_turn, merged, broken, cut, sorted, all_entries, unless_broken}
-use Rattle.cap_job.specs.Judged.{Asked}
+use Rattle.cap_job.specs.Events.{Rest, Event, Came, Closed, Close, Over, Broken, Ordering, InTurn, Merging, behind, in_turn, merged, broken, cut, sorted, all_entries, unless_broken}
+use Rattle.cap_job.specs.Verdicts.{Asked}
 use Rattle.cap_job.specs.Course.{Form, Way, way, closed, unless_ended}
-use Rattle.cap_job.specs.Feeding.{HeadView, Future, Fits, Among, Tells, EndedTo, EndedBefore, Laid, HeadOver, waits_over, ended_over, HeadFrom, waits_from, ended_from, HeadsOver, HeadsFrom, KeysOver, KeysFrom, NoneWaits, key_of, time_of, settled, rest_with, rests, left, ordering_of, place_after, place_behind}
+use Rattle.cap_job.specs.Feed.{HeadView, Future, Fits, Among, Tells, EndedTo, EndedBefore, Laid, HeadOver, waits_over, ended_over, HeadFrom, waits_from, ended_from, HeadsOver, HeadsFrom, KeysOver, KeysFrom, NoneWaits, key_of, time_of, settled, rest_with, rests, left, ordering_of, place_after, place_behind}
 use Rattle.cap_job.proofs.Splits.{Fit, fits-join, rests-join, rests-length}
 use Rattle.cap_job.proofs.Coming.{left-decided, turn-closes, turn-broken}
 use Rattle.cap_job.proofs.Order.{merged-broken}

@@ -11,7 +11,7 @@ use Rattle.cap_job.specs.declared.feed.Place.{Place}
 use Rattle.cap_job.specs.declared.feed.Place.TheVariants.{Turn, Merge}
 use Rattle.cap_job.specs.declared.feed.Next.TheVariants as next
 use Rattle.cap_job.specs.Queue.{Queue, NotAfter, Precedes, IsFirst, is_entered}
-use Rattle.cap_job.specs.Feeding.{Enters, HasPlaceFor, Leaves, TakesFirst, HeadView, NoneWaits, IsLeast, KeysOver, KeysFrom, Among, Tells, key_of, waits_with, waiting_count, waiting_total, IsQueued, HoldsQueue, is_merge, place_after, place_behind}
+use Rattle.cap_job.specs.Feed.{Enters, HasPlaceFor, Leaves, TakesFirst, HeadView, NoneWaits, IsLeast, KeysOver, KeysFrom, Among, Tells, key_of, waits_with, waiting_count, waiting_total, IsQueued, HoldsQueue, is_merge, place_after, place_behind}
 use Rattle.cap_job.specs.Jobs.{order_of, place_first}
 use Rattle.cap_job.proofs.Heads.{set-here}
 

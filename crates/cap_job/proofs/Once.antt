@@ -6,9 +6,9 @@ use Rattle.cap_io.proofs.Texts.{text-more}
 use Rattle.cap_io.specs.Text.{added, text}
 use Rattle.cap_lines.specs.Printed.{printed}
 use Rattle.cap_job.specs.Reports.{Report, report_text, reports_text}
-use Rattle.cap_job.specs.Course.{Form, AsCapture, AsReports, AsLines, closing, written}
-use Rattle.cap_job.specs.Draining.{DrainView, Drained, form_at, written_to}
-use Rattle.cap_job.specs.Working.{AppendsOnce, IsAnswer}
+use Rattle.cap_job.specs.Course.{Form, AsCapture, AsReports, AsLines, written}
+use Rattle.cap_job.specs.Drain.{DrainView, Drained, form_at, written_to}
+use Rattle.cap_job.specs.Machine.{AppendsOnce, IsAnswer}
 use Rattle.cap_job.proofs.Drains.{drained-text, lines-one, reports-more}
 
 pub once-nothing : (link : Option ℕ) (before : List ℕ) (old new : DrainView) (ps : List Captured) (rs : List Report) → Drained before old ps rs → written_to new.target ≡ written_to old.target → AppendsOnce link before old new

@@ -1,8 +1,8 @@
 -- Many steps.
 use Rattle.std.proofs.Common.{◌≡◌, ℕ, zero, suc, List, [], ◌∷◌, refl, ◌∙◌, ap}
 use Rattle.cap_io.specs.Capture.{Placed}
-use Rattle.cap_job.specs.Feeding.{Stood}
-use Rattle.cap_job.specs.Working.{MachineStand, GoesOn, IsUnderWay, finish_at, texts}
+use Rattle.cap_job.specs.Feed.{Stood}
+use Rattle.cap_job.specs.Machine.{MachineStand, GoesOn, IsUnderWay, finish_at, texts}
 
 finish-texts : (ss : List Stood) (i : ℕ) (bytes : List ℕ) (packets : List Placed) → texts (finish_at ss i bytes packets) ≡ texts ss
 finish-texts [] i bytes packets = refl

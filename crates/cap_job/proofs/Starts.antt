@@ -2,20 +2,20 @@
 use Rattle.std.proofs.Common.{◌≡◌, ℕ, suc, ◌*◌, ◌^◌, ◌<◌, ◌≤◌, List, [], ◌∷◌, map, length, Bool, refl, sym, ◌∙◌, ap, arith}
 use Rattle.cap_job.specs.declared.drain.Writing.{Writing}
 use Rattle.cap_job.specs.declared.drain.Writing.TheVariants as writing
-use Rattle.cap_job.specs.Draining.{DrainedTo, target_at}
+use Rattle.cap_job.specs.Drain.{DrainedTo, target_at}
 use Rattle.cap_job.specs.Reports.{nothing_counted}
 use Rattle.std.proofs.lemmas.List.{append-nil}
 use Rattle.cap_io.proofs.Standing.{IsAt-start}
 use Rattle.cap_io.proofs.Texts.{HasPackets-none}
-use Rattle.cap_job.specs.Fed.{Rest, in_turn, merged, Ordering, InTurn, Merging}
+use Rattle.cap_job.specs.Events.{Rest, in_turn, merged, Ordering, InTurn, Merging}
 use Rattle.cap_job.specs.declared.feed.Place.{Place}
 use Rattle.cap_job.proofs.Laws.{laid-start}
-use Rattle.cap_job.specs.Judged.{Asked}
+use Rattle.cap_job.specs.Verdicts.{Asked}
 use Rattle.cap_job.specs.Jobs.{Opened, head_at, stood_at, place_first, feed_first, order_of, most_inputs}
-use Rattle.cap_job.specs.Judging.{stand_with}
-use Rattle.cap_job.specs.Feeding.{HeadView, Future, Standing, Fits, HasCome, NoneWaits, EndedBefore, wholes, rests, whole_with, heads_left, feed_left, most_steps, waiting_total}
+use Rattle.cap_job.specs.Judge.{stand_with}
+use Rattle.cap_job.specs.Feed.{HeadView, Future, Standing, Fits, HasCome, NoneWaits, EndedBefore, wholes, rests, whole_with, heads_left, feed_left, most_steps, waiting_total}
 use Rattle.cap_job.specs.Bounds.{reads_of, owed, most_turns}
-use Rattle.cap_job.specs.Working.{Decided}
+use Rattle.cap_job.specs.Machine.{Decided}
 use Rattle.cap_job.proofs.Fetches.{mk}
 
 start-standing : (os : List Opened) → Standing (map stood_at os) (map head_at os)

@@ -7,7 +7,7 @@ use Rattle.cap_io.specs.Source.{SourceView, Phase, Reading, Ended, Failed, Steps
 use Rattle.cap_job.specs.declared.feed.Place.{Place}
 use Rattle.cap_job.specs.declared.feed.Place.TheVariants.{Turn, Merge}
 use Rattle.cap_job.specs.declared.feed.Next.TheVariants as next
-use Rattle.cap_job.specs.Feeding.{HeadView, FeedView, Among, Tells, Settles, FetchSteps, settled, head_after, place_after, place_behind, closes, waiting_count, waiting_total}
+use Rattle.cap_job.specs.Feed.{HeadView, FeedView, Among, Tells, Settles, FetchSteps, settled, head_after, place_after, place_behind, closes, waiting_count, waiting_total}
 use Rattle.cap_job.specs.Bounds.{reads_of, owed, most_turns, IsPaid}
 use Rattle.cap_job.proofs.Heads.{set-here}
 use Rattle.cap_job.proofs.Fetches.{among-same}

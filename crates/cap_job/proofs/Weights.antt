@@ -8,11 +8,11 @@ use Rattle.cap_io.specs.Reading.{most_in_unit}
 use Rattle.cap_io.specs.Source.{SourceView, Phase, Reading, Ended, Failed, HasFew, Steps}
 use Rattle.cap_job.specs.declared.drain.Writing.{Writing}
 use Rattle.cap_job.specs.declared.drain.Writing.TheVariants as writing
-use Rattle.cap_job.specs.Draining.{Target, Capture, Text, Lines, target_at}
-use Rattle.cap_job.specs.Feeding.{HeadView, FeedView, Among, FetchSteps, Settles, head_after, settled}
-use Rattle.cap_job.specs.Judging.{HasFewMarks}
+use Rattle.cap_job.specs.Drain.{Target, Capture, Text, Lines, target_at}
+use Rattle.cap_job.specs.Feed.{HeadView, FeedView, Among, FetchSteps, Settles, head_after, settled}
+use Rattle.cap_job.specs.Judge.{HasFewMarks}
 use Rattle.cap_job.specs.Jobs.{Opened, head_at}
-use Rattle.cap_job.specs.Working.{MachineStand}
+use Rattle.cap_job.specs.Machine.{MachineStand}
 use Rattle.cap_job.specs.Bounds.{HasFewInterfaces, IsBounded, IsLight, IsSmall, declared_weight, heads_weight, names_weight, target_weight}
 
 -- ---- one head for another

@@ -22,15 +22,15 @@ use Rattle.cap_job.specs.declared.drain.Writing.{Writing}
 use Rattle.cap_job.specs.declared.drain.Writing.TheVariants as writing
 use Rattle.cap_job.specs.declared.packets.Turn.{Turn}
 use Rattle.cap_job.specs.declared.packets.Turn.TheVariants as turn
-use Rattle.cap_job.specs.Fed.{Ordering, InTurn}
-use Rattle.cap_job.specs.Judged.{Asked, Select, Filter, Everything, Count}
-use Rattle.cap_job.specs.Judging.{selection_of}
-use Rattle.cap_job.specs.Feeding.{Stood, feed_left}
+use Rattle.cap_job.specs.Events.{Ordering, InTurn}
+use Rattle.cap_job.specs.Verdicts.{Asked, Select, Filter, Everything, Count}
+use Rattle.cap_job.specs.Judge.{selection_of}
+use Rattle.cap_job.specs.Feed.{Stood, feed_left}
 use Rattle.cap_job.specs.Bounds.{StepReads}
 use Rattle.cap_tools.specs.Compiling.{spent_in}
-use Rattle.cap_job.specs.Working.{MachineStand, MachineView, Decided}
+use Rattle.cap_job.specs.Machine.{MachineStand, MachineView, Decided}
 use Rattle.cap_job.specs.Jobs.{JobView, JobGives, JobRuns, NeverBegan, Opened, job_first, order_of, stood_at}
-use Rattle.cap_job.specs.Starting.{IsFresh, Lists, Refuses, asking, filtering, is_text, output_of, output_name}
+use Rattle.cap_job.specs.FirstStep.{IsFresh, Lists, Refuses, asking, filtering, is_text, output_of, output_name}
 
 -- ---- before the first packet
 

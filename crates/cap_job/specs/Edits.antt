@@ -3,8 +3,8 @@ use Rattle.std.specs.Prelude.{◌≡◌, ℕ, ◌+◌, ◌-◌, ◌^◌, ◌<◌
 use Rattle.cap_octet.specs.Packet.{Captured}
 use Rattle.cap_window.specs.declared.mark.Mark.{Mark}
 use Rattle.cap_window.specs.Marks.{mark_of, has_same, last}
-use Rattle.cap_job.specs.Fed.{Event, Came}
-use Rattle.cap_job.specs.Judged.{Select, Selection, changed, is_selected, moved}
+use Rattle.cap_job.specs.Events.{Event, Came}
+use Rattle.cap_job.specs.Verdicts.{Select, Selection, changed, is_selected, moved}
 use Rattle.cap_job.specs.Course.{AsReports, set_out, way}
 
 abbrev pub selected_at : Selection → Captured → Option ℕ → List Captured → List Captured

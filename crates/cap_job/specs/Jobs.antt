@@ -11,16 +11,16 @@ use Rattle.cap_job.specs.declared.machine.End.{End}
 use Rattle.cap_job.specs.declared.machine.End.TheVariants as end
 use Rattle.cap_job.specs.declared.packets.Turn.{Turn}
 use Rattle.cap_job.specs.declared.packets.Turn.TheVariants as turn
-use Rattle.cap_job.specs.Fed.{Rest, Ordering, InTurn, Merging}
+use Rattle.cap_job.specs.Events.{Rest, Ordering, InTurn, Merging}
 use Rattle.cap_job.specs.declared.drain.Writing.{Writing}
-use Rattle.cap_job.specs.Draining.{target_at}
-use Rattle.cap_job.specs.Judged.{Asked}
-use Rattle.cap_job.specs.Judging.{stand_with}
+use Rattle.cap_job.specs.Drain.{target_at}
+use Rattle.cap_job.specs.Verdicts.{Asked}
+use Rattle.cap_job.specs.Judge.{stand_with}
 use Rattle.cap_job.specs.Reports.{name_at, nothing_counted}
 use Rattle.cap_job.specs.Course.{Work, first_link, outcome, out}
-use Rattle.cap_job.specs.Feeding.{HeadView, FeedView, Stood, Among, most_steps, ordering_of}
+use Rattle.cap_job.specs.Feed.{HeadView, FeedView, Stood, Among, most_steps, ordering_of}
 use Rattle.flt_bpf.specs.Content.{Content}
-use Rattle.cap_job.specs.Working.{MachineStand, MachineView, machine_with, AppendsOnce, Decided, GoesOn, EndsByCut, WantsMemory, StopsWriting, IsUnderWay, form_of, written_by, failures_by, texts, wholes_of, cut_at}
+use Rattle.cap_job.specs.Machine.{MachineStand, MachineView, machine_with, AppendsOnce, Decided, GoesOn, EndsByCut, WantsMemory, StopsWriting, IsUnderWay, form_of, written_by, failures_by, texts, wholes_of, cut_at}
 
 -- ---- as it is handed over
 

@@ -4,7 +4,7 @@ ghost use Rattle.std.specs.String.{string_bytes};
 ghost use Rattle.cap_octet.specs.Device.{AppendsOrStops, failures_of};
 ghost use Rattle.cap_octet.specs.Packet.{captured};
 ghost use Rattle.cap_lines.specs.Printed.{printed};
-ghost use Rattle.cap_job.specs.Draining.{target_at};
+ghost use Rattle.cap_job.specs.Drain.{target_at};
 ghost use Rattle.cap_job.specs.Reports.{name_at};
 
 use crate::report::{Report, write_report};
@@ -45,11 +45,15 @@ pub struct Drain<O: Output, A: Allocator> {
 impl<O: Output, A: Allocator> Model for Drain<O, A> {
     ghost use Rattle.std.specs.Prelude.{map};
     ghost use Rattle.std.specs.String.{string_bytes};
-    ghost use Rattle.cap_job.specs.Draining.{DrainView, target_of};
+    ghost use Rattle.cap_job.specs.Drain.{DrainView, target_of};
 
     ghost Value = { DrainView };
 
-    ghost view = { λ d. record { names = map string_bytes d.names.items; target = target_of O.written O.failures O.room d.device } };
+    ghost view = { λ d. record {
+      names = map string_bytes d.names.items;
+      target = target_of
+          O.written O.failures O.room d.device;
+    } };
 }
 
 impl<O: Output, A: Allocator> Drain<O, A> {
@@ -57,14 +61,20 @@ impl<O: Output, A: Allocator> Drain<O, A> {
     ghost use Rattle.std.specs.String.{string_bytes};
     ghost use Rattle.cap_octet.specs.Packet.{captured};
     ghost use Rattle.cap_job.specs.Bounds.{HasFewInterfaces};
-    ghost use Rattle.cap_job.specs.Draining.{Finishes, Lists, Puts, Reports, failures_to, reported, target_at, written_to};
+    ghost use Rattle.cap_job.specs.Drain.{Finishes, Lists, Puts, Reports, failures_to, reported};
+    ghost use Rattle.cap_job.specs.Drain.{target_at, written_to};
     ghost use Rattle.cap_job.specs.Reports.{name_at};
 
-    /// A drain to which nothing is written yet. `names` are those of the inputs, then of the output. It takes no memory.
+    /// A drain to which nothing is written yet. `names` are those of the inputs, then of the
+    /// output. It takes no memory.
     pub fn new(alloc: A, writing: Writing, names: Vec<String<A>, A>, output: O) -> Self
     where
         A: Copy,
-        ensures { result ≡ record { names = map string_bytes names.items; target = target_at writing (O.written output) (O.failures output) (O.room output) } }
+        ensures { result ≡ record {
+          names = map string_bytes names.items;
+          target = target_at writing
+              (O.written output) (O.failures output) (O.room output);
+        } }
     {
         let device = match writing {
             Writing::Capture(format) => Device::Capture(Sink::new(alloc, output, format)),
@@ -89,7 +99,8 @@ impl<O: Output, A: Allocator> Drain<O, A> {
 
     /// Writes the report of an input, where reports are written.
     pub fn report(&mut self, input: usize, report: &Report) -> Result<(), DeviceFault>
-        ensures told { IsTrue O.tells → Reports (reported input report.now) self.old result self.new }
+        ensures told { IsTrue O.tells → Reports (reported input report.now) self.old result
+            self.new }
         ensures few { HasFewInterfaces self.old.target → HasFewInterfaces self.new.target }
         ensures names { self.new.names ≡ self.old.names }
     {
@@ -154,7 +165,8 @@ fn put_line<O: Output>(
     packet: &Packet<'_>,
     output: &mut O,
 ) -> Result<(), Fault>
-    ensures told { IsTrue O.tells → AppendsOrStops result (O.written output.old) (printed options (captured packet.now)) (O.written output.new) }
+    ensures told { IsTrue O.tells → AppendsOrStops result (O.written output.old)
+        (printed options (captured packet.now)) (O.written output.new) }
     ensures fault { IfErr result (λ fault. fault ≡ Fault.WriteFailed) }
     ensures failed { O.failures output.new ≡ O.failures output.old + failures_of result }
     ensures room { O.room output.new ≡ O.room output.old }

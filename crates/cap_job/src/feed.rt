@@ -1,8 +1,11 @@
 //! The packets of the inputs, in the job's order.
-ghost use Rattle.std.specs.Prelude.{◌≡◌, ◌&&◌, [], true, ◌<◌, ◌≤◌, ◌-◌, ◌^◌, IsTrue, false, length, map};
+ghost use Rattle.std.specs.Prelude.{◌≡◌, ◌&&◌, [], true, ◌<◌, ◌≤◌, ◌-◌, ◌^◌, IsTrue, false, length};
+ghost use Rattle.std.specs.Prelude.{map};
 ghost use Rattle.std.specs.Option.{IfSome};
 ghost use Rattle.cap_job.specs.Jobs.{head_at, opened, order_of, place_first};
-ghost use Rattle.cap_job.specs.Feeding.{Enters, HasPlaceFor, IsQueued, Leaves, MergeTells, is_merge, TurnTells, closes, first_of, key_of, place_after, place_behind, time_of};
+ghost use Rattle.cap_job.specs.Feed.{Enters, HasPlaceFor, IsQueued, Leaves, MergeTells};
+ghost use Rattle.cap_job.specs.Feed.{is_merge, TurnTells, closes, first_of, key_of, place_after};
+ghost use Rattle.cap_job.specs.Feed.{place_behind, time_of};
 
 use crate::queue::{Queue, Waiting};
 use cap_io::{Kind, Source};
@@ -24,13 +27,14 @@ pub struct Head<I: Input, A: Allocator> {
 
 impl<I: Input, A: Allocator> Model for Head<I, A> {
     ghost use Rattle.std.specs.Prelude.{◌≡◌, is_some, true};
-    ghost use Rattle.cap_job.specs.Feeding.{HeadView, time_of};
+    ghost use Rattle.cap_job.specs.Feed.{HeadView, time_of};
 
     ghost Value = { HeadView };
 
     ghost view = { λ h. record { source = h.source; waiting = h.waiting; greatest = h.greatest } };
 
-    ghost invariant = { λ h. (h.time ≡ time_of h.source.packet) × (h.waiting ≡ true → is_some h.source.packet ≡ true) };
+    ghost invariant = { λ h. (h.time ≡ time_of h.source.packet)
+        × (h.waiting ≡ true → is_some h.source.packet ≡ true) };
 }
 
 /// Which input is next, by the order of the packets.
@@ -57,14 +61,14 @@ pub enum Next {
 fn time_in<I: Input, A: Allocator>(source: &Source<I, A>) -> u64
     ensures { result ≡ time_of source.now.packet }
 {
-    match source.head() {
-        Some(packet) => packet.time,
+    match source.time() {
+        Some(time) => time,
         None => 0,
     }
 }
 
 impl<I: Input, A: Allocator> Head<I, A> {
-    ghost use Rattle.cap_job.specs.Feeding.{HeadView, head_after, found, settled};
+    ghost use Rattle.cap_job.specs.Feed.{HeadView, head_after, found, settled};
     ghost use Rattle.cap_io.specs.Source.{SourceView, Advances, HasFew, Steps};
     ghost use Rattle.std.specs.Option.{option_map};
     ghost use Rattle.cap_octet.specs.Packet.{captured};
@@ -87,7 +91,8 @@ impl<I: Input, A: Allocator> Head<I, A> {
 
     /// Reads on to the next packet.
     fn read_on(&mut self) -> Result<bool, Fault>
-        ensures told { IsTrue I.tells → Advances self.old.source.phase self.old.source result self.new.source }
+        ensures told { IsTrue I.tells → Advances self.old.source.phase self.old.source result
+            self.new.source }
         ensures steps { Steps self.old.source.phase self.old.source result self.new.source }
         ensures few { HasFew self.new.source.declared }
         ensures is { self.new ≡ head_after self.old result self.new.source }
@@ -153,7 +158,7 @@ pub struct Feed<I: Input, A: Allocator> {
 }
 
 impl<I: Input, A: Allocator> Model for Feed<I, A> {
-    ghost use Rattle.cap_job.specs.Feeding.{FeedView, HoldsQueue};
+    ghost use Rattle.cap_job.specs.Feed.{FeedView, HoldsQueue};
 
     ghost Value = { FeedView };
 
@@ -164,14 +169,17 @@ impl<I: Input, A: Allocator> Model for Feed<I, A> {
 
 impl<I: Input, A: Allocator> Feed<I, A> {
     ghost use Rattle.cap_job.specs.Jobs.{feed_first, offset_at};
-    ghost use Rattle.cap_job.specs.Feeding.{FeedView, Among, Tells, Fetches, FetchSteps, Settles, first_of, is_in_turn};
+    ghost use Rattle.cap_job.specs.Feed.{FeedView, Among, Tells, Fetches, FetchSteps, Settles};
+    ghost use Rattle.cap_job.specs.Feed.{first_of, is_in_turn};
 
     /// The inputs, one behind another or merged; `None` where there is no memory.
     pub fn new(alloc: A, inputs: Vec<I, A>, merges: bool) -> Option<Self>
     where
         I: Drop,
         A: Copy + Drop,
-        ensures { IfSome result (λ feed. feed ≡ feed_first (order_of merges) (map (λ input. opened (I.unread input) (I.given input) (I.failures input) (I.never_fails input)) inputs.items)) }
+        ensures { IfSome result (λ feed. feed ≡ feed_first (order_of merges)
+            (map (λ input. opened (I.unread input) (I.given input) (I.failures input)
+            (I.never_fails input)) inputs.items)) }
     {
         let heads = heads_of(alloc, inputs)?;
         let place = first_place(&heads, merges);
@@ -329,7 +337,8 @@ fn is_merge(place: Place) -> bool
     matches!(place, Place::Merge(_, _))
 }
 
-/// The queue of so many inputs; `None` where there is no memory. Inputs that aren't merged need none.
+/// The queue of so many inputs; `None` where there is no memory. Inputs that aren't merged need
+/// none.
 fn queue_for<A: Allocator>(alloc: A, merges: bool, count: usize) -> Option<Queue<A>>
 where
     A: Drop,
@@ -381,7 +390,9 @@ fn heads_of<I, A>(alloc: A, inputs: Vec<I, A>) -> Option<Vec<Head<I, A>, A>>
 where
     I: Input + Drop,
     A: Allocator + Copy + Drop,
-    ensures { IfSome result (λ heads. heads.items ≡ map (λ input. head_at (opened (I.unread input) (I.given input) (I.failures input) (I.never_fails input))) inputs.items) }
+    ensures { IfSome result (λ heads. heads.items ≡ map (λ input. head_at
+        (opened (I.unread input) (I.given input) (I.failures input) (I.never_fails input)))
+        inputs.items) }
 {
     let mut heads = Vec::new(alloc);
     for input in inputs {

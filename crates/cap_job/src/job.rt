@@ -1,14 +1,16 @@
 //! The jobs of commands: what is read before the first packet, and then the packets.
-ghost use Rattle.std.specs.Prelude.{ℕ, ◌≡◌, ◌+◌, ◌<◌, ◌≤◌, [], IfErr, IfOk, IsTrue, None, Some, map, string_bytes, true, vec_len};
+ghost use Rattle.std.specs.Prelude.{ℕ, ◌≡◌, ◌+◌, ◌<◌, ◌≤◌, [], IfErr, IfOk, IsTrue, None, Some};
+ghost use Rattle.std.specs.Prelude.{map, string_bytes, true, vec_len};
 ghost use Rattle.std.specs.Option.{option_map};
 ghost use Rattle.cap_tools.specs.Command.{is_proper};
 ghost use Rattle.cap_tools.specs.Printed.{IsRule, IsWhy, code_of};
 ghost use Rattle.cap_tools.specs.Printing.{AreNew, programs_of, rule_of};
 ghost use Rattle.cap_tools.specs.Running.{seen};
 ghost use Rattle.cap_job.specs.Bounds.{IsLight, most_turns};
-ghost use Rattle.cap_job.specs.Commands.{CommandRuns, IsReady, Prepares, PreparesOnly, RunsCommand, assigned, lines_unless, preparing_of};
+ghost use Rattle.cap_job.specs.Commands.{CommandRuns, IsReady, Prepares, PreparesOnly, RunsCommand};
+ghost use Rattle.cap_job.specs.Commands.{assigned, lines_unless, preparing_of};
 ghost use Rattle.cap_job.specs.Jobs.{IsStatus, done_by, machine_of, opened, order_of, turn_goes_on};
-ghost use Rattle.cap_job.specs.Judging.{asked_of, programs_in};
+ghost use Rattle.cap_job.specs.Judge.{asked_of, programs_in};
 
 use crate::drain::Writing;
 use crate::judge::Rule;
@@ -54,7 +56,10 @@ fn work<A: Allocator>(rule: Rule<A>, writing: Writing, merges: bool) -> Work<A>
 
 /// What a print writes: packets in a format if there is one, else their lines.
 fn writing_of<A: Allocator>(print: &Print<A>) -> Writing
-    ensures { result ≡ lines_unless print.now.write (record { link = print.now.link; bytes = print.now.bytes }) }
+    ensures { result ≡ lines_unless print.now.write (record {
+      link = print.now.link;
+      bytes = print.now.bytes;
+    }) }
 {
     match print.write {
         Some(format) => Writing::Capture(format),
@@ -109,7 +114,8 @@ fn assignment_of<A: Allocator>(command: Command<A>) -> Assignment<A>
 
 /// The filter that a print is asked for.
 fn read_filter<A: Allocator + Copy + Drop>(alloc: A, print: &Print<A>) -> Result<Filter<A>, Refusal>
-    ensures rule { IfOk result (λ filter. IsRule (string_bytes print.now.expr) (code_of print.now) (rule_of filter)) }
+    ensures rule { IfOk result (λ filter. IsRule (string_bytes print.now.expr) (code_of print.now)
+        (rule_of filter)) }
     ensures programs { IfOk result (λ filter. AreNew (rule_of filter) (programs_of filter)) }
     ensures refused { IfErr result (IsWhy (string_bytes print.now.expr) (code_of print.now)) }
 {
@@ -139,18 +145,22 @@ impl<I: Input, O: Output, E: Output, A: Allocator> Model for Job<I, O, E, A> {
 
     ghost coded = { Prim.hlevel (codes, expression_code) };
 
-    ghost view = { λ c. record { preparing = option_map preparing_of c.preparation; packets = c.packets } };
+    ghost view = { λ c. record {
+      preparing = option_map preparing_of c.preparation;
+      packets = c.packets;
+    } };
 
     ghost invariant = { λ c. IsReadyIf (option_map preparing_of c.preparation) c.packets };
 }
 
 impl<I: Input, O: Output, E: Output, A: Allocator + Copy + Drop> Job<I, O, E, A> {
-    ghost use Rattle.cap_job.specs.Commands.{DecidedBy, GivesBy, StepReadsBy, command_first, command_left};
+    ghost use Rattle.cap_job.specs.Commands.{DecidedBy, GivesBy, StepReadsBy, command_first};
+    ghost use Rattle.cap_job.specs.Commands.{command_left};
     ghost use Rattle.cap_job.specs.Jobs.{stood_at};
-    ghost use Rattle.cap_job.specs.Working.{failures_by, written_by};
+    ghost use Rattle.cap_job.specs.Machine.{failures_by, written_by};
 
-    /// The job of a proper command. `names` are those of the inputs, then of the output. Where there is no memory
-    /// nothing was read or written.
+    /// The job of a proper command. `names` are those of the inputs, then of the output. Where
+    /// there is no memory nothing was read or written.
     pub fn new(
         alloc: A,
         command: Command<A>,
@@ -162,9 +172,14 @@ impl<I: Input, O: Output, E: Output, A: Allocator + Copy + Drop> Job<I, O, E, A>
     where
         I: Drop,
         requires proper { is_proper command (vec_len inputs) ≡ true }
-        ensures fresh { IfOk result (λ job. job ≡ command_first command (map string_bytes names.items)
-            (map (λ input. opened (I.unread input) (I.given input) (I.failures input) (I.never_fails input)) inputs.items) (seen (O.written out) (O.failures out)) (O.room out) (seen (E.written err) (E.failures err))) }
-        ensures decided { IfOk result (λ job. DecidedBy job.preparing (map stood_at (map (λ input. opened (I.unread input) (I.given input) (I.failures input) (I.never_fails input)) inputs.items)) (O.written out) job.packets.machine) }
+        ensures fresh { IfOk result (λ job. job ≡ command_first command
+            (map string_bytes names.items)
+            (map (λ input. opened (I.unread input) (I.given input) (I.failures input)
+            (I.never_fails input)) inputs.items) (seen (O.written out) (O.failures out))
+            (O.room out) (seen (E.written err) (E.failures err))) }
+        ensures decided { IfOk result (λ job. DecidedBy job.preparing
+            (map stood_at (map (λ input. opened (I.unread input) (I.given input) (I.failures input)
+            (I.never_fails input)) inputs.items)) (O.written out) job.packets.machine) }
         ensures refused { IfErr result (λ devices. (devices.0 ≡ out) × (devices.1 ≡ err)) }
     {
         let Assignment { preparation, work } = assignment_of(command);
@@ -176,21 +191,29 @@ impl<I: Input, O: Output, E: Output, A: Allocator + Copy + Drop> Job<I, O, E, A>
         })
     }
 
-    /// One step on: reads the filter or compiles; then reads one input on, decides one packet, or ends the output. It
-    /// tells how the job ended where it did. A message that can't be written is lost.
+    /// One step on: reads the filter or compiles; then reads one input on, decides one packet, or
+    /// ends the output. It tells how the job ended where it did. A message that can't be written is
+    /// lost.
     pub fn step(&mut self) -> Turn
-        ensures after { (s : ℕ) → self.old.packets.done ≡ Some s → (result ≡ Turn.Done s) × (self.new ≡ self.old) }
-        ensures told { IsTrue I.tells → IsTrue O.tells → self.old.packets.done ≡ None → GivesBy self.old.preparing E.tells self.old.packets result self.new.packets }
+        ensures after { (s : ℕ) → self.old.packets.done ≡ Some s
+            → (result ≡ Turn.Done s) × (self.new ≡ self.old) }
+        ensures told { IsTrue I.tells → IsTrue O.tells → self.old.packets.done ≡ None
+            → GivesBy self.old.preparing E.tells self.old.packets result self.new.packets }
         ensures prepared { self.new.preparing ≡ None }
         ensures done { self.new.packets.done ≡ done_by result }
         ensures status { IsStatus result }
-        ensures turns { self.old.packets.done ≡ None → self.new.packets.turns ≡ self.old.packets.turns + 1 }
-        ensures few { self.old.packets.done ≡ None → self.new.packets.turns ≤ most_turns self.old.packets.machine.feed + 1 }
-        ensures reads { StepReadsBy self.old.preparing I.tells (turn_goes_on result) (machine_of self.old.packets) (machine_of self.new.packets) }
+        ensures turns { self.old.packets.done ≡ None → self.new.packets.turns
+            ≡ self.old.packets.turns + 1 }
+        ensures few { self.old.packets.done ≡ None → self.new.packets.turns ≤ most_turns
+            self.old.packets.machine.feed + 1 }
+        ensures reads { StepReadsBy self.old.preparing I.tells (turn_goes_on result)
+            (machine_of self.old.packets) (machine_of self.new.packets) }
         ensures light { IsLight self.new.packets.machine }
         ensures left { result ≡ Turn.More → command_left self.new < command_left self.old }
-        ensures names { self.new.packets.machine.drain.names ≡ self.old.packets.machine.drain.names }
-        ensures asked { self.old.preparing ≡ None → self.new.packets.machine.asked ≡ self.old.packets.machine.asked }
+        ensures names { self.new.packets.machine.drain.names
+            ≡ self.old.packets.machine.drain.names }
+        ensures asked { self.old.preparing ≡ None → self.new.packets.machine.asked
+            ≡ self.old.packets.machine.asked }
     {
         // Most steps have nothing to take; `take` would move the whole place each time.
         if self.preparation.is_none() {
@@ -221,7 +244,8 @@ fn prepare<I: Input, O: Output, E: Output, A: Allocator + Copy + Drop>(
     packets: &mut PacketJob<I, O, E, A>,
 ) -> Turn
     requires { IsReady (preparing_of preparation) packets.old }
-    ensures gives { IsTrue O.tells → Prepares (preparing_of preparation) E.tells packets.old result packets.new }
+    ensures gives { IsTrue O.tells → Prepares (preparing_of preparation) E.tells packets.old result
+        packets.new }
     ensures done { packets.new.done ≡ done_by result }
     ensures status { IsStatus result }
     ensures turns { packets.new.turns ≡ packets.old.turns + 1 }
@@ -253,7 +277,9 @@ where
     E: Output,
     A: Allocator + Copy + Drop,
     ensures status { result.0 ≤ 2 }
-    ensures told { IsTrue I.tells → IsTrue O.tells → job.packets.done ≡ None → RunsCommand E.tells job result.0 (seen (O.written result.1) (O.failures result.1)) (seen (E.written result.2) (E.failures result.2)) }
+    ensures told { IsTrue I.tells → IsTrue O.tells → job.packets.done ≡ None
+        → RunsCommand E.tells job result.0 (seen (O.written result.1) (O.failures result.1))
+        (seen (E.written result.2) (E.failures result.2)) }
 {
     loop {
         match job.step() {
@@ -266,10 +292,10 @@ where
     }
 }
 
-/// Runs a proper command. `names` are those of the inputs, then of the output. It answers the status, 0 where all went
-/// well, 1 where a fault was told and 2 where an expression or a listing is refused, and hands back the output and the
-/// messages' device. Where there is no memory to begin it nothing was read or written but a message. A message that can't
-/// be written is lost.
+/// Runs a proper command. `names` are those of the inputs, then of the output. It answers the
+/// status, 0 where all went well, 1 where a fault was told and 2 where an expression or a listing
+/// is refused, and hands back the output and the messages' device. Where there is no memory to
+/// begin it nothing was read or written but a message. A message that can't be written is lost.
 pub fn run<I, O, E, A>(
     alloc: A,
     command: Command<A>,
@@ -285,9 +311,14 @@ where
     A: Allocator + Copy + Drop,
     requires proper { is_proper command (vec_len inputs) ≡ true }
     ensures status { result.0 ≤ 2 }
-    ensures told { IsTrue I.tells → IsTrue O.tells → CommandRuns command (map string_bytes names.items)
-        (map (λ input. opened (I.unread input) (I.given input) (I.failures input) (I.never_fails input)) inputs.items)
-        E.tells (seen (O.written out) (O.failures out)) (O.room out) (seen (E.written err) (E.failures err)) result.0 (seen (O.written result.1) (O.failures result.1)) (seen (E.written result.2) (E.failures result.2)) }
+    ensures told { IsTrue I.tells → IsTrue O.tells → CommandRuns command
+        (map string_bytes names.items)
+        (map (λ input. opened (I.unread input) (I.given input) (I.failures input)
+        (I.never_fails input)) inputs.items)
+        E.tells (seen (O.written out) (O.failures out)) (O.room out)
+        (seen (E.written err) (E.failures err)) result.0
+        (seen (O.written result.1) (O.failures result.1))
+        (seen (E.written result.2) (E.failures result.2)) }
 {
     match Job::new(alloc, command, names, inputs, out, err) {
         Ok(job) => run_on(job),

@@ -1,11 +1,14 @@
 //! What becomes of each packet.
-ghost use Rattle.std.specs.Prelude.{◌≡◌, ℕ, ◌+◌, ◌-◌, ◌<◌, ◌≤◌, [], IfOk, None, Some, false, if◌then◌else◌, length};
-ghost use Rattle.cap_octet.specs.Packet.{captured};
+ghost use Rattle.std.specs.Prelude.{◌≡◌, ℕ, ◌+◌, ◌-◌, ◌<◌, ◌≤◌, [], IfOk, None, Some, false};
+ghost use Rattle.std.specs.Prelude.{if◌then◌else◌, length};
+ghost use Rattle.cap_octet.specs.Packet.{Captured, captured};
 ghost use Rattle.cap_io.specs.Reading.{most_in_unit};
 ghost use Rattle.cap_tools.specs.Compiling.{spent_in};
-ghost use Rattle.cap_job.specs.Feeding.{most_steps};
-ghost use Rattle.cap_job.specs.Judged.{is_last, judged};
-ghost use Rattle.cap_job.specs.Judging.{IsWindowFor, Keeps, asked_of, count_of, is_count, marks_in, most_spent, passing, programs_in, spent_by, stand_of, verdict_of, window_asked};
+ghost use Rattle.cap_job.specs.Feed.{most_steps};
+ghost use Rattle.cap_job.specs.Verdicts.{is_last, judged};
+ghost use Rattle.cap_job.specs.Judge.{IsWindowFor, Keeps, asked_of, count_of, is_count, marks_in};
+ghost use Rattle.cap_job.specs.Judge.{most_spent, passing, programs_in, spent_by, stand_of};
+ghost use Rattle.cap_job.specs.Judge.{verdict_of, window_asked};
 ghost use Rattle.cap_job.specs.Reports.{Tally, nothing_counted};
 ghost use Rattle.cap_window.specs.View.{window};
 
@@ -22,10 +25,11 @@ use std::marker::Model;
 const MOST_PACKETS: u128 = 0x8000_0000_0000_0000;
 
 /// What becomes of a packet that is not refused.
-pub enum Verdict<'a> {
-    Pass(Packet<'a>),
+#[derive(Clone, Copy)]
+pub enum Verdict {
+    Pass,
     /// It passes, and nothing behind it is read.
-    Last(Packet<'a>),
+    Last,
     Skip,
 }
 
@@ -53,13 +57,19 @@ pub struct Judge<A: Allocator> {
 impl<A: Allocator> Model for Judge<A> {
     ghost use Rattle.std.specs.Coded.{codes};
     ghost use Rattle.cap_tools.specs.Compiling.{expression_code};
-    ghost use Rattle.cap_job.specs.Judging.{IsWindowFor, JudgeView, asked_of, marks_in, programs_in, stand_of, window_asked};
+    ghost use Rattle.cap_job.specs.Judge.{IsWindowFor, JudgeView, asked_of, marks_in};
+    ghost use Rattle.cap_job.specs.Judge.{programs_in, stand_of, window_asked};
 
     ghost Value = { JudgeView };
 
     ghost coded = { Prim.hlevel (codes, expression_code) };
 
-    ghost view = { λ j. record { asked = asked_of j.rule; stand = stand_of j.passed (marks_in j.window) j.tally; programs = programs_in j.rule } };
+    ghost view = { λ j. record {
+      asked = asked_of j.rule;
+      stand = stand_of j.passed
+          (marks_in j.window) j.tally;
+      programs = programs_in j.rule;
+    } };
 
     ghost invariant = { λ j. IsWindowFor (window_asked (asked_of j.rule)) j.window };
 }
@@ -73,13 +83,6 @@ fn is_last(count: Option<u64>, passed: u64) -> bool
     }
 }
 
-/// The packet, where it passes.
-fn kept_if<'a>(passes: bool, packet: &Packet<'a>) -> Option<Packet<'a>>
-    ensures { result ≡ (if passes then Some packet.now else None) }
-{
-    if passes { Some(*packet) } else { None }
-}
-
 /// How many marks a window has for so many packets in a row, the last among them.
 fn window_for<A: Allocator>(alloc: A, packets: u32) -> Result<Window<A>, AllocError>
 where
@@ -90,33 +93,35 @@ where
 }
 
 impl<A: Allocator> Rule<A> {
-    /// The packet as it passes, or `None` where it doesn't. The errors are `LinkTypeNotFiltered`,
-    /// where an expression isn't read on its link type, and `TimeOutOfRange`.
-    fn kept<'a>(
+    /// Whether a packet passes, which is made what it passes as. The errors are
+    /// `LinkTypeNotFiltered`, where an expression isn't read on its link type, and
+    /// `TimeOutOfRange`.
+    fn keeps(
         &mut self,
         window: &mut Option<Window<A>>,
         number: u64,
-        packet: &Packet<'a>,
-    ) -> Result<Option<Packet<'a>>, Fault>
+        packet: &mut Packet<'_>,
+    ) -> Result<bool, Fault>
     where
         A: Copy + Drop,
-        requires short { length packet.now.bytes.now ≤ most_in_unit }
+        requires short { length packet.old.bytes.now ≤ most_in_unit }
         requires window { IsWindowFor (window_asked (asked_of self.old)) window.old }
         ensures told { (passed : ℕ) (tally : Tally) → is_count (asked_of self.old) ≡ false
-            → Keeps (count_of (asked_of self.old)) (judged (asked_of self.old) (stand_of passed (marks_in window.old) tally) number (captured packet.now)) result (stand_of passed (marks_in window.new) tally) }
+            → Keeps (count_of (asked_of self.old)) (judged (asked_of self.old)
+            (stand_of passed (marks_in window.old) tally) number (captured packet.old))
+            result (captured packet.new) (stand_of passed (marks_in window.new) tally) }
         ensures window { IsWindowFor (window_asked (asked_of self.old)) window.new }
         ensures asked { asked_of self.new ≡ asked_of self.old }
-        ensures spends { programs_in self.new ≡ spent_by (asked_of self.old) (captured packet.now) (programs_in self.old) }
-        ensures bounded { spent_in (programs_in self.new) ≤ spent_in (programs_in self.old) + most_spent (asked_of self.old) }
+        ensures spends { programs_in self.new ≡ spent_by (asked_of self.old) (captured packet.old)
+            (programs_in self.old) }
+        ensures bounded { spent_in (programs_in self.new) ≤ spent_in (programs_in self.old)
+            + most_spent (asked_of self.old) }
     {
         match self {
             Rule::Select(edit) => select(edit, window, number, packet),
-            Rule::Filter(filter, _) => {
-                let passes = filter.passes(packet)?;
-                Ok(kept_if(passes, packet))
-            }
-            Rule::Everything => Ok(Some(*packet)),
-            Rule::Count => Ok(None),
+            Rule::Filter(filter, _) => filter.passes(packet),
+            Rule::Everything => Ok(true),
+            Rule::Count => Ok(false),
         }
     }
 
@@ -156,15 +161,21 @@ impl<A: Allocator> Rule<A> {
 impl<A: Allocator> Judge<A> {
     ghost use Rattle.std.specs.Prelude.{IfOk};
     ghost use Rattle.cap_tools.specs.Printing.{programs_of, rule_of};
-    ghost use Rattle.cap_job.specs.Judged.{Filter as AskedFilter, verdict};
-    ghost use Rattle.cap_job.specs.Judging.{Closes, GrowsByOne, HasFewMarks, IsWithin, JudgeView, Tells, judge_stand, spent_by_verdict, stand_with};
+    ghost use Rattle.cap_job.specs.Verdicts.{Filter as AskedFilter, verdict};
+    ghost use Rattle.cap_job.specs.Judge.{Closes, GrowsByOne, HasFewMarks, IsWithin, JudgeView};
+    ghost use Rattle.cap_job.specs.Judge.{Tells, judge_stand, spent_by_verdict, stand_with};
 
     /// A judge that has met nothing. Where it looks for duplicates it takes the memory of their
     /// window here.
     pub fn new(alloc: A, rule: Rule<A>) -> Result<Self, AllocError>
     where
         A: Copy + Drop,
-        ensures { IfOk result (λ judge. judge ≡ record { asked = asked_of rule; stand = stand_with 0 nothing_counted; programs = programs_in rule }) }
+        ensures { IfOk result (λ judge. judge ≡ record {
+          asked = asked_of rule;
+          stand = stand_with 0
+              nothing_counted;
+          programs = programs_in rule;
+        }) }
     {
         let window = rule.window(alloc)?;
         Ok(Judge {
@@ -178,7 +189,12 @@ impl<A: Allocator> Judge<A> {
     /// A judge that has met nothing, by a filter, up to so many packets that pass where there is a
     /// number. It takes no memory.
     pub fn filtering(filter: Filter<A>, count: Option<u64>) -> Self
-        ensures { result ≡ record { asked = AskedFilter (rule_of filter) count; stand = stand_with 0 nothing_counted; programs = programs_of filter } }
+        ensures { result ≡ record {
+          asked = AskedFilter (rule_of filter) count;
+          stand = stand_with 0
+              nothing_counted;
+          programs = programs_of filter;
+        } }
     {
         Judge {
             rule: Rule::Filter(filter, count),
@@ -188,18 +204,21 @@ impl<A: Allocator> Judge<A> {
         }
     }
 
-    /// What becomes of the packet with this number.
-    pub fn judge<'a>(&mut self, number: u128, packet: &Packet<'a>) -> Result<Verdict<'a>, Fault>
+    /// What becomes of the packet with this number, which is made what it passes as.
+    pub fn judge(&mut self, number: u128, packet: &mut Packet<'_>) -> Result<Verdict, Fault>
     where
         A: Copy + Drop,
-        requires { length packet.now.bytes.now ≤ most_in_unit }
+        requires { length packet.old.bytes.now ≤ most_in_unit }
         ensures told { self.old.stand.passed < number → IsWithin most_steps self.old.stand.tally
-            → Tells (verdict self.old.asked self.old.stand number (captured packet.now)) result self.new.stand }
+            → Tells (verdict self.old.asked self.old.stand number (captured packet.old)) result
+            (captured packet.new) self.new.stand }
         ensures asked { self.new.asked ≡ self.old.asked }
         ensures passed { self.old.stand.passed ≤ number → self.new.stand.passed ≤ number }
         ensures counted { GrowsByOne self.old.stand.tally self.new.stand.tally }
-        ensures spends { self.new.programs ≡ spent_by_verdict self.old.asked number (captured packet.now) self.old.programs }
-        ensures bounded { spent_in self.new.programs ≤ spent_in self.old.programs + most_spent self.old.asked }
+        ensures spends { self.new.programs ≡ spent_by_verdict self.old.asked number
+            (captured packet.old) self.old.programs }
+        ensures bounded { spent_in self.new.programs ≤ spent_in self.old.programs + most_spent
+            self.old.asked }
         ensures few { HasFewMarks self.new.asked self.new.stand }
     {
         if self.rule.counts() {
@@ -210,20 +229,21 @@ impl<A: Allocator> Judge<A> {
             return Err(Fault::TooManyPackets);
         }
         let number = number as u64;
-        let Some(kept) = self.rule.kept(&mut self.window, number, packet)? else {
+        if !self.rule.keeps(&mut self.window, number, packet)? {
             return Ok(Verdict::Skip);
-        };
+        }
         let passed = self.passed;
         if passed < number {
             self.passed = passed + 1;
         }
         let last = is_last(self.rule.count(), self.passed);
-        Ok(passing(&kept, last))
+        Ok(passing(last))
     }
 
     /// What was counted of the input in hand, where packets are counted. The count begins anew.
     pub fn close(&mut self) -> Option<Tally>
-        ensures closes { Closes (is_count self.old.asked) (judge_stand self.old) result (judge_stand self.new) }
+        ensures closes { Closes (is_count self.old.asked) (judge_stand self.old) result
+            (judge_stand self.new) }
         ensures programs { self.new.programs ≡ self.old.programs }
         ensures few { HasFewMarks self.new.asked self.new.stand }
     {
@@ -236,12 +256,8 @@ impl<A: Allocator> Judge<A> {
     }
 }
 
-fn passing<'a>(packet: &Packet<'a>, last: bool) -> Verdict<'a>
-    ensures { verdict_of result ≡ passing (captured packet.now) last }
+fn passing(last: bool) -> Verdict
+    ensures { (p : Captured) → verdict_of result p ≡ passing p last }
 {
-    if last {
-        Verdict::Last(*packet)
-    } else {
-        Verdict::Pass(*packet)
-    }
+    if last { Verdict::Last } else { Verdict::Pass }
 }

@@ -1,19 +1,20 @@
 //! The steps of a job over its packets.
 ghost use Rattle.std.specs.Prelude.{◌≡◌, ◌+◌, ◌<◌, ◌≤◌, IsTrue, length, true};
+ghost use Rattle.cap_octet.specs.Packet.{captured};
 ghost use Rattle.cap_job.specs.Bounds.{HasFewInterfaces, IsBounded, IsLight};
-ghost use Rattle.cap_job.specs.Feeding.{most_steps};
-ghost use Rattle.cap_job.specs.Draining.{Lists};
-ghost use Rattle.cap_job.specs.Starting.{asking};
+ghost use Rattle.cap_job.specs.Feed.{most_steps};
+ghost use Rattle.cap_job.specs.Drain.{Lists};
+ghost use Rattle.cap_job.specs.FirstStep.{asking};
 ghost use Rattle.cap_tools.specs.Printing.{programs_of, rule_of};
-ghost use Rattle.cap_job.specs.Judged.{Filter as AskedFilter};
-ghost use Rattle.cap_job.specs.Judging.{GrowsByOne, HasFewMarks, IsWithin, judge_stand};
-ghost use Rattle.cap_job.specs.Working.{Closes, Decides, Offers, Spends, machine_stand, unwritten};
+ghost use Rattle.cap_job.specs.Verdicts.{Filter as AskedFilter};
+ghost use Rattle.cap_job.specs.Judge.{GrowsByOne, HasFewMarks, IsWithin, judge_stand};
+ghost use Rattle.cap_job.specs.Machine.{Closes, Decides, Offers, Spends, machine_stand, unwritten};
 
 use crate::drain::Drain;
 use crate::feed::{Feed, Head, Next};
 use crate::judge::{Judge, Verdict};
 use crate::report::Report;
-use cap_octet::{Fault, Input, Output, Stopped};
+use cap_octet::{Fault, Input, Output, Packet, Stopped};
 use cap_tools::filter::Filter;
 use flt_bpf::Program;
 use std::alloc::Allocator;
@@ -52,38 +53,46 @@ impl<I: Input, O: Output, A: Allocator> Model for Machine<I, O, A> {
     ghost use Rattle.std.specs.Coded.{codes};
     ghost use Rattle.cap_tools.specs.Compiling.{expression_code};
     ghost use Rattle.cap_job.specs.Bounds.{IsBounded};
-    ghost use Rattle.cap_job.specs.Feeding.{feed_left, most_steps};
-    ghost use Rattle.cap_job.specs.Judging.{HasFewMarks};
-    ghost use Rattle.cap_job.specs.Working.{MachineView};
+    ghost use Rattle.cap_job.specs.Feed.{feed_left, most_steps};
+    ghost use Rattle.cap_job.specs.Judge.{HasFewMarks};
+    ghost use Rattle.cap_job.specs.Machine.{MachineView};
 
     ghost Value = { MachineView };
 
     ghost coded = { Prim.hlevel (codes, expression_code) };
 
-    ghost view = { λ m. record { feed = m.feed; asked = m.judge.asked; stand = m.judge.stand; drain = m.drain; decided = m.decided; programs = m.judge.programs } };
+    ghost view = { λ m. record {
+      feed = m.feed;
+      asked = m.judge.asked;
+      stand = m.judge.stand;
+      drain = m.drain;
+      decided = m.decided;
+      programs = m.judge.programs;
+    } };
 
-    ghost invariant = { λ m. (m.decided + feed_left m.feed ≤ most_steps) × IsBounded m.feed m.drain × HasFewMarks m.judge.asked m.judge.stand };
+    ghost invariant = { λ m. (m.decided + feed_left m.feed ≤ most_steps) × IsBounded m.feed m.drain
+        × HasFewMarks m.judge.asked m.judge.stand };
 }
 
 /// Writes a packet that passes, and answers whether it is the last.
 fn put<O: Output, A: Allocator>(
-    verdict: Verdict<'_>,
+    verdict: Verdict,
+    packet: &Packet<'_>,
     drain: &mut Drain<O, A>,
 ) -> Result<bool, Fault>
-    ensures told { IsTrue O.tells → Offers verdict.entry drain.old result drain.new }
+    ensures told { IsTrue O.tells → Offers verdict (captured packet.now) drain.old result
+        drain.new }
     ensures few { HasFewInterfaces drain.old.target → HasFewInterfaces drain.new.target }
     ensures names { drain.new.names ≡ drain.old.names }
 {
-    match verdict {
-        Verdict::Pass(packet) => match drain.put(&packet) {
-            Ok(()) => Ok(false),
-            Err(fault) => Err(fault),
-        },
-        Verdict::Last(packet) => match drain.put(&packet) {
-            Ok(()) => Ok(true),
-            Err(fault) => Err(fault),
-        },
-        Verdict::Skip => Ok(false),
+    let last = match verdict {
+        Verdict::Pass => false,
+        Verdict::Last => true,
+        Verdict::Skip => return Ok(false),
+    };
+    match drain.put(packet) {
+        Ok(()) => Ok(last),
+        Err(fault) => Err(fault),
     }
 }
 
@@ -95,8 +104,10 @@ fn decide<I: Input, O: Output, A: Allocator + Copy + Drop>(
     number: u128,
 ) -> Result<bool, Fault>
     requires { head.now.waiting ≡ true }
-    ensures told { IsTrue O.tells → judge.old.stand.passed < number → IsWithin most_steps judge.old.stand.tally
-        → Decides head.now.source.packet (judge_stand judge.old) number drain.old result (judge_stand judge.new) drain.new }
+    ensures told { IsTrue O.tells → judge.old.stand.passed < number
+        → IsWithin most_steps judge.old.stand.tally
+        → Decides head.now.source.packet (judge_stand judge.old) number drain.old result
+        (judge_stand judge.new) drain.new }
     ensures asked { judge.new.asked ≡ judge.old.asked }
     ensures spends { Spends head.now.source.packet judge.old number judge.new }
     ensures passed { judge.old.stand.passed ≤ number → judge.new.stand.passed ≤ number }
@@ -105,9 +116,9 @@ fn decide<I: Input, O: Output, A: Allocator + Copy + Drop>(
     ensures few { HasFewInterfaces drain.old.target → HasFewInterfaces drain.new.target }
     ensures names { drain.new.names ≡ drain.old.names }
 {
-    let packet = head.packet().unwrap();
-    let verdict = judge.judge(number, &packet)?;
-    put(verdict, drain)
+    let mut packet = head.packet().unwrap();
+    let verdict = judge.judge(number, &mut packet)?;
+    put(verdict, &packet, drain)
 }
 
 /// Reports an input that was read to its end, where files are counted, one behind another.
@@ -118,10 +129,12 @@ fn close<I: Input, O: Output, A: Allocator>(
     drain: &mut Drain<O, A>,
 ) -> Progress
     requires { input < length feed.now.heads }
-    ensures told { IsTrue O.tells → Closes feed.now input (judge_stand judge.old) drain.old result (judge_stand judge.new) drain.new }
+    ensures told { IsTrue O.tells → Closes feed.now input (judge_stand judge.old) drain.old result
+        (judge_stand judge.new) drain.new }
     ensures programs { judge.new.programs ≡ judge.old.programs }
     ensures asked { judge.new.asked ≡ judge.old.asked }
-    ensures marks { HasFewMarks judge.old.asked judge.old.stand → HasFewMarks judge.new.asked judge.new.stand }
+    ensures marks { HasFewMarks judge.old.asked judge.old.stand
+        → HasFewMarks judge.new.asked judge.new.stand }
     ensures few { HasFewInterfaces drain.old.target → HasFewInterfaces drain.new.target }
     ensures names { drain.new.names ≡ drain.old.names }
 {
@@ -156,18 +169,25 @@ fn unwritten(input: usize, fault: Fault) -> End
 impl<I: Input, O: Output, A: Allocator + Copy + Drop> Machine<I, O, A> {
     ghost use Rattle.std.specs.Prelude.{◌≡◌, ◌<◌, ◌≤◌, IsTrue, length};
     ghost use Rattle.cap_job.specs.Bounds.{IsBounded, IsLight, IsPaid, StepReads, goes_on};
-    ghost use Rattle.cap_job.specs.Draining.{failures_to, written_to};
-    ghost use Rattle.cap_job.specs.Feeding as feeding;
-    ghost use Rattle.cap_job.specs.Feeding.{feed_left, most_steps};
+    ghost use Rattle.cap_job.specs.Drain.{failures_to, written_to};
+    ghost use Rattle.cap_job.specs.Feed as feeding;
+    ghost use Rattle.cap_job.specs.Feed.{feed_left, most_steps};
     ghost use Rattle.cap_job.specs.Reports.{name_at};
-    ghost use Rattle.cap_job.specs.Working.{StepGives, machine_stand};
+    ghost use Rattle.cap_job.specs.Machine.{StepGives, machine_stand};
 
     /// A job of which nothing is done.
     pub fn new(feed: Feed<I, A>, judge: Judge<A>, drain: Drain<O, A>) -> Self
         requires left { feed_left feed ≤ most_steps }
         requires bounded { IsBounded feed drain }
         requires few { HasFewMarks judge.asked judge.stand }
-        ensures { result ≡ record { feed = feed; asked = judge.asked; stand = judge.stand; drain = drain; decided = 0; programs = judge.programs } }
+        ensures { result ≡ record {
+          feed = feed;
+          asked = judge.asked;
+          stand = judge.stand;
+          drain = drain;
+          decided = 0;
+          programs = judge.programs;
+        } }
     {
         Machine {
             feed,
@@ -194,7 +214,8 @@ impl<I: Input, O: Output, A: Allocator + Copy + Drop> Machine<I, O, A> {
     /// From here on packets are judged by this filter, up to so many that pass where there is a
     /// number.
     pub fn judge_by(&mut self, filter: Filter<A>, count: Option<u64>)
-        ensures stand { machine_stand self.new ≡ asking (AskedFilter (rule_of filter) count) (machine_stand self.old) }
+        ensures stand { machine_stand self.new ≡ asking (AskedFilter (rule_of filter) count)
+            (machine_stand self.old) }
         ensures programs { self.new.programs ≡ programs_of filter }
         ensures light { IsLight (machine_stand self.new) }
     {
@@ -203,7 +224,8 @@ impl<I: Input, O: Output, A: Allocator + Copy + Drop> Machine<I, O, A> {
 
     /// Writes the listing of a program, where text is written.
     pub fn list(&mut self, program: &Program<A>) -> Result<(), Stopped>
-        ensures told { IsTrue O.tells → Lists program.now.insns self.old.drain result self.new.drain }
+        ensures told { IsTrue O.tells → Lists program.now.insns self.old.drain result
+            self.new.drain }
         ensures feed { self.new.feed ≡ self.old.feed }
         ensures decided { self.new.decided ≡ self.old.decided }
         ensures light { IsLight (machine_stand self.new) }
@@ -226,10 +248,12 @@ impl<I: Input, O: Output, A: Allocator + Copy + Drop> Machine<I, O, A> {
 
     /// Reads one input on, decides one packet, or ends the output.
     pub fn step(&mut self) -> Progress
-        ensures told { IsTrue I.tells → IsTrue O.tells → StepGives (machine_stand self.old) result (machine_stand self.new) }
+        ensures told { IsTrue I.tells → IsTrue O.tells → StepGives (machine_stand self.old) result
+            (machine_stand self.new) }
         ensures asked { self.new.asked ≡ self.old.asked }
         ensures names { self.new.drain.names ≡ self.old.drain.names }
-        ensures progress { result ≡ Progress.More → feed_left self.new.feed < feed_left self.old.feed }
+        ensures progress { result ≡ Progress.More → feed_left self.new.feed
+            < feed_left self.old.feed }
         ensures reads { StepReads I.tells (goes_on result) self.old self.new }
         ensures light { IsLight (machine_stand self.new) }
         ensures paid { result ≡ Progress.More → IsPaid self.old.feed self.new.feed }
@@ -245,10 +269,12 @@ impl<I: Input, O: Output, A: Allocator + Copy + Drop> Machine<I, O, A> {
     fn answer(&mut self, input: usize) -> Progress
         requires next { feeding.Tells self.old.feed.place self.old.feed.heads (Next.Answer input) }
         requires within { input < length self.old.feed.heads }
-        ensures told { IsTrue I.tells → IsTrue O.tells → StepGives (machine_stand self.old) result (machine_stand self.new) }
+        ensures told { IsTrue I.tells → IsTrue O.tells → StepGives (machine_stand self.old) result
+            (machine_stand self.new) }
         ensures asked { self.new.asked ≡ self.old.asked }
         ensures names { self.new.drain.names ≡ self.old.drain.names }
-        ensures progress { result ≡ Progress.More → feed_left self.new.feed < feed_left self.old.feed }
+        ensures progress { result ≡ Progress.More → feed_left self.new.feed
+            < feed_left self.old.feed }
         ensures reads { StepReads I.tells (goes_on result) self.old self.new }
         ensures light { IsLight (machine_stand self.new) }
         ensures paid { result ≡ Progress.More → IsPaid self.old.feed self.new.feed }
@@ -277,10 +303,12 @@ impl<I: Input, O: Output, A: Allocator + Copy + Drop> Machine<I, O, A> {
     fn fetch(&mut self, input: usize) -> Progress
         requires next { feeding.Tells self.old.feed.place self.old.feed.heads (Next.Read input) }
         requires within { input < length self.old.feed.heads }
-        ensures told { IsTrue I.tells → IsTrue O.tells → StepGives (machine_stand self.old) result (machine_stand self.new) }
+        ensures told { IsTrue I.tells → IsTrue O.tells → StepGives (machine_stand self.old) result
+            (machine_stand self.new) }
         ensures asked { self.new.asked ≡ self.old.asked }
         ensures names { self.new.drain.names ≡ self.old.drain.names }
-        ensures progress { result ≡ Progress.More → feed_left self.new.feed < feed_left self.old.feed }
+        ensures progress { result ≡ Progress.More → feed_left self.new.feed
+            < feed_left self.old.feed }
         ensures reads { StepReads I.tells (goes_on result) self.old self.new }
         ensures light { IsLight (machine_stand self.new) }
         ensures paid { result ≡ Progress.More → IsPaid self.old.feed self.new.feed }
@@ -295,10 +323,12 @@ impl<I: Input, O: Output, A: Allocator + Copy + Drop> Machine<I, O, A> {
     /// Ends the output.
     fn finish(&mut self) -> Progress
         requires next { feeding.Tells self.old.feed.place self.old.feed.heads Next.Nothing }
-        ensures told { IsTrue I.tells → IsTrue O.tells → StepGives (machine_stand self.old) result (machine_stand self.new) }
+        ensures told { IsTrue I.tells → IsTrue O.tells → StepGives (machine_stand self.old) result
+            (machine_stand self.new) }
         ensures asked { self.new.asked ≡ self.old.asked }
         ensures names { self.new.drain.names ≡ self.old.drain.names }
-        ensures progress { result ≡ Progress.More → feed_left self.new.feed < feed_left self.old.feed }
+        ensures progress { result ≡ Progress.More → feed_left self.new.feed
+            < feed_left self.old.feed }
         ensures reads { StepReads I.tells (goes_on result) self.old self.new }
         ensures light { IsLight (machine_stand self.new) }
         ensures paid { result ≡ Progress.More → IsPaid self.old.feed self.new.feed }

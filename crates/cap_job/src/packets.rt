@@ -1,13 +1,14 @@
 //! Whole jobs, step by step.
-ghost use Rattle.std.specs.Prelude.{ℕ, ◌≡◌, ◌+◌, ◌<◌, ◌≤◌, [], IsTrue, None, Some, length, map, true};
+ghost use Rattle.std.specs.Prelude.{ℕ, ◌≡◌, ◌+◌, ◌<◌, ◌≤◌, [], IsTrue, None, Some, length, map};
+ghost use Rattle.std.specs.Prelude.{true};
 ghost use Rattle.std.specs.String.{string_bytes};
 ghost use Rattle.cap_octet.specs.Device.{AppendsOrStops, failures_of};
 ghost use Rattle.cap_tools.specs.Running.{seen};
 ghost use Rattle.cap_job.specs.Bounds.{IsLight, ReadsNothing, StepReads, most_turns};
-ghost use Rattle.cap_job.specs.Feeding.{feed_left};
-ghost use Rattle.cap_job.specs.Judging.{asked_of, programs_in};
-ghost use Rattle.cap_job.specs.Working.{machine_stand};
-ghost use Rattle.cap_job.specs.Starting.{ListsInto, is_text, output_by};
+ghost use Rattle.cap_job.specs.Feed.{feed_left};
+ghost use Rattle.cap_job.specs.Judge.{asked_of, programs_in};
+ghost use Rattle.cap_job.specs.Machine.{machine_stand};
+ghost use Rattle.cap_job.specs.FirstStep.{ListsInto, is_text, output_by};
 ghost use Rattle.cap_job.specs.Jobs.{end_status, end_text, most_inputs, opened, order_of};
 
 use crate::drain::{Drain, Writing};
@@ -54,17 +55,24 @@ impl<I: Input, O: Output, E: Output, A: Allocator> Model for PacketJob<I, O, E, 
     ghost use Rattle.cap_tools.specs.Compiling.{expression_code};
     ghost use Rattle.cap_tools.specs.Running.{seen};
     ghost use Rattle.cap_job.specs.Bounds.{HasFewTurns, IsLight};
-    ghost use Rattle.cap_job.specs.Feeding.{feed_left};
+    ghost use Rattle.cap_job.specs.Feed.{feed_left};
     ghost use Rattle.cap_job.specs.Jobs.{JobView, IsCounted};
-    ghost use Rattle.cap_job.specs.Working.{machine_stand};
+    ghost use Rattle.cap_job.specs.Machine.{machine_stand};
 
     ghost Value = { JobView };
 
     ghost coded = { Prim.hlevel (codes, expression_code) };
 
-    ghost view = { λ j. record { machine = machine_stand j.machine; programs = j.machine.programs; err = seen (E.written j.err) (E.failures j.err); turns = j.turns; done = j.done } };
+    ghost view = { λ j. record {
+      machine = machine_stand j.machine;
+      programs = j.machine.programs;
+      err = seen (E.written j.err) (E.failures j.err);
+      turns = j.turns;
+      done = j.done;
+    } };
 
-    ghost invariant = { λ j. IsCounted j.done j.turns (feed_left j.machine.feed) × HasFewTurns j.done j.turns j.machine.feed × IsLight (machine_stand j.machine) };
+    ghost invariant = { λ j. IsCounted j.done j.turns (feed_left j.machine.feed)
+        × HasFewTurns j.done j.turns j.machine.feed × IsLight (machine_stand j.machine) };
 }
 
 /// Tells how a job ended.
@@ -73,7 +81,8 @@ fn tell<I: Input, O: Output, E: Output, A: Allocator + Copy + Drop>(
     machine: &Machine<I, O, A>,
     end: End,
 ) -> Result<(), DeviceFault>
-    ensures told { IsTrue E.tells → AppendsOrStops result (E.written err.old) (end_text machine.now.drain.names machine.now.feed.heads end) (E.written err.new) }
+    ensures told { IsTrue E.tells → AppendsOrStops result (E.written err.old)
+        (end_text machine.now.drain.names machine.now.feed.heads end) (E.written err.new) }
     ensures failed { E.failures err.new ≡ E.failures err.old + failures_of result }
     ensures quiet { end ≡ End.Clean → err.new ≡ err.old }
 {
@@ -96,7 +105,8 @@ fn status_of(end: End) -> u8
     }
 }
 
-/// Writes the listing of a program, and answers the status. A message that can't be written is lost.
+/// Writes the listing of a program, and answers the status. A message that can't be written is
+/// lost.
 fn list<I: Input, O: Output, E: Output, A: Allocator + Copy + Drop>(
     machine: &mut Machine<I, O, A>,
     err: &mut E,
@@ -104,7 +114,9 @@ fn list<I: Input, O: Output, E: Output, A: Allocator + Copy + Drop>(
 ) -> u8
     requires { is_text machine.old.drain.target ≡ true }
     ensures status { result ≤ 2 }
-    ensures told { IsTrue O.tells → ListsInto program.now.insns E.tells (machine_stand machine.old) (seen (E.written err.old) (E.failures err.old)) result (machine_stand machine.new) (seen (E.written err.new) (E.failures err.new)) }
+    ensures told { IsTrue O.tells → ListsInto program.now.insns E.tells (machine_stand machine.old)
+        (seen (E.written err.old) (E.failures err.old)) result (machine_stand machine.new)
+        (seen (E.written err.new) (E.failures err.new)) }
     ensures feed { machine.new.feed ≡ machine.old.feed }
     ensures decided { machine.new.decided ≡ machine.old.decided }
     ensures light { IsLight (machine_stand machine.new) }
@@ -126,12 +138,13 @@ impl<I: Input, O: Output, E: Output, A: Allocator + Copy + Drop> PacketJob<I, O,
     ghost use Rattle.std.specs.Prelude.{true};
     ghost use Rattle.cap_tools.specs.Messages.{refusal_status};
     ghost use Rattle.cap_tools.specs.Printing.{programs_of, rule_of};
-    ghost use Rattle.cap_job.specs.Jobs.{IsStatus, JobGives, done_by, job_first, machine_of, turn_goes_on};
-    ghost use Rattle.cap_job.specs.Starting.{EndsList, IsFresh, Refuses, filtering, is_text};
-    ghost use Rattle.cap_job.specs.Working.{failures_by, written_by};
+    ghost use Rattle.cap_job.specs.Jobs.{IsStatus, JobGives, done_by, job_first, machine_of};
+    ghost use Rattle.cap_job.specs.Jobs.{turn_goes_on};
+    ghost use Rattle.cap_job.specs.FirstStep.{EndsList, IsFresh, Refuses, filtering, is_text};
+    ghost use Rattle.cap_job.specs.Machine.{failures_by, written_by};
 
-    /// A job over inputs, one behind another or merged. `names` are those of the inputs, then of the output. Where there
-    /// is no memory nothing was read or written.
+    /// A job over inputs, one behind another or merged. `names` are those of the inputs, then of
+    /// the output. Where there is no memory nothing was read or written.
     pub fn new(
         alloc: A,
         work: Work<A>,
@@ -144,8 +157,11 @@ impl<I: Input, O: Output, E: Output, A: Allocator + Copy + Drop> PacketJob<I, O,
         I: Drop,
         requires few { length inputs.items ≤ most_inputs }
         requires programs { programs_in work.rule ≡ [] }
-        ensures fresh { IfOk result (λ job. job ≡ job_first (order_of work.merges) (asked_of work.rule) work.writing (map string_bytes names.items)
-            (map (λ input. opened (I.unread input) (I.given input) (I.failures input) (I.never_fails input)) inputs.items) (seen (O.written out) (O.failures out)) (O.room out) (seen (E.written err) (E.failures err))) }
+        ensures fresh { IfOk result (λ job. job ≡ job_first (order_of work.merges)
+            (asked_of work.rule) work.writing (map string_bytes names.items)
+            (map (λ input. opened (I.unread input) (I.given input) (I.failures input)
+            (I.never_fails input)) inputs.items) (seen (O.written out) (O.failures out))
+            (O.room out) (seen (E.written err) (E.failures err))) }
         ensures refused { IfErr result (λ devices. (devices.0 ≡ out) × (devices.1 ≡ err)) }
     {
         let Some(feed) = Feed::new(alloc, inputs, work.merges) else {
@@ -164,19 +180,24 @@ impl<I: Input, O: Output, E: Output, A: Allocator + Copy + Drop> PacketJob<I, O,
         })
     }
 
-    /// One step on: reads one input on, decides one packet or ends the output, and tells how the job ended where it
-    /// did. A message that can't be written is lost.
+    /// One step on: reads one input on, decides one packet or ends the output, and tells how the
+    /// job ended where it did. A message that can't be written is lost.
     pub fn step(&mut self) -> Turn
-        ensures after { (s : ℕ) → self.old.done ≡ Some s → (result ≡ Turn.Done s) × (self.new ≡ self.old) }
-        ensures told { IsTrue I.tells → IsTrue O.tells → self.old.done ≡ None → JobGives E.tells self.old result self.new }
+        ensures after { (s : ℕ) → self.old.done ≡ Some s → (result ≡ Turn.Done s)
+            × (self.new ≡ self.old) }
+        ensures told { IsTrue I.tells → IsTrue O.tells → self.old.done ≡ None
+            → JobGives E.tells self.old result self.new }
         ensures done { self.new.done ≡ done_by result }
         ensures status { IsStatus result }
         ensures turns { self.old.done ≡ None → self.new.turns ≡ self.old.turns + 1 }
         ensures few { self.old.done ≡ None → self.new.turns ≤ most_turns self.old.machine.feed + 1 }
-        ensures reads { StepReads I.tells (turn_goes_on result) (machine_of self.old) (machine_of self.new) }
+        ensures reads { StepReads I.tells (turn_goes_on result) (machine_of self.old)
+            (machine_of self.new) }
         ensures light { IsLight self.new.machine }
-        ensures left { result ≡ Turn.More → (self.new.turns ≡ self.old.turns + 1) × (feed_left self.new.machine.feed < feed_left self.old.machine.feed) }
-        ensures kept { (self.new.machine.drain.names ≡ self.old.machine.drain.names) × (self.new.machine.asked ≡ self.old.machine.asked) }
+        ensures left { result ≡ Turn.More → (self.new.turns ≡ self.old.turns + 1)
+            × (feed_left self.new.machine.feed < feed_left self.old.machine.feed) }
+        ensures kept { (self.new.machine.drain.names ≡ self.old.machine.drain.names)
+            × (self.new.machine.asked ≡ self.old.machine.asked) }
     {
         if let Some(status) = self.done {
             return Turn::Done(status);
@@ -197,7 +218,8 @@ impl<I: Input, O: Output, E: Output, A: Allocator + Copy + Drop> PacketJob<I, O,
     pub(crate) fn filter(&mut self, filter: Filter<A>, count: Option<u64>) -> Turn
         requires { IsFresh self.old }
         ensures more { result ≡ Turn.More }
-        ensures filtered { self.new ≡ filtering (rule_of filter) count (programs_of filter) self.old }
+        ensures filtered { self.new ≡ filtering (rule_of filter) count (programs_of filter)
+            self.old }
         ensures light { IsLight self.new.machine }
     {
         self.machine.judge_by(filter, count);
@@ -224,7 +246,8 @@ impl<I: Input, O: Output, E: Output, A: Allocator + Copy + Drop> PacketJob<I, O,
     pub(crate) fn list(&mut self, program: &Program<A>) -> Turn
         requires fresh { IsFresh self.old }
         requires text { is_text self.old.machine.drain.target ≡ true }
-        ensures told { IsTrue O.tells → EndsList program.now.insns E.tells self.old result self.new }
+        ensures told { IsTrue O.tells → EndsList program.now.insns E.tells self.old result
+            self.new }
         ensures done { self.new.done ≡ done_by result }
         ensures status { IsStatus result }
         ensures turns { self.new.turns ≡ self.old.turns + 1 }

@@ -11,7 +11,8 @@ pub struct Waiting {
     pub input: usize,
 }
 
-/// The inputs that wait, each at most once. The first is the one with the least time, and of equal times the lowest input.
+/// The inputs that wait, each at most once. The first is the one with the least time, and of equal
+/// times the lowest input.
 #[derive(Drop)]
 pub struct Queue<A: Allocator> {
     heap: BinaryHeap<Reverse<Waiting>, A>,
@@ -26,7 +27,8 @@ impl<A: Allocator> Model for Queue<A> {
 
     ghost view = { λ q. queue (map (λ r. r.0) (heap_items q.heap)) (heap_capacity q.heap) };
 
-    ghost invariant = { λ q. IsHeap ⟦<Reverse<Waiting> as Ord>⟧.cmp (heap_items q.heap) × IsOnceEach (map (λ r. r.0) (heap_items q.heap)) };
+    ghost invariant = { λ q. IsHeap ⟦<Reverse<Waiting> as Ord>⟧.cmp (heap_items q.heap)
+        × IsOnceEach (map (λ r. r.0) (heap_items q.heap)) };
 }
 
 impl<A: Allocator> Queue<A> {
@@ -66,8 +68,10 @@ impl<A: Allocator> Queue<A> {
 
     /// Takes out the input that comes first.
     pub fn take(&mut self) -> Option<Waiting>
-        ensures waiting { MatchOption result (self.old.waiting ≡ []) (λ w. IsPermutation self.old.waiting (w ∷ self.new.waiting)) }
-        ensures first { MatchOption result (self.new.waiting ≡ []) (λ w. All (Precedes w) self.new.waiting) }
+        ensures waiting { MatchOption result (self.old.waiting ≡ [])
+            (λ w. IsPermutation self.old.waiting (w ∷ self.new.waiting)) }
+        ensures first { MatchOption result (self.new.waiting ≡ [])
+            (λ w. All (Precedes w) self.new.waiting) }
         ensures room { self.old.room ≤ self.new.room }
     {
         let Some(Reverse(first)) = self.heap.pop() else {

@@ -1,7 +1,8 @@
 //! The report of a file.
 ghost use Rattle.std.specs.Prelude.{◌≡◌, ◌+◌, ◌==◌, [], ◌∷◌, IsTrue, codes, if◌then◌else◌};
 ghost use Rattle.cap_octet.specs.Device.{AppendsOrStops, failures_of};
-ghost use Rattle.cap_job.specs.Reports.{file_report, kind_name, lines, size_lines, time_lines, yes_or_no};
+ghost use Rattle.cap_job.specs.Reports.{file_report, kind_name, lines, size_lines, time_lines};
+ghost use Rattle.cap_job.specs.Reports.{yes_or_no};
 
 use crate::tally::Tally;
 use cap_io::Kind;
@@ -19,15 +20,16 @@ pub struct Report {
     pub tally: Tally,
 }
 
-/// Writes the report of the file of this name. An error is a failure of the device in this call, after a beginning of
-/// the report that isn't the whole.
+/// Writes the report of the file of this name. An error is a failure of the device in this call,
+/// after a beginning of the report that isn't the whole.
 pub fn write_report<O: Output>(
     output: &mut O,
     name: &str,
     report: &Report,
 ) -> Result<(), DeviceFault>
     ensures told { IsTrue O.tells → AppendsOrStops result (O.written output.old)
-        (file_report name.now report.now.kind report.now.size report.now.tally) (O.written output.new) }
+        (file_report name.now report.now.kind report.now.size report.now.tally)
+        (O.written output.new) }
     ensures failed { O.failures output.new ≡ O.failures output.old + failures_of result }
     ensures room { O.room output.new ≡ O.room output.old }
 {
@@ -49,7 +51,8 @@ fn kind_name(kind: Option<Kind>) -> &'static [u8]
 }
 
 fn write_name<O: Output>(output: &mut O, name: &str) -> Result<(), DeviceFault>
-    ensures told { IsTrue O.tells → AppendsOrStops result (O.written output.old) (lines ((codes "File", name.now) ∷ []) []) (O.written output.new) }
+    ensures told { IsTrue O.tells → AppendsOrStops result (O.written output.old)
+        (lines ((codes "File", name.now) ∷ []) []) (O.written output.new) }
     ensures failed { O.failures output.new ≡ O.failures output.old + failures_of result }
     ensures room { O.room output.new ≡ O.room output.old }
 {
@@ -60,7 +63,8 @@ fn write_name<O: Output>(output: &mut O, name: &str) -> Result<(), DeviceFault>
 /// Writes the lines on a file's format, its size and the sizes of its packets.
 fn write_sizes<O: Output>(output: &mut O, report: &Report) -> Result<(), DeviceFault>
     ensures told { IsTrue O.tells → AppendsOrStops result (O.written output.old)
-        (lines (size_lines report.now.kind report.now.size report.now.tally) []) (O.written output.new) }
+        (lines (size_lines report.now.kind report.now.size report.now.tally) [])
+        (O.written output.new) }
     ensures failed { O.failures output.new ≡ O.failures output.old + failures_of result }
     ensures room { O.room output.new ≡ O.room output.old }
 {

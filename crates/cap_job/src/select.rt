@@ -2,8 +2,9 @@
 ghost use Rattle.std.specs.Prelude.{ℕ, ◌≡◌, ◌^◌, ◌<◌, ◌≤◌, IfSome, None, Ok, Option, length};
 ghost use Rattle.cap_octet.specs.Packet.{captured};
 ghost use Rattle.cap_io.specs.Reading.{most_in_unit};
-ghost use Rattle.cap_job.specs.Judged.{changed, is_before, is_from, is_selected, moved, selects, snapped, unique, without_first, without_last};
-ghost use Rattle.cap_job.specs.Judging.{IsWindowFor, Keeps, marks_in, selection_of, stand_of};
+ghost use Rattle.cap_job.specs.Verdicts.{changed, is_before, is_from, is_selected, moved, selects};
+ghost use Rattle.cap_job.specs.Verdicts.{snapped, unique, without_first, without_last};
+ghost use Rattle.cap_job.specs.Judge.{IsWindowFor, Keeps, marks_in, selection_of, stand_of};
 ghost use Rattle.cap_job.specs.Edits.{PassesUnique};
 ghost use Rattle.cap_job.specs.Reports.{Tally};
 
@@ -103,50 +104,44 @@ fn changed<'a, A: Allocator>(edit: &Edit<A>, packet: &Packet<'a>, time: u64) -> 
     }
 }
 
-/// The packet, unless it is a duplicate. Its mark enters the window in either case.
-fn unless_duplicate<'a, A: Allocator>(
-    window: &mut Option<Window<A>>,
-    packet: &Packet<'a>,
-) -> Option<Packet<'a>>
+/// Whether a packet is no duplicate. Its mark enters the window in either case.
+fn is_unique<A: Allocator>(window: &mut Option<Window<A>>, packet: &Packet<'_>) -> bool
     requires { length packet.now.bytes.now ≤ most_in_unit }
     ensures told { (n : Option ℕ) (passed : ℕ) (tally : Tally) → IsWindowFor n window.old
-        → Keeps None (unique n (stand_of passed (marks_in window.old) tally) (captured packet.now)) (Ok result) (stand_of passed (marks_in window.new) tally) }
+        → Keeps None (unique n (stand_of passed (marks_in window.old) tally) (captured packet.now))
+        (Ok result) (captured packet.now) (stand_of passed (marks_in window.new) tally) }
     ensures window { (n : Option ℕ) → IsWindowFor n window.old → IsWindowFor n window.new }
 {
     match window {
-        Some(window) => {
-            if window.seen_before(packet.bytes) {
-                None
-            } else {
-                Some(*packet)
-            }
-        }
-        None => Some(*packet),
+        Some(window) => !window.seen_before(packet.bytes),
+        None => true,
     }
 }
 
-/// The packet as it passes: selected by its number and its time, cut and moved. `None` where it
-/// isn't selected or is a duplicate. The one error is `TimeOutOfRange`.
-pub(crate) fn select<'a, A: Allocator>(
+/// Whether a packet passes: it is selected by its number and its time, cut and moved, and no
+/// duplicate. It is made what it passes as. The one error is `TimeOutOfRange`.
+pub(crate) fn select<A: Allocator>(
     edit: &Edit<A>,
     window: &mut Option<Window<A>>,
     number: u64,
-    packet: &Packet<'a>,
-) -> Result<Option<Packet<'a>>, Fault>
-    requires short { length packet.now.bytes.now ≤ most_in_unit }
+    packet: &mut Packet<'_>,
+) -> Result<bool, Fault>
+    requires short { length packet.old.bytes.now ≤ most_in_unit }
     requires window { IsWindowFor edit.now.window window.old }
     ensures told { (passed : ℕ) (tally : Tally)
-        → Keeps None (selects (selection_of edit.now) (stand_of passed (marks_in window.old) tally) number (captured packet.now)) result (stand_of passed (marks_in window.new) tally) }
+        → Keeps None (selects (selection_of edit.now) (stand_of passed (marks_in window.old) tally)
+        number (captured packet.old))
+        result (captured packet.new) (stand_of passed (marks_in window.new) tally) }
     ensures window { IsWindowFor edit.now.window window.new }
 {
     if !is_selected(edit, number, packet) {
-        return Ok(None);
+        return Ok(false);
     }
     let Some(time) = moved(edit.shift, packet.time) else {
         return Err(Fault::TimeOutOfRange);
     };
-    let changed = changed(edit, packet, time);
-    Ok(unless_duplicate(window, &changed))
+    *packet = changed(edit, packet, time);
+    Ok(is_unique(window, packet))
 }
 
 /// A law of the definitions, the contract of a function that does nothing: what passes of an edit,

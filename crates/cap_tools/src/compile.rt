@@ -9,7 +9,8 @@ use flt_gen::{Link, generate};
 use flt_words::ExprFault;
 use std::alloc::Allocator;
 
-/// A program for the expression that a text is. An error is the first of the text's faults, or want of memory.
+/// A program for the expression that a text is. An error is the first of the text's faults, or want
+/// of memory.
 pub fn compile_text<A: Allocator + Copy + Drop>(
     alloc: A,
     text: &str,

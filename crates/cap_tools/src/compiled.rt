@@ -13,10 +13,12 @@ use flt_lang::Checked;
 use std::alloc::{AllocError, Allocator};
 use std::marker::Model;
 
-/// The link types whose packets expressions are read on (tcpdump.org's list of LINKTYPE_ values), and their links.
+/// The link types whose packets expressions are read on (tcpdump.org's list of LINKTYPE_ values),
+/// and their links.
 const LINK_TYPES: [(u16, Link); 3] = [(1, Link::Ether), (101, Link::Raw), (113, Link::Cooked)];
 
-/// An expression that isn't empty, and its program for each link type, in the order of the table above.
+/// An expression that isn't empty, and its program for each link type, in the order of the table
+/// above.
 #[derive(Drop)]
 pub struct Compiled<A: Allocator> {
     tree: Checked<A>,
@@ -69,14 +71,16 @@ fn make_programs<A: Allocator + Copy + Drop>(
     Ok(programs)
 }
 
-/// Runs the program at a place on a packet, and gives the answer and how many instructions were met.
+/// Runs the program at a place on a packet, and gives the answer and how many instructions were
+/// met.
 fn run_at<A: Allocator>(
     programs: &mut [Program<A>],
     place: usize,
     packet: &Packet<'_>,
 ) -> (u32, u32)
     requires { place < length programs.old }
-    ensures answer { (d : Content) → met_on (captured packet.now) (slice_index_or programs.old place d).insns ≡ Answered result.0 result.1 }
+    ensures answer { (d : Content) → met_on (captured packet.now)
+        (slice_index_or programs.old place d).insns ≡ Answered result.0 result.1 }
     ensures ran { programs.new ≡ ran_at place (captured packet.now) programs.old }
 {
     run(&mut programs[place], packet.bytes, packet.orig)
@@ -99,7 +103,8 @@ impl<A: Allocator> Compiled<A> {
         requires { IsTruth tree.expr }
         ensures tree { IfOk result (λ compiled. compiled.tree ≡ tree.expr) }
         ensures made { IfOk result (λ compiled. AreMade tree.expr link_types compiled.programs) }
-        ensures fresh { IfOk result (λ compiled. All (λ program. program.spent ≡ 0) compiled.programs) }
+        ensures fresh { IfOk result (λ compiled. All (λ program. program.spent ≡ 0)
+            compiled.programs) }
     {
         let programs = make_programs(alloc, &tree, &LINK_TYPES)?;
         Ok(Compiled { tree, programs })
@@ -109,8 +114,10 @@ impl<A: Allocator> Compiled<A> {
     pub fn passes(&mut self, packet: &Packet<'_>) -> Result<bool, Fault>
         ensures answers { Answers (expression_decides self.old.tree (captured packet.now)) result }
         ensures tree { self.new.tree ≡ self.old.tree }
-        ensures spends { self.new.programs ≡ spent_on (by_reading self.old.tree) (captured packet.now) self.old.programs }
-        ensures bounded { spent_in self.new.programs ≤ spent_in self.old.programs + most_cost (by_reading self.old.tree) }
+        ensures spends { self.new.programs ≡ spent_on (by_reading self.old.tree)
+            (captured packet.now) self.old.programs }
+        ensures bounded { spent_in self.new.programs ≤ spent_in self.old.programs + most_cost
+            (by_reading self.old.tree) }
     {
         // The proof learns here that the expression isn't empty.
         let _ = &self.tree;

@@ -1,6 +1,7 @@
 //! Expressions, from their text to a checked tree.
 ghost use Rattle.std.specs.Prelude.{IfOk, IfErr};
-ghost use Rattle.cap_tools.specs.Expressions.{HasFault, IsExpression, IsRead, IsReasonFor, IsSettled};
+ghost use Rattle.cap_tools.specs.Expressions.{HasFault, IsExpression, IsRead, IsReasonFor};
+ghost use Rattle.cap_tools.specs.Expressions.{IsSettled};
 
 use flt_lang::{Checked, Expr, check, parse, resolve};
 use flt_words::{ExprFault, lex};
@@ -28,8 +29,8 @@ fn settle<A: Allocator>(tree: Expr<A>) -> Result<Checked<A>, ExprFault>
     }
 }
 
-/// The checked tree of an expression's text, with what is left out filled in. An error is the first of the text's
-/// faults, or want of memory.
+/// The checked tree of an expression's text, with what is left out filled in. An error is the first
+/// of the text's faults, or want of memory.
 pub fn read_expression<A: Allocator + Copy + Drop>(
     alloc: A,
     text: &str,

@@ -33,12 +33,15 @@ impl<A: Allocator> Filter<A> {
 
     /// Whether a packet passes. It takes no memory.
     ///
-    /// The one error is `LinkTypeNotFiltered`: an expression isn't read on packets of this link type.
+    /// The one error is `LinkTypeNotFiltered`: an expression isn't read on packets of this link
+    /// type.
     pub fn passes(&mut self, packet: &Packet<'_>) -> Result<bool, Fault>
         ensures answers { Answers (rule_decides (rule_of self.old) (captured packet.now)) result }
         ensures rule { rule_of self.new ≡ rule_of self.old }
-        ensures spends { programs_of self.new ≡ spent_on (rule_of self.old) (captured packet.now) (programs_of self.old) }
-        ensures bounded { spent_in (programs_of self.new) ≤ spent_in (programs_of self.old) + most_cost (rule_of self.old) }
+        ensures spends { programs_of self.new ≡ spent_on (rule_of self.old) (captured packet.now)
+            (programs_of self.old) }
+        ensures bounded { spent_in (programs_of self.new) ≤ spent_in (programs_of self.old)
+            + most_cost (rule_of self.old) }
     {
         match self {
             Filter::All => Ok(true),

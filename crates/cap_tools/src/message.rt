@@ -3,7 +3,9 @@ ghost use Rattle.std.specs.Prelude.{◌≡◌, ◌+◌, ◌++◌, IsTrue, codes}
 ghost use Rattle.cap_octet.specs.Device.{AppendsOrStops, failures_of};
 ghost use Rattle.flt_bpf.specs.Message.{check_message, listing_message};
 ghost use Rattle.flt_words.specs.Messages.{message_of};
-ghost use Rattle.cap_tools.specs.Messages.{fault_message, write_failed_message, no_memory_message, refusal_message, expression_message, code_message, line_feed};
+ghost use Rattle.cap_tools.specs.Messages.{fault_message, write_failed_message, no_memory_message};
+ghost use Rattle.cap_tools.specs.Messages.{refusal_message, expression_message, code_message};
+ghost use Rattle.cap_tools.specs.Messages.{line_feed};
 
 use crate::refusal::Refusal;
 use cap_octet::{DeviceFault, Fault, Output, write_parts};
@@ -19,7 +21,8 @@ fn write_fault<'a, O: Output>(
     text: &'a [u8],
 ) -> Result<(), DeviceFault>
     ensures told { IsTrue O.tells → AppendsOrStops result (O.written output.old)
-        (codes "capkit: " ++ name.now ++ codes ": offset " ++ offset.now ++ codes ": " ++ text.now ++ line_feed) (O.written output.new) }
+        (codes "capkit: " ++ name.now ++ codes ": offset " ++ offset.now ++ codes ": " ++ text.now
+        ++ line_feed) (O.written output.new) }
     ensures failed { O.failures output.new ≡ O.failures output.old + failures_of result }
 {
     let parts: [&'a [u8]; 7] = [b"capkit: ", name, b": offset ", offset, b": ", text, b"\n"];
@@ -33,7 +36,8 @@ pub fn tell_fault<O: Output>(
     offset: u64,
     fault: Fault,
 ) -> Result<(), DeviceFault>
-    ensures told { IsTrue O.tells → AppendsOrStops result (O.written output.old) (fault_message name.now offset fault) (O.written output.new) }
+    ensures told { IsTrue O.tells → AppendsOrStops result (O.written output.old)
+        (fault_message name.now offset fault) (O.written output.new) }
     ensures failed { O.failures output.new ≡ O.failures output.old + failures_of result }
 {
     let mut digits = Buffer::new();
@@ -43,7 +47,8 @@ pub fn tell_fault<O: Output>(
 
 /// Tells that the device of the output of this name failed.
 pub fn tell_write_failed<O: Output>(output: &mut O, name: &str) -> Result<(), DeviceFault>
-    ensures told { IsTrue O.tells → AppendsOrStops result (O.written output.old) (write_failed_message name.now) (O.written output.new) }
+    ensures told { IsTrue O.tells → AppendsOrStops result (O.written output.old)
+        (write_failed_message name.now) (O.written output.new) }
     ensures failed { O.failures output.new ≡ O.failures output.old + failures_of result }
 {
     let parts: [&[u8]; 3] = [b"capkit: ", name.as_bytes(), b": write failed\n"];
@@ -52,13 +57,15 @@ pub fn tell_write_failed<O: Output>(output: &mut O, name: &str) -> Result<(), De
 
 /// Tells that there was no memory, where no packet or block was in hand.
 pub fn tell_no_memory<O: Output>(output: &mut O) -> Result<(), DeviceFault>
-    ensures told { IsTrue O.tells → AppendsOrStops result (O.written output.old) no_memory_message (O.written output.new) }
+    ensures told { IsTrue O.tells → AppendsOrStops result (O.written output.old) no_memory_message
+        (O.written output.new) }
     ensures failed { O.failures output.new ≡ O.failures output.old + failures_of result }
 {
     write_parts(output, &[b"capkit: no memory\n"])
 }
 
-/// Writes the parts of a refusal's message: of what, the text, and words before a number in digits, where there is one.
+/// Writes the parts of a refusal's message: of what, the text, and words before a number in digits,
+/// where there is one.
 fn write_refusal<'a, O: Output>(
     output: &mut O,
     of: &'a [u8],
@@ -67,7 +74,8 @@ fn write_refusal<'a, O: Output>(
     digits: &'a [u8],
 ) -> Result<(), DeviceFault>
     ensures told { IsTrue O.tells → AppendsOrStops result (O.written output.old)
-        (codes "capkit: " ++ of.now ++ codes ": " ++ text.now ++ words.now ++ digits.now ++ line_feed) (O.written output.new) }
+        (codes "capkit: " ++ of.now ++ codes ": " ++ text.now ++ words.now ++ digits.now
+        ++ line_feed) (O.written output.new) }
     ensures failed { O.failures output.new ≡ O.failures output.old + failures_of result }
 {
     let parts: [&'a [u8]; 7] = [b"capkit: ", of, b": ", text, words, digits, b"\n"];
@@ -76,7 +84,8 @@ fn write_refusal<'a, O: Output>(
 
 /// Tells why an expression was refused.
 fn tell_expression<O: Output>(output: &mut O, fault: ExprFault) -> Result<(), DeviceFault>
-    ensures told { IsTrue O.tells → AppendsOrStops result (O.written output.old) (expression_message (message_of fault)) (O.written output.new) }
+    ensures told { IsTrue O.tells → AppendsOrStops result (O.written output.old)
+        (expression_message (message_of fault)) (O.written output.new) }
     ensures failed { O.failures output.new ≡ O.failures output.old + failures_of result }
 {
     let text = fault.text().as_bytes();
@@ -92,7 +101,8 @@ fn tell_expression<O: Output>(output: &mut O, fault: ExprFault) -> Result<(), De
 
 /// Tells why a text is no listing.
 fn tell_listing<O: Output>(output: &mut O, fault: ListingFault) -> Result<(), DeviceFault>
-    ensures told { IsTrue O.tells → AppendsOrStops result (O.written output.old) (code_message (listing_message fault)) (O.written output.new) }
+    ensures told { IsTrue O.tells → AppendsOrStops result (O.written output.old)
+        (code_message (listing_message fault)) (O.written output.new) }
     ensures failed { O.failures output.new ≡ O.failures output.old + failures_of result }
 {
     let text = fault.text().as_bytes();
@@ -108,7 +118,8 @@ fn tell_listing<O: Output>(output: &mut O, fault: ListingFault) -> Result<(), De
 
 /// Tells which rule instructions break, and where.
 fn tell_check<O: Output>(output: &mut O, fault: CheckFault, at: usize) -> Result<(), DeviceFault>
-    ensures told { IsTrue O.tells → AppendsOrStops result (O.written output.old) (code_message (check_message fault at)) (O.written output.new) }
+    ensures told { IsTrue O.tells → AppendsOrStops result (O.written output.old)
+        (code_message (check_message fault at)) (O.written output.new) }
     ensures failed { O.failures output.new ≡ O.failures output.old + failures_of result }
 {
     let text = fault.text().as_bytes();
@@ -123,7 +134,8 @@ fn tell_check<O: Output>(output: &mut O, fault: CheckFault, at: usize) -> Result
 
 /// Tells why a filter was refused.
 pub fn tell_refusal<O: Output>(output: &mut O, refusal: Refusal) -> Result<(), DeviceFault>
-    ensures told { IsTrue O.tells → AppendsOrStops result (O.written output.old) (refusal_message refusal) (O.written output.new) }
+    ensures told { IsTrue O.tells → AppendsOrStops result (O.written output.old)
+        (refusal_message refusal) (O.written output.new) }
     ensures failed { O.failures output.new ≡ O.failures output.old + failures_of result }
 {
     match refusal {

@@ -12,8 +12,8 @@ pub enum Refusal {
     Expression(ExprFault),
     /// The text is no listing, or there was no memory for it.
     Listing(ListingFault),
-    /// The listing's instructions are no valid program: the first rule that they break, and the index of the
-    /// instruction that breaks it, from 0, or 0 where the rule is on the whole.
+    /// The listing's instructions are no valid program: the first rule that they break, and the
+    /// index of the instruction that breaks it, from 0, or 0 where the rule is on the whole.
     Program(CheckFault, usize),
 }
 

@@ -1,5 +1,6 @@
 //! A command over files and standard streams.
-ghost use Rattle.std.specs.Prelude.{◌≡◌, ◌≤◌, ◌&&◌, ◌||◌, ℕ, not, is_none, IfErr, IfOk, Ok, true, false, length, vec_len};
+ghost use Rattle.std.specs.Prelude.{◌≡◌, ◌≤◌, ◌&&◌, ◌||◌, ℕ, not, is_none, IfErr, IfOk, Ok, true};
+ghost use Rattle.std.specs.Prelude.{false, length, vec_len};
 ghost use Rattle.std.specs.Global.{Vec};
 ghost use Rattle.std.specs.IoError.{error_kind};
 ghost use Rattle.cap_tools.specs.Command.{is_proper};
@@ -18,7 +19,8 @@ use std::{fmt, io};
 /// The bytes of the buffer before each input and the output.
 const BUFFER: usize = 65_536;
 
-/// How many bytes of a listing are read at most: one more than it may have, by which a longer one is known.
+/// How many bytes of a listing are read at most: one more than it may have, by which a longer one
+/// is known.
 const LISTING_ROOM: u64 = 1_048_577;
 
 pub(crate) type Source<'a> = StdInput<BufReader<Counted<'a, Opened>>>;
@@ -80,8 +82,11 @@ fn with_listing<'a>(
     listing: Option<&'a str>,
 ) -> Result<Command, Stop<'a>>
     ensures unnamed { IfOk result (λ read. is_none listing.entry ≡ true → read ≡ command) }
-    ensures named { IfOk result (λ read. is_none listing.entry ≡ false → (bytes : Vec ℕ) × (read ≡ with_code command bytes)) }
-    ensures proper { IfOk result (λ read. (inputs : ℕ) → (is_proper command inputs && (is_none listing.entry || not (has_expression command))) ≡ true → is_proper read inputs ≡ true) }
+    ensures named { IfOk result (λ read. is_none listing.entry ≡ false
+        → (bytes : Vec ℕ) × (read ≡ with_code command bytes)) }
+    ensures proper { IfOk result (λ read. (inputs : ℕ) → (is_proper command inputs &&
+        (is_none listing.entry || not (has_expression command))) ≡ true
+        → is_proper read inputs ≡ true) }
 {
     let Some(name) = listing else {
         return Ok(command);
@@ -130,7 +135,8 @@ pub(crate) fn create<'a>(rt: &HostRuntime, name: &'a str) -> Result<Target, Stop
     Ok(Watched::new(writer))
 }
 
-/// Runs the command over its inputs and the output of that name. What the command told of the output is not told again.
+/// Runs the command over its inputs and the output of that name. What the command told of the
+/// output is not told again.
 fn run_over<'a>(
     rt: &HostRuntime,
     command: Command,
@@ -160,7 +166,8 @@ fn run_over<'a>(
 
 /// Ends the output and the messages of a run, and answers the status.
 ///
-/// Where the reader of a pipe went away, as of `| head`, nobody is told that the rest can't be written.
+/// Where the reader of a pipe went away, as of `| head`, nobody is told that the rest can't be
+/// written.
 fn end<'a, W: Write + Drop>(
     status: u8,
     mut target: Target,
@@ -192,9 +199,11 @@ fn stopped(rt: &HostRuntime, stop: Stop<'_>) -> u8
     FAULT
 }
 
-/// Runs the command of the line over the files and streams that its names stand for, and answers its status.
+/// Runs the command of the line over the files and streams that its names stand for, and answers
+/// its status.
 ///
-/// The listing is read, then the inputs are opened in order, then the output is created, then the command runs.
+/// The listing is read, then the inputs are opened in order, then the output is created, then the
+/// command runs.
 pub fn run(rt: &HostRuntime, line: Line) -> u8
     requires { is_ready line ≡ true }
     ensures { result ≤ 2 }

@@ -16,7 +16,8 @@ struct Identity {
     inode: u64,
 }
 
-/// The identity of the file that this path leads to, through links. None where there is no such file.
+/// The identity of the file that this path leads to, through links. None where there is no such
+/// file.
 fn identity_of(rt: &HostRuntime, path: &str) -> Option<Identity> {
     let metadata = fs::metadata(rt, path).ok()?;
     Some(Identity {
@@ -35,12 +36,14 @@ fn is_read_as(rt: &HostRuntime, name: &str, output: Identity) -> bool {
     identity_of(rt, path) == Some(output)
 }
 
-/// Whether the line's output is a file that it reads too, as an input or a listing: to create it would empty it.
+/// Whether the line's output is a file that it reads too, as an input or a listing: to create it
+/// would empty it.
 ///
 /// Standard output is no such file. A file that can't be looked up is taken for another one.
 pub fn overwrites_input(rt: &HostRuntime, line: &Line) -> bool
     ensures unnamed { is_none (line.now).output ≡ true → result ≡ false }
-    ensures standard { IfSome (line.now).output (λ name. is_standard (string_bytes name) ≡ true → result ≡ false) }
+    ensures standard { IfSome (line.now).output (λ name. is_standard (string_bytes name) ≡ true
+        → result ≡ false) }
 {
     let Some(output) = &line.output else {
         return false;

@@ -1,4 +1,5 @@
-//! How far long work is: shown where standard error is a terminal, from two seconds on, and erased at the end.
+//! How far long work is: shown where standard error is a terminal, from two seconds on, and erased
+//! at the end.
 
 use cap_line::STANDARD;
 use std::cell::Cell;
@@ -12,7 +13,8 @@ const FIRST: u64 = 2;
 /// The bytes of a MiB.
 const MIB: u64 = 1_048_576;
 
-/// The size of all files of these names. 0 where one is no plain file, so that its size isn't known.
+/// The size of all files of these names. 0 where one is no plain file, so that its size isn't
+/// known.
 fn total_size(rt: &HostRuntime, names: &[String]) -> u64 {
     let mut total: u64 = 0;
     for name in names {
@@ -40,7 +42,8 @@ pub struct Progress<'a> {
 }
 
 impl<'a> Progress<'a> {
-    /// Nothing is read yet of the inputs of these names. What the job writes to a terminal isn't disturbed.
+    /// Nothing is read yet of the inputs of these names. What the job writes to a terminal isn't
+    /// disturbed.
     pub fn new(rt: &'a HostRuntime, names: &[String], output: &str) -> Progress<'a> {
         let is_disturbing = output == STANDARD && rt.stdout().is_terminal();
         let start = if rt.stderr().is_terminal() && !is_disturbing {

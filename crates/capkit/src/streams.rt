@@ -45,7 +45,8 @@ pub enum Created {
 }
 
 impl Created {
-    /// Creates the file of that name, or empties it; or takes standard output. The error is the system's.
+    /// Creates the file of that name, or empties it; or takes standard output. The error is the
+    /// system's.
     pub fn create(rt: &HostRuntime, name: &str) -> io::Result<Created>
         ensures { IfOk result (λ created. is_standard_output created ≡ is_standard name.now) }
     {
@@ -133,8 +134,10 @@ impl<W: Write> Write for Watched<W> {
         ensures failed { self.new.has_failed ≡ (self.old.has_failed || is_err result) }
     {
         let written = self.writer.write(buf);
-        self.has_failed = self.has_failed || written.is_err();
-        self.is_unread = self.is_unread || is_unread(&written);
+        if written.is_err() {
+            self.has_failed = true;
+            self.is_unread = self.is_unread || is_unread(&written);
+        }
         written
     }
 

@@ -82,7 +82,8 @@ fn files_are_read_and_written(rt: HostRuntime) -> Result<(), Fail> {
     Ok(())
 }
 
-/// What can't be opened is told with status 1, before the output is created, and before an expression is read.
+/// What can't be opened is told with status 1, before the output is created, and before an
+/// expression is read.
 #[test]
 fn nothing_is_created_where_an_input_is_missing(rt: HostRuntime) -> Result<(), Fail> {
     let folder = folder(&rt, "missing")?;
@@ -129,7 +130,8 @@ fn stops_have_their_texts(rt: HostRuntime) -> Result<(), Fail> {
     Ok(())
 }
 
-/// The size of the long capture: past 1 MiB, so that it takes many calls of the reader and the writer.
+/// The size of the long capture: past 1 MiB, so that it takes many calls of the reader and the
+/// writer.
 const LONG: usize = 24 + 5 * (16 + 262_144);
 
 /// A capture of five packets, each as long as a record may be.
@@ -158,7 +160,8 @@ fn long_files_are_copied(rt: HostRuntime) -> Result<(), Fail> {
     Ok(())
 }
 
-/// An output in a folder that isn't there can't be created; a refused expression leaves an empty one.
+/// An output in a folder that isn't there can't be created; a refused expression leaves an empty
+/// one.
 #[test]
 fn outputs_are_created_before_the_run(rt: HostRuntime) -> Result<(), Fail> {
     let folder = folder(&rt, "created")?;
@@ -178,7 +181,8 @@ fn is_overwriting(rt: &HostRuntime, folder: &str, words: &[&str]) -> Result<bool
     Ok(overwrites_input(rt, &line))
 }
 
-/// A file is known again through a path that goes round, a link and a second name; others and new ones are no inputs.
+/// A file is known again through a path that goes round, a link and a second name; others and new
+/// ones are no inputs.
 #[test]
 fn one_file_under_two_names_is_known(rt: HostRuntime) -> Result<(), Fail> {
     let folder = folder(&rt, "known")?;

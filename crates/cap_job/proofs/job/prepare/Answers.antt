@@ -3,7 +3,7 @@ use Rattle.cap_tools.specs.Printing.{programs_of, rule_of}
 use Rattle.cap_job.specs.declared.job.Preparation.{Preparation}
 use Rattle.cap_tools.specs.Compiling.{spent_in}
 use Rattle.cap_job.specs.Jobs.{JobView, machine_of}
-use Rattle.cap_job.specs.Starting.{IsFresh}
+use Rattle.cap_job.specs.FirstStep.{IsFresh}
 use Rattle.cap_job.specs.Commands.{IsReady, PreparesOnly, preparing_of}
 use Rattle.cap_job.proofs.Preparing.{new-unspent}
 use Rattle.cap_tools.specs.Compiled.{IsCompiled}

@@ -1,5 +1,5 @@
 use Rattle.std.proofs.Common.{◌≡◌, ℕ, List, IsTrue, None}
-use Rattle.cap_job.specs.Feeding.{Stood}
+use Rattle.cap_job.specs.Feed.{Stood}
 use Rattle.cap_job.specs.Commands.{DecidedBy, command_left}
 use Rattle.cap_job.proofs.CommandRuns.{Under}
 use Rattle.cap_job.proofs.job.run_on.Given as goal

@@ -1,8 +1,8 @@
 use Rattle.std.proofs.Common.{◌≡◌, true, Ok, Err, refl, sym, ◌∙◌, ap₂}
 use Rattle.cap_job.specs.declared.machine.End.TheVariants as end
 use Rattle.cap_job.specs.declared.machine.Progress.TheVariants.{More, Done}
-use Rattle.cap_job.specs.Feeding.{is_in_turn}
-use Rattle.cap_job.specs.Judging.{is_count, judge_stand}
+use Rattle.cap_job.specs.Feed.{is_in_turn}
+use Rattle.cap_job.specs.Judge.{is_count, judge_stand}
 use Rattle.cap_job.proofs.Fetches.{closes-by}
 use Rattle.cap_job.proofs.Judges.{closes-asked}
 use Rattle.cap_job.proofs.machine.close.Goals as goal

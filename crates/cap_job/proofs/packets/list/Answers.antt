@@ -1,9 +1,9 @@
 use Rattle.std.proofs.Common.{◌≡◌, ℕ, List, length, ap, subst, ◌∙◌}
 use Rattle.cap_tools.specs.Messages.{write_failed_message}
 use Rattle.cap_tools.specs.Running.{IsTold, seen}
-use Rattle.cap_job.specs.Feeding.{FeedView}
+use Rattle.cap_job.specs.Feed.{FeedView}
 use Rattle.cap_job.specs.Reports.{name_at}
-use Rattle.cap_job.specs.Working.{machine_stand}
+use Rattle.cap_job.specs.Machine.{machine_stand}
 use Rattle.cap_job.proofs.CommandStarts.{lists-ok, lists-err}
 use Rattle.cap_job.proofs.packets.list.Goals as goal
 

@@ -1,5 +1,5 @@
 use Rattle.std.proofs.Common.{ℕ, List, refl, ap₂, rules}
-use Rattle.cap_job.specs.Draining.{Lines}
+use Rattle.cap_job.specs.Drain.{Lines}
 use Rattle.cap_job.proofs.drain.Drain.put.Goals as goal
 use Rattle.cap_job.proofs.drain.Drain.put.Goals.{in-Capture, in-Text, in-Lines}
 

@@ -1,6 +1,6 @@
 use Rattle.std.proofs.Common.{ℕ, List, refl, ap₂, subst}
 use Rattle.cap_octet.specs.Device.{AppendsOrStops}
-use Rattle.cap_job.specs.Draining.{Text}
+use Rattle.cap_job.specs.Drain.{Text}
 use Rattle.cap_job.specs.Reports.{file_report}
 use Rattle.cap_job.proofs.drain.Drain.report.Goals as goal
 use Rattle.cap_job.proofs.drain.Drain.report.Goals.{in-Capture, in-Text, in-Lines}

@@ -2,7 +2,7 @@ use Rattle.std.proofs.Common.{◌<◌, ◌&&◌, ℕ, sym, subst, length}
 use Rattle.std.specs.List.{slice_set}
 use Rattle.cap_job.specs.declared.feed.Place.{Place}
 use Rattle.cap_job.specs.declared.feed.Next.TheVariants as next
-use Rattle.cap_job.specs.Feeding.{Enters, FeedView, Fetches, FetchSteps, HeadView, HoldsQueue, Tells, is_merge}
+use Rattle.cap_job.specs.Feed.{Enters, FeedView, Fetches, FetchSteps, HeadView, HoldsQueue, Tells, is_merge}
 use Rattle.cap_job.proofs.Heads.{get-among, fetches-by, fetch-steps-by}
 use Rattle.cap_job.proofs.Leasts.{place-for, fetched}
 use Rattle.cap_job.proofs.feed.Feed.fetch.Goals as goal

@@ -1,5 +1,5 @@
 use Rattle.std.proofs.Common.{◌≡◌, ◌≤◌, IsTrue, List, [], length, ap, ◌∙◌, refl, arith}
-use Rattle.cap_job.specs.Feeding.{HeadView}
+use Rattle.cap_job.specs.Feed.{HeadView}
 use Rattle.cap_job.specs.Jobs.{head_at, opened, place_first, order_of}
 use Rattle.cap_job.proofs.Starts.{first-feed}
 use Rattle.cap_job.proofs.Leasts.{holds-first}

@@ -1,7 +1,7 @@
 use Rattle.std.proofs.Common.{◌<◌, ◌∙◌, length, ap, sym, subst}
 use Rattle.std.specs.List.{slice_set}
 use Rattle.cap_job.specs.declared.feed.Place.{Place}
-use Rattle.cap_job.specs.Feeding.{FeedView, HeadView, HoldsQueue, Settles, Tells, settled}
+use Rattle.cap_job.specs.Feed.{FeedView, HeadView, HoldsQueue, Settles, Tells, settled}
 use Rattle.cap_job.specs.declared.feed.Next.TheVariants as next
 use Rattle.cap_job.proofs.Leasts.{settled-in}
 use Rattle.cap_job.proofs.Heads.{get-among}

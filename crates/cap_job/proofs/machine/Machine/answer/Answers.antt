@@ -1,16 +1,16 @@
 use Rattle.std.proofs.Common.{◌≡◌, ◌+◌, ◌<◌, Ok, Err, subst, sym, ◌∙◌, ap, arith, Bool, false, refl}
 use Rattle.std.specs.List.{slice_set}
 use Rattle.cap_job.specs.declared.feed.Next.TheVariants as next
-use Rattle.cap_job.specs.Feeding.{FeedView, HeadView, Stood, Among, settled, feed_left, place_behind}
+use Rattle.cap_job.specs.Feed.{FeedView, HeadView, Stood, Among, settled, feed_left, place_behind}
 use Rattle.cap_job.proofs.Lefts.{settle-less}
 use Rattle.cap_job.specs.Bounds.{StepReads, decides_one, leaves_one, IsPaid}
 use Rattle.cap_job.proofs.Held.{answer-waits, held}
 use Rattle.cap_job.proofs.Turns.{settle-paid}
 use Rattle.cap_job.proofs.Weights.{is-light, settle-small}
-use Rattle.cap_job.specs.Feeding as feeding
-use Rattle.cap_job.specs.Judged.{Asked}
-use Rattle.cap_job.specs.Judging.{JudgeView, judge_stand}
-use Rattle.cap_job.specs.Working.{MachineStand, MachineView, machine_stand, machine_with, Decided, EndLeaves, unwritten}
+use Rattle.cap_job.specs.Feed as feeding
+use Rattle.cap_job.specs.Verdicts.{Asked}
+use Rattle.cap_job.specs.Judge.{JudgeView, judge_stand}
+use Rattle.cap_job.specs.Machine.{MachineStand, MachineView, machine_stand, machine_with, Decided, EndLeaves, unwritten}
 use Rattle.cap_job.proofs.Answers.{answer-leaves, AnswerLeaves}
 use Rattle.cap_job.proofs.Fetches.{mk, among-same}
 use Rattle.cap_job.proofs.machine.Machine.answer.Goals as goal

@@ -2,11 +2,11 @@ use Rattle.std.proofs.Common.{◌≡◌, ◌<◌, ◌∙◌, length, Bool, true,
 use Rattle.cap_octet.specs.declared.fault.Fault.{Fault}
 use Rattle.cap_job.specs.declared.feed.Next.TheVariants as next
 use Rattle.cap_job.specs.declared.machine.Progress.TheVariants.{More}
-use Rattle.cap_job.specs.Feeding.{Stood, closes, feed_left}
-use Rattle.cap_job.specs.Feeding as feeding
-use Rattle.cap_job.specs.Judged.{Asked}
-use Rattle.cap_job.specs.Judging.{JudgeView, judge_stand}
-use Rattle.cap_job.specs.Working.{MachineStand, MachineView, machine_stand, machine_with, Decided, GoesOn, BreaksAt, StepLeaves}
+use Rattle.cap_job.specs.Feed.{Stood, closes, feed_left}
+use Rattle.cap_job.specs.Feed as feeding
+use Rattle.cap_job.specs.Verdicts.{Asked}
+use Rattle.cap_job.specs.Judge.{JudgeView, judge_stand}
+use Rattle.cap_job.specs.Machine.{MachineStand, MachineView, machine_stand, machine_with, Decided, GoesOn, BreaksAt, StepLeaves}
 use Rattle.cap_job.proofs.Fetches.{Follows, FetchLeaves, fetch-leaves}
 use Rattle.cap_job.specs.Bounds.{StepReads, reads_on, IsPaid, goes_on, is_fault}
 use Rattle.cap_job.proofs.Lefts.{Goes, fetch-kept, fetch-less}

@@ -1,10 +1,10 @@
 use Rattle.std.proofs.Common.{Result, Option, ℕ, subst}
 use Rattle.cap_octet.specs.declared.fault.Fault.{Fault}
 use Rattle.cap_job.specs.declared.feed.Next.TheVariants as next
-use Rattle.cap_job.specs.Draining.{FinishesTo}
-use Rattle.cap_job.specs.Feeding.{Stood}
-use Rattle.cap_job.specs.Feeding as feeding
-use Rattle.cap_job.specs.Working.{MachineStand, MachineView, machine_stand, machine_with, Decided}
+use Rattle.cap_job.specs.Drain.{FinishesTo}
+use Rattle.cap_job.specs.Feed.{Stood}
+use Rattle.cap_job.specs.Feed as feeding
+use Rattle.cap_job.specs.Machine.{MachineStand, MachineView, machine_stand, machine_with, Decided}
 use Rattle.cap_job.proofs.Finishes.{finish-leaves, FinishLeaves}
 use Rattle.cap_job.proofs.Weights.{is-light}
 use Rattle.cap_job.proofs.machine.Machine.finish.Goals as goal

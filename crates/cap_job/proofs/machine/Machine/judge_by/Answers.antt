@@ -1,5 +1,5 @@
 use Rattle.std.proofs.Common.{arith, subst, sym}
-use Rattle.cap_job.specs.Judging.{HasFewMarks, JudgeView}
+use Rattle.cap_job.specs.Judge.{HasFewMarks, JudgeView}
 use Rattle.cap_job.proofs.Weights.{is-light}
 use Rattle.cap_job.proofs.machine.Machine.judge_by.Goals as goal
 

@@ -1,10 +1,10 @@
 use Rattle.std.proofs.Common.{◌≡◌, List, map, length, ◌∙◌, sym, ap, arith, subst}
 use Rattle.std.specs.List.{All}
 use Rattle.cap_job.specs.Bounds.{HasFewInterfaces, IsLight, IsSmall, most_turns, owed}
-use Rattle.cap_job.specs.Draining.{DrainView}
-use Rattle.cap_job.specs.Feeding.{FeedView, feed_left}
-use Rattle.cap_job.specs.Judging.{HasFewMarks, JudgeView}
-use Rattle.cap_job.specs.Working.{MachineView, machine_stand}
+use Rattle.cap_job.specs.Drain.{DrainView}
+use Rattle.cap_job.specs.Feed.{FeedView, feed_left}
+use Rattle.cap_job.specs.Judge.{HasFewMarks, JudgeView}
+use Rattle.cap_job.specs.Machine.{MachineView, machine_stand}
 use Rattle.cap_job.specs.Jobs.{Opened, opened, feed_first, order_of}
 use Rattle.cap_job.proofs.Starts.{first-few, first-left, same-count}
 use Rattle.cap_job.proofs.Weights.{few-first, is-light, small-first}

@@ -2,8 +2,8 @@ use Rattle.std.proofs.Common.{ℕ, ◌+◌, Some, refl, ap, subst}
 use Rattle.cap_tools.specs.Messages.{refusal_status}
 use Rattle.cap_tools.specs.Running.{seen}
 use Rattle.cap_job.specs.Jobs.{JobView}
-use Rattle.cap_job.specs.Working.{machine_stand}
-use Rattle.cap_job.specs.Starting.{Refuses}
+use Rattle.cap_job.specs.Machine.{machine_stand}
+use Rattle.cap_job.specs.FirstStep.{Refuses}
 use Rattle.cap_job.proofs.packets.PacketJob.refuse.Goals as goal
 
 pub returns-clause-refused : goal.returns-clause-refused

@@ -1,9 +1,9 @@
-use Rattle.std.proofs.Common.{List, ℕ, ◌+◌, Bool, true, false, Some, ap, subst, sym, ◌∙◌}
+use Rattle.std.proofs.Common.{List, ℕ, ◌+◌, true, false, Some, ap, subst, sym, ◌∙◌}
 use Rattle.cap_tools.specs.Running.{seen}
 use Rattle.cap_job.specs.declared.machine.Progress.{Progress}
 use Rattle.cap_job.specs.Bounds.{StepReads, goes_on}
-use Rattle.cap_job.specs.Feeding.{Stood}
-use Rattle.cap_job.specs.Working.{Decided, machine_stand}
+use Rattle.cap_job.specs.Feed.{Stood}
+use Rattle.cap_job.specs.Machine.{Decided, machine_stand}
 use Rattle.cap_job.specs.Jobs.{JobView, EndsJob, EndsAs, end_text, machine_of}
 use Rattle.cap_job.proofs.Ends.{clean-status, ends-as}
 use Rattle.cap_job.proofs.packets.PacketJob.step.Goals as goal

@@ -1,7 +1,7 @@
 -- What a contract sees of a job under way, and what holds of it at each step.
 use Rattle.std.specs.Prelude.{◌≡◌, ◌⊎◌, ℕ, zero, suc, ◌+◌, ◌<◌, ◌≤◌, Bool, true, false, List, [], ◌∷◌, ◌++◌, length, map, Option, None, Some, Result, Ok, Err}
 use Rattle.cap_octet.specs.Device.{Stops}
-use Rattle.cap_octet.specs.Packet.{Captured, captured}
+use Rattle.cap_octet.specs.Packet.{Captured}
 use Rattle.cap_octet.specs.declared.fault.Fault.{Fault}
 use Rattle.cap_octet.specs.declared.fault.Fault.TheVariants.{ReadFailed, NoMemory, WriteFailed}
 use Rattle.cap_octet.specs.declared.device.DeviceFault.{DeviceFault}
@@ -18,13 +18,13 @@ use Rattle.cap_job.specs.declared.machine.End.TheVariants as end
 use Rattle.cap_job.specs.declared.machine.Progress.{Progress}
 use Rattle.cap_job.specs.declared.machine.Progress.TheVariants.{More, Done}
 use Rattle.cap_job.specs.Reports.{Report, Tally}
-use Rattle.cap_job.specs.Draining.{DrainView, Drained, Puts, Reports, form_at, written_to, failures_to}
-use Rattle.cap_job.specs.Fed.{Event, Close, Over, Broken, Rest, Ordering, InTurn, Merging, fed, whole}
-use Rattle.cap_job.specs.Judged.{Asked, Stand, verdict}
-use Rattle.cap_job.specs.Judging.{JudgeStand, JudgeView, IsWithin, emptied, is_count, most_spent, spent_by_verdict}
-use Rattle.cap_job.specs.Judging as judging
+use Rattle.cap_job.specs.Drain.{DrainView, Drained, Puts, Reports, form_at, written_to, failures_to}
+use Rattle.cap_job.specs.Events.{Event, Close, Over, Broken, Rest, Ordering, InTurn, Merging, fed, whole}
+use Rattle.cap_job.specs.Verdicts.{Asked, Stand, verdict}
+use Rattle.cap_job.specs.Judge.{JudgeStand, JudgeView, IsWithin, emptied, is_count, most_spent, spent_by_verdict}
+use Rattle.cap_job.specs.Judge as judging
 use Rattle.cap_job.specs.Course.{Form, Way, set_out, way, course, output, written, closing, first_link}
-use Rattle.cap_job.specs.Feeding.{FeedView, HeadView, Stood, Standing, HasCome, Among, EndedBefore, Tells, ordering_of}
+use Rattle.cap_job.specs.Feed.{FeedView, HeadView, Stood, Standing, HasCome, Among, EndedBefore, Tells, ordering_of}
 
 -- ---- the view
 
@@ -91,21 +91,23 @@ abbrev pub PutsAs : Bool → Captured → DrainView → Result Bool Fault → Dr
 PutsAs last p old (Ok b) new = (b ≡ last) × Puts p old (Ok tt) new
 PutsAs last p old (Err fault) new = Puts p old (Err fault) new
 
-abbrev pub Offers : Verdict → DrainView → Result Bool Fault → DrainView → Type 0
-Offers (code.Pass p) old r new = PutsAs false (captured p) old r new
-Offers (code.Last p) old r new = PutsAs true (captured p) old r new
-Offers code.Skip old r new = (r ≡ Ok false) × (new ≡ old)
+abbrev pub Offers : Verdict → Captured → DrainView → Result Bool Fault → DrainView → Type 0
+Offers code.Pass p old r new = PutsAs false p old r new
+Offers code.Last p old r new = PutsAs true p old r new
+Offers code.Skip p old r new = (r ≡ Ok false) × (new ≡ old)
 
 -- a packet is judged, and put where it passes
 pub record Judges (p : Captured) (judge : JudgeStand) (number : ℕ) (old : DrainView) (r : Result Bool Fault) (judge' : JudgeStand) (new : DrainView) : Type 0 where
   pub answer : Verdict
-  pub told : judging.Tells (verdict judge.asked judge.stand number p) (Ok answer) judge'.stand
-  pub offers : Offers answer old r new
+  -- as it passes
+  pub packet : Captured
+  pub told : judging.Tells (verdict judge.asked judge.stand number p) (Ok answer) packet judge'.stand
+  pub offers : Offers answer packet old r new
 
 -- it is refused, and nothing is written
 pub record Rejects (p : Captured) (judge : JudgeStand) (number : ℕ) (old : DrainView) (r : Result Bool Fault) (judge' : JudgeStand) (new : DrainView) : Type 0 where
   pub fault : Fault
-  pub told : judging.Tells (verdict judge.asked judge.stand number p) (Err fault) judge'.stand
+  pub told : judging.Tells (verdict judge.asked judge.stand number p) (Err fault) p judge'.stand
   pub answer : r ≡ Err fault
   pub same : new ≡ old
 

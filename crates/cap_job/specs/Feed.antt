@@ -14,7 +14,7 @@ use Rattle.cap_job.specs.declared.feed.Place.{Place}
 use Rattle.cap_job.specs.declared.feed.Place.TheVariants.{Turn, Merge}
 use Rattle.cap_job.specs.declared.feed.Next.{Next}
 use Rattle.cap_job.specs.declared.feed.Next.TheVariants as next
-use Rattle.cap_job.specs.Fed.{Rest, Event, Fed, Ordering, InTurn, Merging, fed, in_turn, merged, behind}
+use Rattle.cap_job.specs.Events.{Rest, Event, Fed, Ordering, InTurn, Merging, fed, in_turn, merged, behind}
 
 -- ---- views
 

@@ -1,7 +1,6 @@
 -- What a contract sees of a judge.
-use Rattle.std.specs.Prelude.{◌≡◌, ℕ, ◌+◌, ◌-◌, ◌^◌, ◌≤◌, Bool, true, false, if◌then◌else◌, List, [], ◌∷◌, length, Option, None, Result, Ok, Err, ◌*◌, Some}
-use Rattle.cap_octet.specs.Packet.{Captured, captured}
-use Rattle.cap_octet.specs.declared.packet.Packet.{Packet}
+use Rattle.std.specs.Prelude.{◌≡◌, ℕ, ◌+◌, ◌-◌, ◌^◌, ◌≤◌, Bool, true, false, if◌then◌else◌, List, [], length, Option, None, Result, Ok, Err, ◌*◌, Some}
+use Rattle.cap_octet.specs.Packet.{Captured}
 use Rattle.cap_octet.specs.declared.fault.Fault.{Fault}
 use Rattle.cap_window.specs.declared.mark.Mark.{Mark}
 use Rattle.cap_window.specs.View.{WindowView}
@@ -12,8 +11,8 @@ use Rattle.cap_job.specs.declared.judge.Rule.{Rule}
 use Rattle.cap_job.specs.declared.judge.Rule.TheVariants as rule
 use Rattle.cap_job.specs.declared.judge.Verdict as code
 use Rattle.cap_job.specs.declared.judge.Verdict.TheVariants as code_verdict
-use Rattle.cap_job.specs.Judged.{Asked, Select, Filter, Everything, Count, Selection, Stand, Verdict, Pass, Last, Refuse, Judged, counts, is_too_many}
-use Rattle.cap_job.specs.Judged as judged
+use Rattle.cap_job.specs.Verdicts.{Asked, Select, Filter, Everything, Count, Selection, Stand, Verdict, Pass, Last, Refuse, Judged, counts, is_too_many}
+use Rattle.cap_job.specs.Verdicts as judged
 use Rattle.cap_job.specs.Reports.{Tally, nothing_counted}
 use Rattle.cap_io.specs.Reading.{most_in_unit}
 
@@ -93,26 +92,27 @@ abbrev pub count_of : Asked → Option ℕ
 count_of (Filter rule count) = count
 count_of asked = None
 
-abbrev pub verdict_of : code.Verdict → Verdict
-verdict_of (code_verdict.Pass p) = Pass (captured p)
-verdict_of (code_verdict.Last p) = Last (captured p)
-verdict_of code_verdict.Skip = judged.Skip
+-- a verdict on a packet that is to be written so, where it passes
+abbrev pub verdict_of : code.Verdict → Captured → Verdict
+verdict_of code_verdict.Pass p = Pass p
+verdict_of code_verdict.Last p = Last p
+verdict_of code_verdict.Skip p = judged.Skip
 
 abbrev pub passing : Captured → Bool → Verdict
 passing p true = Last p
 passing p false = Pass p
 
--- what is answered of a packet: what it is to be, or its refusal
-abbrev pub Tells : Judged → Result code.Verdict Fault → Stand → Type 0
-Tells j (Ok v) stand = (verdict_of v ≡ j.verdict) × (stand ≡ j.stand)
-Tells j (Err fault) stand = j.verdict ≡ Refuse fault
+-- what is answered of a packet, and what is made of it: what it is to be, or its refusal
+abbrev pub Tells : Judged → Result code.Verdict Fault → Captured → Stand → Type 0
+Tells j (Ok v) p stand = (verdict_of v p ≡ j.verdict) × (stand ≡ j.stand)
+Tells j (Err fault) p stand = j.verdict ≡ Refuse fault
 
--- What is answered of a packet where so many may pass: the packet as it passes, or none where it doesn't, and the stand
--- beside those that passed; or its refusal.
-abbrev pub Keeps : Option ℕ → Judged → Result (Option Packet) Fault → Stand → Type 0
-Keeps count j (Ok None) stand = (j.verdict ≡ judged.Skip) × (j.stand ≡ stand)
-Keeps count j (Ok (Some p)) stand = j ≡ counts count stand (captured p)
-Keeps count j (Err fault) stand = j.verdict ≡ Refuse fault
+-- What is answered of a packet where so many may pass: whether it passes, the packet as it does, and the stand beside
+-- those that passed; or its refusal.
+abbrev pub Keeps : Option ℕ → Judged → Result Bool Fault → Captured → Stand → Type 0
+Keeps count j (Ok false) p stand = (j.verdict ≡ judged.Skip) × (j.stand ≡ stand)
+Keeps count j (Ok true) p stand = j ≡ counts count stand p
+Keeps count j (Err fault) p stand = j.verdict ≡ Refuse fault
 
 -- ---- the window
 

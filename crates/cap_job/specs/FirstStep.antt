@@ -9,13 +9,13 @@ use Rattle.cap_tools.specs.Printed.{Rule}
 use Rattle.cap_tools.specs.Running.{OutputView, IsTold, Runs, seen}
 use Rattle.cap_job.specs.declared.packets.Turn.{Turn}
 use Rattle.cap_job.specs.declared.packets.Turn.TheVariants as turn
-use Rattle.cap_job.specs.Draining.{Target, Capture, Text, Lines}
-use Rattle.cap_job.specs.Judged.{Asked, Filter}
-use Rattle.cap_job.specs.Judging.{stand_with}
-use Rattle.cap_job.specs.Feeding.{feed_left, most_steps}
+use Rattle.cap_job.specs.Drain.{Target, Capture, Text, Lines}
+use Rattle.cap_job.specs.Verdicts.{Asked, Filter}
+use Rattle.cap_job.specs.Judge.{stand_with}
+use Rattle.cap_job.specs.Feed.{feed_left, most_steps}
 use Rattle.cap_job.specs.Reports.{name_at, nothing_counted}
 use Rattle.cap_job.specs.Bounds.{most_turns, owed}
-use Rattle.cap_job.specs.Working.{MachineStand, written_by, failures_by}
+use Rattle.cap_job.specs.Machine.{MachineStand, written_by, failures_by}
 use Rattle.cap_job.specs.Jobs.{JobView}
 
 -- a job that made no step
