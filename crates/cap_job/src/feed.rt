@@ -239,10 +239,8 @@ impl<I: Input, A: Allocator> Feed<I, A> {
         requires next { Tells self.old.place self.old.heads (Next.Answer input) }
         ensures { Settles self.old input self.new }
     {
-        let head = &mut self.heads[input];
-        head.settle();
-        leave(&mut self.queue, self.place);
-        self.place = place_behind(self.place, input);
+        self.heads[input].settle();
+        go_back(&mut self.queue, &mut self.place, input);
     }
 
     /// The first link type that the inputs declare, in their order.
@@ -266,9 +264,8 @@ impl<I: Input, A: Allocator> Feed<I, A> {
             time: head.key(),
             input,
         };
-        enter(&mut self.queue, self.place, head.waiting, entry);
-        let closed = is_end(result);
-        self.place = place_after(self.place, input, closed);
+        let waits = head.waiting;
+        go_on(&mut self.queue, &mut self.place, entry, waits, is_end(result));
         result
     }
 }
@@ -293,29 +290,6 @@ fn is_end(answer: Result<bool, Fault>) -> bool
     matches!(answer, Ok(false))
 }
 
-/// The place behind an input that was closed, or not.
-fn place_after(place: Place, input: usize, closed: bool) -> Place
-    requires { input < 2 ^ 64 - 1 }
-    ensures { result ≡ place_after place input closed }
-{
-    match place {
-        Place::Turn(_) if closed => Place::Turn(input + 1),
-        Place::Turn(turn) => Place::Turn(turn),
-        Place::Merge(_, last) => Place::Merge(input + 1, last),
-    }
-}
-
-/// The place behind a packet of an input that is decided.
-fn place_behind(place: Place, input: usize) -> Place
-    requires { input < 2 ^ 64 - 1 }
-    ensures { result ≡ place_behind place input }
-{
-    match place {
-        Place::Turn(turn) => Place::Turn(turn),
-        Place::Merge(_, _) => Place::Merge(input, input + 1),
-    }
-}
-
 fn next_in_turn<I: Input, A: Allocator>(heads: &[Head<I, A>], turn: usize) -> Next
     ensures { TurnTells heads.now turn result }
 {
@@ -331,12 +305,6 @@ fn next_in_turn<I: Input, A: Allocator>(heads: &[Head<I, A>], turn: usize) -> Ne
     }
 }
 
-fn is_merge(place: Place) -> bool
-    ensures { result ≡ is_merge place }
-{
-    matches!(place, Place::Merge(_, _))
-}
-
 /// The queue of so many inputs; `None` where there is no memory. Inputs that aren't merged need
 /// none.
 fn queue_for<A: Allocator>(alloc: A, merges: bool, count: usize) -> Option<Queue<A>>
@@ -348,21 +316,45 @@ where
     Queue::new(alloc, room).ok()
 }
 
-/// Lets an input with a packet in hand wait, if the inputs are merged.
-fn enter<A: Allocator>(queue: &mut Queue<A>, place: Place, waits: bool, entry: Waiting)
-    requires { (waits && is_merge place) ≡ true → HasPlaceFor queue.old entry.input }
-    ensures { Enters (waits && is_merge place) entry queue.old queue.new }
+/// Goes on behind an input that was read on. If the inputs are merged, it waits where it has a
+/// packet; if not, the next one comes where this one is closed.
+fn go_on<A: Allocator>(
+    queue: &mut Queue<A>,
+    place: &mut Place,
+    entry: Waiting,
+    waits: bool,
+    closed: bool,
+)
+    requires room { (waits && is_merge place.old) ≡ true → HasPlaceFor queue.old entry.input }
+    requires few { entry.input < 2 ^ 64 - 1 }
+    ensures queue { Enters (waits && is_merge place.old) entry queue.old queue.new }
+    ensures place { place.new ≡ place_after place.old entry.input closed }
 {
-    if waits && is_merge(place) {
-        queue.add(entry);
+    match place {
+        Place::Turn(turn) => {
+            if closed {
+                *turn = entry.input + 1;
+            }
+        }
+        Place::Merge(next, _) => {
+            *next = entry.input + 1;
+            if waits {
+                queue.add(entry);
+            }
+        }
     }
 }
 
-/// Takes out the first input, if the inputs are merged.
-fn leave<A: Allocator>(queue: &mut Queue<A>, place: Place)
-    ensures { Leaves (is_merge place) queue.old queue.new }
+/// Goes back to an input whose packet is decided: if the inputs are merged, it waits no more and is
+/// read on next.
+fn go_back<A: Allocator>(queue: &mut Queue<A>, place: &mut Place, input: usize)
+    requires { input < 2 ^ 64 - 1 }
+    ensures queue { Leaves (is_merge place.old) queue.old queue.new }
+    ensures place { place.new ≡ place_behind place.old input }
 {
-    if is_merge(place) {
+    if let Place::Merge(next, last) = place {
+        *next = input;
+        *last = input + 1;
         queue.take();
     }
 }

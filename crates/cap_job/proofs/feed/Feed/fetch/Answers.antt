@@ -10,25 +10,25 @@ use Rattle.cap_job.proofs.feed.Feed.fetch.Goals as goal
 pub returns-clause-told : goal.returns-clause-told
 returns-clause-told g c = λ ti.
     let old : FeedView = record { heads = c.self.inside.heads.items; place = c.self.inside.place } in
-    let new : FeedView = record { heads = slice_set c.self.inside.heads.items c.args.input c.read_on-result.new.self; place = c.place_after-self-inside.result } in
+    let new : FeedView = record { heads = slice_set c.self.inside.heads.items c.args.input c.read_on-result.new.self; place = c.go_on.new.place } in
     let P : FeedView → Type 0 = λ v. Fetches v c.args.input c.read_on-result.result new in
     let W : FeedView → Type 0 = λ v. c.args.input < length v.heads in
     subst P c.self.view_is
-    (fetches-by old c.args.input c.read_on-result.result c.index_mut-head.result.now c.read_on-result.new.self c.place_after-self-inside.result c.is_end-closed.result
-    (subst W (sym c.self.view_is) c.requires.within) c.index_mut-head.ensures.value (c.read_on-result.ensures.told ti) c.read_on-result.ensures.steps c.read_on-result.ensures.is c.place_after-self-inside.ensures c.is_end-closed.ensures)
+    (fetches-by old c.args.input c.read_on-result.result c.index_mut-head.result.now c.read_on-result.new.self c.go_on.new.place c.is_end.result
+    (subst W (sym c.self.view_is) c.requires.within) c.index_mut-head.ensures.value (c.read_on-result.ensures.told ti) c.read_on-result.ensures.steps c.read_on-result.ensures.is c.go_on.ensures.place c.is_end.ensures)
 
 pub returns-clause-steps : goal.returns-clause-steps
 returns-clause-steps g c =
     let old : FeedView = record { heads = c.self.inside.heads.items; place = c.self.inside.place } in
-    let new : FeedView = record { heads = slice_set c.self.inside.heads.items c.args.input c.read_on-result.new.self; place = c.place_after-self-inside.result } in
+    let new : FeedView = record { heads = slice_set c.self.inside.heads.items c.args.input c.read_on-result.new.self; place = c.go_on.new.place } in
     let P : FeedView → Type 0 = λ v. FetchSteps v c.args.input c.read_on-result.result new in
     let W : FeedView → Type 0 = λ v. c.args.input < length v.heads in
     subst P c.self.view_is
-    (fetch-steps-by old c.args.input c.read_on-result.result c.index_mut-head.result.now c.read_on-result.new.self c.place_after-self-inside.result c.is_end-closed.result
-    (subst W (sym c.self.view_is) c.requires.within) c.index_mut-head.ensures.value c.read_on-result.ensures.steps c.read_on-result.ensures.few c.read_on-result.ensures.is c.place_after-self-inside.ensures c.is_end-closed.ensures)
+    (fetch-steps-by old c.args.input c.read_on-result.result c.index_mut-head.result.now c.read_on-result.new.self c.go_on.new.place c.is_end.result
+    (subst W (sym c.self.view_is) c.requires.within) c.index_mut-head.ensures.value c.read_on-result.ensures.steps c.read_on-result.ensures.few c.read_on-result.ensures.is c.go_on.ensures.place c.is_end.ensures)
 
-pub enter-requires : goal.enter-requires
-enter-requires g c =
+pub go_on-requires-clause-room : goal.go_on-requires-clause-room
+go_on-requires-clause-room g c =
     let W : FeedView → Type 0 = λ v. c.args.input < length v.heads in
     let T : FeedView → Type 0 = λ v. Tells v.place v.heads (next.Read c.args.input) in
     let a = get-among c.self.inside.heads.items c.args.input c.index_mut-head.result.now c.index_mut-head.result.now (subst W (sym c.self.view_is) c.requires.within) c.index_mut-head.ensures.value in
@@ -39,9 +39,9 @@ invariant_of-self g c =
     let W : FeedView → Type 0 = λ v. c.args.input < length v.heads in
     let T : FeedView → Type 0 = λ v. Tells v.place v.heads (next.Read c.args.input) in
     let a = get-among c.self.inside.heads.items c.args.input c.index_mut-head.result.now c.index_mut-head.result.now (subst W (sym c.self.view_is) c.requires.within) c.index_mut-head.ensures.value in
-    let E : HeadView → Type 0 = λ h. Enters (h.waiting && is_merge c.self.inside.place) (record { time = c.key.result; input = c.args.input }) c.self.inside.queue c.enter.new.queue in
-    let K : ℕ → Type 0 = λ n. Enters (c.read_on-result.new.self.waiting && is_merge c.self.inside.place) (record { time = n; input = c.args.input }) c.self.inside.queue c.enter.new.queue in
-    let P : Place → Type 0 = λ p. HoldsQueue p (slice_set c.self.inside.heads.items c.args.input c.read_on-result.new.self) c.enter.new.queue in
-    subst P (sym c.place_after-self-inside.ensures)
-    (fetched c.self.inside.place c.self.inside.heads.items c.args.input c.index_mut-head.result.now c.read_on-result.new.self c.is_end-closed.result c.self.inside.queue c.enter.new.queue
-    a (subst T (sym c.self.view_is) c.requires.next) (subst K c.key.ensures (subst E c.head.view_is c.enter.ensures)) c.self.invariant)
+    let E : HeadView → Type 0 = λ h. Enters (h.waiting && is_merge c.self.inside.place) (record { time = c.key.result; input = c.args.input }) c.self.inside.queue c.go_on.new.queue in
+    let K : ℕ → Type 0 = λ n. Enters (c.read_on-result.new.self.waiting && is_merge c.self.inside.place) (record { time = n; input = c.args.input }) c.self.inside.queue c.go_on.new.queue in
+    let P : Place → Type 0 = λ p. HoldsQueue p (slice_set c.self.inside.heads.items c.args.input c.read_on-result.new.self) c.go_on.new.queue in
+    subst P (sym c.go_on.ensures.place)
+    (fetched c.self.inside.place c.self.inside.heads.items c.args.input c.index_mut-head.result.now c.read_on-result.new.self c.is_end.result c.self.inside.queue c.go_on.new.queue
+    a (subst T (sym c.self.view_is) c.requires.next) (subst K c.key.ensures (subst E c.head.view_is c.go_on.ensures.queue)) c.self.invariant)
