@@ -136,7 +136,7 @@ impl<'r> Fuzzer<'r> {
         self.random = Random::new(seed);
     }
 
-    /// Counts a comparison; where it differs its round is told, and both sides.
+    /// Counts a comparison; where it differs its round and both sides are reported.
     pub fn compare(
         &mut self,
         property: Property,

@@ -1,4 +1,4 @@
--- The steps that decide the packet in hand.
+-- The steps that decide the current packet.
 use Rattle.std.proofs.Common.{◌≡◌, ◌⊎◌, inl, inr, ℕ, ◌+◌, ◌<◌, ◌≤◌, Bool, true, false, List, [], ◌∷◌, ◌++◌, length, map, Option, None, Some, Result, Ok, Err, refl, sym, ◌∙◌, ap, arith, subst, not, nat_eq, if◌then◌else◌, ◌-◌}
 use Rattle.std.proofs.lemmas.List.{append_assoc, append-nil, map-append}
 use Rattle.std.specs.List.{slice_set}
@@ -207,7 +207,7 @@ decided-goes us vs s before xs ys h place turn asked stand stand' drain drain' d
 
 -- ---- it is the last, or it is refused
 
--- the job ends at the packet in hand
+-- the job ends at the current packet
 pub stops-course : (ss : List Stood) (heads : List HeadView) (place : Place) (es : List Event) (e : Event) (asked : Asked) (form : Form) (w w' : Way) (c : Close) → Ahead ss heads place es e → way asked form set_out es ≡ w → w.end ≡ None
     → goes asked form w e ≡ w' → w'.end ≡ Some c → course asked form (fed (ordering_of place) (wholes_of ss)) ≡ w'
 stops-course ss heads place es e asked form w w' c ahead far on went end =

@@ -1,4 +1,4 @@
--- The packet in hand of the input whose turn it is.
+-- The current packet of the input whose turn it is.
 use Rattle.std.proofs.Common.{◌≡◌, ℕ, ◌+◌, ◌≤◌, Option, None, Some, List, true, refl, ◌∙◌, ap}
 use Rattle.cap_octet.specs.Packet.{Captured}
 use Rattle.cap_job.specs.declared.feed.Place.{Place}

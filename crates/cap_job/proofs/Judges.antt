@@ -1,4 +1,4 @@
--- What a judge answers.
+-- What a judge returns.
 use Rattle.std.proofs.Common.{◌≡◌, ℕ, ◌+◌, ◌^◌, ◌<◌, ◌≤◌, nat_le, Bool, true, false, length, if◌then◌else◌, List, Option, None, Some, Result, Ok, Err, refl, sym, ◌∙◌, ap, arith}
 use Rattle.std.proofs.lemmas.Bool.Decides.{nat_tests}
 use Rattle.cap_octet.specs.Packet.{Captured}
@@ -33,7 +33,7 @@ few (Filter rule count) stand number p judges h = rw (nat_le-false (2 ^ 63) numb
 few Everything stand number p judges h = rw (nat_le-false (2 ^ 63) number h) refl
 few Count stand number p judges h = (cc)
 
--- ---- what is answered
+-- ---- what is returned
 
 pub tells-none : (count : Option ℕ) (j : Judged) (stand : Stand) (p : Captured) (v : code.Verdict) → Keeps count j (Ok false) p stand → verdict_of v p ≡ Skip → Tells j (Ok v) p stand
 tells-none count j stand p v keeps is = (is ∙ sym keeps.0, sym keeps.1)

@@ -176,7 +176,7 @@ read-at (Merge n u) heads i tells ended =
     let P : List HeadView → Type 0 = λ l. Laid n u l in
     record { head = tells.head; among = a; laws = merge-reads n u i a.front a.back tells.head a.place tells.is tells.before (subst P a.splits ended) }
 
--- ---- the packet in hand is decided
+-- ---- the current packet is decided
 
 pub record DecideLaws (place : Place) (i : ℕ) (xs ys : List HeadView) (h : HeadView) : Type 0 where
   pub here : length xs ≡ i

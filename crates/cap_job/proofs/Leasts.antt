@@ -250,7 +250,7 @@ none-waits (h ∷ hs) none = (not-waiting [] hs h (none (key_of h) 0), none-wait
 pub empty-none : (heads : List HeadView) (first last : ℕ) (q : Queue) → IsQueued heads first last q → q.waiting ≡ [] → NoneWaits heads
 empty-none heads first last q was empty = none-waits heads (λ t j. sym (was.entered t j) ∙ ap (λ (ws : List Waiting). is_entered ws t j) empty)
 
--- ---- the packet in hand of the next input is decided
+-- ---- the current packet of the next input is decided
 
 waits-split : (front back : List HeadView) (h : HeadView) (t j : ℕ) → waits_with (front ++ h ∷ back) t j ≡ true
     → (waits_with front t j ≡ true) ⊎ ((j ≡ length front) ⊎ ((k : ℕ) × (j ≡ length front + suc k) × (waits_with back t k ≡ true)))
@@ -466,7 +466,7 @@ taken-in (Merge first last) heads i h' q q' (Some w) merge tells decided moved r
     let N : ℕ → Type 0 = λ n. IsQueued (slice_set heads i h') n (n + 1) q' in
     subst N a.place (subst V (sym (set-among heads i least.head h' a)) after)
 
--- the packet in hand of the next input is decided
+-- the current packet of the next input is decided
 pub settled-in : (place : Place) (heads : List HeadView) (i : ℕ) (h' : HeadView) (q q' : Queue) → Tells place heads (next.Answer i) → h'.waiting ≡ false
     → Leaves (is_merge place) q q' → HoldsQueue place heads q → HoldsQueue (place_behind place i) (slice_set heads i h') q'
 settled-in (Turn turn) heads i h' q q' tells decided leaves was = tt

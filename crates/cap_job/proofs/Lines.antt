@@ -18,6 +18,6 @@ unfolding file_report
 report-joined name kind size t =
     rw (lines-append (size_lines kind size t) (time_lines t) (10 ∷ [])) (lines-append ((codes "File", name) ∷ []) (size_lines kind size t ++ time_lines t) (10 ∷ []))
 
--- a beginning of a part behind one that was written
+-- a prefix of a part behind one that was written
 pub stops-behind : (written done part mid written' : List ℕ) → mid ≡ written ++ done → Stops mid part written' → Stops written (done ++ part) written'
 stops-behind written done part mid written' first stops = appends-behind {E = ℕ} (Err 0) written done part mid written' first stops

@@ -27,14 +27,14 @@ pub record ReadsOn (tells : Bool) (old : MachineView) (input : ℕ) (answer : Re
   pub drain : closes answer ≡ false → new.drain ≡ old.drain
   pub programs : new.programs ≡ old.programs
 
--- an input's packet in hand, which isn't decided yet
+-- an input's current packet, which isn't decided yet
 pub record Holds (heads : List HeadView) (input : ℕ) (p : Captured) : Type 0 where
   pub head : HeadView
   pub among : Among heads input head
   pub waits : head.waiting ≡ true
   pub held : head.source.packet ≡ Some p
 
--- The packet in hand of one input was decided, and nothing is read. It cost one run of a program at most.
+-- The current packet of one input was decided, and nothing is read. It cost one run of a program at most.
 pub record DecidesOne (old : MachineView) (input : ℕ) (new : MachineView) : Type 0 where
   pub packet : Captured
   pub holds : Holds old.feed.heads input packet
@@ -76,12 +76,12 @@ goes_on (Done end) = false
 
 -- ---- how many steps were made
 
--- the bytes that were read of the inputs: those that are gone over, and those of the units in hand
+-- the bytes that were read of the inputs: those that are gone over, and those of the current units
 abbrev pub reads_of : List HeadView → ℕ
 reads_of [] = 0
 reads_of (h ∷ hs) = behind h.source + reads_of hs
 
--- the steps that follow without a byte more: each packet in hand is decided, and each input closed; a merge reads behind
+-- the steps that follow without a byte more: each current packet is decided, and each input closed; a merge reads behind
 -- each packet that it decides
 abbrev pub owed : FeedView → ℕ
 owed f = place_left f.place (length f.heads) + (weight_of f.place - 1) * waiting_total f.heads
@@ -111,7 +111,7 @@ declared_weight Nothing = 0
 declared_weight (PcapFile head) = 0
 declared_weight (PcapngFile first section) = names_weight (map (λ i. i.name) section.interfaces)
 
--- of an input: its unit in hand, the interfaces of its section, and 40 for the rest
+-- of an input: its current unit, the interfaces of its section, and 40 for the rest
 abbrev pub head_weight : HeadView → ℕ
 head_weight h = length h.source.block + declared_weight h.source.declared + 40
 
@@ -146,7 +146,7 @@ abbrev pub IsBounded : FeedView → DrainView → Type 0
 IsBounded feed drain = All IsSmall feed.heads × HasFewInterfaces drain.target
 
 -- What a job holds of each input is bounded, and of all of them; a window of n packets has n - 1 marks, and there is none
--- where no duplicates are looked for.
+-- where no duplicates are searched for.
 pub record IsLight (m : MachineStand) : Type 0 where
   pub each : IsBounded m.feed m.drain
   pub all : weight m ≤ most_weight (length m.feed.heads) (places (window_asked m.asked))

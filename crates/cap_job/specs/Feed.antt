@@ -20,7 +20,7 @@ use Rattle.cap_job.specs.Events.{Rest, Event, Fed, Ordering, InTurn, Merging, fe
 
 pub record HeadView : Type 0 where
   pub source : SourceView
-  -- whether the packet in hand isn't decided yet
+  -- whether the current packet isn't decided yet
   pub waiting : Bool
   -- the greatest time of the packets that are decided
   pub greatest : ℕ
@@ -39,7 +39,7 @@ is_in_turn (Merge next last) = false
 
 -- ---- what is left
 
--- what comes behind the packet in hand: the items, and the number of bytes of the whole input
+-- what comes behind the current packet: the items, and the number of bytes of the whole input
 pub record Future : Type 0 where
   pub items : Items
   pub size : ℕ
@@ -105,7 +105,7 @@ Fits (h ∷ hs) (f ∷ fs) = (h.source.phase ≡ Ended → f ≡ closed_future h
 Fits [] (f ∷ fs) = ⊥
 Fits (h ∷ hs) [] = ⊥
 
--- These events came: whatever comes behind the packets in hand, the job's order has them in front of what is left.
+-- These events came: whatever comes behind the current packets, the job's order has them in front of what is left.
 abbrev pub HasCome : List Stood → FeedView → List Event → Type 0
 HasCome ss feed es = (fs : List Future) → Fits feed.heads fs
     → fed (ordering_of feed.place) (wholes ss feed.heads fs) ≡ behind es (left feed.place (rests feed.heads fs))
@@ -243,7 +243,7 @@ abbrev pub time_of : Option Captured → ℕ
 time_of None = 0
 time_of (Some p) = p.time
 
--- the greatest time up to and with the packet in hand
+-- the greatest time up to and with the current packet
 abbrev pub key_of : HeadView → ℕ
 key_of h = max h.greatest (time_of h.source.packet)
 
@@ -256,7 +256,7 @@ abbrev pub KeysFrom : ℕ → List HeadView → Type 0
 KeysFrom k [] = Unit {0}
 KeysFrom k (h ∷ hs) = (h.waiting ≡ true → k ≤ key_of h) × KeysFrom k hs
 
--- the packets in hand are all decided
+-- the current packets are all decided
 abbrev pub NoneWaits : List HeadView → Type 0
 NoneWaits [] = Unit {0}
 NoneWaits (h ∷ hs) = (h.waiting ≡ false) × NoneWaits hs
@@ -330,7 +330,7 @@ abbrev pub Tells : Place → List HeadView → Next → Type 0
 Tells (Turn turn) heads r = TurnTells heads turn r
 Tells (Merge next last) heads r = MergeTells heads next last r
 
--- the packet in hand is decided
+-- the current packet is decided
 abbrev pub settled : HeadView → HeadView
 settled h = record { source = h.source; waiting = false; greatest = max h.greatest (time_of h.source.packet) }
 

@@ -94,7 +94,7 @@ offset_of (Some h) = h.source.offset
 abbrev pub offset_at : List HeadView → ℕ → ℕ
 offset_at heads i = offset_of (slice_get heads i)
 
--- what is told of it
+-- what is reported of it
 abbrev pub end_text : List (List ℕ) → List HeadView → End → List ℕ
 end_text names heads end.Clean = []
 end_text names heads (end.Broken input fault) = fault_message (name_at names input) (offset_at heads input) fault
@@ -160,10 +160,10 @@ pub record EndsJob (tells : Bool) (old : JobView) (status : ℕ) (new : JobView)
   pub text : List ℕ
   pub ends : Ends old.machine.drain.names old.machine new.machine text status
   pub told : IsTold tells old.err text new.err
-  -- where all went well nothing is told
+  -- where all went well nothing is reported
   pub quiet : status ≡ 0 → new.err ≡ old.err
 
--- a job that goes on tells nothing
+-- a job that goes on reports nothing
 abbrev pub JobGives : Bool → JobView → Turn → JobView → Type 0
 JobGives tells old turn.More new = (new.err ≡ old.err) × ((ss : List Stood) (before : List ℕ) → Decided ss before old.machine → GoesOn ss before old.machine new.machine)
 JobGives tells old (turn.Done status) new = EndsJob tells old status new

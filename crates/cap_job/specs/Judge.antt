@@ -102,12 +102,12 @@ abbrev pub passing : Captured → Bool → Verdict
 passing p true = Last p
 passing p false = Pass p
 
--- what is answered of a packet, and what is made of it: what it is to be, or its refusal
+-- what is returned of a packet, and what is made of it: what it is to be, or its refusal
 abbrev pub Tells : Judged → Result code.Verdict Fault → Captured → Stand → Type 0
 Tells j (Ok v) p stand = (verdict_of v p ≡ j.verdict) × (stand ≡ j.stand)
 Tells j (Err fault) p stand = j.verdict ≡ Refuse fault
 
--- What is answered of a packet where so many may pass: whether it passes, the packet as it does, and the stand beside
+-- What is returned of a packet where so many may pass: whether it passes, the packet as it does, and the stand beside
 -- those that passed; or its refusal.
 abbrev pub Keeps : Option ℕ → Judged → Result Bool Fault → Captured → Stand → Type 0
 Keeps count j (Ok false) p stand = (j.verdict ≡ judged.Skip) × (j.stand ≡ stand)

@@ -86,7 +86,7 @@ pub record Decided (ss : List Stood) (before : List ℕ) (m : MachineStand) : Ty
 
 -- ---- the parts of a step
 
--- what a call answers that tells whether the packet is the last
+-- what a call returns that says whether the packet is the last
 abbrev pub PutsAs : Bool → Captured → DrainView → Result Bool Fault → DrainView → Type 0
 PutsAs last p old (Ok b) new = (b ≡ last) × Puts p old (Ok tt) new
 PutsAs last p old (Err fault) new = Puts p old (Err fault) new
@@ -115,7 +115,7 @@ abbrev pub Decides : Option Captured → JudgeStand → ℕ → DrainView → Re
 Decides None judge number old r judge' new = ⊥
 Decides (Some p) judge number old r judge' new = Judges p judge number old r judge' new ⊎ Rejects p judge number old r judge' new
 
--- what deciding the packet in hand cost
+-- what deciding the current packet cost
 abbrev pub Spends : Option Captured → JudgeView → ℕ → JudgeView → Type 0
 Spends None old number new = ⊥
 Spends (Some p) old number new = (new.programs ≡ spent_by_verdict old.asked number p old.programs) × (spent_in new.programs ≤ spent_in old.programs + most_spent old.asked)
@@ -228,14 +228,14 @@ pub record EndsByCut (ss : List Stood) (before : List ℕ) (old new : MachineSta
   pub why : ((fault ≡ ReadFailed) × (head.source.failures < after.failures) × (head.source.never_fails ≡ false)) ⊎ (fault ≡ NoMemory)
   pub comes : Comes (cut_at (wholes_of ss) input held) before old new (Broken input fault after.offset)
 
--- there was no memory to write the packet in hand of this input, which was next: the output stays
+-- there was no memory to write the current packet of this input, which was next: the output stays
 pub record WantsMemory (old new : MachineStand) (input : ℕ) (fault : Fault) : Type 0 where
   pub next : Tells old.feed.place old.feed.heads (next.Answer input)
   pub feed : new.feed ≡ old.feed
   pub why : fault ≡ NoMemory
   pub written : written_by new ≡ written_by old
 
--- The output's device failed in this step, after a beginning of the one answer that it would have appended.
+-- The output's device failed in this step, after a prefix of the one answer that it would have appended.
 pub record StopsWriting (ss : List Stood) (before : List ℕ) (old new : MachineStand) : Type 0 where
   pub failures : failures_by new ≡ failures_by old + 1
   pub front : List ℕ
@@ -246,7 +246,7 @@ pub record StopsWriting (ss : List Stood) (before : List ℕ) (old new : Machine
   pub so_far : written_by old ≡ before ++ front
   pub stops : Stops (written_by old) bytes (written_by new)
 
--- the inputs end so, or the packet in hand is refused; or the input is cut short; or there was no memory
+-- the inputs end so, or the current packet is refused; or the input is cut short; or there was no memory
 abbrev pub WhyBroken : List Stood → List ℕ → MachineStand → MachineStand → ℕ → Fault → SourceView → Type 0
 WhyBroken ss before old new input fault after =
     Comes (wholes_of ss) before old new (Broken input fault after.offset) ⊎ EndsByCut ss before old new input fault after ⊎ WantsMemory old new input fault

@@ -17,11 +17,11 @@ use std::marker::Model;
 #[derive(Drop)]
 pub struct Head<I: Input, A: Allocator> {
     source: Source<I, A>,
-    /// Whether the packet in hand isn't decided yet.
+    /// Whether the current packet isn't decided yet.
     waiting: bool,
     /// The greatest time of the packets that are decided.
     greatest: u64,
-    /// The time of the packet in hand, 0 where there is none.
+    /// The time of the current packet, 0 where there is none.
     time: u64,
 }
 
@@ -51,13 +51,13 @@ pub enum Place {
 pub enum Next {
     /// Reads an input on.
     Read(usize),
-    /// Decides the packet in hand of an input.
+    /// Decides the current packet of an input.
     Answer(usize),
     /// All inputs are at their ends.
     Nothing,
 }
 
-/// The time of the packet in hand, 0 where there is none.
+/// The time of the current packet, 0 where there is none.
 fn time_in<I: Input, A: Allocator>(source: &Source<I, A>) -> u64
     ensures { result ≡ time_of source.now.packet }
 {
@@ -103,7 +103,7 @@ impl<I: Input, A: Allocator> Head<I, A> {
         result
     }
 
-    /// The packet in hand.
+    /// The current packet.
     pub fn packet(&self) -> Option<Packet<'_>>
         ensures packet { option_map captured result ≡ self.now.source.packet }
         ensures short { IfSome result (λ packet. length packet.bytes.now ≤ most_in_unit) }
@@ -112,7 +112,7 @@ impl<I: Input, A: Allocator> Head<I, A> {
         self.source.head()
     }
 
-    /// The packet in hand is decided.
+    /// The current packet is decided.
     fn settle(&mut self)
         ensures { self.new ≡ settled self.old }
     {
@@ -126,7 +126,7 @@ impl<I: Input, A: Allocator> Head<I, A> {
         self.source.first_link()
     }
 
-    /// The greatest time up to and with the packet in hand.
+    /// The greatest time up to and with the current packet.
     fn key(&self) -> u64
         ensures { result ≡ key_of self.now }
     {
@@ -140,7 +140,7 @@ impl<I: Input, A: Allocator> Head<I, A> {
         self.source.kind()
     }
 
-    /// Where the unit in hand begins, in bytes; at the clean end, the number of bytes.
+    /// Where the current unit begins, in bytes; at the clean end, the number of bytes.
     pub fn offset(&self) -> u64
         ensures { result ≡ self.now.source.offset }
     {
@@ -205,7 +205,7 @@ impl<I: Input, A: Allocator> Feed<I, A> {
         self.heads.len()
     }
 
-    /// Where the unit in hand of an input begins, or its next unit.
+    /// Where the current unit of an input begins, or its next unit.
     pub fn offset(&self, input: usize) -> u64
         ensures { result ≡ offset_at self.now.heads input }
     {
@@ -233,7 +233,7 @@ impl<I: Input, A: Allocator> Feed<I, A> {
         &self.heads[input]
     }
 
-    /// The packet in hand of an input, which is the next, is decided.
+    /// The current packet of an input, which is the next, is decided.
     pub fn settle(&mut self, input: usize)
         requires within { input < length self.old.heads }
         requires next { Tells self.old.place self.old.heads (Next.Answer input) }

@@ -192,7 +192,7 @@ impl<I: Input, O: Output, E: Output, A: Allocator + Copy + Drop> Job<I, O, E, A>
     }
 
     /// One step on: reads the filter or compiles; then reads one input on, decides one packet, or
-    /// ends the output. It tells how the job ended where it did. A message that can't be written is
+    /// ends the output. It reports how the job ended where it did. A message that can't be written is
     /// lost.
     pub fn step(&mut self) -> Turn
         ensures after { (s : ℕ) → self.old.packets.done ≡ Some s
@@ -269,7 +269,7 @@ fn prepare<I: Input, O: Output, E: Output, A: Allocator + Copy + Drop>(
     }
 }
 
-/// Steps to the end, and answers the status.
+/// Steps to the end, and returns the status.
 pub fn run_on<I, O, E, A>(mut job: Job<I, O, E, A>) -> (u8, O, E)
 where
     I: Input + Drop,
@@ -292,7 +292,7 @@ where
     }
 }
 
-/// Runs a proper command. `names` are those of the inputs, then of the output. It answers the
+/// Runs a proper command. `names` are those of the inputs, then of the output. It returns the
 /// status, 0 where all went well, 1 where a fault was told and 2 where an expression or a listing
 /// is refused, and hands back the output and the messages' device. Where there is no memory to
 /// begin it nothing was read or written but a message. A message that can't be written is lost.

@@ -47,7 +47,7 @@ pub enum Rule<A: Allocator> {
 #[derive(Drop)]
 pub struct Judge<A: Allocator> {
     rule: Rule<A>,
-    /// Where duplicates are looked for.
+    /// Where duplicates are searched for.
     window: Option<Window<A>>,
     passed: u64,
     /// Of the packets of the input in hand, where they are counted.

@@ -25,7 +25,7 @@ use std::marker::Model;
 pub enum End {
     /// All is written.
     Clean,
-    /// An input ends by this fault at its offset, or its packet in hand is refused.
+    /// An input ends by this fault at its offset, or its current packet is refused.
     Broken(usize, Fault),
     /// The output's device failed.
     OutputFailed,
@@ -74,7 +74,7 @@ impl<I: Input, O: Output, A: Allocator> Model for Machine<I, O, A> {
         × HasFewMarks m.judge.asked m.judge.stand };
 }
 
-/// Writes a packet that passes, and answers whether it is the last.
+/// Writes a packet that passes, and returns whether it is the last.
 fn put<O: Output, A: Allocator>(
     verdict: Verdict,
     packet: &Packet<'_>,
@@ -96,7 +96,7 @@ fn put<O: Output, A: Allocator>(
     }
 }
 
-/// Decides the packet in hand of an input, and answers whether it is the last.
+/// Decides the current packet of an input, and returns whether it is the last.
 fn decide<I: Input, O: Output, A: Allocator + Copy + Drop>(
     head: &Head<I, A>,
     judge: &mut Judge<A>,
@@ -265,7 +265,7 @@ impl<I: Input, O: Output, A: Allocator + Copy + Drop> Machine<I, O, A> {
         }
     }
 
-    /// Decides the packet in hand of an input.
+    /// Decides the current packet of an input.
     fn answer(&mut self, input: usize) -> Progress
         requires next { feeding.Tells self.old.feed.place self.old.feed.heads (Next.Answer input) }
         requires within { input < length self.old.feed.heads }

@@ -75,7 +75,7 @@ impl<I: Input, O: Output, E: Output, A: Allocator> Model for PacketJob<I, O, E, 
         × HasFewTurns j.done j.turns j.machine.feed × IsLight (machine_stand j.machine) };
 }
 
-/// Tells how a job ended.
+/// Reports how a job ended.
 fn tell<I: Input, O: Output, E: Output, A: Allocator + Copy + Drop>(
     err: &mut E,
     machine: &Machine<I, O, A>,
@@ -105,7 +105,7 @@ fn status_of(end: End) -> u8
     }
 }
 
-/// Writes the listing of a program, and answers the status. A message that can't be written is
+/// Writes the listing of a program, and returns the status. A message that can't be written is
 /// lost.
 fn list<I: Input, O: Output, E: Output, A: Allocator + Copy + Drop>(
     machine: &mut Machine<I, O, A>,
@@ -180,7 +180,7 @@ impl<I: Input, O: Output, E: Output, A: Allocator + Copy + Drop> PacketJob<I, O,
         })
     }
 
-    /// One step on: reads one input on, decides one packet or ends the output, and tells how the
+    /// One step on: reads one input on, decides one packet or ends the output, and reports how the
     /// job ended where it did. A message that can't be written is lost.
     pub fn step(&mut self) -> Turn
         ensures after { (s : ℕ) → self.old.done ≡ Some s → (result ≡ Turn.Done s)
@@ -227,7 +227,7 @@ impl<I: Input, O: Output, E: Output, A: Allocator + Copy + Drop> PacketJob<I, O,
         Turn::More
     }
 
-    /// Tells why an expression or a listing is refused, and ends the job.
+    /// Reports why an expression or a listing is refused, and ends the job.
     pub(crate) fn refuse(&mut self, refusal: Refusal) -> Turn
         requires { IsFresh self.old }
         ensures done { result ≡ Turn.Done (refusal_status refusal) }

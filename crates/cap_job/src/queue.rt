@@ -4,7 +4,7 @@ use std::cmp::Reverse;
 use std::collections::BinaryHeap;
 use std::marker::Model;
 
-/// An input with a packet in hand: the greatest time in it so far, and its number.
+/// An input with a current packet: the greatest time in it so far, and its number.
 #[derive(Clone, Copy, Debug, PartialEq, Eq, PartialOrd, Ord)]
 pub struct Waiting {
     pub time: u64,

@@ -21,7 +21,7 @@ pub struct Report {
 }
 
 /// Writes the report of the file of this name. An error is a failure of the device in this call,
-/// after a beginning of the report that isn't the whole.
+/// after a prefix of the report that isn't the whole.
 pub fn write_report<O: Output>(
     output: &mut O,
     name: &str,

@@ -51,7 +51,7 @@ are_links : AreChoices link_names (choices link_names)
 unfolding choices
 are_links = refl
 
--- want of memory refuses any words
+-- out of memory, any words are refused
 pub no_memory : (words : List Text) (error : Error) → kind_of error ≡ OutOfMemory → Refuses words error
 no_memory words error is = record {
   formats = choices format_names;

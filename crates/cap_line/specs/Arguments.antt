@@ -204,7 +204,7 @@ pub record Takes (words : List Text) (entered : Option (Text × List Row)) : Typ
   pub no_fault : fault_of (line_app formats links) words ≡ []
   pub enters : subcommand_of (line_app formats links) words ≡ entered
 
--- clap refuses the words with this error, which is of want of memory where it takes them
+-- clap refuses the words with this error, which is out of memory where it takes them
 pub record Refuses (words : List Text) (error : Error) : Type 0 where
   pub formats : ValueParser
   pub links : ValueParser

@@ -61,7 +61,7 @@ link_named text =
 abbrev pub link_in : Text → List Row → Link
 link_in id matches = option_map_or link_named (first_of id matches) Ether
 
--- the number from `least` to `most` that a text writes; a plus sign may stand in front of it
+-- the number from `least` to `most` that a text writes; a plus sign may be in front of it
 abbrev pub number_between : (least most : ℕ) → Text → Option ℕ
 number_between least most text =
     if is_unsigned_in least most text then Some (digits_value 10 (without_leading_plus text)) else None
@@ -274,7 +274,7 @@ IsLineOf sub.Infos matches line = IsInfosOf matches line
 IsLineOf sub.Print matches line = IsPrintOf matches line
 IsLineOf sub.Compile matches line = IsCompileOf matches line
 
--- a line is not read for want of memory, or for its first fault
+-- a line is not read: memory ran out, or this is its first fault
 abbrev pub IsFaultOf : Option Usage → Usage → Type 0
 IsFaultOf fault usage = (usage ≡ Memory) ⊎ (fault ≡ Some usage)
 

@@ -1,5 +1,6 @@
 //! The inputs of a command that has several.
-ghost use Rattle.std.specs.Prelude.{◌≡◌, IfOk, IfErr, OnOk, None, map, option_map, string_bytes, true, vec_len};
+ghost use Rattle.std.specs.Prelude.{◌≡◌, IfOk, IfErr, OnOk, None, map, option_map, string_bytes};
+ghost use Rattle.std.specs.Prelude.{true, vec_len};
 ghost use Rattle.clap.specs.Words.{found_of, rows_of};
 ghost use Rattle.cap_tools.specs.Command.{is_input_count};
 ghost use Rattle.cap_line.specs.Line.{files_fault, files_in, IsFaultOf};

@@ -8,7 +8,8 @@ ghost use Rattle.cap_line.specs.Names.{is_standard, uses_name_twice};
 pub const STANDARD: &str = "-";
 
 fn is_among(names: &[&str], wanted: &str) -> bool
-    ensures { result ≡ list_any (λ name. bytes_eq name wanted.now) (map (λ name. name.now) names.now) }
+    ensures { result ≡ list_any (λ name. bytes_eq name wanted.now)
+        (map (λ name. name.now) names.now) }
 {
     names.iter().any(|name| *name == wanted)
 }
@@ -20,9 +21,11 @@ fn standard_streams(names: &[&str]) -> usize
     names.iter().filter(|name| **name == STANDARD).count()
 }
 
-/// Whether the output, unless it is standard output, is an input too, or standard input is two inputs.
+/// Whether the output, unless it is standard output, is an input too, or standard input is two
+/// inputs.
 pub fn uses_name_twice(inputs: &[&str], output: Option<&str>) -> bool
-    ensures { result ≡ uses_name_twice (map (λ name. name.now) inputs.now) (option_map (λ name. name.now) output.entry) }
+    ensures { result ≡ uses_name_twice (map (λ name. name.now) inputs.now)
+        (option_map (λ name. name.now) output.entry) }
 {
     match output {
         Some(name) if name != STANDARD && is_among(inputs, name) => true,

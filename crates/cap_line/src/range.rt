@@ -37,7 +37,8 @@ fn sides<'a>(word: &'a str) -> (&'a str, &'a str)
     }
 }
 
-/// The range that a word names: `N`, or `N-M` from N to M, in decimal digits alone, with 1 <= N <= M < 2^63.
+/// The range that a word names: `N`, or `N-M` from N to M, in decimal digits alone, with 1 <= N <=
+/// M < 2^63.
 pub fn range_in(word: &str) -> Option<(u64, u64)>
     ensures value { result ≡ range_of word.now }
     ensures written { IfSome result (WritesRange word.now) }

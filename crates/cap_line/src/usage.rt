@@ -8,7 +8,7 @@ use thiserror::Error;
 /// Why words are no command line. Its text is what a message calls it.
 #[derive(Debug, Drop, Error)]
 pub enum Usage {
-    /// clap refuses the words, or answers a request for help.
+    /// clap refuses the words, or handles a request for help.
     #[error(transparent)]
     Refused(clap::Error),
     /// There are more than 512 ranges, or more than 256 inputs.

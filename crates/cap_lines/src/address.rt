@@ -1,6 +1,7 @@
 //! Addresses and ports.
 ghost use Rattle.std.specs.Prelude.{◌≡◌, ◌+◌, ◌≤◌, ◌<◌, ◌++◌, length};
-ghost use Rattle.cap_lines.specs.Addresses.{four_groups, ipv4_text, ipv6_text, mac_text, port_text, u16_of};
+ghost use Rattle.cap_lines.specs.Addresses.{four_groups, ipv4_text, ipv6_text, mac_text, port_text};
+ghost use Rattle.cap_lines.specs.Addresses.{u16_of};
 
 use crate::hexadecimal::{push_hex_group, push_hex_two};
 use crate::text::Text;

@@ -34,7 +34,8 @@ pub fn row_count(count: usize) -> usize
     count.div_ceil(ROW_BYTES)
 }
 
-/// Appends a blank and four digits for each two bytes, and a blank and two digits for a last single byte.
+/// Appends a blank and four digits for each two bytes, and a blank and two digits for a last single
+/// byte.
 fn push_pairs(text: &mut Text, bytes: &[u8])
     requires { length text.old + 3 * length bytes.now ≤ 256 }
     ensures value { text.new ≡ text.old ++ pairs bytes.now }

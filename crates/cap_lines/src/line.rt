@@ -72,8 +72,8 @@ fn push_link_part(text: &mut Text, link: u16, bytes: &[u8])
     }
 }
 
-/// Replaces the bytes of the buffer by the line of a packet, which ends with a line feed and has at most 250 bytes.
-/// `with_link` adds the link header.
+/// Replaces the bytes of the buffer by the line of a packet, which ends with a line feed and has at
+/// most 250 bytes. `with_link` adds the link header.
 #[tactic(auto, unfolding(crate::specs::Line::line))]
 pub fn write_line(text: &mut Text, with_link: bool, packet: &Packet<'_>)
     ensures value { text.new ≡ line with_link (captured packet.now) }

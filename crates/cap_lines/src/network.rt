@@ -1,6 +1,8 @@
 //! What a line says of a packet's network header.
 ghost use Rattle.std.specs.Prelude.{◌≡◌, ◌+◌, ◌≤◌, ◌<◌, ◌++◌, length};
-ghost use Rattle.cap_lines.specs.Network.{arp_part, has_ports, ipv4_ends, ipv4_part, ipv4_protocol, ipv6_ends, ipv6_part, ipv6_protocol, network_part, raw_part, typed_part};
+ghost use Rattle.cap_lines.specs.Network.{arp_part, has_ports, ipv4_ends, ipv4_part, ipv4_protocol};
+ghost use Rattle.cap_lines.specs.Network.{ipv6_ends, ipv6_part, ipv6_protocol, network_part};
+ghost use Rattle.cap_lines.specs.Network.{raw_part, typed_part};
 
 use crate::address::{push_ipv4, push_ipv6, push_port, u16_of};
 use crate::hexadecimal::push_hex_four;

@@ -19,16 +19,18 @@ pub struct Options {
     pub bytes: bool,
 }
 
-/// Writes the line of a packet, and the rows of its bytes where they are asked for, by one `write_all` each. `text` is
-/// the buffer for them. An error is a failure of the device in this call, after a prefix of what is printed that isn't
-/// the whole.
+/// Writes the line of a packet, and the rows of its bytes where they are asked for, by one
+/// `write_all` each. `text` is the buffer for them. An error is a failure of the device in this
+/// call, after a prefix of what is printed that isn't the whole.
 pub fn print_packet<O: Output>(
     text: &mut Text,
     options: Options,
     packet: &Packet<'_>,
     output: &mut O,
 ) -> Result<(), DeviceFault>
-    ensures told { IsTrue O.tells → AppendsOrStops result (O.written output.old) (printed options (captured packet.now)) (O.written output.new) }
+    ensures told { IsTrue O.tells
+        → AppendsOrStops result (O.written output.old) (printed options (captured packet.now))
+        (O.written output.new) }
     ensures failed { O.failures output.new ≡ O.failures output.old + failures_of result }
     ensures room { O.room output.new ≡ O.room output.old }
 {
@@ -44,7 +46,8 @@ pub fn print_packet<O: Output>(
 
 /// Writes the rows of these bytes, one after another.
 fn write_rows<O: Output>(text: &mut Text, bytes: &[u8], output: &mut O) -> Result<(), DeviceFault>
-    ensures told { IsTrue O.tells → AppendsOrStops result (O.written output.old) (rows bytes.now) (O.written output.new) }
+    ensures told { IsTrue O.tells
+        → AppendsOrStops result (O.written output.old) (rows bytes.now) (O.written output.new) }
     ensures failed { O.failures output.new ≡ O.failures output.old + failures_of result }
     ensures room { O.room output.new ≡ O.room output.old }
 {

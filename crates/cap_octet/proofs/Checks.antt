@@ -1,4 +1,4 @@
--- A table of checks answers no fault exactly where all of them are met.
+-- A table of checks returns no fault exactly where all of them are met.
 use Rattle.std.proofs.Common.{◌≡◌, Bool, true, false, List, [], ◌∷◌, ◌++◌, Option, Some, None, Ok, Err, refl}
 use Rattle.std.specs.List.{AllByRecursion}
 use Rattle.cap_octet.specs.declared.fault.Fault.{Fault}

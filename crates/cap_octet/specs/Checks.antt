@@ -1,4 +1,4 @@
--- Checks are tables: each row is a test and the fault that is told where the test is not met.
+-- Checks are tables: each row is a test and the fault that is reported where the test is not met.
 use Rattle.std.specs.Prelude.{Bool, List, [], ◌∷◌, Option, Some, None, Result, Ok, Err, if◌then◌else◌}
 use Rattle.cap_octet.specs.declared.fault.Fault.{Fault}
 

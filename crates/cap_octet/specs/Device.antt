@@ -8,7 +8,7 @@ abbrev pub count_of : {E : Type 0} → Result ℕ E → ℕ
 count_of (Ok n) = n
 count_of (Err fault) = 0
 
--- how many failures of the device a call tells: one or none
+-- how many failures of the device a call reports: one or none
 abbrev pub failures_of : {X E : Type 0} → Result X E → ℕ
 failures_of (Ok value) = 0
 failures_of (Err fault) = 1
@@ -34,7 +34,7 @@ pub record TakesFull (unread buf : List ℕ) (n : ℕ) (unread' buf' : List ℕ)
   pub taken : Takes unread buf n unread' buf'
   pub full : n ≡ min (length buf) (length unread)
 
--- Where the device failed, it had given the first k bytes, fewer than the buffer has room for. They stand in its front,
+-- Where the device failed, it had given the first k bytes, fewer than the buffer has room for. They are in its front,
 -- and are counted.
 pub record TakesFront (unread buf : List ℕ) (given : ℕ) (unread' buf' : List ℕ) (given' : ℕ) : Type 0 where
   pub k : ℕ
@@ -51,16 +51,16 @@ abbrev pub Writes : List ℕ → List ℕ → Result ℕ DeviceFault → List �
 Writes written buf (Ok n) written' = written' ≡ written ++ take n buf
 Writes written buf (Err fault) written' = written' ≡ written
 
--- all bytes are appended to what was written, or the beginning of them that the error tells
+-- all bytes are appended to what was written, or the prefix of them that the error states
 abbrev pub WritesAll : List ℕ → List ℕ → Result (Unit {0}) Stopped → List ℕ → Type 0
 WritesAll written buf (Ok _) written' = written' ≡ written ++ buf
 WritesAll written buf (Err stopped) written' = written' ≡ written ++ take stopped.written buf
 
--- a beginning of the bytes is appended to what was written, not the whole
+-- a prefix of the bytes is appended to what was written, not the whole
 abbrev pub Stops : List ℕ → List ℕ → List ℕ → Type 0
 Stops written bytes written' = (n : ℕ) × (n < length bytes) × (written' ≡ written ++ take n bytes)
 
--- all bytes are appended to what was written; or a beginning of them, not the whole, where the device failed
+-- all bytes are appended to what was written; or a prefix of them, not the whole, where the device failed
 abbrev pub AppendsOrStops : {E : Type 0} → Result (Unit {0}) E → List ℕ → List ℕ → List ℕ → Type 0
 AppendsOrStops (Ok done) written bytes written' = written' ≡ written ++ bytes
 AppendsOrStops (Err fault) written bytes written' = Stops written bytes written'

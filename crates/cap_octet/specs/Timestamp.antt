@@ -35,7 +35,7 @@ number_at text at count = number_of (take count (drop at text))
 abbrev pub optional_fraction : List ℕ → Option ℕ
 optional_fraction text = if length text == 0 then Some 0 else if slice_index text 0 == 46 then fraction_of (drop 1 text) else None
 
--- YYYY-MM-DDThh:mm:ss, something or nothing, Z: the marks stand in their places
+-- YYYY-MM-DDThh:mm:ss, something or nothing, Z: the marks are in their places
 unfoldable pub is_date_time : List ℕ → Bool
 is_date_time text =
     nat_le 20 (length text) && ((slice_index text 4 == 45) && ((slice_index text 7 == 45) && ((slice_index text 10 == 84)

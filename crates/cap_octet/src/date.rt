@@ -73,7 +73,8 @@ pub fn nine_digits(number: u32) -> [u8; 9]
     ]
 }
 
-/// The date of a time in nanoseconds since 1970-01-01 00:00:00 UTC: `YYYY-MM-DD hh:mm:ss.nnnnnnnnn`, in UTC.
+/// The date of a time in nanoseconds since 1970-01-01 00:00:00 UTC: `YYYY-MM-DD
+/// hh:mm:ss.nnnnnnnnn`, in UTC.
 #[tactic(auto, unfolding(crate::specs::Date::date_text))]
 pub fn date_bytes(time: u64) -> [u8; 29]
     requires { time < 2 ^ 63 }

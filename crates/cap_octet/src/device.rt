@@ -1,7 +1,9 @@
 //! Devices: what a contract sees of bytes that come and go.
-ghost use Rattle.std.specs.Prelude.{◌≡◌, ℕ, ◌+◌, ◌^◌, ◌<◌, ◌≤◌, Bool, IsTrue, List, length, IfOk, IfErr};
+ghost use Rattle.std.specs.Prelude.{◌≡◌, ℕ, ◌+◌, ◌^◌, ◌<◌, ◌≤◌, Bool, IsTrue, List, length, IfOk};
+ghost use Rattle.std.specs.Prelude.{IfErr};
 ghost use Rattle.std.specs.List.{flat_map};
-ghost use Rattle.cap_octet.specs.Device.{AppendsOrStops, Reads, Fills, Writes, WritesAll, count_of, failures_of};
+ghost use Rattle.cap_octet.specs.Device.{AppendsOrStops, Reads, Fills, Writes, WritesAll, count_of};
+ghost use Rattle.cap_octet.specs.Device.{failures_of};
 
 /// The device failed in this call.
 #[derive(Clone, Copy, Debug, PartialEq, Eq)]
@@ -18,7 +20,8 @@ pub trait Input {
     /// Whether contracts know the bytes that come.
     ghost tells: { Bool };
 
-    /// The bytes that reads will give from here on. It means something only where the device `tells`.
+    /// The bytes that reads will give from here on. It means something only where the device
+    /// `tells`.
     ghost unread: { Self → List ℕ };
 
     /// How many bytes it has given.
@@ -30,15 +33,17 @@ pub trait Input {
     /// Whether it never fails, whatever is read. No call changes that.
     ghost never_fails: { Self → Bool };
 
-    /// Reads into the front of the buffer and answers how many bytes came. None for a buffer that isn't empty
-    /// means the end. An error is a failure of the device in this call: it gave nothing and left the buffer.
+    /// Reads into the front of the buffer and returns how many bytes came. None for a buffer that
+    /// isn't empty means the end. An error is a failure of the device in this call: it gave nothing
+    /// and left the buffer.
     fn read(&mut self, buf: &mut [u8]) -> Result<usize, DeviceFault>
         ensures within { IfOk result (λ n. n ≤ length buf.old) }
         ensures counted { given self.new ≡ given self.old + count_of result }
         ensures bounded { given self.new < 2 ^ 63 }
         ensures failed { failures self.new ≡ failures self.old + failures_of result }
         ensures never { never_fails self.new ≡ never_fails self.old }
-        ensures told { IsTrue tells → Reads (unread self.old) buf.old result (unread self.new) buf.new };
+        ensures told { IsTrue tells
+            → Reads (unread self.old) buf.old result (unread self.new) buf.new };
 
     /// A device that never fails did not fail before.
     ghost unfailed: { (s : Self) → IsTrue (never_fails s) → failures s ≡ 0 };
@@ -58,8 +63,8 @@ pub trait Output {
     /// How many bytes in all it takes at least before it fails. No call changes that.
     ghost room: { Self → ℕ };
 
-    /// Writes a front of the bytes, at least one where there is one, and answers how many. An error is a failure of
-    /// the device in this call: it took nothing.
+    /// Writes a front of the bytes, at least one where there is one, and returns how many. An error
+    /// is a failure of the device in this call: it took nothing.
     fn write(&mut self, buf: &[u8]) -> Result<usize, DeviceFault>
         ensures within { IfOk result (λ n. n ≤ length buf.now) }
         ensures some { IfOk result (λ n. 0 < length buf.now → 0 < n) }
@@ -71,9 +76,9 @@ pub trait Output {
     ghost filled: { (s : Self) → 0 < failures s → room s ≤ length (written s) };
 }
 
-/// Fills the buffer from its front and answers how many bytes came: fewer than it has room for only at the end.
-/// An error is a failure of the device in this call, after fewer bytes than the buffer has room for; these stand in its
-/// front.
+/// Fills the buffer from its front and returns how many bytes came: fewer than it has room for only
+/// at the end. An error is a failure of the device in this call, after fewer bytes than the buffer
+/// has room for; these are in its front.
 #[inline(always)]
 pub fn read_full<I: Input>(input: &mut I, buf: &mut [u8]) -> Result<usize, DeviceFault>
     ensures within { IfOk result (λ n. n ≤ length buf.old) }
@@ -84,7 +89,9 @@ pub fn read_full<I: Input>(input: &mut I, buf: &mut [u8]) -> Result<usize, Devic
     ensures few { IfErr result (λ _. I.given input.new < I.given input.old + length buf.old) }
     ensures failed { I.failures input.new ≡ I.failures input.old + failures_of result }
     ensures never { I.never_fails input.new ≡ I.never_fails input.old }
-    ensures told { IsTrue I.tells → Fills (I.unread input.old) buf.old (I.given input.old) result (I.unread input.new) buf.new (I.given input.new) }
+    ensures told { IsTrue I.tells
+        → Fills (I.unread input.old) buf.old (I.given input.old) result (I.unread input.new) buf.new
+        (I.given input.new) }
 {
     let mut count = 0;
     while count < buf.len() {
@@ -97,14 +104,15 @@ pub fn read_full<I: Input>(input: &mut I, buf: &mut [u8]) -> Result<usize, Devic
     Ok(count)
 }
 
-/// Writes all of the bytes. An error is a failure of the device in this call, and tells how many bytes, fewer than
-/// all, were written before it.
+/// Writes all of the bytes. An error is a failure of the device in this call, and reports how many
+/// bytes, fewer than all, were written before it.
 #[inline(always)]
 pub fn write_all<O: Output>(output: &mut O, buf: &[u8]) -> Result<(), Stopped>
     ensures front { IfErr result (λ stopped. stopped.written < length buf.now) }
     ensures failed { O.failures output.new ≡ O.failures output.old + failures_of result }
     ensures room { O.room output.new ≡ O.room output.old }
-    ensures told { IsTrue O.tells → WritesAll (O.written output.old) buf.now result (O.written output.new) }
+    ensures told { IsTrue O.tells
+        → WritesAll (O.written output.old) buf.now result (O.written output.new) }
 {
     let mut written = 0;
     while written < buf.len() {
@@ -116,10 +124,12 @@ pub fn write_all<O: Output>(output: &mut O, buf: &[u8]) -> Result<(), Stopped>
     Ok(())
 }
 
-/// Writes parts one after another. An error is a failure of the device in this call, after a beginning of the parts
-/// that isn't the whole.
+/// Writes parts one after another. An error is a failure of the device in this call, after a prefix
+/// of the parts that isn't the whole.
 pub fn write_parts<O: Output>(output: &mut O, parts: &[&[u8]]) -> Result<(), DeviceFault>
-    ensures told { IsTrue O.tells → AppendsOrStops result (O.written output.old) (flat_map (λ part. part.now) parts.now) (O.written output.new) }
+    ensures told { IsTrue O.tells
+        → AppendsOrStops result (O.written output.old) (flat_map (λ part. part.now) parts.now)
+        (O.written output.new) }
     ensures failed { O.failures output.new ≡ O.failures output.old + failures_of result }
     ensures room { O.room output.new ≡ O.room output.old }
 {

@@ -1,5 +1,6 @@
 //! Devices over memory, which tell their bytes.
-ghost use Rattle.std.specs.Prelude.{◌≡◌, ℕ, ◌+◌, ◌≤◌, ◌<◌, ◌^◌, IsTrue, List, [], length, take, drop, true, IfOk, OnErr, IsOk, refl};
+ghost use Rattle.std.specs.Prelude.{◌≡◌, ℕ, ◌+◌, ◌≤◌, ◌<◌, ◌^◌, IsTrue, List, [], length, take};
+ghost use Rattle.std.specs.Prelude.{drop, true, IfOk, OnErr, IsOk, refl};
 ghost use Rattle.cap_octet.specs.Device.{Reads, Writes, count_of, failures_of};
 
 use crate::device::{DeviceFault, Input, Output};
@@ -51,7 +52,8 @@ impl Input for MemInput<'_> {
         ensures bounded { self.new.given < 2 ^ 63 }
         ensures failed { 0 ≡ 0 + failures_of result }
         ensures never { true ≡ true }
-        ensures told { IsTrue true → Reads self.old.rest.now buf.old result self.new.rest.now buf.new }
+        ensures told { IsTrue true
+            → Reads self.old.rest.now buf.old result self.new.rest.now buf.new }
         ensures never_fails { IsOk result }
     {
         let count = self.rest.len().min(buf.len());
@@ -113,7 +115,9 @@ impl Output for MemOutput<'_> {
         ensures some { IfOk result (λ n. 0 < length buf.now → 0 < n) }
         ensures failed { self.new.failures.count ≡ self.old.failures.count + failures_of result }
         ensures room { length self.new.bytes.now ≡ length self.old.bytes.now }
-        ensures told { IsTrue true → Writes (take self.old.len self.old.bytes.now) buf.now result (take self.new.len self.new.bytes.now) }
+        ensures told { IsTrue true
+            → Writes (take self.old.len self.old.bytes.now) buf.now result
+            (take self.new.len self.new.bytes.now) }
         ensures full { OnErr result (self.old.len ≡ length self.old.bytes.now) }
     {
         let room = self.bytes.len() - self.len;

@@ -1,8 +1,10 @@
 //! Numbers of seconds that are read as nanoseconds.
-ghost use Rattle.std.specs.Prelude.{◌≡◌, ◌<◌, ◌≤◌, ◌^◌, ◌+◌, ◌*◌, ◌==◌, IfSome, IfNone, length, position, true, nat_lt};
+ghost use Rattle.std.specs.Prelude.{◌≡◌, ◌<◌, ◌≤◌, ◌^◌, ◌+◌, ◌*◌, ◌==◌, IfSome, IfNone, length};
+ghost use Rattle.std.specs.Prelude.{position, true, nat_lt};
 ghost use Rattle.std.specs.Char.{digit_value};
 ghost use Rattle.std.specs.Str.Parse.{digits_value};
-ghost use Rattle.cap_octet.specs.Seconds.{are_digits, number_of, fraction_of, span_with, span_value, in_u64, time_within};
+ghost use Rattle.cap_octet.specs.Seconds.{are_digits, number_of, fraction_of, span_with};
+ghost use Rattle.cap_octet.specs.Seconds.{span_value, in_u64, time_within};
 
 use crate::date::NANOS_PER_SECOND;
 
@@ -87,10 +89,11 @@ fn point_in(text: &[u8]) -> Option<usize>
     text.iter().position(|byte| *byte == b'.')
 }
 
-/// The nanoseconds of an unsigned decimal number of seconds, with a point and 1 to 9 digits behind it or without both.
+/// The nanoseconds of an unsigned decimal number of seconds, with a point and 1 to 9 digits behind
+/// it or without both.
 ///
-/// `None` for every other text, and from 2^63 nanoseconds on. There may be leading zeros; a digit stands on each side
-/// of the point.
+/// `None` for every other text, and from 2^63 nanoseconds on. There may be leading zeros; a digit
+/// stands on each side of the point.
 pub fn span_of(text: &str) -> Option<u64>
     ensures { result ≡ span_value text.now }
 {

@@ -11,7 +11,8 @@ use std::io::{Read, Write};
 /// Fewer bytes than this are read from one input.
 const MOST_GIVEN: u64 = 0x8000_0000_0000_0000;
 
-/// Over a reader, as a file or standard input. A read that would reach 2^63 bytes in all is a failure.
+/// Over a reader, as a file or standard input. A read that would reach 2^63 bytes in all is a
+/// failure.
 #[derive(Drop)]
 pub struct StdInput<R> {
     reader: R,
@@ -54,7 +55,8 @@ impl<R: Read> Input for StdInput<R> {
         ensures failed { self.new.failures.count ≡ self.old.failures.count + failures_of result }
         ensures never { false ≡ false }
         ensures told { IsTrue false → Reads [] buf.old result [] buf.new }
-        ensures passes { IsOneRead (R.remaining self.old.reader) self.old.given result (R.remaining self.new.reader) buf.new }
+        ensures passes { IsOneRead (R.remaining self.old.reader) self.old.given result
+            (R.remaining self.new.reader) buf.new }
     {
         match self.reader.read(buf) {
             Ok(count) if (count as u64) < MOST_GIVEN - self.given => {
@@ -71,7 +73,8 @@ impl<R: Read> Input for StdInput<R> {
     ghost unfailed = { Prim.search rules };
 }
 
-/// Over a writer, as a file or standard output. A write that takes nothing of some bytes is a failure.
+/// Over a writer, as a file or standard output. A write that takes nothing of some bytes is a
+/// failure.
 #[derive(Drop)]
 pub struct StdOutput<W> {
     writer: W,
@@ -118,7 +121,8 @@ impl<W: Write> Output for StdOutput<W> {
         ensures failed { self.new.failures.count ≡ self.old.failures.count + failures_of result }
         ensures room { ◌≡◌ {A = ℕ} 0 0 }
         ensures told { IsTrue false → Writes [] buf.now result [] }
-        ensures passes { IsOneWrite (W.contents self.old.writer) buf.now result (W.contents self.new.writer) }
+        ensures passes { IsOneWrite (W.contents self.old.writer) buf.now result
+            (W.contents self.new.writer) }
     {
         match self.writer.write(buf) {
             Ok(count) if 0 < count || buf.is_empty() => Ok(count),

@@ -1,6 +1,8 @@
 //! Timestamps that are read as times.
 ghost use Rattle.std.specs.Prelude.{◌≡◌, ◌≤◌, ◌+◌, IsTrue, length};
-ghost use Rattle.cap_octet.specs.Timestamp.{day_number, day_with, second_of_day, clock_with, time_with, number_at, optional_fraction, is_date_time, date_time_value, time_value};
+ghost use Rattle.cap_octet.specs.Timestamp.{day_number, day_with, second_of_day, clock_with};
+ghost use Rattle.cap_octet.specs.Timestamp.{time_with, number_at, optional_fraction, is_date_time};
+ghost use Rattle.cap_octet.specs.Timestamp.{date_time_value, time_value};
 
 use crate::date::NANOS_PER_SECOND;
 use crate::seconds::{fraction_of, number_of, span_of, time_within};
@@ -84,7 +86,7 @@ fn optional_fraction(text: &[u8]) -> Option<u64>
     }
 }
 
-/// Whether the marks of a date and a time of day in UTC stand in their places.
+/// Whether the marks of a date and a time of day in UTC are in their places.
 #[tactic(auto, unfolding(crate::specs::Timestamp::is_date_time))]
 fn is_date_time(text: &[u8]) -> bool
     ensures value { result ≡ is_date_time text.now }
@@ -112,9 +114,10 @@ fn date_time_value(text: &[u8]) -> Option<u64>
 
 /// The time of a timestamp, in nanoseconds since 1970-01-01 00:00:00 UTC.
 ///
-/// A timestamp is `YYYY-MM-DDThh:mm:ss`, with a point and 1 to 9 digits behind it or without, then `Z` (a `date-time`
-/// of RFC 3339 in UTC); or a number of seconds as [`span_of`] reads it. `None` for every other text, for a day that the
-/// calendar hasn't, for leap seconds, before 1970, and from 2^63 nanoseconds on.
+/// A timestamp is `YYYY-MM-DDThh:mm:ss`, with a point and 1 to 9 digits behind it or without, then
+/// `Z` (a `date-time` of RFC 3339 in UTC); or a number of seconds as [`span_of`] reads it. `None`
+/// for every other text, for a day that the calendar hasn't, for leap seconds, before 1970, and
+/// from 2^63 nanoseconds on.
 #[tactic(auto, unfolding(crate::specs::Timestamp::time_value))]
 pub fn time_of(text: &str) -> Option<u64>
     ensures { result ≡ time_value text.now }

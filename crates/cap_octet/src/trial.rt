@@ -1,12 +1,15 @@
-//! Devices for tests: over memory, a few bytes a call, failing where they are told to, counting what was asked.
-ghost use Rattle.std.specs.Prelude.{◌≡◌, ℕ, ◌+◌, ◌-◌, ◌≤◌, ◌<◌, ◌^◌, IsTrue, List, [], length, Some, None, true, IfOk, IsErr, OnErr, OnOk, min, not, is_some};
+//! Devices for tests: over memory, a few bytes a call, failing where they are told to, counting
+//! what was asked.
+ghost use Rattle.std.specs.Prelude.{◌≡◌, ℕ, ◌+◌, ◌-◌, ◌≤◌, ◌<◌, ◌^◌, IsTrue, List, [], length};
+ghost use Rattle.std.specs.Prelude.{Some, None, true, IfOk, IsErr, OnErr, OnOk, min, not, is_some};
 ghost use Rattle.cap_octet.specs.Device.{Reads, Writes, count_of, failures_of};
 
 use crate::device::{DeviceFault, Input, Output};
 use crate::failures::FailureCount;
 use crate::memory::{MemInput, MemOutput};
 
-/// Gives the bytes of a slice, at most `piece` a read, and fails at its read number `at`, counted from 1.
+/// Gives the bytes of a slice, at most `piece` a read, and fails at its read number `at`, counted
+/// from 1.
 #[derive(Drop)]
 pub struct TrialInput<'a> {
     inner: MemInput<'a>,
@@ -66,11 +69,14 @@ impl Input for TrialInput<'_> {
     /// Fails at its read number `at`, and there alone.
     fn read(&mut self, buf: &mut [u8]) -> Result<usize, DeviceFault>
         ensures within { IfOk result (λ n. n ≤ length buf.old) }
-        ensures counted { ⟦<MemInput<'static> as Input>⟧.given self.new.inner ≡ ⟦<MemInput<'static> as Input>⟧.given self.old.inner + count_of result }
+        ensures counted { ⟦<MemInput<'static> as Input>⟧.given self.new.inner
+            ≡ ⟦<MemInput<'static> as Input>⟧.given self.old.inner + count_of result }
         ensures bounded { ⟦<MemInput<'static> as Input>⟧.given self.new.inner < 2 ^ 63 }
         ensures failed { self.new.failures.count ≡ self.old.failures.count + failures_of result }
         ensures never { not (is_some self.new.at) ≡ not (is_some self.old.at) }
-        ensures told { IsTrue true → Reads (⟦<MemInput<'static> as Input>⟧.unread self.old.inner) buf.old result (⟦<MemInput<'static> as Input>⟧.unread self.new.inner) buf.new }
+        ensures told { IsTrue true
+            → Reads (⟦<MemInput<'static> as Input>⟧.unread self.old.inner) buf.old result
+            (⟦<MemInput<'static> as Input>⟧.unread self.new.inner) buf.new }
         ensures piece { IfOk result (λ n. n ≤ self.old.piece) }
         ensures fails { OnErr result (self.old.at ≡ Some self.new.reads) }
         ensures fails_there { self.old.at ≡ Some self.new.reads → IsErr result }
@@ -89,7 +95,8 @@ impl Input for TrialInput<'_> {
     ghost unfailed = { λ s never. s.unfailed never };
 }
 
-/// Writes into a slice that it was lent, at most `piece` bytes a write, and fails only where that is full.
+/// Writes into a slice that it was lent, at most `piece` bytes a write, and fails only where that
+/// is full.
 #[derive(Drop)]
 pub struct TrialOutput<'a> {
     inner: MemOutput<'a>,
@@ -98,7 +105,8 @@ pub struct TrialOutput<'a> {
 }
 
 impl<'a> TrialOutput<'a> {
-    /// An output with nothing written and room for as many bytes as the slice has. `piece` is at least 1.
+    /// An output with nothing written and room for as many bytes as the slice has. `piece` is at
+    /// least 1.
     pub fn new(bytes: &'a mut [u8], piece: usize) -> Self
         requires { 0 < piece }
         ensures written { ⟦<TrialOutput<'a> as Output>⟧.written result ≡ [] }
@@ -133,9 +141,13 @@ impl Output for TrialOutput<'_> {
     fn write(&mut self, buf: &[u8]) -> Result<usize, DeviceFault>
         ensures within { IfOk result (λ n. n ≤ length buf.now) }
         ensures some { IfOk result (λ n. 0 < length buf.now → 0 < n) }
-        ensures failed { ⟦<MemOutput<'static> as Output>⟧.failures self.new.inner ≡ ⟦<MemOutput<'static> as Output>⟧.failures self.old.inner + failures_of result }
-        ensures room { ⟦<MemOutput<'static> as Output>⟧.room self.new.inner ≡ ⟦<MemOutput<'static> as Output>⟧.room self.old.inner }
-        ensures told { IsTrue true → Writes (⟦<MemOutput<'static> as Output>⟧.written self.old.inner) buf.now result (⟦<MemOutput<'static> as Output>⟧.written self.new.inner) }
+        ensures failed { ⟦<MemOutput<'static> as Output>⟧.failures self.new.inner
+            ≡ ⟦<MemOutput<'static> as Output>⟧.failures self.old.inner + failures_of result }
+        ensures room { ⟦<MemOutput<'static> as Output>⟧.room self.new.inner
+            ≡ ⟦<MemOutput<'static> as Output>⟧.room self.old.inner }
+        ensures told { IsTrue true
+            → Writes (⟦<MemOutput<'static> as Output>⟧.written self.old.inner) buf.now result
+            (⟦<MemOutput<'static> as Output>⟧.written self.new.inner) }
         ensures piece { IfOk result (λ n. n ≤ self.old.piece) }
         ensures full { OnErr result (self.old.inner.len ≡ length self.old.inner.bytes.now) }
         ensures settings { self.new.piece ≡ self.old.piece }

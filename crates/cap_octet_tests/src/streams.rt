@@ -1,4 +1,5 @@
-//! What std's readers and writers give and take through capkit's devices, a few bytes a call and where they fail.
+//! What std's readers and writers give and take through capkit's devices, a few bytes a call and
+//! where they fail.
 use cap_octet::{DeviceFault, Input, Output, StdInput, StdOutput, read_full, write_all};
 use std::io::{Cursor, Read};
 

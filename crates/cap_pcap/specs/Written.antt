@@ -29,7 +29,7 @@ heading resolution link =
     little_bytes 4 (magic resolution) ++ little_bytes 2 2 ++ little_bytes 2 4 ++ little_bytes 4 0 ++ little_bytes 4 0
     ++ little_bytes 4 most_captured ++ little_bytes 4 link
 
--- what stands in front of a packet's data: seconds, the part of a second, captured length, original length
+-- what is in front of a packet's data: seconds, the part of a second, captured length, original length
 abbrev pub record_heading : Resolution → Captured → List ℕ
 record_heading resolution p =
     little_bytes 4 (p.time / 1000000000) ++ little_bytes 4 (p.time % 1000000000 / nanoseconds_of_part resolution)

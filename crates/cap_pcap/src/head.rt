@@ -2,7 +2,8 @@
 ghost use Rattle.std.specs.Prelude.{◌≡◌, ◌/◌, ◌≤◌, ◌<◌, ◌^◌, length, IfOk};
 ghost use Rattle.cap_octet.specs.Checks.{checked, first_failing};
 ghost use Rattle.cap_pcap.specs.Header.{form_in, head_fault, head_in, magic};
-ghost use Rattle.cap_pcap.specs.Record.{field_checks, most_captured, nanoseconds_of_part, parts_of_second, record_head_in};
+ghost use Rattle.cap_pcap.specs.Record.{field_checks, most_captured, nanoseconds_of_part};
+ghost use Rattle.cap_pcap.specs.Record.{parts_of_second, record_head_in};
 
 use cap_octet::{Fault, Order, u16_at, u32_at};
 
@@ -79,7 +80,8 @@ impl Resolution {
         }
     }
 
-    /// How many whole parts so many nanoseconds are. Each divisor is a constant, which costs no division.
+    /// How many whole parts so many nanoseconds are. Each divisor is a constant, which costs no
+    /// division.
     pub(crate) fn whole_parts(self, nanoseconds: u64) -> u64
         ensures { result ≡ nanoseconds / nanoseconds_of_part self }
     {
@@ -90,8 +92,8 @@ impl Resolution {
     }
 }
 
-/// The byte order and the resolution that the first four bytes of a savefile tell, `None` where they are no magic
-/// number in either order. The caller knows four bytes to be there.
+/// The byte order and the resolution that the first four bytes of a savefile tell, `None` where
+/// they are no magic number in either order. The caller knows four bytes to be there.
 pub fn read_magic(bytes: &[u8]) -> Option<(Order, Resolution)>
     requires { 4 ≤ length bytes.now }
     ensures { result ≡ form_in bytes.now }
@@ -108,8 +110,8 @@ pub fn read_magic(bytes: &[u8]) -> Option<(Order, Resolution)>
     }
 }
 
-/// Reads a file header, or tells the first check that it fails: no magic number, another version than 2.4, a link
-/// type field above 65,535.
+/// Reads a file header, or reports the first check that it fails: no magic number, another version
+/// than 2.4, a link type field above 65,535.
 pub fn read_head(bytes: &[u8; 24]) -> Result<Head, Fault>
     ensures { result ≡ checked (head_fault bytes.now) (head_in bytes.now) }
 {
@@ -131,10 +133,12 @@ pub fn read_head(bytes: &[u8; 24]) -> Result<Head, Fault>
     })
 }
 
-/// Reads what stands before a record's data, or tells the first check that its fields fail: more than 262,144
-/// captured bytes, a part of a second that is a whole one or more.
+/// Reads what is before a record's data, or reports the first check that its fields fail: more than
+/// 262,144 captured bytes, a part of a second that is a whole one or more.
 pub fn read_record(head: &Head, bytes: &[u8; 16]) -> Result<RecordHead, Fault>
-    ensures answer { result ≡ checked (first_failing (field_checks head.now bytes.now)) (record_head_in head.now bytes.now) }
+    ensures answer { result
+        ≡ checked (first_failing (field_checks head.now bytes.now))
+        (record_head_in head.now bytes.now) }
     ensures in_range { IfOk result (λ found. found.time < 2 ^ 63) }
     ensures short { IfOk result (λ found. found.captured ≤ most_captured) }
 {

@@ -3,7 +3,8 @@ ghost use Rattle.std.specs.Prelude.{◌≡◌, None};
 ghost use Rattle.cap_octet.specs.Checks.{checked, first_failing};
 ghost use Rattle.cap_octet.specs.Packet.{captured};
 ghost use Rattle.cap_pcap.specs.Header.{magic};
-ghost use Rattle.cap_pcap.specs.Written.{IsPcap, heading, record_heading, resolution_of, fit_checks};
+ghost use Rattle.cap_pcap.specs.Written.{IsPcap, heading, record_heading, resolution_of};
+ghost use Rattle.cap_pcap.specs.Written.{fit_checks};
 
 use crate::head::{MOST_CAPTURED, Resolution, SECOND};
 use byteorder::{ByteOrder, LittleEndian};
@@ -21,8 +22,9 @@ fn written_resolution(format: Format) -> Resolution
     }
 }
 
-/// Whether a pcap form holds a packet, or the first check that it fails: more than 262,144 captured bytes, 2^32
-/// seconds or more. Its caller owes a format other than pcapng; both pcap forms hold the same packets.
+/// Whether a pcap form holds a packet, or the first check that it fails: more than 262,144 captured
+/// bytes, 2^32 seconds or more. Its caller owes a format other than pcapng; both pcap forms hold
+/// the same packets.
 pub fn fits(_format: Format, packet: &Packet<'_>) -> Result<(), Fault>
     requires { IsPcap _format }
     ensures { result ≡ checked (first_failing (fit_checks (captured packet.now))) tt }
@@ -36,7 +38,8 @@ pub fn fits(_format: Format, packet: &Packet<'_>) -> Result<(), Fault>
     Ok(())
 }
 
-/// The file header of a pcap form, with the link type of the packets and the greatest snap length. Its caller owes a format other than pcapng.
+/// The file header of a pcap form, with the link type of the packets and the greatest snap length.
+/// Its caller owes a format other than pcapng.
 pub fn head_bytes(format: Format, link: u16) -> [u8; 24]
     requires { IsPcap format }
     ensures { result ≡ heading (resolution_of format) link }
@@ -50,8 +53,8 @@ pub fn head_bytes(format: Format, link: u16) -> [u8; 24]
     bytes
 }
 
-/// What stands in front of a packet's data. Its caller owes a format other than pcapng, and knows by `fits` that the
-/// format holds the packet.
+/// What is in front of a packet's data. Its caller owes a format other than pcapng, and knows by
+/// `fits` that the format holds the packet.
 pub fn record_bytes(format: Format, packet: &Packet<'_>) -> [u8; 16]
     requires form { IsPcap format }
     requires fits { first_failing (fit_checks (captured packet.now)) ≡ None }

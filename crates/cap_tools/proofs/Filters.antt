@@ -37,7 +37,7 @@ answers-by Yes a right = nonzero a (right.1 refl)
 answers-by No a right = zero-unless a (λ other. let same : No ≡ Yes = right.0 other in absurd (cc))
 answers-by Rejected a right = zero-unless a (λ other. let same : Rejected ≡ Yes = right.0 other in absurd (cc))
 
--- a program for an expression answers other than 0 where it passes
+-- a program for an expression accepts a packet where it passes
 pub run-answers : (prog : List Insn) (e : Expression) (link : Link) (p : List ℕ) (n answer count : ℕ) → IsProgramOf prog e link → machine prog p n (length prog) ≡ Answered answer count
     → Answers (passing (holds e link p n)) (Ok (not (nat_eq answer 0)))
 run-answers prog e link p n answer count is met =
@@ -141,7 +141,7 @@ pub answers-none : (e : Expression) (programs : List Content) (p : Captured) →
 answers-none empty programs p sound none = absurd sound.some
 answers-none (truth a) programs p sound none = rw none refl
 
--- the program of its row answers other than 0 where a packet passes
+-- the program of its row accepts it where a packet passes
 pub answers-at : (e : Expression) (programs : List Content) (p : Captured) (i answer count : ℕ) → IsSound e programs → place_of p.link ≡ Some i
     → ((d : Content) → met_on p (get_or programs i d).insns ≡ Answered answer count) → Answers (expression_decides e p) (Ok (not (nat_eq answer 0)))
 answers-at empty programs p i answer count sound is met = absurd sound.some

@@ -11,7 +11,7 @@ pub data Decision : Type 0 where
 abbrev pub keep_if : Bool → Decision
 keep_if kept = if kept then Keep else Skip
 
--- whether a packet is kept, by its decision: a refusal is answered as it is
+-- whether a packet is kept, by its decision: a refusal is returned as it is
 abbrev pub Answers : Decision → Result Bool Fault → Type 0
 Answers (Refuse refusal) r = r ≡ Err refusal
 Answers Keep (Ok kept) = kept ≡ true

@@ -12,7 +12,7 @@ use Rattle.cap_tools.specs.Expressions.{IsExpression, IsReasonFor}
 use Rattle.cap_tools.specs.Messages.{refusal_message, refusal_status}
 use Rattle.cap_tools.specs.Running.{OutputView, OutputFails, OnlyTells}
 
--- a valid program for the expression that a text is: it answers other than 0 exactly where the expression reads yes on the
+-- a valid program for the expression that a text is: it accepts a packet exactly where the expression matches the
 -- link, and has at most as many instructions as the expression's bound
 pub record IsCompiled (text : List ℕ) (link : Link) (prog : List Insn) : Type 0 where
   pub e : tree.Expression
@@ -26,7 +26,7 @@ pub record IsWritten (bytes : List ℕ) (out out' : OutputView) (message : List 
   pub told : message ≡ []
   pub answered : status ≡ 0
 
--- a program's listing is written; or the output's device failed after a beginning of it, not the whole
+-- a program's listing is written; or the output's device failed after a prefix of it, not the whole
 abbrev pub ListingLeaves : List Insn → List ℕ → OutputView → OutputView → ℕ → List ℕ → Type 0
 ListingLeaves prog name out out' status message =
     IsWritten (listing prog) out out' message status ⊎ OutputFails (listing prog) name out out' message status

@@ -31,7 +31,7 @@ IsTruth empty = ⊥
 IsTruth (truth a) = Unit {0}
 
 -- a valid program for an expression on a link: it has at most as many instructions as the expression's bound, and
--- answers other than 0 exactly where the expression reads yes
+-- accepts a packet exactly where the expression matches
 pub record IsMade (program : Content) (e : Expression) (link : Link) : Type 0 where
   pub valid : IsValid program.insns
   pub right : IsProgramOf program.insns e link

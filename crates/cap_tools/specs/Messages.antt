@@ -1,4 +1,4 @@
--- What is told of how a command ended.
+-- What is reported of how a command ended.
 use Rattle.std.specs.Prelude.{ℕ, List, [], ◌∷◌, ◌++◌, codes}
 use Rattle.std.specs.Fmt.{decimal}
 use Rattle.cap_octet.specs.declared.fault.Fault.{Fault}
@@ -13,7 +13,7 @@ use Rattle.cap_tools.specs.declared.refusal.Refusal.TheVariants.{Expression, Lis
 abbrev pub line_feed : List ℕ
 line_feed = 10 ∷ []
 
--- a fault that stands at an offset of an input
+-- a fault at an offset of an input
 abbrev pub fault_message : List ℕ → ℕ → Fault → List ℕ
 fault_message name offset fault =
     codes "capkit: " ++ name ++ codes ": offset " ++ decimal offset ++ codes ": " ++ fault_text fault ++ line_feed
@@ -22,7 +22,7 @@ fault_message name offset fault =
 abbrev pub write_failed_message : List ℕ → List ℕ
 write_failed_message name = codes "capkit: " ++ name ++ codes ": write failed" ++ line_feed
 
--- want of memory without a packet or block in hand
+-- out of memory, with no current packet or block
 abbrev pub no_memory_message : List ℕ
 no_memory_message = codes "capkit: no memory" ++ line_feed
 
@@ -33,7 +33,7 @@ expression_message text = codes "capkit: expression: " ++ text ++ line_feed
 abbrev pub code_message : List ℕ → List ℕ
 code_message text = codes "capkit: code: " ++ text ++ line_feed
 
--- a refused filter, or want of memory for it
+-- a refused filter, or out of memory for it
 abbrev pub refusal_message : Refusal → List ℕ
 refusal_message (Expression expression.Memory) = no_memory_message
 refusal_message (Expression fault) = expression_message (message_of fault)
@@ -41,7 +41,7 @@ refusal_message (Listing listing.Memory) = no_memory_message
 refusal_message (Listing fault) = code_message (listing_message fault)
 refusal_message (Program fault at) = code_message (check_message fault at)
 
--- 1 for want of memory, else 2
+-- 1 if memory ran out, else 2
 abbrev pub refusal_status : Refusal → ℕ
 refusal_status (Expression expression.Memory) = 1
 refusal_status (Listing listing.Memory) = 1

@@ -21,12 +21,12 @@ use Rattle.cap_tools.specs.Links.{link_of}
 
 -- ---- which packets pass
 
--- by what a packet is judged: what an expression reads, or what a program answers
+-- by what a packet is judged: what an expression reads, or what a program returns
 pub data Rule : Type 0 where
   by_reading : (e : Expression) → Rule
   by_answer : (prog : List Insn) → Rule
 
--- a packet passes where an expression reads yes; one that is rejected doesn't
+-- a packet passes where an expression matches; one that is rejected doesn't
 abbrev pub passing : Reading → Decision
 passing Yes = Keep
 passing No = Skip
@@ -41,7 +41,7 @@ abbrev pub expression_decides : Expression → Captured → Decision
 expression_decides empty p = Keep
 expression_decides (truth a) p = read_on (truth a) (link_of p.link) p
 
--- a packet passes where a program answers other than 0
+-- a packet passes where a program accepts it
 abbrev pub answering : Progress → Decision
 answering (Answered answer count) = keep_if (not (answer == 0))
 answering _ = Skip

@@ -4,7 +4,7 @@ use Rattle.cap_octet.specs.Device.{AppendsOrStops, failures_of}
 use Rattle.cap_octet.specs.declared.device.DeviceFault.{DeviceFault}
 use Rattle.cap_tools.specs.Messages.{write_failed_message}
 
--- ---- what is told
+-- ---- what is reported
 
 -- an output's bytes, where it tells them, and how often it failed
 pub record OutputView : Type 0 where
@@ -28,7 +28,7 @@ pub record Runs (leaves : List ℕ → Type 0) (tells : Bool) (err err' : Output
 
 -- ---- the ways in which a run ends
 
--- The output's device failed in this run, after a beginning of these bytes, not the whole.
+-- The output's device failed in this run, after a prefix of these bytes, not the whole.
 pub record OutputFails (bytes name : List ℕ) (out out' : OutputView) (message : List ℕ) (status : ℕ) : Type 0 where
   pub failures : out'.failures ≡ out.failures + 1
   pub count : ℕ
@@ -37,7 +37,7 @@ pub record OutputFails (bytes name : List ℕ) (out out' : OutputView) (message 
   pub told : message ≡ write_failed_message name
   pub answered : status ≡ 1
 
--- The output is as it was, and this is told.
+-- The output is as it was, and this is reported.
 pub record OnlyTells (text : List ℕ) (answer : ℕ) (out out' : OutputView) (message : List ℕ) (status : ℕ) : Type 0 where
   pub output : out' ≡ out
   pub told : message ≡ text

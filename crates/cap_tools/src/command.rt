@@ -186,7 +186,7 @@ fn allows_snap(snap: Option<u32>) -> bool
     }
 }
 
-/// Whether duplicates may be looked for within so many packets.
+/// Whether duplicates may be searched for within so many packets.
 fn allows_window(window: Option<u32>) -> bool
     ensures { result ≡ option_map_or is_window window true }
 {

@@ -52,7 +52,7 @@ fn place_of(number: u16) -> Option<usize>
     place_in(&LINK_TYPES, number)
 }
 
-/// A program for each row of a table. An error is want of memory.
+/// A program for each row of a table. An error means that memory ran out.
 fn make_programs<A: Allocator + Copy + Drop>(
     alloc: A,
     tree: &Checked<A>,
@@ -95,7 +95,7 @@ impl<A: Allocator> Compiled<A> {
     ghost use Rattle.cap_tools.specs.Printed.{by_reading, expression_decides};
     ghost use Rattle.cap_tools.specs.Printing.{most_cost, spent_on};
 
-    /// Makes the programs of a tree. An error is want of memory.
+    /// Makes the programs of a tree. An error means that memory ran out.
     #[tactic(auto, unfolding(crate::specs::Links::link_types))]
     pub fn new(alloc: A, tree: Checked<A>) -> Result<Self, AllocError>
     where

@@ -30,7 +30,7 @@ fn settle<A: Allocator>(tree: Expr<A>) -> Result<Checked<A>, ExprFault>
 }
 
 /// The checked tree of an expression's text, with what is left out filled in. An error is the first
-/// of the text's faults, or want of memory.
+/// of the text's faults, or out of memory.
 pub fn read_expression<A: Allocator + Copy + Drop>(
     alloc: A,
     text: &str,

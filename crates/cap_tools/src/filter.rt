@@ -17,9 +17,9 @@ use std::alloc::{AllocError, Allocator};
 pub enum Filter<A: Allocator> {
     /// There are no words, and all packets pass.
     All,
-    /// A packet passes where the expression reads yes.
+    /// A packet passes where the expression matches.
     Expression(Compiled<A>),
-    /// A packet passes where the program answers other than 0.
+    /// A packet passes where the program accepts it.
     Listing(Program<A>),
 }
 
@@ -54,7 +54,7 @@ impl<A: Allocator> Filter<A> {
     }
 }
 
-/// The filter of a checked tree, with its programs. An error is want of memory.
+/// The filter of a checked tree, with its programs. An error means that memory ran out.
 fn filter_of<A: Allocator + Copy + Drop>(
     alloc: A,
     tree: Checked<A>,
@@ -71,7 +71,7 @@ fn filter_of<A: Allocator + Copy + Drop>(
 
 /// The filter of an expression, whose programs for all link types are made here.
 ///
-/// An error is the first of the text's faults, or want of memory (`ExprFault::Memory`).
+/// An error is the first of the text's faults, or out of memory (`ExprFault::Memory`).
 pub fn read_words<A: Allocator + Copy + Drop>(alloc: A, words: &str) -> Result<Filter<A>, Refusal>
     ensures rule { IfOk result (λ filter. IsRule words.now None (rule_of filter)) }
     ensures programs { IfOk result (λ filter. AreNew (rule_of filter) (programs_of filter)) }

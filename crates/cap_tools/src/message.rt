@@ -1,4 +1,4 @@
-//! What is told of how a command ended, a line each.
+//! What is reported of how a command ended, a line each.
 ghost use Rattle.std.specs.Prelude.{◌≡◌, ◌+◌, ◌++◌, IsTrue, codes};
 ghost use Rattle.cap_octet.specs.Device.{AppendsOrStops, failures_of};
 ghost use Rattle.flt_bpf.specs.Message.{check_message, listing_message};
@@ -29,7 +29,7 @@ fn write_fault<'a, O: Output>(
     write_parts(output, &parts)
 }
 
-/// Tells a fault that stands at an offset, in bytes, of the input of this name.
+/// Reports a fault at an offset, in bytes, of the input of this name.
 pub fn tell_fault<O: Output>(
     output: &mut O,
     name: &str,
@@ -45,7 +45,7 @@ pub fn tell_fault<O: Output>(
     write_fault(output, name.as_bytes(), offset, fault.text().as_bytes())
 }
 
-/// Tells that the device of the output of this name failed.
+/// Reports that the device of the output of this name failed.
 pub fn tell_write_failed<O: Output>(output: &mut O, name: &str) -> Result<(), DeviceFault>
     ensures told { IsTrue O.tells → AppendsOrStops result (O.written output.old)
         (write_failed_message name.now) (O.written output.new) }
@@ -55,7 +55,7 @@ pub fn tell_write_failed<O: Output>(output: &mut O, name: &str) -> Result<(), De
     write_parts(output, &parts)
 }
 
-/// Tells that there was no memory, where no packet or block was in hand.
+/// Reports that there was no memory, where no packet or block was in hand.
 pub fn tell_no_memory<O: Output>(output: &mut O) -> Result<(), DeviceFault>
     ensures told { IsTrue O.tells → AppendsOrStops result (O.written output.old) no_memory_message
         (O.written output.new) }
@@ -82,7 +82,7 @@ fn write_refusal<'a, O: Output>(
     write_parts(output, &parts)
 }
 
-/// Tells why an expression was refused.
+/// Reports why an expression was refused.
 fn tell_expression<O: Output>(output: &mut O, fault: ExprFault) -> Result<(), DeviceFault>
     ensures told { IsTrue O.tells → AppendsOrStops result (O.written output.old)
         (expression_message (message_of fault)) (O.written output.new) }
@@ -99,7 +99,7 @@ fn tell_expression<O: Output>(output: &mut O, fault: ExprFault) -> Result<(), De
     }
 }
 
-/// Tells why a text is no listing.
+/// Reports why a text is no listing.
 fn tell_listing<O: Output>(output: &mut O, fault: ListingFault) -> Result<(), DeviceFault>
     ensures told { IsTrue O.tells → AppendsOrStops result (O.written output.old)
         (code_message (listing_message fault)) (O.written output.new) }
@@ -116,7 +116,7 @@ fn tell_listing<O: Output>(output: &mut O, fault: ListingFault) -> Result<(), De
     }
 }
 
-/// Tells which rule instructions break, and where.
+/// Reports which rule instructions break, and where.
 fn tell_check<O: Output>(output: &mut O, fault: CheckFault, at: usize) -> Result<(), DeviceFault>
     ensures told { IsTrue O.tells → AppendsOrStops result (O.written output.old)
         (code_message (check_message fault at)) (O.written output.new) }
@@ -132,7 +132,7 @@ fn tell_check<O: Output>(output: &mut O, fault: CheckFault, at: usize) -> Result
     }
 }
 
-/// Tells why a filter was refused.
+/// Reports why a filter was refused.
 pub fn tell_refusal<O: Output>(output: &mut O, refusal: Refusal) -> Result<(), DeviceFault>
     ensures told { IsTrue O.tells → AppendsOrStops result (O.written output.old)
         (refusal_message refusal) (O.written output.new) }

@@ -18,7 +18,7 @@ pub enum Refusal {
 }
 
 impl Refusal {
-    /// The status that a command ends with: 1 for want of memory, else 2.
+    /// The status that a command ends with: 1 if memory ran out, else 2.
     pub fn status(self) -> u8
         ensures { result ≡ refusal_status self }
     {

@@ -10,7 +10,8 @@ pub struct Plan {
     refused: Cell<u64>,
 }
 
-/// Passes each call on to another allocator, but for one growth. One that makes more of a vector counts as one.
+/// Passes each call on to another allocator, but for one growth. One that makes more of a vector
+/// counts as one.
 pub struct Trial<B: Allocator> {
     inner: B,
     plan: Plan,
@@ -34,7 +35,8 @@ impl<B: Allocator> Trial<B> {
         self.plan.refused.set(number);
     }
 
-    /// How many growths were asked for, the refused one among them. The count stays at its greatest value.
+    /// How many growths were asked for, the refused one among them. The count stays at its greatest
+    /// value.
     pub fn growths(&self) -> u64 {
         self.plan.growths.get()
     }

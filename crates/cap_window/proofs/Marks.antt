@@ -29,7 +29,7 @@ has_same-Decides ms m = (
   λ has. list_any_at (is_same m) ms has.0 m has.1 ((is_same-Decides m _).1 (sym has.2)),
 )
 
--- what a window answers, as a test
+-- what a window returns, as a test
 pub answers-has_same : (ms : List Mark) (m : Mark) (answer : Bool) → IsTrue answer ↔ Contains ms m → answer ≡ has_same ms m
 answers-has_same ms m answer is = one_answer answer (has_same ms m) is (has_same-Decides ms m)
 

@@ -36,11 +36,13 @@ impl<A: Allocator> Model for Window<A> {
 
     ghost view = { λ w. window w.marks.items w.marks.capacity };
 
-    ghost invariant = { λ w. IsSound w.mask w.marks.items w.marks.capacity w.links.items w.links.capacity w.heads.items w.newest };
+    ghost invariant = { λ w. IsSound w.mask w.marks.items w.marks.capacity w.links.items
+        w.links.capacity w.heads.items w.newest };
 }
 
 impl<A: Allocator> Window<A> {
-    ghost use Rattle.std.specs.Prelude.{◌≡◌, ◌+◌, ◌^◌, ◌<◌, ◌↔◌, [], ◌∷◌, ◌++◌, length, IsTrue, IfOk};
+    ghost use Rattle.std.specs.Prelude.{◌≡◌, ◌+◌, ◌^◌, ◌<◌, ◌↔◌, [], ◌∷◌, ◌++◌, length, IsTrue};
+    ghost use Rattle.std.specs.Prelude.{IfOk};
     ghost use Rattle.std.specs.List.{Contains};
     ghost use Rattle.cap_window.specs.Marks.{last, mark_of};
     ghost use Rattle.cap_window.specs.View.{window};
@@ -73,7 +75,9 @@ impl<A: Allocator> Window<A> {
     pub fn seen_before(&mut self, bytes: &[u8]) -> bool
         requires { length bytes.now < 2 ^ 32 }
         ensures answer { IsTrue result ↔ Contains self.old.marks (mark_of bytes.now) }
-        ensures window { self.new ≡ window (last self.old.capacity (self.old.marks ++ mark_of bytes.now ∷ [])) self.old.capacity }
+        ensures window { self.new
+            ≡ window (last self.old.capacity (self.old.marks ++ mark_of bytes.now ∷ []))
+            self.old.capacity }
     {
         let mark = mark_of(bytes);
         let found = self.contains(&mark);
@@ -99,7 +103,8 @@ impl<A: Allocator> Window<A> {
     }
 
     fn push(&mut self, mark: Mark)
-        ensures { self.new ≡ window (last self.old.capacity (self.old.marks ++ mark ∷ [])) self.old.capacity }
+        ensures { self.new ≡ window (last self.old.capacity (self.old.marks ++ mark ∷ []))
+            self.old.capacity }
     {
         let hash = hash_of(&mark, self.mask);
         let number = self.newest + 1;
@@ -128,7 +133,8 @@ fn mask_for(capacity: u32) -> u32
 
 /// Each becomes smaller by the same, down to 0.
 fn lower(numbers: &mut [u32], less: u32)
-    ensures { EachIndex numbers.old (λ i. slice_index numbers.new i ≡ slice_index numbers.old i - less) }
+    ensures { EachIndex numbers.old
+        (λ i. slice_index numbers.new i ≡ slice_index numbers.old i - less) }
 {
     for number in numbers.iter_mut() {
         *number = number.saturating_sub(less);
@@ -139,7 +145,8 @@ fn lower(numbers: &mut [u32], less: u32)
 /// smaller by one difference, and what left the window becomes 0.
 fn renumbered(heads: &mut [u32], newest: u32, kept: u32) -> u32
     requires { (kept ≤ newest) × (kept + 1 < 2 ^ 32) }
-    ensures heads { EachIndex heads.old (λ h. slice_index heads.new h ≡ slice_index heads.old h - (newest - result)) }
+    ensures heads { EachIndex heads.old
+        (λ h. slice_index heads.new h ≡ slice_index heads.old h - (newest - result)) }
     ensures bounds { (kept ≤ result) × (result ≤ newest) }
     ensures room { result + 1 < 2 ^ 32 }
 {

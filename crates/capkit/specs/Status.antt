@@ -12,7 +12,7 @@ is_request DisplayHelp = true
 is_request DisplayVersion = true
 is_request _ = false
 
--- 0 for a request, 1 for want of memory, else 2
+-- 0 for a request, 1 if memory ran out, else 2
 abbrev pub status_of : Usage → ℕ
 status_of (Refused error) = if is_request (kind_of error) then 0 else 2
 status_of Memory = 1

@@ -95,7 +95,7 @@ fn with_listing<'a>(
     Ok(with_code(command, bytes))
 }
 
-/// A buffer that was made. Only want of memory may be the reason of an error here.
+/// A buffer that was made. An error here can only mean out of memory.
 fn buffered<'a, T: Drop>(made: io::Result<T>) -> Result<T, Stop<'a>>
     requires { IfErr made (λ error. error_kind error ≡ ErrorKind.OutOfMemory) }
     ensures { IfOk result (λ buffer. made ≡ Ok buffer) }
@@ -164,9 +164,9 @@ fn run_over<'a>(
     end(status, target.into_inner(), messages.into_inner(), output)
 }
 
-/// Ends the output and the messages of a run, and answers the status.
+/// Ends the output and the messages of a run, and returns the status.
 ///
-/// Where the reader of a pipe went away, as of `| head`, nobody is told that the rest can't be
+/// Where the reader of a pipe went away, as of `| head`, nobody hears that the rest can't be
 /// written.
 fn end<'a, W: Write + Drop>(
     status: u8,
@@ -191,7 +191,7 @@ fn end<'a, W: Write + Drop>(
     }
 }
 
-/// Tells the stop, and answers its status.
+/// Reports the stop, and returns its status.
 fn stopped(rt: &HostRuntime, stop: Stop<'_>) -> u8
     ensures { result ≡ 1 }
 {
@@ -199,7 +199,7 @@ fn stopped(rt: &HostRuntime, stop: Stop<'_>) -> u8
     FAULT
 }
 
-/// Runs the command of the line over the files and streams that its names stand for, and answers
+/// Runs the command of the line over the files and streams that its names stand for, and returns
 /// its status.
 ///
 /// The listing is read, then the inputs are opened in order, then the output is created, then the

@@ -30,7 +30,7 @@ fn main(rt: HostRuntime) -> ExitCode {
     ExitCode::from(status(&rt))
 }
 
-/// Does what the program's words ask for, and answers the status.
+/// Does what the program's words ask for, and returns the status.
 fn status(rt: &HostRuntime) -> u8
     ensures { result ≤ 2 }
 {
@@ -52,7 +52,7 @@ fn status(rt: &HostRuntime) -> u8
     }
 }
 
-/// Tells why words are no command line, or what the user asked to know of the command line.
+/// Reports why words are no command line, or what the user asked to know of the command line.
 fn refuse(rt: &HostRuntime, usage: Usage) -> u8
     ensures { result ≡ status_of usage }
 {

@@ -82,7 +82,7 @@ fn files_are_read_and_written(rt: HostRuntime) -> Result<(), Fail> {
     Ok(())
 }
 
-/// What can't be opened is told with status 1, before the output is created, and before an
+/// What can't be opened is reported with status 1, before the output is created, and before an
 /// expression is read.
 #[test]
 fn nothing_is_created_where_an_input_is_missing(rt: HostRuntime) -> Result<(), Fail> {
@@ -112,7 +112,7 @@ fn tells<T: Drop>(
     Ok(format!(in alloc; "{stop}")?.as_str() == text)
 }
 
-/// The name that can't be opened or created stands in front of why.
+/// The name that can't be opened or created is in front of why.
 #[test]
 fn stops_have_their_texts(rt: HostRuntime) -> Result<(), Fail> {
     let folder = folder(&rt, "stopped")?;
