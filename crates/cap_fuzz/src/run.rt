@@ -31,10 +31,11 @@ pub enum Property {
     Counted,
     Ended,
     Numbered,
+    Joined,
 }
 
 /// How many properties there are.
-pub const PROPERTIES: usize = 9;
+pub const PROPERTIES: usize = 10;
 
 /// Their names, in their order.
 pub const NAMES: [&str; PROPERTIES] = [
@@ -47,6 +48,7 @@ pub const NAMES: [&str; PROPERTIES] = [
     "reports and lines count alike",
     "a run ends with a status and its message",
     "ranges part the packets",
+    "a merge of two files has the packets of both",
 ];
 
 /// What a run leaves.
