@@ -6,33 +6,10 @@ ghost use Rattle.cap_octet.specs.Stream.{HandsOver, IsOneRead, IsOneWrite, Takes
 
 use crate::device::{DeviceFault, Input, Output};
 use crate::failures::FailureCount;
-use std::io::{self, Read, Write};
+use std::io::{Read, Write};
 
 /// Fewer bytes than this are read from one input.
 const MOST_GIVEN: u64 = 0x8000_0000_0000_0000;
-
-/// What an input that has given so many bytes makes of its reader's answer.
-fn handed_over(given: u64, answer: io::Result<usize>) -> Result<usize, DeviceFault>
-    requires { given < 2 ^ 63 }
-    ensures hands { HandsOver given answer result }
-    ensures bounded { IfOk result (λ n. given + n < 2 ^ 63) }
-{
-    match answer {
-        Ok(count) if (count as u64) < MOST_GIVEN - given => Ok(count),
-        _ => Err(DeviceFault),
-    }
-}
-
-/// What an output makes of its writer's answer to these bytes.
-fn taken_over(buf: &[u8], answer: io::Result<usize>) -> Result<usize, DeviceFault>
-    ensures hands { TakesOver buf.now answer result }
-    ensures some { IfOk result (λ n. 0 < length buf.now → 0 < n) }
-{
-    match answer {
-        Ok(count) if 0 < count || buf.is_empty() => Ok(count),
-        _ => Err(DeviceFault),
-    }
-}
 
 /// Over a reader, as a file or standard input. A read that would reach 2^63 bytes in all is a failure.
 #[derive(Drop)]
@@ -79,12 +56,16 @@ impl<R: Read> Input for StdInput<R> {
         ensures told { IsTrue false → Reads [] buf.old result [] buf.new }
         ensures passes { IsOneRead (R.remaining self.old.reader) self.old.given result (R.remaining self.new.reader) buf.new }
     {
-        let result = handed_over(self.given, self.reader.read(buf));
-        match result {
-            Ok(count) => self.given += count as u64,
-            Err(_) => self.failures.add_one(),
+        match self.reader.read(buf) {
+            Ok(count) if (count as u64) < MOST_GIVEN - self.given => {
+                self.given += count as u64;
+                Ok(count)
+            }
+            _ => {
+                self.failures.add_one();
+                Err(DeviceFault)
+            }
         }
-        result
     }
 
     ghost unfailed = { Prim.search rules };
@@ -139,11 +120,13 @@ impl<W: Write> Output for StdOutput<W> {
         ensures told { IsTrue false → Writes [] buf.now result [] }
         ensures passes { IsOneWrite (W.contents self.old.writer) buf.now result (W.contents self.new.writer) }
     {
-        let result = taken_over(buf, self.writer.write(buf));
-        if result.is_err() {
-            self.failures.add_one();
+        match self.writer.write(buf) {
+            Ok(count) if 0 < count || buf.is_empty() => Ok(count),
+            _ => {
+                self.failures.add_one();
+                Err(DeviceFault)
+            }
         }
-        result
     }
 
     ghost filled = { Prim.search rules };
