@@ -1,4 +1,4 @@
-use Rattle.std.proofs.Common.{◌∙◌, ◌+◌, ◌-◌, ap, drop, List, ℕ, take}
+use Rattle.std.proofs.Common.{◌∙◌, ap, take}
 use Rattle.cap_pcapng.specs.Interface.{described}
 use Rattle.cap_io.specs.Source.{SourceView}
 use Rattle.cap_io.proofs.Entered.{known_interface}
