@@ -14,7 +14,7 @@ use Rattle.cap_pcapng.specs.Unit.{IsBlock, Section, block_size, checks_among, fr
 use Rattle.cap_pcapng.proofs.Units.{passes, frame_checks-append, frame_in-append, unit_fault-frame, unit_fault-short, unit_fault-block, unit_fault-among, parts_in-append, block_checks-append}
 use Rattle.cap_pcapng.specs.declared.frames.Frame.{Frame}
 use Rattle.cap_io.specs.Blocks.{BlockCame, BlockMissing, BlockPacketIfAny, Enters, IsEntryFault, PacketIfAny, WholeCame, packet_in, section_of}
-use Rattle.cap_io.specs.Reading.{RestMissing, data_held, options_held, most_in_unit, length_by_front, decisive_block_length}
+use Rattle.cap_io.specs.Reading.{RestMissing, part_of, most_in_unit, length_by_front, decisive_block_length}
 use Rattle.cap_io.specs.declared.unit.Held.{Held}
 use Rattle.cap_io.proofs.OwnFaults.{entry-not_failed, frame-not_failed}
 
@@ -166,7 +166,7 @@ packet_if_any order before interfaces block parts None same is none = ap₂ (λ 
 packet_if_any order before interfaces block parts (Some held) same is stands = record {
   packet = stands.packet;
   stands = ap₂ (λ (i : List Described) (p : Parts). option_to_list (packet_by i p)) same is ∙ ap option_to_list stands.stands;
-  is_lent = ap (λ (i : List Described). packet_in order i held (data_held held block) (options_held held block)) same ∙ stands.is_lent;
+  is_lent = ap (λ (i : List Described). packet_in order i held (part_of held.bytes block) (part_of held.options block)) same ∙ stands.is_lent;
 }
 
 pub block_came : (before : Option Section) (section : Option Order) (interfaces interfaces' : List Described) (text unread' block buffer : List ℕ) (frame : Frame) (held : Option Held)

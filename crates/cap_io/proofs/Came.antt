@@ -203,7 +203,14 @@ data_missing head unread unread1 unread2 front found fault size is splits few fi
 
 -- what is held of a record
 abbrev pub record_held : RecordHead → ℕ → Held
-record_held found size = record { size = size; from = 16; captured = found.captured; options = 16; optional = 0; interface = 0; time = found.time; orig = found.orig }
+record_held found size = record {
+  size = size;
+  bytes = record { start = 16; length = found.captured };
+  options = record { start = 16; length = 0 };
+  interface = 0;
+  time = found.time;
+  orig = found.orig;
+}
 
 pub record_came : (head : Head) (unread unread1 unread2 front unit buffer : List ℕ) (found : RecordHead) (size : ℕ) → unread ≡ front ++ unread1 → length front ≡ 16 → FieldsCame head front found
     → size ≡ 16 + found.captured → length unit ≡ size → take (length front) unit ≡ front → unread1 ≡ drop (length front) unit ++ unread2 → take size buffer ≡ unit

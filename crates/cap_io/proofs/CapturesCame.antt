@@ -21,7 +21,7 @@ use Rattle.cap_io.specs.declared.blocks.BlockRead.{BlockRead}
 use Rattle.cap_io.specs.declared.unit.Held.{Held}
 use Rattle.cap_io.specs.Blocks.{BlockCame, BlockMissing, FitsIfAny, packet_in, section_of}
 use Rattle.cap_io.specs.Capture.{Declared, Nothing, PcapFile, PcapngFile, Front, IsUnit, a_pcap_header, a_first_block, a_block, file_after, first_after, front_of, front_of_block, is_pcapng}
-use Rattle.cap_io.specs.Reading.{FrontMissing, HeaderCame, PacketCame, Refuses, RestMissing, UnitCame, UnitPassed, came_by, data_held, options_held, most_taken, packet_held, decisive_length, decisive_block_length}
+use Rattle.cap_io.specs.Reading.{FrontMissing, HeaderCame, PacketCame, Refuses, RestMissing, UnitCame, UnitPassed, came_by, part_of, most_taken, packet_held, decisive_length, decisive_block_length}
 use Rattle.cap_io.proofs.Came.{Taken-behind, most_taken-file}
 use Rattle.cap_io.proofs.Fronts.{front_of-behind, front_of-pcapng, front_of_block-none, is_pcapng-append, most_taken-block, decisive_length-pcapng, decisive_block_length-few}
 use Rattle.cap_io.proofs.Units.{and_second, first-section}
@@ -220,7 +220,7 @@ block_unit link section unread buffer unread' order size (Some held) interfaces 
     let Q : List Captured → Type 0 = λ qs. IsUnit (PcapngFile link section) block qs (file_after link (Some section) block) in
     let R : Declared → Type 0 = λ d. IsUnit (PcapngFile link section) block (p.packet ∷ []) d in
     packet_at_size link section unread buffer held p.packet order interfaces size unread' fits.0
-    (ap (λ (s : Section). packet_in s.order section.interfaces held (data_held held block) (options_held held block)) (sym kept) ∙ p.is_lent)
+    (ap (λ (s : Section). packet_in s.order section.interfaces held (part_of held.bytes block) (part_of held.options block)) (sym kept) ∙ p.is_lent)
     (subst R (declared (section_after (Some section) block) same) (subst Q p.stands (a_block link section block came.is_block))) (declared (section_of order interfaces) kept) came.splits
 
 -- a block of an equal text

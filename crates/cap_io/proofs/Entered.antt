@@ -22,7 +22,7 @@ use Rattle.cap_pcapng.specs.declared.frames.BlockType.{BlockType}
 use Rattle.cap_pcapng.specs.declared.frames.BlockType.TheVariants as type
 use Rattle.cap_pcapng.specs.declared.frames.Frame.{Frame}
 use Rattle.cap_io.specs.Blocks.{Enters, FitsIfAny, IsEntryFault, PacketFound, packet_in, section_of, told_behind}
-use Rattle.cap_io.specs.Reading.{data_held, options_held}
+use Rattle.cap_io.specs.Reading.{part_of}
 use Rattle.cap_io.specs.declared.unit.Held.{Held}
 use Rattle.cap_io.proofs.OwnFaults.{all_failing, all_of_options}
 
@@ -50,54 +50,56 @@ options_behind padding optional rest options there is count =
     let at : 28 + length rest - optional - 28 ≡ padding = omega arith in
     ap (λ n. take optional (drop n rest)) at ∙ ap (take optional) (sym is) ∙ take_all optional options (omega arith)
 
-pub enhanced_found : (order : Order) (interfaces : List Described) (i : Described) (number ticks captured orig time size optional : ℕ) (rest bytes options : List ℕ)
-    → slice_get interfaces number ≡ Some i → bytes ≡ take captured rest → first_failing (data_checks captured rest) ≡ None
+pub enhanced_found : (order : Order) (interfaces : List Described) (i : Described) (number ticks captured orig time size optional : ℕ) (rest options : List ℕ)
+    → slice_get interfaces number ≡ Some i → first_failing (data_checks captured rest) ≡ None
     → Ok time ≡ ok_or (time_in ticks i.units i.offset) TimeOutOfRange → time < 2 ^ 63
     → options ≡ drop (padded captured) rest → optional ≡ length options
     → PacketFound order interfaces (EnhancedParts number ticks captured orig order rest) rest
     (record {
       size = size;
-      from = 28;
-      captured = length bytes;
-      options = 28 + length rest - optional;
-      optional = optional;
+      bytes = record { start = 28; length = captured };
+      options = record { start = 28 + length rest - optional; length = optional };
       interface = number;
       time = time;
       orig = orig;
     })
-enhanced_found order interfaces i number ticks captured orig time size optional rest bytes options known is few told small behind optional_is =
+enhanced_found order interfaces i number ticks captured orig time size optional rest options known few told small behind optional_is =
     let room : padded captured ≤ length rest = leb-true (padded captured) (length rest) (all_met (data_checks captured rest) few).0 in
     let lies_there : take optional (drop (28 + length rest - optional - 28) rest) ≡ options = options_behind (padded captured) optional rest options room behind optional_is in
     let left : length options ≡ length rest - padded captured = ap length behind ∙ length-drop (padded captured) rest in
     let fits : captured ≤ length rest = captured_fits captured rest few in
-    let count : length bytes ≡ captured = ap length is ∙ length-take-le captured rest fits in
     let at : time_in ticks i.units i.offset ≡ Some time = time_found (time_in ticks i.units i.offset) time (sym told) in
     record {
       passes = rw (known, at) (met_front (data_checks captured rest) ((is_some (Some time), TimeOutOfRange) ∷ []) few);
       packet = packet_of i time orig (take captured rest) (comment_in order (drop (padded captured) rest));
       stands = rw (known, at) refl;
-      is_lent = rw (known, count, lies_there ∙ behind) refl;
-      there = omega (arith, count, fits);
+      is_lent = rw (known, lies_there ∙ behind) refl;
+      there = fits;
       behind = omega (arith, left, optional_is);
-      optional = omega (arith, left, optional_is);
+      options = omega (arith, left, optional_is);
       time = small;
     }
 
-pub simple_found : (order : Order) (interfaces : List Described) (i : Described) (orig size : ℕ) (rest bytes : List ℕ)
-    → slice_get interfaces 0 ≡ Some i → bytes ≡ take (simple_captured orig i.snap) rest → first_failing (data_checks (simple_captured orig i.snap) rest) ≡ None
+pub simple_found : (order : Order) (interfaces : List Described) (i : Described) (orig size : ℕ) (rest : List ℕ)
+    → slice_get interfaces 0 ≡ Some i → first_failing (data_checks (simple_captured orig i.snap) rest) ≡ None
     → PacketFound order interfaces (SimpleParts orig rest) rest
-    (record { size = size; from = 12; captured = length bytes; options = 12; optional = 0; interface = 0; time = 0; orig = orig })
-simple_found order interfaces i orig size rest bytes known is few =
-    let fits : simple_captured orig i.snap ≤ length rest = captured_fits (simple_captured orig i.snap) rest few in
-    let count : length bytes ≡ simple_captured orig i.snap = ap length is ∙ length-take-le (simple_captured orig i.snap) rest fits in
+    (record {
+      size = size;
+      bytes = record { start = 12; length = simple_captured orig i.snap };
+      options = record { start = 12; length = 0 };
+      interface = 0;
+      time = 0;
+      orig = orig;
+    })
+simple_found order interfaces i orig size rest known few =
     record {
       passes = rw known few;
       packet = packet_of i 0 orig (take (simple_captured orig i.snap) rest) [];
       stands = rw known refl;
-      is_lent = rw (known, count) (ap (λ items. Some (packet_of i 0 orig (take (simple_captured orig i.snap) rest) (unwrap_or (first_value comment_code (given items)) []))) (options_in-none order));
-      there = omega (arith, count, fits);
+      is_lent = rw known (ap (λ items. Some (packet_of i 0 orig (take (simple_captured orig i.snap) rest) (unwrap_or (first_value comment_code (given items)) []))) (options_in-none order));
+      there = captured_fits (simple_captured orig i.snap) rest few;
       behind = lit≤ tt;
-      optional = omega arith;
+      options = omega arith;
       time = omega arith;
     }
 
@@ -169,23 +171,23 @@ part_lies frame block rest skip at count whole least left there few =
 
 -- the data and the options of a packet that was found in a body are those held of the block
 record HeldLies (frame : Frame) (block rest : List ℕ) (held : Held) : Type 0 where
-  bytes : data_held held block ≡ take held.captured rest
-  bytes_within : held.from + held.captured ≤ frame.length
-  options : options_held held block ≡ take held.optional (drop (held.options - held.from) rest)
-  options_within : held.options + held.optional ≤ frame.length
+  bytes : part_of held.bytes block ≡ take held.bytes.length rest
+  bytes_within : held.bytes.start + held.bytes.length ≤ frame.length
+  options : part_of held.options block ≡ take held.options.length (drop (held.options.start - held.bytes.start) rest)
+  options_within : held.options.start + held.options.length ≤ frame.length
 
 held_lies : (frame : Frame) (block rest : List ℕ) (skip : ℕ) (held : Held) → length block ≡ frame.length → 12 ≤ frame.length
-    → rest ≡ drop skip (body_in frame block) → skip ≤ length (body_in frame block) → held.from ≡ 8 + skip → held.captured ≤ length rest
-    → held.from ≤ held.options → held.options - held.from + held.optional ≤ length rest → HeldLies frame block rest held
-held_lies frame block rest skip held whole least left there from few behind optional =
-    let bytes = part_lies frame block rest skip 0 held.captured whole least left there (omega (arith, few)) in
-    let options = part_lies frame block rest skip (held.options - held.from) held.optional whole least left there optional in
-    let data_at : held.from ≡ 8 + (skip + 0) = omega (arith, from) in
-    let options_at : held.options ≡ 8 + (skip + (held.options - held.from)) = omega (arith, from, behind) in
+    → rest ≡ drop skip (body_in frame block) → skip ≤ length (body_in frame block) → held.bytes.start ≡ 8 + skip → held.bytes.length ≤ length rest
+    → held.bytes.start ≤ held.options.start → held.options.start - held.bytes.start + held.options.length ≤ length rest → HeldLies frame block rest held
+held_lies frame block rest skip held whole least left there from few behind room =
+    let bytes = part_lies frame block rest skip 0 held.bytes.length whole least left there (omega (arith, few)) in
+    let options = part_lies frame block rest skip (held.options.start - held.bytes.start) held.options.length whole least left there room in
+    let data_at : held.bytes.start ≡ 8 + (skip + 0) = omega (arith, from) in
+    let options_at : held.options.start ≡ 8 + (skip + (held.options.start - held.bytes.start)) = omega (arith, from, behind) in
     record {
-      bytes = ap (λ n. take held.captured (drop n block)) data_at ∙ bytes.same;
+      bytes = ap (λ n. take held.bytes.length (drop n block)) data_at ∙ bytes.same;
       bytes_within = omega (arith, data_at, bytes.within);
-      options = ap (λ n. take held.optional (drop n block)) options_at ∙ options.same;
+      options = ap (λ n. take held.options.length (drop n block)) options_at ∙ options.same;
       options_within = omega (arith, options_at, options.within);
     }
 
@@ -197,11 +199,11 @@ pub record HasFound (frame : Frame) (interfaces : List Described) (block : List 
 
 packet_enters : (frame : Frame) (interfaces : List Described) (block rest : List ℕ) (parts : Parts) (skip : ℕ) (held : Held) → length block ≡ frame.length → 12 ≤ frame.length
     → parts ≡ parts_in frame block → first_failing (block_checks frame block) ≡ None → rest ≡ drop skip (body_in frame block) → skip ≤ length (body_in frame block)
-    → held.from ≡ 8 + skip → held.size ≡ length block → PacketFound frame.order interfaces parts rest held
+    → held.bytes.start ≡ 8 + skip → held.size ≡ frame.length → PacketFound frame.order interfaces parts rest held
     → section_by (Some (section_of frame.order interfaces)) frame.order parts ≡ section_of frame.order interfaces
     → HasFound frame interfaces block held
 packet_enters frame interfaces block rest parts skip held whole least is passes left there from size found stays =
-    let lie = held_lies frame block rest skip held whole least left there from found.there found.behind found.optional in
+    let lie = held_lies frame block rest skip held whole least left there from found.there found.behind found.options in
     record {
       enters = record {
         passes = passes;
@@ -213,12 +215,20 @@ packet_enters frame interfaces block rest parts skip held whole least is passes 
           is_lent = ap₂ (packet_in frame.order interfaces held) lie.bytes lie.options ∙ found.is_lent;
         };
       };
-      fits = (size ∙ whole, lie.bytes_within, found.time, lie.options_within);
+      fits = (size, lie.bytes_within, found.time, lie.options_within);
     }
+
+-- what is left of the body behind the fields of an enhanced packet lies in the block
+pub enhanced_room : (frame : Frame) (block rest : List ℕ) (number ticks captured orig : ℕ) (own : Order) → length block ≡ frame.length → 12 ≤ frame.length
+    → EnhancedParts number ticks captured orig own rest ≡ parts_in frame block → first_failing (block_checks frame block) ≡ None → 28 + length rest ≤ frame.length
+enhanced_room frame block rest number ticks captured orig own whole least is passes =
+    let body = enhanced_body frame.block_type frame.order own (body_in frame block) rest number ticks captured orig (sym is) (body_passes frame block passes) in
+    let size : length (body_in frame block) ≡ frame.length - 12 = length-take-le (frame.length - 12) (drop 8 block) (omega (arith, length-drop 8 block)) in
+    omega (arith, size, body.1, ap length body.0, length-drop 20 (body_in frame block), least)
 
 pub enhanced_enters : (frame : Frame) (interfaces : List Described) (block rest : List ℕ) (number ticks captured orig : ℕ) (own : Order) (held : Held) → length block ≡ frame.length → 12 ≤ frame.length
     → EnhancedParts number ticks captured orig own rest ≡ parts_in frame block → first_failing (block_checks frame block) ≡ None
-    → held.from ≡ 28 → held.size ≡ length block → PacketFound own interfaces (EnhancedParts number ticks captured orig own rest) rest held
+    → held.bytes.start ≡ 28 → held.size ≡ frame.length → PacketFound own interfaces (EnhancedParts number ticks captured orig own rest) rest held
     → HasFound frame interfaces block held
 enhanced_enters frame interfaces block rest number ticks captured orig own held whole least is passes from size found =
     let body = enhanced_body frame.block_type frame.order own (body_in frame block) rest number ticks captured orig (sym is) (body_passes frame block passes) in
@@ -227,7 +237,7 @@ enhanced_enters frame interfaces block rest number ticks captured orig own held 
 
 pub simple_enters : (frame : Frame) (interfaces : List Described) (block rest : List ℕ) (orig : ℕ) (held : Held) → length block ≡ frame.length → 12 ≤ frame.length
     → SimpleParts orig rest ≡ parts_in frame block → first_failing (block_checks frame block) ≡ None
-    → held.from ≡ 12 → held.size ≡ length block → ((order : Order) → PacketFound order interfaces (SimpleParts orig rest) rest held)
+    → held.bytes.start ≡ 12 → held.size ≡ frame.length → ((order : Order) → PacketFound order interfaces (SimpleParts orig rest) rest held)
     → HasFound frame interfaces block held
 simple_enters frame interfaces block rest orig held whole least is passes from size found =
     let body = simple_body frame.block_type frame.order (body_in frame block) rest orig (sym is) (body_passes frame block passes) in

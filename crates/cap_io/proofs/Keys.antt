@@ -1,13 +1,11 @@
 -- Interfaces as they are numbered: keys and what they stand for.
-use Rattle.std.proofs.Common.{◌≡◌, ℕ, ◌+◌, ◌||◌, Bool, true, false, not, cond, if◌then◌else◌, List, [], ◌∷◌, ◌++◌, length, map, nat_le, Result, Ok, Err, refl, sym, ◌∙◌, ap, ◌<◌, ◌≤◌, arith}
+use Rattle.std.proofs.Common.{◌≡◌, ℕ, ◌+◌, ◌||◌, Bool, true, false, not, cond, if◌then◌else◌, List, [], ◌∷◌, ◌++◌, length, map, nat_le, refl, sym, ◌∙◌, ap, ◌<◌, ◌≤◌, arith}
 use Rattle.std.specs.List.{list_any, position_or_len}
 use Rattle.std.proofs.lemmas.List.{append-nil, map-append, length-append}
 use Rattle.std.proofs.lemmas.Bool.{le-leb, lt-leb}
-use Rattle.cap_octet.specs.declared.fault.Fault.{Fault}
 use Rattle.cap_io.specs.declared.numbering.InterfaceKey.{InterfaceKey}
-use Rattle.cap_io.specs.declared.numbering.Place.{Place}
 use Rattle.cap_io.specs.Text.{Interface, is_same, is_among, new_among, number_among, most_output_interfaces}
-use Rattle.cap_io.specs.Numbering.{interface_in, Numbers}
+use Rattle.cap_io.specs.Numbering.{interface_in}
 
 -- when two keys are equal
 abbrev pub same_key : InterfaceKey → InterfaceKey → Bool
@@ -46,8 +44,3 @@ full-by false n keys i full = lt-leb (length (keys ++ i ∷ [])) n (simp length-
 -- where there are as many as there may be, only one of them has room
 pub room-full : (keys : List Interface) (i : Interface) → length keys ≡ most_output_interfaces → nat_le (length (keys ++ new_among keys i)) most_output_interfaces ≡ is_among keys i
 room-full keys i full = full-by (is_among keys i) most_output_interfaces keys i full
-
--- numbering one more keeps the bound
-pub few-numbered : (old : List Interface) (i : Interface) (r : Result Place Fault) (new : List Interface) (n : ℕ) → length (old ++ new_among old i) ≤ n → Numbers old i r new → length new ≤ n
-few-numbered old i (Ok place) new n few numbers = rw numbers.interfaces few
-few-numbered old i (Err fault) new n few numbers = rw numbers.2 (omega (arith, length-append old (new_among old i)))

@@ -9,6 +9,7 @@ pub mod Items
 pub mod Standing
 pub mod Interfaces
 pub mod Keys
+pub mod Places
 pub mod Texts
 pub mod Parts
 pub mod Cuts

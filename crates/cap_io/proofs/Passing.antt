@@ -12,10 +12,11 @@ use Rattle.cap_io.specs.declared.source.Stage.{Stage}
 use Rattle.cap_io.specs.declared.source.Stage.TheVariants as stage
 use Rattle.cap_octet.specs.declared.fault.Fault.{Fault}
 use Rattle.cap_io.specs.declared.unit.Held.{Held}
+use Rattle.cap_io.specs.declared.unit.Span.{Span}
 use Rattle.cap_io.specs.Capture.{Declared, PcapFile, PcapngFile, AreUnits, no_unit}
 use Rattle.cap_io.proofs.Items.{AreUnits-append}
 use Rattle.cap_io.proofs.Units.{one_unit}
-use Rattle.cap_io.specs.Reading.{EndCame, PacketCame, Refuses, UnitPassed, data_held, options_held, packet_held}
+use Rattle.cap_io.specs.Reading.{EndCame, PacketCame, Refuses, UnitPassed, packet_held, part_of}
 use Rattle.cap_io.specs.Source.{SourceView, Reading, Ended, Passes, IsBetween, IsBroken, FindsPacket, FindsEnd, HoldsIfAny, behind, block_at, left, phase_at}
 
 -- ---- no unit is gone over
@@ -132,27 +133,26 @@ IsBroken-then old mid new fault first none broken = record {
 -- ---- the packet in hand
 
 -- its data or its options, as they lie in the buffer
-pub part-lent : (from count size : ℕ) (bytes buffer : List ℕ) → from + count ≤ size → bytes ≡ buffer
-    → take (from + count - from) (drop from bytes) ≡ take count (drop from (take size buffer))
-part-lent from count size bytes buffer within same =
-    let few : from + count - from ≡ count = omega arith in
-    let whole : from + (size - from) ≡ size = omega arith in
-    let rest : drop from (take size buffer) ≡ take (size - from) (drop from buffer) =
-    ap (λ n. drop from (take n buffer)) (sym whole) ∙ drop-take from (size - from) buffer in
-    ap₂ (λ (n : ℕ) (l : List ℕ). take n (drop from l)) few same
-    ∙ sym (take-take count (size - from) (drop from buffer) (omega arith))
-    ∙ ap (take count) (sym rest)
+pub part-lent : (span : Span) (size : ℕ) (bytes buffer : List ℕ) → span.start + span.length ≤ size → bytes ≡ buffer
+    → part_of span bytes ≡ part_of span (take size buffer)
+part-lent span size bytes buffer within same =
+    let whole : span.start + (size - span.start) ≡ size = omega arith in
+    let rest : drop span.start (take size buffer) ≡ take (size - span.start) (drop span.start buffer) =
+    ap (λ n. drop span.start (take n buffer)) (sym whole) ∙ drop-take span.start (size - span.start) buffer in
+    ap (part_of span) same
+    ∙ sym (take-take span.length (size - span.start) (drop span.start buffer) (omega arith))
+    ∙ ap (take span.length) (sym rest)
 
-pub pcap-lent : (head : Head) (held : Held) (bytes block : List ℕ) → bytes ≡ data_held held block
+pub pcap-lent : (head : Head) (held : Held) (bytes block : List ℕ) → bytes ≡ part_of held.bytes block
     → Some (record { link = head.link; snap = head.snap; name = []; time = held.time; orig = held.orig; bytes = bytes; comment = [] }) ≡ packet_held (PcapFile head) held block
 pcap-lent head held bytes block same = ap (λ (l : List ℕ). Some (record { link = head.link; snap = head.snap; name = []; time = held.time; orig = held.orig; bytes = l; comment = [] })) same
 
 pub pcapng-lent : (order : Order) (first : Option ℕ) (interfaces : List Described) (i : Described) (held : Held) (bytes comment options block : List ℕ) → slice_get interfaces held.interface ≡ Some i
-    → bytes ≡ data_held held block → comment ≡ comment_in order options → options ≡ options_held held block
+    → bytes ≡ part_of held.bytes block → comment ≡ comment_in order options → options ≡ part_of held.options block
     → Some (packet_of i held.time held.orig bytes comment) ≡ packet_held (PcapngFile first (record { order = order; interfaces = interfaces })) held block
 pcapng-lent order first interfaces i held bytes comment options block known same commented optional =
     ap₂ (λ (l m : List ℕ). Some (packet_of i held.time held.orig l m)) same (commented ∙ ap (comment_in order) optional)
-    ∙ ap (option_map (λ (j : Described). packet_of j held.time held.orig (data_held held block) (comment_in order (options_held held block)))) (sym known)
+    ∙ ap (option_map (λ (j : Described). packet_of j held.time held.orig (part_of held.bytes block) (comment_in order (part_of held.options block)))) (sym known)
 
 -- ---- nothing is in hand
 

@@ -15,7 +15,7 @@ use Rattle.cap_pcapng.specs.Unit.{IsBlock, Section, block_size, checks_among, in
 use Rattle.cap_pcapng.specs.declared.frames.Frame.{Frame}
 use Rattle.cap_io.specs.declared.blocks.BlockRead.{BlockRead}
 use Rattle.cap_io.specs.declared.unit.Held.{Held}
-use Rattle.cap_io.specs.Reading.{data_held, options_held, most_in_unit, decisive_block_length}
+use Rattle.cap_io.specs.Reading.{part_of, most_in_unit, decisive_block_length}
 
 -- ---- the bytes
 
@@ -52,17 +52,17 @@ pub record PacketFound (order : Order) (interfaces : List Described) (parts : Pa
   pub passes : first_failing (checks_among interfaces parts) ≡ None
   pub packet : Captured
   pub stands : packet_by interfaces parts ≡ Some packet
-  pub is_lent : packet_in order interfaces held (take held.captured rest) (take held.optional (drop (held.options - held.from) rest)) ≡ Some packet
-  pub there : held.captured ≤ length rest
-  pub behind : held.from ≤ held.options
-  pub optional : held.options - held.from + held.optional ≤ length rest
+  pub is_lent : packet_in order interfaces held (take held.bytes.length rest) (take held.options.length (drop (held.options.start - held.bytes.start) rest)) ≡ Some packet
+  pub there : held.bytes.length ≤ length rest
+  pub behind : held.bytes.start ≤ held.options.start
+  pub options : held.options.start - held.bytes.start + held.options.length ≤ length rest
   pub time : held.time < 2 ^ 63
 
 -- the packet of a block
 pub record PacketStands (order : Order) (interfaces : List Described) (parts : Parts) (block : List ℕ) (held : Held) : Type 0 where
   pub packet : Captured
   pub stands : packet_by interfaces parts ≡ Some packet
-  pub is_lent : packet_in order interfaces held (data_held held block) (options_held held block) ≡ Some packet
+  pub is_lent : packet_in order interfaces held (part_of held.bytes block) (part_of held.options block) ≡ Some packet
 
 abbrev pub PacketIfAny : Order → List Described → Parts → List ℕ → Option Held → Type 0
 PacketIfAny order interfaces parts block None = packet_by interfaces parts ≡ None
@@ -92,7 +92,7 @@ told_behind interfaces fault = fault
 -- what is held of it is in the block
 abbrev pub FitsIfAny : Option Held → ℕ → Type 0
 FitsIfAny None size = Unit {0}
-FitsIfAny (Some held) size = (held.size ≡ size) × (held.from + held.captured ≤ size) × (held.time < 2 ^ 63) × (held.options + held.optional ≤ size)
+FitsIfAny (Some held) size = (held.size ≡ size) × (held.bytes.start + held.bytes.length ≤ size) × (held.time < 2 ^ 63) × (held.options.start + held.options.length ≤ size)
 
 -- and the interface of its packet is known
 abbrev pub KnowsIfAny : List Described → Option Held → Type 0
@@ -105,7 +105,7 @@ KnowsIfAny interfaces (Some held) = is_some (slice_get interfaces held.interface
 pub record BlockPacket (order : Order) (before : Option Section) (block : List ℕ) (held : Held) : Type 0 where
   pub packet : Captured
   pub stands : packets_in before block ≡ packet ∷ []
-  pub is_lent : packet_in order (interfaces_before before) held (data_held held block) (options_held held block) ≡ Some packet
+  pub is_lent : packet_in order (interfaces_before before) held (part_of held.bytes block) (part_of held.options block) ≡ Some packet
 
 abbrev pub BlockPacketIfAny : Order → Option Section → List ℕ → Option Held → Type 0
 BlockPacketIfAny order before block None = packets_in before block ≡ []

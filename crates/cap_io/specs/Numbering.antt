@@ -1,5 +1,5 @@
 -- Interfaces that are numbered by first use.
-use Rattle.std.specs.Prelude.{◌≡◌, false, not, List, ◌++◌, take, Result, Ok, Err}
+use Rattle.std.specs.Prelude.{◌≡◌, ℕ, false, not, List, ◌++◌, take, Result, Ok, Err, Some, slice_get}
 use Rattle.cap_octet.specs.declared.fault.Fault.{Fault}
 use Rattle.cap_octet.specs.declared.fault.Fault.TheVariants.{NoMemory}
 use Rattle.cap_io.specs.declared.numbering.InterfaceKey.{InterfaceKey}
@@ -15,6 +15,10 @@ pub record HasPlace (old : List Interface) (i : Interface) (place : Place) (new 
   pub number : place.number ≡ number_among old i
   pub is_new : place.is_new ≡ not (is_among old i)
   pub interfaces : new ≡ old ++ new_among old i
+
+-- what has this number stands nowhere before
+abbrev pub IsFirst : ℕ → List Interface → Type 0
+IsFirst number interfaces = (i : Interface) → slice_get interfaces number ≡ Some i → number_among interfaces i ≡ number
 
 -- it is given a place, or there was no memory for one that is new
 abbrev pub Numbers : List Interface → Interface → Result Place Fault → List Interface → Type 0

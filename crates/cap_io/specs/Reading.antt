@@ -17,6 +17,7 @@ use Rattle.cap_io.specs.declared.unit.Came.{Came}
 use Rattle.cap_io.specs.declared.unit.Came.TheVariants as came
 use Rattle.cap_io.specs.declared.unit.Held.{Held}
 use Rattle.cap_io.specs.declared.unit.Savefile.{Savefile}
+use Rattle.cap_io.specs.declared.unit.Span.{Span}
 use Rattle.cap_io.specs.declared.unit.Savefile.TheVariants as savefile
 use Rattle.cap_io.specs.Capture.{Declared, Nothing, PcapFile, PcapngFile, IsUnit, Front, Whole, Stops, first_after, front_of, is_pcapng}
 
@@ -109,20 +110,18 @@ IsTold (savefile.Pcapng order first) interfaces = first_after first (record { or
 
 -- ---- the packet in hand
 
+-- these bytes of a text
+abbrev pub part_of : Span → List ℕ → List ℕ
+part_of span text = take span.length (drop span.start text)
+
 -- its unit lies in the buffer, and its data and its options in its unit
 pub record IsHeld (held : Held) (buffer : List ℕ) : Type 0 where
-  pub within : held.from + held.captured ≤ held.size
-  pub optional : held.options + held.optional ≤ held.size
+  pub bytes : held.bytes.start + held.bytes.length ≤ held.size
+  pub options : held.options.start + held.options.length ≤ held.size
   pub there : held.size ≤ length buffer
   pub some : 0 < held.size
   pub small : held.size ≤ most_in_unit
   pub time : held.time < 2 ^ 63
-
-abbrev pub data_held : Held → List ℕ → List ℕ
-data_held held block = take held.captured (drop held.from block)
-
-abbrev pub options_held : Held → List ℕ → List ℕ
-options_held held block = take held.optional (drop held.options block)
 
 abbrev pub packet_held : Declared → Held → List ℕ → Option Captured
 packet_held Nothing held block = None
@@ -132,12 +131,12 @@ packet_held (PcapFile head) held block = Some (record {
   name = [];
   time = held.time;
   orig = held.orig;
-  bytes = data_held held block;
+  bytes = part_of held.bytes block;
   comment = [];
 })
 packet_held (PcapngFile first section) held block =
     option_map
-    (λ (i : Described). packet_of i held.time held.orig (data_held held block) (comment_in section.order (options_held held block)))
+    (λ (i : Described). packet_of i held.time held.orig (part_of held.bytes block) (comment_in section.order (part_of held.options block)))
     (slice_get section.interfaces held.interface)
 
 -- its interface is known

@@ -14,16 +14,16 @@ ghost use Rattle.cap_io.specs.Blocks.{KnowsIfAny, PacketFound, WholeCame, told_b
 ghost use Rattle.cap_io.specs.Reading.{failures_told, most_in_unit};
 
 use crate::reading::{make_room, read_data};
-use crate::unit::Held;
+use crate::unit::{Held, Span};
 use cap_octet::{Fault, Input, Order};
 use cap_pcapng::{Block, EnhancedBlock, Frame, InterfaceBlock, SimpleBlock, Table, block, frame};
 use std::alloc::Allocator;
 
 /// Where the data of an enhanced packet begin in its block.
-const ENHANCED_DATA: usize = 28;
+const ENHANCED_DATA: u32 = 28;
 
 /// Where the data of a simple packet begin in its block.
-const SIMPLE_DATA: usize = 12;
+const SIMPLE_DATA: u32 = 12;
 
 /// A block that was read: the byte order of its section, its size in bytes, and its packet if it
 /// has one.
@@ -123,14 +123,15 @@ fn add_interface<A: Allocator>(
 fn enhanced_packet<A: Allocator>(
     table: &Table<A>,
     block: &EnhancedBlock<'_>,
-    size: usize,
+    size: u32,
 ) -> Result<Held, Fault>
+    requires { 28 + length block.now.rest.now ≤ size }
     ensures found { IfOk result (PacketFound block.now.order table.now
         (EnhancedParts block.now.interface block.now.ticks block.now.captured block.now.orig
         block.now.order block.now.rest.now) block.now.rest.now) }
     ensures size { IfOk result (λ held. held.size ≡ size) }
     ensures known { IfOk result (λ held. is_some (slice_get table.now held.interface) ≡ true) }
-    ensures from { IfOk result (λ held. held.from ≡ 28) }
+    ensures from { IfOk result (λ held. held.bytes.start ≡ 28) }
     ensures refused { IfErr result (λ fault. first_failing (checks_among table.now
         (EnhancedParts block.now.interface block.now.ticks block.now.captured block.now.orig
         block.now.order block.now.rest.now)) ≡ Some fault) }
@@ -138,15 +139,19 @@ fn enhanced_packet<A: Allocator>(
     let Some(interface) = table.get(block.interface) else {
         return Err(Fault::UnknownInterface);
     };
-    let data = block.data()?;
+    block.data()?;
     let time = interface.clock.time(block.ticks)?;
-    let optional = block.options().rest.len();
+    let options = block.options().rest.len() as u32;
     Ok(Held {
         size,
-        from: ENHANCED_DATA,
-        captured: data.len(),
-        options: ENHANCED_DATA + block.rest.len() - optional,
-        optional,
+        bytes: Span {
+            start: ENHANCED_DATA,
+            length: block.captured,
+        },
+        options: Span {
+            start: ENHANCED_DATA + block.rest.len() as u32 - options,
+            length: options,
+        },
         interface: block.interface,
         time,
         orig: block.orig,
@@ -157,14 +162,14 @@ fn enhanced_packet<A: Allocator>(
 fn simple_packet<A: Allocator>(
     table: &Table<A>,
     block: &SimpleBlock<'_>,
-    size: usize,
+    size: u32,
 ) -> Result<Held, Fault>
     ensures found { IfOk result (λ held. (order : Order)
         → PacketFound order table.now (SimpleParts block.now.orig block.now.rest.now)
         block.now.rest.now held) }
     ensures size { IfOk result (λ held. held.size ≡ size) }
     ensures known { IfOk result (λ held. is_some (slice_get table.now held.interface) ≡ true) }
-    ensures from { IfOk result (λ held. held.from ≡ 12) }
+    ensures from { IfOk result (λ held. held.bytes.start ≡ 12) }
     ensures refused { IfErr result (λ fault.
         first_failing (checks_among table.now (SimpleParts block.now.orig block.now.rest.now))
         ≡ Some fault) }
@@ -172,13 +177,17 @@ fn simple_packet<A: Allocator>(
     let Some(interface) = table.get(0) else {
         return Err(Fault::UnknownInterface);
     };
-    let data = block.data(interface.snap)?;
+    block.data(interface.snap)?;
     Ok(Held {
         size,
-        from: SIMPLE_DATA,
-        captured: data.len(),
-        options: SIMPLE_DATA,
-        optional: 0,
+        bytes: Span {
+            start: SIMPLE_DATA,
+            length: block.captured(interface.snap),
+        },
+        options: Span {
+            start: SIMPLE_DATA,
+            length: 0,
+        },
         interface: 0,
         time: 0,
         orig: block.orig,
@@ -209,8 +218,8 @@ fn enter<A: Allocator>(
             add_interface(table, &found)?;
             Ok(None)
         }
-        Block::Enhanced(found) => Ok(Some(enhanced_packet(table, &found, bytes.len())?)),
-        Block::Simple(found) => Ok(Some(simple_packet(table, &found, bytes.len())?)),
+        Block::Enhanced(found) => Ok(Some(enhanced_packet(table, &found, frame.length)?)),
+        Block::Simple(found) => Ok(Some(simple_packet(table, &found, frame.length)?)),
         Block::Skipped => Ok(None),
     }
 }

@@ -1,12 +1,13 @@
 //! The interfaces of a pcapng file that is written, numbered by first use.
-ghost use Rattle.std.specs.Prelude.{◌≡◌, ◌++◌, ◌≤◌, [], length, map, nat_eq, nat_le, take};
+ghost use Rattle.std.specs.Prelude.{◌≡◌, ◌++◌, ◌≤◌, [], length, map, nat_eq, nat_le, take, IsTrue, Some};
+ghost use Rattle.std.specs.Prelude.{slice_get};
 ghost use Rattle.std.specs.Cmp.Lexicographic.{pointwise};
 ghost use Rattle.std.specs.Cmp.Rules.{comparing, hashing};
 ghost use Rattle.std.specs.Hash as fed;
 ghost use Rattle.std.specs.Ordering.{eq_of_both, on};
 ghost use Rattle.std.proofs.Common.{rules};
 ghost use Rattle.cap_octet.specs.Packet.{captured};
-ghost use Rattle.cap_io.specs.Text.{interface_of, most_output_interfaces, new_among};
+ghost use Rattle.cap_io.specs.Text.{interface_of, is_same, most_output_interfaces, new_among};
 ghost use Rattle.cap_io.specs.Numbering.{Numbers, interface_in};
 
 use cap_octet::{Fault, Packet};
@@ -54,6 +55,13 @@ impl InterfaceKey {
         }
     }
 
+    /// Whether it is the key of a packet's interface.
+    fn is_of(&self, packet: &Packet<'_>) -> bool
+        ensures { result ≡ is_same (interface_in self.now) (interface_of (captured packet.now)) }
+    {
+        self.link == packet.link && self.snap == packet.snap && self.name() == packet.name
+    }
+
     fn name(&self) -> &[u8]
         ensures { result.now ≡ take self.now.name_length self.now.name }
     {
@@ -89,6 +97,21 @@ impl Hash for InterfaceKey {
     }
 }
 
+/// Whether the key with this number is that of a packet's interface.
+fn is_numbered<A: Allocator>(
+    keys: &IndexSet<InterfaceKey, BuildHasherDefault<FoldHasher>, A>,
+    number: u32,
+    packet: &Packet<'_>,
+) -> bool
+    ensures { IsTrue result → slice_get (map interface_in keys.now.keys) number
+        ≡ Some (interface_of (captured packet.now)) }
+{
+    match keys.get_index(number as usize) {
+        Some(key) => key.is_of(packet),
+        None => false,
+    }
+}
+
 /// The place of a key, which comes last where it is new.
 fn number_key<A: Allocator>(
     keys: &mut IndexSet<InterfaceKey, BuildHasherDefault<FoldHasher>, A>,
@@ -112,18 +135,21 @@ fn number_key<A: Allocator>(
 #[derive(Drop)]
 pub(crate) struct OutputInterfaces<A: Allocator> {
     keys: IndexSet<InterfaceKey, BuildHasherDefault<FoldHasher>, A>,
+    /// The number of the last packet's interface, which is mostly that of the next one too.
+    last: u32,
 }
 
 impl<A: Allocator> Model for OutputInterfaces<A> {
     ghost use Rattle.std.specs.Prelude.{List, map};
     ghost use Rattle.cap_io.specs.Text.{AreFew, Interface};
-    ghost use Rattle.cap_io.specs.Numbering.{interface_in};
+    ghost use Rattle.cap_io.specs.Numbering.{IsFirst, interface_in};
 
     ghost Value = { List Interface };
 
     ghost view = { λ s. map interface_in s.keys.keys };
 
-    ghost invariant = { λ s. AreFew (map interface_in s.keys.keys) };
+    ghost invariant = { λ s. AreFew (map interface_in s.keys.keys)
+        × IsFirst s.last (map interface_in s.keys.keys) };
 }
 
 impl<A: Allocator + Copy> OutputInterfaces<A> {
@@ -133,6 +159,7 @@ impl<A: Allocator + Copy> OutputInterfaces<A> {
     {
         OutputInterfaces {
             keys: IndexSet::new(alloc),
+            last: 0,
         }
     }
 }
@@ -164,6 +191,14 @@ impl<A: Allocator> OutputInterfaces<A> {
             most_output_interfaces }
         ensures { Numbers self.old (interface_of (captured packet.now)) result self.new }
     {
-        number_key(&mut self.keys, InterfaceKey::of(packet))
+        if is_numbered(&self.keys, self.last, packet) {
+            return Ok(Place {
+                number: self.last,
+                is_new: false,
+            });
+        }
+        let place = number_key(&mut self.keys, InterfaceKey::of(packet))?;
+        self.last = place.number;
+        Ok(place)
     }
 }

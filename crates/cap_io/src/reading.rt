@@ -7,7 +7,7 @@ ghost use Rattle.cap_io.specs.Reading.{failures_told, most_in_unit, size_of, Fro
 ghost use Rattle.cap_io.specs.Reading.{FrontMissing, HasInterfaceIfAny, HeaderCame, IsSized};
 ghost use Rattle.cap_io.specs.Reading.{Refuses, RestMissing, UnitCame};
 
-use crate::unit::{Came, Held};
+use crate::unit::{Came, Held, Span};
 use cap_octet::{Fault, Input, read_full};
 use cap_pcap::{Head, read_head, read_magic, read_record};
 use std::alloc::Allocator;
@@ -165,16 +165,19 @@ pub(crate) fn next_record<I: Input, A: Allocator>(
         return Ok(Came::End);
     }
     let found = read_record(head, &front)?;
-    let captured = found.captured as usize;
-    let size = RECORD_HEAD + captured;
+    let size = RECORD_HEAD + found.captured as usize;
     make_room(buffer, size)?;
     read_data(input, &front, buffer.as_mut_slice(), size)?;
     Ok(Came::Packet(Held {
-        size,
-        from: RECORD_HEAD,
-        captured,
-        options: RECORD_HEAD,
-        optional: 0,
+        size: size as u32,
+        bytes: Span {
+            start: RECORD_HEAD as u32,
+            length: found.captured,
+        },
+        options: Span {
+            start: RECORD_HEAD as u32,
+            length: 0,
+        },
         interface: 0,
         time: found.time,
         orig: found.orig,

@@ -123,7 +123,7 @@ impl<I: Input, A: Allocator> Source<I, A> {
         let Stage::InHand(held) = self.stage else {
             return None;
         };
-        let bytes = &self.buffer[held.from..held.from + held.captured];
+        let bytes = held.bytes.of(&self.buffer);
         match self.savefile {
             Savefile::Unknown => None,
             Savefile::Pcap(head) => Some(Packet {
@@ -137,7 +137,7 @@ impl<I: Input, A: Allocator> Source<I, A> {
             }),
             Savefile::Pcapng(order, _) => {
                 let interface = self.table.get(held.interface)?;
-                let rest = &self.buffer[held.options..held.options + held.optional];
+                let rest = held.options.of(&self.buffer);
                 Some(Packet {
                     link: interface.link,
                     snap: interface.snap,

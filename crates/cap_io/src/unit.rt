@@ -1,4 +1,7 @@
 //! What is held of the units that were read.
+ghost use Rattle.std.specs.Prelude.{◌≡◌, ◌+◌, ◌≤◌, length};
+ghost use Rattle.cap_io.specs.Reading.{part_of};
+
 use cap_octet::Order;
 use cap_pcap::Head;
 
@@ -13,18 +16,34 @@ pub(crate) enum Savefile {
     Pcapng(Order, Option<u16>),
 }
 
+/// Bytes of a unit.
+#[derive(Clone, Copy, Debug, PartialEq, Eq)]
+pub(crate) struct Span {
+    /// Where they begin in the unit.
+    pub(crate) start: u32,
+    /// How many they are.
+    pub(crate) length: u32,
+}
+
+impl Span {
+    /// These bytes of a buffer that begins with the unit.
+    pub(crate) fn of(self, bytes: &[u8]) -> &[u8]
+        requires { self.start + self.length ≤ length bytes.now }
+        ensures { result.now ≡ part_of self bytes.now }
+    {
+        &bytes[self.start as usize..][..self.length as usize]
+    }
+}
+
 /// A packet in hand, whose unit stands at the front of the block buffer.
 #[derive(Clone, Copy, Debug, PartialEq, Eq)]
 pub(crate) struct Held {
     /// The size of its unit, in bytes.
-    pub(crate) size: usize,
-    /// Where its data begin in the unit, and how many bytes they are.
-    pub(crate) from: usize,
-    pub(crate) captured: usize,
-    /// Where the options of its block begin in the unit, and how many bytes they are; none but in
-    /// an enhanced packet.
-    pub(crate) options: usize,
-    pub(crate) optional: usize,
+    pub(crate) size: u32,
+    /// Where its data lie.
+    pub(crate) bytes: Span,
+    /// Where the options of its block lie; none but in an enhanced packet.
+    pub(crate) options: Span,
     /// The number of its interface in its section; 0 in pcap.
     pub(crate) interface: u32,
     /// Nanoseconds since 1970-01-01 00:00:00 UTC, below 2^63.

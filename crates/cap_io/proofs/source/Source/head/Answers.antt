@@ -1,4 +1,4 @@
-use Rattle.std.proofs.Common.{◌∙◌, ◌+◌, ◌-◌, ap, drop, List, ℕ, take}
+use Rattle.std.proofs.Common.{◌∙◌, ap, take}
 use Rattle.cap_pcapng.specs.Interface.{described}
 use Rattle.cap_io.specs.Source.{SourceView}
 use Rattle.cap_io.proofs.Entered.{known_interface}
@@ -9,17 +9,15 @@ pub returns-in-Pcap-clause-packet : goal.returns-in-Pcap-clause-packet
 returns-in-Pcap-clause-packet g c =
     let view = rw (c.in-Pcap.is, c.in-InHand.is) at (ap (λ (v : SourceView). v.packet) c.self.view_is) in
     let held = rw c.in-InHand.is at c.self.invariant.held in
-    pcap-lent c.in-Pcap.head c.in-InHand.held _ _ (part-lent c.in-InHand.held.from c.in-InHand.held.captured c.in-InHand.held.size c.deref.result.now c.self.inside.buffer.items held.within c.deref.ensures.value) ∙ view
+    pcap-lent c.in-Pcap.head c.in-InHand.held _ _ (c.of-bytes.ensures ∙ part-lent c.in-InHand.held.bytes c.in-InHand.held.size c.deref.result.now c.self.inside.buffer.items held.bytes c.deref.ensures.value) ∙ view
 
 pub returns-in_ok-interface-in-Pcapng-clause-packet : goal.returns-in_ok-interface-in-Pcapng-clause-packet
 returns-in_ok-interface-in-Pcapng-clause-packet g c =
     let view = rw (c.in-Pcapng.is, c.in-InHand.is) at (ap (λ (v : SourceView). v.packet) c.self.view_is) in
     let held = rw c.in-InHand.is at c.self.invariant.held in
-    let options : List ℕ =
-    take (c.in-InHand.held.options + c.in-InHand.held.optional - c.in-InHand.held.options) (drop c.in-InHand.held.options c.deref-in-Pcapng.result.now) in
-    pcapng-lent c.in-Pcapng.order c.in-Pcapng.field-1 c.self.inside.table (described c.in_ok-interface-in-Pcapng.interface) c.in-InHand.held _ c.comment.result.now options
+    pcapng-lent c.in-Pcapng.order c.in-Pcapng.field-1 c.self.inside.table (described c.in_ok-interface-in-Pcapng.interface) c.in-InHand.held _ c.comment.result.now c.of-rest.result.now
     (take c.in-InHand.held.size c.self.inside.buffer.items)
     (known_interface c.get.result described c.in_ok-interface-in-Pcapng.interface _ c.in_ok-interface-in-Pcapng.was c.get.ensures)
-    (part-lent c.in-InHand.held.from c.in-InHand.held.captured c.in-InHand.held.size c.deref.result.now c.self.inside.buffer.items held.within c.deref.ensures.value)
+    (c.of-bytes.ensures ∙ part-lent c.in-InHand.held.bytes c.in-InHand.held.size c.deref.result.now c.self.inside.buffer.items held.bytes c.deref.ensures.value)
     c.comment.ensures.value
-    (part-lent c.in-InHand.held.options c.in-InHand.held.optional c.in-InHand.held.size c.deref-in-Pcapng.result.now c.self.inside.buffer.items held.optional c.deref-in-Pcapng.ensures.value) ∙ view
+    (c.of-rest.ensures ∙ part-lent c.in-InHand.held.options c.in-InHand.held.size c.deref-in-Pcapng.result.now c.self.inside.buffer.items held.options c.deref-in-Pcapng.ensures.value) ∙ view
