@@ -3,6 +3,7 @@
 ghost use Rattle.std.specs.Prelude.{◌≡◌, ◌+◌, ◌-◌, ◌^◌, ◌<◌, ◌≤◌, List, [], ◌∷◌, length, drop, OnOk};
 ghost use Rattle.flt_gen.specs.Follow.{one_on, two_on, four_on, eight_on, followed, entered_at, target};
 ghost use Rattle.flt_gen.specs.Code.{plain, jump_before, branch_before};
+ghost use Rattle.flt_gen.specs.Puts.{HasRoom};
 
 use crate::elementary::{Fact, Place};
 use crate::follow::{Knowledge, onward, past_index};
@@ -118,7 +119,7 @@ impl<A: Allocator> Code<A> {
         k: u32,
         to: Targets,
     ) -> Result<(), AllocError>
-        requires { length self.old < 2 ^ 31 }
+        requires { HasRoom 3 self.old }
         ensures code { OnOk result (self.new ≡ branch_before test operand k to.yes to.no self.old) }
         ensures room { OnOk result (length self.new ≤ length self.old + 3) }
     {

@@ -5,9 +5,11 @@
 ghost use Rattle.std.specs.Prelude.{◌≡◌, ◌+◌, ◌^◌, ◌<◌, ◌≤◌, true, length, OnOk, IfOk};
 ghost use Rattle.flt_gen.specs.Group.{larger_group};
 ghost use Rattle.flt_gen.specs.Code.{entered};
+ghost use Rattle.flt_gen.specs.Puts.{HasRoom};
 ghost use Rattle.flt_gen.specs.Walk.{start, truth_put, relation_put, number_put, is_number_node, is_truth_node, operands_put, settled, group_put, value_put, join_put, truth_node_put, with_node, insns_of};
 
 use crate::code::{Code, Targets};
+use crate::context::Context;
 use crate::group::Group;
 use crate::link::Link;
 use crate::number::{computation, put_accessor, put_accessors, put_operands, width_of};
@@ -173,7 +175,8 @@ impl<A: Allocator> Walk<A> {
         ensures room { OnOk result (length self.new.code ≤ length self.old.code + 150000) }
     {
         if !self.group.numbers().is_empty() {
-            self.to.no = put_group(&mut self.code, link, &self.group, self.to)?;
+            let context = Context::new(link, self.to);
+            self.to.no = put_group(&mut self.code, context, &self.group)?;
         }
         self.group.clear();
         self.chained = false;
@@ -191,7 +194,8 @@ impl<A: Allocator> Walk<A> {
             self.chained = false;
             return Ok(());
         }
-        let entry = put_group(&mut self.code, link, &self.group, self.to)?;
+        let context = Context::new(link, self.to);
+        let entry = put_group(&mut self.code, context, &self.group)?;
         self.group.clear();
         self.finish_truth(entry);
         Ok(())
@@ -208,7 +212,8 @@ impl<A: Allocator> Walk<A> {
             return self.finish_group(link);
         }
         self.settle(link)?;
-        let entry = put_qualified(&mut self.code, link, quals, value, self.to)?;
+        let context = Context::new(link, self.to);
+        let entry = put_qualified(&mut self.code, context, quals, value)?;
         self.finish_truth(entry);
         Ok(())
     }
@@ -229,14 +234,15 @@ impl<A: Allocator> Walk<A> {
 
     // A primitive or a negation. A value whose qualifiers aren't filled in yet is no.
     fn put_truth_node(&mut self, link: Link, node: &Node) -> Result<(), AllocError>
-        requires room { length self.old.code + 96 < 2 ^ 31 }
+        requires room { HasRoom 96 self.old.code }
         requires truth { is_truth_node node.now ≡ true }
         ensures { OnOk result (self.new ≡ truth_node_put link self.old node.now) }
     {
         let (code, to) = (&mut self.code, self.to);
+        let context = Context::new(link, to);
         let entry = match node {
-            Node::Check(protocol) => put_check(code, link, *protocol, to)?,
-            Node::Cast(protocol, cast) => put_cast(code, link, *protocol, *cast, to)?,
+            Node::Check(protocol) => put_check(code, context, *protocol)?,
+            Node::Cast(protocol, cast) => put_cast(code, context, *protocol, *cast)?,
             Node::Sized(size, number) => put_sized(code, *size, *number, to)?,
             Node::Bare(_) | Node::Valued(_, _) => to.no,
             Node::Not => {
