@@ -1,14 +1,25 @@
 -- The code of joined tests is that of their formula.
-use Rattle.std.proofs.Common.{◌≡◌, ℕ, List, [], ◌∷◌, refl, ap, ◌∙◌}
+use Rattle.std.proofs.Common.{◌≡◌, ℕ, List, [], ◌∷◌, length, Option, Some, None, Result, refl, sym, ap, subst, ◌∙◌, arith}
+use Rattle.std.specs.Prelude.{IfOk}
+use Rattle.std.specs.declared.alloc.AllocError.{AllocError}
 use Rattle.flt_bpf.specs.declared.insn.Insn.{Insn}
 use Rattle.flt_words.specs.declared.token.Protocol.{Protocol}
+use Rattle.flt_words.specs.declared.token.Protocol.TheVariants.{Ip, Arp, Rarp}
+use Rattle.flt_words.specs.declared.token.ValueType.{ValueType}
+use Rattle.flt_words.specs.declared.token.ValueType.TheVariants.{Port}
 use Rattle.flt_gen.specs.declared.link.Link.{Link}
 use Rattle.flt_gen.specs.declared.elementary.Elementary.{Elementary}
+use Rattle.flt_gen.specs.declared.elementary.Hosts.TheVariants as hosts
+use Rattle.flt_gen.specs.declared.elementary.NetTest.{NetTest}
+use Rattle.flt_gen.specs.declared.elementary.PortTest.{PortTest}
+use Rattle.flt_gen.specs.declared.elementary.Ports.TheVariants.{One, Several}
 use Rattle.flt_gen.specs.Numbers.{accessor_tests}
+use Rattle.flt_gen.specs.Primitives.{net_formula, port_test, port_formula}
+use Rattle.flt_gen.specs.Group.{Group, hosts_formula, one_formula, several_formula, formula_by, group_formula}
 use Rattle.flt_gen.specs.Formula.{Formula, all_of, guarded, checked}
 use Rattle.flt_gen.specs.declared.follow.Knowledge.{Knowledge}
 use Rattle.flt_gen.specs.Follow.{nothing}
-use Rattle.flt_gen.specs.Code.{Entered, elementary_before, emitted, all_before, accessors_before}
+use Rattle.flt_gen.specs.Code.{Entered, entered, elementary_before, emitted, all_before, accessors_before}
 
 pub all_emitted : (link : Link) (known : Knowledge) (ts : List Elementary) (hit miss : ℕ) (c : List Insn) → emitted link known (all_of ts) hit miss c ≡ all_before known ts hit miss c
 all_emitted link known [] hit miss c = refl
@@ -24,3 +35,36 @@ pub checked_emitted : (link : Link) (ps : List Protocol) (f : Formula) (hit miss
 checked_emitted link [] f hit miss c = refl
 checked_emitted link (p ∷ ps) f hit miss c =
     guarded_emitted link nothing (accessor_tests link p) (checked link ps f) hit miss c ∙ ap (λ (e : Entered). all_before nothing (accessor_tests link p) e.entry miss e.code) (checked_emitted link ps f hit miss c)
+
+-- hosts of a network are the network's
+pub net_is_hosts : (link : Link) (protocol : Option Protocol) (net : NetTest) (numbers : List ℕ) → net_formula link protocol net ≡ hosts_formula link protocol (hosts.Net net) numbers
+net_is_hosts link None net numbers = refl
+net_is_hosts link (Some Ip) net numbers = refl
+net_is_hosts link (Some Arp) net numbers = refl
+net_is_hosts link (Some Rarp) net numbers = refl
+net_is_hosts link (Some _) net numbers = refl
+
+-- the formula of a group of ports
+pub one_port : (link : Link) (group : Group) (p : PortTest) → group.value_type ≡ Port → length group.numbers ≡ 1 → p ≡ port_test group.protocol group.direction (One group.first) → group_formula link group ≡ port_formula link p []
+one_port link group p k l e = by_number group.numbers l ∙ ap (λ (q : PortTest). port_formula link q []) (sym e)
+  where
+    by_number : (ns : List ℕ) → length ns ≡ 1 → formula_by link group ns ≡ port_formula link (port_test group.protocol group.direction (One group.first)) []
+    by_number [] l = cc
+    by_number (n ∷ []) l = ap (λ (t : ValueType). one_formula link t group.protocol group.direction group.first) k
+    by_number (n ∷ m ∷ ns) l = absurd (omega arith)
+
+pub several_ports : (link : Link) (group : Group) (p : PortTest) (numbers : List ℕ) → group.value_type ≡ Port → (length group.numbers ≡ 1 → ⊥) → p ≡ port_test group.protocol group.direction (Several group.first) → numbers ≡ group.numbers → group_formula link group ≡ port_formula link p numbers
+several_ports link group p numbers k l e f =
+    by_number group.numbers l ∙ ap (λ (q : PortTest). port_formula link q group.numbers) (sym e) ∙ ap (λ ns. port_formula link p ns) (sym f)
+  where
+    several : several_formula link group.value_type group.protocol group.direction group.first group.numbers ≡ port_formula link (port_test group.protocol group.direction (Several group.first)) group.numbers
+    several = ap (λ (t : ValueType). several_formula link t group.protocol group.direction group.first group.numbers) k
+
+    by_number : (ns : List ℕ) → (length ns ≡ 1 → ⊥) → formula_by link group ns ≡ port_formula link (port_test group.protocol group.direction (Several group.first)) group.numbers
+    by_number [] l = several
+    by_number (n ∷ []) l = absurd (l refl)
+    by_number (n ∷ m ∷ ns) l = several
+
+-- code that is that of a formula is that of one equal to it
+pub formula_put : (r : Result ℕ AllocError) (link : Link) (known : Knowledge) (f g : Formula) (hit miss : ℕ) (c new : List Insn) → f ≡ g → IfOk r (λ entry. emitted link known g hit miss c ≡ entered new entry) → IfOk r (λ entry. emitted link known f hit miss c ≡ entered new entry)
+formula_put r link known f g hit miss c new e h = subst (λ (x : Formula). IfOk r (λ entry. emitted link known x hit miss c ≡ entered new entry)) (sym e) h

@@ -1,17 +1,16 @@
 //! The code of hosts and networks of IPv4 and IPv6.
 
-ghost use Rattle.std.specs.Prelude.{◌≡◌, ◌+◌, ◌*◌, ◌≤◌, length, None};
+ghost use Rattle.std.specs.Prelude.{◌≡◌, ◌+◌, ◌*◌, ◌≤◌, length};
 ghost use Rattle.flt_lang.specs.Nets.{first_bits};
 ghost use Rattle.flt_gen.specs.Elementary.{kind_test};
 ghost use Rattle.flt_gen.specs.Puts.{HasRoom, Emits, PutsBehind};
-ghost use Rattle.flt_gen.specs.Group.{address_places, hosts_sides, hosts_formula};
-ghost use Rattle.flt_gen.specs.Primitives.{address_test, source_offset, destination_offset, net_sides, net_formula, ip6_test, ip6_tests, ip6_formula};
+ghost use Rattle.flt_gen.specs.Group.{address_places, hosts_sides, any_hosts, hosts_formula};
+ghost use Rattle.flt_gen.specs.Primitives.{address_test, source_offset, destination_offset, net_formula, ip6_test, ip6_tests, ip6_formula};
 
 use crate::among::put_any_sides;
 use crate::code::Code;
 use crate::context::Context;
-use crate::elementary::{Elementary, FieldTest, Kind, NetTest, Place, Sides};
-use crate::group::Group;
+use crate::elementary::{Elementary, FieldTest, Hosts, Kind, NetTest, Place, Sides};
 use crate::link::Link;
 use crate::put::{put_elementary, put_sides};
 use crate::table::{kind_test, network};
@@ -54,64 +53,6 @@ fn destination_offset(kind: Kind) -> u32
     }
 }
 
-/// The sides behind a header of a kind. A frame of another kind goes on at `other`.
-fn put_net_behind<A: Allocator>(
-    code: &mut Code<A>,
-    context: Context,
-    kind: Kind,
-    net: NetTest,
-    other: usize,
-) -> Result<usize, AllocError>
-    requires { HasRoom 18 code.old }
-    ensures { PutsBehind 18 result context (kind_test context.link kind) other
-        (net_sides context.link kind net) code.old code.new }
-{
-    let start = network(context.link);
-    let source = address_test(net.mask, net.address, start + source_offset(kind));
-    let destination = address_test(net.mask, net.address, start + destination_offset(kind));
-    let kind = kind_test(context.link, kind);
-    let behind = context.behind(kind);
-    let yes = put_sides(code, behind, net.direction, &[source], &[destination])?;
-    put_elementary(code, context.going_to(yes, other), kind)
-}
-
-/// The form of IPv4, or else that of ARP, or else that of RARP.
-fn put_any_net<A: Allocator>(
-    code: &mut Code<A>,
-    context: Context,
-    net: NetTest,
-) -> Result<usize, AllocError>
-    requires { HasRoom 54 code.old }
-    ensures { Emits 54 result context (net_formula context.link None net) code.old code.new }
-{
-    let not_ip = context.elsewhere(kind_test(context.link, Kind::Ip));
-    let neither = not_ip.elsewhere(kind_test(context.link, Kind::Arp));
-    let rarp = put_net_behind(code, neither, Kind::Rarp, net, context.to.no)?;
-    let arp = put_net_behind(code, not_ip, Kind::Arp, net, rarp)?;
-    put_net_behind(code, context, Kind::Ip, net, arp)
-}
-
-/// `host` and `net` of IPv4.
-pub fn put_net<A: Allocator>(
-    code: &mut Code<A>,
-    context: Context,
-    protocol: Option<Protocol>,
-    net: NetTest,
-) -> Result<usize, AllocError>
-    requires { HasRoom 54 code.old }
-    ensures { Emits 54 result context (net_formula context.link protocol net)
-        code.old code.new }
-{
-    let no = context.to.no;
-    match protocol {
-        Some(Protocol::Ip) => put_net_behind(code, context, Kind::Ip, net, no),
-        Some(Protocol::Arp) => put_net_behind(code, context, Kind::Arp, net, no),
-        Some(Protocol::Rarp) => put_net_behind(code, context, Kind::Rarp, net, no),
-        Some(_) => Ok(no),
-        None => put_any_net(code, context, net),
-    }
-}
-
 fn address_places(link: Link, kind: Kind) -> Sides
     ensures { result ≡ address_places link kind }
 {
@@ -123,51 +64,104 @@ fn address_places(link: Link, kind: Kind) -> Sides
     }
 }
 
-/// The sides behind a header of a kind. A frame of another kind goes on at `other`.
+/// The hosts of a header of a kind, on the sides that are asked for.
+fn put_host_sides<A: Allocator>(
+    code: &mut Code<A>,
+    context: Context,
+    kind: Kind,
+    wanted: Hosts,
+    numbers: &[u32],
+) -> Result<usize, AllocError>
+    requires { HasRoom (12 * length numbers.now + 18) code.old }
+    ensures { Emits (12 * length numbers.now + 18) result context
+        (hosts_sides context.link kind wanted numbers.now) code.old code.new }
+{
+    let start = network(context.link);
+    match wanted {
+        Hosts::Net(net) => {
+            let source = address_test(net.mask, net.address, start + source_offset(kind));
+            let destination = address_test(net.mask, net.address, start + destination_offset(kind));
+            put_sides(code, context, net.direction, &[source], &[destination])
+        }
+        Hosts::Several(direction, first) => {
+            let at = address_places(context.link, kind);
+            put_any_sides(code, context, direction, at, first, numbers)
+        }
+    }
+}
+
+/// The same behind that header. A frame of another kind goes on at `other`.
 fn put_hosts_behind<A: Allocator>(
     code: &mut Code<A>,
     context: Context,
     kind: Kind,
-    group: &Group<A>,
+    wanted: Hosts,
+    numbers: &[u32],
     other: usize,
 ) -> Result<usize, AllocError>
-    requires { HasRoom (12 * length group.now.numbers + 24) code.old }
-    ensures { PutsBehind (12 * length group.now.numbers + 24) result
+    requires { HasRoom (12 * length numbers.now + 24) code.old }
+    ensures { PutsBehind (12 * length numbers.now + 24) result
         context (kind_test context.link kind) other
-        (hosts_sides context.link kind group.now.direction group.now.first group.now.numbers)
-        code.old code.new }
+        (hosts_sides context.link kind wanted numbers.now) code.old code.new }
 {
-    let at = address_places(context.link, kind);
-    let kind = kind_test(context.link, kind);
-    let (behind, direction) = (context.behind(kind), group.direction());
-    let (first, numbers) = (group.first(), group.numbers());
-    let yes = put_any_sides(code, behind, direction, at, first, numbers)?;
-    put_elementary(code, context.going_to(yes, other), kind)
+    let is_kind = kind_test(context.link, kind);
+    let yes = put_host_sides(code, context.behind(is_kind), kind, wanted, numbers)?;
+    put_elementary(code, context.going_to(yes, other), is_kind)
 }
 
-/// Several hosts, by the forms that their protocol allows.
+/// The form of IPv4, or else that of ARP, or else that of RARP.
+fn put_any_hosts<A: Allocator>(
+    code: &mut Code<A>,
+    context: Context,
+    wanted: Hosts,
+    numbers: &[u32],
+) -> Result<usize, AllocError>
+    requires { HasRoom (36 * length numbers.now + 72) code.old }
+    ensures { Emits (36 * length numbers.now + 72) result context
+        (any_hosts context.link wanted numbers.now) code.old code.new }
+{
+    let not_ip = context.elsewhere(kind_test(context.link, Kind::Ip));
+    let neither = not_ip.elsewhere(kind_test(context.link, Kind::Arp));
+    let rarp = put_hosts_behind(code, neither, Kind::Rarp, wanted, numbers, context.to.no)?;
+    let arp = put_hosts_behind(code, not_ip, Kind::Arp, wanted, numbers, rarp)?;
+    put_hosts_behind(code, context, Kind::Ip, wanted, numbers, arp)
+}
+
+/// Hosts of IPv4, by the forms that their protocol allows.
 pub fn put_hosts<A: Allocator>(
     code: &mut Code<A>,
     context: Context,
-    group: &Group<A>,
+    protocol: Option<Protocol>,
+    wanted: Hosts,
+    numbers: &[u32],
 ) -> Result<usize, AllocError>
-    requires { HasRoom (36 * length group.now.numbers + 72) code.old }
-    ensures { Emits (36 * length group.now.numbers + 72) result context
-        (hosts_formula context.link group.now.protocol group.now.direction group.now.first
-        group.now.numbers)
+    requires { HasRoom (36 * length numbers.now + 72) code.old }
+    ensures { Emits (36 * length numbers.now + 72) result context
+        (hosts_formula context.link protocol wanted numbers.now) code.old code.new }
+{
+    let kind = match protocol {
+        Some(Protocol::Ip) => Kind::Ip,
+        Some(Protocol::Arp) => Kind::Arp,
+        Some(Protocol::Rarp) => Kind::Rarp,
+        Some(_) => return Ok(context.to.no),
+        None => return put_any_hosts(code, context, wanted, numbers),
+    };
+    put_hosts_behind(code, context, kind, wanted, numbers, context.to.no)
+}
+
+/// `host` and `net` of IPv4.
+#[tactic(auto, using(crate::proofs::Joined::net_is_hosts))]
+pub fn put_net<A: Allocator>(
+    code: &mut Code<A>,
+    context: Context,
+    protocol: Option<Protocol>,
+    net: NetTest,
+) -> Result<usize, AllocError>
+    requires { HasRoom 72 code.old }
+    ensures { Emits 72 result context (net_formula context.link protocol net)
         code.old code.new }
 {
-    match group.protocol() {
-        Some(Protocol::Ip) => put_hosts_behind(code, context, Kind::Ip, group, context.to.no),
-        Some(_) => Ok(context.to.no),
-        None => {
-            let not_ip = context.elsewhere(kind_test(context.link, Kind::Ip));
-            let neither = not_ip.elsewhere(kind_test(context.link, Kind::Arp));
-            let rarp = put_hosts_behind(code, neither, Kind::Rarp, group, context.to.no)?;
-            let arp = put_hosts_behind(code, not_ip, Kind::Arp, group, rarp)?;
-            put_hosts_behind(code, context, Kind::Ip, group, arp)
-        }
-    }
+    put_hosts(code, context, protocol, Hosts::Net(net), &[])
 }
 
 /// A mask of so many bits, of 32.

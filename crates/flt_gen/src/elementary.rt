@@ -1,7 +1,7 @@
 //! The tests that primitives are made of: each looks at one field of a packet.
 
 ghost use Rattle.std.specs.Prelude.{◌≡◌};
-ghost use Rattle.flt_gen.specs.Primitives.{net_test, port_test};
+ghost use Rattle.flt_gen.specs.Primitives.{net_test};
 
 use flt_bpf::operation::Width;
 use flt_lang::Direction;
@@ -59,7 +59,7 @@ pub enum Ports {
     One(u32),
     /// Those from the first to the second.
     Between(u32, u32),
-    /// Those of a list that is told beside, of which this one stands first.
+    /// Those of a list that is passed beside, of which this one stands first.
     Several(u32),
 }
 
@@ -69,19 +69,6 @@ pub struct PortTest {
     pub protocol: Option<Protocol>,
     pub direction: Direction,
     pub ports: Ports,
-}
-
-impl PortTest {
-    /// A test of these ports.
-    pub fn new(protocol: Option<Protocol>, direction: Direction, ports: Ports) -> Self
-        ensures { result ≡ port_test protocol direction ports }
-    {
-        PortTest {
-            protocol,
-            direction,
-            ports,
-        }
-    }
 }
 
 /// What stands behind a network header: the tests of TCP and UDP, the test that no later fragment
@@ -123,6 +110,15 @@ impl NetTest {
             address,
         }
     }
+}
+
+/// The hosts of IPv4 that are looked for.
+#[derive(Clone, Copy)]
+pub enum Hosts {
+    /// Those of a network, which may be a single one.
+    Net(NetTest),
+    /// Those of a list that is passed beside, of which this one stands first, on these sides.
+    Several(Direction, u32),
 }
 
 /// A test with its outcome, where that is known of a packet.

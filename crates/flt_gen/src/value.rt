@@ -4,12 +4,12 @@ ghost use Rattle.std.specs.Prelude.{◌≡◌, ◌+◌, ◌*◌, length, IfOk};
 ghost use Rattle.flt_gen.specs.Code.{entered, at_top, sized_before};
 ghost use Rattle.flt_gen.specs.Puts.{HasRoom, Emits};
 ghost use Rattle.flt_gen.specs.Primitives.{host_formula, net_value_formula, qualified_formula};
-ghost use Rattle.flt_gen.specs.Group.{one_formula, several_formula, group_formula};
+ghost use Rattle.flt_gen.specs.Group.{group_formula};
 
 use crate::address::{put_hosts, put_ip6, put_net};
 use crate::code::{Code, Targets};
 use crate::context::Context;
-use crate::elementary::{NetTest, PortTest, Ports};
+use crate::elementary::{Hosts, NetTest, PortTest, Ports};
 use crate::group::Group;
 use crate::number::put_operands;
 use crate::port::put_ports;
@@ -27,8 +27,8 @@ fn put_host<A: Allocator>(
     direction: Direction,
     value: Value,
 ) -> Result<usize, AllocError>
-    requires { HasRoom 54 code.old }
-    ensures { Emits 54 result context (host_formula context.link protocol direction value)
+    requires { HasRoom 72 code.old }
+    ensures { Emits 72 result context (host_formula context.link protocol direction value)
         code.old code.new }
 {
     match value {
@@ -49,8 +49,8 @@ fn put_net_value<A: Allocator>(
     direction: Direction,
     value: Value,
 ) -> Result<usize, AllocError>
-    requires { HasRoom 54 code.old }
-    ensures { Emits 54 result context (net_value_formula context.link protocol direction value)
+    requires { HasRoom 72 code.old }
+    ensures { Emits 72 result context (net_value_formula context.link protocol direction value)
         code.old code.new }
 {
     match value {
@@ -81,65 +81,33 @@ pub fn put_qualified<A: Allocator>(
         (ValueType::Host, value) => put_host(code, context, protocol, direction, value),
         (ValueType::Net, value) => put_net_value(code, context, protocol, direction, value),
         (ValueType::Port, Value::Number(port, _)) => {
-            let wanted = PortTest::new(protocol, direction, Ports::One(port));
-            put_ports(code, context, wanted, &[])
+            let ports = Ports::One(port);
+            put_ports(
+                code,
+                context,
+                PortTest {
+                    protocol,
+                    direction,
+                    ports,
+                },
+                &[],
+            )
         }
         (ValueType::PortRange, Value::Range { first, last }) => {
             let ports = Ports::Between(first.min(last), first.max(last));
-            let wanted = PortTest::new(protocol, direction, ports);
-            put_ports(code, context, wanted, &[])
+            put_ports(
+                code,
+                context,
+                PortTest {
+                    protocol,
+                    direction,
+                    ports,
+                },
+                &[],
+            )
         }
         (ValueType::Proto, Value::Number(number, _)) => {
             put_proto(code, context, protocol, number)
-        }
-        _ => Ok(context.to.no),
-    }
-}
-
-/// The only member of a group.
-fn put_one<A: Allocator>(
-    code: &mut Code<A>,
-    context: Context,
-    group: &Group<A>,
-) -> Result<usize, AllocError>
-    requires { HasRoom 96 code.old }
-    ensures { Emits 96 result context
-        (one_formula context.link group.now.value_type group.now.protocol group.now.direction
-        group.now.first)
-        code.old code.new }
-{
-    let (protocol, direction) = (group.protocol(), group.direction());
-    match group.value_type() {
-        ValueType::Host => {
-            let net = NetTest::new(direction, None, group.first());
-            put_net(code, context, protocol, net)
-        }
-        ValueType::Port => {
-            let wanted = PortTest::new(protocol, direction, Ports::One(group.first()));
-            put_ports(code, context, wanted, &[])
-        }
-        _ => Ok(context.to.no),
-    }
-}
-
-/// Several members of a group.
-fn put_several<A: Allocator>(
-    code: &mut Code<A>,
-    context: Context,
-    group: &Group<A>,
-) -> Result<usize, AllocError>
-    requires { HasRoom (36 * length group.now.numbers + 96) code.old }
-    ensures { Emits (36 * length group.now.numbers + 96) result context
-        (several_formula context.link group.now.value_type group.now.protocol
-        group.now.direction group.now.first group.now.numbers)
-        code.old code.new }
-{
-    let (protocol, direction) = (group.protocol(), group.direction());
-    match group.value_type() {
-        ValueType::Host => put_hosts(code, context, group),
-        ValueType::Port => {
-            let wanted = PortTest::new(protocol, direction, Ports::Several(group.first()));
-            put_ports(code, context, wanted, group.numbers())
         }
         _ => Ok(context.to.no),
     }
@@ -155,9 +123,52 @@ pub fn put_group<A: Allocator>(
     ensures { Emits (36 * length group.now.numbers + 96) result context
         (group_formula context.link group.now) code.old code.new }
 {
-    match group.numbers() {
-        [_] => put_one(code, context, group),
-        _ => put_several(code, context, group),
+    let (protocol, direction, first) = (group.protocol(), group.direction(), group.first());
+    match (group.numbers(), group.value_type()) {
+        ([_], ValueType::Host) => {
+            put_net(
+                code,
+                context,
+                protocol,
+                NetTest::new(direction, None, first),
+            )
+        }
+        ([_], ValueType::Port) => {
+            let ports = Ports::One(first);
+            put_ports(
+                code,
+                context,
+                PortTest {
+                    protocol,
+                    direction,
+                    ports,
+                },
+                &[],
+            )
+        }
+        (numbers, ValueType::Host) => {
+            put_hosts(
+                code,
+                context,
+                protocol,
+                Hosts::Several(direction, first),
+                numbers,
+            )
+        }
+        (numbers, ValueType::Port) => {
+            let ports = Ports::Several(first);
+            put_ports(
+                code,
+                context,
+                PortTest {
+                    protocol,
+                    direction,
+                    ports,
+                },
+                numbers,
+            )
+        }
+        _ => Ok(context.to.no),
     }
 }
 
