@@ -134,15 +134,6 @@ abbrev pub relation_before : Link → Comparison → NumberTree → NumberTree �
 relation_before link comparison l r hit miss c =
     number_before link l 0 (plain (Store Accumulator) 0 ∷ number_before link r 1 (operands_before 0 (comparison_before comparison IndexRegister 0 hit miss c)))
 
--- the original length, compared with a number
-abbrev pub sized_comparison : Size → Comparison
-sized_comparison size.Less = AtMost
-sized_comparison size.Greater = AtLeast
-
-abbrev pub sized_before : Size → ℕ → ℕ → ℕ → List Insn → List Insn
-sized_before size number hit miss c =
-    plain (Load Accumulator Length) 0 ∷ plain (Store Accumulator) 0 ∷ plain (Load Accumulator Immediate) number ∷ operands_before 0 (comparison_before (sized_comparison size) IndexRegister 0 hit miss c)
-
 -- code, and the place at which it is entered
 pub record Entered : Type 0 where
   pub code : List Insn

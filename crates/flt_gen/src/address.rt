@@ -5,7 +5,8 @@ ghost use Rattle.flt_lang.specs.Nets.{first_bits};
 ghost use Rattle.flt_gen.specs.Elementary.{kind_test};
 ghost use Rattle.flt_gen.specs.Puts.{HasRoom, Emits, PutsBehind};
 ghost use Rattle.flt_gen.specs.Group.{address_places, hosts_sides, any_hosts, hosts_formula};
-ghost use Rattle.flt_gen.specs.Primitives.{address_test, source_offset, destination_offset, net_formula, ip6_test, ip6_tests, ip6_formula};
+ghost use Rattle.flt_gen.specs.Primitives.{address_test, source_offset, destination_offset};
+ghost use Rattle.flt_gen.specs.Primitives.{net_formula, ip6_test, ip6_tests, ip6_formula};
 
 use crate::among::put_any_sides;
 use crate::code::Code;

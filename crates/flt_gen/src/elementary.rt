@@ -1,7 +1,7 @@
 //! The tests that primitives are made of: each looks at one field of a packet.
 
 ghost use Rattle.std.specs.Prelude.{◌≡◌};
-ghost use Rattle.flt_gen.specs.Primitives.{net_test};
+ghost use Rattle.flt_gen.specs.Primitives.{net_test, port_test};
 
 use flt_bpf::operation::Width;
 use flt_lang::Direction;
@@ -69,6 +69,19 @@ pub struct PortTest {
     pub protocol: Option<Protocol>,
     pub direction: Direction,
     pub ports: Ports,
+}
+
+impl PortTest {
+    /// A test of these ports.
+    pub fn new(protocol: Option<Protocol>, direction: Direction, ports: Ports) -> Self
+        ensures { result ≡ port_test protocol direction ports }
+    {
+        PortTest {
+            protocol,
+            direction,
+            ports,
+        }
+    }
 }
 
 /// What stands behind a network header: the tests of TCP and UDP, the test that no later fragment

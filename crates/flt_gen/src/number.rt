@@ -1,7 +1,9 @@
 //! The code of arithmetic and of the tests that accessors ask for.
 
 ghost use Rattle.std.specs.Prelude.{◌≡◌, ◌^◌, ◌<◌, length, OnOk, IfOk, reverse};
-ghost use Rattle.flt_gen.specs.Code.{entered, base_before, transport_before, accessor_before, machine_operator, computation, operands_before, all_before, accessors_before};
+ghost use Rattle.flt_gen.specs.Code.{entered, base_before, transport_before, accessor_before};
+ghost use Rattle.flt_gen.specs.Code.{machine_operator, computation, operands_before, all_before};
+ghost use Rattle.flt_gen.specs.Code.{accessors_before};
 ghost use Rattle.flt_gen.specs.Follow.{nothing};
 ghost use Rattle.flt_gen.specs.Numbers.{accessor_tests, width_of};
 ghost use Rattle.flt_gen.specs.Puts.{HasRoom, Puts};
@@ -106,7 +108,8 @@ fn put_accessor_tests<A: Allocator>(
     to: Targets,
 ) -> Result<usize, AllocError>
     requires { HasRoom 18 code.old }
-    ensures { Puts 18 result (all_before nothing (accessor_tests link protocol) to.yes to.no code.old)
+    ensures { Puts 18 result
+        (all_before nothing (accessor_tests link protocol) to.yes to.no code.old)
         code.old code.new }
 {
     let context = Context::new(link, to);

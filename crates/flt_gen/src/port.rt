@@ -3,7 +3,9 @@
 ghost use Rattle.std.specs.Prelude.{◌≡◌, ◌+◌, ◌*◌, length};
 ghost use Rattle.flt_gen.specs.Formula.{Guard};
 ghost use Rattle.flt_gen.specs.Puts.{HasRoom, Emits, PutsBehind};
-ghost use Rattle.flt_gen.specs.Primitives.{port_is, port_between, port_places, port_sides, ports_behind, transport_ports, ip_transport, ip6_transport, port_formula};
+ghost use Rattle.flt_gen.specs.Primitives.{port_is, port_between, port_places, port_sides};
+ghost use Rattle.flt_gen.specs.Primitives.{ports_behind, transport_ports, ip_transport};
+ghost use Rattle.flt_gen.specs.Primitives.{ip6_transport, port_formula};
 
 use crate::among::put_any_sides;
 use crate::code::Code;

@@ -4,7 +4,9 @@ ghost use Rattle.std.specs.Prelude.{◌≡◌, ◌≤◌};
 ghost use Rattle.flt_gen.specs.Elementary.{kind_test};
 ghost use Rattle.flt_gen.specs.Formula.{Single};
 ghost use Rattle.flt_gen.specs.Puts.{HasRoom, Emits, PutsBehind};
-ghost use Rattle.flt_gen.specs.Primitives.{ip_proto, ip6_proto, any_proto, ether_proto, check_formula, proto_formula, ether_host, mac_tests, is_group_address, cast_formula};
+ghost use Rattle.flt_gen.specs.Primitives.{ip_proto, ip6_proto, any_proto, ether_proto};
+ghost use Rattle.flt_gen.specs.Primitives.{check_formula, proto_formula, ether_host, mac_tests};
+ghost use Rattle.flt_gen.specs.Primitives.{is_group_address, cast_formula};
 
 use crate::code::Code;
 use crate::context::Context;

@@ -1,7 +1,8 @@
 //! The code of elementary tests, and of several that are joined.
 
 ghost use Rattle.std.specs.Prelude.{◌≡◌, ◌+◌, ◌*◌, ◌≤◌, length, OnOk};
-ghost use Rattle.flt_gen.specs.Code.{field_before, mask_before, comparison_before, test_before, fork_before};
+ghost use Rattle.flt_gen.specs.Code.{field_before, mask_before, comparison_before};
+ghost use Rattle.flt_gen.specs.Code.{test_before, fork_before};
 ghost use Rattle.flt_gen.specs.Formula.{Single, all_of, sides};
 ghost use Rattle.flt_gen.specs.Puts.{HasRoom, Puts, Emits};
 

@@ -1,13 +1,13 @@
 //! The code of values with their qualifiers.
 
-ghost use Rattle.std.specs.Prelude.{◌≡◌, ◌+◌, ◌*◌, length, IfOk};
-ghost use Rattle.flt_gen.specs.Code.{entered, at_top, sized_before};
+ghost use Rattle.std.specs.Prelude.{◌+◌, ◌*◌, length};
 ghost use Rattle.flt_gen.specs.Puts.{HasRoom, Emits};
 ghost use Rattle.flt_gen.specs.Primitives.{host_formula, net_value_formula, qualified_formula};
+ghost use Rattle.flt_gen.specs.Primitives.{sized_formula};
 ghost use Rattle.flt_gen.specs.Group.{group_formula};
 
 use crate::address::{put_hosts, put_ip6, put_net};
-use crate::code::{Code, Targets};
+use crate::code::Code;
 use crate::context::Context;
 use crate::elementary::{Hosts, NetTest, PortTest, Ports};
 use crate::group::Group;
@@ -81,30 +81,13 @@ pub fn put_qualified<A: Allocator>(
         (ValueType::Host, value) => put_host(code, context, protocol, direction, value),
         (ValueType::Net, value) => put_net_value(code, context, protocol, direction, value),
         (ValueType::Port, Value::Number(port, _)) => {
-            let ports = Ports::One(port);
-            put_ports(
-                code,
-                context,
-                PortTest {
-                    protocol,
-                    direction,
-                    ports,
-                },
-                &[],
-            )
+            let wanted = PortTest::new(protocol, direction, Ports::One(port));
+            put_ports(code, context, wanted, &[])
         }
         (ValueType::PortRange, Value::Range { first, last }) => {
             let ports = Ports::Between(first.min(last), first.max(last));
-            put_ports(
-                code,
-                context,
-                PortTest {
-                    protocol,
-                    direction,
-                    ports,
-                },
-                &[],
-            )
+            let wanted = PortTest::new(protocol, direction, ports);
+            put_ports(code, context, wanted, &[])
         }
         (ValueType::Proto, Value::Number(number, _)) => {
             put_proto(code, context, protocol, number)
@@ -126,47 +109,20 @@ pub fn put_group<A: Allocator>(
     let (protocol, direction, first) = (group.protocol(), group.direction(), group.first());
     match (group.numbers(), group.value_type()) {
         ([_], ValueType::Host) => {
-            put_net(
-                code,
-                context,
-                protocol,
-                NetTest::new(direction, None, first),
-            )
+            let net = NetTest::new(direction, None, first);
+            put_net(code, context, protocol, net)
         }
         ([_], ValueType::Port) => {
-            let ports = Ports::One(first);
-            put_ports(
-                code,
-                context,
-                PortTest {
-                    protocol,
-                    direction,
-                    ports,
-                },
-                &[],
-            )
+            let wanted = PortTest::new(protocol, direction, Ports::One(first));
+            put_ports(code, context, wanted, &[])
         }
         (numbers, ValueType::Host) => {
-            put_hosts(
-                code,
-                context,
-                protocol,
-                Hosts::Several(direction, first),
-                numbers,
-            )
+            let hosts = Hosts::Several(direction, first);
+            put_hosts(code, context, protocol, hosts, numbers)
         }
         (numbers, ValueType::Port) => {
-            let ports = Ports::Several(first);
-            put_ports(
-                code,
-                context,
-                PortTest {
-                    protocol,
-                    direction,
-                    ports,
-                },
-                numbers,
-            )
+            let wanted = PortTest::new(protocol, direction, Ports::Several(first));
+            put_ports(code, context, wanted, numbers)
         }
         _ => Ok(context.to.no),
     }
@@ -175,22 +131,20 @@ pub fn put_group<A: Allocator>(
 /// `less N` and `greater N`: the original length is compared with a number.
 pub fn put_sized<A: Allocator>(
     code: &mut Code<A>,
+    context: Context,
     size: Size,
     number: u32,
-    to: Targets,
 ) -> Result<usize, AllocError>
-    requires { HasRoom 3 code.old }
-    ensures { IfOk result
-        (λ entry. at_top (sized_before size number to.yes to.no code.old)
-        ≡ entered code.new entry) }
+    requires { HasRoom 8 code.old }
+    ensures { Emits 8 result context (sized_formula size number) code.old code.new }
 {
     let comparison = match size {
         Size::Less => Comparison::AtMost,
         Size::Greater => Comparison::AtLeast,
     };
-    put_comparison(code, comparison, Operand::IndexRegister, 0, to)?;
-    put_operands(code, 0)?;
     let load = Operation::Load(Register::Accumulator, Source::Immediate);
+    put_comparison(code, comparison, Operand::IndexRegister, 0, context.to)?;
+    put_operands(code, 0)?;
     code.put_plain(load, number)?;
     code.put_plain(Operation::Store(Register::Accumulator), 0)?;
     code.put_plain(Operation::Load(Register::Accumulator, Source::Length), 0)?;

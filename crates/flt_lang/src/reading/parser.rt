@@ -14,8 +14,8 @@ use std::alloc::{AllocError, Allocator};
 
 /// Reads the tokens of a whole expression.
 ///
-/// `NestedTooDeep` is told before anything else is looked at, `NotAnExpression` where the tokens
-/// have no tree. `Memory` comes in place of the answer where the nodes, or what waits for an
+/// `NestedTooDeep` is reported before anything else is looked at, `NotAnExpression` where the
+/// tokens have no tree. `Memory` comes in place of the result where the nodes, or what waits for an
 /// operand, cannot be kept.
 pub fn parse<A: Allocator + Clone>(alloc: A, tokens: &[Token]) -> Result<Expr<A>, ExprFault>
     ensures deep { (result ≡ Err ExprFault.NestedTooDeep) ↔ IsTooDeep tokens.now }
