@@ -121,7 +121,7 @@ impl<A: Allocator> Reader<A> {
     }
 
     /// The frames that bind at least as tightly as `reach` take the operand.
-    #[tactic(auto, using(crate::proofs::Settling::settle_taken, crate::proofs::Settling::settle_failed, crate::proofs::Settling::settle_stays))]
+    #[tactic(auto, using(crate::proofs::Settling::settling))]
     fn settle(&mut self, operand: Operand, reach: u8) -> Result<Operand, ReadFault>
         ensures ok { IfOk result (λ x. settle reach self.old.frames operand self.old.nodes
             ≡ Some (self.new.frames, x, self.new.nodes)) }

@@ -43,7 +43,7 @@ fn kinds_of<A: Allocator>(alloc: A, tokens: &[Token]) -> Result<Vec<TokenKind, A
 }
 
 /// The tree of the tokens.
-#[tactic(auto, using(crate::proofs::Parsing::no_tree, crate::proofs::Parsing::found_is_tree, crate::proofs::Parsing::found_reads))]
+#[tactic(auto, using(crate::proofs::Parsing::parsing))]
 fn read<A: Allocator + Clone>(alloc: A, tokens: &[Token]) -> Result<Expr<A>, ReadFault>
     ensures ok { IfOk result (λ tree. Reads (kinds_of tokens.now) tree) }
     ensures none { result ≡ Err ReadFault.NotAnExpression
