@@ -16,7 +16,7 @@ check_text DivisionByZero = codes "division by zero"
 check_text ShiftTooFar = codes "shift too far"
 check_text NoReturn = codes "no return at the end"
 
--- whether a rule is broken by one instruction, whose index is told
+-- whether a rule is broken by one instruction, whose index is reported
 abbrev pub has_index : CheckFault → Bool
 has_index Empty = false
 has_index TooLong = false

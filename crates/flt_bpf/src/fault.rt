@@ -1,7 +1,8 @@
 //! Why instructions are no valid program, and why a text is no listing.
 
 ghost use Rattle.std.specs.Prelude.{◌≡◌, Some};
-ghost use Rattle.flt_bpf.specs.Message.{check_text, has_index, listing_text, wrong_line, listing_message};
+ghost use Rattle.flt_bpf.specs.Message.{check_text, has_index, listing_text};
+ghost use Rattle.flt_bpf.specs.Message.{wrong_line, listing_message};
 
 use std::alloc::AllocFailed;
 use std::error::Error;
@@ -29,7 +30,8 @@ pub enum CheckFault {
 }
 
 impl CheckFault {
-    /// What messages call it. Where `has_index`, the word `at` and the index of the instruction, from 0, follow.
+    /// What messages call it. Where `has_index`, the word `at` and the index of the instruction,
+    /// from 0, follow.
     pub fn text(self) -> &'static str
         ensures { result.now ≡ check_text self }
     {
@@ -45,7 +47,7 @@ impl CheckFault {
         }
     }
 
-    /// Whether one instruction breaks the rule, so that messages tell its index.
+    /// Whether one instruction breaks the rule, so that messages report its index.
     pub fn has_index(self) -> bool
         ensures { result ≡ has_index self }
     {

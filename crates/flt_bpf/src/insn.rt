@@ -1,7 +1,7 @@
-//! An instruction as it stands in a program and on a line of a listing.
+//! An instruction as it is in a program and on a line of a listing.
 
-/// One instruction of a program. Which of the fields it uses, and for what, depends on its code; the others may
-/// hold anything.
+/// One instruction of a program. Which of the fields it uses, and for what, depends on its code;
+/// the others may hold anything.
 #[derive(Clone, Copy, PartialEq, Eq, Debug)]
 pub struct Insn {
     /// What the instruction does.
@@ -10,6 +10,7 @@ pub struct Insn {
     pub jt: u8,
     /// Instructions to skip if the test does not hold.
     pub jf: u8,
-    /// A number, a place in the packet, the number of a word, or the instructions that a jump skips.
+    /// A number, a place in the packet, the number of a word, or the instructions that a jump
+    /// skips.
     pub k: u32,
 }

@@ -4,19 +4,24 @@ ghost use Rattle.std.specs.Prelude.{◌≡◌, ℕ, ◌≤◌, List, length, All
 ghost use Rattle.flt_bpf.specs.declared.insn.Insn.{Insn};
 ghost use Rattle.flt_bpf.specs.Listing.{listing, InRange, IsListing, IsRefusedAt};
 
-/// What is written is read back: the listing of at most 32,768 instructions whose fields are in range is a listing of
-/// these instructions and of no others, and it is refused at no line.
+/// What is written is read back: the listing of at most 32,768 instructions whose fields are in
+/// range is a listing of these instructions and of no others, and it is refused at no line.
 pub fn listing_back()
-    ensures back { (insns : List Insn) → length insns ≤ 32768 → All InRange insns → IsListing (listing insns) insns }
+    ensures back { (insns : List Insn) → length insns ≤ 32768 → All InRange insns
+        → IsListing (listing insns) insns }
     ensures alone { (insns others : List Insn) → length insns ≤ 32768 → All InRange insns
         → IsListing (listing insns) others → others ≡ insns }
     ensures not_refused { (insns : List Insn) (line : ℕ) → length insns ≤ 32768 → All InRange insns
         → ¬ IsRefusedAt (listing insns) line }
 {}
 
-/// A text is the listing of at most one list of instructions, or is refused at one line, and not both.
+/// A text is the listing of at most one list of instructions, or is refused at one line, and not
+/// both.
 pub fn one_reading()
-    ensures one { (text : List ℕ) (is js : List Insn) → IsListing text is → IsListing text js → is ≡ js }
-    ensures once { (text : List ℕ) (line other : ℕ) → IsRefusedAt text line → IsRefusedAt text other → line ≡ other }
-    ensures not_both { (text : List ℕ) (is : List Insn) (line : ℕ) → IsListing text is → ¬ IsRefusedAt text line }
+    ensures one { (text : List ℕ) (is js : List Insn) → IsListing text is → IsListing text js
+        → is ≡ js }
+    ensures once { (text : List ℕ) (line other : ℕ) → IsRefusedAt text line
+        → IsRefusedAt text other → line ≡ other }
+    ensures not_both { (text : List ℕ) (is : List Insn) (line : ℕ) → IsListing text is
+        → ¬ IsRefusedAt text line }
 {}

@@ -1,8 +1,10 @@
-//! The packet-filter machine: its instructions, the check of a program, its runs, and listings of programs.
+//! The packet-filter machine: its instructions, the check of a program, its runs, and listings of
+//! programs.
 //!
-//! The machine is of the kind of S. McCanne and V. Jacobson, "The BSD Packet Filter" (1993): two registers, 16 words of
-//! memory, loads from the packet, arithmetic and forward jumps. A [`Program`] passed [`check`], so a [`run`] of it needs no
-//! test of its own and ends after at most as many instructions as the program has.
+//! The machine is of the kind of S. McCanne and V. Jacobson, "The BSD Packet Filter" (1993): two
+//! registers, 16 words of memory, loads from the packet, arithmetic and forward jumps. A
+//! [`Program`] passed [`check`], so a [`run`] of it needs no test of its own and ends after at most
+//! as many instructions as the program has.
 #![tactic(auto)]
 
 pub mod fault;

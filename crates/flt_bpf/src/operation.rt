@@ -78,7 +78,8 @@ pub enum Operation {
     LoadIndirect(Width),
     /// A register = k, M[k] or the original length.
     Load(Register, Source),
-    /// X = four times the lower half of the byte at k, which is the length of an IPv4 header that begins there.
+    /// X = four times the lower half of the byte at k, which is the length of an IPv4 header that
+    /// begins there.
     LoadHeaderLength,
     /// M[k] = a register.
     Store(Register),
@@ -90,9 +91,9 @@ pub enum Operation {
     Jump,
     /// Skip jt instructions if the test holds, else jf.
     JumpIf(Test, Operand),
-    /// The answer is k.
+    /// The program returns k.
     ReturnConstant,
-    /// The answer is A.
+    /// The program returns A.
     ReturnAccumulator,
     /// X = A.
     CopyToIndex,

@@ -1,10 +1,13 @@
 //! Listings, read.
 
-ghost use Rattle.std.specs.Prelude.{◌≡◌, ℕ, ◌+◌, ◌<◌, ◌≤◌, ◌==◌, List, ◌∷◌, length, Option, Some, Ok, IfOk, IfErr, IfSome, IfNone as OnNone, MatchResult};
+ghost use Rattle.std.specs.Prelude.{◌≡◌, ℕ, ◌+◌, ◌<◌, ◌≤◌, ◌==◌, List, ◌∷◌, length, Option, Some};
+ghost use Rattle.std.specs.Prelude.{Ok, IfOk, IfErr, IfSome, IfNone as OnNone, MatchResult};
 ghost use Rattle.std.specs.List.{slice_split};
 ghost use Rattle.flt_bpf.specs.Listing.{lines_of, IsListing};
 ghost use Rattle.flt_bpf.specs.Refusal.{IsReasonFor};
-ghost use Rattle.flt_bpf.specs.Reading.{pieces_after, numeral, after, later_numbers, line_numbers, only_of, HasAtMostOne, insn_from, insn_of, read_insns, read, IsFaultOf};
+ghost use Rattle.flt_bpf.specs.Reading.{pieces_after, numeral, after, later_numbers, line_numbers};
+ghost use Rattle.flt_bpf.specs.Reading.{only_of, HasAtMostOne, insn_from, insn_of, read_insns};
+ghost use Rattle.flt_bpf.specs.Reading.{read, IsFaultOf};
 
 use crate::fault::ListingFault;
 use crate::insn::Insn;
@@ -20,16 +23,17 @@ pub(crate) const BLANK: u8 = b' ';
 /// What ends a line.
 pub(crate) const LINE_FEED: u8 = b'\n';
 
-// A text up to the first of some byte, and what stands behind that byte, where there is one.
+/// A text up to the first of some byte, and what stands behind that byte, where there is one.
 #[derive(Clone, Copy)]
 struct Cut<'a> {
     piece: &'a [u8],
     rest: Option<&'a [u8]>,
 }
 
-// A text, cut at the first such byte.
+/// A text, cut at the first such byte.
 fn cut_at(text: &[u8], stop: u8) -> Cut<'_>
-    ensures pieces { slice_split (λ b. b == stop) text.now ≡ result.piece.now ∷ pieces_after stop result.rest }
+    ensures pieces { slice_split (λ b. b == stop) text.now
+        ≡ result.piece.now ∷ pieces_after stop result.rest }
     ensures whole { OnNone result.rest (result.piece.now ≡ text.now) }
 {
     for (at, byte) in text.iter().enumerate() {
@@ -46,7 +50,7 @@ fn cut_at(text: &[u8], stop: u8) -> Cut<'_>
     }
 }
 
-// The number that 1 to 10 digits write.
+/// The number that 1 to 10 digits write.
 fn number(digits: &[u8]) -> Option<u64>
     ensures { result ≡ numeral digits.now }
 {
@@ -63,14 +67,14 @@ fn number(digits: &[u8]) -> Option<u64>
     Some(value)
 }
 
-// A number, and what stands behind it and the blanks after it.
+/// A number, and what stands behind it and the blanks after it.
 #[derive(Clone, Copy)]
 struct Numbered<'a> {
     number: u64,
     rest: &'a [u8],
 }
 
-// What stands behind the blanks at the beginning of a text.
+/// What stands behind the blanks at the beginning of a text.
 fn after_blanks(text: &[u8]) -> &[u8]
     ensures { later_numbers (slice_split (λ b. b == BLANK) text.now) ≡ line_numbers result.now }
 {
@@ -82,9 +86,10 @@ fn after_blanks(text: &[u8]) -> &[u8]
     &text[text.len()..]
 }
 
-// The number at the beginning of a line, where blanks stand behind it.
+/// The number at the beginning of a line, where blanks stand behind it.
 fn first_number(line: &[u8]) -> Option<Numbered<'_>>
-    ensures first { IfSome result (λ first. line_numbers line.now ≡ after (Some first.number) (line_numbers first.rest.now)) }
+    ensures first { IfSome result (λ first. line_numbers line.now
+        ≡ after (Some first.number) (line_numbers first.rest.now)) }
     ensures last { OnNone result (HasAtMostOne (line_numbers line.now)) }
 {
     let cut = cut_at(line, BLANK);
@@ -93,7 +98,7 @@ fn first_number(line: &[u8]) -> Option<Numbered<'_>>
     Some(Numbered { number, rest })
 }
 
-// The number that a line is.
+/// The number that a line is.
 fn only_number(line: &[u8]) -> Option<u64>
     ensures { result ≡ only_of (line_numbers line.now) }
 {
@@ -104,7 +109,7 @@ fn only_number(line: &[u8]) -> Option<u64>
     }
 }
 
-// The instruction with these fields, where each is in its range.
+/// The instruction with these fields, where each is in its range.
 fn insn_with(code: u64, jt: u64, jf: u64, k: u64) -> Option<Insn>
     ensures { result ≡ insn_from code jt jf k }
 {
@@ -120,7 +125,7 @@ fn insn_with(code: u64, jt: u64, jf: u64, k: u64) -> Option<Insn>
     }
 }
 
-// The instruction on a line.
+/// The instruction on a line.
 fn insn_on(line: &[u8]) -> Option<Insn>
     ensures { result ≡ insn_of (line_numbers line.now) }
 {
@@ -133,14 +138,14 @@ fn insn_on(line: &[u8]) -> Option<Insn>
     }
 }
 
-// The first line of a text, and what stands behind it.
+/// The first line of a text, and what stands behind it.
 #[derive(Clone, Copy)]
 struct FirstLine<'a> {
     line: &'a [u8],
     rest: &'a [u8],
 }
 
-// The first line of a text that isn't empty.
+/// The first line of a text that isn't empty.
 fn first_line(text: &[u8]) -> FirstLine<'_>
     requires { 0 < length text.now }
     ensures { lines_of text.now ≡ result.line.now ∷ lines_of result.rest.now }
@@ -158,7 +163,7 @@ fn first_line(text: &[u8]) -> FirstLine<'_>
     }
 }
 
-// So many instructions, one on each line of a text, behind the first line of a listing.
+/// So many instructions, one on each line of a text, behind the first line of a listing.
 fn insns_on<A: Allocator + Drop>(
     alloc: A,
     count: usize,
@@ -191,9 +196,10 @@ fn insns_on<A: Allocator + Drop>(
     }
 }
 
-// The instructions of a listing, or the number of the line at which a text is refused.
+/// The instructions of a listing, or the number of the line at which a text is refused.
 fn insns_of<A: Allocator + Drop>(alloc: A, text: &[u8]) -> Result<Vec<Insn, A>, ListingFault>
-    ensures { MatchResult result (λ insns. read text.now ≡ Ok insns.items) (λ fault. IsFaultOf fault (read text.now)) }
+    ensures { MatchResult result (λ insns. read text.now ≡ Ok insns.items)
+        (λ fault. IsFaultOf fault (read text.now)) }
 {
     if text.len() > MOST_BYTES || text.is_empty() {
         return Err(ListingFault::NotListing(1));
@@ -207,9 +213,10 @@ fn insns_of<A: Allocator + Drop>(alloc: A, text: &[u8]) -> Result<Vec<Insn, A>, 
     }
 }
 
-/// The instructions of a listing. The reader also takes several blanks between numbers, leading zeros up to 10 digits a
-/// number, and a last line without a line feed. An error is `NotListing` with the first wrong line, which is line 1 of a
-/// text over 1,048,576 bytes, or want of memory.
+/// The instructions of a listing. The reader also takes several blanks between numbers, leading
+/// zeros up to 10 digits a number, and a last line without a line feed. An error is `NotListing`
+/// with the first wrong line, which is line 1 of a text over 1,048,576 bytes, or a failed
+/// allocation.
 pub fn read_listing<A: Allocator + Drop>(
     alloc: A,
     text: &[u8],

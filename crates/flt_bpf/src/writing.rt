@@ -1,6 +1,7 @@
 //! Listings, written.
 
-ghost use Rattle.std.specs.Prelude.{◌≡◌, ℕ, ◌+◌, ◌<◌, ◌≤◌, List, [], ◌∷◌, ◌++◌, length, drop, decimal, IsTrue, IfErr};
+ghost use Rattle.std.specs.Prelude.{◌≡◌, ℕ, ◌+◌, ◌<◌, ◌≤◌, List, [], ◌∷◌, ◌++◌};
+ghost use Rattle.std.specs.Prelude.{length, drop, decimal, IsTrue, IfErr};
 ghost use Rattle.cap_octet.specs.Device.{WritesAll, failures_of};
 ghost use Rattle.flt_bpf.specs.Listing.{insn_line, listing};
 
@@ -13,8 +14,8 @@ use std::alloc::Allocator;
 /// How many bytes a line has at most: numbers of 5, 3, 3 and 10 digits, and a byte behind each.
 const MOST_LINE: usize = 25;
 
-/// Writes the listing of a program, and takes no memory. An error is a failure of the output in this call, and tells how
-/// many bytes, fewer than all, were written before it.
+/// Writes the listing of a program, and takes no memory. An error is a failure of the output in
+/// this call, and reports how many bytes, fewer than all, were written before it.
 pub fn write_listing<A: Allocator, O: Output>(
     program: &Program<A>,
     output: &mut O,
@@ -22,18 +23,20 @@ pub fn write_listing<A: Allocator, O: Output>(
     ensures front { IfErr result (λ stopped. stopped.written < length (listing program.now.insns)) }
     ensures failed { O.failures output.new ≡ O.failures output.old + failures_of result }
     ensures room { O.room output.new ≡ O.room output.old }
-    ensures told { IsTrue O.tells → WritesAll (O.written output.old) (listing program.now.insns) result (O.written output.new) }
+    ensures told { IsTrue O.tells → WritesAll (O.written output.old)
+        (listing program.now.insns) result (O.written output.new) }
 {
     write_insns(program.insns(), output)
 }
 
-// The same of instructions that are few enough.
+/// The same of instructions that are few enough.
 fn write_insns<O: Output>(insns: &[Insn], output: &mut O) -> Result<(), Stopped>
     requires { length insns.now ≤ 32768 }
     ensures front { IfErr result (λ stopped. stopped.written < length (listing insns.now)) }
     ensures failed { O.failures output.new ≡ O.failures output.old + failures_of result }
     ensures room { O.room output.new ≡ O.room output.old }
-    ensures told { IsTrue O.tells → WritesAll (O.written output.old) (listing insns.now) result (O.written output.new) }
+    ensures told { IsTrue O.tells → WritesAll (O.written output.old)
+        (listing insns.now) result (O.written output.new) }
 {
     let mut line = [0; MOST_LINE];
     let start = put_number(&mut line, MOST_LINE, insns.len() as u64, LINE_FEED);
@@ -51,7 +54,7 @@ fn write_insns<O: Output>(insns: &[Insn], output: &mut O) -> Result<(), Stopped>
     Ok(())
 }
 
-// Puts the line of an instruction at the end of the bytes, and answers where it starts.
+/// Puts the line of an instruction at the end of the bytes, and returns where it starts.
 fn put_insn(line: &mut [u8; MOST_LINE], insn: &Insn) -> usize
     ensures inside { result ≤ 25 }
     ensures written { drop result line.new ≡ insn_line insn.now ++ LINE_FEED ∷ [] }
@@ -62,7 +65,7 @@ fn put_insn(line: &mut [u8; MOST_LINE], insn: &Insn) -> usize
     put_number(line, jt, u64::from(insn.code), BLANK)
 }
 
-// Puts a number and a byte in front of what stands at `end`, and answers where the number starts.
+/// Puts a number and a byte in front of what is at `end`, and returns where the number starts.
 fn put_number(line: &mut [u8; MOST_LINE], end: usize, number: u64, behind: u8) -> usize
     requires room { length (decimal number) + 1 ≤ end }
     requires inside { end ≤ 25 }

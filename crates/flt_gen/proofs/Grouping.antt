@@ -3,7 +3,7 @@ use Rattle.std.proofs.Common.{◌≡◌, ℕ, ◌+◌, ◌*◌, ◌<◌, ◌≤�
 use Rattle.std.specs.Prelude.{◌==◌, ◌||◌, ◌&&◌, nat_lt, if◌then◌else◌}
 use Rattle.std.proofs.lemmas.Bool.Decides.{nat_tests}
 use Rattle.flt_words.specs.declared.token.Protocol.{Protocol}
-use Rattle.flt_words.specs.declared.token.Protocol.TheVariants.{Ip, Tcp, Udp}
+use Rattle.flt_words.specs.declared.token.Protocol.TheVariants.{Ip, Arp, Rarp, Tcp, Udp}
 use Rattle.flt_words.specs.declared.token.Side.TheVariants.{Source, Destination}
 use Rattle.flt_words.specs.declared.token.Join.TheVariants.{And, Or}
 use Rattle.flt_words.specs.declared.token.ValueType.{ValueType}
@@ -18,6 +18,7 @@ use Rattle.flt_lang.specs.Counts as count
 use Rattle.flt_lang.specs.Resolved.{is_unfilled, any_primitive}
 use Rattle.flt_gen.specs.declared.link.Link.{Link}
 use Rattle.flt_gen.specs.Elementary.{Reading, Yes, No, Rejected}
+use Rattle.flt_gen.specs.declared.elementary.Hosts.TheVariants as hosts
 use Rattle.flt_gen.specs.declared.elementary.Ports.TheVariants.{One, Several}
 use Rattle.flt_gen.specs.Formula.{Formula, Both, Either, Except, is_one_of, both, either, negated, reads}
 use Rattle.flt_gen.specs.Primitives.{net_test, net_formula, port_test, port_formula, qualified_formula, value_formula}
@@ -46,11 +47,13 @@ kept_with q a group h =
     }
 
 -- the formula of several members has no comparisons
-bare_several_hosts : (link : Link) (protocol : Option Protocol) (d : Direction) (f : ℕ) (bs : List ℕ) → Searchable bs → Bare (hosts_formula link protocol d f bs)
+bare_several_hosts : (link : Link) (protocol : Option Protocol) (d : Direction) (f : ℕ) (bs : List ℕ) → Searchable bs → Bare (hosts_formula link protocol (hosts.Several d f) bs)
 bare_several_hosts link None d f bs h =
     bare_choice _ _ _ (λ p. (ip_no_arp p link, ip_no_rarp p link)) (bare_any d _ f bs h)
     (bare_choice _ _ _ (λ p. arp_no_rarp p link) (bare_any d _ f bs h) (bare_guard _ _ (bare_any d _ f bs h)))
 bare_several_hosts link (Some Ip) d f bs h = bare_guard _ _ (bare_any d _ f bs h)
+bare_several_hosts link (Some Arp) d f bs h = bare_guard _ _ (bare_any d _ f bs h)
+bare_several_hosts link (Some Rarp) d f bs h = bare_guard _ _ (bare_any d _ f bs h)
 bare_several_hosts link (Some _) d f bs h = bare_one _
 
 bare_several : (link : Link) (k : ValueType) (protocol : Option Protocol) (d : Direction) (f : ℕ) (bs : List ℕ) → Searchable bs → Bare (several_formula link k protocol d f bs)
@@ -81,7 +84,7 @@ member_tests _ protocol d = 1
 abbrev pub group_tests : Group → ℕ
 group_tests group = length group.numbers * member_tests group.value_type group.protocol group.direction
 
-several_hosts_tests : (link : Link) (protocol : Option Protocol) (d : Direction) (f : ℕ) (bs : List ℕ) → 2 ≤ length bs → tests (hosts_formula link protocol d f bs) ≤ length bs * count.ip4_tests protocol d
+several_hosts_tests : (link : Link) (protocol : Option Protocol) (d : Direction) (f : ℕ) (bs : List ℕ) → 2 ≤ length bs → tests (hosts_formula link protocol (hosts.Several d f) bs) ≤ length bs * count.ip4_tests protocol d
 several_hosts_tests link None (direction.One Source) f bs l = omega arith
 several_hosts_tests link None (direction.One Destination) f bs l = omega arith
 several_hosts_tests link None (direction.Both Or) f bs l = omega arith
@@ -90,6 +93,14 @@ several_hosts_tests link (Some Ip) (direction.One Source) f bs l = omega arith
 several_hosts_tests link (Some Ip) (direction.One Destination) f bs l = omega arith
 several_hosts_tests link (Some Ip) (direction.Both Or) f bs l = omega arith
 several_hosts_tests link (Some Ip) (direction.Both And) f bs l = omega arith
+several_hosts_tests link (Some Arp) (direction.One Source) f bs l = omega arith
+several_hosts_tests link (Some Arp) (direction.One Destination) f bs l = omega arith
+several_hosts_tests link (Some Arp) (direction.Both Or) f bs l = omega arith
+several_hosts_tests link (Some Arp) (direction.Both And) f bs l = omega arith
+several_hosts_tests link (Some Rarp) (direction.One Source) f bs l = omega arith
+several_hosts_tests link (Some Rarp) (direction.One Destination) f bs l = omega arith
+several_hosts_tests link (Some Rarp) (direction.Both Or) f bs l = omega arith
+several_hosts_tests link (Some Rarp) (direction.Both And) f bs l = omega arith
 several_hosts_tests link (Some _) (direction.One Source) f bs l = omega arith
 several_hosts_tests link (Some _) (direction.One Destination) f bs l = omega arith
 several_hosts_tests link (Some _) (direction.Both j) f bs l = omega arith

@@ -3,7 +3,7 @@ use Rattle.std.proofs.Common.{◌≡◌, ℕ, List, [], ◌∷◌, Bool, true, f
 use Rattle.std.specs.Prelude.{◌==◌, ◌||◌}
 use Rattle.std.proofs.lemmas.Bool.Decides.{nat_tests}
 use Rattle.flt_words.specs.declared.token.Protocol.{Protocol}
-use Rattle.flt_words.specs.declared.token.Protocol.TheVariants.{Ip, Tcp, Udp}
+use Rattle.flt_words.specs.declared.token.Protocol.TheVariants.{Ip, Arp, Rarp, Tcp, Udp}
 use Rattle.flt_words.specs.declared.token.Comparison.TheVariants.{Equal}
 use Rattle.flt_words.specs.declared.token.ValueType.{ValueType}
 use Rattle.flt_words.specs.declared.token.ValueType.TheVariants.{Host, Net, Port, PortRange, Proto}
@@ -15,6 +15,7 @@ use Rattle.flt_gen.specs.declared.link.Link.{Link}
 use Rattle.flt_gen.specs.declared.elementary.Kind.{Kind}
 use Rattle.flt_gen.specs.declared.elementary.Kind.TheVariants as kind
 use Rattle.flt_gen.specs.declared.elementary.Elementary.{Elementary}
+use Rattle.flt_gen.specs.declared.elementary.Hosts.TheVariants as hosts
 use Rattle.flt_gen.specs.declared.elementary.Ports.{Ports}
 use Rattle.flt_gen.specs.declared.elementary.Ports.TheVariants.{One, Several}
 use Rattle.flt_gen.specs.declared.elementary.Sides.{Sides}
@@ -150,7 +151,7 @@ module _ (link : Link) (p : List ℕ) (n : ℕ) where
   of_kind k d f bs = side_reads (address_places link k) d f bs
 
   abbrev hosts_read : Option Protocol → Direction → ℕ → List ℕ → Reading
-  hosts_read protocol d f bs = reads link (hosts_formula link protocol d f bs) p n
+  hosts_read protocol d f bs = reads link (hosts_formula link protocol (hosts.Several d f) bs) p n
 
   kinds_are : (d : Direction) (f : ℕ) (bs : List ℕ) (a b c : Reading) → of_kind kind.Ip d f bs ≡ a → of_kind kind.Arp d f bs ≡ b → of_kind kind.Rarp d f bs ≡ c → hosts_read None d f bs ≡ either (both (kind_reads kind.Ip) a) (either (both (kind_reads kind.Arp) b) (both (kind_reads kind.Rarp) c))
   kinds_are d f bs a b c i r q =
@@ -164,6 +165,10 @@ module _ (link : Link) (p : List ℕ) (n : ℕ) where
       ∙ three_kinds (kind_reads kind.Ip) (kind_reads kind.Arp) (kind_reads kind.Rarp) _ _ _ _ _ _ (ip_no_arp p link) (ip_no_rarp p link) (arp_no_rarp p link)
   hosts_more (Some Ip) d a f bs m h =
       ap (λ v. both (kind_reads kind.Ip) v) (sides_more _ d a f bs m h) ∙ one_kind (kind_reads kind.Ip) _ _
+  hosts_more (Some Arp) d a f bs m h =
+      ap (λ v. both (kind_reads kind.Arp) v) (sides_more _ d a f bs m h) ∙ one_kind (kind_reads kind.Arp) _ _
+  hosts_more (Some Rarp) d a f bs m h =
+      ap (λ v. both (kind_reads kind.Rarp) v) (sides_more _ d a f bs m h) ∙ one_kind (kind_reads kind.Rarp) _ _
   hosts_more (Some _) d a f bs m h = refl
 
   hosts_plain : (protocol : Option Protocol) (d : Direction) (a : ℕ) → Common protocol → Merged d → reads link (net_formula link protocol (net_test d None a)) p n ≡ hosts_read protocol d a (a ∷ [])

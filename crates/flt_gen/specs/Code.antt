@@ -14,10 +14,6 @@ use Rattle.flt_words.specs.declared.token.Size.{Size}
 use Rattle.flt_words.specs.declared.token.Size.TheVariants as size
 use Rattle.flt_words.specs.declared.token.Protocol.{Protocol}
 use Rattle.flt_words.specs.declared.token.Protocol.TheVariants.{Ether, Tcp, Udp, Icmp}
-use Rattle.flt_words.specs.declared.token.Side.TheVariants.{Source, Destination}
-use Rattle.flt_words.specs.declared.token.Join.TheVariants as join
-use Rattle.flt_lang.specs.declared.quals.Direction.{Direction}
-use Rattle.flt_lang.specs.declared.quals.Direction.TheVariants as direction
 use Rattle.flt_lang.specs.Tree.{NumberTree, literal, len, named, load, negated, applied, Expression, empty, truth}
 use Rattle.flt_gen.specs.declared.link.Link.{Link}
 use Rattle.flt_gen.specs.declared.follow.Knowledge.{Knowledge}
@@ -138,15 +134,6 @@ abbrev pub relation_before : Link → Comparison → NumberTree → NumberTree �
 relation_before link comparison l r hit miss c =
     number_before link l 0 (plain (Store Accumulator) 0 ∷ number_before link r 1 (operands_before 0 (comparison_before comparison IndexRegister 0 hit miss c)))
 
--- the original length, compared with a number
-abbrev pub sized_comparison : Size → Comparison
-sized_comparison size.Less = AtMost
-sized_comparison size.Greater = AtLeast
-
-abbrev pub sized_before : Size → ℕ → ℕ → ℕ → List Insn → List Insn
-sized_before size number hit miss c =
-    plain (Load Accumulator Length) 0 ∷ plain (Store Accumulator) 0 ∷ plain (Load Accumulator Immediate) number ∷ operands_before 0 (comparison_before (sized_comparison size) IndexRegister 0 hit miss c)
-
 -- code, and the place at which it is entered
 pub record Entered : Type 0 where
   pub code : List Insn
@@ -221,13 +208,6 @@ emitted link known (Among f vs) hit miss c = among_before known f vs hit miss c
 abbrev pub all_before : Knowledge → List Elementary → ℕ → ℕ → List Insn → Entered
 all_before known [] hit miss c = record { code = c; entry = hit }
 all_before known (t ∷ ts) hit miss c = let e = all_before known ts hit miss c in elementary_before known t e.entry miss e.code
-
--- the tests of a direction
-abbrev pub sides_before : Knowledge → Direction → List Elementary → List Elementary → ℕ → ℕ → List Insn → Entered
-sides_before known (direction.One Source) source destination hit miss c = all_before known source hit miss c
-sides_before known (direction.One Destination) source destination hit miss c = all_before known destination hit miss c
-sides_before known (direction.Both join.Or) source destination hit miss c = let e = all_before known destination hit miss c in all_before known source hit e.entry e.code
-sides_before known (direction.Both join.And) source destination hit miss c = let e = all_before known destination hit miss c in all_before known source e.entry miss e.code
 
 -- the tests of accessors, from the last to the first
 abbrev pub accessors_before : Link → List Protocol → ℕ → ℕ → List Insn → Entered

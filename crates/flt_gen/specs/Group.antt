@@ -2,7 +2,7 @@
 use Rattle.std.specs.Prelude.{ℕ, ◌+◌, nat_lt, Bool, true, false, ◌&&◌, if◌then◌else◌, List, [], ◌∷◌, length, Option, Some, None}
 use Rattle.flt_bpf.specs.declared.operation.Width.TheVariants.{Word}
 use Rattle.flt_words.specs.declared.token.Protocol.{Protocol}
-use Rattle.flt_words.specs.declared.token.Protocol.TheVariants.{Ip, Tcp, Udp}
+use Rattle.flt_words.specs.declared.token.Protocol.TheVariants.{Ip, Arp, Rarp, Tcp, Udp}
 use Rattle.flt_words.specs.declared.token.Side.TheVariants.{Source, Destination}
 use Rattle.flt_words.specs.declared.token.Join.TheVariants.{And, Or}
 use Rattle.flt_words.specs.declared.token.ValueType.{ValueType}
@@ -18,11 +18,13 @@ use Rattle.flt_gen.specs.declared.elementary.Kind.{Kind}
 use Rattle.flt_gen.specs.declared.elementary.Kind.TheVariants as kind
 use Rattle.flt_gen.specs.declared.elementary.Place.TheVariants.{At}
 use Rattle.flt_gen.specs.declared.elementary.Ports.TheVariants.{One, Several}
+use Rattle.flt_gen.specs.declared.elementary.Hosts.{Hosts}
+use Rattle.flt_gen.specs.declared.elementary.Hosts.TheVariants as hosts
 use Rattle.flt_gen.specs.declared.elementary.Sides.{Sides}
 use Rattle.flt_gen.specs.declared.elementary.Elementary.TheVariants.{Known}
 use Rattle.flt_gen.specs.Elementary.{network, kind_test}
 use Rattle.flt_gen.specs.Formula.{Formula, Single, Both, Either, Except, Guard, Choose}
-use Rattle.flt_gen.specs.Primitives.{source_offset, destination_offset, net_test, net_formula, any_sides, port_test, port_formula, qualified_formula}
+use Rattle.flt_gen.specs.Primitives.{source_offset, destination_offset, net_test, net_sides, net_formula, any_sides, port_test, port_formula, qualified_formula}
 use Rattle.flt_gen.specs.Reading.{formula}
 
 -- the type of its members, the protocol and the direction that are asked for; the address or port that stands first, and
@@ -90,22 +92,30 @@ group_and q group (Some a) = if goes_with q group group.numbers then Some (with_
 abbrev pub larger_group : FullQuals → Value → Group → Option Group
 larger_group q v group = group_and q group (member_number q.value_type v)
 
--- several hosts
+-- hosts of IPv4: those of a network, or several, whose addresses are passed beside
 
 abbrev pub address_places : Link → Kind → Sides
 address_places link kind =
     record { width = Word; source = At (network link + source_offset kind); destination = At (network link + destination_offset kind) }
 
-abbrev pub hosts_sides : Link → Kind → Direction → ℕ → List ℕ → Formula
-hosts_sides link kind direction first numbers = any_sides direction (address_places link kind) first numbers
+abbrev pub hosts_sides : Link → Kind → Hosts → List ℕ → Formula
+hosts_sides link kind (hosts.Net net) numbers = net_sides link kind net
+hosts_sides link kind (hosts.Several direction first) numbers = any_sides direction (address_places link kind) first numbers
 
-abbrev pub hosts_formula : Link → Option Protocol → Direction → ℕ → List ℕ → Formula
-hosts_formula link (Some Ip) direction first numbers = Guard (kind_test link kind.Ip) (hosts_sides link kind.Ip direction first numbers)
-hosts_formula link None direction first numbers =
-    Choose (kind_test link kind.Ip) (hosts_sides link kind.Ip direction first numbers)
-    (Choose (kind_test link kind.Arp) (hosts_sides link kind.Arp direction first numbers)
-    (Guard (kind_test link kind.Rarp) (hosts_sides link kind.Rarp direction first numbers)))
-hosts_formula link (Some _) direction first numbers = Single (Known false)
+abbrev pub hosts_of_kind : Link → Kind → Hosts → List ℕ → Formula
+hosts_of_kind link kind wanted numbers = Guard (kind_test link kind) (hosts_sides link kind wanted numbers)
+
+abbrev pub any_hosts : Link → Hosts → List ℕ → Formula
+any_hosts link wanted numbers =
+    Choose (kind_test link kind.Ip) (hosts_sides link kind.Ip wanted numbers)
+    (Choose (kind_test link kind.Arp) (hosts_sides link kind.Arp wanted numbers) (hosts_of_kind link kind.Rarp wanted numbers))
+
+abbrev pub hosts_formula : Link → Option Protocol → Hosts → List ℕ → Formula
+hosts_formula link (Some Ip) wanted numbers = hosts_of_kind link kind.Ip wanted numbers
+hosts_formula link (Some Arp) wanted numbers = hosts_of_kind link kind.Arp wanted numbers
+hosts_formula link (Some Rarp) wanted numbers = hosts_of_kind link kind.Rarp wanted numbers
+hosts_formula link None wanted numbers = any_hosts link wanted numbers
+hosts_formula link (Some _) wanted numbers = Single (Known false)
 
 -- one member, and several
 abbrev pub one_formula : Link → ValueType → Option Protocol → Direction → ℕ → Formula
@@ -114,7 +124,7 @@ one_formula link Port protocol direction n = port_formula link (port_test protoc
 one_formula link _ protocol direction n = Single (Known false)
 
 abbrev pub several_formula : Link → ValueType → Option Protocol → Direction → ℕ → List ℕ → Formula
-several_formula link Host protocol direction first numbers = hosts_formula link protocol direction first numbers
+several_formula link Host protocol direction first numbers = hosts_formula link protocol (hosts.Several direction first) numbers
 several_formula link Port protocol direction first numbers = port_formula link (port_test protocol direction (Several first)) numbers
 several_formula link _ protocol direction first numbers = Single (Known false)
 

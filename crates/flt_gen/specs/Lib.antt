@@ -10,3 +10,4 @@ pub mod Layout
 pub mod Walk
 pub mod Correct
 pub mod Follow
+pub mod Puts

@@ -167,7 +167,7 @@ port_between a b place = compares_at place HalfWord AtLeast a ∷ compares_at pl
 abbrev pub port_places : Transport → Sides
 port_places header = record { width = HalfWord; source = header.source; destination = header.destination }
 
--- the ports that are looked for, of which several are told beside
+-- the ports that are looked for, of which several are passed beside
 abbrev pub port_sides : Ports → Direction → Transport → List ℕ → Formula
 port_sides (One n) direction header numbers = sides direction (port_is n header.source) (port_is n header.destination)
 port_sides (Between a b) direction header numbers = sides direction (port_between a b header.source) (port_between a b header.destination)

@@ -1,18 +1,17 @@
 //! The code of hosts and networks of IPv4 and IPv6.
 
-ghost use Rattle.std.specs.Prelude.{◌≡◌, true, None, ◌+◌, ◌*◌, ◌^◌, ◌<◌, ◌≤◌, length, OnOk, IfOk};
+ghost use Rattle.std.specs.Prelude.{◌≡◌, ◌+◌, ◌*◌, ◌≤◌, length};
 ghost use Rattle.flt_lang.specs.Nets.{first_bits};
 ghost use Rattle.flt_gen.specs.Elementary.{kind_test};
-ghost use Rattle.flt_gen.specs.Follow.{nothing, fact, and_fact};
-ghost use Rattle.flt_gen.specs.Code.{emitted, entered, behind_test};
-ghost use Rattle.flt_gen.specs.Group.{address_places, hosts_sides, hosts_formula};
-ghost use Rattle.flt_gen.specs.Primitives.{address_test, source_offset, destination_offset, net_sides, net_formula, ip6_test, ip6_tests, ip6_formula};
+ghost use Rattle.flt_gen.specs.Puts.{HasRoom, Emits, PutsBehind};
+ghost use Rattle.flt_gen.specs.Group.{address_places, hosts_sides, any_hosts, hosts_formula};
+ghost use Rattle.flt_gen.specs.Primitives.{address_test, source_offset, destination_offset};
+ghost use Rattle.flt_gen.specs.Primitives.{net_formula, ip6_test, ip6_tests, ip6_formula};
 
 use crate::among::put_any_sides;
-use crate::code::{Code, Targets};
-use crate::elementary::{Elementary, FieldTest, Kind, NetTest, Place, Sides};
-use crate::follow::Knowledge;
-use crate::group::Group;
+use crate::code::Code;
+use crate::context::Context;
+use crate::elementary::{Elementary, FieldTest, Hosts, Kind, NetTest, Place, Sides};
 use crate::link::Link;
 use crate::put::{put_elementary, put_sides};
 use crate::table::{kind_test, network};
@@ -21,7 +20,7 @@ use flt_lang::Direction;
 use flt_words::{Comparison, Protocol};
 use std::alloc::{AllocError, Allocator};
 
-// The word at a place is an address, as far as the mask goes.
+/// The word at a place is an address, as far as the mask goes.
 fn address_test(mask: Option<u32>, address: u32, at: u32) -> Elementary
     ensures { result ≡ address_test mask address at }
 {
@@ -34,7 +33,7 @@ fn address_test(mask: Option<u32>, address: u32, at: u32) -> Elementary
     })
 }
 
-// How far behind the network header's start the source address stands (RFC 791, RFC 826).
+/// How far behind the network header's start the source address stands (RFC 791, RFC 826).
 fn source_offset(kind: Kind) -> u32
     ensures offset { result ≡ source_offset kind }
     ensures near { result ≤ 14 }
@@ -55,79 +54,6 @@ fn destination_offset(kind: Kind) -> u32
     }
 }
 
-// The sides behind a header of a kind. A frame of another kind goes on at `other`.
-fn put_net_behind<A: Allocator>(
-    code: &mut Code<A>,
-    link: Link,
-    known: Knowledge,
-    kind: Kind,
-    net: NetTest,
-    to: Targets,
-    other: usize,
-) -> Result<usize, AllocError>
-    requires { length code.old + 18 < 2 ^ 31 }
-    ensures code { IfOk result
-        (λ entry. behind_test known (kind_test link kind) other
-        (emitted link (and_fact (fact (kind_test link kind) true) known)
-        (net_sides link kind net)
-        to.yes to.no code.old)
-        ≡ entered code.new entry) }
-    ensures room { OnOk result (length code.new ≤ length code.old + 18) }
-{
-    let start = network(link);
-    let source = address_test(net.mask, net.address, start + source_offset(kind));
-    let destination = address_test(net.mask, net.address, start + destination_offset(kind));
-    let kind = kind_test(link, kind);
-    let behind = known.and_yes(kind);
-    let yes = put_sides(code, behind, net.direction, &[source], &[destination], to)?;
-    put_elementary(code, known, kind, Targets { yes, no: other })
-}
-
-// The form of IPv4, or else that of ARP, or else that of RARP.
-fn put_any_net<A: Allocator>(
-    code: &mut Code<A>,
-    link: Link,
-    net: NetTest,
-    to: Targets,
-) -> Result<usize, AllocError>
-    requires { length code.old + 54 < 2 ^ 31 }
-    ensures code { IfOk result
-        (λ entry. emitted link nothing (net_formula link None net) to.yes to.no code.old
-        ≡ entered code.new entry) }
-    ensures room { OnOk result (length code.new ≤ length code.old + 54) }
-{
-    let none = Knowledge::nothing();
-    let not_ip = none.and_no(kind_test(link, Kind::Ip));
-    let neither = not_ip.and_no(kind_test(link, Kind::Arp));
-    let rarp = put_net_behind(code, link, neither, Kind::Rarp, net, to, to.no)?;
-    let arp = put_net_behind(code, link, not_ip, Kind::Arp, net, to, rarp)?;
-    put_net_behind(code, link, none, Kind::Ip, net, to, arp)
-}
-
-/// `host` and `net` of IPv4.
-pub fn put_net<A: Allocator>(
-    code: &mut Code<A>,
-    link: Link,
-    protocol: Option<Protocol>,
-    net: NetTest,
-    to: Targets,
-) -> Result<usize, AllocError>
-    requires { length code.old + 54 < 2 ^ 31 }
-    ensures code { IfOk result
-        (λ entry. emitted link nothing (net_formula link protocol net) to.yes to.no code.old
-        ≡ entered code.new entry) }
-    ensures room { OnOk result (length code.new ≤ length code.old + 54) }
-{
-    let none = Knowledge::nothing();
-    match protocol {
-        Some(Protocol::Ip) => put_net_behind(code, link, none, Kind::Ip, net, to, to.no),
-        Some(Protocol::Arp) => put_net_behind(code, link, none, Kind::Arp, net, to, to.no),
-        Some(Protocol::Rarp) => put_net_behind(code, link, none, Kind::Rarp, net, to, to.no),
-        Some(_) => Ok(to.no),
-        None => put_any_net(code, link, net, to),
-    }
-}
-
 fn address_places(link: Link, kind: Kind) -> Sides
     ensures { result ≡ address_places link kind }
 {
@@ -139,65 +65,107 @@ fn address_places(link: Link, kind: Kind) -> Sides
     }
 }
 
-// The sides behind a header of a kind. A frame of another kind goes on at `other`.
-fn put_hosts_behind<A: Allocator>(
+/// The hosts of a header of a kind, on the sides that are asked for.
+fn put_host_sides<A: Allocator>(
     code: &mut Code<A>,
-    link: Link,
-    known: Knowledge,
+    context: Context,
     kind: Kind,
-    group: &Group<A>,
-    to: Targets,
-    other: usize,
+    wanted: Hosts,
+    numbers: &[u32],
 ) -> Result<usize, AllocError>
-    requires { length code.old + 12 * length group.now.numbers + 24 < 2 ^ 31 }
-    ensures code { IfOk result
-        (λ entry. behind_test known (kind_test link kind) other
-        (emitted link (and_fact (fact (kind_test link kind) true) known)
-        (hosts_sides link kind group.now.direction group.now.first group.now.numbers)
-        to.yes to.no code.old)
-        ≡ entered code.new entry) }
-    ensures room { OnOk result
-        (length code.new ≤ length code.old + 12 * length group.now.numbers + 24) }
+    requires { HasRoom (12 * length numbers.now + 18) code.old }
+    ensures { Emits (12 * length numbers.now + 18) result context
+        (hosts_sides context.link kind wanted numbers.now) code.old code.new }
 {
-    let at = address_places(link, kind);
-    let kind = kind_test(link, kind);
-    let (behind, direction) = (known.and_yes(kind), group.direction());
-    let (first, numbers) = (group.first(), group.numbers());
-    let yes = put_any_sides(code, link, behind, direction, at, first, numbers, to)?;
-    put_elementary(code, known, kind, Targets { yes, no: other })
-}
-
-/// Several hosts, by the forms that their protocol allows.
-pub fn put_hosts<A: Allocator>(
-    code: &mut Code<A>,
-    link: Link,
-    group: &Group<A>,
-    to: Targets,
-) -> Result<usize, AllocError>
-    requires { length code.old + 36 * length group.now.numbers + 72 < 2 ^ 31 }
-    ensures code { IfOk result
-        (λ entry. emitted link nothing (hosts_formula link group.now.protocol group.now.direction
-        group.now.first group.now.numbers)
-        to.yes to.no code.old
-        ≡ entered code.new entry) }
-    ensures room { OnOk result
-        (length code.new ≤ length code.old + 36 * length group.now.numbers + 72) }
-{
-    let none = Knowledge::nothing();
-    match group.protocol() {
-        Some(Protocol::Ip) => put_hosts_behind(code, link, none, Kind::Ip, group, to, to.no),
-        Some(_) => Ok(to.no),
-        None => {
-            let not_ip = none.and_no(kind_test(link, Kind::Ip));
-            let neither = not_ip.and_no(kind_test(link, Kind::Arp));
-            let rarp = put_hosts_behind(code, link, neither, Kind::Rarp, group, to, to.no)?;
-            let arp = put_hosts_behind(code, link, not_ip, Kind::Arp, group, to, rarp)?;
-            put_hosts_behind(code, link, none, Kind::Ip, group, to, arp)
+    let start = network(context.link);
+    match wanted {
+        Hosts::Net(net) => {
+            let source = address_test(net.mask, net.address, start + source_offset(kind));
+            let destination = address_test(net.mask, net.address, start + destination_offset(kind));
+            put_sides(code, context, net.direction, &[source], &[destination])
+        }
+        Hosts::Several(direction, first) => {
+            let at = address_places(context.link, kind);
+            put_any_sides(code, context, direction, at, first, numbers)
         }
     }
 }
 
-// A mask of so many bits, of 32.
+/// The same behind that header. A frame of another kind goes on at `other`.
+fn put_hosts_behind<A: Allocator>(
+    code: &mut Code<A>,
+    context: Context,
+    kind: Kind,
+    wanted: Hosts,
+    numbers: &[u32],
+    other: usize,
+) -> Result<usize, AllocError>
+    requires { HasRoom (12 * length numbers.now + 24) code.old }
+    ensures { PutsBehind (12 * length numbers.now + 24) result
+        context (kind_test context.link kind) other
+        (hosts_sides context.link kind wanted numbers.now) code.old code.new }
+{
+    let is_kind = kind_test(context.link, kind);
+    let yes = put_host_sides(code, context.behind(is_kind), kind, wanted, numbers)?;
+    put_elementary(code, context.going_to(yes, other), is_kind)
+}
+
+/// The form of IPv4, or else that of ARP, or else that of RARP.
+fn put_any_hosts<A: Allocator>(
+    code: &mut Code<A>,
+    context: Context,
+    wanted: Hosts,
+    numbers: &[u32],
+) -> Result<usize, AllocError>
+    requires { HasRoom (36 * length numbers.now + 72) code.old }
+    ensures { Emits (36 * length numbers.now + 72) result context
+        (any_hosts context.link wanted numbers.now) code.old code.new }
+{
+    let not_ip = context.elsewhere(kind_test(context.link, Kind::Ip));
+    let neither = not_ip.elsewhere(kind_test(context.link, Kind::Arp));
+    let rarp = put_hosts_behind(code, neither, Kind::Rarp, wanted, numbers, context.to.no)?;
+    let arp = put_hosts_behind(code, not_ip, Kind::Arp, wanted, numbers, rarp)?;
+    put_hosts_behind(code, context, Kind::Ip, wanted, numbers, arp)
+}
+
+/// Hosts of IPv4, by the forms that their protocol allows.
+pub fn put_hosts<A: Allocator>(
+    code: &mut Code<A>,
+    context: Context,
+    protocol: Option<Protocol>,
+    wanted: Hosts,
+    numbers: &[u32],
+) -> Result<usize, AllocError>
+    requires { HasRoom (36 * length numbers.now + 72) code.old }
+    ensures { Emits (36 * length numbers.now + 72) result context
+        (hosts_formula context.link protocol wanted numbers.now) code.old code.new }
+{
+    let kind = match protocol {
+        Some(Protocol::Ip) => Kind::Ip,
+        Some(Protocol::Arp) => Kind::Arp,
+        Some(Protocol::Rarp) => Kind::Rarp,
+        Some(_) => return Ok(context.to.no),
+        None => return put_any_hosts(code, context, wanted, numbers),
+    };
+    put_hosts_behind(code, context, kind, wanted, numbers, context.to.no)
+}
+
+/// `host` and `net` of IPv4.
+#[tactic(auto, using(crate::proofs::Joined::net_is_hosts))]
+pub fn put_net<A: Allocator>(
+    code: &mut Code<A>,
+    context: Context,
+    protocol: Option<Protocol>,
+    net: NetTest,
+) -> Result<usize, AllocError>
+    requires { HasRoom 72 code.old }
+    ensures { Emits 72 result context (net_formula context.link protocol net)
+        code.old code.new }
+{
+    put_hosts(code, context, protocol, Hosts::Net(net), &[])
+}
+
+/// A mask of so many bits, of 32.
 fn prefix_mask(bits: u32) -> u32
     ensures { result ≡ first_bits 32 bits }
 {
@@ -205,7 +173,7 @@ fn prefix_mask(bits: u32) -> u32
     (0x1_0000_0000 - 2u64.pow(others)) as u32
 }
 
-// One of the four words of an IPv6 address that begins at a place.
+/// One of the four words of an IPv6 address that begins at a place.
 fn ip6_test(prefix: Option<u32>, address: u128, at: u32, word: u32) -> Elementary
     requires { (at ≤ 40) × (word ≤ 3) }
     ensures { result ≡ ip6_test prefix address at word }
@@ -233,31 +201,19 @@ fn ip6_tests(prefix: Option<u32>, address: u128, at: u32) -> [Elementary; 4]
 /// `host` and `net` of IPv6, with the length of the prefix where not the whole address counts.
 pub fn put_ip6<A: Allocator>(
     code: &mut Code<A>,
-    link: Link,
+    context: Context,
     direction: Direction,
     prefix: Option<u32>,
     address: u128,
-    to: Targets,
 ) -> Result<usize, AllocError>
-    requires { length code.old + 54 < 2 ^ 31 }
-    ensures code { IfOk result
-        (λ entry. emitted link nothing (ip6_formula link direction prefix address)
-        to.yes to.no code.old
-        ≡ entered code.new entry) }
-    ensures room { OnOk result (length code.new ≤ length code.old + 54) }
+    requires { HasRoom 54 code.old }
+    ensures { Emits 54 result context (ip6_formula context.link direction prefix address)
+        code.old code.new }
 {
-    let start = network(link);
+    let start = network(context.link);
     let source = ip6_tests(prefix, address, start + 8);
     let destination = ip6_tests(prefix, address, start + 24);
-    let kind = kind_test(link, Kind::Ip6);
-    let none = Knowledge::nothing();
-    let yes = put_sides(
-        code,
-        none.and_yes(kind),
-        direction,
-        &source,
-        &destination,
-        to,
-    )?;
-    put_elementary(code, none, kind, Targets { yes, no: to.no })
+    let kind = kind_test(context.link, Kind::Ip6);
+    let yes = put_sides(code, context.behind(kind), direction, &source, &destination)?;
+    put_elementary(code, context.going_to(yes, context.to.no), kind)
 }

@@ -1,13 +1,14 @@
 //! The code of the question whether a field, or one of two, is one of some numbers.
 
-ghost use Rattle.std.specs.Prelude.{◌≡◌, ◌+◌, ◌-◌, ◌*◌, ◌^◌, ◌<◌, ◌≤◌, length, OnOk, IfOk};
+ghost use Rattle.std.specs.Prelude.{◌≡◌, ◌+◌, ◌-◌, ◌*◌, length};
 ghost use Rattle.flt_gen.specs.Primitives.{whole_field, any_sides};
-ghost use Rattle.flt_gen.specs.Code.{chain_before, search_before, among_before, emitted, entered};
+ghost use Rattle.flt_gen.specs.Code.{chain_before, search_before};
+ghost use Rattle.flt_gen.specs.Formula.{Among};
+ghost use Rattle.flt_gen.specs.Puts.{HasRoom, Puts, Emits};
 
 use crate::code::{Code, Targets};
+use crate::context::Context;
 use crate::elementary::{Elementary, Fact, MaskedField, Place, Sides};
-use crate::follow::Knowledge;
-use crate::link::Link;
 use crate::put::{put_elementary, put_field, put_mask};
 use crate::table::compares_at;
 use flt_bpf::operation::{Operand, Test, Width};
@@ -18,16 +19,15 @@ use std::alloc::{AllocError, Allocator};
 /// How often numbers are halved at most.
 const LEVELS: usize = 16;
 
-// Whether A is one of some numbers, by one test after the other. There are few of them.
+/// Whether A is one of some numbers, by one test after the other. There are few of them.
 fn put_chain<A: Allocator>(
     code: &mut Code<A>,
     values: &[u32],
     to: Targets,
 ) -> Result<usize, AllocError>
-    requires { length code.old + 6 * length values.now < 2 ^ 31 }
-    ensures code { IfOk result
-        (λ entry. chain_before values.now to.yes to.no code.old ≡ entered code.new entry) }
-    ensures room { OnOk result (length code.new ≤ length code.old + 3 * length values.now) }
+    requires { HasRoom (3 * length values.now) code.old }
+    ensures { Puts (3 * length values.now) result
+        (chain_before values.now to.yes to.no code.old) code.old code.new }
 {
     match values {
         [] => Ok(to.no),
@@ -40,7 +40,7 @@ fn put_chain<A: Allocator>(
     }
 }
 
-// The same of numbers that ascend, by halves.
+/// The same of numbers that ascend, by halves.
 #[tactic(auto, unfolding(crate::specs::Code::search_before))]
 fn put_search<A: Allocator>(
     code: &mut Code<A>,
@@ -48,11 +48,9 @@ fn put_search<A: Allocator>(
     values: &[u32],
     to: Targets,
 ) -> Result<usize, AllocError>
-    requires { length code.old + 6 * length values.now < 2 ^ 31 }
-    ensures code { IfOk result
-        (λ entry. search_before levels values.now to.yes to.no code.old ≡ entered code.new entry) }
-    ensures room { OnOk result
-        (length code.new ≤ length code.old + 6 * (length values.now - 1) + 3) }
+    requires { HasRoom (6 * (length values.now - 1) + 3) code.old }
+    ensures { Puts (6 * (length values.now - 1) + 3) result
+        (search_before levels values.now to.yes to.no code.old) code.old code.new }
 {
     if levels == 0 || values.len() < 2 {
         return put_chain(code, values, to);
@@ -60,31 +58,25 @@ fn put_search<A: Allocator>(
     let half = values.len() / 2;
     let yes = put_search(code, levels - 1, &values[half..], to)?;
     let no = put_search(code, levels - 1, &values[..half], to)?;
-    code.put_branch(
-        Test::AtLeast,
-        Operand::Constant,
-        values[half],
-        Targets { yes, no },
-    )?;
+    let to = Targets { yes, no };
+    code.put_branch(Test::AtLeast, Operand::Constant, values[half], to)?;
     Ok(code.top())
 }
 
-// Whether a field is one of some numbers, which ascend. The answer is where the code begins.
+/// Whether a field is one of some numbers, which ascend. The result is where the code begins.
 fn put_among<A: Allocator>(
     code: &mut Code<A>,
-    known: Knowledge,
+    context: Context,
     field: MaskedField,
     values: &[u32],
-    to: Targets,
 ) -> Result<usize, AllocError>
-    requires { length code.old + 6 * length values.now + 6 < 2 ^ 31 }
-    ensures code { IfOk result
-        (λ entry. among_before known field values.now to.yes to.no code.old
-        ≡ entered code.new entry) }
-    ensures room { OnOk result (length code.new ≤ length code.old + 6 * length values.now + 6) }
+    requires { HasRoom (6 * length values.now + 6) code.old }
+    ensures { Emits (6 * length values.now + 6) result context (Among field values.now)
+        code.old code.new }
 {
     let test = Elementary::Known(true);
     let always = Fact { test, truth: true };
+    let (known, to) = (context.known, context.to);
     let to = Targets {
         yes: code.target(known, field.place, always, to.yes),
         no: code.target(known, field.place, always, to.no),
@@ -106,38 +98,28 @@ fn whole_field(place: Place, width: Width) -> MaskedField
 /// alone before the destination is looked at, as by tests of one number after the other.
 pub fn put_any_sides<A: Allocator>(
     code: &mut Code<A>,
-    link: Link,
-    known: Knowledge,
+    context: Context,
     direction: Direction,
     at: Sides,
     first: u32,
     numbers: &[u32],
-    to: Targets,
 ) -> Result<usize, AllocError>
-    requires { length code.old + 12 * length numbers.now + 18 < 2 ^ 31 }
-    ensures code { IfOk result
-        (λ entry. emitted link known (any_sides direction at first numbers.now)
-        to.yes to.no code.old
-        ≡ entered code.new entry) }
-    ensures room { OnOk result (length code.new ≤ length code.old + 12 * length numbers.now + 18) }
+    requires { HasRoom (12 * length numbers.now + 18) code.old }
+    ensures { Emits (12 * length numbers.now + 18) result context
+        (any_sides direction at first numbers.now) code.old code.new }
 {
     let source = whole_field(at.source, at.width);
     let destination = whole_field(at.destination, at.width);
+    let yes = context.to.yes;
     match direction {
-        Direction::One(Side::Source) => put_among(code, known, source, numbers, to),
-        Direction::One(Side::Destination) => put_among(code, known, destination, numbers, to),
+        Direction::One(Side::Source) => put_among(code, context, source, numbers),
+        Direction::One(Side::Destination) => put_among(code, context, destination, numbers),
         Direction::Both(Join::Or) => {
-            let no = put_among(code, known, source, numbers, to)?;
-            let no = put_among(
-                code,
-                known,
-                destination,
-                numbers,
-                Targets { yes: to.yes, no },
-            )?;
+            let no = put_among(code, context, source, numbers)?;
+            let no = put_among(code, context.going_to(yes, no), destination, numbers)?;
             let first = compares_at(at.source, at.width, Comparison::Equal, first);
-            put_elementary(code, known, first, Targets { yes: to.yes, no })
+            put_elementary(code, context.going_to(yes, no), first)
         }
-        Direction::Both(Join::And) => Ok(to.no),
+        Direction::Both(Join::And) => Ok(context.to.no),
     }
 }

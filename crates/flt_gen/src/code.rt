@@ -1,8 +1,11 @@
 //! Code that grows from its end to its beginning.
 
-ghost use Rattle.std.specs.Prelude.{◌≡◌, ◌+◌, ◌-◌, ◌^◌, ◌<◌, ◌≤◌, List, [], ◌∷◌, length, drop, OnOk};
-ghost use Rattle.flt_gen.specs.Follow.{one_on, two_on, four_on, eight_on, followed, entered_at, target};
+ghost use Rattle.std.specs.Prelude.{◌≡◌, ◌+◌, ◌-◌, ◌^◌, ◌<◌, ◌≤◌, List};
+ghost use Rattle.std.specs.Prelude.{[], ◌∷◌, length, drop, OnOk};
+ghost use Rattle.flt_gen.specs.Follow.{one_on, two_on, four_on, eight_on};
+ghost use Rattle.flt_gen.specs.Follow.{followed, entered_at, target};
 ghost use Rattle.flt_gen.specs.Code.{plain, jump_before, branch_before};
+ghost use Rattle.flt_gen.specs.Puts.{HasRoom};
 
 use crate::elementary::{Fact, Place};
 use crate::follow::{Knowledge, onward, past_index};
@@ -118,7 +121,7 @@ impl<A: Allocator> Code<A> {
         k: u32,
         to: Targets,
     ) -> Result<(), AllocError>
-        requires { length self.old < 2 ^ 31 }
+        requires { HasRoom 3 self.old }
         ensures code { OnOk result (self.new ≡ branch_before test operand k to.yes to.no self.old) }
         ensures room { OnOk result (length self.new ≤ length self.old + 3) }
     {
@@ -144,7 +147,7 @@ impl<A: Allocator> Code<A> {
         }
     }
 
-    // One step from a place.
+    /// One step from a place.
     fn one_on(&self, facts: &[Fact], place: usize) -> usize
         ensures { result ≡ one_on self.now facts.now place }
     {
@@ -170,8 +173,8 @@ impl<A: Allocator> Code<A> {
         self.four_on(facts, self.four_on(facts, place))
     }
 
-    // The target of a jump that is taken where a fact holds, followed as far as what is known
-    // leads.
+    /// The target of a jump that is taken where a fact holds, followed as far as what is known
+    /// leads.
     #[tactic(auto, unfolding(crate::specs::Follow::followed))]
     fn followed(&self, known: Knowledge, own: Fact, place: usize) -> usize
         ensures { result ≡ followed self.now known own place }
@@ -194,7 +197,7 @@ impl<A: Allocator> Code<A> {
         }
     }
 
-    // Where code is entered behind a test at a place.
+    /// Where code is entered behind a test at a place.
     fn entered_at(&self, tested: Place, place: usize) -> usize
         ensures { result ≡ entered_at tested self.now place }
     {

@@ -59,7 +59,7 @@ pub enum Ports {
     One(u32),
     /// Those from the first to the second.
     Between(u32, u32),
-    /// Those of a list that is told beside, of which this one stands first.
+    /// Those of a list that is passed beside, of which this one stands first.
     Several(u32),
 }
 
@@ -123,6 +123,15 @@ impl NetTest {
             address,
         }
     }
+}
+
+/// The hosts of IPv4 that are looked for.
+#[derive(Clone, Copy)]
+pub enum Hosts {
+    /// Those of a network, which may be a single one.
+    Net(NetTest),
+    /// Those of a list that is passed beside, of which this one stands first, on these sides.
+    Several(Direction, u32),
 }
 
 /// A test with its outcome, where that is known of a packet.

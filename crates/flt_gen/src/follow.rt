@@ -1,7 +1,9 @@
 //! Where a jump goes on at once, since what is known of the packet decides the test at its target.
 
 ghost use Rattle.std.specs.Prelude.{◌≡◌, ◌∷◌, [], length, reverse, MatchOption, true, false};
-ghost use Rattle.flt_gen.specs.Follow.{same_mask, looks_at, test_says, decided, past_mask, past_load, onward, past_index, nothing, fact, and_fact, and_fork};
+ghost use Rattle.flt_gen.specs.Follow.{same_mask, looks_at, test_says, decided, past_mask};
+ghost use Rattle.flt_gen.specs.Follow.{past_load, onward, past_index, nothing, fact, and_fact};
+ghost use Rattle.flt_gen.specs.Follow.{and_fork};
 
 use crate::elementary::{Alternatives, Elementary, Fact, FieldTest, Place};
 use flt_bpf::insn::Insn;
@@ -26,7 +28,7 @@ struct Look {
     pub mask: Option<u32>,
 }
 
-// The test looks whether the field is a number.
+/// The test looks whether the field is a number.
 fn looks_at(test: FieldTest, look: Look) -> bool
     ensures { result ≡ looks_at test look.load look.at look.mask }
 {
@@ -39,7 +41,7 @@ fn looks_at(test: FieldTest, look: Look) -> bool
     }
 }
 
-// What a fact says of the test whether the field is a number.
+/// What a fact says of the test whether the field is a number.
 fn says(fact: Fact, look: Look, value: u32) -> Option<bool>
     ensures { result ≡ test_says fact.test fact.truth look.load look.at look.mask value }
 {
@@ -138,8 +140,8 @@ impl Knowledge {
     }
 }
 
-// The instruction that stands first, of those that are given from the last to the first, and the
-// others.
+/// The instruction that stands first, of those that are given from the last to the first, and the
+/// others.
 fn first_insn(behind: &[Insn]) -> Option<(Insn, &[Insn])>
     ensures { MatchOption result (reverse behind.now ≡ [])
         (λ parts. (reverse behind.now ≡ parts.0 ∷ reverse parts.1.now)

@@ -2,7 +2,8 @@
 
 ghost use Rattle.std.specs.Prelude.{◌≡◌, ◌≤◌, if◌then◌else◌, Some, None, length, IfOk};
 ghost use Rattle.std.specs.List.{insert};
-ghost use Rattle.flt_gen.specs.Group.{no_group, inserted, same_type, same_protocol, same_direction, goes_with, member_number, larger_group};
+ghost use Rattle.flt_gen.specs.Group.{no_group, inserted, same_type, same_protocol, same_direction};
+ghost use Rattle.flt_gen.specs.Group.{goes_with, member_number, larger_group};
 
 use flt_lang::{Direction, FullQuals, Value};
 use flt_words::{Join, Protocol, Side, ValueType};
@@ -58,7 +59,7 @@ fn same_protocol(one: Option<Protocol>, other: Option<Protocol>) -> bool
     }
 }
 
-// Those that ask for both sides at once are never the same.
+/// Those that ask for both sides at once are never the same.
 fn same_direction(one: Direction, other: Direction) -> bool
     ensures { result ≡ same_direction one other }
 {
@@ -70,7 +71,7 @@ fn same_direction(one: Direction, other: Direction) -> bool
     }
 }
 
-// The address of a host of four parts, or the number of a port.
+/// The address of a host of four parts, or the number of a port.
 fn member_number(value_type: ValueType, value: Value) -> Option<u32>
     ensures { result ≡ member_number value_type value }
 {
@@ -81,7 +82,7 @@ fn member_number(value_type: ValueType, value: Value) -> Option<u32>
     }
 }
 
-// Where a number comes among others that ascend.
+/// Where a number comes among others that ascend.
 fn place_among(numbers: &[u32], number: u32) -> usize
     ensures inside { result ≤ length numbers.now }
     ensures place { insert numbers.now result number ≡ inserted number numbers.now }
@@ -158,7 +159,7 @@ impl<A: Allocator> Group<A> {
                         && self.numbers.len() < MOST_TOGETHER)))
     }
 
-    /// A member in front of the others, if it goes with them. The answer is whether it does.
+    /// A member in front of the others, if it goes with them. The result is whether it does.
     pub fn put(&mut self, quals: FullQuals, value: Value) -> Result<bool, AllocError>
         ensures taken { IfOk result (λ taken. larger_group quals value self.old
             ≡ (if taken then Some self.new else None)) }

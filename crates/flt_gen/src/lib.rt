@@ -4,6 +4,7 @@
 mod address;
 mod among;
 mod code;
+mod context;
 mod elementary;
 mod follow;
 mod group;

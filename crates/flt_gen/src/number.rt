@@ -1,13 +1,16 @@
 //! The code of arithmetic and of the tests that accessors ask for.
 
-ghost use Rattle.std.specs.Prelude.{◌≡◌, ◌+◌, ◌*◌, ◌^◌, ◌<◌, ◌≤◌, length, OnOk, IfOk, reverse};
-ghost use Rattle.flt_gen.specs.Code.{entered, base_before, transport_before, accessor_before, machine_operator, computation, operands_before, all_before, accessors_before};
+ghost use Rattle.std.specs.Prelude.{◌≡◌, ◌^◌, ◌<◌, length, OnOk, IfOk, reverse};
+ghost use Rattle.flt_gen.specs.Code.{entered, base_before, transport_before, accessor_before};
+ghost use Rattle.flt_gen.specs.Code.{machine_operator, computation, operands_before, all_before};
+ghost use Rattle.flt_gen.specs.Code.{accessors_before};
 ghost use Rattle.flt_gen.specs.Follow.{nothing};
 ghost use Rattle.flt_gen.specs.Numbers.{accessor_tests, width_of};
+ghost use Rattle.flt_gen.specs.Puts.{HasRoom, Puts};
 
 use crate::code::{Code, Targets};
+use crate::context::Context;
 use crate::elementary::Kind;
-use crate::follow::Knowledge;
 use crate::link::Link;
 use crate::put::put_all;
 use crate::table::{first_fragment, has_ip_proto, kind_test, network};
@@ -58,7 +61,7 @@ pub fn put_operands<A: Allocator>(code: &mut Code<A>, slot: u32) -> Result<(), A
     code.put_plain(Operation::CopyToIndex, 0)
 }
 
-// A field goes into A that stands as far behind a place as A says.
+/// A field goes into A that stands as far behind a place as A says.
 fn put_base<A: Allocator>(code: &mut Code<A>, at: u32, width: Width) -> Result<(), AllocError>
     ensures { OnOk result (code.new ≡ base_before at width code.old) }
 {
@@ -66,7 +69,7 @@ fn put_base<A: Allocator>(code: &mut Code<A>, at: u32, width: Width) -> Result<(
     code.put_plain(Operation::CopyToIndex, 0)
 }
 
-// The same behind an IPv4 header.
+/// The same behind an IPv4 header.
 fn put_transport<A: Allocator>(
     code: &mut Code<A>,
     link: Link,
@@ -97,31 +100,29 @@ pub fn put_accessor<A: Allocator>(
     }
 }
 
-// What must hold of a packet before a protocol's bytes are read.
+/// What must hold of a packet before a protocol's bytes are read.
 fn put_accessor_tests<A: Allocator>(
     code: &mut Code<A>,
     link: Link,
     protocol: Protocol,
     to: Targets,
 ) -> Result<usize, AllocError>
-    requires { length code.old + 18 < 2 ^ 31 }
-    ensures code { IfOk result
-        (λ entry. all_before nothing (accessor_tests link protocol) to.yes to.no code.old
-        ≡ entered code.new entry) }
-    ensures room { OnOk result (length code.new ≤ length code.old + 18) }
+    requires { HasRoom 18 code.old }
+    ensures { Puts 18 result
+        (all_before nothing (accessor_tests link protocol) to.yes to.no code.old)
+        code.old code.new }
 {
-    let none = Knowledge::nothing();
-    let ip = kind_test(link, Kind::Ip);
-    let first = first_fragment(link);
+    let context = Context::new(link, to);
+    let (ip, first) = (kind_test(link, Kind::Ip), first_fragment(link));
     match protocol {
-        Protocol::Ether => put_all(code, none, &[kind_test(link, Kind::Ethernet)], to),
-        Protocol::Ip => put_all(code, none, &[ip], to),
-        Protocol::Ip6 | Protocol::Icmp6 => put_all(code, none, &[kind_test(link, Kind::Ip6)], to),
-        Protocol::Arp => put_all(code, none, &[kind_test(link, Kind::Arp)], to),
-        Protocol::Rarp => put_all(code, none, &[kind_test(link, Kind::Rarp)], to),
-        Protocol::Tcp => put_all(code, none, &[ip, has_ip_proto(link, 6), first], to),
-        Protocol::Udp => put_all(code, none, &[ip, has_ip_proto(link, 17), first], to),
-        Protocol::Icmp => put_all(code, none, &[ip, has_ip_proto(link, 1), first], to),
+        Protocol::Ether => put_all(code, context, &[kind_test(link, Kind::Ethernet)]),
+        Protocol::Ip => put_all(code, context, &[ip]),
+        Protocol::Ip6 | Protocol::Icmp6 => put_all(code, context, &[kind_test(link, Kind::Ip6)]),
+        Protocol::Arp => put_all(code, context, &[kind_test(link, Kind::Arp)]),
+        Protocol::Rarp => put_all(code, context, &[kind_test(link, Kind::Rarp)]),
+        Protocol::Tcp => put_all(code, context, &[ip, has_ip_proto(link, 6), first]),
+        Protocol::Udp => put_all(code, context, &[ip, has_ip_proto(link, 17), first]),
+        Protocol::Icmp => put_all(code, context, &[ip, has_ip_proto(link, 1), first]),
     }
 }
 

@@ -13,7 +13,7 @@ use flt_bpf::program::{Program, check};
 use flt_lang::{Checked, Node};
 use std::alloc::{AllocError, Allocator};
 
-// The instructions of a program for the tree with these nodes.
+/// The instructions of a program for the tree with these nodes.
 fn program_insns<A: Allocator + Clone + Drop>(
     alloc: A,
     nodes: &[Node],
@@ -34,7 +34,7 @@ fn program_insns<A: Allocator + Clone + Drop>(
     Ok(walk.into_insns())
 }
 
-/// A program that answers other than 0 exactly on the packets that the expression, read on the
+/// A program that returns other than 0 exactly on the packets that the expression, read on the
 /// link, says yes to. It has at most as many instructions as the expression's bound, and none of
 /// them is met twice in a run.
 ///
@@ -42,7 +42,8 @@ fn program_insns<A: Allocator + Clone + Drop>(
 /// the one after it, and nowhere where a program without jumps has at most 256 instructions by the
 /// expression's counts.
 ///
-/// An error is want of memory: for the instructions, or for what waits while the tree is walked.
+/// An error is a failed allocation: for the instructions, or for what waits while the tree is
+/// walked.
 pub fn generate<A: Allocator + Clone + Drop, B: Allocator>(
     alloc: A,
     expr: &Checked<B>,

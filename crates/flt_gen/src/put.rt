@@ -1,11 +1,14 @@
 //! The code of elementary tests, and of several that are joined.
 
-ghost use Rattle.std.specs.Prelude.{◌≡◌, ◌+◌, ◌*◌, ◌^◌, ◌<◌, ◌≤◌, [], ◌∷◌, length, OnOk, IfOk};
-ghost use Rattle.flt_gen.specs.Code.{field_before, mask_before, comparison_before, test_before, elementary_before, all_before, sides_before, fork_before, entered};
+ghost use Rattle.std.specs.Prelude.{◌≡◌, ◌+◌, ◌*◌, ◌≤◌, length, OnOk};
+ghost use Rattle.flt_gen.specs.Code.{field_before, mask_before, comparison_before};
+ghost use Rattle.flt_gen.specs.Code.{test_before, fork_before};
+ghost use Rattle.flt_gen.specs.Formula.{Single, all_of, sides};
+ghost use Rattle.flt_gen.specs.Puts.{HasRoom, Puts, Emits};
 
 use crate::code::{Code, Targets};
+use crate::context::Context;
 use crate::elementary::{Elementary, Fact, FieldTest, Place};
-use crate::follow::Knowledge;
 use flt_bpf::operation::{Operand, Operation, Operator, Test, Width};
 use flt_lang::Direction;
 use flt_words::{Comparison, Join, Side};
@@ -50,7 +53,7 @@ pub fn put_comparison<A: Allocator>(
     k: u32,
     to: Targets,
 ) -> Result<(), AllocError>
-    requires { length code.old < 2 ^ 31 }
+    requires { HasRoom 3 code.old }
     ensures code { OnOk result (code.new ≡ comparison_before comparison operand k
         to.yes to.no code.old) }
     ensures room { OnOk result (length code.new ≤ length code.old + 3) }
@@ -71,7 +74,7 @@ fn put_test<A: Allocator>(
     test: FieldTest,
     to: Targets,
 ) -> Result<(), AllocError>
-    requires { length code.old < 2 ^ 31 }
+    requires { HasRoom 6 code.old }
     ensures code { OnOk result (code.new ≡ test_before test to.yes to.no code.old) }
     ensures room { OnOk result (length code.new ≤ length code.old + 6) }
 {
@@ -80,18 +83,16 @@ fn put_test<A: Allocator>(
     put_field(code, test.place, test.width)
 }
 
-/// One test. What the link type alone decides takes no code. The answer is where the test begins.
+/// One test. What the link type alone decides takes no code. The result is where the test begins.
 pub fn put_elementary<A: Allocator>(
     code: &mut Code<A>,
-    known: Knowledge,
+    context: Context,
     test: Elementary,
-    to: Targets,
 ) -> Result<usize, AllocError>
-    requires { length code.old < 2 ^ 31 }
-    ensures code { IfOk result
-        (λ entry. elementary_before known test to.yes to.no code.old ≡ entered code.new entry) }
-    ensures room { OnOk result (length code.new ≤ length code.old + 6) }
+    requires { HasRoom 6 code.old }
+    ensures { Emits 6 result context (Single test) code.old code.new }
 {
+    let (known, to) = (context.known, context.to);
     match test {
         Elementary::Known(true) => Ok(to.yes),
         Elementary::Known(false) => Ok(to.no),
@@ -108,22 +109,20 @@ pub fn put_elementary<A: Allocator>(
 }
 
 /// All of some tests. There are few of them.
+#[tactic(auto, using(crate::proofs::Joined::all_emitted))]
 pub fn put_all<A: Allocator>(
     code: &mut Code<A>,
-    known: Knowledge,
+    context: Context,
     tests: &[Elementary],
-    to: Targets,
 ) -> Result<usize, AllocError>
-    requires { length code.old + 6 * length tests.now < 2 ^ 31 }
-    ensures code { IfOk result
-        (λ entry. all_before known tests.now to.yes to.no code.old ≡ entered code.new entry) }
-    ensures room { OnOk result (length code.new ≤ length code.old + 6 * length tests.now) }
+    requires { HasRoom (6 * length tests.now) code.old }
+    ensures { Emits (6 * length tests.now) result context (all_of tests.now) code.old code.new }
 {
     match tests {
-        [] => Ok(to.yes),
+        [] => Ok(context.to.yes),
         [first, others @ ..] => {
-            let yes = put_all(code, known, others, to)?;
-            put_elementary(code, known, *first, Targets { yes, no: to.no })
+            let yes = put_all(code, context, others)?;
+            put_elementary(code, context.going_to(yes, context.to.no), *first)
         }
     }
 }
@@ -131,29 +130,25 @@ pub fn put_all<A: Allocator>(
 /// The tests of the source and of the destination, as a direction asks for them.
 pub fn put_sides<A: Allocator>(
     code: &mut Code<A>,
-    known: Knowledge,
+    context: Context,
     direction: Direction,
     source: &[Elementary],
     destination: &[Elementary],
-    to: Targets,
 ) -> Result<usize, AllocError>
-    requires { length code.old + 6 * (length source.now + length destination.now) < 2 ^ 31 }
-    ensures code { IfOk result
-        (λ entry. sides_before known direction source.now destination.now to.yes to.no code.old
-        ≡ entered code.new entry) }
-    ensures room { OnOk result
-        (length code.new ≤ length code.old + 6 * (length source.now + length destination.now)) }
+    requires { HasRoom (6 * (length source.now + length destination.now)) code.old }
+    ensures { Emits (6 * (length source.now + length destination.now)) result context
+        (sides direction source.now destination.now) code.old code.new }
 {
     match direction {
-        Direction::One(Side::Source) => put_all(code, known, source, to),
-        Direction::One(Side::Destination) => put_all(code, known, destination, to),
+        Direction::One(Side::Source) => put_all(code, context, source),
+        Direction::One(Side::Destination) => put_all(code, context, destination),
         Direction::Both(Join::Or) => {
-            let no = put_all(code, known, destination, to)?;
-            put_all(code, known, source, Targets { yes: to.yes, no })
+            let no = put_all(code, context, destination)?;
+            put_all(code, context.going_to(context.to.yes, no), source)
         }
         Direction::Both(Join::And) => {
-            let yes = put_all(code, known, destination, to)?;
-            put_all(code, known, source, Targets { yes, no: to.no })
+            let yes = put_all(code, context, destination)?;
+            put_all(code, context.going_to(yes, context.to.no), source)
         }
     }
 }
@@ -161,16 +156,15 @@ pub fn put_sides<A: Allocator>(
 /// One of two tests.
 pub fn put_fork<A: Allocator>(
     code: &mut Code<A>,
-    known: Knowledge,
+    context: Context,
     first: Elementary,
     second: Elementary,
-    to: Targets,
 ) -> Result<usize, AllocError>
-    requires { length code.old + 12 < 2 ^ 31 }
-    ensures code { IfOk result
-        (λ entry. fork_before known first second to.yes to.no code.old ≡ entered code.new entry) }
-    ensures room { OnOk result (length code.new ≤ length code.old + 12) }
+    requires { HasRoom 12 code.old }
+    ensures { Puts 12 result
+        (fork_before context.known first second context.to.yes context.to.no code.old)
+        code.old code.new }
 {
-    let no = put_elementary(code, known.and_no(first), second, to)?;
-    put_elementary(code, known, first, Targets { yes: to.yes, no })
+    let no = put_elementary(code, context.elsewhere(first), second)?;
+    put_elementary(code, context.going_to(context.to.yes, no), first)
 }

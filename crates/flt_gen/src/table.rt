@@ -1,7 +1,8 @@
 //! The table of elementary tests, for both links.
 
 ghost use Rattle.std.specs.Prelude.{◌≡◌, ◌≤◌, Some, None};
-ghost use Rattle.flt_gen.specs.Elementary.{network, is_at, is_masked, compares_at, kind_test, first_fragment, has_ip_proto, has_ip6_proto};
+ghost use Rattle.flt_gen.specs.Elementary.{network, is_at, is_masked, compares_at, kind_test};
+ghost use Rattle.flt_gen.specs.Elementary.{first_fragment, has_ip_proto, has_ip6_proto};
 
 use crate::elementary::{Elementary, FieldTest, Kind, Place};
 use crate::link::Link;

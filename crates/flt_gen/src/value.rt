@@ -1,16 +1,16 @@
 //! The code of values with their qualifiers.
 
-ghost use Rattle.std.specs.Prelude.{◌≡◌, ◌+◌, ◌*◌, ◌^◌, ◌<◌, ◌≤◌, length, OnOk, IfOk};
-ghost use Rattle.flt_gen.specs.Follow.{nothing};
-ghost use Rattle.flt_gen.specs.Code.{emitted, entered, at_top, sized_before};
+ghost use Rattle.std.specs.Prelude.{◌+◌, ◌*◌, length};
+ghost use Rattle.flt_gen.specs.Puts.{HasRoom, Emits};
 ghost use Rattle.flt_gen.specs.Primitives.{host_formula, net_value_formula, qualified_formula};
-ghost use Rattle.flt_gen.specs.Group.{one_formula, several_formula, group_formula};
+ghost use Rattle.flt_gen.specs.Primitives.{sized_formula};
+ghost use Rattle.flt_gen.specs.Group.{group_formula};
 
 use crate::address::{put_hosts, put_ip6, put_net};
-use crate::code::{Code, Targets};
-use crate::elementary::{NetTest, PortTest, Ports};
+use crate::code::Code;
+use crate::context::Context;
+use crate::elementary::{Hosts, NetTest, PortTest, Ports};
 use crate::group::Group;
-use crate::link::Link;
 use crate::number::put_operands;
 use crate::port::put_ports;
 use crate::primitive::{put_ether_host, put_proto};
@@ -22,53 +22,45 @@ use std::alloc::{AllocError, Allocator};
 
 fn put_host<A: Allocator>(
     code: &mut Code<A>,
-    link: Link,
+    context: Context,
     protocol: Option<Protocol>,
     direction: Direction,
     value: Value,
-    to: Targets,
 ) -> Result<usize, AllocError>
-    requires { length code.old + 54 < 2 ^ 31 }
-    ensures code { IfOk result
-        (λ entry. emitted link nothing (host_formula link protocol direction value)
-        to.yes to.no code.old
-        ≡ entered code.new entry) }
-    ensures room { OnOk result (length code.new ≤ length code.old + 54) }
+    requires { HasRoom 72 code.old }
+    ensures { Emits 72 result context (host_formula context.link protocol direction value)
+        code.old code.new }
 {
     match value {
         Value::Dotted(host, _) => {
             let net = NetTest::new(direction, None, host.address);
-            put_net(code, link, protocol, net, to)
-        },
-        Value::Ip6(address, _) => put_ip6(code, link, direction, None, address, to),
-        Value::Mac(address) => put_ether_host(code, link, direction, address, to),
-        _ => Ok(to.no),
+            put_net(code, context, protocol, net)
+        }
+        Value::Ip6(address, _) => put_ip6(code, context, direction, None, address),
+        Value::Mac(address) => put_ether_host(code, context, direction, address),
+        _ => Ok(context.to.no),
     }
 }
 
 fn put_net_value<A: Allocator>(
     code: &mut Code<A>,
-    link: Link,
+    context: Context,
     protocol: Option<Protocol>,
     direction: Direction,
     value: Value,
-    to: Targets,
 ) -> Result<usize, AllocError>
-    requires { length code.old + 54 < 2 ^ 31 }
-    ensures code { IfOk result
-        (λ entry. emitted link nothing (net_value_formula link protocol direction value)
-        to.yes to.no code.old
-        ≡ entered code.new entry) }
-    ensures room { OnOk result (length code.new ≤ length code.old + 54) }
+    requires { HasRoom 72 code.old }
+    ensures { Emits 72 result context (net_value_formula context.link protocol direction value)
+        code.old code.new }
 {
     match value {
-        Value::Ip6(address, prefix) => put_ip6(code, link, direction, prefix, address, to),
+        Value::Ip6(address, prefix) => put_ip6(code, context, direction, prefix, address),
         _ => match value.ip4_net() {
             Some(net) => {
                 let net = NetTest::new(direction, Some(net.mask), net.address);
-                put_net(code, link, protocol, net, to)
+                put_net(code, context, protocol, net)
             }
-            None => Ok(to.no),
+            None => Ok(context.to.no),
         },
     }
 }
@@ -76,133 +68,84 @@ fn put_net_value<A: Allocator>(
 /// A value with its qualifiers. One that doesn't fit them is no.
 pub fn put_qualified<A: Allocator>(
     code: &mut Code<A>,
-    link: Link,
+    context: Context,
     quals: FullQuals,
     value: Value,
-    to: Targets,
 ) -> Result<usize, AllocError>
-    requires { length code.old + 96 < 2 ^ 31 }
-    ensures code { IfOk result
-        (λ entry. emitted link nothing (qualified_formula link quals value) to.yes to.no code.old
-        ≡ entered code.new entry) }
-    ensures room { OnOk result (length code.new ≤ length code.old + 96) }
+    requires { HasRoom 96 code.old }
+    ensures { Emits 96 result context (qualified_formula context.link quals value)
+        code.old code.new }
 {
     let (protocol, direction) = (quals.protocol, quals.direction);
     match (quals.value_type, value) {
-        (ValueType::Host, value) => put_host(code, link, protocol, direction, value, to),
-        (ValueType::Net, value) => put_net_value(code, link, protocol, direction, value, to),
+        (ValueType::Host, value) => put_host(code, context, protocol, direction, value),
+        (ValueType::Net, value) => put_net_value(code, context, protocol, direction, value),
         (ValueType::Port, Value::Number(port, _)) => {
             let wanted = PortTest::new(protocol, direction, Ports::One(port));
-            put_ports(code, link, wanted, &[], to)
+            put_ports(code, context, wanted, &[])
         }
         (ValueType::PortRange, Value::Range { first, last }) => {
             let ports = Ports::Between(first.min(last), first.max(last));
             let wanted = PortTest::new(protocol, direction, ports);
-            put_ports(code, link, wanted, &[], to)
+            put_ports(code, context, wanted, &[])
         }
-        (ValueType::Proto, Value::Number(number, _)) => put_proto(code, link, protocol, number, to),
-        _ => Ok(to.no),
-    }
-}
-
-// The only member of a group.
-fn put_one<A: Allocator>(
-    code: &mut Code<A>,
-    link: Link,
-    group: &Group<A>,
-    to: Targets,
-) -> Result<usize, AllocError>
-    requires { length code.old + 96 < 2 ^ 31 }
-    ensures code { IfOk result
-        (λ entry. emitted link nothing (one_formula link group.now.value_type group.now.protocol
-        group.now.direction group.now.first)
-        to.yes to.no code.old
-        ≡ entered code.new entry) }
-    ensures room { OnOk result (length code.new ≤ length code.old + 96) }
-{
-    let (protocol, direction) = (group.protocol(), group.direction());
-    match group.value_type() {
-        ValueType::Host => {
-            let net = NetTest::new(direction, None, group.first());
-            put_net(code, link, protocol, net, to)
+        (ValueType::Proto, Value::Number(number, _)) => {
+            put_proto(code, context, protocol, number)
         }
-        ValueType::Port => {
-            let wanted = PortTest::new(protocol, direction, Ports::One(group.first()));
-            put_ports(code, link, wanted, &[], to)
-        }
-        _ => Ok(to.no),
-    }
-}
-
-// Several members of a group.
-fn put_several<A: Allocator>(
-    code: &mut Code<A>,
-    link: Link,
-    group: &Group<A>,
-    to: Targets,
-) -> Result<usize, AllocError>
-    requires { length code.old + 36 * length group.now.numbers + 96 < 2 ^ 31 }
-    ensures code { IfOk result
-        (λ entry. emitted link nothing (several_formula link group.now.value_type
-        group.now.protocol group.now.direction group.now.first group.now.numbers)
-        to.yes to.no code.old
-        ≡ entered code.new entry) }
-    ensures room { OnOk result
-        (length code.new ≤ length code.old + 36 * length group.now.numbers + 96) }
-{
-    let (protocol, direction) = (group.protocol(), group.direction());
-    match group.value_type() {
-        ValueType::Host => put_hosts(code, link, group, to),
-        ValueType::Port => {
-            let wanted = PortTest::new(protocol, direction, Ports::Several(group.first()));
-            put_ports(code, link, wanted, group.numbers(), to)
-        }
-        _ => Ok(to.no),
+        _ => Ok(context.to.no),
     }
 }
 
 /// The members of a group, which are looked for together.
 pub fn put_group<A: Allocator>(
     code: &mut Code<A>,
-    link: Link,
+    context: Context,
     group: &Group<A>,
-    to: Targets,
 ) -> Result<usize, AllocError>
-    requires { length code.old + 36 * length group.now.numbers + 96 < 2 ^ 31 }
-    ensures code { IfOk result
-        (λ entry. emitted link nothing (group_formula link group.now) to.yes to.no code.old
-        ≡ entered code.new entry) }
-    ensures room { OnOk result
-        (length code.new ≤ length code.old + 36 * length group.now.numbers + 96) }
+    requires { HasRoom (36 * length group.now.numbers + 96) code.old }
+    ensures { Emits (36 * length group.now.numbers + 96) result context
+        (group_formula context.link group.now) code.old code.new }
 {
-    match group.numbers() {
-        [_] => put_one(code, link, group, to),
-        _ => put_several(code, link, group, to),
+    let (protocol, direction, first) = (group.protocol(), group.direction(), group.first());
+    match (group.numbers(), group.value_type()) {
+        ([_], ValueType::Host) => {
+            let net = NetTest::new(direction, None, first);
+            put_net(code, context, protocol, net)
+        }
+        ([_], ValueType::Port) => {
+            let wanted = PortTest::new(protocol, direction, Ports::One(first));
+            put_ports(code, context, wanted, &[])
+        }
+        (numbers, ValueType::Host) => {
+            let hosts = Hosts::Several(direction, first);
+            put_hosts(code, context, protocol, hosts, numbers)
+        }
+        (numbers, ValueType::Port) => {
+            let wanted = PortTest::new(protocol, direction, Ports::Several(first));
+            put_ports(code, context, wanted, numbers)
+        }
+        _ => Ok(context.to.no),
     }
 }
 
 /// `less N` and `greater N`: the original length is compared with a number.
 pub fn put_sized<A: Allocator>(
     code: &mut Code<A>,
+    context: Context,
     size: Size,
     number: u32,
-    to: Targets,
 ) -> Result<usize, AllocError>
-    requires { length code.old < 2 ^ 31 }
-    ensures { IfOk result
-        (λ entry. at_top (sized_before size number to.yes to.no code.old)
-        ≡ entered code.new entry) }
+    requires { HasRoom 8 code.old }
+    ensures { Emits 8 result context (sized_formula size number) code.old code.new }
 {
     let comparison = match size {
         Size::Less => Comparison::AtMost,
         Size::Greater => Comparison::AtLeast,
     };
-    put_comparison(code, comparison, Operand::IndexRegister, 0, to)?;
+    let load = Operation::Load(Register::Accumulator, Source::Immediate);
+    put_comparison(code, comparison, Operand::IndexRegister, 0, context.to)?;
     put_operands(code, 0)?;
-    code.put_plain(
-        Operation::Load(Register::Accumulator, Source::Immediate),
-        number,
-    )?;
+    code.put_plain(load, number)?;
     code.put_plain(Operation::Store(Register::Accumulator), 0)?;
     code.put_plain(Operation::Load(Register::Accumulator, Source::Length), 0)?;
     Ok(code.top())

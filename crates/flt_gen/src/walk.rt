@@ -5,9 +5,13 @@
 ghost use Rattle.std.specs.Prelude.{◌≡◌, ◌+◌, ◌^◌, ◌<◌, ◌≤◌, true, length, OnOk, IfOk};
 ghost use Rattle.flt_gen.specs.Group.{larger_group};
 ghost use Rattle.flt_gen.specs.Code.{entered};
-ghost use Rattle.flt_gen.specs.Walk.{start, truth_put, relation_put, number_put, is_number_node, is_truth_node, operands_put, settled, group_put, value_put, join_put, truth_node_put, with_node, insns_of};
+ghost use Rattle.flt_gen.specs.Puts.{HasRoom};
+ghost use Rattle.flt_gen.specs.Walk.{start, truth_put, relation_put, number_put, is_number_node};
+ghost use Rattle.flt_gen.specs.Walk.{is_truth_node, operands_put, settled, group_put, value_put};
+ghost use Rattle.flt_gen.specs.Walk.{join_put, truth_node_put, with_node, insns_of};
 
 use crate::code::{Code, Targets};
+use crate::context::Context;
 use crate::group::Group;
 use crate::link::Link;
 use crate::number::{computation, put_accessor, put_accessors, put_operands, width_of};
@@ -22,7 +26,7 @@ use flt_words::{Join, Protocol};
 use std::alloc::{AllocError, Allocator};
 use std::marker::Model;
 
-/// What a program answers where it keeps a packet.
+/// What a program returns where it keeps a packet.
 const KEEP: u32 = 262_144;
 
 /// How far the walk has come.
@@ -62,7 +66,7 @@ impl<A: Allocator> Model for Walk<A> {
 }
 
 impl<A: Allocator> Walk<A> {
-    // A truth's code is put: the left operand that waits is next.
+    /// A truth's code is put: the left operand that waits is next.
     fn finish_truth(&mut self, entry: usize)
         ensures { self.new ≡ truth_put (entered self.old.code entry) self.old }
     {
@@ -87,7 +91,7 @@ impl<A: Allocator> Walk<A> {
         };
     }
 
-    // The operands of a relation are put: the tests of its accessors stand in front of them.
+    /// The operands of a relation are put: the tests of its accessors stand in front of them.
     fn finish_relation(&mut self, link: Link) -> Result<(), AllocError>
         requires { length (relation_put link self.old).code < 2 ^ 30 }
         ensures { OnOk result (self.new ≡ relation_put link self.old) }
@@ -102,8 +106,8 @@ impl<A: Allocator> Walk<A> {
         Ok(())
     }
 
-    // A number's code is put: the accessors whose index it is are complete, and then the left
-    // operand that waits is next.
+    /// A number's code is put: the accessors whose index it is are complete, and then the left
+    /// operand that waits is next.
     fn finish_number(&mut self, link: Link) -> Result<(), AllocError>
         requires { length (number_put link self.old.numbers self.old).code < 2 ^ 30 }
         ensures { OnOk result (self.new ≡ number_put link self.old.numbers self.old) }
@@ -122,7 +126,7 @@ impl<A: Allocator> Walk<A> {
         }
     }
 
-    // Two operands: the right one is next, and the left one waits.
+    /// Two operands: the right one is next, and the left one waits.
     fn put_both(&mut self, slot: u32) -> Result<(), AllocError>
         requires { slot < 2 ^ 31 }
         ensures { OnOk result (self.new ≡ operands_put slot self.old.code self.old) }
@@ -132,7 +136,7 @@ impl<A: Allocator> Walk<A> {
         self.numbers.push(Waiting::Left(slot))
     }
 
-    // A node of arithmetic.
+    /// A node of arithmetic.
     fn put_number_node(&mut self, link: Link, node: &Node) -> Result<(), AllocError>
         requires few { self.old.slot < 2 ^ 31 }
         requires room { length (with_node link self.old node.now).code < 2 ^ 30 }
@@ -165,7 +169,7 @@ impl<A: Allocator> Walk<A> {
         }
     }
 
-    // The code of the group that waits is put.
+    /// The code of the group that waits is put.
     fn settle(&mut self, link: Link) -> Result<(), AllocError>
         requires room { length self.old.code < 2 ^ 30 }
         requires some { length self.old.group.numbers ≤ 4096 }
@@ -173,14 +177,16 @@ impl<A: Allocator> Walk<A> {
         ensures room { OnOk result (length self.new.code ≤ length self.old.code + 150000) }
     {
         if !self.group.numbers().is_empty() {
-            self.to.no = put_group(&mut self.code, link, &self.group, self.to)?;
+            let context = Context::new(link, self.to);
+            self.to.no = put_group(&mut self.code, context, &self.group)?;
         }
         self.group.clear();
         self.chained = false;
         Ok(())
     }
 
-    // A host or port and those behind it: they wait for one more if the host is the right operand of an or.
+    /// A host or port and those behind it: they wait for one more if the host is the right operand
+    /// of an or.
     fn finish_group(&mut self, link: Link) -> Result<(), AllocError>
         requires room { length self.old.code < 2 ^ 30 }
         requires some { length self.old.group.numbers ≤ 4096 }
@@ -191,13 +197,14 @@ impl<A: Allocator> Walk<A> {
             self.chained = false;
             return Ok(());
         }
-        let entry = put_group(&mut self.code, link, &self.group, self.to)?;
+        let context = Context::new(link, self.to);
+        let entry = put_group(&mut self.code, context, &self.group)?;
         self.group.clear();
         self.finish_truth(entry);
         Ok(())
     }
 
-    // A value with all its qualifiers.
+    /// A value with all its qualifiers.
     fn put_value(&mut self, link: Link, quals: FullQuals, value: Value) -> Result<(), AllocError>
         requires before { length self.old.code < 2 ^ 30 }
         requires some { length self.old.group.numbers ≤ 4096 }
@@ -208,12 +215,13 @@ impl<A: Allocator> Walk<A> {
             return self.finish_group(link);
         }
         self.settle(link)?;
-        let entry = put_qualified(&mut self.code, link, quals, value, self.to)?;
+        let context = Context::new(link, self.to);
+        let entry = put_qualified(&mut self.code, context, quals, value)?;
         self.finish_truth(entry);
         Ok(())
     }
 
-    // An operator between two truths.
+    /// An operator between two truths.
     fn put_join(&mut self, link: Link, join: Join) -> Result<(), AllocError>
         requires room { length self.old.code < 2 ^ 30 }
         requires some { length self.old.group.numbers ≤ 4096 }
@@ -227,17 +235,18 @@ impl<A: Allocator> Walk<A> {
         self.truths.push(LeftTruth { join, to })
     }
 
-    // A primitive or a negation. A value whose qualifiers aren't filled in yet is no.
+    /// A primitive or a negation. A value whose qualifiers aren't filled in yet is no.
     fn put_truth_node(&mut self, link: Link, node: &Node) -> Result<(), AllocError>
-        requires room { length self.old.code + 96 < 2 ^ 31 }
+        requires room { HasRoom 96 self.old.code }
         requires truth { is_truth_node node.now ≡ true }
         ensures { OnOk result (self.new ≡ truth_node_put link self.old node.now) }
     {
         let (code, to) = (&mut self.code, self.to);
+        let context = Context::new(link, to);
         let entry = match node {
-            Node::Check(protocol) => put_check(code, link, *protocol, to)?,
-            Node::Cast(protocol, cast) => put_cast(code, link, *protocol, *cast, to)?,
-            Node::Sized(size, number) => put_sized(code, *size, *number, to)?,
+            Node::Check(protocol) => put_check(code, context, *protocol)?,
+            Node::Cast(protocol, cast) => put_cast(code, context, *protocol, *cast)?,
+            Node::Sized(size, number) => put_sized(code, context, *size, *number)?,
             Node::Bare(_) | Node::Valued(_, _) => to.no,
             Node::Not => {
                 self.to = to.exchanged();
@@ -297,7 +306,7 @@ impl<A: Allocator> Walk<A> {
 }
 
 impl<A: Allocator + Clone> Walk<A> {
-    /// The two returns, which both answer a packet: to keep it, and not to.
+    /// The two returns: a packet is kept, or it isn't.
     pub fn new(alloc: A) -> Result<Self, AllocError>
         ensures { IfOk result (λ walk. walk ≡ start) }
     {

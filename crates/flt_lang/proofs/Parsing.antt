@@ -46,3 +46,6 @@ found_reads tokens nodes h =
     let (tree, reads, same) = tree_found tokens nodes h in
     let is : tree ≡ tree_of (reverse nodes) = sym (tree_back tree) ∙ ap tree_of (sym same) in
     subst (Reads tokens) is reads
+
+-- what a run says of the tokens
+pub ruleset parsing = (no_tree, found_is_tree, found_reads)

@@ -25,3 +25,6 @@ le_false m n h = grind (arith, nat_tests)
 pub settle_stays : (m : ℕ) (fs : List Frame) (x : Operand) (d : List Node) → IsLoose m fs → settle m fs x d ≡ Some (fs, x, d)
 settle_stays m [] x d h = refl
 settle_stays m (f ∷ fs) x d h = rw (le_false (looseness f) m h) refl
+
+-- what one step of settling does
+pub ruleset settling = (settle_taken, settle_failed, settle_stays)

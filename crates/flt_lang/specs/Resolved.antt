@@ -63,7 +63,7 @@ first_fault false false false = None
 abbrev pub tree_fault : Expression → Option ExprFault
 tree_fault e = first_fault (some_primitive is_misfit e) (some_primitive is_out_of_range e) (some_primitive has_past_bits e)
 
--- the fault of an expression is told once its bare values have their qualifiers
+-- the fault of an expression is reported once its bare values have their qualifiers
 abbrev pub fill_fault : Expression → Option ExprFault
 fill_fault e = tree_fault (expr_inherited e)
 

@@ -22,9 +22,9 @@ pub struct Checked<A: Allocator> {
     pub ghost short: { bound_of expr ≤ 32768 },
 }
 
-/// Checks a tree as `resolve` answers it. It takes no memory.
+/// Checks a tree as `resolve` returns it. It takes no memory.
 ///
-/// `DivisionByZero` is told where some divisor is the number 0 as it is written, else
+/// `DivisionByZero` is reported where some divisor is the number 0 as it is written, else
 /// `TooManyWords` where the arithmetic needs more than 16 words, else `ProgramTooLong` where its
 /// bound is over 32,768 instructions.
 pub fn check<A: Allocator>(expr: Expr<A>) -> Result<Checked<A>, ExprFault>

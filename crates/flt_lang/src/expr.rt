@@ -23,7 +23,8 @@ impl<A: Allocator> Model for Expr<A> {
 
     ghost Value = { Expression };
 
-    ghost coded = { code_by (List Node) (coded_list stored.the_row.coded) expr_nodes tree_of tree_back };
+    ghost coded = { code_by (List Node) (coded_list stored.the_row.coded)
+        expr_nodes tree_of tree_back };
 
     ghost view = { λ e. tree_of e.nodes.items };
 

@@ -3,7 +3,9 @@
 
 ghost use Rattle.std.specs.Prelude.{◌≡◌};
 ghost use Rattle.flt_lang.specs.Filled.{full, type_or_host, completed_node};
-ghost use Rattle.flt_lang.specs.Fits.{is_of_ip4, is_of_ip6, is_of_ports, is_of_ips, is_of_ether, is_net_mask, is_ip4_len, is_ip6_len, fit_if, fit_of, is_either, is_cast_misfit};
+ghost use Rattle.flt_lang.specs.Fits.{is_of_ip4, is_of_ip6, is_of_ports, is_of_ips, is_of_ether};
+ghost use Rattle.flt_lang.specs.Fits.{is_net_mask, is_ip4_len, is_ip6_len, fit_if, fit_of};
+ghost use Rattle.flt_lang.specs.Fits.{is_either, is_cast_misfit};
 ghost use Rattle.flt_lang.specs.Resolved.{is_misfit_node, is_out_of_range_node, has_past_bits_node};
 
 use crate::node::Node;

@@ -7,5 +7,6 @@ ghost use Rattle.flt_lang.specs.Grammar.{Reads};
 
 /// No tokens have two trees.
 pub fn one_tree()
-    ensures { (tokens : List TokenKind) (a b : Expression) → Reads tokens a → Reads tokens b → a ≡ b }
+    ensures { (tokens : List TokenKind) (a b : Expression) → Reads tokens a → Reads tokens b
+        → a ≡ b }
 {}

@@ -2,7 +2,8 @@
 
 ghost use Rattle.std.specs.Prelude.{◌≡◌, ◌↔◌, IsTrue};
 ghost use Rattle.std.specs.List.{list_all};
-ghost use Rattle.flt_lang.specs.Nesting.{is_opening, is_closing, is_prefix, HasDeepFront, HasLongPrefix, IsTooDeep};
+ghost use Rattle.flt_lang.specs.Nesting.{is_opening, is_closing, is_prefix, HasDeepFront};
+ghost use Rattle.flt_lang.specs.Nesting.{HasLongPrefix, IsTooDeep};
 
 use flt_words::{Operator, Token, TokenKind};
 

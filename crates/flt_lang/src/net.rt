@@ -1,7 +1,8 @@
 //! Networks: an address and its mask.
 
 ghost use Rattle.std.specs.Prelude.{◌≡◌};
-ghost use Rattle.flt_lang.specs.Nets.{first_bits, ip4_mask, ip6_mask, ip4_net, ip6_net, is_past_mask};
+ghost use Rattle.flt_lang.specs.Nets.{first_bits, ip4_mask, ip6_mask};
+ghost use Rattle.flt_lang.specs.Nets.{ip4_net, ip6_net, is_past_mask};
 
 use crate::value::{NetMask, Value};
 

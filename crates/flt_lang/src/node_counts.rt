@@ -1,7 +1,10 @@
 //! What a node adds to the counts of an expression.
 
 ghost use Rattle.std.specs.Prelude.{◌≡◌, ◌≤◌, ◌<◌, ◌^◌};
-ghost use Rattle.flt_lang.specs.Counts.{side_tests, proto_tests, check_tests, ether_tests, cast_tests, ip4_tests, ip6_tests, transport_tests, port_tests, address_tests, value_tests, accessor_tests, node_tests, node_size};
+ghost use Rattle.flt_lang.specs.Counts.{side_tests, proto_tests, check_tests, ether_tests};
+ghost use Rattle.flt_lang.specs.Counts.{cast_tests, ip4_tests, ip6_tests, transport_tests};
+ghost use Rattle.flt_lang.specs.Counts.{port_tests, address_tests, value_tests, accessor_tests};
+ghost use Rattle.flt_lang.specs.Counts.{node_tests, node_size};
 ghost use Rattle.flt_lang.specs.Heights.{height_after, peak};
 ghost use Rattle.flt_lang.specs.Checks.{is_zero_node, is_division_node};
 

@@ -3,7 +3,8 @@
 ghost use Rattle.std.specs.Prelude.{◌≡◌, map, IfOk, IfErr, Some, None};
 ghost use Rattle.std.specs.List.{list_any};
 ghost use Rattle.flt_lang.specs.Filled.{filled, inherited_nodes, completed_node, only_host};
-ghost use Rattle.flt_lang.specs.Resolved.{fill_fault, nodes_fault, IsResolved, is_misfit_node, is_out_of_range_node, has_past_bits_node};
+ghost use Rattle.flt_lang.specs.Resolved.{fill_fault, nodes_fault, IsResolved, is_misfit_node};
+ghost use Rattle.flt_lang.specs.Resolved.{is_out_of_range_node, has_past_bits_node};
 
 use crate::expr::Expr;
 use crate::node::Node;
@@ -15,7 +16,7 @@ use std::alloc::Allocator;
 /// before it, or `host`, and fills in what is left out: the type `host`, the direction `src or
 /// dst`.
 ///
-/// `QualifiersDoNotFit` is told where some value has qualifiers that do not go with it, else
+/// `QualifiersDoNotFit` is reported where some value has qualifiers that do not go with it, else
 /// `ValueOutOfRange` where a number of a value or the size of an accessor is out of range, else
 /// `BitsPastMask`.
 pub fn resolve<A: Allocator>(expr: Expr<A>) -> Result<Expr<A>, ExprFault>

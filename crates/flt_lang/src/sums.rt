@@ -1,7 +1,8 @@
 //! The counts of an expression, each in one pass over its nodes.
 
 ghost use Rattle.std.specs.Prelude.{◌≡◌, ◌≤◌, ◌*◌, ◌^◌, sum_by, fold, false};
-ghost use Rattle.flt_lang.specs.Counts.{tests_of, nodes_of, words_of, bound_of, node_tests, node_size};
+ghost use Rattle.flt_lang.specs.Counts.{tests_of, nodes_of, words_of, bound_of};
+ghost use Rattle.flt_lang.specs.Counts.{node_tests, node_size};
 ghost use Rattle.flt_lang.specs.Heights.{climb};
 ghost use Rattle.flt_lang.specs.Resolved.{some_primitive};
 ghost use Rattle.flt_lang.specs.Checks.{divides_by_zero, zero_divided};

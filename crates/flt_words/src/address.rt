@@ -3,7 +3,9 @@
 ghost use Rattle.std.specs.Prelude.{◌≡◌, ◌≤◌, ◌<◌, ◌+◌, ◌*◌, ◌^◌, ℕ, MatchOption, length};
 ghost use Rattle.std.specs.Str.Parse.{IsNumeral, digits_value};
 ghost use Rattle.flt_words.specs.declared.address.Group.TheVariants.{Octet};
-ghost use Rattle.flt_words.specs.Addresses.{AreIp6Ends, Finds, IsDotted, IsDoubleColon, IsGroup, IsIp6, IsMac, IsWholeIp6, ReadsGroups, base_of, group_value, separator_of};
+ghost use Rattle.flt_words.specs.Addresses.{AreIp6Ends, Finds, IsDotted, IsDoubleColon, IsGroup};
+ghost use Rattle.flt_words.specs.Addresses.{IsIp6, IsMac, IsWholeIp6, ReadsGroups, base_of};
+ghost use Rattle.flt_words.specs.Addresses.{group_value, separator_of};
 
 use crate::number::{decimal, numeral};
 
@@ -46,7 +48,8 @@ impl Group {
 
     /// The number of a group of this form.
     fn value(self, digits: &[u8]) -> Option<u32>
-        ensures { MatchOption result (IsGroup self digits.now → ⊥) (λ n. IsGroup self digits.now × (n ≡ group_value self digits.now)) }
+        ensures { MatchOption result (IsGroup self digits.now → ⊥)
+            (λ n. IsGroup self digits.now × (n ≡ group_value self digits.now)) }
     {
         match self {
             Group::Octet => octet(digits),
@@ -57,7 +60,8 @@ impl Group {
 }
 
 fn octet(digits: &[u8]) -> Option<u32>
-    ensures { MatchOption result (IsGroup Octet digits.now → ⊥) (λ n. IsGroup Octet digits.now × (n ≡ digits_value 10 digits.now)) }
+    ensures { MatchOption result (IsGroup Octet digits.now → ⊥)
+        (λ n. IsGroup Octet digits.now × (n ≡ digits_value 10 digits.now)) }
 {
     match decimal(digits) {
         Ok(number) if number <= 255 => Some(number),
@@ -68,7 +72,9 @@ fn octet(digits: &[u8]) -> Option<u32>
 /// The number of so many hexadecimal digits at most.
 fn hexadecimal(most: usize, digits: &[u8]) -> Option<u32>
     requires { most ≤ 4 }
-    ensures { MatchOption result (IsNumeral 16 digits.now × (length digits.now ≤ most) → ⊥) (λ n. IsNumeral 16 digits.now × (length digits.now ≤ most) × (n ≡ digits_value 16 digits.now)) }
+    ensures { MatchOption result (IsNumeral 16 digits.now × (length digits.now ≤ most) → ⊥)
+        (λ n. IsNumeral 16 digits.now × (length digits.now ≤ most)
+        × (n ≡ digits_value 16 digits.now)) }
 {
     if digits.len() > most {
         return None;
@@ -112,7 +118,8 @@ fn before_zeros(form: Group, joined: Joined, zeros: u32) -> u128
 
 /// The address of two to four parts, the missing ones 0, and how many parts there are.
 pub(crate) fn dotted(word: &[u8]) -> Option<(u32, u8)>
-    ensures { MatchOption result ((address parts : ℕ) → IsDotted word.now address parts → ⊥) (λ dotted. IsDotted word.now dotted.0 dotted.1) }
+    ensures { MatchOption result ((address parts : ℕ) → IsDotted word.now address parts → ⊥)
+        (λ dotted. IsDotted word.now dotted.0 dotted.1) }
 {
     let joined = groups_of(Group::Octet, word)?;
     if joined.count < 2 || joined.count > 4 {
@@ -167,7 +174,9 @@ fn ip6_from_ends(front: &[u8], back: &[u8]) -> Option<u128>
 
 /// Where the first two colons stand.
 fn double_colon(word: &[u8]) -> Option<usize>
-    ensures { MatchOption result ((k : ℕ) → IsDoubleColon word.now k → ⊥) (λ i. (i + 1 < length word.now) × IsDoubleColon word.now i × ((k : ℕ) → k < i → IsDoubleColon word.now k → ⊥)) }
+    ensures { MatchOption result ((k : ℕ) → IsDoubleColon word.now k → ⊥)
+        (λ i. (i + 1 < length word.now) × IsDoubleColon word.now i
+        × ((k : ℕ) → k < i → IsDoubleColon word.now k → ⊥)) }
 {
     for i in 1..word.len() {
         if word[i - 1] == b':' && word[i] == b':' {

@@ -14,5 +14,6 @@ pub fn one_kind()
 
 /// A text has one list of tokens with places or one refusal, and never two answers.
 pub fn one_answer()
-    ensures { (text : List ℕ) (a b : Result (List Token) ExprFault) → Tokens text a → Tokens text b → a ≡ b }
+    ensures { (text : List ℕ) (a b : Result (List Token) ExprFault) → Tokens text a
+        → Tokens text b → a ≡ b }
 {}

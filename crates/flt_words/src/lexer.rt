@@ -1,9 +1,12 @@
 //! The tokens of a text.
 
-ghost use Rattle.std.specs.Prelude.{◌≡◌, ◌≢◌, ◌<◌, ◌+◌, ◌==◌, ◌≤◌, IfErr, IfOk, MatchOption, MatchResult, Ok, Err, None, Some, count_by, length, slice_index, take, false, true, ℕ};
+ghost use Rattle.std.specs.Prelude.{◌≡◌, ◌≢◌, ◌<◌, ◌+◌, ◌==◌, ◌≤◌, IfErr, IfOk, MatchOption};
+ghost use Rattle.std.specs.Prelude.{MatchResult, Ok, Err, None, Some, count_by, length};
+ghost use Rattle.std.specs.Prelude.{slice_index, take, false, true, ℕ};
 ghost use Rattle.flt_words.specs.Characters.{starts_word};
 ghost use Rattle.flt_words.specs.Spellings.{symbol_of};
-ghost use Rattle.flt_words.specs.Tokens.{IsLongest, IsPiece, IsRefused, IsToken, PieceMeans, Tokens};
+ghost use Rattle.flt_words.specs.Tokens.{IsLongest, IsPiece, IsRefused};
+ghost use Rattle.flt_words.specs.Tokens.{IsToken, PieceMeans, Tokens};
 
 use crate::character::{is_blank, starts_word, within_word};
 use crate::fault::ExprFault;
@@ -34,7 +37,8 @@ fn word_len(inside: bool, rest: &[u8]) -> usize
 
 /// The symbol of so many bytes with which a text begins.
 fn symbol_of_len(inside: bool, len: usize, rest: &[u8]) -> Option<TokenKind>
-    ensures { MatchOption result (len ≤ length rest.now → symbol_of inside (take len rest.now) ≡ None)
+    ensures { MatchOption result
+        (len ≤ length rest.now → symbol_of inside (take len rest.now) ≡ None)
         (λ kind. (len ≤ length rest.now) × (symbol_of inside (take len rest.now) ≡ Some kind)) }
 {
     if len > rest.len() {
@@ -46,8 +50,10 @@ fn symbol_of_len(inside: bool, len: usize, rest: &[u8]) -> Option<TokenKind>
 /// The longest symbol with which a text begins, and its length.
 fn symbol_at(inside: bool, rest: &[u8]) -> Option<(TokenKind, usize)>
     requires { starts_word inside (slice_index rest.now 0) ≡ false }
-    ensures { MatchOption result ((n : ℕ) → n ≤ length rest.now → IsPiece inside (take n rest.now) → ⊥)
-        (λ symbol. IsLongest inside rest.now symbol.1 × (symbol_of inside (take symbol.1 rest.now) ≡ Some symbol.0)) }
+    ensures { MatchOption result
+        ((n : ℕ) → n ≤ length rest.now → IsPiece inside (take n rest.now) → ⊥)
+        (λ symbol. IsLongest inside rest.now symbol.1
+        × (symbol_of inside (take symbol.1 rest.now) ≡ Some symbol.0)) }
 {
     if let Some(kind) = symbol_of_len(inside, 2, rest) {
         return Some((kind, 2));
@@ -59,7 +65,8 @@ fn symbol_at(inside: bool, rest: &[u8]) -> Option<(TokenKind, usize)>
 /// The token with which a text begins, and its length.
 fn token_at(inside: bool, place: u32, rest: &[u8]) -> Result<(TokenKind, usize), ExprFault>
     requires { 0 < length rest.now }
-    ensures { MatchResult result (λ token. IsToken inside place rest.now token.0 token.1) (IsRefused inside place rest.now) }
+    ensures { MatchResult result (λ token. IsToken inside place rest.now token.0 token.1)
+        (IsRefused inside place rest.now) }
 {
     if starts_word(inside, rest[0]) {
         let len = word_len(inside, rest);
@@ -72,7 +79,7 @@ fn token_at(inside: bool, place: u32, rest: &[u8]) -> Result<(TokenKind, usize),
     }
 }
 
-/// How often a byte stands in a piece.
+/// How often a byte is in a piece.
 fn count(byte: u8, piece: &[u8]) -> usize
     ensures value { result ≡ count_by (λ b. b == byte) piece.now }
     ensures few { result ≤ length piece.now }
@@ -82,9 +89,9 @@ fn count(byte: u8, piece: &[u8]) -> usize
 
 /// The tokens of a text, each with its place, or the leftmost refusal.
 ///
-/// A text over 65,536 bytes is `TooLong` (E1). Else the leftmost of these is told: a character that begins no token
-/// (E2), a word of no kind (E3), a number above 2^32 - 1 (E4). `Memory` comes in place of the answer where a token
-/// cannot be kept.
+/// A text over 65,536 bytes is `TooLong` (E1). Else the leftmost of these is reported: a character
+/// that begins no token (E2), a word of no kind (E3), a number above 2^32 - 1 (E4). `Memory` comes
+/// in place of the result where a token cannot be kept.
 pub fn lex<A: Allocator>(alloc: A, text: &str) -> Result<Vec<Token, A>, ExprFault>
     ensures ok { IfOk result (λ tokens. Tokens text.now (Ok tokens.items)) }
     ensures err { IfErr result (λ fault. fault ≢ ExprFault.Memory → Tokens text.now (Err fault)) }

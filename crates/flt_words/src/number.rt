@@ -1,10 +1,12 @@
 //! Numbers in words, and the range of two.
 
-ghost use Rattle.std.specs.Prelude.{◌≡◌, ◌≤◌, ◌<◌, ◌^◌, ◌+◌, ◌*◌, ◌&&◌, ◌==◌, IfSome, IfNone, position, true, nat_lt};
+ghost use Rattle.std.specs.Prelude.{◌≡◌, ◌≤◌, ◌<◌, ◌^◌, ◌+◌, ◌*◌, ◌&&◌, ◌==◌};
+ghost use Rattle.std.specs.Prelude.{IfSome, IfNone, position, true, nat_lt};
 ghost use Rattle.std.specs.Char.{digit_value};
 ghost use Rattle.std.specs.List.{list_all};
 ghost use Rattle.std.specs.Str.Parse.{digits_value};
-ghost use Rattle.flt_words.specs.Numbers.{Answers, IsNumber, IsRange, Writes, WritesDecimal, both, is_word_sized};
+ghost use Rattle.flt_words.specs.Numbers.{Answers, IsNumber, IsRange, Writes};
+ghost use Rattle.flt_words.specs.Numbers.{WritesDecimal, both, is_word_sized};
 
 /// Why a word has no value.
 #[derive(Clone, Copy)]
@@ -84,7 +86,8 @@ pub(crate) fn decimal(digits: &[u8]) -> Result<u32, WordFault>
     numeral(10, digits)
 }
 
-/// The number that a word spells as C does: decimal, octal after `0`, hexadecimal after `0x` or `0X`.
+/// The number that a word spells as C does: decimal, octal after `0`, hexadecimal after `0x` or
+/// `0X`.
 pub(crate) fn number(word: &[u8]) -> Result<u32, WordFault>
     ensures { Answers (IsNumber word.now) is_word_sized result }
 {
@@ -120,7 +123,8 @@ fn both(
 
 /// The two numbers that a dash joins.
 pub(crate) fn range(word: &[u8]) -> Result<(u32, u32), WordFault>
-    ensures { Answers (λ range. IsRange word.now range.0 range.1) (λ range. is_word_sized range.0 && is_word_sized range.1) result }
+    ensures { Answers (λ range. IsRange word.now range.0 range.1)
+        (λ range. is_word_sized range.0 && is_word_sized range.1) result }
 {
     match dash_in(word) {
         Some(dash) => both(decimal(&word[..dash]), decimal(&word[dash + 1..])),

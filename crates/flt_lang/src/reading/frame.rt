@@ -4,7 +4,8 @@
 
 ghost use Rattle.std.specs.Prelude.{◌≡◌, reverse};
 ghost use Rattle.flt_lang.specs.Grammar.{level};
-ghost use Rattle.flt_lang.specs.Machine.{looseness, room, reach_of, enclosed_operand, sort_of, node_of};
+ghost use Rattle.flt_lang.specs.Machine.{looseness, room, reach_of, enclosed_operand};
+ghost use Rattle.flt_lang.specs.Machine.{sort_of, node_of};
 
 use crate::node::Node;
 use flt_words::{Comparison, Join, Operator, Protocol, TokenKind};

@@ -1,8 +1,11 @@
-//! The steps of the parser. It goes over the tokens once, by operator precedence with one stack of
+//! The steps of the parser. It reads the tokens once, by operator precedence with one stack of
 //! frames, and decides late which sort an operand is of.
 
-ghost use Rattle.std.specs.Prelude.{◌≡◌, [], ◌∷◌, ◌<◌, ◌≤◌, Some, None, Err, IfOk, IfSome, OnOk, length, drop};
-ghost use Rattle.flt_lang.specs.Machine.{as_number, as_truth, as_sort, prefix_mask, fill, settle, waits, load_ends, size_of, closes, place_at, prefix_len, go_on, run, finish, all_run};
+ghost use Rattle.std.specs.Prelude.{◌≡◌, [], ◌∷◌, ◌<◌, ◌≤◌, Some, None, Err};
+ghost use Rattle.std.specs.Prelude.{IfOk, IfSome, OnOk, length, drop};
+ghost use Rattle.flt_lang.specs.Machine.{as_number, as_truth, as_sort, prefix_mask, fill, settle};
+ghost use Rattle.flt_lang.specs.Machine.{waits, load_ends, size_of, closes, place_at, prefix_len};
+ghost use Rattle.flt_lang.specs.Machine.{go_on, run, finish, all_run};
 
 use crate::node::Node;
 use crate::reading::fault::ReadFault;
@@ -118,7 +121,7 @@ impl<A: Allocator> Reader<A> {
     }
 
     /// The frames that bind at least as tightly as `reach` take the operand.
-    #[tactic(auto, using(crate::proofs::Settling::settle_taken, crate::proofs::Settling::settle_failed, crate::proofs::Settling::settle_stays))]
+    #[tactic(auto, using(crate::proofs::Settling::settling))]
     fn settle(&mut self, operand: Operand, reach: u8) -> Result<Operand, ReadFault>
         ensures ok { IfOk result (λ x. settle reach self.old.frames operand self.old.nodes
             ≡ Some (self.new.frames, x, self.new.nodes)) }

@@ -14,8 +14,8 @@ use std::alloc::{AllocError, Allocator};
 
 /// Reads the tokens of a whole expression.
 ///
-/// `NestedTooDeep` is told before anything else is looked at, `NotAnExpression` where the tokens
-/// have no tree. `Memory` comes in place of the answer where the nodes, or what waits for an
+/// `NestedTooDeep` is reported before anything else is looked at, `NotAnExpression` where the
+/// tokens have no tree. `Memory` comes in place of the result where the nodes, or what waits for an
 /// operand, cannot be kept.
 pub fn parse<A: Allocator + Clone>(alloc: A, tokens: &[Token]) -> Result<Expr<A>, ExprFault>
     ensures deep { (result ≡ Err ExprFault.NestedTooDeep) ↔ IsTooDeep tokens.now }
@@ -43,7 +43,7 @@ fn kinds_of<A: Allocator>(alloc: A, tokens: &[Token]) -> Result<Vec<TokenKind, A
 }
 
 /// The tree of the tokens.
-#[tactic(auto, using(crate::proofs::Parsing::no_tree, crate::proofs::Parsing::found_is_tree, crate::proofs::Parsing::found_reads))]
+#[tactic(auto, using(crate::proofs::Parsing::parsing))]
 fn read<A: Allocator + Clone>(alloc: A, tokens: &[Token]) -> Result<Expr<A>, ReadFault>
     ensures ok { IfOk result (λ tree. Reads (kinds_of tokens.now) tree) }
     ensures none { result ≡ Err ReadFault.NotAnExpression

@@ -1,10 +1,12 @@
 //! Values and what stands before them. Each reader takes as many tokens as it can, and says how
 //! many.
 
-ghost use Rattle.std.specs.Prelude.{◌≡◌, ◌∷◌, List, IsTrue, IfSome, IfNone, Some, None, length, drop, ◌<◌, ◌≤◌};
+ghost use Rattle.std.specs.Prelude.{◌≡◌, ◌∷◌, List, IsTrue, IfSome, IfNone};
+ghost use Rattle.std.specs.Prelude.{Some, None, length, drop, ◌<◌, ◌≤◌};
 ghost use Rattle.flt_words.specs.declared.token.TokenKind.{TokenKind};
 ghost use Rattle.flt_lang.specs.declared.quals.Quals.{Quals};
-ghost use Rattle.flt_lang.specs.Values.{quals_of, protocol_of, direction_of, type_of, mask_of, prefix_of, value_of};
+ghost use Rattle.flt_lang.specs.Values.{quals_of, protocol_of, direction_of, type_of};
+ghost use Rattle.flt_lang.specs.Values.{mask_of, prefix_of, value_of};
 ghost use Rattle.flt_lang.specs.Machine.{valued_of};
 
 use crate::quals::{Direction, Quals};

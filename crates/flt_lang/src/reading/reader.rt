@@ -1,6 +1,7 @@
 //! What the parser keeps while it reads.
 
-ghost use Rattle.std.specs.Prelude.{◌≡◌, ◌≤◌, ◌<◌, ◌∷◌, [], IfErr, IfNone, IfOk, IfSome, MatchOption, OnOk, length, reverse};
+ghost use Rattle.std.specs.Prelude.{◌≡◌, ◌≤◌, ◌<◌, ◌∷◌, [], IfErr, IfNone, IfOk};
+ghost use Rattle.std.specs.Prelude.{IfSome, MatchOption, OnOk, length, reverse};
 ghost use Rattle.flt_lang.specs.Machine.{IsLoose, looseness, room};
 ghost use Rattle.flt_lang.specs.Nodes.{IsTree, tree_of};
 

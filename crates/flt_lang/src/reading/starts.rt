@@ -1,9 +1,11 @@
 //! Where an operand begins.
 
-ghost use Rattle.std.specs.Prelude.{◌≡◌, ◌<◌, List, ◌∷◌, Some, None, Err, IfErr, IfOk, IfSome, OnOk, length};
+ghost use Rattle.std.specs.Prelude.{◌≡◌, ◌<◌, List, ◌∷◌, Some, None, Err};
+ghost use Rattle.std.specs.Prelude.{IfErr, IfOk, IfSome, OnOk, length};
 ghost use Rattle.flt_words.specs.declared.token.TokenKind.{TokenKind};
 ghost use Rattle.flt_lang.specs.declared.node.Node.{Node};
-ghost use Rattle.flt_lang.specs.Machine.{begin_at, protocol_begins, opening_of, number_of, sized_of, primitive, bare_of, one_node, with_frames};
+ghost use Rattle.flt_lang.specs.Machine.{begin_at, protocol_begins, opening_of, number_of};
+ghost use Rattle.flt_lang.specs.Machine.{sized_of, primitive, bare_of, one_node, with_frames};
 
 use crate::node::Node;
 use crate::reading::fault::ReadFault;

@@ -1,0 +1,39 @@
+-- The formula of ports, one or several, is that of their group.
+use Rattle.std.proofs.Common.{◌≡◌, ◌∙◌, sym, ap, List, [], ◌∷◌, length, arith}
+use Rattle.std.proofs.lemmas.Grind.{common_steps}
+use Rattle.flt_words.specs.declared.token.ValueType.TheVariants.{Port}
+use Rattle.flt_gen.specs.declared.elementary.PortTest.{PortTest}
+use Rattle.flt_gen.specs.declared.elementary.Ports.TheVariants.{One, Several}
+use Rattle.flt_gen.specs.Primitives.{port_test, port_formula}
+use Rattle.flt_gen.specs.Group.{group_formula}
+use Rattle.flt_gen.proofs.Joined.{one_port, several_ports, formula_put}
+use Rattle.flt_gen.proofs.value.put_group.Goals as goal
+use Rattle.flt_gen.proofs.value.put_group.Goals.{then-numbers-lt1, else-numbers-lt1+else-numbers-lt2}
+
+pub returns-in-len1-Port : goal.returns-in-len1-Port
+returns-in-len1-Port g c =
+    let a = c.args in
+    let group = a.group.now in
+    let p : PortTest = c.new-wanted.result in
+    let is_port : group.value_type ≡ Port = sym c.value_type.ensures ∙ c.in-len1-Port.is-1 in
+    let alone : length group.numbers ≡ 1 = (let l = c.in-len1-Port.len_at_least in let m = c.in-len1-Port.len_below in omega (arith, ap length c.numbers.ensures)) in
+    let same : p ≡ port_test group.protocol group.direction (One group.first) = cc (c.new-wanted.ensures, c.protocol-protocol.ensures, c.direction-direction.ensures, c.first-first.ensures) in
+    record {
+      code = formula_put c.put_ports.result a.context.link a.context.known (group_formula a.context.link group) (port_formula a.context.link p []) a.context.to.yes a.context.to.no a.code.now c.put_ports.new.code (one_port a.context.link group p is_port alone same) c.put_ports.ensures.code;
+      room = grind (arith, common_steps, c.put_ports.ensures.room);
+    }
+
+pub returns-in_default-Port : goal.returns-in_default-Port
+returns-in_default-Port g c =
+    let a = c.args in
+    let group = a.group.now in
+    let numbers = c.numbers.result.now in
+    let p : PortTest = c.new-wanted-in_default-Port.result in
+    let is_port : group.value_type ≡ Port = sym c.value_type.ensures ∙ c.in_default-Port.is-1 in
+    let more : length numbers ≡ 1 → ⊥ = elim c.if-numbers-lt1.branch [ then-numbers-lt1 w ↦ λ e. grind arith | else-numbers-lt1+else-numbers-lt2 w ↦ λ e. grind arith ] in
+    let not_alone : length group.numbers ≡ 1 → ⊥ = λ e. more (ap length c.numbers.ensures ∙ e) in
+    let same : p ≡ port_test group.protocol group.direction (Several group.first) = cc (c.new-wanted-in_default-Port.ensures, c.protocol-protocol.ensures, c.direction-direction.ensures, c.first-first.ensures) in
+    record {
+      code = formula_put c.put_ports-in_default-Port.result a.context.link a.context.known (group_formula a.context.link group) (port_formula a.context.link p numbers) a.context.to.yes a.context.to.no a.code.now c.put_ports-in_default-Port.new.code (several_ports a.context.link group p numbers is_port not_alone same c.numbers.ensures) c.put_ports-in_default-Port.ensures.code;
+      room = grind (arith, common_steps, c.put_ports-in_default-Port.ensures.room);
+    }
