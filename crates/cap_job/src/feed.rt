@@ -265,7 +265,13 @@ impl<I: Input, A: Allocator> Feed<I, A> {
             input,
         };
         let waits = head.waiting;
-        go_on(&mut self.queue, &mut self.place, entry, waits, is_end(result));
+        go_on(
+            &mut self.queue,
+            &mut self.place,
+            entry,
+            waits,
+            is_end(result),
+        );
         result
     }
 }

@@ -182,6 +182,8 @@ impl<I: Input, O: Output, E: Output, A: Allocator + Copy + Drop> PacketJob<I, O,
 
     /// One step on: reads one input on, decides one packet or ends the output, and reports how the
     /// job ended where it did. A message that can't be written is lost.
+    // Two calls a packet: in the loop they save about 70 instructions.
+    #[inline(always)]
     pub fn step(&mut self) -> Turn
         ensures after { (s : ℕ) → self.old.done ≡ Some s → (result ≡ Turn.Done s)
             × (self.new ≡ self.old) }
