@@ -13,19 +13,12 @@ use std::test::Fail;
 /// The greatest number that a range has.
 const LAST: u64 = (1 << 63) - 1;
 
-/// How many bytes the file header or section header of a format has, and how many of its first ones
-/// are the same for all captures: in pcap the link type comes last.
-fn header_sizes(format: Format) -> (usize, usize) {
+/// How many bytes the heading of a format has.
+fn heading_size(format: Format) -> usize {
     match format {
-        Format::Pcapng => (28, 28),
-        Format::Pcap | Format::NsecPcap => (24, 20),
+        Format::Pcapng => 28,
+        Format::Pcap | Format::NsecPcap => 24,
     }
-}
-
-/// Whether this is the header of a capture without packets, beside another one of this format.
-fn is_header(written: &[u8], other: &[u8], format: Format) -> bool {
-    let (size, fixed) = header_sizes(format);
-    written.len() == size && (other.is_empty() || written.get(..fixed) == other.get(..fixed))
 }
 
 /// The number of a link type that expressions know.
@@ -63,13 +56,12 @@ fn made(fuzzer: &mut Fuzzer<'_>, capture: &Capture) -> Result<(), Fail> {
     fuzzer.same(Property::Made, &capture.comments, &comments)
 }
 
-/// An edit of a capture that is cut short writes a prefix of what the edit of the whole one writes;
-/// where no packet is left, a header whose link type may be another one.
+/// An edit of a capture that is cut short writes a prefix of what the edit of the whole one writes.
 fn cut(fuzzer: &mut Fuzzer<'_>, bytes: &[u8], whole: &Outcome, format: Format) -> Result<(), Fail> {
     let size = fuzzer.random.place(bytes.len());
     let short = fuzzer.copy(bytes.get(..size).unwrap_or_default(), format)?;
-    let is_met = whole.written.starts_with(&short.written)
-        || is_header(&short.written, &whole.written, format);
+    let is_met = short.written.len() <= heading_size(format)
+        || whole.written.starts_with(&short.written);
     fuzzer.compare(Property::Cut, is_met, (&whole.written, &short.written))
 }
 
@@ -83,108 +75,6 @@ fn merged(
     let append = fuzzer.random.one_in(2);
     let merged = fuzzer.run(Command::Merge(Merge { append, format }), &[bytes])?;
     fuzzer.same_outcome(Property::Merged, whole, &merged)
-}
-
-/// Whether packets are those of two captures by their times: the next one is that of the capture
-/// whose greatest time up to it is the less, and of equal ones that of the first capture.
-fn are_by_times(first: &[Packet<'_>], second: &[Packet<'_>], found: &[Packet<'_>]) -> bool {
-    let (mut left, mut right) = (0usize, 0usize);
-    let (mut left_time, mut right_time) = (0u64, 0u64);
-    for packet in found {
-        let earlier = first.get(left).map(|packet| packet.time().max(left_time));
-        let later = second
-            .get(right)
-            .map(|packet| packet.time().max(right_time));
-        let is_first = match (earlier, later) {
-            (Some(earlier), Some(later)) => earlier <= later,
-            (earlier, _) => earlier.is_some(),
-        };
-        let is_met = if is_first {
-            left_time = earlier.unwrap_or(left_time);
-            takes(first, &mut left, packet)
-        } else {
-            right_time = later.unwrap_or(right_time);
-            takes(second, &mut right, packet)
-        };
-        if !is_met {
-            return false;
-        }
-    }
-    left == first.len() && right == second.len()
-}
-
-/// Two captures, and what their edits that change nothing wrote.
-#[derive(Clone, Copy)]
-struct Pair<'b> {
-    inputs: &'b [&'b [u8]; 2],
-    first: &'b Outcome,
-    second: &'b Outcome,
-}
-
-/// A merge of two captures, one behind the other, has the packets of the first one, and those of
-/// the second one where the first one has no fault.
-fn appended(fuzzer: &mut Fuzzer<'_>, pair: Pair<'_>) -> Result<(), Fail> {
-    let alloc = fuzzer.alloc;
-    let append = Command::Merge(Merge {
-        append: true,
-        format: Format::Pcapng,
-    });
-    let joined = fuzzer.run(append, pair.inputs)?;
-    let first = packets_of(alloc, &pair.first.written)?;
-    let second = packets_of(alloc, &pair.second.written)?;
-    let found = packets_of(alloc, &joined.written)?;
-    let (front, back) = found.list.split_at(first.list.len().min(found.list.len()));
-    let is_met = are_same(&first.list, front)
-        && if pair.first.status == 0 {
-            are_same(&second.list, back)
-        } else {
-            back.is_empty()
-        };
-    let sides = (pair.first.written.as_slice(), joined.written.as_slice());
-    fuzzer.compare(Property::Joined, is_met, sides)?;
-    fuzzer.same(Property::Joined, &pair.first.messages, &joined.messages)
-}
-
-/// A merge of two captures without a fault has the packets of both by their times.
-fn merged_by_times(fuzzer: &mut Fuzzer<'_>, pair: Pair<'_>) -> Result<(), Fail> {
-    let alloc = fuzzer.alloc;
-    let merge = Command::Merge(Merge {
-        append: false,
-        format: Format::Pcapng,
-    });
-    let merged = fuzzer.run(merge, pair.inputs)?;
-    let first = packets_of(alloc, &pair.first.written)?;
-    let second = packets_of(alloc, &pair.second.written)?;
-    let found = packets_of(alloc, &merged.written)?;
-    let is_met = are_by_times(&first.list, &second.list, &found.list);
-    let sides = (pair.first.written.as_slice(), merged.written.as_slice());
-    fuzzer.compare(Property::Joined, is_met, sides)
-}
-
-/// Compares merges of a capture and another one, which has no fault, with the edits of both.
-fn joined(fuzzer: &mut Fuzzer<'_>, bytes: &[u8], whole: &Outcome) -> Result<(), Fail> {
-    let other = make_capture(fuzzer.alloc, &mut fuzzer.random)?;
-    let copied = fuzzer.copy(&other.bytes, Format::Pcapng)?;
-    join(fuzzer, (bytes, whole), (&other.bytes, &copied))
-}
-
-/// Compares merges of two captures with the edits of both.
-fn join<'b>(
-    fuzzer: &mut Fuzzer<'_>,
-    (left, first): (&'b [u8], &'b Outcome),
-    (right, second): (&'b [u8], &'b Outcome),
-) -> Result<(), Fail> {
-    let inputs = [left, right];
-    let pair = Pair {
-        inputs: &inputs,
-        first,
-        second,
-    };
-    appended(fuzzer, pair)?;
-    if first.status != 0 {
-        return Ok(());
-    }
-    merged_by_times(fuzzer, pair)
 }
 
 /// What was written is read back as it is.
@@ -443,7 +333,6 @@ fn compare_runs(
         read_back(fuzzer, &whole, format)?;
     }
     let whole = fuzzer.copy(bytes, Format::Pcapng)?;
-    joined(fuzzer, bytes, &whole)?;
     numbered(fuzzer, bytes, &whole)?;
     counted(fuzzer, bytes, &whole)?;
     let matching = fuzzer.print(bytes, &expression.text, None, Some(Format::Pcapng))?;

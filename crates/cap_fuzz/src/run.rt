@@ -31,11 +31,10 @@ pub enum Property {
     Counted,
     Ended,
     Numbered,
-    Joined,
 }
 
 /// How many properties there are.
-pub const PROPERTIES: usize = 10;
+pub const PROPERTIES: usize = 9;
 
 /// Their names, in their order.
 pub const NAMES: [&str; PROPERTIES] = [
@@ -48,7 +47,6 @@ pub const NAMES: [&str; PROPERTIES] = [
     "reports and lines count alike",
     "a run ends with a status and its message",
     "ranges part the packets",
-    "a merge of two files has the packets of both",
 ];
 
 /// What a run leaves.
@@ -138,7 +136,7 @@ impl<'r> Fuzzer<'r> {
         self.random = Random::new(seed);
     }
 
-    /// Counts a comparison; where it differs its round and both sides are reported.
+    /// Counts a comparison; where it differs its round is told, and both sides.
     pub fn compare(
         &mut self,
         property: Property,

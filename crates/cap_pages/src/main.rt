@@ -28,7 +28,7 @@ fn check_width(text: &str) -> Result<(), Fail> {
     Ok(())
 }
 
-/// What clap prints for these words, of which an empty one is left out: help, or the version.
+/// What clap answers to these words, of which an empty one is left out: help, or the version.
 fn answer_to(alloc: Global, words: &[&str]) -> Result<String, Fail> {
     let mut line = Vec::new(alloc);
     for word in words {

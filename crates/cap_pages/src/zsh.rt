@@ -5,8 +5,7 @@ use crate::help_text;
 use std::alloc::{AllocError, Global};
 use std::test::Fail;
 
-/// The text as it stands between single quotes, where brackets and colons have a meaning of their
-/// own.
+/// The text as it stands between single quotes, where brackets and colons have a meaning of their own.
 fn escaped(alloc: Global, text: &str) -> Result<String, AllocError> {
     let mut escaped = String::new(alloc);
     for sign in text.chars() {
@@ -47,8 +46,7 @@ fn write_option(rt: &HostRuntime, option: &Entry<'_>, name: &str) -> Result<(), 
     Ok(())
 }
 
-/// Writes an argument: the last one stands for as many words as there are where its form ends with
-/// dots.
+/// Writes an argument: the last one stands for as many words as there are where its form ends with dots.
 fn write_argument(rt: &HostRuntime, argument: &Entry<'_>) -> Result<(), Fail> {
     let many = if argument.form.ends_with("...") {
         "*"
