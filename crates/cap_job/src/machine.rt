@@ -247,6 +247,7 @@ impl<I: Input, O: Output, A: Allocator + Copy + Drop> Machine<I, O, A> {
     }
 
     /// Reads one input on, decides one packet, or ends the output.
+    #[inline(always)]
     pub fn step(&mut self) -> Progress
         ensures told { IsTrue I.tells → IsTrue O.tells → StepGives (machine_stand self.old) result
             (machine_stand self.new) }
