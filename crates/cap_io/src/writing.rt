@@ -1,14 +1,13 @@
 //! Packets and headings to a device, in each format.
 ghost use Rattle.std.specs.Prelude.{◌≡◌, ◌+◌, ◌++◌, None, IsTrue};
 ghost use Rattle.cap_octet.specs.Checks.{checked, first_failing};
-ghost use Rattle.cap_octet.specs.Device.{AppendsOrStops, failures_of};
 ghost use Rattle.cap_octet.specs.Packet.{captured};
 ghost use Rattle.cap_pcap.specs.Written.{IsPcap, fit_checks, resolution_of};
 ghost use Rattle.cap_pcapng.specs.Written.{fit_checks as block_fit_checks};
 ghost use Rattle.cap_io.specs.Text.{heading, record_text};
-ghost use Rattle.cap_io.specs.Sink.{IsPutAnswer, WritesPacket, answer_of, block_checks, block_text};
+ghost use Rattle.cap_io.specs.Sink.{Appends, IsPutAnswer, WritesPacket, answer_of, block_text};
 ghost use Rattle.cap_io.specs.Sink.{description_text, checks_in, heading_in, interfaces_behind};
-ghost use Rattle.cap_io.specs.Sink.{interfaces_left, packet_in, record_checks, takes_memory_in};
+ghost use Rattle.cap_io.specs.Sink.{interfaces_left, packet_in, takes_memory_in};
 ghost use Rattle.cap_io.specs.Sink.{write_failures};
 
 use crate::numbering::{OutputInterfaces, Place};
@@ -53,10 +52,7 @@ pub(crate) fn write_heading<O: Output>(
     format: Format,
     link: u16,
 ) -> Result<(), DeviceFault>
-    ensures told { IsTrue O.tells → AppendsOrStops result (O.written output.old)
-        (heading format link) (O.written output.new) }
-    ensures failed { O.failures output.new ≡ O.failures output.old + failures_of result }
-    ensures room { O.room output.new ≡ O.room output.old }
+    ensures { Appends O.Output output.old (heading format link) result output.new }
 {
     match format {
         Format::Pcap => write_parts(output, &[&head_bytes(Format::Pcap, link)]),
@@ -72,10 +68,7 @@ fn start<O: Output>(
     state: SinkState,
     link: u16,
 ) -> Result<(), DeviceFault>
-    ensures told { IsTrue O.tells → AppendsOrStops result (O.written output.old)
-        (heading_in format state link) (O.written output.new) }
-    ensures failed { O.failures output.new ≡ O.failures output.old + failures_of result }
-    ensures room { O.room output.new ≡ O.room output.old }
+    ensures { Appends O.Output output.old (heading_in format state link) result output.new }
 {
     match state {
         SinkState::Empty => write_heading(output, format, link),
@@ -85,10 +78,8 @@ fn start<O: Output>(
 
 /// Writes the description of a packet's interface where it is new.
 fn describe<O: Output>(output: &mut O, is_new: bool, packet: &Packet<'_>) -> Result<(), DeviceFault>
-    ensures told { IsTrue O.tells → AppendsOrStops result (O.written output.old)
-        (description_text is_new (captured packet.now)) (O.written output.new) }
-    ensures failed { O.failures output.new ≡ O.failures output.old + failures_of result }
-    ensures room { O.room output.new ≡ O.room output.old }
+    ensures { Appends O.Output output.old (description_text is_new (captured packet.now)) result
+        output.new }
 {
     if !is_new {
         return Ok(());
@@ -108,11 +99,8 @@ fn write_record<O: Output>(
 ) -> Result<(), DeviceFault>
     requires form { IsPcap format }
     requires fits { first_failing (fit_checks (captured packet.now)) ≡ None }
-    ensures told { IsTrue O.tells → AppendsOrStops result (O.written output.old)
-        (heading_in format state packet.now.link ++ record_text (resolution_of format)
-        (captured packet.now)) (O.written output.new) }
-    ensures failed { O.failures output.new ≡ O.failures output.old + failures_of result }
-    ensures room { O.room output.new ≡ O.room output.old }
+    ensures { Appends O.Output output.old (heading_in format state packet.now.link
+        ++ record_text (resolution_of format) (captured packet.now)) result output.new }
 {
     let Ok(()) = start(output, format, state, packet.link) else {
         return Err(DeviceFault);
@@ -129,11 +117,8 @@ fn write_block<O: Output>(
     packet: &Packet<'_>,
 ) -> Result<(), DeviceFault>
     requires { first_failing (block_fit_checks (captured packet.now)) ≡ None }
-    ensures told { IsTrue O.tells → AppendsOrStops result (O.written output.old)
-        (heading_in Format.Pcapng state packet.now.link ++ block_text place (captured packet.now))
-        (O.written output.new) }
-    ensures failed { O.failures output.new ≡ O.failures output.old + failures_of result }
-    ensures room { O.room output.new ≡ O.room output.old }
+    ensures { Appends O.Output output.old (heading_in Format.Pcapng state packet.now.link
+        ++ block_text place (captured packet.now)) result output.new }
 {
     let Ok(()) = start(output, Format::Pcapng, state, packet.link) else {
         return Err(DeviceFault);
