@@ -149,7 +149,7 @@ impl<O: Output, A: Allocator> Sink<O, A> {
             (heading self.old.format link) self.new.written }
         ensures answer { FinishesEmpty self.old link result self.new }
     {
-        let Ok(()) = write_heading(&mut self.output, self.format, link) else {
+        let Ok(()) = write_heading(&mut self.output, self.format, SinkState::Empty, link) else {
             self.state = SinkState::Broken(Fault::WriteFailed);
             return Err(Fault::WriteFailed);
         };

@@ -4,7 +4,7 @@ ghost use Rattle.cap_octet.specs.Checks.{checked, first_failing};
 ghost use Rattle.cap_octet.specs.Packet.{captured};
 ghost use Rattle.cap_pcap.specs.Written.{IsPcap, fit_checks, resolution_of};
 ghost use Rattle.cap_pcapng.specs.Written.{fit_checks as block_fit_checks};
-ghost use Rattle.cap_io.specs.Text.{heading, record_text};
+ghost use Rattle.cap_io.specs.Text.{record_text};
 ghost use Rattle.cap_io.specs.Sink.{Appends, IsPutAnswer, WritesPacket, answer_of, block_text};
 ghost use Rattle.cap_io.specs.Sink.{description_text, checks_in, heading_in, interfaces_behind};
 ghost use Rattle.cap_io.specs.Sink.{interfaces_left, packet_in, takes_memory_in};
@@ -46,23 +46,8 @@ pub(crate) fn check<A: Allocator>(
     }
 }
 
-/// Writes a heading: a file header, or a section.
+/// Writes the heading where nothing was put: a file header, or a section.
 pub(crate) fn write_heading<O: Output>(
-    output: &mut O,
-    format: Format,
-    link: u16,
-) -> Result<(), DeviceFault>
-    ensures { Appends O.Output output.old (heading format link) result output.new }
-{
-    match format {
-        Format::Pcap => write_parts(output, &[&head_bytes(Format::Pcap, link)]),
-        Format::NsecPcap => write_parts(output, &[&head_bytes(Format::NsecPcap, link)]),
-        Format::Pcapng => write_parts(output, &[&section_bytes()]),
-    }
-}
-
-/// Writes the heading where nothing was put.
-fn start<O: Output>(
     output: &mut O,
     format: Format,
     state: SinkState,
@@ -71,8 +56,12 @@ fn start<O: Output>(
     ensures { Appends O.Output output.old (heading_in format state link) result output.new }
 {
     match state {
-        SinkState::Empty => write_heading(output, format, link),
         SinkState::Started(_) | SinkState::Broken(_) => Ok(()),
+        SinkState::Empty => match format {
+            Format::Pcap => write_parts(output, &[&head_bytes(Format::Pcap, link)]),
+            Format::NsecPcap => write_parts(output, &[&head_bytes(Format::NsecPcap, link)]),
+            Format::Pcapng => write_parts(output, &[&section_bytes()]),
+        },
     }
 }
 
@@ -102,9 +91,7 @@ fn write_record<O: Output>(
     ensures { Appends O.Output output.old (heading_in format state packet.now.link
         ++ record_text (resolution_of format) (captured packet.now)) result output.new }
 {
-    let Ok(()) = start(output, format, state, packet.link) else {
-        return Err(DeviceFault);
-    };
+    write_heading(output, format, state, packet.link)?;
     write_parts(output, &[&record_bytes(format, packet), packet.bytes])
 }
 
@@ -120,12 +107,8 @@ fn write_block<O: Output>(
     ensures { Appends O.Output output.old (heading_in Format.Pcapng state packet.now.link
         ++ block_text place (captured packet.now)) result output.new }
 {
-    let Ok(()) = start(output, Format::Pcapng, state, packet.link) else {
-        return Err(DeviceFault);
-    };
-    let Ok(()) = describe(output, place.is_new, packet) else {
-        return Err(DeviceFault);
-    };
+    write_heading(output, Format::Pcapng, state, packet.link)?;
+    describe(output, place.is_new, packet)?;
     let Ok(()) = cap_pcapng::write_packet(place.number, packet, output) else {
         return Err(DeviceFault);
     };
