@@ -1,12 +1,14 @@
 //! Blocks as they are written, all of them little-endian.
-ghost use Rattle.std.specs.Prelude.{◌≡◌, ◌+◌, ◌<◌, ◌^◌, ◌++◌, [], List, ℕ, length, replicate, IsTrue, IfErr, None};
+ghost use Rattle.std.specs.Prelude.{◌≡◌, ◌+◌, ◌<◌, ◌^◌, ◌++◌, length, replicate, IsTrue, IfErr, None};
 ghost use Rattle.std.specs.List.{flat_map};
 ghost use Rattle.byteorder.specs.Endian.{little_bytes};
 ghost use Rattle.cap_octet.specs.Checks.{checked, first_failing};
 ghost use Rattle.cap_octet.specs.Device.{WritesAll, failures_of};
 ghost use Rattle.cap_octet.specs.Packet.{captured};
 ghost use Rattle.cap_pcapng.specs.Padding.{padded};
-ghost use Rattle.cap_pcapng.specs.Written.{comment_text, end_text, fit_checks, interface_heading, interface_text, packet_heading, packet_text, resolution_text, section_text};
+ghost use Rattle.cap_pcapng.specs.Written.{comment_text, end_text, fit_checks, interface_heading};
+ghost use Rattle.cap_pcapng.specs.Written.{interface_text, packet_heading, packet_text};
+ghost use Rattle.cap_pcapng.specs.Written.{resolution_text, section_text};
 
 use crate::frames::MOST_BLOCK;
 use crate::options::padded_length;
