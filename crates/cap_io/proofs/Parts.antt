@@ -27,7 +27,7 @@ stops-front written part more written' stops =
       stops.2 ∙ ap (λ (l : List ℕ). written ++ l) (sym (take-append-le stops.0 part more (omega (arith, less)))),
     )
 
-stops-behind : (written done part mid written' : List ℕ) → mid ≡ written ++ done → Stops mid part written' → Stops written (done ++ part) written'
+pub stops-behind : (written done part mid written' : List ℕ) → mid ≡ written ++ done → Stops mid part written' → Stops written (done ++ part) written'
 stops-behind written done part mid written' first stops =
     let less : stops.0 < length part = stops.1 in (
       length done + stops.0,

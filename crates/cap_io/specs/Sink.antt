@@ -1,6 +1,6 @@
 -- What a contract sees of a sink, and what its calls do.
-use Rattle.std.specs.Prelude.{◌≡◌, ◌⊎◌, ◌==◌, ℕ, Bool, true, false, not, ◌+◌, ◌≤◌, List, [], ◌∷◌, ◌++◌, length, map, nat_le, Option, None, Some, Result, Ok, Err, OnOk, unwrap_or}
-use Rattle.cap_octet.specs.Device.{AppendsOrStops, Stops}
+use Rattle.std.specs.Prelude.{◌≡◌, ◌⊎◌, ◌==◌, ℕ, Bool, true, false, not, ◌+◌, ◌≤◌, List, [], ◌∷◌, ◌++◌, length, map, nat_le, Option, None, Some, Result, Ok, Err, IsTrue, OnOk, unwrap_or}
+use Rattle.cap_octet.specs.Device.{AppendsOrStops, Stops, failures_of}
 use Rattle.cap_octet.specs.Packet.{Captured}
 use Rattle.cap_octet.specs.declared.fault.Fault.{Fault}
 use Rattle.cap_octet.specs.declared.fault.Fault.TheVariants.{LinkTypesDiffer, NoMemory, TooManyOutputInterfaces, WriteFailed}
@@ -11,6 +11,7 @@ use Rattle.cap_pcap.specs.Written as pcap
 use Rattle.cap_pcap.specs.declared.head.Resolution.TheVariants.{Microseconds, Nanoseconds}
 use Rattle.cap_pcapng.specs.Written as pcapng
 use Rattle.cap_octet.specs.declared.device.DeviceFault.{DeviceFault}
+use Rattle.cap_octet.specs.declared.device.Output.{Ghosts}
 use Rattle.cap_io.specs.declared.numbering.Place.{Place}
 use Rattle.cap_io.specs.declared.sink.SinkState.{SinkState}
 use Rattle.cap_io.specs.declared.sink.SinkState.TheVariants.{Empty, Started, Broken}
@@ -206,6 +207,12 @@ description_text false p = []
 
 abbrev pub block_text : Place → Captured → List ℕ
 block_text place p = description_text place.is_new p ++ pcapng.packet_text place.number p
+
+-- These bytes are appended to a device; or a prefix of them, not the whole, where it failed.
+pub record Appends {Device : Type 0} (d : Ghosts Device) (old : Device) (bytes : List ℕ) (r : Result (Unit {0}) DeviceFault) (new : Device) : Type 0 where
+  pub told : IsTrue d.tells → AppendsOrStops r (d.written old) bytes (d.written new)
+  pub failed : d.failures new ≡ d.failures old + failures_of r
+  pub room : d.room new ≡ d.room old
 
 -- what a sink answers where its device was called
 abbrev pub answer_of : Result (Unit {0}) DeviceFault → Result (Unit {0}) Fault

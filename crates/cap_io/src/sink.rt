@@ -63,11 +63,10 @@ impl<O: Output, A: Allocator + Copy> Sink<O, A> {
 
 impl<O: Output, A: Allocator> Sink<O, A> {
     ghost use Rattle.std.specs.Prelude.{IsTrue};
-    ghost use Rattle.cap_octet.specs.Device.{AppendsOrStops};
     ghost use Rattle.cap_octet.specs.Packet.{captured};
-    ghost use Rattle.cap_io.specs.Text.{AreFew, heading};
+    ghost use Rattle.cap_io.specs.Text.{AreFew};
     ghost use Rattle.cap_io.specs.Sink.{Adds, Puts, PutWrites, WritesPacket, Finishes};
-    ghost use Rattle.cap_io.specs.Sink.{FinishesEmpty, FinishWrites, added_in, refusal_in};
+    ghost use Rattle.cap_io.specs.Sink.{FinishWrites, added_in, refusal_in};
 
     /// Writes a packet, the first one behind the heading; in pcapng behind the description of its
     /// interface where that is new. Nothing of a packet that is refused is written: by
@@ -104,7 +103,15 @@ impl<O: Output, A: Allocator> Sink<O, A> {
         match self.state {
             SinkState::Broken(fault) => Err(fault),
             SinkState::Started(_) => Ok(()),
-            SinkState::Empty => self.head(first.unwrap_or(ETHERNET)),
+            SinkState::Empty => {
+                let link = first.unwrap_or(ETHERNET);
+                let Ok(()) = write_heading(&mut self.output, self.format, self.state, link) else {
+                    self.state = SinkState::Broken(Fault::WriteFailed);
+                    return Err(Fault::WriteFailed);
+                };
+                self.state = SinkState::Started(link);
+                Ok(())
+            }
         }
     }
 
@@ -140,20 +147,6 @@ impl<O: Output, A: Allocator> Sink<O, A> {
         if let SinkState::Empty = self.state {
             self.state = SinkState::Started(packet.link);
         }
-        Ok(())
-    }
-
-    /// Writes the heading where nothing was put.
-    fn head(&mut self, link: u16) -> Result<(), Fault>
-        ensures told { IsTrue O.tells → AppendsOrStops result self.old.written
-            (heading self.old.format link) self.new.written }
-        ensures answer { FinishesEmpty self.old link result self.new }
-    {
-        let Ok(()) = write_heading(&mut self.output, self.format, link) else {
-            self.state = SinkState::Broken(Fault::WriteFailed);
-            return Err(Fault::WriteFailed);
-        };
-        self.state = SinkState::Started(link);
         Ok(())
     }
 }

@@ -1,14 +1,13 @@
 //! Packets and headings to a device, in each format.
 ghost use Rattle.std.specs.Prelude.{◌≡◌, ◌+◌, ◌++◌, None, IsTrue};
 ghost use Rattle.cap_octet.specs.Checks.{checked, first_failing};
-ghost use Rattle.cap_octet.specs.Device.{AppendsOrStops, failures_of};
 ghost use Rattle.cap_octet.specs.Packet.{captured};
 ghost use Rattle.cap_pcap.specs.Written.{IsPcap, fit_checks, resolution_of};
 ghost use Rattle.cap_pcapng.specs.Written.{fit_checks as block_fit_checks};
-ghost use Rattle.cap_io.specs.Text.{heading, record_text};
-ghost use Rattle.cap_io.specs.Sink.{IsPutAnswer, WritesPacket, answer_of, block_checks, block_text};
+ghost use Rattle.cap_io.specs.Text.{record_text};
+ghost use Rattle.cap_io.specs.Sink.{Appends, IsPutAnswer, WritesPacket, answer_of, block_text};
 ghost use Rattle.cap_io.specs.Sink.{description_text, checks_in, heading_in, interfaces_behind};
-ghost use Rattle.cap_io.specs.Sink.{interfaces_left, packet_in, record_checks, takes_memory_in};
+ghost use Rattle.cap_io.specs.Sink.{interfaces_left, packet_in, takes_memory_in};
 ghost use Rattle.cap_io.specs.Sink.{write_failures};
 
 use crate::numbering::{OutputInterfaces, Place};
@@ -17,34 +16,6 @@ use cap_octet::{DeviceFault, Fault, Format, Output, Packet, write_parts};
 use cap_pcap::{head_bytes, record_bytes};
 use cap_pcapng::{section_bytes, write_interface};
 use std::alloc::Allocator;
-
-/// The checks of a pcap form.
-fn check_record(format: Format, state: SinkState, packet: &Packet<'_>) -> Result<(), Fault>
-    requires { IsPcap format }
-    ensures { result ≡ checked (first_failing (record_checks state (captured packet.now))) tt }
-{
-    if let SinkState::Started(link) = state {
-        if link != packet.link {
-            return Err(Fault::LinkTypesDiffer);
-        }
-    }
-    cap_pcap::fits(format, packet)
-}
-
-/// The checks of pcapng.
-fn check_block<A: Allocator>(
-    interfaces: &OutputInterfaces<A>,
-    packet: &Packet<'_>,
-) -> Result<(), Fault>
-    ensures { result ≡ checked (first_failing (block_checks interfaces.now (captured packet.now)))
-        tt }
-{
-    cap_pcapng::fits(packet)?;
-    if !interfaces.has_room(packet) {
-        return Err(Fault::TooManyOutputInterfaces);
-    }
-    Ok(())
-}
 
 /// Whether a packet may be put, or the first check that it fails.
 pub(crate) fn check<A: Allocator>(
@@ -57,69 +28,47 @@ pub(crate) fn check<A: Allocator>(
         (captured packet.now))) tt }
 {
     match format {
-        Format::Pcap | Format::NsecPcap => check_record(format, state, packet),
-        Format::Pcapng => check_block(interfaces, packet),
+        Format::Pcap | Format::NsecPcap => {
+            if let SinkState::Started(link) = state {
+                if link != packet.link {
+                    return Err(Fault::LinkTypesDiffer);
+                }
+            }
+            cap_pcap::fits(format, packet)
+        }
+        Format::Pcapng => {
+            cap_pcapng::fits(packet)?;
+            if !interfaces.has_room(packet) {
+                return Err(Fault::TooManyOutputInterfaces);
+            }
+            Ok(())
+        }
     }
 }
 
-/// Writes a heading: a file header, or a section.
+/// Writes the heading where nothing was put: a file header, or a section.
 pub(crate) fn write_heading<O: Output>(
-    output: &mut O,
-    format: Format,
-    link: u16,
-) -> Result<(), DeviceFault>
-    ensures told { IsTrue O.tells → AppendsOrStops result (O.written output.old)
-        (heading format link) (O.written output.new) }
-    ensures failed { O.failures output.new ≡ O.failures output.old + failures_of result }
-    ensures room { O.room output.new ≡ O.room output.old }
-{
-    match format {
-        Format::Pcap => write_parts(output, &[&head_bytes(Format::Pcap, link)]),
-        Format::NsecPcap => write_parts(output, &[&head_bytes(Format::NsecPcap, link)]),
-        Format::Pcapng => write_parts(output, &[&section_bytes()]),
-    }
-}
-
-/// Writes the heading where nothing was put.
-fn start<O: Output>(
     output: &mut O,
     format: Format,
     state: SinkState,
     link: u16,
 ) -> Result<(), DeviceFault>
-    ensures told { IsTrue O.tells → AppendsOrStops result (O.written output.old)
-        (heading_in format state link) (O.written output.new) }
-    ensures failed { O.failures output.new ≡ O.failures output.old + failures_of result }
-    ensures room { O.room output.new ≡ O.room output.old }
+    ensures { Appends O.Output output.old (heading_in format state link) result output.new }
 {
     match state {
-        SinkState::Empty => write_heading(output, format, link),
         SinkState::Started(_) | SinkState::Broken(_) => Ok(()),
+        SinkState::Empty => match format {
+            Format::Pcap => write_parts(output, &[&head_bytes(Format::Pcap, link)]),
+            Format::NsecPcap => write_parts(output, &[&head_bytes(Format::NsecPcap, link)]),
+            Format::Pcapng => write_parts(output, &[&section_bytes()]),
+        },
     }
-}
-
-/// Writes a packet as a record of a pcap form.
-fn write_record<O: Output>(
-    output: &mut O,
-    format: Format,
-    packet: &Packet<'_>,
-) -> Result<(), DeviceFault>
-    requires form { IsPcap format }
-    requires fits { first_failing (fit_checks (captured packet.now)) ≡ None }
-    ensures told { IsTrue O.tells → AppendsOrStops result (O.written output.old)
-        (record_text (resolution_of format) (captured packet.now)) (O.written output.new) }
-    ensures failed { O.failures output.new ≡ O.failures output.old + failures_of result }
-    ensures room { O.room output.new ≡ O.room output.old }
-{
-    write_parts(output, &[&record_bytes(format, packet), packet.bytes])
 }
 
 /// Writes the description of a packet's interface where it is new.
 fn describe<O: Output>(output: &mut O, is_new: bool, packet: &Packet<'_>) -> Result<(), DeviceFault>
-    ensures told { IsTrue O.tells → AppendsOrStops result (O.written output.old)
-        (description_text is_new (captured packet.now)) (O.written output.new) }
-    ensures failed { O.failures output.new ≡ O.failures output.old + failures_of result }
-    ensures room { O.room output.new ≡ O.room output.old }
+    ensures { Appends O.Output output.old (description_text is_new (captured packet.now)) result
+        output.new }
 {
     if !is_new {
         return Ok(());
@@ -130,29 +79,8 @@ fn describe<O: Output>(output: &mut O, is_new: bool, packet: &Packet<'_>) -> Res
     Ok(())
 }
 
-/// Writes a packet as a block, behind the description of its interface where that is new.
-fn write_block<O: Output>(
-    output: &mut O,
-    place: Place,
-    packet: &Packet<'_>,
-) -> Result<(), DeviceFault>
-    requires { first_failing (block_fit_checks (captured packet.now)) ≡ None }
-    ensures told { IsTrue O.tells → AppendsOrStops result (O.written output.old)
-        (block_text place (captured packet.now)) (O.written output.new) }
-    ensures failed { O.failures output.new ≡ O.failures output.old + failures_of result }
-    ensures room { O.room output.new ≡ O.room output.old }
-{
-    let Ok(()) = describe(output, place.is_new, packet) else {
-        return Err(DeviceFault);
-    };
-    let Ok(()) = cap_pcapng::write_packet(place.number, packet, output) else {
-        return Err(DeviceFault);
-    };
-    Ok(())
-}
-
-/// Writes a packet in a pcap form, the first one behind the heading.
-fn add_record<O: Output>(
+/// Writes a packet as a record of a pcap form, the first one behind the heading.
+fn write_record<O: Output>(
     output: &mut O,
     format: Format,
     state: SinkState,
@@ -160,39 +88,34 @@ fn add_record<O: Output>(
 ) -> Result<(), DeviceFault>
     requires form { IsPcap format }
     requires fits { first_failing (fit_checks (captured packet.now)) ≡ None }
-    ensures told { IsTrue O.tells → AppendsOrStops result (O.written output.old)
-        (heading_in format state packet.now.link ++ record_text (resolution_of format)
-        (captured packet.now)) (O.written output.new) }
-    ensures failed { O.failures output.new ≡ O.failures output.old + failures_of result }
-    ensures room { O.room output.new ≡ O.room output.old }
+    ensures { Appends O.Output output.old (heading_in format state packet.now.link
+        ++ record_text (resolution_of format) (captured packet.now)) result output.new }
 {
-    let Ok(()) = start(output, format, state, packet.link) else {
-        return Err(DeviceFault);
-    };
-    write_record(output, format, packet)
+    write_heading(output, format, state, packet.link)?;
+    write_parts(output, &[&record_bytes(format, packet), packet.bytes])
 }
 
-/// Writes a packet in pcapng, the first one behind the heading.
-fn add_block<O: Output>(
+/// Writes a packet as a block, the first one behind the heading, behind the description of its
+/// interface where that is new.
+fn write_block<O: Output>(
     output: &mut O,
     state: SinkState,
     place: Place,
     packet: &Packet<'_>,
 ) -> Result<(), DeviceFault>
     requires { first_failing (block_fit_checks (captured packet.now)) ≡ None }
-    ensures told { IsTrue O.tells → AppendsOrStops result (O.written output.old)
-        (heading_in Format.Pcapng state packet.now.link ++ block_text place (captured packet.now))
-        (O.written output.new) }
-    ensures failed { O.failures output.new ≡ O.failures output.old + failures_of result }
-    ensures room { O.room output.new ≡ O.room output.old }
+    ensures { Appends O.Output output.old (heading_in Format.Pcapng state packet.now.link
+        ++ block_text place (captured packet.now)) result output.new }
 {
-    let Ok(()) = start(output, Format::Pcapng, state, packet.link) else {
+    write_heading(output, Format::Pcapng, state, packet.link)?;
+    describe(output, place.is_new, packet)?;
+    let Ok(()) = cap_pcapng::write_packet(place.number, packet, output) else {
         return Err(DeviceFault);
     };
-    write_block(output, place, packet)
+    Ok(())
 }
 
-/// What a sink answers where its device was called.
+/// What a sink returns where its device was called.
 fn as_fault(outcome: Result<(), DeviceFault>) -> Result<(), Fault>
     ensures { result ≡ answer_of outcome }
 {
@@ -202,31 +125,8 @@ fn as_fault(outcome: Result<(), DeviceFault>) -> Result<(), Fault>
     }
 }
 
-/// Writes a packet in pcapng, whose interface is numbered first. `NoMemory` comes where a new
-/// interface found none, with nothing written.
-fn number_and_add<O: Output, A: Allocator>(
-    output: &mut O,
-    interfaces: &mut OutputInterfaces<A>,
-    state: SinkState,
-    packet: &Packet<'_>,
-) -> Result<(), Fault>
-    requires { first_failing (block_checks interfaces.old (captured packet.now)) ≡ None }
-    ensures told { IsTrue O.tells → WritesPacket None (heading_in Format.Pcapng state
-        packet.now.link ++ packet_in Format.Pcapng interfaces.old (captured packet.now))
-        (O.written output.old) result (O.written output.new) }
-    ensures answer { IsPutAnswer None (takes_memory_in Format.Pcapng interfaces.old
-        (captured packet.now)) result }
-    ensures interfaces { interfaces.new ≡ interfaces_left result interfaces.old
-        (interfaces_behind Format.Pcapng interfaces.old (captured packet.now)) }
-    ensures failures { O.failures output.new ≡ O.failures output.old + write_failures result }
-    ensures room { O.room output.new ≡ O.room output.old }
-{
-    let place = interfaces.place(packet)?;
-    as_fault(add_block(output, state, place, packet))
-}
-
-/// Writes a packet that isn't refused, the first one behind the heading. `WriteFailed` comes where
-/// the device failed.
+/// Writes a packet that isn't refused, the first one behind the heading. Returns `WriteFailed` where
+/// the device failed; in pcapng `NoMemory`, with nothing written, where a new interface found none.
 pub(crate) fn write<O: Output, A: Allocator>(
     output: &mut O,
     interfaces: &mut OutputInterfaces<A>,
@@ -246,7 +146,10 @@ pub(crate) fn write<O: Output, A: Allocator>(
     ensures room { O.room output.new ≡ O.room output.old }
 {
     match format {
-        Format::Pcap | Format::NsecPcap => as_fault(add_record(output, format, state, packet)),
-        Format::Pcapng => number_and_add(output, interfaces, state, packet),
+        Format::Pcap | Format::NsecPcap => as_fault(write_record(output, format, state, packet)),
+        Format::Pcapng => {
+            let place = interfaces.place(packet)?;
+            as_fault(write_block(output, state, place, packet))
+        }
     }
 }

@@ -6,3 +6,4 @@ pub mod Units
 pub mod WholeBlocks
 pub mod WrittenBack
 pub mod WrittenBlocks
+pub mod WrittenPieces

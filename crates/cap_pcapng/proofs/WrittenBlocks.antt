@@ -1,23 +1,25 @@
--- A block is its head, its data and its end, joined.
-use Rattle.std.proofs.Common.{◌≡◌, ℕ, zero, suc, ◌+◌, ◌-◌, ◌<◌, List, [], ◌∷◌, ◌++◌, length, take, drop, replicate, refl, sym, ap, ap₂, ◌∙◌, arith, append_assoc, length-append, ne_eqb, ◌/◌, ◌%◌, ◌^◌}
-use Rattle.std.specs.Prelude.{◌==◌, false}
+-- A block is its pieces, joined.
+use Rattle.std.proofs.Common.{◌≡◌, ℕ, ◌+◌, ◌-◌, ◌<◌, ◌≤◌, List, [], ◌∷◌, ◌++◌, length, take, drop, replicate, refl, sym, ap, ap₂, ◌∙◌, arith, append_assoc, length-append, ne_eqb, ◌/◌, ◌%◌, ◌^◌}
+use Rattle.std.specs.Prelude.{◌==◌, false, true}
 use Rattle.std.proofs.lemmas.Bool.{false≢true}
-use Rattle.std.proofs.lemmas.List.{append-nil, length-replicate, take_all}
+use Rattle.std.proofs.lemmas.List.{append-nil, drop_at, length-replicate, replicate-append-replicate, take_all}
 use Rattle.byteorder.specs.Endian.{little_bytes}
 use Rattle.cap_octet.specs.Packet.{Captured}
 use Rattle.cap_pcapng.specs.Padding.{padded}
-use Rattle.cap_pcapng.specs.Written.{comment_text, end_text, interface_body, interface_heading, interface_text, packet_body, packet_heading, packet_text, padded_text, resolution_text}
+use Rattle.cap_pcapng.specs.Written.{comment_text, end_text, interface_body, interface_heading, interface_text, name_text, packet_body, packet_heading, packet_text, padded_text, resolution_text}
 
--- what is left of three zeros in front of more bytes
-block_end : (padding n : ℕ) (more end : List ℕ) → padding < 4 → end ≡ replicate 3 0 ++ more → n ≡ 3 + length more
-    → take (n - (3 - padding)) (drop (3 - padding) end) ≡ replicate padding 0 ++ more
-block_end zero n more end few is size = ap (λ t. take (n - (3 - 0)) (drop (3 - 0) t)) is ∙ take_all (n - 3) more (omega arith)
-block_end (suc zero) n more end few is size = ap (λ t. take (n - (3 - 1)) (drop (3 - 1) t)) is ∙ take_all (n - 2) (0 ∷ more) (omega arith)
-block_end (suc (suc zero)) n more end few is size =
-    ap (λ t. take (n - (3 - 2)) (drop (3 - 2) t)) is ∙ take_all (n - 1) (0 ∷ 0 ∷ more) (omega arith)
-block_end (suc (suc (suc zero))) n more end few is size =
-    ap (λ t. take (n - (3 - 3)) (drop (3 - 3) t)) is ∙ take_all (n - 0) (0 ∷ 0 ∷ 0 ∷ more) (omega arith)
-block_end (suc (suc (suc (suc k)))) n more end few is size = absurd (omega arith)
+-- the last of the zeros in front of more bytes, and these
+block_end : (k zeros n : ℕ) (more end : List ℕ) → zeros ≤ k → end ≡ replicate k 0 ++ more → n ≡ k + length more
+    → take (n - (k - zeros)) (drop (k - zeros) end) ≡ replicate zeros 0 ++ more
+block_end k zeros n more end few is size =
+    let split : k ≡ k - zeros + zeros = omega arith in
+    let parts : end ≡ replicate (k - zeros) 0 ++ (replicate zeros 0 ++ more) =
+    is ∙ ap (λ (m : ℕ). replicate m 0 ++ more) split
+    ∙ ap (λ (l : List ℕ). l ++ more) (sym (replicate-append-replicate (k - zeros) zeros 0))
+    ∙ append_assoc (replicate (k - zeros) 0) (replicate zeros 0) more in
+    ap (λ (l : List ℕ). take (n - (k - zeros)) (drop (k - zeros) l)) parts
+    ∙ ap (λ (l : List ℕ). take (n - (k - zeros)) l) (drop_at (replicate (k - zeros) 0) (replicate zeros 0 ++ more) (k - zeros) (length-replicate (k - zeros) 0))
+    ∙ take_all (n - (k - zeros)) (replicate zeros 0 ++ more) (simp (length-append, length-replicate) (omega arith))
 
 pub length-packet_body : (number : ℕ) (p : Captured) → length (packet_body number p) ≡ 20 + padded (length p.bytes) + length (comment_text p.comment)
 length-packet_body number p =
@@ -33,89 +35,87 @@ pub comment_text-whole : (comment : List ℕ) → length (comment_text comment) 
 comment_text-whole [] = refl
 comment_text-whole (b ∷ bytes) = let size : length (comment_text (b ∷ bytes)) ≡ 8 + padded (length (b ∷ bytes)) = length-comment_text (b ∷ bytes) (ne_eqb (length (b ∷ bytes)) 0 (λ is. absurd (omega arith))) in omega arith
 
-packet_pieces : (number size padding : ℕ) (p : Captured) → p.comment ≡ [] → size ≡ 32 + length p.bytes + padding → length p.bytes + padding ≡ padded (length p.bytes)
-    → packet_heading size number p ++ p.bytes ++ (replicate padding 0 ++ little_bytes 4 size) ≡ packet_text number p
-packet_pieces number size padding p plain size_is padding_is =
-    let none : length (comment_text p.comment) ≡ 0 = ap (λ c. length (comment_text c)) plain in
-    let whole : size ≡ 12 + length (packet_body number p) = omega (arith, length-packet_body number p) in
-    let zeros : padding ≡ padded (length p.bytes) - length p.bytes = omega arith in
-    ap (λ t. packet_heading size number p ++ t) (sym (append_assoc p.bytes (replicate padding 0) (little_bytes 4 size)))
-    ∙ ap (λ (n : ℕ). packet_heading size number p ++ (p.bytes ++ replicate n 0 ++ little_bytes 4 size)) zeros
-    ∙ ap (λ (t : List ℕ). packet_heading size number p ++ (t ++ little_bytes 4 size)) (sym (append-nil (padded_text p.bytes)) ∙ ap (λ (c : List ℕ). padded_text p.bytes ++ comment_text c) (sym plain))
+-- ---- what is behind a packet's data: padding and a comment
+
+pub plain_behind : (padding : ℕ) (bytes comment : List ℕ) → (length comment == 0) ≡ true → length bytes + padding ≡ padded (length bytes)
+    → comment ++ replicate padding 0 ≡ replicate (padded (length bytes) - length bytes) 0 ++ comment_text comment
+plain_behind padding bytes [] none padding_is =
+    let zeros : padding ≡ padded (length bytes) - length bytes = omega arith in
+    ap (λ (n : ℕ). replicate n 0) zeros ∙ sym (append-nil (replicate (padded (length bytes) - length bytes) 0))
+plain_behind padding bytes (b ∷ more) none padding_is = absurd (false≢true (sym (ne_eqb (length (b ∷ more)) 0 (λ is. absurd (omega arith))) ∙ none))
+
+commented : (zeros head comment more end : List ℕ) → (zeros ++ head) ++ (comment ++ (more ++ end)) ≡ zeros ++ (head ++ (comment ++ more) ++ end)
+commented zeros head comment more end = simp append_assoc
+
+pub comment_behind : (padding behind : ℕ) (bytes comment option : List ℕ) → (length comment == 0) ≡ false → padding < 4
+    → length bytes + padding ≡ padded (length bytes) → length comment + behind ≡ padded (length comment)
+    → option ≡ replicate 3 0 ++ (little_bytes 2 1 ++ little_bytes 2 (length comment))
+    → take (7 - (3 - padding)) (drop (3 - padding) option) ++ (comment ++ replicate (behind + 4) 0)
+    ≡ replicate (padded (length bytes) - length bytes) 0 ++ comment_text comment
+comment_behind padding behind bytes [] option some few padding_is behind_is option_is = absurd (false≢true (sym some))
+comment_behind padding behind bytes (b ∷ rest) option some few padding_is behind_is option_is =
+    let comment : List ℕ = b ∷ rest in
+    let head : List ℕ = little_bytes 2 1 ++ little_bytes 2 (length comment) in
+    let zeros : padding ≡ padded (length bytes) - length bytes = omega arith in
+    let more : behind ≡ padded (length comment) - length comment = omega arith in
+    ap₂ (λ (o z : List ℕ). o ++ (comment ++ z)) (block_end 3 padding 7 head option (omega arith) option_is refl) (sym (replicate-append-replicate behind 4 0))
+    ∙ commented (replicate padding 0) head comment (replicate behind 0) end_text
+    ∙ ap₂ (λ (n m : ℕ). replicate n 0 ++ (head ++ (comment ++ replicate m 0) ++ end_text)) zeros more
+
+pieces : (bytes option comment zeros size : List ℕ)
+    → bytes ++ (option ++ (comment ++ ((zeros ++ size) ++ []))) ≡ bytes ++ (option ++ (comment ++ zeros)) ++ size
+pieces bytes option comment zeros size = simp (append_assoc, append-nil)
+
+-- a packet's block is its pieces, joined
+pub packet_joined : (number zeros : ℕ) (p : Captured) (head option end : List ℕ) → zeros ≤ 7
+    → option ++ (p.comment ++ replicate zeros 0) ≡ replicate (padded (length p.bytes) - length p.bytes) 0 ++ comment_text p.comment
+    → head ≡ packet_heading (32 + length p.bytes + length option + length p.comment + zeros) number p
+    → end ≡ replicate 7 0 ++ little_bytes 4 (32 + length p.bytes + length option + length p.comment + zeros)
+    → head ++ (p.bytes ++ (option ++ (p.comment ++ (take (11 - (7 - zeros)) (drop (7 - zeros) end) ++ [])))) ≡ packet_text number p
+packet_joined number zeros p head option end few behind head_is end_is =
+    let size : ℕ = 32 + length p.bytes + length option + length p.comment + zeros in
+    let padding : List ℕ = replicate (padded (length p.bytes) - length p.bytes) 0 in
+    let sizes = simp (length-append, length-replicate) at (ap length behind) in
+    let whole : size ≡ 12 + length (packet_body number p) = omega (arith, sizes, length-packet_body number p) in
+    ap₂ (λ (h t : List ℕ). h ++ (p.bytes ++ (option ++ (p.comment ++ (t ++ []))))) head_is (block_end 7 zeros 11 (little_bytes 4 size) end few end_is refl)
+    ∙ ap (λ (t : List ℕ). packet_heading size number p ++ t)
+    (pieces p.bytes option p.comment (replicate zeros 0) (little_bytes 4 size)
+    ∙ ap (λ (t : List ℕ). p.bytes ++ t ++ little_bytes 4 size) behind
+    ∙ ap (λ (t : List ℕ). t ++ little_bytes 4 size) (sym (append_assoc p.bytes padding (comment_text p.comment))))
     ∙ ap (λ (s : ℕ). little_bytes 4 6 ++ little_bytes 4 s ++ packet_body number p ++ little_bytes 4 s) whole
 
-comment_written : (comment : List ℕ) → (length comment == 0) ≡ false
-    → little_bytes 2 1 ++ little_bytes 2 (length comment) ++ (comment ++ replicate (padded (length comment) - length comment) 0) ++ end_text ≡ comment_text comment
-comment_written [] some = absurd (false≢true (sym some))
-comment_written (b ∷ bytes) some = refl
-
--- the pieces of a body with a comment, and the end of its block
-commented : (bytes zeros head comment more end size : List ℕ)
-    → bytes ++ (zeros ++ head) ++ comment ++ (more ++ (end ++ size)) ≡ bytes ++ zeros ++ (head ++ (comment ++ more) ++ end) ++ size
-commented bytes zeros head comment more end size = simp append_assoc
-
-commented_pieces : (number size padding behind : ℕ) (p : Captured) → (length p.comment == 0) ≡ false → size ≡ 40 + length p.bytes + padding + length p.comment + behind
-    → length p.bytes + padding ≡ padded (length p.bytes) → length p.comment + behind ≡ padded (length p.comment)
-    → packet_heading size number p ++ (p.bytes ++ (replicate padding 0 ++ (little_bytes 2 1 ++ little_bytes 2 (length p.comment))) ++ p.comment
-    ++ (replicate behind 0 ++ (end_text ++ little_bytes 4 size))) ≡ packet_text number p
-commented_pieces number size padding behind p some size_is padding_is behind_is =
-    let long : length (comment_text p.comment) ≡ 8 + padded (length p.comment) = length-comment_text p.comment some in
-    let whole : size ≡ 12 + length (packet_body number p) = omega (arith, long, length-packet_body number p) in
-    let zeros : padding ≡ padded (length p.bytes) - length p.bytes = omega arith in
-    let more : behind ≡ padded (length p.comment) - length p.comment = omega arith in
-    ap (λ t. packet_heading size number p ++ t)
-    (commented p.bytes (replicate padding 0) (little_bytes 2 1 ++ little_bytes 2 (length p.comment)) p.comment (replicate behind 0) end_text (little_bytes 4 size)
-    ∙ ap₂ (λ (n m : ℕ). p.bytes ++ replicate n 0 ++ (little_bytes 2 1 ++ little_bytes 2 (length p.comment) ++ (p.comment ++ replicate m 0) ++ end_text) ++ little_bytes 4 size) zeros more
-    ∙ ap (λ (t : List ℕ). padded_text p.bytes ++ t ++ little_bytes 4 size) (comment_written p.comment some))
-    ∙ ap (λ (s : ℕ). little_bytes 4 6 ++ little_bytes 4 s ++ packet_body number p ++ little_bytes 4 s) whole
-
-regrouped : (name zeros r e s : List ℕ) → name ++ (zeros ++ (r ++ e ++ s)) ≡ name ++ zeros ++ r ++ e ++ s
-regrouped name zeros r e s = simp append_assoc
+-- ---- an interface
 
 pub length-interface_body : (link snap b : ℕ) (bytes : List ℕ) → length (interface_body link snap (b ∷ bytes)) ≡ 24 + padded (length (b ∷ bytes))
 length-interface_body link snap b bytes = simp (length-append, length-replicate) (omega arith)
 
-interface_pieces : (link snap size padding : ℕ) (name : List ℕ) → (length name == 0) ≡ false → size ≡ 36 + length name + padding
-    → length name + padding ≡ padded (length name)
-    → interface_heading size link snap (length name) ++ name ++ (replicate padding 0 ++ (resolution_text ++ end_text ++ little_bytes 4 size))
-    ≡ interface_text link snap name
-interface_pieces link snap size padding [] some size_is padding_is = absurd (false≢true (sym some))
-interface_pieces link snap size padding (b ∷ bytes) some size_is padding_is =
-    let name : List ℕ = b ∷ bytes in
-    let whole : size ≡ 12 + length (interface_body link snap name) = omega (arith, length-interface_body link snap b bytes) in
-    let zeros : padding ≡ padded (length name) - length name = omega arith in
-    ap (λ t. interface_heading size link snap (length name) ++ t) (regrouped name (replicate padding 0) resolution_text end_text (little_bytes 4 size))
-    ∙ ap (λ (n : ℕ). interface_heading size link snap (length name) ++ (name ++ replicate n 0 ++ resolution_text ++ end_text ++ little_bytes 4 size)) zeros
+pub unnamed : (padding : ℕ) (name : List ℕ) → (length name == 0) ≡ true → length name + padding ≡ padded (length name) → name ++ replicate padding 0 ≡ name_text name
+unnamed padding [] none padding_is = let zero_is : padding ≡ 0 = omega arith in ap (λ (n : ℕ). replicate n 0) zero_is
+unnamed padding (b ∷ bytes) none padding_is = absurd (false≢true (sym (ne_eqb (length (b ∷ bytes)) 0 (λ is. absurd (omega arith))) ∙ none))
+
+pub named : (padding : ℕ) (name option : List ℕ) → (length name == 0) ≡ false → length name + padding ≡ padded (length name)
+    → option ≡ replicate 3 0 ++ (little_bytes 2 2 ++ little_bytes 2 (length name))
+    → take (7 - 3) (drop 3 option) ++ (name ++ replicate padding 0) ≡ name_text name
+named padding [] option some padding_is option_is = absurd (false≢true (sym some))
+named padding (b ∷ bytes) option some padding_is option_is =
+    let zeros : padding ≡ padded (length (b ∷ bytes)) - length (b ∷ bytes) = omega arith in
+    ap₂ (λ (o : List ℕ) (n : ℕ). o ++ ((b ∷ bytes) ++ replicate n 0)) (block_end 3 0 7 _ option (omega arith) option_is refl) zeros
+
+regrouped : (option name zeros r e s : List ℕ)
+    → option ++ (name ++ ((zeros ++ (r ++ e ++ s)) ++ [])) ≡ (option ++ (name ++ zeros)) ++ r ++ e ++ s
+regrouped option name zeros r e s = simp (append_assoc, append-nil)
+
+-- an interface's block is its pieces, joined
+pub interface_joined : (link snap padding : ℕ) (name head option end : List ℕ) → padding < 4 → option ++ (name ++ replicate padding 0) ≡ name_text name
+    → head ≡ interface_heading (32 + length option + length name + padding) link snap
+    → end ≡ replicate 3 0 ++ (resolution_text ++ end_text ++ little_bytes 4 (32 + length option + length name + padding))
+    → head ++ (option ++ (name ++ (take (19 - (3 - padding)) (drop (3 - padding) end) ++ []))) ≡ interface_text link snap name
+interface_joined link snap padding name head option end few name_is head_is end_is =
+    let size : ℕ = 32 + length option + length name + padding in
+    let sizes = simp (length-append, length-replicate) at (ap length name_is) in
+    let body : length (interface_body link snap name) ≡ length (name_text name) + 20 = simp (length-append) (omega arith) in
+    let whole : size ≡ 12 + length (interface_body link snap name) = omega (arith, sizes, body) in
+    ap₂ (λ (h t : List ℕ). h ++ (option ++ (name ++ (t ++ [])))) head_is (block_end 3 padding 19 _ end (omega arith) end_is refl)
+    ∙ ap (λ (t : List ℕ). interface_heading size link snap ++ t) (regrouped option name (replicate padding 0) resolution_text end_text (little_bytes 4 size))
+    ∙ ap (λ (t : List ℕ). interface_heading size link snap ++ (t ++ resolution_text ++ end_text ++ little_bytes 4 size)) name_is
     ∙ ap (λ (s : ℕ). little_bytes 4 1 ++ little_bytes 4 s ++ interface_body link snap name ++ little_bytes 4 s) whole
-
--- the three pieces of a block, as they are written
-pub packet_joined : (number padding : ℕ) (p : Captured) (head end : List ℕ) → p.comment ≡ [] → padding < 4 → length p.bytes + padding ≡ padded (length p.bytes)
-    → head ≡ packet_heading (32 + length p.bytes + padding) number p
-    → end ≡ replicate 3 0 ++ little_bytes 4 (32 + length p.bytes + padding)
-    → head ++ p.bytes ++ take (7 - (3 - padding)) (drop (3 - padding) end) ≡ packet_text number p
-packet_joined number padding p head end plain few padding_is head_is end_is =
-    ap₂ (λ (h t : List ℕ). h ++ p.bytes ++ t) head_is (block_end padding 7 _ end few end_is refl)
-    ∙ packet_pieces number _ padding p plain refl padding_is
-
--- the five pieces of a packet's block with a comment
-pub commented_joined : (number padding behind : ℕ) (p : Captured) (head option end : List ℕ) → (length p.comment == 0) ≡ false → padding < 4 → behind < 4
-    → length p.bytes + padding ≡ padded (length p.bytes) → length p.comment + behind ≡ padded (length p.comment)
-    → head ≡ packet_heading (40 + length p.bytes + padding + length p.comment + behind) number p
-    → option ≡ replicate 3 0 ++ (little_bytes 2 1 ++ little_bytes 2 (length p.comment))
-    → end ≡ replicate 3 0 ++ (end_text ++ little_bytes 4 (40 + length p.bytes + padding + length p.comment + behind))
-    → head ++ p.bytes ++ take (7 - (3 - padding)) (drop (3 - padding) option) ++ p.comment ++ take (11 - (3 - behind)) (drop (3 - behind) end)
-    ≡ packet_text number p
-commented_joined number padding behind p head option end some few less padding_is behind_is head_is option_is end_is =
-    ap₂ (λ (h t : List ℕ). h ++ p.bytes ++ t ++ p.comment ++ take (11 - (3 - behind)) (drop (3 - behind) end)) head_is (block_end padding 7 _ option few option_is refl)
-    ∙ ap (λ (t : List ℕ). packet_heading (40 + length p.bytes + padding + length p.comment + behind) number p ++ p.bytes
-    ++ (replicate padding 0 ++ (little_bytes 2 1 ++ little_bytes 2 (length p.comment))) ++ p.comment ++ t) (block_end behind 11 _ end less end_is refl)
-    ∙ commented_pieces number _ padding behind p some refl padding_is behind_is
-
-pub interface_joined : (link snap padding : ℕ) (name head end : List ℕ) → (length name == 0) ≡ false → padding < 4
-    → length name + padding ≡ padded (length name)
-    → head ≡ interface_heading (36 + length name + padding) link snap (length name)
-    → end ≡ replicate 3 0 ++ (resolution_text ++ end_text ++ little_bytes 4 (36 + length name + padding))
-    → head ++ name ++ take (19 - (3 - padding)) (drop (3 - padding) end) ≡ interface_text link snap name
-interface_joined link snap padding name head end some few padding_is head_is end_is =
-    ap₂ (λ (h t : List ℕ). h ++ name ++ t) head_is (block_end padding 19 _ end few end_is refl)
-    ∙ interface_pieces link snap _ padding name some refl padding_is

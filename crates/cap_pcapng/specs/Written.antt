@@ -46,11 +46,10 @@ interface_body link snap name =
 abbrev pub interface_text : (link snap : ℕ) → (name : List ℕ) → List ℕ
 interface_text link snap name = block_text 1 (interface_body link snap name)
 
--- what of it stands in front of a name of this length, in a block of this total length
-abbrev pub interface_heading : (size link snap len : ℕ) → List ℕ
-interface_heading size link snap len =
+-- what of it is in front of the options, in a block of this total length
+abbrev pub interface_heading : (size link snap : ℕ) → List ℕ
+interface_heading size link snap =
     little_bytes 4 1 ++ little_bytes 4 size ++ little_bytes 2 link ++ little_bytes 2 0 ++ little_bytes 4 snap
-    ++ little_bytes 2 name_code ++ little_bytes 2 len
 
 -- a comment and the end of the options; one that is empty isn't written
 abbrev pub comment_text : List ℕ → List ℕ

@@ -1,25 +1,31 @@
-use Rattle.std.proofs.Common.{◌<◌, ◌∙◌, sym, List, ℕ, subst, length, IfErr}
+use Rattle.std.proofs.Common.{◌≡◌, [], ◌++◌, ◌-◌, ◌<◌, List, ℕ, length, take, drop, replicate, IfErr, subst, sym, ◌∙◌}
 use Rattle.cap_octet.specs.Device.{WritesAll}
 use Rattle.cap_octet.specs.declared.device.Stopped.{Stopped}
-use Rattle.cap_pcapng.proofs.WrittenBlocks.{interface_joined}
+use Rattle.cap_pcapng.specs.Written.{interface_text, name_text}
+use Rattle.cap_pcapng.proofs.WrittenBlocks.{interface_joined, named, unnamed}
+use Rattle.cap_pcapng.proofs.write.write_interface.Given.{Over}
+use Rattle.cap_pcapng.proofs.write.write_interface.Goals.{then-is_empty, else-is_empty}
 use Rattle.cap_pcapng.proofs.write.write_interface.Goals as goal
+
+joined : (g : Over) (c : goal.After-write_pieces g) → c.interface_head-head.result
+    ++ (c.if-is_empty.option.now ++ (c.args.packet.now.name.now ++ (take (19 - (3 - c.padding_behind-padding.result)) (drop (3 - c.padding_behind-padding.result) c.interface_end-end.result) ++ [])))
+    ≡ interface_text c.args.packet.now.link c.args.packet.now.snap c.args.packet.now.name.now
+joined g c =
+    let name : List ℕ = c.args.packet.now.name.now in
+    let padding = c.padding_behind-padding.ensures in
+    let name_is : c.if-is_empty.option.now ++ (name ++ replicate c.padding_behind-padding.result 0) ≡ name_text name = elim c.if-is_empty.branch [
+      | then-is_empty w ↦ rw w.option-is (unnamed _ name (sym c.is_empty.ensures ∙ w.if-is_empty.true) padding.padded)
+      | else-is_empty w ↦ rw w.option-is (named _ name _ (sym c.is_empty.ensures ∙ w.if-is_empty.false) padding.padded c.option_head-option.ensures)
+    ] in
+    interface_joined c.args.packet.now.link c.args.packet.now.snap c.padding_behind-padding.result name c.interface_head-head.result c.if-is_empty.option.now c.interface_end-end.result
+    padding.few name_is c.interface_head-head.ensures c.interface_end-end.ensures
 
 pub returns-clause-front : goal.returns-clause-front
 returns-clause-front g c =
-    let padding = c.padding_behind-padding.ensures in
     let P : List ℕ → Type 0 = λ text. IfErr c.write_pieces.result (λ (stopped : Stopped). stopped.written < length text) in
-    subst P
-    (interface_joined c.args.packet.now.link c.args.packet.now.snap c.padding_behind-padding.result c.args.packet.now.name.now _ _
-    (sym c.is_empty.ensures ∙ c.if-is_empty.false) padding.few padding.padded
-    c.interface_head-head.ensures c.interface_end-end.ensures)
-    c.write_pieces.ensures.front
+    subst P (joined g c) c.write_pieces.ensures.front
 
 pub returns-clause-told : goal.returns-clause-told
 returns-clause-told g c = λ tells.
-    let padding = c.padding_behind-padding.ensures in
     let P : List ℕ → Type 0 = λ text. WritesAll (g.O.Output.written c.args.output.now) text c.write_pieces.result (g.O.Output.written c.write_pieces.new.output) in
-    subst P
-    (interface_joined c.args.packet.now.link c.args.packet.now.snap c.padding_behind-padding.result c.args.packet.now.name.now _ _
-    (sym c.is_empty.ensures ∙ c.if-is_empty.false) padding.few padding.padded
-    c.interface_head-head.ensures c.interface_end-end.ensures)
-    (c.write_pieces.ensures.told tells)
+    subst P (joined g c) (c.write_pieces.ensures.told tells)
