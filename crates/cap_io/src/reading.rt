@@ -43,8 +43,8 @@ pub(crate) fn read_rest<I: Input>(input: &mut I, bytes: &mut [u8], from: usize) 
 /// file.
 pub(crate) fn read_front<I: Input>(input: &mut I, front: &mut [u8]) -> Result<bool, Fault>
     requires { 0 < length front.old }
-    ensures moves { Moves I.Input input.old input.new 0 (λ found. if found then length front.old else 0)
-        (length front.old) result }
+    ensures moves { Moves I.Input input.old input.new 0
+        (λ found. if found then length front.old else 0) (length front.old) result }
     ensures ok { IfOk result (λ found. IsTrue I.tells → FrontCame (I.unread input.old) front.new
         found (I.unread input.new)) }
     ensures err { IfErr result (λ fault. IsTrue I.tells → FrontMissing (length front.old)
