@@ -1,11 +1,12 @@
 -- What reading one unit from a device does to its bytes and its counts.
-use Rattle.std.specs.Prelude.{◌≡◌, ℕ, ◌+◌, ◌^◌, ◌<◌, ◌≤◌, ◌⊎◌, Bool, true, false, List, [], ◌∷◌, ◌++◌, length, take, drop, Option, None, Some, Result, Ok, Err, is_some, if◌then◌else◌}
+use Rattle.std.specs.Prelude.{◌≡◌, ℕ, ◌+◌, ◌^◌, ◌<◌, ◌≤◌, ◌⊎◌, Bool, true, false, List, [], ◌∷◌, ◌++◌, length, take, drop, Option, None, Some, Result, Ok, Err, IfOk, IfErr, is_some, if◌then◌else◌}
 use Rattle.std.specs.List.{slice_get}
 use Rattle.std.specs.Option.{option_map}
 use Rattle.cap_octet.specs.Packet.{Captured}
 use Rattle.cap_octet.specs.declared.fault.Fault.{Fault}
 use Rattle.cap_octet.specs.declared.fault.Fault.TheVariants.{NoMemory, ReadFailed, Truncated}
 use Rattle.cap_octet.specs.Checks.{first_failing}
+use Rattle.cap_octet.specs.declared.device.Input.{Ghosts}
 use Rattle.cap_pcap.specs.Header.{IsHeader, form_in}
 use Rattle.cap_pcap.specs.Record.{field_checks, record_size}
 use Rattle.cap_pcapng.specs.Comment.{comment_in}
@@ -30,6 +31,16 @@ abbrev pub failures_told : {X : Type 0} → Result X Fault → ℕ
 failures_told (Ok value) = 0
 failures_told (Err ReadFailed) = 1
 failures_told (Err fault) = 0
+
+-- What reading a unit, or what follows its first `front` bytes, did to a device: with them `count` bytes came, or at most
+-- `most` on an error. A failed read is told exactly where the device failed in this call.
+pub record Moves {I X : Type 0} (device : Ghosts I) (old new : I) (front : ℕ) (count : X → ℕ) (most : ℕ) (r : Result X Fault) : Type 0 where
+  pub counted : IfOk r (λ x. device.given new + front ≡ device.given old + count x)
+  pub grown : device.given old ≤ device.given new
+  pub bounded : IfOk r (λ x. front < count x → device.given new < 2 ^ 63)
+  pub few : IfErr r (λ _. device.given new + front ≤ device.given old + most)
+  pub failed : device.failures new ≡ device.failures old + failures_told r
+  pub never : device.never_fails new ≡ device.never_fails old
 
 -- how many bytes are taken at most of a text that begins so: no more than its unit
 abbrev pub most_taken : Front → ℕ

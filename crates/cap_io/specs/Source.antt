@@ -3,10 +3,11 @@ use Rattle.std.specs.Prelude.{◌≡◌, ℕ, ◌+◌, ◌^◌, ◌<◌, ◌≤�
 use Rattle.cap_octet.specs.Packet.{Captured}
 use Rattle.cap_octet.specs.declared.fault.Fault.{Fault}
 use Rattle.cap_pcapng.specs.Interface.{AreFew, Described}
-use Rattle.cap_io.specs.declared.source.Next.{Next}
-use Rattle.cap_io.specs.declared.source.Next.TheVariants as next
 use Rattle.cap_io.specs.declared.source.Stage.{Stage}
 use Rattle.cap_io.specs.declared.source.Stage.TheVariants as stage
+use Rattle.cap_io.specs.declared.unit.Came.{Came}
+use Rattle.cap_io.specs.declared.unit.Came.TheVariants as came
+use Rattle.cap_io.specs.declared.unit.Held.{Held}
 use Rattle.cap_io.specs.declared.unit.Savefile.{Savefile}
 use Rattle.cap_io.specs.Capture.{Declared, Nothing, PcapFile, PcapngFile, IsUnit, AreUnits, Stops, front_of}
 use Rattle.cap_io.specs.Reading.{most_in_unit, failures_told, IsReason, IsTaken, IsHeld, IsTold, declared_by, packet_held}
@@ -212,22 +213,22 @@ pub record IsBetween (s : SourceView) : Type 0 where
   pub packet : s.packet ≡ None
 
 -- what a source that goes over one unit finds there
-abbrev pub FindsNext : SourceView → Result Next Fault → SourceView → Type 0
-FindsNext old (Ok next.Packet) new = FindsPacket old new
-FindsNext old (Ok next.Passed) new = Passes old new new.unread
-FindsNext old (Ok next.End) new = FindsEnd old new
+abbrev pub FindsNext : SourceView → Result Came Fault → SourceView → Type 0
+FindsNext old (Ok (came.Packet held)) new = FindsPacket old new
+FindsNext old (Ok (came.Passed size)) new = Passes old new new.unread
+FindsNext old (Ok came.End) new = FindsEnd old new
 FindsNext old (Err fault) new = IsBroken old new fault
 
 -- and what holds of any device
-pub record NextBounds (old : SourceView) (r : Result Next Fault) (new : SourceView) : Type 0 where
+pub record NextBounds (old : SourceView) (r : Result Came Fault) (new : SourceView) : Type 0 where
   pub given : old.given ≤ new.given
   pub failures : new.failures ≡ old.failures + failures_told r
   pub never : new.never_fails ≡ old.never_fails
   pub unfailed : IsTrue old.never_fails → new.failures ≡ old.failures
   pub block : length new.block ≤ most_in_unit
-  pub packet : r ≡ Ok next.Packet → (old.given < new.given) × (new.given < 2 ^ 63) × (is_some new.packet ≡ true)
+  pub packet : (held : Held) → r ≡ Ok (came.Packet held) → (old.given < new.given) × (new.given < 2 ^ 63) × (is_some new.packet ≡ true)
   pub counted : OnOk r (new.given + behind old ≡ old.given + behind new)
   pub broken : OnErr r ((old.given + behind new ≤ new.given + behind old) × (new.given + behind old ≤ old.given + behind new + most_in_unit))
-  pub ended : r ≡ Ok next.End → new.phase ≡ Ended
-  pub found : r ≡ Ok next.Packet → new.phase ≡ Reading
-  pub passed : r ≡ Ok next.Passed → (old.given < new.given) × (new.given < 2 ^ 63) × IsBetween new
+  pub ended : r ≡ Ok came.End → new.phase ≡ Ended
+  pub found : (held : Held) → r ≡ Ok (came.Packet held) → new.phase ≡ Reading
+  pub passed : (size : ℕ) → r ≡ Ok (came.Passed size) → (old.given < new.given) × (new.given < 2 ^ 63) × IsBetween new

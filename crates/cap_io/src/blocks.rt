@@ -11,7 +11,7 @@ ghost use Rattle.cap_pcapng.specs.Interface.{IsDescribed, described};
 ghost use Rattle.cap_pcapng.specs.Unit.{Section, checks_among, interfaces_before, order_before};
 ghost use Rattle.cap_io.specs.Blocks.{BlockCame, BlockMissing, Enters, FitsIfAny, IsEntryFault};
 ghost use Rattle.cap_io.specs.Blocks.{KnowsIfAny, PacketFound, WholeCame, told_behind};
-ghost use Rattle.cap_io.specs.Reading.{failures_told, most_in_unit};
+ghost use Rattle.cap_io.specs.Reading.{Moves, most_in_unit};
 
 use crate::reading::{make_room, read_data};
 use crate::unit::{Held, Span};
@@ -42,13 +42,8 @@ fn read_whole<I: Input, A: Allocator>(
     front: &[u8; 12],
     buffer: &mut Vec<u8, A>,
 ) -> Result<Frame, Fault>
-    ensures counted { IfOk result (λ frame. I.given input.new + 12
-        ≡ I.given input.old + frame.length) }
-    ensures grown { I.given input.old ≤ I.given input.new }
-    ensures bounded { IfOk result (λ frame. 12 < frame.length → I.given input.new < 2 ^ 63) }
-    ensures few { IfErr result (λ _. I.given input.new + 12 ≤ I.given input.old + most_in_unit) }
-    ensures failed { I.failures input.new ≡ I.failures input.old + failures_told result }
-    ensures never { I.never_fails input.new ≡ I.never_fails input.old }
+    ensures moves { Moves I.Input input.old input.new 12 (λ frame. frame.length)
+        most_in_unit result }
     ensures least { IfOk result (λ frame. 12 ≤ frame.length) }
     ensures most { IfOk result (λ frame. frame.length ≤ most_in_unit) }
     ensures there { IfOk result (λ frame. frame.length ≤ vec_len buffer.new) }
@@ -233,12 +228,7 @@ pub(crate) fn read_block<I: Input, A: Allocator>(
     buffer: &mut Vec<u8, A>,
     table: &mut Table<A>,
 ) -> Result<BlockRead, Fault>
-    ensures counted { IfOk result (λ read. I.given input.new + 12 ≡ I.given input.old + read.size) }
-    ensures grown { I.given input.old ≤ I.given input.new }
-    ensures bounded { IfOk result (λ read. 12 < read.size → I.given input.new < 2 ^ 63) }
-    ensures few { IfErr result (λ _. I.given input.new + 12 ≤ I.given input.old + most_in_unit) }
-    ensures failed { I.failures input.new ≡ I.failures input.old + failures_told result }
-    ensures never { I.never_fails input.new ≡ I.never_fails input.old }
+    ensures moves { Moves I.Input input.old input.new 12 (λ read. read.size) most_in_unit result }
     ensures least { IfOk result (λ read. 12 ≤ read.size) }
     ensures most { IfOk result (λ read. read.size ≤ most_in_unit) }
     ensures there { IfOk result (λ read. read.size ≤ vec_len buffer.new) }

@@ -7,7 +7,7 @@ ghost use Rattle.cap_pcapng.specs.Frame.{is_section};
 ghost use Rattle.cap_pcapng.specs.Interface.{Described};
 ghost use Rattle.cap_io.specs.Capture.{Nothing, PcapngFile};
 ghost use Rattle.cap_io.specs.Blocks.{BlockCame, section_of};
-ghost use Rattle.cap_io.specs.Reading.{failures_told, most_in_unit, size_of, came_by, declared_by};
+ghost use Rattle.cap_io.specs.Reading.{Moves, most_in_unit, size_of, came_by, declared_by};
 ghost use Rattle.cap_io.specs.Reading.{HasInterfaceIfAny, IsSized, IsTold, Refuses, UnitCame};
 ghost use Rattle.cap_io.specs.declared.unit.Savefile.TheVariants as file;
 
@@ -27,12 +27,7 @@ const FILE_HEADER: usize = 24;
 
 /// Reads the first four bytes of a file; fewer are fault 1.
 fn read_first<I: Input>(input: &mut I) -> Result<[u8; 4], Fault>
-    ensures counted { OnOk result (I.given input.new ≡ I.given input.old + 4) }
-    ensures grown { I.given input.old ≤ I.given input.new }
-    ensures bounded { OnOk result (I.given input.new < 2 ^ 63) }
-    ensures few { IfErr result (λ _. I.given input.new ≤ I.given input.old + 4) }
-    ensures failed { I.failures input.new ≡ I.failures input.old + failures_told result }
-    ensures never { I.never_fails input.new ≡ I.never_fails input.old }
+    ensures moves { Moves I.Input input.old input.new 0 (λ _. 4) 4 result }
     ensures ok { IfOk result (λ first. IsTrue I.tells → I.unread input.old
         ≡ first ++ I.unread input.new) }
     ensures err { IfErr result (λ fault. IsTrue I.tells → Refuses Nothing (I.unread input.old)
@@ -58,12 +53,7 @@ fn first_block<I: Input, A: Allocator>(
 ) -> Result<BlockRead, Fault>
     requires section { is_section first.now ≡ true }
     requires empty { table.old ≡ [] }
-    ensures counted { IfOk result (λ read. I.given input.new + 4 ≡ I.given input.old + read.size) }
-    ensures grown { I.given input.old ≤ I.given input.new }
-    ensures bounded { OnOk result (I.given input.new < 2 ^ 63) }
-    ensures few { IfErr result (λ _. I.given input.new + 4 ≤ I.given input.old + most_in_unit) }
-    ensures failed { I.failures input.new ≡ I.failures input.old + failures_told result }
-    ensures never { I.never_fails input.new ≡ I.never_fails input.old }
+    ensures moves { Moves I.Input input.old input.new 4 (λ read. read.size) most_in_unit result }
     ensures least { IfOk result (λ read. 12 ≤ read.size) }
     ensures there { IfOk result (λ read. read.size ≤ vec_len buffer.new) }
     ensures ok { IfOk result (λ read. IsTrue I.tells
@@ -97,11 +87,7 @@ fn first_unit<I: Input, A: Allocator>(
     table: &mut Table<A>,
 ) -> Result<(Savefile, Came), Fault>
     requires { table.old ≡ [] }
-    ensures counted { IfOk result (λ r. I.given input.new ≡ I.given input.old + size_of r.1) }
-    ensures grown { I.given input.old ≤ I.given input.new }
-    ensures few { IfErr result (λ _. I.given input.new ≤ I.given input.old + most_in_unit) }
-    ensures failed { I.failures input.new ≡ I.failures input.old + failures_told result }
-    ensures never { I.never_fails input.new ≡ I.never_fails input.old }
+    ensures moves { Moves I.Input input.old input.new 0 (λ r. size_of r.1) most_in_unit result }
     ensures sized { IfOk result (λ r. IsSized r.1 buffer.new.items (I.given input.new)) }
     ensures told { IfOk result (λ r. IsTold r.0 table.new) }
     ensures known { IfOk result (λ r. HasInterfaceIfAny (declared_by r.0 table.new) r.1) }
@@ -141,11 +127,7 @@ fn next_block<I: Input, A: Allocator>(
     table: &mut Table<A>,
 ) -> Result<(Savefile, Came), Fault>
     requires { IsTold (file.Pcapng order first) table.old }
-    ensures counted { IfOk result (λ r. I.given input.new ≡ I.given input.old + size_of r.1) }
-    ensures grown { I.given input.old ≤ I.given input.new }
-    ensures few { IfErr result (λ _. I.given input.new ≤ I.given input.old + most_in_unit) }
-    ensures failed { I.failures input.new ≡ I.failures input.old + failures_told result }
-    ensures never { I.never_fails input.new ≡ I.never_fails input.old }
+    ensures moves { Moves I.Input input.old input.new 0 (λ r. size_of r.1) most_in_unit result }
     ensures sized { IfOk result (λ r. IsSized r.1 buffer.new.items (I.given input.new)) }
     ensures told { IfOk result (λ r. IsTold r.0 table.new) }
     ensures known { IfOk result (λ r. HasInterfaceIfAny (declared_by r.0 table.new) r.1) }
@@ -175,11 +157,7 @@ pub(crate) fn read_unit<I: Input, A: Allocator>(
     table: &mut Table<A>,
 ) -> Result<Came, Fault>
     requires { IsTold savefile.old table.old }
-    ensures counted { IfOk result (λ came. I.given input.new ≡ I.given input.old + size_of came) }
-    ensures grown { I.given input.old ≤ I.given input.new }
-    ensures few { IfErr result (λ _. I.given input.new ≤ I.given input.old + most_in_unit) }
-    ensures failed { I.failures input.new ≡ I.failures input.old + failures_told result }
-    ensures never { I.never_fails input.new ≡ I.never_fails input.old }
+    ensures moves { Moves I.Input input.old input.new 0 size_of most_in_unit result }
     ensures sized { IfOk result (λ came. IsSized came buffer.new.items (I.given input.new)) }
     ensures told { OnOk result (IsTold savefile.new table.new) }
     ensures known { IfOk result (HasInterfaceIfAny (declared_by savefile.new table.new)) }

@@ -3,7 +3,7 @@ ghost use Rattle.std.specs.Prelude.{◌≡◌, ℕ, ◌+◌, ◌^◌, ◌<◌, �
 ghost use Rattle.std.specs.Prelude.{IfErr, OnOk, if◌then◌else◌, length, take, drop, vec_len};
 ghost use Rattle.cap_pcapng.specs.Frame.{is_section};
 ghost use Rattle.cap_io.specs.Capture.{Nothing, PcapFile};
-ghost use Rattle.cap_io.specs.Reading.{failures_told, most_in_unit, size_of, FrontCame};
+ghost use Rattle.cap_io.specs.Reading.{most_in_unit, size_of, FrontCame, Moves};
 ghost use Rattle.cap_io.specs.Reading.{FrontMissing, HasInterfaceIfAny, HeaderCame, IsSized};
 ghost use Rattle.cap_io.specs.Reading.{Refuses, RestMissing, UnitCame};
 
@@ -20,14 +20,8 @@ const RECORD_HEAD: usize = 16;
 /// Reads behind the first `from` bytes of the buffer until it is full.
 pub(crate) fn read_rest<I: Input>(input: &mut I, bytes: &mut [u8], from: usize) -> Result<(), Fault>
     requires { from ≤ length bytes.old }
-    ensures counted { OnOk result (I.given input.new + from ≡ I.given input.old + length
-        bytes.old) }
-    ensures grown { I.given input.old ≤ I.given input.new }
-    ensures bounded { OnOk result (from < length bytes.old → I.given input.new < 2 ^ 63) }
-    ensures few { IfErr result (λ _. I.given input.new + from < I.given input.old + length
-        bytes.old) }
-    ensures failed { I.failures input.new ≡ I.failures input.old + failures_told result }
-    ensures never { I.never_fails input.new ≡ I.never_fails input.old }
+    ensures moves { Moves I.Input input.old input.new from (λ _. length bytes.old)
+        (length bytes.old) result }
     ensures same { OnOk result (take from bytes.new ≡ take from bytes.old) }
     ensures ok { OnOk result (IsTrue I.tells → I.unread input.old
         ≡ drop from bytes.new ++ I.unread input.new) }
@@ -49,13 +43,8 @@ pub(crate) fn read_rest<I: Input>(input: &mut I, bytes: &mut [u8], from: usize) 
 /// file.
 pub(crate) fn read_front<I: Input>(input: &mut I, front: &mut [u8]) -> Result<bool, Fault>
     requires { 0 < length front.old }
-    ensures counted { IfOk result (λ found. I.given input.new
-        ≡ I.given input.old + (if found then length front.old else 0)) }
-    ensures grown { I.given input.old ≤ I.given input.new }
-    ensures bounded { IfOk result (λ found. found ≡ true → I.given input.new < 2 ^ 63) }
-    ensures few { IfErr result (λ _. I.given input.new < I.given input.old + length front.old) }
-    ensures failed { I.failures input.new ≡ I.failures input.old + failures_told result }
-    ensures never { I.never_fails input.new ≡ I.never_fails input.old }
+    ensures moves { Moves I.Input input.old input.new 0
+        (λ found. if found then length front.old else 0) (length front.old) result }
     ensures ok { IfOk result (λ found. IsTrue I.tells → FrontCame (I.unread input.old) front.new
         found (I.unread input.new)) }
     ensures err { IfErr result (λ fault. IsTrue I.tells → FrontMissing (length front.old)
@@ -95,14 +84,7 @@ pub(crate) fn read_data<I: Input>(
 ) -> Result<(), Fault>
     requires whole { length front.now ≤ size }
     requires room { size ≤ length buffer.old }
-    ensures counted { OnOk result (I.given input.new + length front.now
-        ≡ I.given input.old + size) }
-    ensures grown { I.given input.old ≤ I.given input.new }
-    ensures bounded { OnOk result (length front.now < size → I.given input.new < 2 ^ 63) }
-    ensures few { IfErr result (λ _. I.given input.new + length front.now < I.given input.old
-        + size) }
-    ensures failed { I.failures input.new ≡ I.failures input.old + failures_told result }
-    ensures never { I.never_fails input.new ≡ I.never_fails input.old }
+    ensures moves { Moves I.Input input.old input.new (length front.now) (λ _. size) size result }
     ensures same { OnOk result (take (length front.now) (take size buffer.new) ≡ front.now) }
     ensures ok { OnOk result (IsTrue I.tells → I.unread input.old
         ≡ drop (length front.now) (take size buffer.new) ++ I.unread input.new) }
@@ -120,12 +102,7 @@ pub(crate) fn read_data<I: Input>(
 /// Reads the file header of pcap behind its first four bytes.
 pub(crate) fn read_header<I: Input>(input: &mut I, first: &[u8; 4]) -> Result<Head, Fault>
     requires { is_section first.now ≡ false }
-    ensures counted { OnOk result (I.given input.new ≡ I.given input.old + 20) }
-    ensures grown { I.given input.old ≤ I.given input.new }
-    ensures bounded { OnOk result (I.given input.new < 2 ^ 63) }
-    ensures few { IfErr result (λ _. I.given input.new ≤ I.given input.old + 20) }
-    ensures failed { I.failures input.new ≡ I.failures input.old + failures_told result }
-    ensures never { I.never_fails input.new ≡ I.never_fails input.old }
+    ensures moves { Moves I.Input input.old input.new 4 (λ _. 24) 24 result }
     ensures ok { IfOk result (λ head. IsTrue I.tells → HeaderCame (first.now ++ I.unread input.old)
         head (I.unread input.new)) }
     ensures err { IfErr result (λ fault. IsTrue I.tells → Refuses Nothing
@@ -147,11 +124,7 @@ pub(crate) fn next_record<I: Input, A: Allocator>(
     head: &Head,
     buffer: &mut Vec<u8, A>,
 ) -> Result<Came, Fault>
-    ensures counted { IfOk result (λ came. I.given input.new ≡ I.given input.old + size_of came) }
-    ensures grown { I.given input.old ≤ I.given input.new }
-    ensures few { IfErr result (λ _. I.given input.new ≤ I.given input.old + most_in_unit) }
-    ensures failed { I.failures input.new ≡ I.failures input.old + failures_told result }
-    ensures never { I.never_fails input.new ≡ I.never_fails input.old }
+    ensures moves { Moves I.Input input.old input.new 0 size_of most_in_unit result }
     ensures sized { IfOk result (λ came. IsSized came buffer.new.items (I.given input.new)) }
     ensures known { IfOk result (HasInterfaceIfAny (PcapFile head.now)) }
     ensures ok { IfOk result (λ came. IsTrue I.tells

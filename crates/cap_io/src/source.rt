@@ -28,17 +28,6 @@ pub(crate) enum Stage {
     Failed(Fault),
 }
 
-/// What a source finds that goes over one unit.
-#[derive(Clone, Copy, Debug, PartialEq, Eq)]
-enum Next {
-    /// A unit with a packet.
-    Packet,
-    /// A unit without one.
-    Passed,
-    /// The clean end.
-    End,
-}
-
 /// Reads the packets of a capture from a device, through one block of memory, and beside it for
 /// pcapng the table of a section's interfaces.
 #[derive(Drop)]
@@ -233,9 +222,9 @@ impl<I: Input, A: Allocator> Source<I, A> {
         self.leave();
         loop {
             match self.next()? {
-                Next::Packet => return Ok(true),
-                Next::End => return Ok(false),
-                Next::Passed => {}
+                Came::Packet(_) => return Ok(true),
+                Came::End => return Ok(false),
+                Came::Passed(_) => {}
             }
         }
     }
@@ -252,7 +241,7 @@ impl<I: Input, A: Allocator> Source<I, A> {
     }
 
     /// Goes over one unit, or to the clean end.
-    fn next(&mut self) -> Result<Next, Fault>
+    fn next(&mut self) -> Result<Came, Fault>
         requires between { IsBetween self.old }
         ensures told { IsTrue I.tells → FindsNext self.old result self.new }
         ensures bounds { NextBounds self.old result self.new }
@@ -265,18 +254,10 @@ impl<I: Input, A: Allocator> Source<I, A> {
             &mut self.table,
         )?;
         match came {
-            Came::Packet(held) => {
-                self.stage = Stage::InHand(held);
-                Ok(Next::Packet)
-            }
-            Came::Passed(size) => {
-                self.offset += size as u64;
-                Ok(Next::Passed)
-            }
-            Came::End => {
-                self.stage = Stage::Ended;
-                Ok(Next::End)
-            }
+            Came::Packet(held) => self.stage = Stage::InHand(held),
+            Came::Passed(size) => self.offset += size as u64,
+            Came::End => self.stage = Stage::Ended,
         }
+        Ok(came)
     }
 }

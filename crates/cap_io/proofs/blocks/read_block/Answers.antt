@@ -1,13 +1,21 @@
-use Rattle.std.proofs.Common.{length, take, ap, arith}
+use Rattle.std.proofs.Common.{rules, length, take, ap, arith}
 use Rattle.std.proofs.lemmas.Result.{err_from_is_err_and}
 use Rattle.cap_io.proofs.BlocksCame.{block_came, entry_refused}
 use Rattle.cap_io.proofs.OwnFaults.{entry-own}
 use Rattle.cap_io.proofs.blocks.read_block.Goals as goal
 
-pub returns-in_err-packet-clause-failed : goal.returns-in_err-packet-clause-failed
-returns-in_err-packet-clause-failed g c =
+pub returns-in_err-packet-clause-moves : goal.returns-in_err-packet-clause-moves
+returns-in_err-packet-clause-moves g c =
     let p = err_from_is_err_and c.from_residual-in_err-packet.result c.from_residual-in_err-packet.ensures.1 in
-    rw (p.1, p.2) (omega (arith, c.in_ok-found.ensures.failed, entry-own _ _ _ c.in_err-packet.field-0.0 c.in_err-packet.ensures.err))
+    let own = entry-own _ _ _ c.in_err-packet.field-0.0 c.in_err-packet.ensures.err in
+    rw (p.1, p.2) (let moves = c.in_ok-found.ensures.moves in record {
+      counted = search rules;
+      grown = moves.grown;
+      bounded = search rules;
+      few = omega (arith, moves.counted, c.in_ok-found.ensures.most);
+      failed = omega (arith, moves.failed, own);
+      never = moves.never;
+    })
 
 pub returns-in_err-packet-clause-err : goal.returns-in_err-packet-clause-err
 returns-in_err-packet-clause-err g c =

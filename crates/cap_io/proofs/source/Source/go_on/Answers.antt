@@ -30,7 +30,7 @@ returns-in-End-clause-told g c = λ t.
 pub loop-preserved : goal.loop-preserved
 loop-preserved g c =
     let bounds = c.in_ok-next.ensures.bounds in
-    let passed = bounds.passed (ap Ok c.in-Passed.is) in record {
+    let passed = bounds.passed _ (ap Ok c.in-Passed.is) in record {
       told = λ t. Passes-then c.args.self.now c.loop.self c.next.new.self _ (c.loop.invariant.told t) c.loop.invariant.between.block (rw c.in-Passed.is at (c.in_ok-next.ensures.told t));
       between = passed.2;
       given = omega (arith, c.loop.invariant.given, bounds.given);

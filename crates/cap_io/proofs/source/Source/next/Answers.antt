@@ -44,5 +44,5 @@ returns-in-End-clause-told g c = λ t.
     let unread = ap (λ (v : SourceView). v.unread) c.self.view_is in
     let new = view_of stage.Ended c.read_unit.new.savefile c.read_unit.new.table c.read_unit.new.buffer.items c.self.inside.offset
     (g.I.Input.unread c.read_unit.new.input) (g.I.Input.given c.read_unit.new.input) (g.I.Input.failures c.read_unit.new.input) (g.I.Input.never_fails c.read_unit.new.input) in
-    FindsEnd-next c.args.self.now new c.requires.between
-    (rw (declared, unread) at (rw c.in-End.is at (c.in_ok-came.ensures.ok t))) (ap (λ (v : SourceView). v.offset) c.self.view_is) refl refl refl
+    rw c.in-End.is (FindsEnd-next c.args.self.now new c.requires.between
+    (rw (declared, unread) at (rw c.in-End.is at (c.in_ok-came.ensures.ok t))) (ap (λ (v : SourceView). v.offset) c.self.view_is) refl refl refl)
