@@ -5,6 +5,7 @@ ghost use Rattle.cap_pcapng.specs.InterfaceOptions.{name_checks, resolution_chec
 
 use crate::blocks::InterfaceBlock;
 use crate::clock::{Clock, units_of};
+use crate::name::MOST_NAME;
 use crate::options::{BlockOption, Options};
 use byteorder::{BigEndian, ByteOrder, LittleEndian};
 use cap_octet::{Fault, Order, u16_at, u32_at};
@@ -17,9 +18,6 @@ const RESOLUTION: u16 = 9;
 
 /// The code of an offset (option if_tsoffset).
 const OFFSET: u16 = 14;
-
-/// The greatest length of a name, in bytes.
-const MOST_NAME: usize = 255;
 
 /// How many ticks make a second where no resolution is given.
 const MICROSECONDS: u64 = 1_000_000;

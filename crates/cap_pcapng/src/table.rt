@@ -3,6 +3,7 @@ ghost use Rattle.std.specs.Prelude.{◌≡◌, ◌≤◌, ◌<◌, ◌↔◌, []
 
 use crate::clock::Clock;
 use crate::interface::Interface;
+use crate::name::Name;
 use cap_octet::Fault;
 use std::alloc::{Allocator, Global};
 use std::marker::Model;
@@ -16,12 +17,10 @@ struct Entry {
     link: u16,
     snap: u32,
     clock: Clock,
-    name_len: u8,
-    name: [u8; 255],
+    name: Name,
 }
 
 impl Model for Entry {
-    ghost use Rattle.std.specs.Prelude.{take};
     ghost use Rattle.cap_pcapng.specs.Interface.{Described};
 
     ghost Value = { Described };
@@ -29,7 +28,7 @@ impl Model for Entry {
     ghost view = { λ e. record {
       link = e.link;
       snap = e.snap;
-      name = take e.name_len e.name;
+      name = e.name;
       units = e.clock.units;
       offset = e.clock.offset;
     } };
@@ -41,15 +40,11 @@ impl Entry {
     fn new(interface: &Interface<'_>) -> Self
         ensures { result ≡ described interface.now }
     {
-        let len = interface.name.len();
-        let mut name = [0; 255];
-        name[..len].copy_from_slice(interface.name);
         Entry {
             link: interface.link,
             snap: interface.snap,
             clock: interface.clock,
-            name_len: len as u8,
-            name,
+            name: Name::new(interface.name),
         }
     }
 
@@ -59,7 +54,7 @@ impl Entry {
         Interface {
             link: self.link,
             snap: self.snap,
-            name: &self.name[..usize::from(self.name_len)],
+            name: self.name.bytes(),
             clock: self.clock,
         }
     }
