@@ -1,11 +1,11 @@
-//! Blocks of pcapng files (draft-ietf-opsawg-pcapng), one at a time: read in both byte orders, and written.
+//! Blocks of pcapng files (draft-ietf-opsawg-pcapng), one at a time: read in both byte orders, and
+//! written.
 //!
 //! Nothing here takes memory but `Table::push`.
 #![tactic(auto)]
 
 pub mod blocks;
 pub mod clock;
-pub mod comment;
 pub mod frames;
 pub mod interface;
 pub mod laws;

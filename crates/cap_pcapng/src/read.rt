@@ -18,15 +18,6 @@ pub fn begins_section(bytes: &[u8; 4]) -> bool
     u32_at(Order::Little, bytes, 0) == SECTION_TYPE
 }
 
-/// The bytes of a block's type.
-fn type_bytes(bytes: &[u8; 12]) -> [u8; 4]
-    ensures { is_section result ≡ is_section bytes.now }
-{
-    let mut first = [0; 4];
-    first.copy_from_slice(&bytes[..4]);
-    first
-}
-
 /// Reads the first 12 bytes of a block that stands behind a section of this byte order, or behind none; or tells the
 /// first check that they fail: no section before a block of another type, no byte-order magic in a section header, a
 /// total length below 12 or no multiple of 4, a total length above 1,048,576.
@@ -36,7 +27,7 @@ pub fn frame(section: Option<Order>, bytes: &[u8; 12]) -> Result<Frame, Fault>
     ensures longest { IfOk result (λ frame. frame.length ≤ most_block) }
     ensures whole { IfOk result (λ frame. frame.length % 4 ≡ 0) }
 {
-    let is_section = begins_section(&type_bytes(bytes));
+    let is_section = u32_at(Order::Little, bytes, 0) == SECTION_TYPE;
     let order = if is_section {
         order_of(bytes).ok_or(Fault::BadByteOrderMagic)?
     } else {
