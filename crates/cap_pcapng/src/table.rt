@@ -1,5 +1,6 @@
 //! The interfaces of a section.
-ghost use Rattle.std.specs.Prelude.{◌≡◌, ◌≤◌, ◌<◌, ◌↔◌, [], ◌∷◌, ◌++◌, length, IsTrue, OnOk, OnErr, IfErr};
+ghost use Rattle.std.specs.Prelude.{◌≡◌, ◌≤◌, ◌<◌, ◌↔◌, [], ◌∷◌, ◌++◌, length, IsTrue, OnOk};
+ghost use Rattle.std.specs.Prelude.{OnErr, IfErr};
 
 use crate::clock::Clock;
 use crate::interface::Interface;
@@ -99,8 +100,8 @@ impl<A: Allocator> Table<A> {
         self.entries.len() == MOST_INTERFACES
     }
 
-    /// Tells the caller's proof that there are at most 256 interfaces, with names of at most 255 bytes. Nothing happens at
-    /// run time.
+    /// Tells the caller's proof that there are at most 256 interfaces, with names of at most 255
+    /// bytes. Nothing happens at run time.
     pub fn bounds(&self)
         ensures { AreFew self.now }
     {
@@ -114,8 +115,8 @@ impl<A: Allocator> Table<A> {
         self.entries.clear();
     }
 
-    /// Gives an interface the next number. A full table is fault 11, and a growth that is refused fault 16; either
-    /// leaves the table.
+    /// Gives an interface the next number. A full table is fault 11, and a growth that is refused
+    /// fault 16; either leaves the table.
     pub fn push(&mut self, interface: &Interface<'_>) -> Result<(), Fault>
         ensures pushed { OnOk result (self.new ≡ self.old ++ described interface.now ∷ []) }
         ensures kept { OnErr result (self.new ≡ self.old) }
