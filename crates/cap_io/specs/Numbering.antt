@@ -1,5 +1,5 @@
 -- Interfaces that are numbered by first use.
-use Rattle.std.specs.Prelude.{◌≡◌, ℕ, false, not, List, ◌++◌, take, Result, Ok, Err, Some, slice_get}
+use Rattle.std.specs.Prelude.{◌≡◌, ℕ, false, not, List, ◌++◌, Result, Ok, Err, Some, slice_get}
 use Rattle.cap_octet.specs.declared.fault.Fault.{Fault}
 use Rattle.cap_octet.specs.declared.fault.Fault.TheVariants.{NoMemory}
 use Rattle.cap_io.specs.declared.numbering.InterfaceKey.{InterfaceKey}
@@ -8,7 +8,7 @@ use Rattle.cap_io.specs.Text.{Interface, is_among, new_among, number_among}
 
 -- the interface that a key stands for
 abbrev pub interface_in : InterfaceKey → Interface
-interface_in key = record { link = key.link; snap = key.snap; name = take key.name_length key.name }
+interface_in key = record { link = key.link; snap = key.snap; name = key.name }
 
 -- An interface has its place among those that were numbered: its number, and whether it is new there.
 pub record HasPlace (old : List Interface) (i : Interface) (place : Place) (new : List Interface) : Type 0 where

@@ -1,34 +1,26 @@
 //! The interfaces of a pcapng file that is written, numbered by first use.
 ghost use Rattle.std.specs.Prelude.{◌≡◌, ◌++◌, ◌≤◌, [], length, map, nat_eq, nat_le, take, IsTrue, Some};
 ghost use Rattle.std.specs.Prelude.{slice_get};
-ghost use Rattle.std.specs.Cmp.Lexicographic.{pointwise};
-ghost use Rattle.std.specs.Cmp.Rules.{comparing, hashing};
-ghost use Rattle.std.specs.Hash as fed;
-ghost use Rattle.std.specs.Ordering.{eq_of_both, on};
-ghost use Rattle.std.proofs.Common.{rules};
 ghost use Rattle.cap_octet.specs.Packet.{captured};
 ghost use Rattle.cap_io.specs.Text.{interface_of, is_same, most_output_interfaces, new_among};
 ghost use Rattle.cap_io.specs.Numbering.{Numbers, interface_in};
 
 use cap_octet::{Fault, Packet};
+use cap_pcapng::Name;
 use indexmap::IndexSet;
 use std::alloc::Allocator;
-use std::hash::{BuildHasherDefault, FoldHasher, Hash, Hasher};
+use std::hash::{BuildHasherDefault, FoldHasher};
 use std::marker::Model;
 
 /// The most interfaces that a file is given.
 const MOST_INTERFACES: usize = 4096;
 
-/// The most bytes of an interface's name.
-const MOST_NAME: usize = 255;
-
 /// What makes two interfaces one. The name lies in it, so that a look-up takes no memory.
-#[derive(Clone, Copy)]
+#[derive(Drop, PartialEq, Eq, Hash)]
 pub(crate) struct InterfaceKey {
     link: u16,
     snap: u32,
-    name_length: u8,
-    name: [u8; 255],
+    name: Name,
 }
 
 /// Where an interface stands among those of a file.
@@ -45,13 +37,10 @@ impl InterfaceKey {
     fn of(packet: &Packet<'_>) -> Self
         ensures { interface_in result ≡ interface_of (captured packet.now) }
     {
-        let mut name = [0; MOST_NAME];
-        name[..packet.name.len()].copy_from_slice(packet.name);
         InterfaceKey {
             link: packet.link,
             snap: packet.snap,
-            name_length: packet.name.len() as u8,
-            name,
+            name: Name::new(packet.name),
         }
     }
 
@@ -59,41 +48,7 @@ impl InterfaceKey {
     fn is_of(&self, packet: &Packet<'_>) -> bool
         ensures { result ≡ is_same (interface_in self.now) (interface_of (captured packet.now)) }
     {
-        self.link == packet.link && self.snap == packet.snap && self.name() == packet.name
-    }
-
-    fn name(&self) -> &[u8]
-        ensures { result.now ≡ take self.now.name_length self.now.name }
-    {
-        &self.name[..usize::from(self.name_length)]
-    }
-}
-
-impl PartialEq for InterfaceKey {
-    ghost eq = { eq_of_both (on (λ key. key.link) nat_eq) (eq_of_both (on (λ key. key.snap) nat_eq)
-        (on (λ key. take key.name_length key.name) (pointwise nat_eq))) };
-
-    ghost laws = { Prim.search (comparing, rules) };
-
-    fn eq(&self, other: &InterfaceKey) -> bool {
-        self.link == other.link && self.snap == other.snap && self.name() == other.name()
-    }
-}
-
-impl Eq for InterfaceKey {
-    ghost laws = { Prim.search (comparing, rules) };
-}
-
-impl Hash for InterfaceKey {
-    ghost hash_input = { λ key. fed.u16 key.link ++ fed.u32 key.snap ++ fed.slice fed.u8
-        (take key.name_length key.name) };
-
-    ghost respects_eq = { Prim.search (hashing, rules) };
-
-    fn hash<H: Hasher>(&self, state: &mut H) {
-        state.write_u16(self.link);
-        state.write_u32(self.snap);
-        self.name().hash(state);
+        self.link == packet.link && self.snap == packet.snap && self.name.bytes() == packet.name
     }
 }
 

@@ -1,4 +1,5 @@
 pub mod InterfaceLists
+mod Judged
 pub mod Numerals
 pub mod OptionLists
 pub mod OptionsBack

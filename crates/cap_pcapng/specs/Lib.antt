@@ -3,6 +3,7 @@ pub mod Comment
 pub mod Frame
 pub mod Interface
 pub mod InterfaceOptions
+pub mod Judged
 pub mod Laws
 pub mod OptionList
 pub mod Padding

@@ -1,8 +1,11 @@
 //! What blocks say, with their data lent.
-ghost use Rattle.std.specs.Prelude.{◌≡◌, None, Some, drop, take, IfOk, IfErr};
+ghost use Rattle.std.specs.Prelude.{◌≡◌, drop, take};
 ghost use Rattle.cap_octet.specs.Checks.{checked, first_failing};
-ghost use Rattle.cap_pcapng.specs.Block.{EnhancedParts, SimpleParts, body_checks, data_checks, parts_in_body, simple_captured};
+ghost use Rattle.cap_pcapng.specs.Block.{body_checks, data_checks, parts_in_body, parts_of};
+ghost use Rattle.cap_pcapng.specs.Block.{simple_captured};
+ghost use Rattle.cap_pcapng.specs.Judged.{Judges};
 ghost use Rattle.cap_pcapng.specs.Padding.{padded};
+ghost use Rattle.cap_pcapng.specs.declared.blocks.Block.TheVariants as a;
 ghost use Rattle.cap_pcapng.specs.declared.frames.BlockType.TheVariants as kind;
 
 use crate::interface::Interface;
@@ -55,7 +58,8 @@ pub struct SimpleBlock<'a> {
     pub rest: &'a [u8],
 }
 
-/// Whether a body is that of a section header of version 1.0 or 1.2, or the first check that it fails.
+/// Whether a body is that of a section header of version 1.0 or 1.2, or the first check that it
+/// fails.
 pub(crate) fn check_section(order: Order, body: &[u8]) -> Result<(), Fault>
     ensures { result ≡ checked (first_failing (body_checks kind.Section order body.now)) tt }
 {
@@ -70,12 +74,11 @@ pub(crate) fn check_section(order: Order, body: &[u8]) -> Result<(), Fault>
     Ok(())
 }
 
-/// The captured bytes at the front of what is left of a body, or fault 9 where it is shorter than they are with their
-/// padding.
+/// The captured bytes at the front of what is left of a body, or fault 9 where it is shorter than
+/// they are with their padding.
 fn data_in(rest: &[u8], captured: u32) -> Result<&[u8], Fault>
-    ensures found { IfOk result (λ bytes. bytes.now ≡ take captured rest.now) }
-    ensures passes { IfOk result (λ _. first_failing (data_checks captured rest.now) ≡ None) }
-    ensures refused { IfErr result (λ fault. first_failing (data_checks captured rest.now) ≡ Some fault) }
+    ensures { Judges (data_checks captured rest.now) result
+        (λ bytes. bytes.now ≡ take captured rest.now) }
 {
     if padded_length(u64::from(captured)) > rest.len() as u64 {
         return Err(Fault::BadBody);
@@ -86,10 +89,8 @@ fn data_in(rest: &[u8], captured: u32) -> Result<&[u8], Fault>
 impl<'a> EnhancedBlock<'a> {
     /// Reads a body, or tells that it is shorter than 20 bytes.
     pub(crate) fn of(order: Order, body: &'a [u8]) -> Result<Self, Fault>
-        ensures found { IfOk result (λ b.
-            EnhancedParts b.interface b.ticks b.captured b.orig b.order b.rest.now ≡ parts_in_body kind.EnhancedPacket order body.now) }
-        ensures passes { IfOk result (λ _. first_failing (body_checks kind.EnhancedPacket order body.now) ≡ None) }
-        ensures refused { IfErr result (λ fault. first_failing (body_checks kind.EnhancedPacket order body.now) ≡ Some fault) }
+        ensures { Judges (body_checks kind.EnhancedPacket order body.now) result
+            (λ b. parts_of (a.Enhanced b) ≡ parts_in_body kind.EnhancedPacket order body.now) }
     {
         if body.len() < 20 {
             return Err(Fault::BadBody);
@@ -108,9 +109,8 @@ impl<'a> EnhancedBlock<'a> {
 
     /// The captured bytes, or fault 9 where the body is shorter than they are with their padding.
     pub fn data(&self) -> Result<&'a [u8], Fault>
-        ensures found { IfOk result (λ bytes. bytes.now ≡ take self.now.captured self.now.rest.now) }
-        ensures passes { IfOk result (λ _. first_failing (data_checks self.now.captured self.now.rest.now) ≡ None) }
-        ensures refused { IfErr result (λ fault. first_failing (data_checks self.now.captured self.now.rest.now) ≡ Some fault) }
+        ensures { Judges (data_checks self.now.captured self.now.rest.now) result
+            (λ bytes. bytes.now ≡ take self.now.captured self.now.rest.now) }
     {
         data_in(self.rest, self.captured)
     }
@@ -128,9 +128,8 @@ impl<'a> EnhancedBlock<'a> {
 impl<'a> SimpleBlock<'a> {
     /// Reads a body, or tells that it is shorter than 4 bytes.
     pub(crate) fn of(order: Order, body: &'a [u8]) -> Result<Self, Fault>
-        ensures found { IfOk result (λ b. SimpleParts b.orig b.rest.now ≡ parts_in_body kind.SimplePacket order body.now) }
-        ensures passes { IfOk result (λ _. first_failing (body_checks kind.SimplePacket order body.now) ≡ None) }
-        ensures refused { IfErr result (λ fault. first_failing (body_checks kind.SimplePacket order body.now) ≡ Some fault) }
+        ensures { Judges (body_checks kind.SimplePacket order body.now) result
+            (λ b. parts_of (a.Simple b) ≡ parts_in_body kind.SimplePacket order body.now) }
     {
         if body.len() < 4 {
             return Err(Fault::BadBody);
@@ -152,13 +151,11 @@ impl<'a> SimpleBlock<'a> {
         }
     }
 
-    /// The captured bytes where the interface has this snap length, or fault 9 where the body is shorter than they are
-    /// with their padding.
+    /// The captured bytes where the interface has this snap length, or fault 9 where the body is
+    /// shorter than they are with their padding.
     pub fn data(&self, snap: u32) -> Result<&'a [u8], Fault>
-        ensures found { IfOk result (λ bytes. bytes.now ≡ take (simple_captured self.now.orig snap) self.now.rest.now) }
-        ensures passes { IfOk result (λ _. first_failing (data_checks (simple_captured self.now.orig snap) self.now.rest.now) ≡ None) }
-        ensures refused { IfErr result (λ fault.
-            first_failing (data_checks (simple_captured self.now.orig snap) self.now.rest.now) ≡ Some fault) }
+        ensures { Judges (data_checks (simple_captured self.now.orig snap) self.now.rest.now) result
+            (λ bytes. bytes.now ≡ take (simple_captured self.now.orig snap) self.now.rest.now) }
     {
         data_in(self.rest, self.captured(snap))
     }

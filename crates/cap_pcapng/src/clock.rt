@@ -27,10 +27,11 @@ pub struct Clock {
     ghost moves: { 0 < units },
 }
 
-/// How many units of a resolution make a second, or fault 12 where its power is above 12 of ten or 32 of two
-/// (draft-ietf-opsawg-pcapng, option if_tsresol).
+/// How many units of a resolution make a second, or fault 12 where its power is above 12 of ten or
+/// 32 of two (draft-ietf-opsawg-pcapng, option if_tsresol).
 pub(crate) fn units_of(resolution: u8) -> Result<u64, Fault>
-    ensures answer { result ≡ (if is_resolution resolution then Ok (units_by resolution) else Err Fault.BadTimeResolution) }
+    ensures answer { result ≡ (if is_resolution resolution then Ok (units_by resolution)
+        else Err Fault.BadTimeResolution) }
     ensures some { IfOk result (λ units. 0 < units) }
 {
     if resolution < POWER_OF_TWO {
@@ -47,10 +48,11 @@ pub(crate) fn units_of(resolution: u8) -> Result<u64, Fault>
 }
 
 impl Clock {
-    /// Nanoseconds since 1970-01-01 00:00:00 UTC at a tick, cut to whole ones, or fault 10 where they are not from 0 to
-    /// 2^63 - 1.
+    /// Nanoseconds since 1970-01-01 00:00:00 UTC at a tick, cut to whole ones, or fault 10 where
+    /// they are not from 0 to 2^63 - 1.
     pub fn time(&self, ticks: u64) -> Result<u64, Fault>
-        ensures answer { result ≡ ok_or (time_in ticks self.now.units self.now.offset) Fault.TimeOutOfRange }
+        ensures answer { result ≡ ok_or (time_in ticks self.now.units self.now.offset)
+            Fault.TimeOutOfRange }
         ensures in_range { IfOk result (λ time. time < 2 ^ 63) }
     {
         let whole = u128::from(ticks) * u128::from(SECOND) / u128::from(self.units);

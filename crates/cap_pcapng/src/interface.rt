@@ -1,10 +1,14 @@
 //! Interfaces, as their options describe them.
-ghost use Rattle.std.specs.Prelude.{◌≡◌, ◌≤◌, ◌<◌, ◌++◌, if◌then◌else◌, [], length, slice_index, None, Some, IfOk, IfErr};
+ghost use Rattle.std.specs.Prelude.{◌≡◌, ◌≤◌, ◌<◌, ◌++◌, if◌then◌else◌, [], length, IfOk};
 ghost use Rattle.cap_octet.specs.Checks.{checked, first_failing};
-ghost use Rattle.cap_pcapng.specs.InterfaceOptions.{name_checks, resolution_checks, offset_checks, first_checks, value_for, name_code, resolution_code, offset_code, units_told, offset_told};
+ghost use Rattle.cap_pcapng.specs.InterfaceOptions.{first_checks, list_checks, name_checks};
+ghost use Rattle.cap_pcapng.specs.InterfaceOptions.{offset_checks, offset_told, resolution_checks};
+ghost use Rattle.cap_pcapng.specs.InterfaceOptions.{units_told};
+ghost use Rattle.cap_pcapng.specs.Judged.{Judges};
 
 use crate::blocks::InterfaceBlock;
 use crate::clock::{Clock, units_of};
+use crate::name::MOST_NAME;
 use crate::options::{BlockOption, Options};
 use byteorder::{BigEndian, ByteOrder, LittleEndian};
 use cap_octet::{Fault, Order, u16_at, u32_at};
@@ -17,9 +21,6 @@ const RESOLUTION: u16 = 9;
 
 /// The code of an offset (option if_tsoffset).
 const OFFSET: u16 = 14;
-
-/// The greatest length of a name, in bytes.
-const MOST_NAME: usize = 255;
 
 /// How many ticks make a second where no resolution is given.
 const MICROSECONDS: u64 = 1_000_000;
@@ -59,7 +60,8 @@ fn check_name(value: &[u8]) -> Result<(), Fault>
 
 /// The units of a resolution, which has one byte, else fault 8, and is in range, else fault 12.
 fn units_in(value: &[u8]) -> Result<u64, Fault>
-    ensures answer { result ≡ checked (first_failing (resolution_checks value.now)) (units_told value.now) }
+    ensures answer { result ≡ checked (first_failing (resolution_checks value.now))
+        (units_told value.now) }
     ensures some { IfOk result (λ units. 0 < units) }
 {
     if value.len() != 1 {
@@ -71,7 +73,8 @@ fn units_in(value: &[u8]) -> Result<u64, Fault>
 /// An offset, which has eight bytes, else fault 8.
 #[tactic(auto, unfolding(cap_octet::specs::Number::number_in))]
 fn offset_in(order: Order, value: &[u8]) -> Result<i64, Fault>
-    ensures { result ≡ checked (first_failing (offset_checks value.now)) (offset_told order value.now) }
+    ensures { result ≡ checked (first_failing (offset_checks value.now))
+        (offset_told order value.now) }
 {
     if value.len() != 8 {
         return Err(Fault::BadOption);
@@ -83,24 +86,17 @@ fn offset_in(order: Order, value: &[u8]) -> Result<i64, Fault>
 }
 
 impl<'a> Found<'a> {
-    ghost use Rattle.std.specs.Option.{option_copied, option_map, option_or};
-    ghost use Rattle.cap_pcapng.specs.Interface.{IsFound, IsSound, is_found};
-    ghost use Rattle.cap_pcapng.specs.InterfaceOptions.{given, list_checks};
+    ghost use Rattle.cap_pcapng.specs.Interface.{Adds, IsFound, IsSound, is_found};
+    ghost use Rattle.cap_pcapng.specs.InterfaceOptions.{given};
     ghost use Rattle.cap_pcapng.specs.OptionList.{coded_value, options_left};
 
-    /// What is found in one option more, or the first check that this fails, if it is the first of its code.
+    /// What is found in one option more, or the first check that this fails, if it is the first of
+    /// its code.
     fn with(self, order: Order, option: BlockOption<'a>) -> Result<Self, Fault>
-        ensures name { IfOk result (λ next. option_copied next.name
-            ≡ option_or (option_copied self.entry.name) (value_for name_code (coded_value option.entry))) }
-        ensures units { IfOk result (λ next. next.units
-            ≡ option_or self.entry.units (option_map units_told (value_for resolution_code (coded_value option.entry)))) }
-        ensures offset { IfOk result (λ next. next.offset
-            ≡ option_or self.entry.offset (option_map (offset_told order) (value_for offset_code (coded_value option.entry)))) }
+        ensures found { Judges (if is_found self.entry option.entry.code then []
+            else first_checks (coded_value option.entry)) result
+            (Adds order self.entry (coded_value option.entry)) }
         ensures sound { IsSound self.entry → IfOk result IsSound }
-        ensures passes { IfOk result (λ _. first_failing
-            (if is_found self.entry option.entry.code then [] else first_checks (coded_value option.entry)) ≡ None) }
-        ensures refused { IfErr result (λ fault. first_failing
-            (if is_found self.entry option.entry.code then [] else first_checks (coded_value option.entry)) ≡ Some fault) }
     {
         let Found {
             name,
@@ -132,10 +128,9 @@ impl<'a> Found<'a> {
 
     /// What the options say, or the first check that they fail.
     fn of(options: Options<'a>) -> Result<Self, Fault>
-        ensures found { IfOk result (IsFound options.entry.order (given (options_left options.entry))) }
+        ensures found { Judges (list_checks [] (options_left options.entry)) result
+            (IsFound options.entry.order (given (options_left options.entry))) }
         ensures sound { IfOk result IsSound }
-        ensures passes { IfOk result (λ _. first_failing (list_checks [] (options_left options.entry)) ≡ None) }
-        ensures refused { IfErr result (λ fault. first_failing (list_checks [] (options_left options.entry)) ≡ Some fault) }
     {
         let mut found = Found {
             name: None,
@@ -150,19 +145,16 @@ impl<'a> Found<'a> {
 }
 
 impl<'a> Interface<'a> {
-    ghost use Rattle.cap_pcapng.specs.Interface.{described, described_in};
-    ghost use Rattle.cap_pcapng.specs.InterfaceOptions.{options_fault};
+    ghost use Rattle.cap_pcapng.specs.Interface.{IsBy};
+    ghost use Rattle.cap_pcapng.specs.OptionList.{options_in};
 
-    /// The interface that options describe, or the first check that they fail, in their order: a value that doesn't fit,
-    /// a first name of more than 255 bytes, a first resolution of other than 1 byte or a first offset of other than 8
-    /// (fault 8), a first resolution out of range (fault 12).
+    /// The interface that options describe, or the first check that they fail, in their order: a
+    /// value that doesn't fit, a first name of more than 255 bytes, a first resolution of other
+    /// than 1 byte or a first offset of other than 8 (fault 8), a first resolution out of range
+    /// (fault 12).
     fn by(link: u16, snap: u32, options: Options<'a>) -> Result<Self, Fault>
-        ensures found { IfOk result (λ interface. described interface
-            ≡ described_in link snap options.entry.order options.entry.rest.now) }
-        ensures link { IfOk result (λ interface. interface.link ≡ link) }
-        ensures snap { IfOk result (λ interface. interface.snap ≡ snap) }
-        ensures passes { IfOk result (λ _. options_fault options.entry.order options.entry.rest.now ≡ None) }
-        ensures refused { IfErr result (λ fault. options_fault options.entry.order options.entry.rest.now ≡ Some fault) }
+        ensures { Judges (list_checks [] (options_in options.entry.order options.entry.rest.now))
+            result (IsBy link snap options.entry.order options.entry.rest.now) }
     {
         let found = Found::of(options)?;
         Ok(Interface {
@@ -178,18 +170,18 @@ impl<'a> Interface<'a> {
 }
 
 impl<'a> InterfaceBlock<'a> {
-    ghost use Rattle.cap_pcapng.specs.Block.{InterfaceParts, body_checks, option_checks, parts_in_body, parts_of_interface};
+    ghost use Rattle.cap_pcapng.specs.Block.{body_checks, option_checks, parts_in_body};
+    ghost use Rattle.cap_pcapng.specs.Block.{parts_of_interface};
     ghost use Rattle.cap_pcapng.specs.Interface.{IsDescribed};
     ghost use Rattle.cap_pcapng.specs.declared.frames.BlockType.TheVariants as kind;
 
-    /// Reads a body, or tells the first check that it fails: it is shorter than 8 bytes, or one of its options.
+    /// Reads a body, or tells the first check that it fails: it is shorter than 8 bytes, or one of
+    /// its options.
     pub(crate) fn of(order: Order, body: &'a [u8]) -> Result<Self, Fault>
-        ensures found { IfOk result (λ b. parts_of_interface b ≡ parts_in_body kind.Interface order body.now) }
+        ensures found { Judges (body_checks kind.Interface order body.now
+            ++ option_checks (parts_in_body kind.Interface order body.now)) result
+            (λ b. parts_of_interface b ≡ parts_in_body kind.Interface order body.now) }
         ensures described { IfOk result IsDescribed }
-        ensures passes { IfOk result (λ _. first_failing (body_checks kind.Interface order body.now
-            ++ option_checks (parts_in_body kind.Interface order body.now)) ≡ None) }
-        ensures refused { IfErr result (λ fault. first_failing (body_checks kind.Interface order body.now
-            ++ option_checks (parts_in_body kind.Interface order body.now)) ≡ Some fault) }
     {
         if body.len() < 8 {
             return Err(Fault::BadBody);

@@ -1,4 +1,5 @@
-//! What the definitions say of one another: blocks that were written read back as what they were written of.
+//! What the definitions say of one another: blocks that were written read back as what they were
+//! written of.
 ghost use Rattle.cap_pcapng.specs.Laws.{InterfaceBack, PacketBack, SectionBack};
 
 /// A section header that was written begins a little-endian section without interfaces.
@@ -6,7 +7,8 @@ pub fn section_back()
     ensures { SectionBack }
 {}
 
-/// An interface that was written gets the next number of its section, and its ticks are nanoseconds.
+/// An interface that was written gets the next number of its section, and its ticks are
+/// nanoseconds.
 pub fn interface_back()
     ensures { InterfaceBack }
 {}

@@ -1,14 +1,15 @@
-//! Blocks of pcapng files (draft-ietf-opsawg-pcapng), one at a time: read in both byte orders, and written.
+//! Blocks of pcapng files (draft-ietf-opsawg-pcapng), one at a time: read in both byte orders, and
+//! written.
 //!
 //! Nothing here takes memory but `Table::push`.
 #![tactic(auto)]
 
 pub mod blocks;
 pub mod clock;
-pub mod comment;
 pub mod frames;
 pub mod interface;
 pub mod laws;
+pub mod name;
 pub mod options;
 pub mod read;
 pub mod table;
@@ -18,6 +19,7 @@ pub use blocks::{Block, EnhancedBlock, InterfaceBlock, SimpleBlock};
 pub use clock::Clock;
 pub use frames::{BlockType, Frame};
 pub use interface::Interface;
+pub use name::Name;
 pub use options::{BlockOption, Options};
 pub use read::{begins_section, block, frame};
 pub use table::Table;

@@ -7,8 +7,11 @@ use cap_octet::{Fault, Order, u16_at};
 /// The code that ends a list of options.
 const END: u16 = 0;
 
-/// The options of a block, in order, up to code 0 or the end of their bytes. A value that doesn't fit in the bytes is
-/// fault 8, and nothing comes behind it (draft-ietf-opsawg-pcapng, "Options").
+/// The code of a comment (option opt_comment).
+const COMMENT: u16 = 1;
+
+/// The options of a block, in order, up to code 0 or the end of their bytes. A value that doesn't
+/// fit in the bytes is fault 8, and nothing comes behind it (draft-ietf-opsawg-pcapng, "Options").
 #[derive(Clone, Copy, Debug, PartialEq, Eq)]
 pub struct Options<'a> {
     /// The byte order of the block.
@@ -35,12 +38,30 @@ pub(crate) fn padded_length(length: u64) -> u64
 }
 
 impl<'a> Options<'a> {
+    ghost use Rattle.cap_pcapng.specs.Comment.{comment_in};
+
     /// The options in these bytes.
     pub(crate) fn new(order: Order, rest: &'a [u8]) -> Self
         ensures order { result.order ≡ order }
         ensures rest { result.rest.now ≡ rest.now }
     {
         Options { order, rest }
+    }
+
+    /// The value of the first comment among the options of a packet; empty where there is none.
+    /// They end too at a value that doesn't fit, which is no fault there.
+    pub fn comment(self) -> &'a [u8]
+        ensures value { result.now ≡ comment_in self.entry.order self.entry.rest.now }
+        ensures short { length result.now ≤ 65535 }
+    {
+        for option in self {
+            if let Ok(found) = option {
+                if found.code == COMMENT {
+                    return found.value;
+                }
+            }
+        }
+        &[]
     }
 }
 

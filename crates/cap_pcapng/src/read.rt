@@ -1,8 +1,10 @@
 //! A block is read in two steps: its first 12 bytes, then all of them.
 ghost use Rattle.std.specs.Prelude.{◌≡◌, ◌≤◌, ◌%◌, ◌++◌, IfOk, IfErr, None, Some};
-ghost use Rattle.cap_octet.specs.Checks.{checked, first_failing};
-ghost use Rattle.cap_pcapng.specs.Block.{IsDescribedIfAny, block_fault, body_checks, option_checks, parts_in, parts_in_body, parts_of};
+ghost use Rattle.cap_octet.specs.Checks.{checked};
+ghost use Rattle.cap_pcapng.specs.Block.{IsDescribedIfAny, block_fault, body_checks, option_checks};
+ghost use Rattle.cap_pcapng.specs.Block.{parts_in, parts_in_body, parts_of};
 ghost use Rattle.cap_pcapng.specs.Frame.{frame_fault, frame_in, is_section, most_block};
+ghost use Rattle.cap_pcapng.specs.Judged.{Judges};
 
 use crate::blocks::{Block, EnhancedBlock, InterfaceBlock, SimpleBlock, check_section};
 use crate::frames::{BlockType, Frame, MOST_BLOCK, order_of};
@@ -18,25 +20,17 @@ pub fn begins_section(bytes: &[u8; 4]) -> bool
     u32_at(Order::Little, bytes, 0) == SECTION_TYPE
 }
 
-/// The bytes of a block's type.
-fn type_bytes(bytes: &[u8; 12]) -> [u8; 4]
-    ensures { is_section result ≡ is_section bytes.now }
-{
-    let mut first = [0; 4];
-    first.copy_from_slice(&bytes[..4]);
-    first
-}
-
-/// Reads the first 12 bytes of a block that stands behind a section of this byte order, or behind none; or tells the
-/// first check that they fail: no section before a block of another type, no byte-order magic in a section header, a
-/// total length below 12 or no multiple of 4, a total length above 1,048,576.
+/// Reads the first 12 bytes of a block that stands behind a section of this byte order, or behind
+/// none; or tells the first check that they fail: no section before a block of another type, no
+/// byte-order magic in a section header, a total length below 12 or no multiple of 4, a total
+/// length above 1,048,576.
 pub fn frame(section: Option<Order>, bytes: &[u8; 12]) -> Result<Frame, Fault>
     ensures answer { result ≡ checked (frame_fault section bytes.now) (frame_in section bytes.now) }
     ensures shortest { IfOk result (λ frame. 12 ≤ frame.length) }
     ensures longest { IfOk result (λ frame. frame.length ≤ most_block) }
     ensures whole { IfOk result (λ frame. frame.length % 4 ≡ 0) }
 {
-    let is_section = begins_section(&type_bytes(bytes));
+    let is_section = u32_at(Order::Little, bytes, 0) == SECTION_TYPE;
     let order = if is_section {
         order_of(bytes).ok_or(Fault::BadByteOrderMagic)?
     } else {
@@ -63,12 +57,10 @@ pub fn frame(section: Option<Order>, bytes: &[u8; 12]) -> Result<Frame, Fault>
 
 /// Reads the body of a block, or tells the first check that it fails.
 fn body_of<'a>(frame: &Frame, body: &'a [u8]) -> Result<Block<'a>, Fault>
-    ensures parts { IfOk result (λ block. parts_of block ≡ parts_in_body frame.now.block_type frame.now.order body.now) }
+    ensures parts { Judges (body_checks frame.now.block_type frame.now.order body.now
+        ++ option_checks (parts_in_body frame.now.block_type frame.now.order body.now)) result
+        (λ block. parts_of block ≡ parts_in_body frame.now.block_type frame.now.order body.now) }
     ensures described { IfOk result IsDescribedIfAny }
-    ensures passes { IfOk result (λ _. first_failing (body_checks frame.now.block_type frame.now.order body.now
-        ++ option_checks (parts_in_body frame.now.block_type frame.now.order body.now)) ≡ None) }
-    ensures refused { IfErr result (λ fault. first_failing (body_checks frame.now.block_type frame.now.order body.now
-        ++ option_checks (parts_in_body frame.now.block_type frame.now.order body.now)) ≡ Some fault) }
 {
     match frame.block_type {
         BlockType::Section => {
@@ -83,10 +75,11 @@ fn body_of<'a>(frame: &Frame, body: &'a [u8]) -> Result<Block<'a>, Fault>
     }
 }
 
-/// Reads the block of this frame at the front of bytes; or tells the first check that it fails: there is no room for its
-/// head and its end, some of its bytes aren't there, its two total lengths differ, an obsolete packet block, a body that
-/// is too short for its type, a section header of another version than 1.0 and 1.2, an option of an interface. The
-/// checks that need the interfaces before it are its caller's.
+/// Reads the block of this frame at the front of bytes; or tells the first check that it fails:
+/// there is no room for its head and its end, some of its bytes aren't there, its two total lengths
+/// differ, an obsolete packet block, a body that is too short for its type, a section header of
+/// another version than 1.0 and 1.2, an option of an interface. The checks that need the interfaces
+/// before it are its caller's.
 pub fn block<'a>(frame: &Frame, bytes: &'a [u8]) -> Result<Block<'a>, Fault>
     ensures parts { IfOk result (λ block. parts_of block ≡ parts_in frame.now bytes.now) }
     ensures described { IfOk result IsDescribedIfAny }

@@ -1,8 +1,10 @@
 //! The interfaces of a section.
-ghost use Rattle.std.specs.Prelude.{◌≡◌, ◌≤◌, ◌<◌, ◌↔◌, [], ◌∷◌, ◌++◌, length, IsTrue, OnOk, OnErr, IfErr};
+ghost use Rattle.std.specs.Prelude.{◌≡◌, ◌≤◌, ◌<◌, ◌↔◌, [], ◌∷◌, ◌++◌, length, IsTrue, OnOk};
+ghost use Rattle.std.specs.Prelude.{OnErr, IfErr};
 
 use crate::clock::Clock;
 use crate::interface::Interface;
+use crate::name::Name;
 use cap_octet::Fault;
 use std::alloc::{Allocator, Global};
 use std::marker::Model;
@@ -16,12 +18,10 @@ struct Entry {
     link: u16,
     snap: u32,
     clock: Clock,
-    name_len: u8,
-    name: [u8; 255],
+    name: Name,
 }
 
 impl Model for Entry {
-    ghost use Rattle.std.specs.Prelude.{take};
     ghost use Rattle.cap_pcapng.specs.Interface.{Described};
 
     ghost Value = { Described };
@@ -29,7 +29,7 @@ impl Model for Entry {
     ghost view = { λ e. record {
       link = e.link;
       snap = e.snap;
-      name = take e.name_len e.name;
+      name = e.name;
       units = e.clock.units;
       offset = e.clock.offset;
     } };
@@ -41,15 +41,11 @@ impl Entry {
     fn new(interface: &Interface<'_>) -> Self
         ensures { result ≡ described interface.now }
     {
-        let len = interface.name.len();
-        let mut name = [0; 255];
-        name[..len].copy_from_slice(interface.name);
         Entry {
             link: interface.link,
             snap: interface.snap,
             clock: interface.clock,
-            name_len: len as u8,
-            name,
+            name: Name::new(interface.name),
         }
     }
 
@@ -59,7 +55,7 @@ impl Entry {
         Interface {
             link: self.link,
             snap: self.snap,
-            name: &self.name[..usize::from(self.name_len)],
+            name: self.name.bytes(),
             clock: self.clock,
         }
     }
@@ -104,8 +100,8 @@ impl<A: Allocator> Table<A> {
         self.entries.len() == MOST_INTERFACES
     }
 
-    /// Tells the caller's proof that there are at most 256 interfaces, with names of at most 255 bytes. Nothing happens at
-    /// run time.
+    /// Tells the caller's proof that there are at most 256 interfaces, with names of at most 255
+    /// bytes. Nothing happens at run time.
     pub fn bounds(&self)
         ensures { AreFew self.now }
     {
@@ -119,8 +115,8 @@ impl<A: Allocator> Table<A> {
         self.entries.clear();
     }
 
-    /// Gives an interface the next number. A full table is fault 11, and a growth that is refused fault 16; either
-    /// leaves the table.
+    /// Gives an interface the next number. A full table is fault 11, and a growth that is refused
+    /// fault 16; either leaves the table.
     pub fn push(&mut self, interface: &Interface<'_>) -> Result<(), Fault>
         ensures pushed { OnOk result (self.new ≡ self.old ++ described interface.now ∷ []) }
         ensures kept { OnErr result (self.new ≡ self.old) }

@@ -7,5 +7,5 @@ pub returns-clause-found : goal.returns-clause-found
 returns-clause-found g c =
     enhanced_found c.args.block.now.order c.args.table.now (described c.in-Some.interface) c.args.block.now.interface c.args.block.now.ticks c.args.block.now.captured c.args.block.now.orig
     c.in_ok-time.time c.args.size _ c.args.block.now.rest.now _
-    (known_interface c.get.result described c.in-Some.interface _ c.in-Some.is c.get.ensures) c.in_ok-data.ensures.passes
+    (known_interface c.get.result described c.in-Some.interface _ c.in-Some.is c.get.ensures) c.in_ok-data.ensures.0
     (sym c.in_ok-time.was ∙ c.time.ensures.answer) c.in_ok-time.ensures.in_range c.options.ensures.rest refl
