@@ -48,16 +48,12 @@ def readable(path):
         yield number, "" if is_fenced else re.sub(r"`[^`]*`", "`", line)
 
 
-def main():
-    files = [pathlib.Path(name).resolve() for name in sys.argv[1:]]
-    files = files or [path for pattern in PATTERNS for path in sorted(ROOT.glob(pattern)) if path.name != "GLOSSARY.md"]
-    found = [
-        f"{path.relative_to(ROOT)}:{number}: {match.group(0)}: {better}"
-        for path in files for number, line in readable(path)
-        for word, better in WORDS for match in re.finditer(word, line)
-    ]
-    print(*found, sep="\n", end="\n" if found else "")
-    sys.exit(1 if found else 0)
-
-
-main()
+files = [pathlib.Path(name).resolve() for name in sys.argv[1:]]
+files = files or [path for pattern in PATTERNS for path in sorted(ROOT.glob(pattern)) if path.name != "GLOSSARY.md"]
+found = [
+    f"{path.relative_to(ROOT)}:{number}: {match.group(0)}: {better}"
+    for path in files for number, line in readable(path)
+    for word, better in WORDS for match in re.finditer(word, line)
+]
+print(*found, sep="\n", end="\n" if found else "")
+sys.exit(1 if found else 0)
