@@ -14,7 +14,7 @@ const MOST_INTERFACES: u32 = 3;
 /// Resolutions of times: those of powers of ten, and above them those of powers of two.
 const RESOLUTIONS: [u16; 8] = [0, 3, 6, 7, 9, 12, 0x8a, 0xa0];
 
-/// Types of blocks that are gone over: names, statistics, journals, secrets, custom ones.
+/// Types of blocks that are skipped: names, statistics, journals, secrets, custom ones.
 const SKIPPED: [u16; 6] = [4, 5, 9, 10, 0xbad, 77];
 
 /// A capture, and what is in it.
@@ -236,7 +236,7 @@ impl Section {
         self.file.put_block(1, &body)
     }
 
-    /// Puts a packet, an interface or a block that is gone over.
+    /// Puts a packet, an interface or a block that is skipped.
     fn go_on(
         &mut self,
         alloc: Global,
@@ -255,7 +255,7 @@ impl Section {
         }
     }
 
-    /// Puts a block that is gone over.
+    /// Puts a block that is skipped.
     fn put_skipped(&mut self, alloc: Global, random: &mut Random) -> Result<(), AllocError> {
         let mut body = self.body(alloc);
         for _ in 0..random.below(8) {

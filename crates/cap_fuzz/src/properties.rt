@@ -13,7 +13,7 @@ use std::test::Fail;
 /// The greatest number that a range has.
 const LAST: u64 = (1 << 63) - 1;
 
-/// How many bytes the heading of a format has.
+/// How many bytes the file header or section header of a format has.
 fn heading_size(format: Format) -> usize {
     match format {
         Format::Pcapng => 28,

@@ -13,7 +13,7 @@ use std::test::Fail;
 /// its resolution, and the blocks.
 const MERGED: usize = 28 + 32 + 32 * 1_048_576;
 
-/// Two blocks in hand are 2 MiB, and a list that doubles has its earlier half beside it.
+/// Two current blocks are 2 MiB, and a list that doubles has its earlier half beside it.
 #[test]
 fn a_merge_holds_one_block_of_each_input(rt: HostRuntime) -> Result<(), Fail> {
     let bytes = longest_blocks(rt.alloc(), 16)?;

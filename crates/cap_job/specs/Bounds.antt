@@ -76,7 +76,7 @@ goes_on (Done end) = false
 
 -- ---- how many steps were made
 
--- the bytes that were read of the inputs: those that are gone over, and those of the current units
+-- the bytes that were read of the inputs: those that are skipped, and those of the current units
 abbrev pub reads_of : List HeadView → ℕ
 reads_of [] = 0
 reads_of (h ∷ hs) = behind h.source + reads_of hs
@@ -90,11 +90,11 @@ owed f = place_left f.place (length f.heads) + (weight_of f.place - 1) * waiting
 abbrev pub most_turns : FeedView → ℕ
 most_turns f = 2 * reads_of f.heads + length f.heads + 1
 
--- a step that goes on is one of those that were owed, or it read bytes that stand for it and for what is owed now
+-- a step that goes on is one of those that were owed, or it read bytes that pay for it and for what is owed now
 abbrev pub IsPaid : FeedView → FeedView → Type 0
 IsPaid old new = owed new + 1 + most_turns old ≤ owed old + most_turns new
 
--- the steps that were made, with those that are owed, are no more than what was read stands for
+-- the steps that were made, with those that are owed, are no more than what was read pays for
 abbrev pub HasFewTurns : Option ℕ → ℕ → FeedView → Type 0
 HasFewTurns None turns feed = turns + owed feed ≤ most_turns feed
 HasFewTurns (Some status) turns feed = Unit {0}

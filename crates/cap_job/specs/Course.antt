@@ -124,7 +124,7 @@ abbrev pub first_link : List Rest → Option ℕ
 first_link [] = None
 first_link (r ∷ rs) = option_or (first_link_of r.items.declared) (first_link rs)
 
--- what a clean end adds: a capture without packets has its heading
+-- what a clean end adds: a capture without packets has its file header or section header
 abbrev pub closing : Form → Option ℕ → List Captured → List ℕ
 closing (AsCapture format) link [] = heading format (unwrap_or link 1)
 closing (AsCapture format) link (p ∷ ps) = []

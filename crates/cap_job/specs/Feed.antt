@@ -1,4 +1,4 @@
--- What a contract sees of the inputs of a job, and how they stand in their texts.
+-- What a contract sees of the inputs of a job, and how far they are in their captures.
 use Rattle.std.specs.Prelude.{◌≡◌, ◌≢◌, ◌⊎◌, ◌&&◌, ◌==◌, ℕ, zero, suc, ◌+◌, ◌*◌, ◌-◌, ◌^◌, ◌<◌, ◌≤◌, Bool, true, false, max, List, [], ◌∷◌, ◌++◌, length, drop, Option, None, Some, Result, Ok, Err}
 use Rattle.std.specs.List.{All, slice_set}
 use Rattle.std.specs.Option.{option_or}
@@ -88,7 +88,7 @@ wholes [] hs fs = []
 wholes (s ∷ ss) [] fs = []
 wholes (s ∷ ss) (h ∷ hs) [] = []
 
--- each stands in its text
+-- each is at a place of its capture
 abbrev pub Standing : List Stood → List HeadView → Type 0
 Standing [] [] = Unit {0}
 Standing (s ∷ ss) (h ∷ hs) = IsAt s.text s.done s.packets h.waiting h.source × Standing ss hs

@@ -40,7 +40,7 @@ impl<I: Input, A: Allocator> Model for Head<I, A> {
 /// Which input is next, by the order of the packets.
 #[derive(Clone, Copy, Debug, PartialEq, Eq)]
 pub enum Place {
-    /// The inputs come one behind another, and this one is in hand.
+    /// The inputs come one behind another, and this one is the current one.
     Turn(usize),
     /// By the greatest times; first the inputs from one up to another are read on.
     Merge(usize, usize),

@@ -294,7 +294,7 @@ where
 }
 
 /// Runs a proper command. `names` are those of the inputs, then of the output. It returns the
-/// status, 0 where all went well, 1 where a fault was told and 2 where an expression or a listing
+/// status, 0 where all went well, 1 where a fault was reported, 2 where an expression or a listing
 /// is refused, and hands back the output and the messages' device. Where there is no memory to
 /// begin it nothing was read or written but a message. A message that can't be written is lost.
 pub fn run<I, O, E, A>(

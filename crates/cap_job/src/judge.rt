@@ -50,7 +50,7 @@ pub struct Judge<A: Allocator> {
     /// Where duplicates are searched for.
     window: Option<Window<A>>,
     passed: u64,
-    /// Of the packets of the input in hand, where they are counted.
+    /// Of the packets of the current input, where they are counted.
     tally: Tally,
 }
 
@@ -240,7 +240,7 @@ impl<A: Allocator> Judge<A> {
         Ok(passing(last))
     }
 
-    /// What was counted of the input in hand, where packets are counted. The count begins anew.
+    /// What was counted of the current input, where packets are counted. The count begins anew.
     pub fn close(&mut self) -> Option<Tally>
         ensures closes { Closes (is_count self.old.asked) (judge_stand self.old) result
             (judge_stand self.new) }

@@ -13,7 +13,7 @@ abbrev pub failures_of : {X E : Type 0} → Result X E → ℕ
 failures_of (Ok value) = 0
 failures_of (Err fault) = 1
 
--- The first n unread bytes went to the front of the buffer.
+-- The first n unread bytes went to the start of the buffer.
 pub record Takes (unread buf : List ℕ) (n : ℕ) (unread' buf' : List ℕ) : Type 0 where
   pub there : n ≤ length unread
   pub bytes : buf' ≡ take n unread ++ drop n buf
@@ -34,7 +34,7 @@ pub record TakesFull (unread buf : List ℕ) (n : ℕ) (unread' buf' : List ℕ)
   pub taken : Takes unread buf n unread' buf'
   pub full : n ≡ min (length buf) (length unread)
 
--- Where the device failed, it had given the first k bytes, fewer than the buffer has room for. They are in its front,
+-- Where the device failed, it had given the first k bytes, fewer than the buffer has room for. They are at its start,
 -- and are counted.
 pub record TakesFront (unread buf : List ℕ) (given : ℕ) (unread' buf' : List ℕ) (given' : ℕ) : Type 0 where
   pub k : ℕ

@@ -33,7 +33,7 @@ pub trait Input {
     /// Whether it never fails, whatever is read. No call changes that.
     ghost never_fails: { Self → Bool };
 
-    /// Reads into the front of the buffer and returns how many bytes came. None for a buffer that
+    /// Reads into the start of the buffer and returns how many bytes came. None for a buffer that
     /// isn't empty means the end. An error is a failure of the device in this call: it gave nothing
     /// and left the buffer.
     fn read(&mut self, buf: &mut [u8]) -> Result<usize, DeviceFault>
@@ -63,7 +63,7 @@ pub trait Output {
     /// How many bytes in all it takes at least before it fails. No call changes that.
     ghost room: { Self → ℕ };
 
-    /// Writes a front of the bytes, at least one where there is one, and returns how many. An error
+    /// Writes a prefix of the bytes, at least one if there is one, and returns how many. An error
     /// is a failure of the device in this call: it took nothing.
     fn write(&mut self, buf: &[u8]) -> Result<usize, DeviceFault>
         ensures within { IfOk result (λ n. n ≤ length buf.now) }
@@ -76,9 +76,9 @@ pub trait Output {
     ghost filled: { (s : Self) → 0 < failures s → room s ≤ length (written s) };
 }
 
-/// Fills the buffer from its front and returns how many bytes came: fewer than it has room for only
+/// Fills the buffer from its start and returns how many bytes came: fewer than it has room for only
 /// at the end. An error is a failure of the device in this call, after fewer bytes than the buffer
-/// has room for; these are in its front.
+/// has room for; these are at its start.
 #[inline(always)]
 pub fn read_full<I: Input>(input: &mut I, buf: &mut [u8]) -> Result<usize, DeviceFault>
     ensures within { IfOk result (λ n. n ≤ length buf.old) }

@@ -58,7 +58,7 @@ fn write_usage_word(rt: &HostRuntime, word: &str) -> Result<(), Fail> {
     Ok(())
 }
 
-/// Writes what may and must stand in a line of the command.
+/// Writes what may and must be in a line of the command.
 fn write_synopsis(rt: &HostRuntime, name: &str, help: &Help<'_>) -> Result<(), Fail> {
     let command = name.strip_prefix("capkit-").unwrap_or("");
     if command.is_empty() {
@@ -144,7 +144,7 @@ fn write_version(rt: &HostRuntime) -> Result<(), Fail> {
     Ok(())
 }
 
-/// Writes what a line of the prose stands for.
+/// Writes what a line of the prose means.
 fn write_line(rt: &HostRuntime, name: &str, help: &Help<'_>, line: &str) -> Result<(), Fail> {
     match line {
         "@synopsis" => write_synopsis(rt, name, help),

@@ -46,7 +46,7 @@ fn write_option(rt: &HostRuntime, option: &Entry<'_>, name: &str) -> Result<(), 
     Ok(())
 }
 
-/// Writes an argument: the last one stands for as many words as there are where its form ends with dots.
+/// Writes an argument: the last one takes as many words as there are where its form ends with dots.
 fn write_argument(rt: &HostRuntime, argument: &Entry<'_>) -> Result<(), Fail> {
     let many = if argument.form.ends_with("...") {
         "*"

@@ -1,4 +1,4 @@
--- Pcap savefiles as they are written: the heads, and which packets they hold.
+-- Pcap savefiles as they are written: the headers, and which packets they hold.
 use Rattle.std.specs.Prelude.{ℕ, ◌^◌, ◌/◌, ◌%◌, Bool, List, [], ◌∷◌, ◌++◌, length, nat_lt, nat_le}
 use Rattle.byteorder.specs.Endian.{little_bytes}
 use Rattle.cap_octet.specs.Packet.{Captured}
@@ -11,7 +11,7 @@ use Rattle.cap_pcap.specs.Record.{most_captured, nanoseconds_of_part}
 use Rattle.cap_pcap.specs.declared.head.Resolution.{Resolution}
 use Rattle.cap_pcap.specs.declared.head.Resolution.TheVariants.{Microseconds, Nanoseconds}
 
--- the formats whose heads stand here
+-- the formats whose headers are here
 abbrev pub IsPcap : Format → Type 0
 IsPcap Pcap = Unit {0}
 IsPcap NsecPcap = Unit {0}

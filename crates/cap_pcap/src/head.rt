@@ -1,4 +1,4 @@
-//! What the heads of a savefile and of its records say.
+//! What the headers of a savefile and of its records say.
 ghost use Rattle.std.specs.Prelude.{◌≡◌, ◌/◌, ◌≤◌, ◌<◌, ◌^◌, length, IfOk};
 ghost use Rattle.cap_octet.specs.Checks.{checked, first_failing};
 ghost use Rattle.cap_pcap.specs.Header.{form_in, head_fault, head_in, magic};

@@ -1,4 +1,4 @@
-//! The heads of pcap savefiles and of their records (draft-ietf-opsawg-pcap), one at a time.
+//! The headers of pcap savefiles and of their records (draft-ietf-opsawg-pcap), one at a time.
 //!
 //! Nothing here takes memory.
 #![tactic(auto)]

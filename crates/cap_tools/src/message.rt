@@ -55,7 +55,7 @@ pub fn tell_write_failed<O: Output>(output: &mut O, name: &str) -> Result<(), De
     write_parts(output, &parts)
 }
 
-/// Reports that there was no memory, where no packet or block was in hand.
+/// Reports that there was no memory, where there was no current packet or block.
 pub fn tell_no_memory<O: Output>(output: &mut O) -> Result<(), DeviceFault>
     ensures told { IsTrue O.tells → AppendsOrStops result (O.written output.old) no_memory_message
         (O.written output.new) }

@@ -199,7 +199,7 @@ fn stopped(rt: &HostRuntime, stop: Stop<'_>) -> u8
     FAULT
 }
 
-/// Runs the command of the line over the files and streams that its names stand for, and returns
+/// Runs the command of the line over the files and streams that its names mean, and returns
 /// its status.
 ///
 /// The listing is read, then the inputs are opened in order, then the output is created, then the

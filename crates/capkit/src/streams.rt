@@ -1,4 +1,4 @@
-//! What names stand for: files and the standard streams.
+//! What names mean: files and the standard streams.
 ghost use Rattle.std.specs.Prelude.{◌≡◌, ◌||◌, IfOk, None, false, is_err};
 ghost use Rattle.std.specs.Io.{WritesAtMost};
 ghost use Rattle.std.specs.Io.KnownBytes.{WriteAppends};

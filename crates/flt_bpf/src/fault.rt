@@ -15,7 +15,7 @@ pub enum CheckFault {
     Empty,
     /// C2: there are more than 32,768 instructions.
     TooLong,
-    /// C3: an instruction's code stands for nothing.
+    /// C3: an instruction's code isn't in the table.
     UnknownCode,
     /// C4: a target of an instruction is not inside the program.
     JumpOut,

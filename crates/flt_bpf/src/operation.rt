@@ -1,4 +1,4 @@
-//! What the codes of instructions stand for.
+//! What the codes of instructions mean.
 
 ghost use Rattle.std.specs.Prelude.{◌≡◌, Some};
 ghost use Rattle.flt_bpf.specs.Instructions.{code_of, operation_of};
@@ -101,7 +101,7 @@ pub enum Operation {
     CopyToAccumulator,
 }
 
-/// The operation that a code stands for, or `None` if it stands for nothing.
+/// The operation with this code, or `None` if no operation has it.
 // Where this is inlined, the compiler makes one jump of this match and of the one on its result.
 #[inline(always)]
 #[tactic(auto, unfolding(crate::specs::Instructions::operation_of))]
@@ -170,7 +170,7 @@ pub fn decode(code: u16) -> Option<Operation>
 }
 
 impl Operation {
-    /// The code that stands for the operation. `decode` gives the operation back.
+    /// The code of the operation. `decode` gives the operation back.
     // Where this is inlined, the code of an operation that is written out costs nothing.
     #[inline(always)]
     #[tactic(auto, unfolding(crate::specs::Instructions::operation_of))]

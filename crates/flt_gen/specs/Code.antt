@@ -40,7 +40,7 @@ use Rattle.flt_bpf.specs.Instructions.{code_of}
 abbrev pub plain : Operation → ℕ → Insn
 plain operation k = record { code = code_of operation; jt = 0; jf = 0; k = k }
 
--- the machine's operator that stands for one of an expression
+-- the machine's operator for one of an expression
 abbrev pub machine_operator : Operator → MachineOperator
 machine_operator Add = arithmetic.Add
 machine_operator Subtract = arithmetic.Subtract

@@ -227,7 +227,7 @@ host_formula link protocol direction (value.Ip6 address prefix) = ip6_formula li
 host_formula link protocol direction (value.Mac address) = ether_host link direction address
 host_formula link protocol direction _ = Single (Known false)
 
--- the network of IPv4 that a value stands for, if it does
+-- the network of IPv4 that a value means, if it means one
 abbrev pub ip4_formula : Link → Option Protocol → Direction → Option Ip4Net → Formula
 ip4_formula link protocol direction (Some net) = net_formula link protocol (net_test direction (Some net.mask) net.address)
 ip4_formula link protocol direction None = Single (Known false)

@@ -34,8 +34,8 @@ fn program_insns<A: Allocator + Clone + Drop>(
     Ok(walk.into_insns())
 }
 
-/// A program that returns other than 0 exactly on the packets that the expression, read on the
-/// link, says yes to. It has at most as many instructions as the expression's bound, and none of
+/// A program that accepts (returns non-zero) exactly the packets that the expression, read on the
+/// link, matches. It has at most as many instructions as the expression's bound, and none of
 /// them is met twice in a run.
 ///
 /// A jump (`ja`) stands only where a conditional jump's target is more than 255 instructions past

@@ -26,7 +26,7 @@ abbrev pub proto_tests : Option Protocol → ℕ
 proto_tests None = (1 + 1) + (1 + 1)
 proto_tests (Some p) = 1 + 1
 
--- `tcp` and `udp` stand for `proto 6` and `proto 17`, `icmp` for `ip proto 1`, `icmp6` for `ip6 proto 58`
+-- `tcp` and `udp` mean `proto 6` and `proto 17`, `icmp` for `ip proto 1`, `icmp6` for `ip6 proto 58`
 abbrev pub check_tests : Protocol → ℕ
 check_tests protocol.Tcp = proto_tests None
 check_tests protocol.Udp = proto_tests None
@@ -38,7 +38,7 @@ check_tests _ = 1
 abbrev pub ether_tests : Direction → ℕ
 ether_tests d = 1 + side_tests d 2
 
--- `broadcast` stands for a destination, a multicast is one test
+-- `broadcast` means a destination, a multicast is one test
 abbrev pub cast_tests : Cast → ℕ
 cast_tests casts.Broadcast = ether_tests (direction.One Destination)
 cast_tests casts.Multicast = 1 + 1

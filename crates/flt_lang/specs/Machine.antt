@@ -91,7 +91,7 @@ abbrev pub reach : List TokenKind → ℕ
 reach [] = 8
 reach (t ∷ ts) = reach_of t
 
--- the mask of a number that stands for a network
+-- the mask of a number that means a network
 abbrev pub prefix_mask : Option ℕ → NetMask
 prefix_mask None = mask.Unwritten
 prefix_mask (Some m) = mask.Prefix m

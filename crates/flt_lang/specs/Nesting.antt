@@ -30,7 +30,7 @@ is_closing t = is_closing_kind t.kind
 unfoldable pub is_prefix : Token → Bool
 is_prefix t = is_prefix_kind t.kind
 
--- some front has over 100 more `(` and `[` than `)` and `]`
+-- some prefix has over 100 more `(` and `[` than `)` and `]`
 abbrev pub HasDeepFront : List Token → Type 0
 HasDeepFront ts = (n : ℕ) × (count_by is_closing (take n ts) + 100 < count_by is_opening (take n ts))
 

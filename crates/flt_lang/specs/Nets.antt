@@ -1,4 +1,4 @@
--- The networks that values stand for: an address and its mask, as numbers of 32 or 128 bits.
+-- The networks that values mean: an address and its mask, as numbers of 32 or 128 bits.
 use Rattle.std.specs.Prelude.{ℕ, ◌-◌, ◌*◌, ◌%◌, ◌^◌, Bool, false, not, ◌||◌, ◌==◌, bit_and, Option, Some, None}
 use Rattle.flt_lang.specs.declared.value.NetMask.{NetMask}
 use Rattle.flt_lang.specs.declared.value.NetMask.TheVariants as mask

@@ -1,4 +1,4 @@
--- What may stand before a value, and the values, in tokens: which one the tokens at the front have, and which tokens are left behind it.
+-- What may stand before a value, and the values, in tokens: which one the tokens at the start have, and which tokens are left behind it.
 use Rattle.std.specs.Prelude.{ℕ, List, ◌∷◌, Option, Some, None, Bool, true, false, is_some, ◌||◌}
 use Rattle.flt_words.specs.declared.token.Protocol.{Protocol}
 use Rattle.flt_words.specs.declared.token.Side.{Side}

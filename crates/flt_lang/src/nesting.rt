@@ -7,7 +7,7 @@ ghost use Rattle.flt_lang.specs.Nesting.{HasLongPrefix, IsTooDeep};
 
 use flt_words::{Operator, Token, TokenKind};
 
-/// Whether some front of the tokens has over 100 more `(` and `[` than `)` and `]`, or over 100
+/// Whether some prefix of the tokens has over 100 more `(` and `[` than `)` and `]`, or over 100
 /// tokens `not` and `-` follow one another.
 pub(crate) fn is_nested_too_deep(tokens: &[Token]) -> bool
     ensures { IsTrue result ↔ IsTooDeep tokens.now }

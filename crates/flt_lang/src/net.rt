@@ -21,7 +21,7 @@ pub(crate) struct Ip6Net {
 }
 
 impl Value {
-    /// The network of IPv4 that the value stands for. A number is the first byte; without a mask
+    /// The network of IPv4 that the value means. A number is the first byte; without a mask
     /// the parts that are written are the network.
     pub fn ip4_net(self) -> Option<Ip4Net>
         ensures { result ≡ ip4_net self }
@@ -39,7 +39,7 @@ impl Value {
         }
     }
 
-    /// The network of IPv6 that the value stands for.
+    /// The network of IPv6 that the value means.
     pub(crate) fn ip6_net(self) -> Option<Ip6Net>
         ensures { result ≡ ip6_net self }
     {

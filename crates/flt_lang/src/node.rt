@@ -4,7 +4,7 @@ use crate::quals::{FullQuals, Quals};
 use crate::value::Value;
 use flt_words::{Cast, Comparison, Join, Operator, Protocol, Size};
 
-/// A node of a tree. The nodes of an expression stand in the order in which a machine with a stack
+/// A node of a tree. The nodes of an expression are in the order in which a machine with a stack
 /// would work on them: operands first, then what takes them.
 #[derive(Clone, Copy, PartialEq, Eq)]
 pub enum Node {
@@ -30,7 +30,7 @@ pub enum Node {
     Literal(u32),
     /// The length of the packet.
     Len,
-    /// A name that stands for a number.
+    /// A name of a number.
     Named(u32),
     /// Takes a number, the place, and reads so many bytes there: 1 where no size is written.
     Load(Protocol, u32),

@@ -128,7 +128,7 @@ fn accessor_tests(protocol: Protocol) -> u8
 }
 
 impl Node {
-    /// How many tests it stands for.
+    /// How many tests it counts as.
     pub(crate) fn tests(self) -> u8
         ensures count { result ≡ node_tests self }
         ensures few { result ≤ 27 }
@@ -143,7 +143,7 @@ impl Node {
         }
     }
 
-    /// How many nodes of arithmetic it stands for.
+    /// How many nodes of arithmetic it counts as.
     pub(crate) fn size(self) -> u8
         ensures count { result ≡ node_size self }
         ensures few { result ≤ 2 }

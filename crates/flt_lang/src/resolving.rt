@@ -1,4 +1,4 @@
-//! Values get the qualifiers that stand for them.
+//! Values get the qualifiers that hold for them.
 
 ghost use Rattle.std.specs.Prelude.{◌≡◌, map, IfOk, IfErr, Some, None};
 ghost use Rattle.std.specs.List.{list_any};

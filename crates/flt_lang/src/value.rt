@@ -1,6 +1,6 @@
 //! Values, as they are written.
 
-/// An IPv4 address or the front of one.
+/// An IPv4 address or its first parts.
 #[derive(Clone, Copy, PartialEq, Eq)]
 pub struct Dotted {
     /// The parts from the highest byte on, missing ones 0.

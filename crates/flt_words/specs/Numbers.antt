@@ -29,7 +29,7 @@ pub data IsRange : List ℕ → ℕ → ℕ → Type 0 where
 abbrev pub is_word_sized : ℕ → Bool
 is_word_sized n = nat_lt n (2 ^ 32)
 
--- the answer for a word of which `Stands` says what it stands for, where only what passes the test may be answered
+-- the answer for a word of which `Stands` says what it means, where only what passes the test may be answered
 abbrev pub Answers : {A : Type 0} → (A → Type 0) → (A → Bool) → Result A WordFault → Type 0
 Answers {A} Stands test (Ok a) = Stands a × (test a ≡ true)
 Answers {A} Stands test (Err fault.TooLarge) = (a : A) × Stands a × (test a ≡ false)

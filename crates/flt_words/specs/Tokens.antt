@@ -14,7 +14,7 @@ pub record IsWordPiece (inside : Bool) (piece : List ℕ) : Type 0 where
   pub within : (i : ℕ) → i < length piece → within_word inside (slice_index piece i) ≡ true
   pub ends : starts_word inside (slice_index piece (length piece - 1)) ≡ true
 
--- what a piece means at a place: a word what it stands for, a symbol its token
+-- what a piece means at a place: a word its meaning, a symbol its token
 pub data PieceMeans (inside : Bool) (place : ℕ) (piece : List ℕ) : Result TokenKind ExprFault → Type 0 where
   word_meaning : {answer : Result TokenKind ExprFault} → IsWordPiece inside piece → WordMeans place piece answer → PieceMeans inside place piece answer
   symbol_meaning : {kind : TokenKind} → symbol_of inside piece ≡ Some kind → PieceMeans inside place piece (Ok kind)
@@ -24,13 +24,13 @@ pub data IsPiece (inside : Bool) (piece : List ℕ) : Type 0 where
   word : IsWordPiece inside piece → IsPiece inside piece
   symbol : {kind : TokenKind} → symbol_of inside piece ≡ Some kind → IsPiece inside piece
 
--- the first n bytes are the longest piece at the front
+-- the first n bytes are the longest piece at the start
 pub record IsLongest (inside : Bool) (rest : List ℕ) (n : ℕ) : Type 0 where
   pub in_range : n ≤ length rest
   pub piece : IsPiece inside (take n rest)
   pub longest : (m : ℕ) → m ≤ length rest → IsPiece inside (take m rest) → m ≤ n
 
--- the front of a text that goes on at a place is a token, and this long
+-- the start of a text that goes on at a place is a token, and this long
 pub record IsToken (inside : Bool) (place : ℕ) (rest : List ℕ) (kind : TokenKind) (n : ℕ) : Type 0 where
   pub longest : IsLongest inside rest n
   pub means : PieceMeans inside place (take n rest) (Ok kind)

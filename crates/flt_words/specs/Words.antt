@@ -1,4 +1,4 @@
--- What a word stands for.
+-- What a word means.
 use Rattle.std.specs.Prelude.{◌≡◌, ℕ, List, Bool, ◌&&◌, true, false, Some, Result, Ok, Err}
 use Rattle.flt_words.specs.declared.fault.ExprFault.{ExprFault}
 use Rattle.flt_words.specs.declared.fault.ExprFault.TheVariants as fault
@@ -8,7 +8,7 @@ use Rattle.flt_words.specs.Addresses.{IsDotted, IsIp6, IsMac}
 use Rattle.flt_words.specs.Numbers.{IsNumber, IsRange, is_word_sized}
 use Rattle.flt_words.specs.Spellings.{keyword_of}
 
--- the word stands for this, its numbers as large as they may be
+-- the word means this, its numbers as large as they may be
 pub data Stands : List ℕ → TokenKind → Type 0 where
   keyword : {word : List ℕ} {kind : TokenKind} → keyword_of word ≡ Some kind → Stands word kind
   number : {word : List ℕ} {n : ℕ} → IsNumber word n → Stands word (token.Number n)

@@ -7,7 +7,7 @@ ghost use Rattle.flt_words.specs.declared.token.TokenKind.{TokenKind};
 ghost use Rattle.flt_words.specs.Tokens.{Tokens};
 ghost use Rattle.flt_words.specs.Words.{Stands};
 
-/// A word is of one kind at most, and stands for one value of it.
+/// A word is of one kind at most, and means one value of it.
 pub fn one_kind()
     ensures { (word : List ℕ) (a b : TokenKind) → Stands word a → Stands word b → a ≡ b }
 {}

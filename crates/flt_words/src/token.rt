@@ -28,7 +28,7 @@ pub enum Side {
     Destination,
 }
 
-/// What a value stands for: `host`, `net`, `port`, `portrange`, `proto`.
+/// What a value means: `host`, `net`, `port`, `portrange`, `proto`.
 #[derive(Clone, Copy, PartialEq, Eq)]
 pub enum ValueType {
     Host,
@@ -101,7 +101,7 @@ pub enum TokenKind {
     Number(u32),
     /// A name of a header field or of a TCP flag, as its number: `tcpflags` is 13.
     Name(u32),
-    /// An IPv4 address or the front of one: two to four parts, the missing ones 0.
+    /// An IPv4 address or its first parts: two to four parts, the missing ones 0.
     Dotted { address: u32, parts: u8 },
     /// Two numbers joined by a dash, in the order in which they stand.
     Range { first: u32, last: u32 },

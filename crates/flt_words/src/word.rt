@@ -1,4 +1,4 @@
-//! What a word stands for.
+//! What a word means.
 
 ghost use Rattle.std.specs.Prelude.{◌≡◌, None, false, true};
 ghost use Rattle.flt_words.specs.Characters.{has};
@@ -75,7 +75,7 @@ fn plain(word: &[u8]) -> Result<TokenKind, WordFault>
     }
 }
 
-/// What a word stands for.
+/// What a word means.
 fn kind_of(word: &[u8]) -> Result<TokenKind, WordFault>
     ensures { Answers (Stands word.now) fits result }
 {
@@ -90,7 +90,7 @@ fn kind_of(word: &[u8]) -> Result<TokenKind, WordFault>
     }
 }
 
-/// What the word at a place stands for.
+/// What the word at a place means.
 pub(crate) fn word_kind(place: u32, word: &[u8]) -> Result<TokenKind, ExprFault>
     ensures { WordMeans place word.now result }
 {

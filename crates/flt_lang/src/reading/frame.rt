@@ -23,7 +23,7 @@ pub enum Frame {
 }
 
 /// An operand that was just read. The nodes of a truth and of a number are written. The others may
-/// still become either: a plain number, which may also be the front of a longer value, and a number
+/// still become either: a plain number, which may also begin a longer value, and a number
 /// in parentheses or with the length of a prefix behind it.
 #[derive(Clone, Copy)]
 pub enum Operand {

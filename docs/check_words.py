@@ -1,0 +1,59 @@
+#!/usr/bin/env python3
+"""Lists private words in the pages and in comments, each with the word of the field that is to stand there.
+
+usage: check_words.py [FILE..]
+
+Without files it reads the pages (but the glossary) and the comments of the crates' src/ and specs/. Code between backticks
+and in fenced blocks is left out. The status is 1 if a word is found.
+"""
+import pathlib
+import re
+import sys
+
+ROOT = pathlib.Path(__file__).resolve().parent.parent
+PATTERNS = ["README.md", "CONTRIBUTING.md", "CHANGELOG.md", "docs/*.md", "crates/*/src/**/*.rt", "crates/*/specs/*.antt"]
+COMMENTS = {".rt": re.compile(r"(?:^|\s)//[/!]?\s(.*)"), ".antt": re.compile(r"(?:^|\s)--\s(.*)")}
+WORDS = [
+    (r"\banswers? other than 0\b|\bsays yes\b", "accepts the packet, returns non-zero"),
+    (r"\banswers (it|that fault|true|false|\d|E\d)|\banswers? (it|that) again\b", "returns"),
+    (r"\breads yes\b|\breads no[.,;]", "matches, doesn't match"),
+    (r"\blets? pass\b", "matches, keeps"),
+    (r"\bfaults?( is| are| was)? (tells?|told)\b|\b(tells|told) (fault|as|once|on standard)\b", "reports"),
+    (r"\bwants? of memory\b|\bno memory comes\b", "out of memory"),
+    (r"\brefused growths?\b|\bgrowth is refused\b", "failed allocation"),
+    (r"\bheadings?\b", "file header, section header"),
+    (r"\b(a|block's|record's|option's) head\b|\bheads (of (a|pcap)|stand)\b", "header"),
+    (r"(?<!in )\bfronts?\b", "prefix, start"),
+    (r"\b(goes|gone|passed) over\b", "skips, skipped"),
+    (r"\bleaves (it|the table|the sink)([.,;]|$)", "leaves it unchanged"),
+    (r"\b(come|comes|came) whole\b", "complete"),
+    (r"\bin hand\b", "current"),
+    (r"\bdenials?\b", "negation"),
+    (r"\bwrong bod(y|ies)\b", "wrong implementation"),
+    (r"\b(contract|clause|law)s? (say|says|said)\b", "states"),
+    (r"\blooked for in this order\b", "checked in this order"),
+    (r"\bstands? (for\b|in\b(?! (front|place|either)))", "means, is in"),
+]
+
+
+def readable(path):
+    """The numbered lines of a file's comments, or of a page's text, without code."""
+    comment, is_fenced = COMMENTS.get(path.suffix), False
+    for number, line in enumerate(path.read_text().splitlines(), 1):
+        if comment:
+            found = comment.search(line)
+            line = found.group(1) if found else ""
+        elif line.lstrip().startswith("```"):
+            is_fenced = not is_fenced
+        yield number, "" if is_fenced else re.sub(r"`[^`]*`", "`", line)
+
+
+files = [pathlib.Path(name).resolve() for name in sys.argv[1:]]
+files = files or [path for pattern in PATTERNS for path in sorted(ROOT.glob(pattern)) if path.name != "GLOSSARY.md"]
+found = [
+    f"{path.relative_to(ROOT)}:{number}: {match.group(0)}: {better}"
+    for path in files for number, line in readable(path)
+    for word, better in WORDS for match in re.finditer(word, line)
+]
+print(*found, sep="\n", end="\n" if found else "")
+sys.exit(1 if found else 0)
