@@ -200,14 +200,7 @@ impl<I: Input, A: Allocator> Source<I, A> {
         ensures given { I.given result ≡ self.given }
         ensures unread { I.unread result ≡ self.unread }
     {
-        let Source {
-            input,
-            buffer: _,
-            table: _,
-            savefile: _,
-            stage: _,
-            offset: _,
-        } = self;
+        let Source { input, .. } = self;
         input
     }
 
