@@ -19,13 +19,13 @@ use Rattle.cap_io.specs.Reading.{part_of, most_in_unit, decisive_block_length}
 
 -- ---- the bytes
 
--- a block whose first 12 bytes pass came, and stands at the front of the buffer
+-- a block whose first 12 bytes pass came, and is at the start of the buffer
 pub record WholeCame (section : Option Order) (text buffer : List ℕ) (frame : Frame) (unread' : List ℕ) : Type 0 where
   pub passes : frame_fault section (take frame.length buffer) ≡ None
   pub says : frame_in section (take frame.length buffer) ≡ frame
   pub splits : text ≡ take frame.length buffer ++ unread'
 
--- Why no block came: a fault stands in its place, or the device failed, or memory ran out. At most the block was taken,
+-- Why no block came: a fault is in its place, or the device failed, or memory ran out. At most the block was taken,
 -- and where the device failed fewer bytes than decide what stands there.
 pub record BlockMissing (before : Option Section) (text unread' : List ℕ) (fault : Fault) : Type 0 where
   pub why : (unit_fault before text ≡ Some fault) ⊎ (fault ≡ ReadFailed) ⊎ (fault ≡ NoMemory)
@@ -47,7 +47,7 @@ abbrev pub packet_in : Order → List Described → Held → (bytes options : Li
 packet_in order interfaces held bytes options =
     option_map (λ (i : Described). packet_of i held.time held.orig bytes (comment_in order options)) (slice_get interfaces held.interface)
 
--- a packet whose data stand at the front of what is left of its block's body, and its options behind them
+-- a packet whose data are at the start of what is left of its block's body, and its options behind them
 pub record PacketFound (order : Order) (interfaces : List Described) (parts : Parts) (rest : List ℕ) (held : Held) : Type 0 where
   pub passes : first_failing (checks_among interfaces parts) ≡ None
   pub packet : Captured
@@ -75,7 +75,7 @@ pub record Enters (frame : Frame) (interfaces : List Described) (block : List �
   pub section : section_by (Some (section_of frame.order interfaces)) frame.order (parts_in frame block) ≡ section_of frame.order interfaces'
   pub packet : PacketIfAny frame.order interfaces (parts_in frame block) block held
 
--- the first check that a block fails, or want of memory
+-- the first check that a block fails, or out of memory
 abbrev pub IsEntryFault : Frame → List Described → List ℕ → Fault → Type 0
 IsEntryFault frame interfaces block fault =
     (first_failing (block_checks frame block) ≡ Some fault)
@@ -111,7 +111,7 @@ abbrev pub BlockPacketIfAny : Order → Option Section → List ℕ → Option H
 BlockPacketIfAny order before block None = packets_in before block ≡ []
 BlockPacketIfAny order before block (Some held) = BlockPacket order before block held
 
--- a block came, and stands at the front of the buffer
+-- a block came, and is at the start of the buffer
 pub record BlockCame (before : Option Section) (text buffer : List ℕ) (read : BlockRead) (interfaces' : List Described) (unread' : List ℕ) : Type 0 where
   pub is_block : IsBlock before (take read.size buffer)
   pub section : section_after before (take read.size buffer) ≡ section_of read.order interfaces'

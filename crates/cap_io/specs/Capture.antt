@@ -21,7 +21,7 @@ use Rattle.cap_io.specs.declared.source.Kind.TheVariants.{Pcap, NsecPcap, Pcapng
 pub data Declared : Type 0 where
   Nothing : Declared
   PcapFile : (head : Head) → Declared
-  -- the first link type that an interface of the file declared, and the section in hand
+  -- the first link type that an interface of the file declared, and the current section
   PcapngFile : (first : Option ℕ) → (section : Section) → Declared
 
 -- the first link type of a file behind a block: the one before it, else that of the section's first interface

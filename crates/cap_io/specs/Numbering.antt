@@ -6,7 +6,7 @@ use Rattle.cap_io.specs.declared.numbering.InterfaceKey.{InterfaceKey}
 use Rattle.cap_io.specs.declared.numbering.Place.{Place}
 use Rattle.cap_io.specs.Text.{Interface, is_among, new_among, number_among}
 
--- the interface that a key stands for
+-- the interface that a key means
 abbrev pub interface_in : InterfaceKey → Interface
 interface_in key = record { link = key.link; snap = key.snap; name = key.name }
 

@@ -47,7 +47,7 @@ abbrev pub most_taken : Front → ℕ
 most_taken (Whole size packets declared) = size
 most_taken (Stops why) = most_in_unit
 
--- all of a unit, but its front alone where that has a fault
+-- all of a unit, but only its first part where that has a fault
 abbrev pub length_by_front : Option Fault → (front size : ℕ) → ℕ
 length_by_front None front size = size
 length_by_front (Some fault) front size = front
@@ -62,17 +62,17 @@ decisive_length Nothing text = if is_pcapng text then decisive_block_length None
 decisive_length (PcapFile head) text = length_by_front (first_failing (field_checks head text)) 16 (record_size head text)
 decisive_length (PcapngFile first section) text = decisive_block_length (Some section) text
 
--- A front of the unit was taken, or of what stands in its place, when this fault was told.
+-- A prefix of the unit was taken, or of what is in its place, when this fault was reported.
 pub record IsTaken (declared : Declared) (unread unread' : List ℕ) (fault : Fault) : Type 0 where
   pub count : ℕ
   pub within : count ≤ most_taken (front_of declared unread)
-  -- A failed read is told only of a unit that had not come whole: fewer bytes came than decide what stands there. Want
+  -- A failed read is reported only of a unit that was not complete: fewer bytes came than decide what is there. Want
   -- of memory may be met behind a whole unit.
   pub unfinished : fault ≡ ReadFailed → count < decisive_length declared unread
   pub there : count ≤ length unread
   pub rest : unread' ≡ drop count unread
 
--- Why no unit came: a fault stands in its place, or the device failed, or memory ran out.
+-- Why no unit came: a fault is in its place, or the device failed, or memory ran out.
 abbrev pub IsReason : Declared → List ℕ → Fault → Type 0
 IsReason declared unread fault = (front_of declared unread ≡ Stops (Some fault)) ⊎ (fault ≡ ReadFailed) ⊎ (fault ≡ NoMemory)
 
@@ -90,12 +90,12 @@ pub record RestMissing (from size : ℕ) (unread unread' : List ℕ) (fault : Fa
   pub there : count ≤ length unread
   pub rest : unread' ≡ drop count unread
 
--- the front of a unit came, or the end
+-- the first bytes of a unit came, or the end
 abbrev pub FrontCame : List ℕ → List ℕ → Bool → List ℕ → Type 0
 FrontCame unread front true unread' = unread ≡ front ++ unread'
 FrontCame unread front false unread' = (unread ≡ []) × (unread' ≡ [])
 
--- some bytes are there, but not as many as the front of a unit has
+-- some bytes are there, but not as many as a unit begins with
 pub record FrontMissing (size : ℕ) (unread unread' : List ℕ) (fault : Fault) : Type 0 where
   pub some : 0 < length unread ⊎ (fault ≡ ReadFailed)
   pub missing : RestMissing 0 size unread unread' fault
@@ -119,7 +119,7 @@ IsTold savefile.Unknown interfaces = interfaces ≡ []
 IsTold (savefile.Pcap head) interfaces = Unit {0}
 IsTold (savefile.Pcapng order first) interfaces = first_after first (record { order = order; interfaces = interfaces }) ≡ first
 
--- ---- the packet in hand
+-- ---- the current packet
 
 -- these bytes of a text
 abbrev pub part_of : Span → List ℕ → List ℕ
@@ -170,7 +170,7 @@ pub record UnitPassed (declared : Declared) (unread : List ℕ) (size : ℕ) (de
   pub sized : length bytes ≡ size
   pub splits : unread ≡ bytes ++ unread'
 
--- a unit with a packet came, and stands at the front of the buffer
+-- a unit with a packet came, and is at the start of the buffer
 pub record PacketCame (declared : Declared) (unread buffer : List ℕ) (held : Held) (declared' : Declared) (unread' : List ℕ) : Type 0 where
   pub packet : Captured
   pub is_lent : packet_held declared held (take held.size buffer) ≡ Some packet

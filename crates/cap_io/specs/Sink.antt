@@ -109,7 +109,7 @@ WritesPacket refusal bytes written (Ok done) written' = written' ≡ written ++ 
 WritesPacket (Some refusal) bytes written (Err fault) written' = written' ≡ written
 WritesPacket None bytes written (Err fault) written' = BreaksOff fault bytes written written'
 
--- a sink that failed answers that again, and stays
+-- a sink that failed returns that again, and stays
 abbrev pub Puts : SinkState → SinkView → Captured → Result (Unit {0}) Fault → SinkView → Type 0
 Puts Empty old p r new = (packets : List Captured) → HasPut old packets → PutsAfter packets old p r new
 Puts (Started link) old p r new = (packets : List Captured) → HasPut old packets → PutsAfter packets old p r new
@@ -122,7 +122,7 @@ PutWrites (Broken fault) old p r new = new ≡ old
 
 -- ---- finish
 
--- The heading is written, or the device failed.
+-- The file header or section header is written, or the device failed.
 abbrev pub IsFinishAnswer : Result (Unit {0}) Fault → Type 0
 IsFinishAnswer (Ok done) = Unit {0}
 IsFinishAnswer (Err fault) = fault ≡ WriteFailed
@@ -141,7 +141,7 @@ pub record FinishesEmpty (old : SinkView) (link : ℕ) (r : Result (Unit {0}) Fa
   pub room : new.room ≡ old.room
   pub filled : r ≡ Err WriteFailed → old.room ≤ length new.written
 
--- the link type of a heading where nothing was put: 1 where none is declared
+-- the link type of a file header where nothing was put: 1 where none is declared
 abbrev pub link_or_ethernet : Option ℕ → ℕ
 link_or_ethernet first = unwrap_or first 1
 
@@ -150,7 +150,7 @@ Finishes Empty old first r new = FinishesEmpty old (link_or_ethernet first) r ne
 Finishes (Started link) old first r new = (r ≡ Ok tt) × (new ≡ old)
 Finishes (Broken fault) old first r new = (r ≡ Err fault) × (new ≡ old)
 
--- the heading is written where nothing was put, or a beginning of it, not the whole
+-- the file header or section header is written where nothing was put, or a beginning of it, not the whole
 abbrev pub FinishWrites : SinkState → SinkView → Option ℕ → Result (Unit {0}) Fault → SinkView → Type 0
 FinishWrites Empty old first r new = AppendsOrStops r old.written (heading old.format (link_or_ethernet first)) new.written
 FinishWrites (Started link) old first r new = new ≡ old
@@ -185,7 +185,7 @@ takes_memory_in Pcap interfaces p = false
 takes_memory_in NsecPcap interfaces p = false
 takes_memory_in Pcapng interfaces p = not (is_among interfaces (interface_of p))
 
--- the heading is written in front of the first packet
+-- the file header or section header is written in front of the first packet
 abbrev pub heading_in : Format → SinkState → ℕ → List ℕ
 heading_in format Empty link = heading format link
 heading_in format (Started first) link = []

@@ -24,10 +24,10 @@ pub record SourceView : Type 0 where
   pub phase : Phase
   -- what the units that were read declare
   pub declared : Declared
-  -- the packet in hand, and the bytes of its unit, none where no packet is in hand
+  -- the current packet, and the bytes of its unit, none where no packet is current
   pub packet : Option Captured
   pub block : List ℕ
-  -- where the unit in hand begins, else where the next one does
+  -- where the current unit begins, else where the next one does
   pub offset : ℕ
   -- the bytes that the device has left, and counts of the bytes that it gave and of its failures
   pub unread : List ℕ
@@ -98,14 +98,14 @@ pub record IsSound (stage : Stage) (savefile : Savefile) (interfaces : List Desc
 
 -- ---- what an advance does
 
--- The source leaves the unit in hand and goes over these bytes, which are whole units without packets, to `rest`.
+-- The source leaves the current unit and skips these bytes, which are whole units without packets, to `rest`.
 pub record Passes (old new : SourceView) (rest : List ℕ) : Type 0 where
   pub passed : List ℕ
   pub splits : old.unread ≡ passed ++ rest
   pub units : AreUnits old.declared (old.offset + length old.block) passed [] new.declared
   pub offset : new.offset ≡ old.offset + length old.block + length passed
 
--- the next packet is in hand
+-- the next packet is current
 pub record FindsPacket (old new : SourceView) : Type 0 where
   pub passes : Passes old new (new.block ++ new.unread)
   pub packet : Captured
@@ -145,7 +145,7 @@ Continues old (Ok true) new = FindsPacket old new
 Continues old (Ok false) new = FindsEnd old new
 Continues old (Err fault) new = IsBroken old new fault
 
--- a source at its end or after a fault answers that again, and stays
+-- a source at its end or after a fault returns that again, and stays
 abbrev pub Advances : Phase → SourceView → Result Bool Fault → SourceView → Type 0
 Advances Reading old r new = Finds old r new
 Advances Ended old r new = (r ≡ Ok false) × (new ≡ old)
@@ -157,11 +157,11 @@ phase_told (Ok true) = Reading
 phase_told (Ok false) = Ended
 phase_told (Err fault) = Failed fault
 
--- the offset behind the unit in hand
+-- the offset behind the current unit
 abbrev pub behind : SourceView → ℕ
 behind s = s.offset + length s.block
 
--- the section in hand has at most 256 interfaces, with names of at most 255 bytes
+-- the current section has at most 256 interfaces, with names of at most 255 bytes
 abbrev pub HasFew : Declared → Type 0
 HasFew Nothing = Unit {0}
 HasFew (PcapFile head) = Unit {0}
@@ -179,9 +179,9 @@ pub record KeepsBounds (old : SourceView) (r : Result Bool Fault) (new : SourceV
   pub block : length new.block ≤ most_in_unit
   pub progress : r ≡ Ok true → old.given < new.given
   pub bounded : r ≡ Ok true → new.given < 2 ^ 63
-  -- a packet is in hand
+  -- there is a current packet
   pub packet : r ≡ Ok true → is_some new.packet ≡ true
-  -- All bytes that the device gave are gone over or in hand, but for those of a broken unit: at most one unit's bytes.
+  -- All bytes that the device gave are skipped or current, but for those of a broken unit: at most one unit's bytes.
   pub counted : OnOk r (new.given + behind old ≡ old.given + behind new)
   pub broken : OnErr r ((old.given + behind new ≤ new.given + behind old) × (new.given + behind old ≤ old.given + behind new + most_in_unit))
 
@@ -192,7 +192,7 @@ Steps (Failed fault) old r new = (r ≡ Err fault) × (new ≡ old)
 
 -- ---- the parts of an advance
 
--- the unit in hand is left
+-- the current unit is left
 abbrev pub left : SourceView → SourceView
 left s = record {
   phase = s.phase;
@@ -206,13 +206,13 @@ left s = record {
   never_fails = s.never_fails;
 }
 
--- no packet is in hand
+-- no packet is current
 pub record IsBetween (s : SourceView) : Type 0 where
   pub phase : s.phase ≡ Reading
   pub block : s.block ≡ []
   pub packet : s.packet ≡ None
 
--- what a source that goes over one unit finds there
+-- what a source that reads one unit finds there
 abbrev pub FindsNext : SourceView → Result Came Fault → SourceView → Type 0
 FindsNext old (Ok (came.Packet held)) new = FindsPacket old new
 FindsNext old (Ok (came.Passed size)) new = Passes old new new.unread

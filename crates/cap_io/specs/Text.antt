@@ -58,7 +58,7 @@ pub record AreFew (interfaces : List Interface) : Type 0 where
 
 -- ---- texts
 
--- the heading: a file header with this link type, or a section
+-- what a file begins with: a file header with this link type, or a section
 abbrev pub heading : Format → ℕ → List ℕ
 heading Pcap link = pcap.heading Microseconds link
 heading NsecPcap link = pcap.heading Nanoseconds link
@@ -86,7 +86,7 @@ abbrev pub packets_text : Format → List Captured → List Captured → List �
 packets_text format earlier [] = []
 packets_text format earlier (p ∷ ps) = packet_text format earlier p ++ packets_text format (earlier ++ p ∷ []) ps
 
--- The text of a file: its heading has the link type of the first packet. Where there is none, nothing is written.
+-- The text of a file: its file header has the link type of the first packet. Where there is none, nothing is written.
 abbrev pub text : Format → List Captured → List ℕ
 text format [] = []
 text format (p ∷ ps) = heading format p.link ++ packets_text format [] (p ∷ ps)

@@ -34,7 +34,7 @@ pub(crate) struct BlockRead {
     pub(crate) packet: Option<Held>,
 }
 
-/// Reads what is left of a block behind its first 12 bytes, to the front of the buffer. Its limits
+/// Reads what is left of a block behind its first 12 bytes, to the start of the buffer. Its limits
 /// are looked at before the buffer grows.
 fn read_whole<I: Input, A: Allocator>(
     input: &mut I,
@@ -190,7 +190,7 @@ fn simple_packet<A: Allocator>(
 }
 
 /// Makes the checks of a whole block of this frame, and brings the table of interfaces behind it. A
-/// fault leaves it.
+/// fault leaves it unchanged.
 fn enter<A: Allocator>(
     table: &mut Table<A>,
     frame: &Frame,
@@ -219,8 +219,8 @@ fn enter<A: Allocator>(
     }
 }
 
-/// Reads a block behind its first 12 bytes to the front of the buffer, and brings the table of
-/// interfaces behind it. A fault leaves the table.
+/// Reads a block behind its first 12 bytes to the start of the buffer, and brings the table of
+/// interfaces behind it. A fault leaves the table unchanged.
 pub(crate) fn read_block<I: Input, A: Allocator>(
     input: &mut I,
     section: Option<Order>,

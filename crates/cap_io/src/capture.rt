@@ -149,7 +149,7 @@ fn next_block<I: Input, A: Allocator>(
 }
 
 /// Reads the next unit of a file of which this much is known, or finds the clean end. A packet
-/// stands then at the front of the buffer. A fault leaves what is known.
+/// is then at the start of the buffer. A fault leaves what is known.
 pub(crate) fn read_unit<I: Input, A: Allocator>(
     input: &mut I,
     savefile: &mut Savefile,

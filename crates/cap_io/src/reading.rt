@@ -39,7 +39,7 @@ pub(crate) fn read_rest<I: Input>(input: &mut I, bytes: &mut [u8], from: usize) 
     Ok(())
 }
 
-/// Reads the bytes at the front of a unit that stands behind others; `false` is the end of the
+/// Reads the first bytes of a unit that is behind others; `false` is the end of the
 /// file.
 pub(crate) fn read_front<I: Input>(input: &mut I, front: &mut [u8]) -> Result<bool, Fault>
     requires { 0 < length front.old }
@@ -74,7 +74,7 @@ pub(crate) fn make_room<A: Allocator>(buffer: &mut Vec<u8, A>, size: usize) -> R
     Ok(())
 }
 
-/// Reads what is left of a unit of so many bytes to the front of the buffer, behind the front of it
+/// Reads what is left of a unit of so many bytes to the start of the buffer, behind the part of it
 /// that came.
 pub(crate) fn read_data<I: Input>(
     input: &mut I,
@@ -117,7 +117,7 @@ pub(crate) fn read_header<I: Input>(input: &mut I, first: &[u8; 4]) -> Result<He
     read_head(&bytes)
 }
 
-/// Reads the next record to the front of the buffer. Its limits are looked at before the buffer
+/// Reads the next record to the start of the buffer. Its limits are looked at before the buffer
 /// grows.
 pub(crate) fn next_record<I: Input, A: Allocator>(
     input: &mut I,

@@ -7,7 +7,7 @@ use cap_octet::{Fault, Format, Output, Packet};
 use std::alloc::Allocator;
 use std::marker::Model;
 
-/// The link type of a heading where none is declared: Ethernet.
+/// The link type of a file header where none is declared: Ethernet.
 const ETHERNET: u16 = 1;
 
 /// How far a sink is.
@@ -68,12 +68,12 @@ impl<O: Output, A: Allocator> Sink<O, A> {
     ghost use Rattle.cap_io.specs.Sink.{Adds, Puts, PutWrites, WritesPacket, Finishes};
     ghost use Rattle.cap_io.specs.Sink.{FinishWrites, added_in, refusal_in};
 
-    /// Writes a packet, the first one behind the heading; in pcapng behind the description of its
-    /// interface where that is new. Nothing of a packet that is refused is written: by
-    /// `LinkTypesDiffer` (pcap forms), `TooLong`, `TimeOutOfRange` (pcap forms) or
+    /// Writes a packet, the first one behind the file header or section header; in pcapng behind
+    /// the description of its interface where that is new. Nothing of a packet that is refused is
+    /// written: by `LinkTypesDiffer` (pcap forms), `TooLong`, `TimeOutOfRange` (pcap forms) or
     /// `TooManyOutputInterfaces` (pcapng), the first of them, or by `NoMemory` for a new interface.
     /// `WriteFailed` comes where the device failed, after a beginning of what the packet adds.
-    /// After a fault it answers that again, and writes nothing.
+    /// After a fault it returns that again, and writes nothing.
     pub fn put(&mut self, packet: &Packet<'_>) -> Result<(), Fault>
         ensures told { IsTrue O.tells → PutWrites self.old.state self.old (captured packet.now)
             result self.new }
@@ -93,9 +93,10 @@ impl<O: Output, A: Allocator> Sink<O, A> {
         Err(fault)
     }
 
-    /// Writes the heading where nothing was put, with the link type `first`, or 1 where there is
-    /// none. `WriteFailed` comes where the device failed, after a beginning of it. After a fault it
-    /// answers that again. It takes no memory, and nothing but `into_output` is of use behind it.
+    /// Writes the file header or section header where nothing was put, with the link type `first`,
+    /// or 1 where there is none. `WriteFailed` comes where the device failed, after a beginning of
+    /// it. After a fault it returns that again. It takes no memory, and nothing but `into_output`
+    /// is of use behind it.
     pub fn finish(&mut self, first: Option<u16>) -> Result<(), Fault>
         ensures told { IsTrue O.tells → FinishWrites self.old.state self.old first result self.new }
         ensures answer { Finishes self.old.state self.old first result self.new }

@@ -82,7 +82,7 @@ impl<I: Input, A: Allocator> Source<I, A> {
     /// Reads on to the next packet, which `head` lends; `false` at the clean end, then and ever
     /// after. A fault is that of the first check which the unit at `offset` fails; `ReadFailed`
     /// where the device failed in this call; `NoMemory` where the block or the table of interfaces
-    /// could not grow. After a fault it answers that again, and reads nothing.
+    /// could not grow. After a fault it returns that again, and reads nothing.
     pub fn advance(&mut self) -> Result<bool, Fault>
         ensures told { IsTrue I.tells → Advances self.old.phase self.old result self.new }
         ensures bounds { Steps self.old.phase self.old result self.new }
@@ -104,7 +104,7 @@ impl<I: Input, A: Allocator> Source<I, A> {
         }
     }
 
-    /// The packet in hand, lent from the block, with its comment.
+    /// The current packet, lent from the block, with its comment.
     pub fn head(&self) -> Option<Packet<'_>>
         ensures packet { option_map captured result ≡ self.now.packet }
         ensures short { IfSome result (λ packet. length packet.bytes.now ≤ most_in_unit) }
@@ -140,7 +140,7 @@ impl<I: Input, A: Allocator> Source<I, A> {
         }
     }
 
-    /// The time of the packet in hand, in nanoseconds since 1970-01-01 00:00:00 UTC; what `head`
+    /// The time of the current packet, in nanoseconds since 1970-01-01 00:00:00 UTC; what `head`
     /// lends is not made.
     pub fn time(&self) -> Option<u64>
         ensures { result ≡ option_map (λ p. p.time) self.now.packet }
@@ -158,7 +158,7 @@ impl<I: Input, A: Allocator> Source<I, A> {
         }
     }
 
-    /// Where the unit in hand begins, in bytes from the start of the file; after a fault, where the
+    /// Where the current unit begins, in bytes from the start of the file; after a fault, where the
     /// unit that has it begins; at a clean end, the number of bytes.
     pub fn offset(&self) -> u64
         ensures { result ≡ self.now.offset }
@@ -204,7 +204,7 @@ impl<I: Input, A: Allocator> Source<I, A> {
         input
     }
 
-    /// Leaves the unit in hand and reads the next one with a packet.
+    /// Leaves the current unit and reads the next one with a packet.
     fn go_on(&mut self) -> Result<bool, Fault>
         requires { self.old.phase ≡ Reading }
         ensures told { IsTrue I.tells → Continues self.old result self.new }
@@ -222,7 +222,7 @@ impl<I: Input, A: Allocator> Source<I, A> {
         }
     }
 
-    /// Leaves the unit in hand, if there is one.
+    /// Leaves the current unit, if there is one.
     fn leave(&mut self)
         requires { self.old.phase ≡ Reading }
         ensures { self.new ≡ left self.old }

@@ -11,7 +11,7 @@ pub(crate) enum Savefile {
     /// Nothing was read.
     Unknown,
     Pcap(Head),
-    /// The byte order of the section in hand, and the first link type that an interface of the file
+    /// The byte order of the current section, and the first link type that an interface of the file
     /// declared.
     Pcapng(Order, Option<u16>),
 }
@@ -35,7 +35,7 @@ impl Span {
     }
 }
 
-/// A packet in hand, whose unit stands at the front of the block buffer.
+/// The current packet, whose unit is at the start of the block buffer.
 #[derive(Clone, Copy, Debug, PartialEq, Eq)]
 pub(crate) struct Held {
     /// The size of its unit, in bytes.

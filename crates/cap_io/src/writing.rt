@@ -1,4 +1,4 @@
-//! Packets and headings to a device, in each format.
+//! Packets, file headers and section headers to a device, in each format.
 ghost use Rattle.std.specs.Prelude.{◌≡◌, ◌+◌, ◌++◌, None, IsTrue};
 ghost use Rattle.cap_octet.specs.Checks.{checked, first_failing};
 ghost use Rattle.cap_octet.specs.Packet.{captured};
@@ -46,7 +46,7 @@ pub(crate) fn check<A: Allocator>(
     }
 }
 
-/// Writes the heading where nothing was put: a file header, or a section.
+/// Writes what a file begins with where nothing was put: a file header, or a section header.
 pub(crate) fn write_heading<O: Output>(
     output: &mut O,
     format: Format,
@@ -79,7 +79,7 @@ fn describe<O: Output>(output: &mut O, is_new: bool, packet: &Packet<'_>) -> Res
     Ok(())
 }
 
-/// Writes a packet as a record of a pcap form, the first one behind the heading.
+/// Writes a packet as a record of a pcap form, the first one behind the file header.
 fn write_record<O: Output>(
     output: &mut O,
     format: Format,
@@ -95,8 +95,8 @@ fn write_record<O: Output>(
     write_parts(output, &[&record_bytes(format, packet), packet.bytes])
 }
 
-/// Writes a packet as a block, the first one behind the heading, behind the description of its
-/// interface where that is new.
+/// Writes a packet as a block, the first one behind the section header, behind the description of
+/// its interface where that is new.
 fn write_block<O: Output>(
     output: &mut O,
     state: SinkState,
@@ -125,8 +125,9 @@ fn as_fault(outcome: Result<(), DeviceFault>) -> Result<(), Fault>
     }
 }
 
-/// Writes a packet that isn't refused, the first one behind the heading. Returns `WriteFailed` where
-/// the device failed; in pcapng `NoMemory`, with nothing written, where a new interface found none.
+/// Writes a packet that isn't refused, the first one behind the file header. Returns `WriteFailed`
+/// where the device failed; in pcapng `NoMemory`, with nothing written, where a new interface found
+/// none.
 pub(crate) fn write<O: Output, A: Allocator>(
     output: &mut O,
     interfaces: &mut OutputInterfaces<A>,

@@ -39,7 +39,7 @@ block_checks frame text =
     (u32_in frame.order text (frame.length - 4) == frame.length, BadBlockLength)
     ∷ body_checks frame.block_type frame.order (body_in frame text)
 
--- that there is room for a block's head and end, and that all its bytes are there
+-- that there is room for a block's header and end, and that all its bytes are there
 abbrev pub size_checks : Frame → List ℕ → List (Bool × Fault)
 size_checks frame text = (nat_le 12 frame.length, BadBlockLength) ∷ (nat_le frame.length (length text), Truncated) ∷ []
 
@@ -106,6 +106,6 @@ option_checks (SimpleParts orig rest) = []
 option_checks SkippedParts = []
 
 -- The first check that the block fails which a text begins with, behind those of its frame. Those that need the
--- interfaces before it stand in `Unit`: one of them, of how many there are, comes before those of options.
+-- interfaces before it are in `Unit`: one of them, of how many there are, comes before those of options.
 abbrev pub block_fault : Frame → List ℕ → Option Fault
 block_fault frame text = first_failing (size_checks frame text ++ block_checks frame text ++ option_checks (parts_in frame text))

@@ -13,7 +13,7 @@ pub record CodedValue : Type 0 where
   pub code : ℕ
   pub value : List ℕ
 
--- the code and the value of the option at the front of a text, and how many bytes it has before its padding
+-- the code and the value of the option at the start of a text, and how many bytes it has before its padding
 abbrev pub option_size : Order → List ℕ → ℕ
 option_size order text = 4 + u16_in order text 2
 
@@ -24,7 +24,7 @@ option_at order text = record { code = u16_in order text 0; value = take (u16_in
 abbrev pub ends_at : Order → List ℕ → Bool
 ends_at order text = nat_lt (length text) 4 || (u16_in order text 0 == 0)
 
--- whether the value of the option at the front lies within the text
+-- whether the value of the option at the start lies within the text
 abbrev pub fits_at : Order → List ℕ → Bool
 fits_at order text = nat_le (option_size order text) (length text)
 

@@ -74,7 +74,7 @@ pub(crate) fn check_section(order: Order, body: &[u8]) -> Result<(), Fault>
     Ok(())
 }
 
-/// The captured bytes at the front of what is left of a body, or fault 9 where it is shorter than
+/// The captured bytes at the start of what is left of a body, or fault 9 where it is shorter than
 /// they are with their padding.
 fn data_in(rest: &[u8], captured: u32) -> Result<&[u8], Fault>
     ensures { Judges (data_checks captured rest.now) result

@@ -75,7 +75,7 @@ fn body_of<'a>(frame: &Frame, body: &'a [u8]) -> Result<Block<'a>, Fault>
     }
 }
 
-/// Reads the block of this frame at the front of bytes; or tells the first check that it fails:
+/// Reads the block of this frame at the start of bytes; or tells the first check that it fails:
 /// there is no room for its head and its end, some of its bytes aren't there, its two total lengths
 /// differ, an obsolete packet block, a body that is too short for its type, a section header of
 /// another version than 1.0 and 1.2, an option of an interface. The checks that need the interfaces

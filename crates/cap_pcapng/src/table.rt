@@ -116,7 +116,7 @@ impl<A: Allocator> Table<A> {
     }
 
     /// Gives an interface the next number. A full table is fault 11, and a growth that is refused
-    /// fault 16; either leaves the table.
+    /// fault 16; either leaves the table unchanged.
     pub fn push(&mut self, interface: &Interface<'_>) -> Result<(), Fault>
         ensures pushed { OnOk result (self.new ≡ self.old ++ described interface.now ∷ []) }
         ensures kept { OnErr result (self.new ≡ self.old) }
