@@ -72,6 +72,9 @@ def jobs(capkit, capture, folder):
         "copy-pcap": ["-F", "pcap", capture, "OUT"],
         "to-pcapng": ["-F", "pcapng", capture, "OUT"],
         "delete-ranges": ["-F", "pcap", capture, "OUT", "1-1000", "5000", "7000-90000"],
+        "snap-64": ["-F", "pcap", "-s", "64", capture, "OUT"],
+        "window-5": ["-F", "pcap", "-D", "5", capture, "OUT"],
+        "window-1000": ["-F", "pcap", "-D", "1000", capture, "OUT"],
     }
     for name, words in edits.items():
         yield name, "editcap", [capkit, "edit", *words], ["editcap", *words]
