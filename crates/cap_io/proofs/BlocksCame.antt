@@ -1,8 +1,9 @@
 -- What came of a block, from read to read.
-use Rattle.std.proofs.Common.{◌≡◌, ℕ, ◌+◌, ◌<◌, ◌≤◌, ◌⊎◌, inl, inr, List, [], ◌++◌, length, take, drop, Option, Some, None, Result, Ok, Err, refl, sym, ap, ap₂, ◌∙◌, subst, arith}
+use Rattle.std.proofs.Common.{◌≡◌, ℕ, ◌+◌, ◌<◌, ◌≤◌, ◌⊎◌, inl, inr, List, [], ◌∷◌, ◌++◌, length, take, drop, Option, Some, None, Result, Ok, Err, refl, sym, ap, ap₂, ◌∙◌, subst, arith}
 use Rattle.std.specs.Option.{option_to_list}
 use Rattle.std.proofs.lemmas.List.{append_assoc, length-append, length-take-le, drop_at, drop-drop, take-append-drop}
 use Rattle.cap_octet.specs.Checks.{checked, first_failing}
+use Rattle.cap_octet.specs.Packet.{Captured}
 use Rattle.cap_octet.specs.declared.fault.Fault.{Fault}
 use Rattle.cap_octet.specs.declared.fault.Fault.TheVariants.{NoMemory, ReadFailed}
 use Rattle.cap_octet.specs.declared.number.Order.{Order}
@@ -10,13 +11,49 @@ use Rattle.cap_octet.proofs.Checks.{checked_ok, checked_err}
 use Rattle.cap_pcapng.specs.Block.{Parts, SectionParts, InterfaceParts, EnhancedParts, SimpleParts, SkippedParts, block_checks, parts_in}
 use Rattle.cap_pcapng.specs.Frame.{frame_checks, frame_fault, frame_in, most_block}
 use Rattle.cap_pcapng.specs.Interface.{Described}
-use Rattle.cap_pcapng.specs.Unit.{IsBlock, Section, block_size, checks_among, frame_behind, interfaces_before, order_before, packet_by, parts_behind, section_after, section_by, unit_fault}
+use Rattle.cap_pcapng.specs.Unit.{IsBlock, Section, block_size, checks_among, frame_behind, interfaces_before, order_before, packet_by, packets_in, parts_behind, section_after, section_by, unit_fault}
 use Rattle.cap_pcapng.proofs.Units.{passes, frame_checks-append, frame_in-append, unit_fault-frame, unit_fault-short, unit_fault-block, unit_fault-among, parts_in-append, block_checks-append}
 use Rattle.cap_pcapng.specs.declared.frames.Frame.{Frame}
-use Rattle.cap_io.specs.Blocks.{BlockCame, BlockMissing, BlockPacketIfAny, Enters, IsEntryFault, PacketIfAny, WholeCame, packet_in, section_of}
+use Rattle.cap_io.specs.Blocks.{Enters, IsEntryFault, PacketIfAny, packet_in, section_of}
 use Rattle.cap_io.specs.Reading.{RestMissing, part_of, most_in_unit, length_by_front, decisive_block_length}
 use Rattle.cap_io.specs.declared.unit.Held.{Held}
 use Rattle.cap_io.proofs.OwnFaults.{entry-not_failed, frame-not_failed}
+
+-- ---- what came
+
+-- a block whose first 12 bytes pass came, and is at the start of the buffer
+pub record WholeCame (section : Option Order) (text buffer : List ℕ) (frame : Frame) (unread' : List ℕ) : Type 0 where
+  pub passes : frame_fault section (take frame.length buffer) ≡ None
+  pub says : frame_in section (take frame.length buffer) ≡ frame
+  pub splits : text ≡ take frame.length buffer ++ unread'
+
+-- Why no block came: a fault is in its place, or the device failed, or memory ran out. At most the block was taken,
+-- and where the device failed fewer bytes than decide what stands there.
+pub record BlockMissing (before : Option Section) (text unread' : List ℕ) (fault : Fault) : Type 0 where
+  pub why : (unit_fault before text ≡ Some fault) ⊎ (fault ≡ ReadFailed) ⊎ (fault ≡ NoMemory)
+  pub count : ℕ
+  pub within : unit_fault before text ≡ None → count ≤ block_size before text
+  pub few : count ≤ most_in_unit
+  pub unfinished : fault ≡ ReadFailed → count < decisive_block_length before text
+  pub there : count ≤ length text
+  pub rest : unread' ≡ drop count text
+
+-- the packet of a block behind others
+pub record BlockPacket (order : Order) (before : Option Section) (block : List ℕ) (held : Held) : Type 0 where
+  pub packet : Captured
+  pub stands : packets_in before block ≡ packet ∷ []
+  pub is_lent : packet_in order (interfaces_before before) held (part_of held.bytes block) (part_of held.options block) ≡ Some packet
+
+abbrev pub BlockPacketIfAny : Order → Option Section → List ℕ → Option Held → Type 0
+BlockPacketIfAny order before block None = packets_in before block ≡ []
+BlockPacketIfAny order before block (Some held) = BlockPacket order before block held
+
+-- a block came, and is at the start of the buffer
+pub record BlockCame (before : Option Section) (text buffer : List ℕ) (order : Order) (size : ℕ) (held : Option Held) (interfaces' : List Described) (unread' : List ℕ) : Type 0 where
+  pub is_block : IsBlock before (take size buffer)
+  pub section : section_after before (take size buffer) ≡ section_of order interfaces'
+  pub packet : BlockPacketIfAny order before (take size buffer) held
+  pub splits : text ≡ take size buffer ++ unread'
 
 -- ---- the first 12 bytes
 
@@ -172,7 +209,7 @@ packet_if_any order before interfaces block parts (Some held) same is stands = r
 pub block_came : (before : Option Section) (section : Option Order) (interfaces interfaces' : List Described) (text unread' block buffer : List ℕ) (frame : Frame) (held : Option Held)
     → order_before before ≡ section → interfaces_before before ≡ interfaces → 12 ≤ frame.length → frame.length ≤ length buffer
     → WholeCame section text buffer frame unread' → block ≡ take frame.length buffer → Enters frame interfaces block held interfaces'
-    → BlockCame before text buffer (record { order = frame.order; size = frame.length; packet = held }) interfaces' unread'
+    → BlockCame before text buffer frame.order frame.length held interfaces' unread'
 block_came before section interfaces interfaces' text unread' block buffer frame held is same least room came block_is enters =
     let size : length block ≡ frame.length = ap length block_is ∙ length-take-le frame.length buffer room in
     let f = framed_block before section block [] frame is (omega arith) (ap (frame_fault section) block_is ∙ came.passes) (ap (frame_in section) block_is ∙ came.says) in

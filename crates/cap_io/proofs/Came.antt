@@ -84,7 +84,7 @@ no_magic unread unread' magic splits size other none =
     }
 
 pub rest_of_header : (unread unread1 unread2 magic : List ℕ) (fault : Fault) (whole : ℕ) → whole ≡ 24 → unread ≡ magic ++ unread1 → length magic ≡ 4 → is_section magic ≡ false → is_some (form_in magic) ≡ true
-    → RestMissing 4 whole unread1 unread2 fault → Refuses Nothing unread unread2 fault
+    → RestMissing (length magic) whole unread1 unread2 fault → Refuses Nothing unread unread2 fault
 rest_of_header unread unread1 unread2 magic fault whole is splits size other some missing =
     let kind : is_pcapng unread ≡ false = other_kind unread unread1 magic splits size other in
     let form : is_some (form_in unread) ≡ true = ap is_some (ap form_in splits ∙ form_in-append magic unread1 (omega arith)) ∙ some in
@@ -98,10 +98,18 @@ rest_of_header unread unread1 unread2 magic fault whole is splits size other som
           (λ failed. rw (decisive_length-header unread kind form) (omega (arith, missing.within)));
     }
 
--- the front of a unit is there, read in two parts
-pub joined_front : (unread unread1 unread2 first bytes : List ℕ) → unread ≡ first ++ unread1 → take 4 bytes ≡ first → unread1 ≡ drop 4 bytes ++ unread2 → unread ≡ bytes ++ unread2
-joined_front unread unread1 unread2 first bytes splits front rest =
-    splits ∙ (rw (rest, ← front) (sym (append_assoc (take 4 bytes) (drop 4 bytes) unread2) ∙ ap (λ (l : List ℕ). l ++ unread2) (take-append-drop 4 bytes)))
+-- bytes that came whole behind their first ones, which are still there
+pub first_of : (first bytes : List ℕ) (size : ℕ) → length bytes ≡ size → take (length first) (take size bytes) ≡ first → take (length first) bytes ≡ first
+first_of first bytes size whole came = ap (take (length first)) (sym (take_all size bytes (omega arith))) ∙ came
+
+pub joined_front : (unread unread1 unread2 first bytes : List ℕ) (size : ℕ) → length bytes ≡ size → unread ≡ first ++ unread1 → take (length first) (take size bytes) ≡ first
+    → unread1 ≡ drop (length first) (take size bytes) ++ unread2 → unread ≡ bytes ++ unread2
+joined_front unread unread1 unread2 first bytes size whole splits front rest =
+    let n = length first in
+    let same : take size bytes ≡ bytes = take_all size bytes (omega arith) in
+    let behind : unread1 ≡ drop n bytes ++ unread2 = rest ∙ ap (λ (l : List ℕ). drop n l ++ unread2) same in
+    splits ∙ ap (λ (l : List ℕ). first ++ l) behind ∙ sym (append_assoc first (drop n bytes) unread2)
+    ∙ ap (λ (l : List ℕ). l ++ unread2) (ap (λ (l : List ℕ). l ++ drop n bytes) (sym (first_of first bytes size whole front)) ∙ take-append-drop n bytes)
 
 header_says : (unread unread2 bytes : List ℕ) (head : Head) → unread ≡ bytes ++ unread2 → length bytes ≡ 24 → Ok head ≡ checked (head_fault bytes) (head_in bytes) → HeaderCame unread head unread2
 header_says unread unread2 bytes head splits size is =
@@ -120,10 +128,10 @@ header_wrong unread unread2 bytes fault splits size other is =
     }
 
 -- the first four bytes are those that were read first
-pub section_of_bytes : (bytes first : List ℕ) → length bytes ≡ 24 → take 4 bytes ≡ first → length first ≡ 4 → is_section first ≡ false → is_section bytes ≡ false
-section_of_bytes bytes first size front four other =
-    let joined : first ++ drop 4 bytes ≡ bytes = ap (λ (l : List ℕ). l ++ drop 4 bytes) (sym front) ∙ take-append-drop 4 bytes in
-    ap is_section (sym joined) ∙ is_section-append first (drop 4 bytes) (omega arith) ∙ other
+pub section_of_bytes : (bytes first : List ℕ) → take (length first) bytes ≡ first → 4 ≤ length first → is_section bytes ≡ is_section first
+section_of_bytes bytes first front enough =
+    let joined : first ++ drop (length first) bytes ≡ bytes = ap (λ (l : List ℕ). l ++ drop (length first) bytes) (sym front) ∙ take-append-drop (length first) bytes in
+    ap is_section (sym joined) ∙ is_section-append first (drop (length first) bytes) enough
 
 pub header_came : (told : Bool) (unread unread2 bytes : List ℕ) (answer : Result Head Fault) → (IsTrue told → unread ≡ bytes ++ unread2) → length bytes ≡ 24 → answer ≡ checked (head_fault bytes) (head_in bytes)
     → IfOk answer (λ head. IsTrue told → HeaderCame unread head unread2)
@@ -235,22 +243,3 @@ record_came head unread unread1 unread2 front unit buffer found size splits few 
 pub none_if_not : {X : Type 0} (o : Option X) → is_some o ≡ false → o ≡ None
 none_if_not None e = refl
 none_if_not (Some x) e = (cc)
-
--- ---- a unit behind its front
-
-pub if_ok : {X E A B : Type 0} (r : Result X E) → (A → B) → OnOk r A → OnOk r B
-if_ok (Ok x) f a = f a
-if_ok (Err e) f a = tt
-
-pub same_front : (bytes behind front copied after : List ℕ) (size from : ℕ) → length bytes ≡ size → length copied ≡ from → copied ≡ front
-    → take from bytes ≡ take from (copied ++ after) → take from (take size (bytes ++ behind)) ≡ front
-same_front bytes behind front copied after size from whole few is same =
-    ap (take from) (take_at bytes behind size whole) ∙ same ∙ take_at copied after from few ∙ is
-
-pub each_ok : {X E : Type 0} (r : Result X E) {P Q : X → Type 0} → ((x : X) → P x → Q x) → IfOk r P → IfOk r Q
-each_ok (Ok x) f p = f x p
-each_ok (Err e) f p = tt
-
-pub each_err : {X E : Type 0} (r : Result X E) {P Q : E → Type 0} → ((e : E) → P e → Q e) → IfErr r P → IfErr r Q
-each_err (Ok x) f p = tt
-each_err (Err e) f p = f e p

@@ -1,6 +1,7 @@
 -- Units of a capture of any kind, as they came.
-use Rattle.std.proofs.Common.{◌≡◌, ℕ, ◌+◌, ◌≤◌, inl, inr, Bool, true, false, List, [], ◌∷◌, ◌++◌, length, take, Option, Some, None, refl, sym, ap, ◌∙◌, subst, arith, unwrap_or}
-use Rattle.std.specs.Prelude.{if◌then◌else◌, nat_le}
+use Rattle.std.proofs.Common.{◌≡◌, ℕ, ◌+◌, ◌<◌, ◌≤◌, ◌^◌, IsTrue, Result, Ok, Err, inl, inr, Bool, true, false, List, [], ◌∷◌, ◌++◌, length, take, Option, Some, None, is_some, refl, sym, ap, ◌∙◌, subst, arith, unwrap_or}
+use Rattle.std.specs.Prelude.{if◌then◌else◌, nat_le, nat_lt}
+use Rattle.std.proofs.lemmas.Bool.{ltb-false, ltb-true}
 use Rattle.std.specs.List.{slice_get}
 use Rattle.std.specs.Option.{option_map, option_or, option_to_list}
 use Rattle.std.proofs.lemmas.List.{length-append, length-take-le}
@@ -11,17 +12,23 @@ use Rattle.cap_octet.specs.declared.number.Order.{Order}
 use Rattle.cap_octet.specs.declared.number.Order.TheVariants.{Little}
 use Rattle.cap_octet.specs.Number.{u32_in}
 use Rattle.cap_pcap.specs.declared.head.Head.{Head}
-use Rattle.cap_pcapng.specs.Block.{Parts, SectionParts, InterfaceParts, EnhancedParts, SimpleParts, SkippedParts, body_in, parts_in_body}
-use Rattle.cap_pcapng.specs.Frame.{is_section, magic_order, order_in, type_in, type_of}
+use Rattle.cap_pcapng.specs.Block.{Parts, SectionParts, InterfaceParts, EnhancedParts, SimpleParts, SkippedParts, body_in, parts_in, parts_in_body}
+use Rattle.cap_pcapng.specs.Frame.{frame_in, is_section, magic_order, order_in, type_in, type_of}
 use Rattle.cap_pcapng.specs.Interface.{Described}
-use Rattle.cap_pcapng.specs.Unit.{IsBlock, Section, frame_behind, order_before, packet_by, packets_in, parts_behind, section_after, section_by, unit_fault}
+use Rattle.cap_pcapng.specs.Unit.{IsBlock, Section, frame_behind, interfaces_before, order_before, packet_by, packets_in, parts_behind, section_after, section_by, unit_fault}
 use Rattle.cap_pcapng.specs.declared.frames.BlockType.TheVariants as type
 use Rattle.cap_pcapng.proofs.Units.{passes, unit_fault-few}
-use Rattle.cap_io.specs.declared.blocks.BlockRead.{BlockRead}
+use Rattle.cap_octet.specs.declared.device.Input.{Ghosts}
+use Rattle.cap_pcapng.specs.declared.frames.Frame.{Frame}
+use Rattle.cap_io.specs.declared.unit.Came.{Came}
+use Rattle.cap_io.specs.declared.unit.Came.TheVariants as came
 use Rattle.cap_io.specs.declared.unit.Held.{Held}
-use Rattle.cap_io.specs.Blocks.{BlockCame, BlockMissing, FitsIfAny, packet_in, section_of}
+use Rattle.cap_io.specs.declared.unit.Savefile.{Savefile}
+use Rattle.cap_io.specs.declared.unit.Savefile.TheVariants as file
+use Rattle.cap_io.specs.Blocks.{Enters, KnowsIfAny, packet_in, section_of}
 use Rattle.cap_io.specs.Capture.{Declared, Nothing, PcapFile, PcapngFile, Front, IsUnit, a_pcap_header, a_first_block, a_block, file_after, first_after, front_of, front_of_block, is_pcapng}
-use Rattle.cap_io.specs.Reading.{FrontMissing, HeaderCame, PacketCame, Refuses, RestMissing, UnitCame, UnitPassed, came_by, part_of, most_taken, packet_held, decisive_length, decisive_block_length}
+use Rattle.cap_io.specs.Reading.{BeginsBlock, FrontMissing, HasInterface, HeaderCame, IsSized, IsTold, PacketCame, ReadsUnit, Refuses, RestMissing, UnitCame, UnitPassed, declared_by, failures_told, first_link_held, order_held, part_of, most_taken, packet_held, decisive_length, decisive_block_length, section_before, size_of}
+use Rattle.cap_io.proofs.BlocksCame.{BlockCame, BlockMissing}
 use Rattle.cap_io.proofs.Came.{Taken-behind, most_taken-file}
 use Rattle.cap_io.proofs.Fronts.{front_of-behind, front_of-pcapng, front_of_block-none, is_pcapng-append, most_taken-block, decisive_length-pcapng, decisive_block_length-few}
 use Rattle.cap_io.proofs.Units.{and_second, first-section}
@@ -48,22 +55,28 @@ missing-refuses declared first before text unread' fault is reads m =
       };
     }
 
-pub first-refuses : (first unread unread' : List ℕ) (fault : Fault) → length first ≡ 4 → is_section first ≡ true → BlockMissing None (first ++ unread) unread' fault
-    → Refuses Nothing (first ++ unread) unread' fault
-first-refuses first unread unread' fault four is m =
-    let kind : is_pcapng (first ++ unread) ≡ true = is_pcapng-append first unread (omega arith) ∙ is in
-    missing-refuses Nothing None None (first ++ unread) unread' fault (front_of-pcapng (first ++ unread) kind) (decisive_length-pcapng (first ++ unread) kind) m
+-- these bytes are a block's, if they begin a unit of the file
+record StandsAt (declared : Declared) (first : Option ℕ) (before : Option Section) (text : List ℕ) : Type 0 where
+  front : front_of declared text ≡ front_of_block (unit_fault before text) first before text
+  reads : decisive_length declared text ≡ decisive_block_length before text
 
-pub block-refuses : (link : Option ℕ) (section : Section) (front unread unread1 unread' : List ℕ) (fault : Fault) → length front ≡ 12 → unread ≡ front ++ unread1
-    → BlockMissing (Some section) (front ++ unread1) unread' fault → Refuses (PcapngFile link section) unread unread' fault
-block-refuses link section front unread unread1 unread' fault few splits m =
-    let P : List ℕ → Type 0 = λ t. Refuses (PcapngFile link section) t unread' fault in
-    subst P (sym splits)
-    (missing-refuses (PcapngFile link section) link (Some section) (front ++ unread1) unread' fault
-    (front_of-behind link section (front ++ unread1) (omega (arith, length-append front unread1))) refl m)
+stands_at : (file : Savefile) (interfaces : List Described) (front more : List ℕ) → 12 ≤ length front → BeginsBlock file front
+    → StandsAt (declared_by file interfaces) (first_link_held file) (section_before file interfaces) (front ++ more)
+stands_at file.Unknown interfaces front more enough begins =
+    let kind : is_pcapng (front ++ more) ≡ true = is_pcapng-append front more (omega arith) ∙ begins in
+    record { front = front_of-pcapng (front ++ more) kind; reads = decisive_length-pcapng (front ++ more) kind }
+stands_at (file.Pcap head) interfaces front more enough begins = absurd begins
+stands_at (file.Pcapng order first) interfaces front more enough begins =
+    record { front = front_of-behind first (section_of order interfaces) (front ++ more) (omega (arith, length-append front more)); reads = refl }
+
+pub refused-block : (file : Savefile) (interfaces : List Described) (front unread unread' : List ℕ) (fault : Fault) → length front ≡ 12 → BeginsBlock file front
+    → BlockMissing (section_before file interfaces) (front ++ unread) unread' fault → Refuses (declared_by file interfaces) (front ++ unread) unread' fault
+refused-block file interfaces front unread unread' fault few begins m =
+    let stands = stands_at file interfaces front unread (omega arith) begins in
+    missing-refuses (declared_by file interfaces) (first_link_held file) (section_before file interfaces) (front ++ unread) unread' fault stands.front stands.reads m
 
 -- the front of the first block didn't come
-pub rest_of_front : (first unread unread' : List ℕ) (fault : Fault) (size : ℕ) → size ≡ 12 → length first ≡ 4 → is_section first ≡ true → RestMissing 4 size unread unread' fault
+pub rest_of_front : (first unread unread' : List ℕ) (fault : Fault) (size : ℕ) → size ≡ 12 → length first ≡ 4 → is_section first ≡ true → RestMissing (length first) size unread unread' fault
     → Refuses Nothing (first ++ unread) unread' fault
 rest_of_front first unread unread' fault size twelve four is missing =
     let kind : is_pcapng (first ++ unread) ≡ true = is_pcapng-append first unread (omega arith) ∙ is in
@@ -85,7 +98,7 @@ front-taken link section (b ∷ bytes) count few =
     most_taken-block link (Some section) (b ∷ bytes) count (λ none. omega (arith, (passes (Some section) (b ∷ bytes) none).least)) (omega arith)
 
 -- the front of a later block didn't come
-pub block_front : (link : Option ℕ) (section : Section) (unread unread' : List ℕ) (fault : Fault) → FrontMissing 12 unread unread' fault
+block_front : (link : Option ℕ) (section : Section) (unread unread' : List ℕ) (fault : Fault) → FrontMissing 12 unread unread' fault
     → Refuses (PcapngFile link section) unread unread' fault
 block_front link section unread unread' fault m =
     elim m.some [
@@ -157,20 +170,6 @@ first-again link section = by_link link (option_map (λ (i : Described). i.link)
 
 -- ---- a block as a unit
 
-pub first_came : (unread buffer unread' : List ℕ) (read : BlockRead) (interfaces : List Described) → read.size ≤ length buffer
-    → BlockCame None unread buffer read interfaces unread'
-    → UnitPassed Nothing unread read.size (PcapngFile (first_after None (section_of read.order interfaces)) (section_of read.order interfaces)) unread'
-first_came unread buffer unread' read interfaces there came =
-    let block : List ℕ = take read.size buffer in
-    let Q : List Captured → Type 0 = λ qs. IsUnit Nothing block qs (file_after None None block) in
-    let R : Section → Type 0 = λ s. IsUnit Nothing block [] (PcapngFile (first_after None s) s) in
-    record {
-      bytes = block;
-      unit = subst R came.section (subst Q (first-packets block came.is_block) (a_first_block block came.is_block));
-      sized = length-take-le read.size buffer there;
-      splits = came.splits;
-    }
-
 pub header_passed : (unread unread' : List ℕ) (head : Head) → HeaderCame unread head unread' → UnitPassed Nothing unread 24 (PcapFile head) unread'
 header_passed unread unread' head came = record { bytes = came.bytes; unit = a_pcap_header came.bytes head came.header; sized = came.header.whole; splits = came.splits }
 
@@ -180,13 +179,13 @@ UnitPassed-behind unread unread1 unread' first size declared splits came =
     record { bytes = came.bytes; unit = came.unit; sized = came.sized; splits = splits ∙ came.splits }
 
 -- a packet whose unit has so many bytes
-packet_at_size : (link : Option ℕ) (section : Section) (unread buffer : List ℕ) (held : Held) (packet : Captured) (order : Order) (interfaces : List Described) (size : ℕ) (unread' : List ℕ) → held.size ≡ size
+packet_at_size : (link : Option ℕ) (section : Section) (unread buffer : List ℕ) (held : Held) (packet : Captured) (declared' : Declared) (size : ℕ) (unread' : List ℕ) → held.size ≡ size
     → packet_held (PcapngFile link section) held (take size buffer) ≡ Some packet
     → IsUnit (PcapngFile link section) (take size buffer) (packet ∷ []) (PcapngFile link section)
-    → PcapngFile (first_after link (section_of order interfaces)) (section_of order interfaces) ≡ PcapngFile link section
+    → declared' ≡ PcapngFile link section
     → unread ≡ take size buffer ++ unread'
-    → PacketCame (PcapngFile link section) unread buffer held (PcapngFile (first_after link (section_of order interfaces)) (section_of order interfaces)) unread'
-packet_at_size link section unread buffer held packet order interfaces size unread' whole lent unit same splits =
+    → PacketCame (PcapngFile link section) unread buffer held declared' unread'
+packet_at_size link section unread buffer held packet declared' size unread' whole lent unit same splits =
     let Q : ℕ → Type 0 = λ n. IsUnit (PcapngFile link section) (take n buffer) (packet ∷ []) (PcapngFile link section) in
     record {
       packet = packet;
@@ -196,11 +195,23 @@ packet_at_size link section unread buffer held packet order interfaces size unre
       splits = splits ∙ ap (λ n. take n buffer ++ unread') (sym whole);
     }
 
-pub block_unit : (link : Option ℕ) (section : Section) (unread buffer unread' : List ℕ) (order : Order) (size : ℕ) (packet : Option Held) (interfaces : List Described) → size ≤ length buffer
-    → first_after link section ≡ link → FitsIfAny packet size
-    → BlockCame (Some section) unread buffer (record { order = order; size = size; packet = packet }) interfaces unread'
-    → UnitCame (PcapngFile link section) unread buffer (came_by packet size) (PcapngFile (first_after link (section_of order interfaces)) (section_of order interfaces)) unread'
-block_unit link section unread buffer unread' order size None interfaces there told fits came =
+-- what is known of a file behind a block without a packet
+pub passed-block : (file : Savefile) (interfaces interfaces' : List Described) (front unread buffer unread' : List ℕ) (order : Order) (size : ℕ) → BeginsBlock file front → size ≤ length buffer
+    → BlockCame (section_before file interfaces) (front ++ unread) buffer order size None interfaces' unread'
+    → UnitPassed (declared_by file interfaces) (front ++ unread) size (PcapngFile (first_after (first_link_held file) (section_of order interfaces')) (section_of order interfaces')) unread'
+passed-block file.Unknown interfaces interfaces' front unread buffer unread' order size begins there came =
+    let block : List ℕ = take size buffer in
+    let Q : List Captured → Type 0 = λ qs. IsUnit Nothing block qs (file_after None None block) in
+    let R : Section → Type 0 = λ s. IsUnit Nothing block [] (PcapngFile (first_after None s) s) in
+    record {
+      bytes = block;
+      unit = subst R came.section (subst Q came.packet (a_first_block block came.is_block));
+      sized = length-take-le size buffer there;
+      splits = came.splits;
+    }
+passed-block (file.Pcap head) interfaces interfaces' front unread buffer unread' order size begins there came = absurd begins
+passed-block (file.Pcapng own link) interfaces interfaces' front unread buffer unread' order size begins there came =
+    let section = section_of own interfaces in
     let block : List ℕ = take size buffer in
     let Q : List Captured → Type 0 = λ qs. IsUnit (PcapngFile link section) block qs (file_after link (Some section) block) in
     let R : Section → Type 0 = λ s. IsUnit (PcapngFile link section) block [] (PcapngFile (first_after link s) s) in
@@ -210,27 +221,121 @@ block_unit link section unread buffer unread' order size None interfaces there t
       sized = length-take-le size buffer there;
       splits = came.splits;
     }
-block_unit link section unread buffer unread' order size (Some held) interfaces there told fits came =
+
+-- behind a block with a packet the same is known
+pub packet-block : (file : Savefile) (interfaces interfaces' : List Described) (front unread buffer unread' : List ℕ) (order : Order) (size : ℕ) (held : Held) → BeginsBlock file front → size ≤ length buffer
+    → IsTold file interfaces → held.size ≡ size → interfaces' ≡ interfaces
+    → BlockCame (section_before file interfaces) (front ++ unread) buffer order size (Some held) interfaces' unread'
+    → PacketCame (declared_by file interfaces) (front ++ unread) buffer held (declared_by file interfaces') unread'
+packet-block file.Unknown interfaces interfaces' front unread buffer unread' order size held begins there told whole stays came =
+    let none : [] ≡ came.packet.packet ∷ [] = sym (first-packets (take size buffer) came.is_block) ∙ came.packet.stands in absurd (cc)
+packet-block (file.Pcap head) interfaces interfaces' front unread buffer unread' order size held begins there told whole stays came = absurd begins
+packet-block (file.Pcapng own link) interfaces interfaces' front unread buffer unread' order size held begins there told whole stays came =
+    let section = section_of own interfaces in
     let block : List ℕ = take size buffer in
     let p = came.packet in
     let same : section_after (Some section) block ≡ section = section-kept section block p.packet p.stands in
-    let kept : section_of order interfaces ≡ section = sym came.section ∙ same in
+    let kept : section_of order interfaces' ≡ section = sym came.section ∙ same in
     let declared : (s : Section) → s ≡ section → PcapngFile (first_after link s) s ≡ PcapngFile link section =
     λ s e. ap (λ (t : Section). PcapngFile (first_after link t) t) e ∙ ap (λ l. PcapngFile l section) told in
     let Q : List Captured → Type 0 = λ qs. IsUnit (PcapngFile link section) block qs (file_after link (Some section) block) in
     let R : Declared → Type 0 = λ d. IsUnit (PcapngFile link section) block (p.packet ∷ []) d in
-    packet_at_size link section unread buffer held p.packet order interfaces size unread' fits.0
+    packet_at_size link section (front ++ unread) buffer held p.packet (declared_by (file.Pcapng own link) interfaces') size unread' whole
     (ap (λ (s : Section). packet_in s.order section.interfaces held (part_of held.bytes block) (part_of held.options block)) (sym kept) ∙ p.is_lent)
-    (subst R (declared (section_after (Some section) block) same) (subst Q p.stands (a_block link section block came.is_block))) (declared (section_of order interfaces) kept) came.splits
+    (subst R (declared (section_after (Some section) block) same) (subst Q p.stands (a_block link section block came.is_block)))
+    (ap (λ i. PcapngFile link (section_of own i)) stays) came.splits
 
--- a block of an equal text
-pub BlockCame-behind : (before : Option Section) (unread text buffer unread' : List ℕ) (read : BlockRead) (interfaces : List Described) → unread ≡ text → BlockCame before text buffer read interfaces unread'
-    → BlockCame before unread buffer read interfaces unread'
-BlockCame-behind before unread text buffer unread' read interfaces splits came =
-    record { is_block = came.is_block; section = came.section; packet = came.packet; splits = splits ∙ came.splits }
+-- ---- what holds on any device
 
-pub first-refuses-behind : (unread first text unread' : List ℕ) (fault : Fault) → first ++ unread ≡ text → length first ≡ 4 → is_section first ≡ true → BlockMissing None text unread' fault
-    → Refuses Nothing (first ++ unread) unread' fault
-first-refuses-behind unread first text unread' fault splits four is m =
-    let P : List ℕ → Type 0 = λ t. BlockMissing None t unread' fault in
-    first-refuses first unread unread' fault four is (subst P (sym splits) m)
+-- a block with a packet leaves the interfaces
+pub interfaces-kept : (frame : Frame) (interfaces interfaces' : List Described) (block : List ℕ) (held : Held) → Enters frame interfaces block (Some held) interfaces' → interfaces' ≡ interfaces
+interfaces-kept frame interfaces interfaces' block held enters =
+    ap (λ (s : Section). s.interfaces) (sym enters.section
+    ∙ kept_by (section_of frame.order interfaces) frame.order (parts_in frame block) enters.packet.packet refl (ap option_to_list enters.packet.stands))
+
+-- a section header has none
+pub has-section : (file : Savefile) (front block : List ℕ) (frame : Frame) (interfaces interfaces' : List Described) (held : Held) → BeginsBlock file front
+    → frame_in (order_held file) front ≡ frame → Enters frame interfaces block (Some held) interfaces' → KnowsIfAny interfaces' (Some held) → HasInterface (declared_by file interfaces') held
+has-section file.Unknown front block frame interfaces interfaces' held begins is enters knows =
+    let kind : frame.block_type ≡ type.Section =
+    ap (λ (f : Frame). f.block_type) (sym is) ∙ ap (λ (b : Bool). if b then type.Section else type_of (u32_in (order_in None front) front 0)) begins in
+    let none : parts_in frame block ≡ SectionParts = ap (λ k. parts_in_body k frame.order (body_in frame block)) kind in
+    let no_packet : None ≡ Some enters.packet.packet = sym (ap (packet_by interfaces) none) ∙ enters.packet.stands in absurd (cc)
+has-section (file.Pcap head) front block frame interfaces interfaces' held begins is enters knows = absurd begins
+has-section (file.Pcapng order first) front block frame interfaces interfaces' held begins is enters knows = knows
+
+-- the bytes that a device gave stay few behind a block, though it be no longer than its front
+pub small-behind : (before behind front size : ℕ) → front ≡ 12 → behind + front ≡ before + size → 12 ≤ size → (front < size → behind < 2 ^ 63) → before < 2 ^ 63 → behind < 2 ^ 63
+small-behind before behind front size twelve counted least longer small = by_size (nat_lt front size) refl
+  where
+    by_size : (b : Bool) → nat_lt front size ≡ b → behind < 2 ^ 63
+    by_size true e = longer (ltb-true front size e)
+    by_size false e = let most = ltb-false front size e in omega (arith, twelve, counted, least, most, small)
+
+pub order-held : (file : Savefile) (interfaces : List Described) → order_before (section_before file interfaces) ≡ order_held file
+order-held file.Unknown interfaces = refl
+order-held (file.Pcap head) interfaces = refl
+order-held (file.Pcapng order first) interfaces = refl
+
+pub interfaces-held : (file : Savefile) (interfaces : List Described) (front : List ℕ) → BeginsBlock file front → IsTold file interfaces → interfaces_before (section_before file interfaces) ≡ interfaces
+interfaces-held file.Unknown interfaces front begins told = sym told
+interfaces-held (file.Pcap head) interfaces front begins told = absurd begins
+interfaces-held (file.Pcapng order first) interfaces front begins told = refl
+
+-- ---- a block of a file that has begun
+
+pub begun-front : (file : Savefile) (interfaces : List Described) (unread unread' : List ℕ) (fault : Fault) → IsTrue (is_some (order_held file)) → FrontMissing 12 unread unread' fault
+    → Refuses (declared_by file interfaces) unread unread' fault
+begun-front file.Unknown interfaces unread unread' fault begun m = absurd (cc)
+begun-front (file.Pcap head) interfaces unread unread' fault begun m = absurd (cc)
+begun-front (file.Pcapng order first) interfaces unread unread' fault begun m = block_front first (section_of order interfaces) unread unread' fault m
+
+-- what reading behind the first bytes of a unit did is what reading it all did
+pub ReadsUnit-behind : {I : Type 0} (device : Ghosts I) (old mid : I) (front : List ℕ) (file : Savefile) (interfaces : List Described) (r : Result Came Fault) (new : I) (buffer : List ℕ) (file' : Savefile) (interfaces' : List Described)
+    → device.given mid ≡ device.given old + length front → device.failures mid ≡ device.failures old → device.never_fails mid ≡ device.never_fails old
+    → (0 < length front → device.given mid < 2 ^ 63)
+    → (IsTrue device.tells → device.unread old ≡ front ++ device.unread mid)
+    → ReadsUnit device mid front file interfaces r new buffer file' interfaces' → ReadsUnit device old [] file interfaces r new buffer file' interfaces'
+ReadsUnit-behind device old mid front file interfaces (Ok c) new buffer file' interfaces' given failed never small splits reads =
+    let m = reads.moves in
+    let P : List ℕ → Type 0 = λ t. UnitCame (declared_by file interfaces) t buffer c (declared_by file' interfaces') (device.unread new) in
+    record {
+      moves = record {
+        counted = omega (arith, given, m.counted);
+        grown = omega (arith, given, m.grown);
+        bounded = λ some. is_small c reads.sized some;
+        few = tt;
+        failed = m.failed ∙ ap (λ n. n + 0) failed;
+        never = m.never ∙ never;
+      };
+      sized = reads.sized;
+      told = reads.told;
+      known = reads.known;
+      ok = λ t. subst P (sym (splits t)) (reads.ok t);
+      err = tt;
+      kept = tt;
+    }
+  where
+    is_small : (c : Came) → IsSized c buffer (device.given new) → 0 < size_of c → device.given new < 2 ^ 63
+    is_small (came.Passed size) sized some = sized.1
+    is_small (came.Packet held) sized some = sized.1
+    is_small came.End sized some = absurd (omega arith)
+ReadsUnit-behind device old mid front file interfaces (Err fault) new buffer file' interfaces' given failed never small splits reads =
+    let m = reads.moves in
+    let P : List ℕ → Type 0 = λ t. Refuses (declared_by file interfaces) t (device.unread new) fault in
+    record {
+      moves = record {
+        counted = tt;
+        grown = omega (arith, given, m.grown);
+        bounded = tt;
+        few = omega (arith, given, m.few);
+        failed = m.failed ∙ ap (λ n. n + failures_told {X = Came} (Err fault)) failed;
+        never = m.never ∙ never;
+      };
+      sized = tt;
+      told = tt;
+      known = tt;
+      ok = tt;
+      err = λ t. subst P (sym (splits t)) (reads.err t);
+      kept = reads.kept;
+    }

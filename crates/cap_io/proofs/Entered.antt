@@ -1,27 +1,32 @@
 -- A block finds its place in the table of interfaces, and its packet its data.
-use Rattle.std.proofs.Common.{◌≡◌, ℕ, ◌+◌, ◌-◌, ◌/◌, ◌*◌, ◌^◌, ◌<◌, ◌≤◌, Bool, true, false, List, [], ◌∷◌, length, take, drop, Option, Some, None, Ok, refl, sym, ap, ap₂, subst, ◌∙◌, arith, lit≤, leb-true, length-drop, inl, inr, if◌then◌else◌, nat_lt}
+use Rattle.std.proofs.Common.{◌≡◌, ℕ, ◌+◌, ◌-◌, ◌/◌, ◌*◌, ◌^◌, ◌<◌, ◌≤◌, ◌↔◌, Bool, true, false, List, [], ◌∷◌, ◌++◌, length, take, drop, Option, Some, None, Result, Ok, Err, refl, sym, ap, ap₂, subst, ◌∙◌, arith, lit≤, leb-true, length-drop, inl, inr, if◌then◌else◌, nat_lt}
+use Rattle.std.proofs.lemmas.Bool.{lt-ltb, ltb-false, ltb-true}
 use Rattle.std.specs.Prelude.{is_some, unwrap_or}
 use Rattle.std.specs.List.{AllByRecursion, slice_get}
 use Rattle.std.specs.Option.{option_map, ok_or}
 use Rattle.std.proofs.lemmas.List.{drop-drop, drop-take, take-take, length-take-le, length-take, take_all}
 use Rattle.cap_octet.specs.Checks.{first_failing}
 use Rattle.cap_octet.specs.declared.fault.Fault.{Fault}
-use Rattle.cap_octet.specs.declared.fault.Fault.TheVariants.{TimeOutOfRange, TooManyInterfaces}
+use Rattle.cap_octet.specs.declared.fault.Fault.TheVariants.{NoMemory, TimeOutOfRange, TooManyInterfaces}
 use Rattle.cap_octet.specs.declared.number.Order.{Order}
 use Rattle.cap_octet.proofs.Checks.{all_met, met_front}
-use Rattle.cap_pcapng.specs.Block.{Parts, SectionParts, InterfaceParts, EnhancedParts, SimpleParts, SkippedParts, block_checks, block_fault, option_checks, body_checks, body_in, data_checks, parts_in, parts_in_body, simple_captured}
+use Rattle.cap_pcapng.specs.Block.{Parts, SectionParts, InterfaceParts, EnhancedParts, SimpleParts, SkippedParts, block_checks, block_fault, option_checks, body_checks, body_in, data_checks, parts_in, parts_in_body, parts_of, parts_of_interface, simple_captured}
 use Rattle.cap_pcapng.specs.Comment.{comment_code, comment_in}
-use Rattle.cap_pcapng.specs.Interface.{Described}
+use Rattle.cap_pcapng.specs.Interface.{Described, IsDescribed, described}
 use Rattle.cap_pcapng.specs.InterfaceOptions.{first_value, given}
 use Rattle.cap_pcapng.specs.Padding.{padded}
 use Rattle.cap_pcapng.specs.Time.{time_in}
 use Rattle.cap_pcapng.specs.Unit.{checks_among, most_interfaces, packet_by, packet_of, section_by}
 use Rattle.cap_pcapng.proofs.OptionLists.{options_in-none}
-use Rattle.cap_pcapng.proofs.WholeBlocks.{block_fails}
+use Rattle.cap_pcapng.proofs.WholeBlocks.{block_fails, block_passes}
+use Rattle.cap_pcapng.specs.declared.blocks.Block.TheVariants as read
+use Rattle.cap_pcapng.specs.declared.blocks.EnhancedBlock.{EnhancedBlock}
+use Rattle.cap_pcapng.specs.declared.blocks.InterfaceBlock.{InterfaceBlock}
+use Rattle.cap_pcapng.specs.declared.blocks.SimpleBlock.{SimpleBlock}
 use Rattle.cap_pcapng.specs.declared.frames.BlockType.{BlockType}
 use Rattle.cap_pcapng.specs.declared.frames.BlockType.TheVariants as type
 use Rattle.cap_pcapng.specs.declared.frames.Frame.{Frame}
-use Rattle.cap_io.specs.Blocks.{Enters, FitsIfAny, IsEntryFault, PacketFound, packet_in, section_of, told_behind}
+use Rattle.cap_io.specs.Blocks.{Enters, IsEntryFault, PacketFound, packet_in, section_of, told_behind}
 use Rattle.cap_io.specs.Reading.{part_of}
 use Rattle.cap_io.specs.declared.unit.Held.{Held}
 use Rattle.cap_io.proofs.OwnFaults.{all_failing, all_of_options}
@@ -38,9 +43,9 @@ captured_fits captured rest none =
 pub known_interface : {X : Type 0} (found : Option X) (f : X → Described) (x : X) (i : Option Described) → found ≡ Some x → option_map f found ≡ i → i ≡ Some (f x)
 known_interface found f x i is same = sym same ∙ ap (option_map f) is
 
-time_found : (told : Option ℕ) (time : ℕ) → ok_or told TimeOutOfRange ≡ Ok time → told ≡ Some time
-time_found None time e = (cc)
-time_found (Some t) time e = (cc)
+pub found_by : {X E : Type 0} (told : Option X) (e : E) (x : X) → ok_or told e ≡ Ok x → told ≡ Some x
+found_by None e x is = (cc)
+found_by (Some t) e x is = (cc)
 
 -- options lie behind the padded data
 options_behind : (padding optional : ℕ) (rest options : List ℕ) → padding ≤ length rest → options ≡ drop padding rest → optional ≡ length options
@@ -50,11 +55,15 @@ options_behind padding optional rest options there is count =
     let at : 28 + length rest - optional - 28 ≡ padding = omega arith in
     ap (λ n. take optional (drop n rest)) at ∙ ap (take optional) (sym is) ∙ take_all optional options (omega arith)
 
+-- what is found passes its checks
+abbrev pub IsFound : List (Bool × Fault) → Type 0 → Type 0
+IsFound checks Found = (first_failing checks ≡ None) × Found
+
 pub enhanced_found : (order : Order) (interfaces : List Described) (i : Described) (number ticks captured orig time size optional : ℕ) (rest options : List ℕ)
     → slice_get interfaces number ≡ Some i → first_failing (data_checks captured rest) ≡ None
     → Ok time ≡ ok_or (time_in ticks i.units i.offset) TimeOutOfRange → time < 2 ^ 63
     → options ≡ drop (padded captured) rest → optional ≡ length options
-    → PacketFound order interfaces (EnhancedParts number ticks captured orig order rest) rest
+    → IsFound (checks_among interfaces (EnhancedParts number ticks captured orig order rest)) (PacketFound order interfaces (EnhancedParts number ticks captured orig order rest) 28 size rest
     (record {
       size = size;
       bytes = record { start = 28; length = captured };
@@ -62,15 +71,17 @@ pub enhanced_found : (order : Order) (interfaces : List Described) (i : Describe
       interface = number;
       time = time;
       orig = orig;
-    })
+    }))
 enhanced_found order interfaces i number ticks captured orig time size optional rest options known few told small behind optional_is =
     let room : padded captured ≤ length rest = leb-true (padded captured) (length rest) (all_met (data_checks captured rest) few).0 in
     let lies_there : take optional (drop (28 + length rest - optional - 28) rest) ≡ options = options_behind (padded captured) optional rest options room behind optional_is in
     let left : length options ≡ length rest - padded captured = ap length behind ∙ length-drop (padded captured) rest in
     let fits : captured ≤ length rest = captured_fits captured rest few in
-    let at : time_in ticks i.units i.offset ≡ Some time = time_found (time_in ticks i.units i.offset) time (sym told) in
-    record {
-      passes = rw (known, at) (met_front (data_checks captured rest) ((is_some (Some time), TimeOutOfRange) ∷ []) few);
+    let at : time_in ticks i.units i.offset ≡ Some time = found_by (time_in ticks i.units i.offset) TimeOutOfRange time (sym told) in
+    (rw (known, at) (met_front (data_checks captured rest) ((is_some (Some time), TimeOutOfRange) ∷ []) few), record {
+      whole = refl;
+      known = rw known refl;
+      from = refl;
       packet = packet_of i time orig (take captured rest) (comment_in order (drop (padded captured) rest));
       stands = rw (known, at) refl;
       is_lent = rw (known, lies_there ∙ behind) refl;
@@ -78,11 +89,11 @@ enhanced_found order interfaces i number ticks captured orig time size optional 
       behind = omega (arith, left, optional_is);
       options = omega (arith, left, optional_is);
       time = small;
-    }
+    })
 
-pub simple_found : (order : Order) (interfaces : List Described) (i : Described) (orig size : ℕ) (rest : List ℕ)
+pub simple_found : (interfaces : List Described) (i : Described) (orig size : ℕ) (rest : List ℕ)
     → slice_get interfaces 0 ≡ Some i → first_failing (data_checks (simple_captured orig i.snap) rest) ≡ None
-    → PacketFound order interfaces (SimpleParts orig rest) rest
+    → IsFound (checks_among interfaces (SimpleParts orig rest)) ((order : Order) → PacketFound order interfaces (SimpleParts orig rest) 12 size rest
     (record {
       size = size;
       bytes = record { start = 12; length = simple_captured orig i.snap };
@@ -90,10 +101,12 @@ pub simple_found : (order : Order) (interfaces : List Described) (i : Described)
       interface = 0;
       time = 0;
       orig = orig;
-    })
-simple_found order interfaces i orig size rest known few =
-    record {
-      passes = rw known few;
+    }))
+simple_found interfaces i orig size rest known few =
+    (rw known few, λ order. record {
+      whole = refl;
+      known = rw known refl;
+      from = refl;
       packet = packet_of i 0 orig (take (simple_captured orig i.snap) rest) [];
       stands = rw known refl;
       is_lent = rw known (ap (λ items. Some (packet_of i 0 orig (take (simple_captured orig i.snap) rest) (unwrap_or (first_value comment_code (given items)) []))) (options_in-none order));
@@ -101,7 +114,7 @@ simple_found order interfaces i orig size rest known few =
       behind = lit≤ tt;
       options = omega arith;
       time = omega arith;
-    }
+    })
 
 -- ---- the body in its block
 
@@ -193,55 +206,108 @@ held_lies frame block rest skip held whole least left there from few behind room
 
 -- ---- a block with a packet
 
-pub record HasFound (frame : Frame) (interfaces : List Described) (block : List ℕ) (held : Held) : Type 0 where
-  pub enters : Enters frame interfaces block (Some held) interfaces
-  pub fits : FitsIfAny (Some held) frame.length
-
 packet_enters : (frame : Frame) (interfaces : List Described) (block rest : List ℕ) (parts : Parts) (skip : ℕ) (held : Held) → length block ≡ frame.length → 12 ≤ frame.length
     → parts ≡ parts_in frame block → first_failing (block_checks frame block) ≡ None → rest ≡ drop skip (body_in frame block) → skip ≤ length (body_in frame block)
-    → held.bytes.start ≡ 8 + skip → held.size ≡ frame.length → PacketFound frame.order interfaces parts rest held
+    → first_failing (checks_among interfaces parts) ≡ None → PacketFound frame.order interfaces parts (8 + skip) frame.length rest held
     → section_by (Some (section_of frame.order interfaces)) frame.order parts ≡ section_of frame.order interfaces
-    → HasFound frame interfaces block held
-packet_enters frame interfaces block rest parts skip held whole least is passes left there from size found stays =
-    let lie = held_lies frame block rest skip held whole least left there from found.there found.behind found.options in
+    → Enters frame interfaces block (Some held) interfaces
+packet_enters frame interfaces block rest parts skip held whole least is passes left there among found stays =
+    let lie = held_lies frame block rest skip held whole least left there found.from found.there found.behind found.options in
     record {
-      enters = record {
-        passes = passes;
-        among = ap (λ p. first_failing (checks_among interfaces p)) (sym is) ∙ found.passes;
-        section = ap (λ p. section_by (Some (section_of frame.order interfaces)) frame.order p) (sym is) ∙ stays;
-        packet = record {
-          packet = found.packet;
-          stands = ap (packet_by interfaces) (sym is) ∙ found.stands;
-          is_lent = ap₂ (packet_in frame.order interfaces held) lie.bytes lie.options ∙ found.is_lent;
-        };
+      passes = passes;
+      among = ap (λ p. first_failing (checks_among interfaces p)) (sym is) ∙ among;
+      section = ap (λ p. section_by (Some (section_of frame.order interfaces)) frame.order p) (sym is) ∙ stays;
+      packet = record {
+        packet = found.packet;
+        stands = ap (packet_by interfaces) (sym is) ∙ found.stands;
+        is_lent = ap₂ (packet_in frame.order interfaces held) lie.bytes lie.options ∙ found.is_lent;
       };
-      fits = (size, lie.bytes_within, found.time, lie.options_within);
+      fits = (found.whole, lie.bytes_within, found.time, lie.options_within);
+      known = found.known;
     }
 
 -- what is left of the body behind the fields of an enhanced packet lies in the block
-pub enhanced_room : (frame : Frame) (block rest : List ℕ) (number ticks captured orig : ℕ) (own : Order) → length block ≡ frame.length → 12 ≤ frame.length
-    → EnhancedParts number ticks captured orig own rest ≡ parts_in frame block → first_failing (block_checks frame block) ≡ None → 28 + length rest ≤ frame.length
-enhanced_room frame block rest number ticks captured orig own whole least is passes =
-    let body = enhanced_body frame.block_type frame.order own (body_in frame block) rest number ticks captured orig (sym is) (body_passes frame block passes) in
+pub enhanced_room : (frame : Frame) (block : List ℕ) (b : EnhancedBlock) → length block ≡ frame.length → 12 ≤ frame.length
+    → parts_of (read.Enhanced b) ≡ parts_in frame block → block_fault frame block ≡ None → 28 + length b.rest.now ≤ frame.length
+enhanced_room frame block b whole least is none =
+    let passes = (block_passes frame block least (omega (arith, whole)) none).0 in
+    let body = enhanced_body frame.block_type frame.order b.order (body_in frame block) b.rest.now b.interface b.ticks b.captured b.orig (sym is) (body_passes frame block passes) in
     let size : length (body_in frame block) ≡ frame.length - 12 = length-take-le (frame.length - 12) (drop 8 block) (omega (arith, length-drop 8 block)) in
     omega (arith, size, body.1, ap length body.0, length-drop 20 (body_in frame block), least)
 
-pub enhanced_enters : (frame : Frame) (interfaces : List Described) (block rest : List ℕ) (number ticks captured orig : ℕ) (own : Order) (held : Held) → length block ≡ frame.length → 12 ≤ frame.length
-    → EnhancedParts number ticks captured orig own rest ≡ parts_in frame block → first_failing (block_checks frame block) ≡ None
-    → held.bytes.start ≡ 28 → held.size ≡ frame.length → PacketFound own interfaces (EnhancedParts number ticks captured orig own rest) rest held
-    → HasFound frame interfaces block held
-enhanced_enters frame interfaces block rest number ticks captured orig own held whole least is passes from size found =
-    let body = enhanced_body frame.block_type frame.order own (body_in frame block) rest number ticks captured orig (sym is) (body_passes frame block passes) in
-    let P : Order → Type 0 = λ order. PacketFound order interfaces (EnhancedParts number ticks captured orig own rest) rest held in
-    packet_enters frame interfaces block rest (EnhancedParts number ticks captured orig own rest) 20 held whole least is passes body.0 body.1 from size (subst P body.2 found) refl
+pub enhanced_enters : (frame : Frame) (interfaces : List Described) (block : List ℕ) (b : EnhancedBlock) (held : Held) → length block ≡ frame.length → 12 ≤ frame.length
+    → parts_of (read.Enhanced b) ≡ parts_in frame block → block_fault frame block ≡ None
+    → IsFound (checks_among interfaces (parts_of (read.Enhanced b))) (PacketFound b.order interfaces (parts_of (read.Enhanced b)) 28 frame.length b.rest.now held)
+    → Enters frame interfaces block (Some held) interfaces
+enhanced_enters frame interfaces block b held whole least is none found =
+    let passes = (block_passes frame block least (omega (arith, whole)) none).0 in
+    let body = enhanced_body frame.block_type frame.order b.order (body_in frame block) b.rest.now b.interface b.ticks b.captured b.orig (sym is) (body_passes frame block passes) in
+    let P : Order → Type 0 = λ order. PacketFound order interfaces (parts_of (read.Enhanced b)) 28 frame.length b.rest.now held in
+    packet_enters frame interfaces block b.rest.now (parts_of (read.Enhanced b)) 20 held whole least is passes body.0 body.1 found.0 (subst P body.2 found.1) refl
 
-pub simple_enters : (frame : Frame) (interfaces : List Described) (block rest : List ℕ) (orig : ℕ) (held : Held) → length block ≡ frame.length → 12 ≤ frame.length
-    → SimpleParts orig rest ≡ parts_in frame block → first_failing (block_checks frame block) ≡ None
-    → held.bytes.start ≡ 12 → held.size ≡ frame.length → ((order : Order) → PacketFound order interfaces (SimpleParts orig rest) rest held)
-    → HasFound frame interfaces block held
-simple_enters frame interfaces block rest orig held whole least is passes from size found =
-    let body = simple_body frame.block_type frame.order (body_in frame block) rest orig (sym is) (body_passes frame block passes) in
-    packet_enters frame interfaces block rest (SimpleParts orig rest) 4 held whole least is passes body.0 body.1 from size (found frame.order) refl
+pub simple_enters : (frame : Frame) (interfaces : List Described) (block : List ℕ) (b : SimpleBlock) (held : Held) → length block ≡ frame.length → 12 ≤ frame.length
+    → parts_of (read.Simple b) ≡ parts_in frame block → block_fault frame block ≡ None
+    → IsFound (checks_among interfaces (parts_of (read.Simple b))) ((order : Order) → PacketFound order interfaces (parts_of (read.Simple b)) 12 frame.length b.rest.now held)
+    → Enters frame interfaces block (Some held) interfaces
+simple_enters frame interfaces block b held whole least is none found =
+    let passes = (block_passes frame block least (omega (arith, whole)) none).0 in
+    let body = simple_body frame.block_type frame.order (body_in frame block) b.rest.now b.orig (sym is) (body_passes frame block passes) in
+    packet_enters frame interfaces block b.rest.now (parts_of (read.Simple b)) 4 held whole least is passes body.0 body.1 found.0 (found.1 frame.order) refl
+
+-- ---- an interface
+
+abbrev IsTooMany : Result (Unit {0}) Fault → Type 0
+IsTooMany r = r ≡ Err TooManyInterfaces
+
+abbrev pub IsFull : Result (Unit {0}) Fault → List Described → Type 0
+IsFull r interfaces = IsTooMany r ↔ (length interfaces ≡ 256)
+
+pub interface_enters : (frame : Frame) (interfaces interfaces' : List Described) (block : List ℕ) (b : InterfaceBlock) → length block ≡ frame.length → 12 ≤ frame.length
+    → parts_of_interface b ≡ parts_in frame block → IsDescribed b → block_fault frame block ≡ None → length interfaces ≤ 256 → IsFull (Ok tt) interfaces
+    → interfaces' ≡ interfaces ++ described b.interface ∷ [] → Enters frame interfaces block None interfaces'
+interface_enters frame interfaces interfaces' block b whole least is says none few room added =
+    let passes = block_passes frame block least (omega (arith, whole)) none in
+    let options : first_failing (option_checks (parts_of_interface b)) ≡ None = ap (λ p. first_failing (option_checks p)) is ∙ passes.1 in
+    record {
+      passes = passes.0;
+      among =
+          ap (λ p. first_failing (checks_among interfaces p)) (sym is)
+          ∙ ap (λ (r : Bool). first_failing ((r, TooManyInterfaces) ∷ option_checks (parts_of_interface b))) (lt-ltb (length interfaces) most_interfaces (below (length interfaces) few (λ n. not_full (room.1 n)))) ∙ options;
+      section =
+          ap (λ p. section_by (Some (section_of frame.order interfaces)) frame.order p) (sym is)
+          ∙ ap (λ (i : Described). section_of frame.order (interfaces ++ i ∷ [])) (sym says) ∙ ap (section_of frame.order) (sym added);
+      packet = ap (packet_by interfaces) (sym is);
+      fits = tt;
+      known = tt;
+    }
+  where
+    not_full : IsTooMany (Ok tt) → ⊥
+    not_full e = (cc)
+
+    below : (n : ℕ) → n ≤ 256 → (n ≡ 256 → ⊥) → n < 256
+    below n few room = by_room (nat_lt n 256) refl
+      where
+        by_room : (b : Bool) → nat_lt n 256 ≡ b → n < 256
+        by_room true e = ltb-true n 256 e
+        by_room false e = absurd (let most = ltb-false n 256 e in room (omega (arith, few, most)))
+
+pub interface_refused : (frame : Frame) (interfaces : List Described) (block : List ℕ) (b : InterfaceBlock) (fault : Fault) → length block ≡ frame.length → 12 ≤ frame.length
+    → parts_of_interface b ≡ parts_in frame block → block_fault frame block ≡ None → length interfaces ≤ 256
+    → IsFull (Err fault) interfaces → (length interfaces < 256 → fault ≡ NoMemory) → IsEntryFault frame interfaces block fault
+interface_refused frame interfaces block b fault whole least is none few full memory = by_room (nat_lt (length interfaces) most_interfaces) refl
+  where
+    same : (told : Fault) → IsTooMany (Err told) → told ≡ TooManyInterfaces
+    same told e = (cc)
+
+    by_room : (room : Bool) → nat_lt (length interfaces) most_interfaces ≡ room → IsEntryFault frame interfaces block fault
+    by_room true e = inr (inr (memory (ltb-true (length interfaces) 256 e)))
+    by_room false e =
+        let most = ltb-false (length interfaces) 256 e in
+        inr (inl (
+          (block_passes frame block least (omega (arith, whole)) none).0,
+          ap (λ p. first_failing (checks_among interfaces p)) (sym is)
+          ∙ ap (λ (r : Bool). first_failing ((r, TooManyInterfaces) ∷ option_checks (parts_of_interface b))) e ∙ ap Some (sym (same fault (full.1 (omega (arith, few, most))))),
+        ))
 
 -- ---- a block that is refused by itself
 

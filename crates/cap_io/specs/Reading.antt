@@ -1,16 +1,17 @@
 -- What reading one unit from a device does to its bytes and its counts.
-use Rattle.std.specs.Prelude.{◌≡◌, ℕ, ◌+◌, ◌^◌, ◌<◌, ◌≤◌, ◌⊎◌, Bool, true, false, List, [], ◌∷◌, ◌++◌, length, take, drop, Option, None, Some, Result, Ok, Err, IfOk, IfErr, is_some, if◌then◌else◌}
+use Rattle.std.specs.Prelude.{◌≡◌, ℕ, ◌+◌, ◌^◌, ◌<◌, ◌≤◌, ◌⊎◌, Bool, true, false, List, [], ◌∷◌, ◌++◌, length, take, drop, Option, None, Some, Result, Ok, Err, IfOk, IfErr, is_some, if◌then◌else◌, IsTrue, OnOk, OnErr}
 use Rattle.std.specs.List.{slice_get}
 use Rattle.std.specs.Option.{option_map}
 use Rattle.cap_octet.specs.Packet.{Captured}
 use Rattle.cap_octet.specs.declared.fault.Fault.{Fault}
 use Rattle.cap_octet.specs.declared.fault.Fault.TheVariants.{NoMemory, ReadFailed, Truncated}
 use Rattle.cap_octet.specs.Checks.{first_failing}
+use Rattle.cap_octet.specs.declared.number.Order.{Order}
 use Rattle.cap_octet.specs.declared.device.Input.{Ghosts}
 use Rattle.cap_pcap.specs.Header.{IsHeader, form_in}
 use Rattle.cap_pcap.specs.Record.{field_checks, record_size}
 use Rattle.cap_pcapng.specs.Comment.{comment_in}
-use Rattle.cap_pcapng.specs.Frame.{frame_checks, most_block}
+use Rattle.cap_pcapng.specs.Frame.{frame_checks, is_section, most_block}
 use Rattle.cap_pcapng.specs.Interface.{Described}
 use Rattle.cap_pcapng.specs.Unit.{Section, block_size, order_before, packet_of}
 use Rattle.cap_pcap.specs.declared.head.Head.{Head}
@@ -113,6 +114,17 @@ declared_by savefile.Unknown interfaces = Nothing
 declared_by (savefile.Pcap head) interfaces = PcapFile head
 declared_by (savefile.Pcapng order first) interfaces = PcapngFile first (record { order = order; interfaces = interfaces })
 
+-- the byte order of the current section, and the first link type
+abbrev pub order_held : Savefile → Option Order
+order_held savefile.Unknown = None
+order_held (savefile.Pcap head) = None
+order_held (savefile.Pcapng order first) = Some order
+
+abbrev pub first_link_held : Savefile → Option ℕ
+first_link_held savefile.Unknown = None
+first_link_held (savefile.Pcap head) = Some head.link
+first_link_held (savefile.Pcapng order first) = first
+
 -- Before anything is read there is no interface, and the first link type of a file is known once its section has one.
 abbrev pub IsTold : Savefile → List Described → Type 0
 IsTold savefile.Unknown interfaces = interfaces ≡ []
@@ -206,3 +218,28 @@ abbrev pub IsSized : Came → List ℕ → ℕ → Type 0
 IsSized (came.Passed size) buffer given = (0 < size) × (given < 2 ^ 63)
 IsSized (came.Packet held) buffer given = IsHeld held buffer × (given < 2 ^ 63)
 IsSized came.End buffer given = Unit {0}
+
+-- ---- what is read
+
+-- the section in front of a block of such a file
+abbrev pub section_before : Savefile → List Described → Option Section
+section_before savefile.Unknown interfaces = None
+section_before (savefile.Pcap head) interfaces = None
+section_before (savefile.Pcapng order first) interfaces = Some (record { order = order; interfaces = interfaces })
+
+-- these bytes begin a block: a section header where nothing was read, and any block behind a section
+abbrev pub BeginsBlock : Savefile → List ℕ → Type 0
+BeginsBlock savefile.Unknown front = is_section front ≡ true
+BeginsBlock (savefile.Pcap head) front = ⊥
+BeginsBlock (savefile.Pcapng order first) front = Unit {0}
+
+-- What reading a unit whose first bytes had come did: to the device, to the buffer, and to what is known of the file. A
+-- fault leaves what is known.
+pub record ReadsUnit {I : Type 0} (device : Ghosts I) (old : I) (front : List ℕ) (file : Savefile) (interfaces : List Described) (r : Result Came Fault) (new : I) (buffer : List ℕ) (file' : Savefile) (interfaces' : List Described) : Type 0 where
+  pub moves : Moves device old new (length front) size_of most_in_unit r
+  pub sized : IfOk r (λ came. IsSized came buffer (device.given new))
+  pub told : OnOk r (IsTold file' interfaces')
+  pub known : IfOk r (HasInterfaceIfAny (declared_by file' interfaces'))
+  pub ok : IfOk r (λ came. IsTrue device.tells → UnitCame (declared_by file interfaces) (front ++ device.unread old) buffer came (declared_by file' interfaces') (device.unread new))
+  pub err : IfErr r (λ fault. IsTrue device.tells → Refuses (declared_by file interfaces) (front ++ device.unread old) (device.unread new) fault)
+  pub kept : OnErr r ((file' ≡ file) × (interfaces' ≡ interfaces))

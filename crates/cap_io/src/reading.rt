@@ -1,11 +1,12 @@
 //! The bytes of a unit, and the units of a pcap file, read from a device.
 ghost use Rattle.std.specs.Prelude.{◌≡◌, ℕ, ◌+◌, ◌^◌, ◌<◌, ◌≤◌, ◌++◌, true, false, IsTrue, IfOk};
-ghost use Rattle.std.specs.Prelude.{IfErr, OnOk, if◌then◌else◌, length, take, drop, vec_len};
+ghost use Rattle.std.specs.Prelude.{IfErr, List, OnOk, [], if◌then◌else◌, length, take, drop, vec_len};
 ghost use Rattle.cap_pcapng.specs.Frame.{is_section};
-ghost use Rattle.cap_io.specs.Capture.{Nothing, PcapFile};
-ghost use Rattle.cap_io.specs.Reading.{most_in_unit, size_of, FrontCame, Moves};
-ghost use Rattle.cap_io.specs.Reading.{FrontMissing, HasInterfaceIfAny, HeaderCame, IsSized};
-ghost use Rattle.cap_io.specs.Reading.{Refuses, RestMissing, UnitCame};
+ghost use Rattle.cap_pcapng.specs.Interface.{Described};
+ghost use Rattle.cap_io.specs.Capture.{Nothing};
+ghost use Rattle.cap_io.specs.Reading.{FrontCame, FrontMissing, HeaderCame, Moves, ReadsUnit};
+ghost use Rattle.cap_io.specs.Reading.{Refuses, RestMissing};
+ghost use Rattle.cap_io.specs.declared.unit.Savefile.TheVariants as file;
 
 use crate::unit::{Came, Held, Span};
 use cap_octet::{Fault, Input, read_full};
@@ -16,28 +17,6 @@ use std::alloc::Allocator;
 const RECORD_HEAD: usize = 16;
 
 // ---- bytes
-
-/// Reads behind the first `from` bytes of the buffer until it is full.
-pub(crate) fn read_rest<I: Input>(input: &mut I, bytes: &mut [u8], from: usize) -> Result<(), Fault>
-    requires { from ≤ length bytes.old }
-    ensures moves { Moves I.Input input.old input.new from (λ _. length bytes.old)
-        (length bytes.old) result }
-    ensures same { OnOk result (take from bytes.new ≡ take from bytes.old) }
-    ensures ok { OnOk result (IsTrue I.tells → I.unread input.old
-        ≡ drop from bytes.new ++ I.unread input.new) }
-    ensures err { IfErr result (λ fault. IsTrue I.tells → RestMissing from (length bytes.old)
-        (I.unread input.old) (I.unread input.new) fault) }
-{
-    let rest = &mut bytes[from..];
-    let room = rest.len();
-    let Ok(count) = read_full(input, rest) else {
-        return Err(Fault::ReadFailed);
-    };
-    if count < room {
-        return Err(Fault::Truncated);
-    }
-    Ok(())
-}
 
 /// Reads the first bytes of a unit that is behind others; `false` is the end of the
 /// file.
@@ -76,7 +55,7 @@ pub(crate) fn make_room<A: Allocator>(buffer: &mut Vec<u8, A>, size: usize) -> R
 
 /// Reads what is left of a unit of so many bytes to the start of the buffer, behind the part of it
 /// that came.
-pub(crate) fn read_data<I: Input>(
+pub(crate) fn read_rest<I: Input>(
     input: &mut I,
     front: &[u8],
     buffer: &mut [u8],
@@ -91,10 +70,16 @@ pub(crate) fn read_data<I: Input>(
     ensures err { IfErr result (λ fault. IsTrue I.tells → RestMissing (length front.now) size
         (I.unread input.old) (I.unread input.new) fault) }
 {
-    let unit = &mut buffer[..size];
     let from = front.len();
+    let unit = &mut buffer[..size];
     unit[..from].copy_from_slice(front);
-    read_rest(input, unit, from)
+    let Ok(count) = read_full(input, &mut unit[from..]) else {
+        return Err(Fault::ReadFailed);
+    };
+    if from + count < size {
+        return Err(Fault::Truncated);
+    }
+    Ok(())
 }
 
 // ---- pcap
@@ -112,8 +97,7 @@ pub(crate) fn read_header<I: Input>(input: &mut I, first: &[u8; 4]) -> Result<He
         return Err(Fault::NotACaptureFile);
     }
     let mut bytes = [0; 24];
-    bytes[..4].copy_from_slice(first);
-    read_rest(input, &mut bytes, 4)?;
+    read_rest(input, first, &mut bytes, 24)?;
     read_head(&bytes)
 }
 
@@ -124,14 +108,8 @@ pub(crate) fn next_record<I: Input, A: Allocator>(
     head: &Head,
     buffer: &mut Vec<u8, A>,
 ) -> Result<Came, Fault>
-    ensures moves { Moves I.Input input.old input.new 0 size_of most_in_unit result }
-    ensures sized { IfOk result (λ came. IsSized came buffer.new.items (I.given input.new)) }
-    ensures known { IfOk result (HasInterfaceIfAny (PcapFile head.now)) }
-    ensures ok { IfOk result (λ came. IsTrue I.tells
-        → UnitCame (PcapFile head.now) (I.unread input.old) buffer.new.items came
-        (PcapFile head.now) (I.unread input.new)) }
-    ensures err { IfErr result (λ fault. IsTrue I.tells → Refuses (PcapFile head.now)
-        (I.unread input.old) (I.unread input.new) fault) }
+    ensures { (interfaces : List Described) → ReadsUnit I.Input input.old [] (file.Pcap head.now)
+        interfaces result input.new buffer.new.items (file.Pcap head.now) interfaces }
 {
     let mut front = [0; RECORD_HEAD];
     if !read_front(input, &mut front)? {
@@ -140,17 +118,11 @@ pub(crate) fn next_record<I: Input, A: Allocator>(
     let found = read_record(head, &front)?;
     let size = RECORD_HEAD + found.captured as usize;
     make_room(buffer, size)?;
-    read_data(input, &front, buffer.as_mut_slice(), size)?;
+    read_rest(input, &front, buffer.as_mut_slice(), size)?;
     Ok(Came::Packet(Held {
         size: size as u32,
-        bytes: Span {
-            start: RECORD_HEAD as u32,
-            length: found.captured,
-        },
-        options: Span {
-            start: RECORD_HEAD as u32,
-            length: 0,
-        },
+        bytes: Span::new(RECORD_HEAD as u32, found.captured),
+        options: Span::new(RECORD_HEAD as u32, 0),
         interface: 0,
         time: found.time,
         orig: found.orig,

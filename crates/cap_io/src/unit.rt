@@ -1,6 +1,6 @@
 //! What is held of the units that were read.
 ghost use Rattle.std.specs.Prelude.{◌≡◌, ◌+◌, ◌≤◌, length};
-ghost use Rattle.cap_io.specs.Reading.{part_of};
+ghost use Rattle.cap_io.specs.Reading.{first_link_held, order_held, part_of};
 
 use cap_octet::Order;
 use cap_pcap::Head;
@@ -16,6 +16,29 @@ pub(crate) enum Savefile {
     Pcapng(Order, Option<u16>),
 }
 
+impl Savefile {
+    /// The byte order of the current section, if there is one.
+    pub(crate) fn order(self) -> Option<Order>
+        ensures { result ≡ order_held self }
+    {
+        match self {
+            Savefile::Unknown | Savefile::Pcap(_) => None,
+            Savefile::Pcapng(order, _) => Some(order),
+        }
+    }
+
+    /// The first link type that the units declare.
+    pub(crate) fn first_link(self) -> Option<u16>
+        ensures { result ≡ first_link_held self }
+    {
+        match self {
+            Savefile::Unknown => None,
+            Savefile::Pcap(head) => Some(head.link),
+            Savefile::Pcapng(_, first) => first,
+        }
+    }
+}
+
 /// Bytes of a unit.
 #[derive(Clone, Copy, Debug, PartialEq, Eq)]
 pub(crate) struct Span {
@@ -26,6 +49,13 @@ pub(crate) struct Span {
 }
 
 impl Span {
+    /// So many bytes from this one on.
+    pub(crate) fn new(start: u32, length: u32) -> Self
+        ensures { result ≡ record { start = start; length = length } }
+    {
+        Span { start, length }
+    }
+
     /// These bytes of a buffer that begins with the unit.
     pub(crate) fn of(self, bytes: &[u8]) -> &[u8]
         requires { self.start + self.length ≤ length bytes.now }
