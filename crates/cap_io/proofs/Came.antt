@@ -1,6 +1,6 @@
 -- What came of a unit, from read to read.
-use Rattle.std.proofs.Common.{◌≡◌, ℕ, Bool, IsTrue, IfOk, IfErr, OnOk, ◌+◌, ◌<◌, ◌≤◌, inl, inr, List, [], ◌++◌, length, take, drop, Option, Some, None, is_some, true, false, Result, Ok, Err, refl, sym, subst, ap, ap₂, ◌∙◌, arith, length-drop}
-use Rattle.std.proofs.lemmas.List.{take_all, length-append, take-append-drop, take_at, drop_at, drop-drop, append_assoc, append-nil}
+use Rattle.std.proofs.Common.{◌≡◌, ℕ, Bool, IsTrue, IfOk, IfErr, ◌+◌, ◌<◌, ◌≤◌, inl, inr, List, [], ◌++◌, length, take, drop, Option, Some, None, is_some, true, false, Result, Ok, Err, refl, sym, subst, ap, ap₂, ◌∙◌, arith, length-drop}
+use Rattle.std.proofs.lemmas.List.{take_all, length-append, take-append-drop, drop_at, drop-drop, append_assoc, append-nil}
 use Rattle.std.proofs.Math.ListN.{drop_of_length-le}
 use Rattle.cap_octet.specs.Device.{TakesFull}
 use Rattle.cap_octet.specs.Checks.{checked, first_failing}

@@ -77,19 +77,21 @@ enhanced_found order interfaces i number ticks captured orig time size optional 
     let lies_there : take optional (drop (28 + length rest - optional - 28) rest) ≡ options = options_behind (padded captured) optional rest options room behind optional_is in
     let left : length options ≡ length rest - padded captured = ap length behind ∙ length-drop (padded captured) rest in
     let fits : captured ≤ length rest = captured_fits captured rest few in
-    let at : time_in ticks i.units i.offset ≡ Some time = found_by (time_in ticks i.units i.offset) TimeOutOfRange time (sym told) in
-    (rw (known, at) (met_front (data_checks captured rest) ((is_some (Some time), TimeOutOfRange) ∷ []) few), record {
-      whole = refl;
-      known = rw known refl;
-      from = refl;
-      packet = packet_of i time orig (take captured rest) (comment_in order (drop (padded captured) rest));
-      stands = rw (known, at) refl;
-      is_lent = rw (known, lies_there ∙ behind) refl;
-      there = fits;
-      behind = omega (arith, left, optional_is);
-      options = omega (arith, left, optional_is);
-      time = small;
-    })
+    let at : time_in ticks i.units i.offset ≡ Some time = found_by (time_in ticks i.units i.offset) TimeOutOfRange time (sym told) in (
+      rw (known, at) (met_front (data_checks captured rest) ((is_some (Some time), TimeOutOfRange) ∷ []) few),
+      record {
+        whole = refl;
+        known = rw known refl;
+        from = refl;
+        packet = packet_of i time orig (take captured rest) (comment_in order (drop (padded captured) rest));
+        stands = rw (known, at) refl;
+        is_lent = rw (known, lies_there ∙ behind) refl;
+        there = fits;
+        behind = omega (arith, left, optional_is);
+        options = omega (arith, left, optional_is);
+        time = small;
+      },
+    )
 
 pub simple_found : (interfaces : List Described) (i : Described) (orig size : ℕ) (rest : List ℕ)
     → slice_get interfaces 0 ≡ Some i → first_failing (data_checks (simple_captured orig i.snap) rest) ≡ None
@@ -102,19 +104,21 @@ pub simple_found : (interfaces : List Described) (i : Described) (orig size : �
       time = 0;
       orig = orig;
     }))
-simple_found interfaces i orig size rest known few =
-    (rw known few, λ order. record {
-      whole = refl;
-      known = rw known refl;
-      from = refl;
-      packet = packet_of i 0 orig (take (simple_captured orig i.snap) rest) [];
-      stands = rw known refl;
-      is_lent = rw known (ap (λ items. Some (packet_of i 0 orig (take (simple_captured orig i.snap) rest) (unwrap_or (first_value comment_code (given items)) []))) (options_in-none order));
-      there = captured_fits (simple_captured orig i.snap) rest few;
-      behind = lit≤ tt;
-      options = omega arith;
-      time = omega arith;
-    })
+simple_found interfaces i orig size rest known few = (
+  rw known few,
+  λ order. record {
+    whole = refl;
+    known = rw known refl;
+    from = refl;
+    packet = packet_of i 0 orig (take (simple_captured orig i.snap) rest) [];
+    stands = rw known refl;
+    is_lent = rw known (ap (λ items. Some (packet_of i 0 orig (take (simple_captured orig i.snap) rest) (unwrap_or (first_value comment_code (given items)) []))) (options_in-none order));
+    there = captured_fits (simple_captured orig i.snap) rest few;
+    behind = lit≤ tt;
+    options = omega arith;
+    time = omega arith;
+  },
+)
 
 -- ---- the body in its block
 
@@ -306,7 +310,7 @@ interface_refused frame interfaces block b fault whole least is none few full me
         inr (inl (
           (block_passes frame block least (omega (arith, whole)) none).0,
           ap (λ p. first_failing (checks_among interfaces p)) (sym is)
-          ∙ ap (λ (r : Bool). first_failing ((r, TooManyInterfaces) ∷ option_checks (parts_of_interface b))) e ∙ ap Some (sym (same fault (full.1 (omega (arith, few, most))))),
+              ∙ ap (λ (r : Bool). first_failing ((r, TooManyInterfaces) ∷ option_checks (parts_of_interface b))) e ∙ ap Some (sym (same fault (full.1 (omega (arith, few, most))))),
         ))
 
 -- ---- a block that is refused by itself

@@ -1,5 +1,5 @@
 -- From one place in a file to a later one.
-use Rattle.std.proofs.Common.{◌≡◌, ℕ, ◌+◌, ◌-◌, ◌≤◌, List, [], ◌++◌, length, take, drop, Option, Some, None, refl, sym, ap, ap₂, ◌∙◌, subst, arith}
+use Rattle.std.proofs.Common.{◌≡◌, ℕ, ◌+◌, ◌-◌, ◌≤◌, List, [], ◌++◌, length, take, drop, Option, Some, None, is_some, true, refl, sym, ap, ap₂, ◌∙◌, subst, arith}
 use Rattle.std.specs.List.{slice_get}
 use Rattle.std.specs.Option.{option_map}
 use Rattle.std.proofs.lemmas.List.{append_assoc, drop-take, take-take, length-append, length-take-le}
@@ -13,10 +13,10 @@ use Rattle.cap_io.specs.declared.source.Stage.TheVariants as stage
 use Rattle.cap_octet.specs.declared.fault.Fault.{Fault}
 use Rattle.cap_io.specs.declared.unit.Held.{Held}
 use Rattle.cap_io.specs.declared.unit.Span.{Span}
-use Rattle.cap_io.specs.Capture.{Declared, PcapFile, PcapngFile, AreUnits, no_unit}
+use Rattle.cap_io.specs.Capture.{Declared, Nothing, PcapFile, PcapngFile, AreUnits, no_unit}
 use Rattle.cap_io.proofs.Items.{AreUnits-append}
 use Rattle.cap_io.proofs.Units.{one_unit}
-use Rattle.cap_io.specs.Reading.{EndCame, PacketCame, Refuses, UnitPassed, packet_held, part_of}
+use Rattle.cap_io.specs.Reading.{EndCame, HasInterface, PacketCame, Refuses, UnitPassed, packet_held, part_of}
 use Rattle.cap_io.specs.Source.{SourceView, Reading, Ended, Passes, IsBetween, IsBroken, FindsPacket, FindsEnd, HoldsIfAny, behind, block_at, left, phase_at}
 
 -- ---- no unit is gone over
@@ -153,6 +153,16 @@ pub pcapng-lent : (order : Order) (first : Option ℕ) (interfaces : List Descri
 pcapng-lent order first interfaces i held bytes comment options block known same commented optional =
     ap₂ (λ (l m : List ℕ). Some (packet_of i held.time held.orig l m)) same (commented ∙ ap (comment_in order) optional)
     ∙ ap (option_map (λ (j : Described). packet_of j held.time held.orig (part_of held.bytes block) (comment_in order (part_of held.options block)))) (sym known)
+
+pub time-held : (declared : Declared) (held : Held) (block : List ℕ) → HasInterface declared held → Some held.time ≡ option_map (λ p. p.time) (packet_held declared held block)
+time-held Nothing held block known = absurd known
+time-held (PcapFile head) held block known = refl
+time-held (PcapngFile first section) held block known = by_interface (slice_get section.interfaces held.interface) known
+  where
+    by_interface : (found : Option Described) → is_some found ≡ true
+        → Some held.time ≡ option_map (λ p. p.time) (option_map (λ (i : Described). packet_of i held.time held.orig (part_of held.bytes block) (comment_in section.order (part_of held.options block))) found)
+    by_interface None known = (cc)
+    by_interface (Some i) known = refl
 
 -- ---- nothing is in hand
 

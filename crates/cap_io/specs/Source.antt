@@ -10,7 +10,7 @@ use Rattle.cap_io.specs.declared.unit.Came.TheVariants as came
 use Rattle.cap_io.specs.declared.unit.Held.{Held}
 use Rattle.cap_io.specs.declared.unit.Savefile.{Savefile}
 use Rattle.cap_io.specs.Capture.{Declared, Nothing, PcapFile, PcapngFile, IsUnit, AreUnits, Stops, front_of}
-use Rattle.cap_io.specs.Reading.{most_in_unit, failures_told, IsReason, IsTaken, IsHeld, IsTold, declared_by, packet_held}
+use Rattle.cap_io.specs.Reading.{most_in_unit, failures_told, HasInterface, IsReason, IsTaken, IsHeld, IsTold, declared_by, packet_held}
 
 -- ---- the view
 
@@ -89,11 +89,18 @@ HoldsIfAny (stage.InHand held) buffer = IsHeld held buffer
 HoldsIfAny stage.Ended buffer = Unit {0}
 HoldsIfAny (stage.Failed fault) buffer = Unit {0}
 
+abbrev pub HasInterfaceIfInHand : Stage → Declared → Type 0
+HasInterfaceIfInHand stage.Between declared = Unit {0}
+HasInterfaceIfInHand (stage.InHand held) declared = HasInterface declared held
+HasInterfaceIfInHand stage.Ended declared = Unit {0}
+HasInterfaceIfInHand (stage.Failed fault) declared = Unit {0}
+
 -- what holds of each source's fields
 pub record IsSound (stage : Stage) (savefile : Savefile) (interfaces : List Described) (offset : ℕ) (buffer : List ℕ) (given : ℕ) : Type 0 where
   pub fits : offset + length (block_at stage buffer) < 2 ^ 63
   pub counted : offset + length (block_at stage buffer) ≤ given
   pub held : HoldsIfAny stage buffer
+  pub known : HasInterfaceIfInHand stage (declared_by savefile interfaces)
   pub told : IsTold savefile interfaces
 
 -- ---- what an advance does

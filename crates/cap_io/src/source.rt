@@ -145,16 +145,9 @@ impl<I: Input, A: Allocator> Source<I, A> {
     pub fn time(&self) -> Option<u64>
         ensures { result ≡ option_map (λ p. p.time) self.now.packet }
     {
-        let Stage::InHand(held) = self.stage else {
-            return None;
-        };
-        match self.savefile {
-            Savefile::Unknown => None,
-            Savefile::Pcap(_) => Some(held.time),
-            Savefile::Pcapng(_, _) => {
-                let _interface = self.table.get(held.interface)?;
-                Some(held.time)
-            }
+        match self.stage {
+            Stage::InHand(held) => Some(held.time),
+            Stage::Between | Stage::Ended | Stage::Failed(_) => None,
         }
     }
 
@@ -184,11 +177,7 @@ impl<I: Input, A: Allocator> Source<I, A> {
     pub fn first_link(&self) -> Option<u16>
         ensures { result ≡ first_link_of self.now.declared }
     {
-        match self.savefile {
-            Savefile::Unknown => None,
-            Savefile::Pcap(head) => Some(head.link),
-            Savefile::Pcapng(_, first) => first,
-        }
+        self.savefile.first_link()
     }
 
     /// The device, as it stands. It takes no memory.

@@ -1,4 +1,4 @@
-use Rattle.std.proofs.Common.{rules, refl, sym, ap, ◌∙◌, arith}
+use Rattle.std.proofs.Common.{rules, refl, sym, ◌∙◌}
 use Rattle.std.proofs.lemmas.Result.{err_from_is_err_and}
 use Rattle.cap_io.proofs.Came.{Refuses-behind, first_of, joined_front, section_of_bytes}
 use Rattle.cap_io.proofs.CapturesCame.{ReadsUnit-behind, UnitPassed-behind, header_passed, rest_of_front}

@@ -1,0 +1,12 @@
+use Rattle.std.proofs.Common.{ap, take, ◌∙◌}
+use Rattle.std.specs.Option.{option_map}
+use Rattle.cap_io.specs.Reading.{declared_by}
+use Rattle.cap_io.specs.Source.{SourceView}
+use Rattle.cap_io.proofs.Passing.{time-held}
+use Rattle.cap_io.proofs.source.Source.time.Goals as goal
+
+pub returns-in-InHand : goal.returns-in-InHand
+returns-in-InHand g c =
+    let view = rw c.in-InHand.is at (ap (λ (v : SourceView). v.packet) c.self.view_is) in
+    let known = rw c.in-InHand.is at c.self.invariant.known in
+    time-held (declared_by c.self.inside.savefile c.self.inside.table) c.in-InHand.held (take c.in-InHand.held.size c.self.inside.buffer.items) known ∙ ap (option_map (λ p. p.time)) view
