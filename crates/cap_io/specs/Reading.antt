@@ -202,11 +202,6 @@ UnitCame declared unread buffer (came.Passed size) declared' unread' = UnitPasse
 UnitCame declared unread buffer (came.Packet held) declared' unread' = PacketCame declared unread buffer held declared' unread'
 UnitCame declared unread buffer came.End declared' unread' = EndCame declared unread declared' unread'
 
--- a unit of so many bytes, by its packet
-abbrev pub came_by : Option Held → ℕ → Came
-came_by None size = came.Passed size
-came_by (Some held) size = came.Packet held
-
 -- how many bytes it has
 abbrev pub size_of : Came → ℕ
 size_of (came.Passed size) = size
