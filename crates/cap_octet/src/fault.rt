@@ -2,29 +2,55 @@
 ghost use Rattle.std.specs.Prelude.{◌≡◌};
 ghost use Rattle.cap_octet.specs.Fault.{fault_text};
 
+use std::error::Error;
+use std::fmt;
+
 /// The faults, in the order of their numbers, 1 to 21.
 #[derive(Clone, Copy, Debug, PartialEq, Eq)]
 pub enum Fault {
+    /// 1: the first bytes are no magic number, or a block of another type is in front of the first
+    /// section header.
     NotACaptureFile,
+    /// 2: the file ends inside a file header, a record or a block.
     Truncated,
+    /// 3: the version isn't 2.4 (pcap), or 1.0 or 1.2 (pcapng).
     BadVersion,
+    /// 4: a record has over 262,144 captured bytes, or a block over 1,048,576 bytes in all.
     TooLong,
+    /// 5: a total length is below 12 or no multiple of 4, or the two of a block differ.
     BadBlockLength,
+    /// 6: a section header has no byte-order magic.
     BadByteOrderMagic,
+    /// 7: a packet names an interface that its section doesn't describe.
     UnknownInterface,
+    /// 8: an option of an interface doesn't fit in its block, or its value has a wrong length.
     BadOption,
+    /// 9: a body is shorter than its type or its captured length asks for.
     BadBody,
+    /// 10: a part of a second is a second or more; a time isn't from 0 to 2^63 - 1 nanoseconds, or
+    /// not below 2^32 seconds where a pcap file is written.
     TimeOutOfRange,
+    /// 11: a section describes over 256 interfaces.
     TooManyInterfaces,
+    /// 12: a resolution is above 12 (of ten) or 32 (of two).
     BadTimeResolution,
+    /// 13: the link type field of a pcap file header is above 65,535.
     BadLinkTypeField,
+    /// 14: an obsolete packet block (type 2).
     ObsoletePacketBlock,
+    /// 15: the device failed in a read.
     ReadFailed,
+    /// 16: an allocation failed.
     NoMemory,
+    /// 17: the device failed in a write.
     WriteFailed,
+    /// 18: a packet to a pcap file has another link type than the first.
     LinkTypesDiffer,
+    /// 19: an expression reads no packets of this link type.
     LinkTypeNotFiltered,
+    /// 20: the packet has the number 2^63.
     TooManyPackets,
+    /// 21: a pcapng output would have over 4,096 interfaces.
     TooManyOutputInterfaces,
 }
 
@@ -58,3 +84,15 @@ impl Fault {
         }
     }
 }
+
+impl fmt::Display for Fault {
+    ghost use Rattle.std.specs.Prelude.{Some};
+
+    ghost output = { λ fault. Some (fault_text fault) };
+
+    fn fmt<W: fmt::Write>(&self, f: &mut fmt::Formatter<W>) -> fmt::Result {
+        write!(f, "{}", self.text())
+    }
+}
+
+impl Error for Fault {}

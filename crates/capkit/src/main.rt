@@ -4,15 +4,15 @@
 ghost use Rattle.std.specs.Prelude.{◌≡◌, ◌≤◌};
 ghost use Rattle.capkit.specs.Status.{status_of};
 
-mod job;
 mod overwrites;
 mod progress;
+mod runner;
 mod streams;
 #[cfg(test)]
 mod tests;
 
-use crate::job::run;
 use crate::overwrites::overwrites_input;
+use crate::runner::run;
 use cap_line::{Usage, command_of};
 use std::alloc::AllocError;
 use std::env;

@@ -1,6 +1,6 @@
 //! Files that are opened, read, created and left alone.
 
-use crate::job::{Stop, create, open, read_listing, run};
+use crate::runner::{Stop, create, open, read_listing, run};
 use crate::overwrites::overwrites_input;
 use crate::progress::Progress;
 use cap_line::command_of;
@@ -54,7 +54,7 @@ fn line(alloc: Global, folder: &str, words: &[&str]) -> Result<Vec<String>, Allo
 }
 
 /// The status of a run of the words.
-fn status_of(rt: &HostRuntime, folder: &str, words: &[&str]) -> Result<u8, Fail> {
+fn status_after(rt: &HostRuntime, folder: &str, words: &[&str]) -> Result<u8, Fail> {
     let line = line(rt.alloc(), folder, words)?;
     Ok(run(rt, command_of(rt.alloc(), line)?))
 }
@@ -71,12 +71,12 @@ fn has_written(rt: &HostRuntime, folder: &str, count: usize) -> Result<bool, Fai
 fn files_are_read_and_written(rt: HostRuntime) -> Result<(), Fail> {
     let folder = folder(&rt, "written")?;
     let edit = ["capkit", "edit", "-F", "pcap", "@in", "@out", "2"];
-    assert!(rt; status_of(&rt, &folder, &edit)? == 0);
+    assert!(rt; status_after(&rt, &folder, &edit)? == 0);
     assert!(rt; has_written(&rt, &folder, 54)?);
     let print = [
         "capkit", "print", "--code", "@code", "-w", "@out", "--format", "pcap", "@in",
     ];
-    assert!(rt; status_of(&rt, &folder, &print)? == 0);
+    assert!(rt; status_after(&rt, &folder, &print)? == 0);
     assert!(rt; has_written(&rt, &folder, 54)?);
     fs::remove_dir_all(&rt, &folder)?;
     Ok(())
@@ -93,7 +93,7 @@ fn nothing_is_created_where_an_input_is_missing(rt: HostRuntime) -> Result<(), F
         ["capkit", "print", "--code", "/", "-w", "@out", "@in"].as_slice(),
         ["capkit", "edit", "@none", "@out"].as_slice(),
     ] {
-        assert!(rt; status_of(&rt, &folder, words)? == 1, "{words:?}");
+        assert!(rt; status_after(&rt, &folder, words)? == 1, "{words:?}");
         assert!(rt; !fs::exists(&rt, &path(&rt, &folder, "out")?)?, "{words:?}");
     }
     fs::remove_dir_all(&rt, &folder)?;
@@ -153,7 +153,7 @@ fn long_files_are_copied(rt: HostRuntime) -> Result<(), Fail> {
     assert!(rt; bytes.len() == LONG);
     fs::write(&rt, &path(&rt, &folder, "in")?, &bytes)?;
     let edit = ["capkit", "edit", "-F", "pcap", "@in", "@out"];
-    assert!(rt; status_of(&rt, &folder, &edit)? == 0);
+    assert!(rt; status_after(&rt, &folder, &edit)? == 0);
     let written = fs::read(&rt, &path(&rt, &folder, "out")?)?;
     assert!(rt; written == bytes);
     fs::remove_dir_all(&rt, &folder)?;
@@ -166,9 +166,9 @@ fn long_files_are_copied(rt: HostRuntime) -> Result<(), Fail> {
 fn outputs_are_created_before_the_run(rt: HostRuntime) -> Result<(), Fail> {
     let folder = folder(&rt, "created")?;
     let nowhere = ["capkit", "edit", "@in", "@none/out"];
-    assert!(rt; status_of(&rt, &folder, &nowhere)? == 1);
+    assert!(rt; status_after(&rt, &folder, &nowhere)? == 1);
     let refused = ["capkit", "print", "-w", "@out", "@in", "port"];
-    assert!(rt; status_of(&rt, &folder, &refused)? == 2);
+    assert!(rt; status_after(&rt, &folder, &refused)? == 2);
     assert!(rt; has_written(&rt, &folder, 0)?);
     fs::remove_dir_all(&rt, &folder)?;
     Ok(())
