@@ -35,7 +35,8 @@ fn stop_of(case: &Case<'_>, outcome: &Outcome, last: usize) -> Option<usize> {
     None
 }
 
-/// What is wrong at the end of a run whose last stop has this number: it may be one before the last.
+/// What is wrong at the end of a run whose last stop has this number: it may be one before the
+/// last.
 fn found_at_end(alloc: Global, case: &Case<'_>, last: usize) -> Result<Found, Fail> {
     if last.saturating_add(2) < case.stops.len() {
         return Ok(Some(String::from_str(alloc, "  a stop is not met\n")?));

@@ -34,8 +34,8 @@ fn message_of(
     Ok(None)
 }
 
-/// Runs the line, and counts its message. Found is an outcome that is neither clean nor a message of
-/// the case.
+/// Runs the line, and counts its message. Found is an outcome that is neither clean nor a message
+/// of the case.
 fn count_run(
     alloc: Global,
     case: &Case<'_>,
@@ -115,8 +115,8 @@ fn set_number(bytes: &mut [u8], (place, size): (usize, usize), value: u64) {
     }
 }
 
-/// What is reported that the case doesn't state, where a number in the input is each power of two up
-/// to 2^32 and those beside it, as far as it has bytes for them.
+/// What is reported that the case doesn't state, where a number in the input is each power of two
+/// up to 2^32 and those beside it, as far as it has bytes for them.
 pub fn found_in_numbers(alloc: Global, case: &mut Case<'_>, line: &Line) -> Result<Found, Fail> {
     let place = number_place(case.about)?;
     let mut counts = no_counts(alloc, case)?;

@@ -27,8 +27,8 @@ const SYN: [u8; 54] = [
     10, 0, 0, 2, 4, 0, 0, 80, 0, 0, 0, 0, 0, 0, 0, 0, 0x50, 2, 0, 0, 0, 0, 0, 0,
 ];
 
-/// A pcap file of so many records of 60 bytes at time 0, each `SYN` with six bytes of data. Two in a
-/// row are equal, others differ.
+/// A pcap file of so many records of 60 bytes at time 0, each `SYN` with six bytes of data. Two in
+/// a row are equal, others differ.
 pub(crate) fn capture(alloc: Global, packets: u32) -> Result<Vec<u8>, AllocError> {
     let mut bytes = Vec::from_slice(alloc, &HEADER)?;
     for number in 0..packets {

@@ -1,5 +1,5 @@
 //! One unit of a capture of any kind, read from a device.
-ghost use Rattle.std.specs.Prelude.{◌≡◌, ◌+◌, ◌^◌, ◌<◌, ◌≤◌, ◌++◌, IsTrue, IfOk, IfErr, [], is_some};
+ghost use Rattle.std.specs.Prelude.{◌≡◌, ◌++◌, IsTrue, IfOk, IfErr, [], is_some};
 ghost use Rattle.cap_io.specs.Capture.{Nothing};
 ghost use Rattle.cap_io.specs.Reading.{IsTold, Moves, ReadsUnit, Refuses, order_held};
 ghost use Rattle.cap_io.specs.declared.unit.Savefile.TheVariants as file;

@@ -1,6 +1,7 @@
 //! The bytes of a unit, and the units of a pcap file, read from a device.
 ghost use Rattle.std.specs.Prelude.{◌≡◌, ℕ, ◌+◌, ◌^◌, ◌<◌, ◌≤◌, ◌++◌, true, false, IsTrue, IfOk};
-ghost use Rattle.std.specs.Prelude.{IfErr, List, OnOk, [], if◌then◌else◌, length, take, drop, vec_len};
+ghost use Rattle.std.specs.Prelude.{IfErr, List, OnOk, [], if◌then◌else◌, length, take};
+ghost use Rattle.std.specs.Prelude.{drop, vec_len};
 ghost use Rattle.cap_pcapng.specs.Frame.{is_section};
 ghost use Rattle.cap_pcapng.specs.Interface.{Described};
 ghost use Rattle.cap_io.specs.Capture.{Nothing};

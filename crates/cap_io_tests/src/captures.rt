@@ -51,7 +51,8 @@ pub(crate) fn joined(alloc: Global, pieces: &[&[u8]]) -> Result<Vec<u8>, AllocEr
     Ok(bytes)
 }
 
-/// What a source returned: the number of packets, the first result that was no packet, and the offset then.
+/// What a source returned: the number of packets, the first result that was no packet, and the
+/// offset then.
 #[derive(Clone, Copy, PartialEq, Eq)]
 pub(crate) struct Seen {
     pub(crate) packets: u32,

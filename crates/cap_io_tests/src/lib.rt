@@ -1,5 +1,5 @@
-//! Tests of cap_io that no command line can show: how often a device is asked and memory is taken, and what a source or
-//! a sink returns after its end or its error.
+//! Tests of cap_io that no command line can show: how often a device is asked and memory is taken,
+//! and what a source or a sink returns after its end or its error.
 #![tactic(auto)]
 
 #[cfg(test)]

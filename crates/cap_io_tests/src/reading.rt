@@ -55,7 +55,8 @@ fn check_reads(
     }
 }
 
-/// The length of a prefix of a capture with one record of 3 bytes, its last result, and how many reads give that.
+/// The length of a prefix of a capture with one record of 3 bytes, its last result, and how many
+/// reads give that.
 fn last_results() -> [(usize, Result<bool, Fault>, u64); 5] {
     [
         (3, Err(Fault::NotACaptureFile), 2),
@@ -76,7 +77,8 @@ fn no_read_behind_an_end(rt: HostRuntime) -> Result<(), Fail> {
     Ok(())
 }
 
-/// A packet without its interface is an error that stays: the section, and the block's header and body, take four reads.
+/// A packet without its interface is an error that stays: the section, and the block's header and
+/// body, take four reads.
 #[test]
 fn no_read_behind_an_error_of_a_block(rt: HostRuntime) -> Result<(), Fail> {
     let bytes = joined(rt.alloc(), &[&SECTION, &PACKET, &PACKET])?;

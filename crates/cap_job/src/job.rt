@@ -192,8 +192,8 @@ impl<I: Input, O: Output, E: Output, A: Allocator + Copy + Drop> Job<I, O, E, A>
     }
 
     /// One step on: reads the filter or compiles; then reads one input on, decides one packet, or
-    /// ends the output. It reports how the job ended where it did. A message that can't be written is
-    /// lost.
+    /// ends the output. It reports how the job ended where it did. A message that can't be written
+    /// is lost.
     #[inline(always)]
     pub fn step(&mut self) -> Turn
         ensures after { (s : ℕ) → self.old.packets.done ≡ Some s

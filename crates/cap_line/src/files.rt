@@ -25,7 +25,8 @@ fn names_in<'a>(alloc: Global, matches: &ArgMatches<'a>) -> Result<Vec<&'a str>,
 
 /// Texts of their own.
 fn owned_texts(alloc: Global, names: &[&str]) -> Result<Vec<String>, AllocError>
-    ensures { IfOk result (λ owned. map string_bytes owned.items ≡ map (λ name. name.now) names.now) }
+    ensures { IfOk result (λ owned.
+        map string_bytes owned.items ≡ map (λ name. name.now) names.now) }
 {
     let mut owned = Vec::with_capacity(alloc, names.len())?;
     for name in names {

@@ -5,7 +5,8 @@ use std::alloc::{AllocError, Global};
 /// The values and arguments that name files.
 const FILES: [&str; 5] = ["IN", "OUT", "FILE", "LISTING", "[MORE]..."];
 
-/// What stands before the values that an option may have, at the end of its line or on one of its own.
+/// What stands before the values that an option may have, at the end of its line or on one of its
+/// own.
 const CHOICES: &str = "[possible values: ";
 
 /// The names between these brackets.

@@ -1,4 +1,5 @@
-//! Manual pages in mdoc(7): the prose of a file, with lists of what help says in the places of lines with `@`.
+//! Manual pages in mdoc(7): the prose of a file, with lists of what help says in the places of
+//! lines with `@`.
 
 use crate::help::{Entry, Help};
 use crate::version_text;

@@ -5,7 +5,8 @@ use crate::help_text;
 use std::alloc::{AllocError, Global};
 use std::test::Fail;
 
-/// The text as it stands between single quotes, where brackets and colons have a meaning of their own.
+/// The text as it stands between single quotes, where brackets and colons have a meaning of their
+/// own.
 fn escaped(alloc: Global, text: &str) -> Result<String, AllocError> {
     let mut escaped = String::new(alloc);
     for sign in text.chars() {
