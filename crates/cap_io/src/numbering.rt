@@ -40,7 +40,7 @@ impl InterfaceKey {
         InterfaceKey {
             link: packet.link,
             snap: packet.snap,
-            name: Name::new(packet.name),
+            name: Name::try_from(packet.name).unwrap(),
         }
     }
 
@@ -48,7 +48,7 @@ impl InterfaceKey {
     fn is_of(&self, packet: &Packet<'_>) -> bool
         ensures { result ≡ is_same (interface_in self.now) (interface_of (captured packet.now)) }
     {
-        self.link == packet.link && self.snap == packet.snap && self.name.bytes() == packet.name
+        self.link == packet.link && self.snap == packet.snap && self.name.as_slice() == packet.name
     }
 }
 

@@ -8,8 +8,8 @@ ghost use Rattle.cap_pcapng.specs.Judged.{Judges};
 
 use crate::blocks::InterfaceBlock;
 use crate::clock::{Clock, units_of};
-use crate::name::MOST_NAME;
 use crate::options::{BlockOption, Options};
+use arrayvec::ArrayVec;
 use byteorder::{BigEndian, ByteOrder, LittleEndian};
 use cap_octet::{Fault, Order, u16_at, u32_at};
 
@@ -24,6 +24,12 @@ const OFFSET: u16 = 14;
 
 /// How many ticks make a second where no resolution is given.
 const MICROSECONDS: u64 = 1_000_000;
+
+/// The most bytes of an interface's name.
+const MOST_NAME: usize = 255;
+
+/// An interface's name, held in place.
+pub type Name = ArrayVec<u8, MOST_NAME>;
 
 /// An interface, with its name lent.
 #[derive(Clone, Copy, Debug, PartialEq, Eq)]

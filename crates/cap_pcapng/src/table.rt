@@ -3,8 +3,7 @@ ghost use Rattle.std.specs.Prelude.{◌≡◌, ◌≤◌, ◌<◌, ◌↔◌, []
 ghost use Rattle.std.specs.Prelude.{OnErr, IfErr};
 
 use crate::clock::Clock;
-use crate::interface::Interface;
-use crate::name::Name;
+use crate::interface::{Interface, Name};
 use cap_octet::Fault;
 use std::alloc::{Allocator, Global};
 use std::marker::Model;
@@ -29,7 +28,7 @@ impl Model for Entry {
     ghost view = { λ e. record {
       link = e.link;
       snap = e.snap;
-      name = e.name;
+      name = e.name.items;
       units = e.clock.units;
       offset = e.clock.offset;
     } };
@@ -45,7 +44,7 @@ impl Entry {
             link: interface.link,
             snap: interface.snap,
             clock: interface.clock,
-            name: Name::new(interface.name),
+            name: Name::try_from(interface.name).unwrap(),
         }
     }
 
@@ -55,7 +54,7 @@ impl Entry {
         Interface {
             link: self.link,
             snap: self.snap,
-            name: self.name.bytes(),
+            name: &self.name,
             clock: self.clock,
         }
     }
