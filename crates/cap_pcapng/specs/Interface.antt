@@ -40,12 +40,6 @@ described_by link snap order options = record {
 abbrev pub described_in : (link snap : ℕ) → Order → List ℕ → Described
 described_in link snap order text = described_by link snap order (given (options_in order text))
 
--- an interface of this link type and snap length, as options in these bytes describe it
-pub record IsBy (link snap : ℕ) (order : Order) (text : List ℕ) (i : Interface) : Type 0 where
-  pub described : described i ≡ described_in link snap order text
-  pub same_link : i.link ≡ link
-  pub same_snap : i.snap ≡ snap
-
 -- the interface of a block is that which its options describe
 abbrev pub IsDescribed : InterfaceBlock → Type 0
 IsDescribed b = described b.interface ≡ described_in b.interface.link b.interface.snap b.options.order b.options.rest.now
