@@ -125,18 +125,15 @@ impl<A: Allocator> Table<A> {
         if self.is_full() {
             return Err(Fault::TooManyInterfaces);
         }
-        match self.entries.push(Entry::new(interface)) {
-            Ok(()) => Ok(()),
-            Err(_) => Err(Fault::NoMemory),
-        }
+        self.entries
+            .push(Entry::new(interface))
+            .map_err(|_| Fault::NoMemory)
     }
 
     /// The interface with this number, if there is one.
     pub fn get(&self, number: u32) -> Option<Interface<'_>>
         ensures { option_map described result ≡ slice_get self.now number }
     {
-        self.entries
-            .get(number as usize)
-            .map(|entry| entry.interface())
+        self.entries.get(number as usize).map(Entry::interface)
     }
 }
