@@ -99,8 +99,7 @@ impl<A: Allocator> Table<A> {
         self.entries.len() == MOST_INTERFACES
     }
 
-    /// Tells the caller's proof that there are at most 256 interfaces, with names of at most 255
-    /// bytes. Nothing happens at run time.
+    /// Tells the caller's proof what holds of every table. Nothing happens at run time.
     pub fn bounds(&self)
         ensures { AreFew self.now }
     {
