@@ -8,7 +8,7 @@ use Rattle.cap_octet.proofs.Checks.{met_front, failing_front}
 use Rattle.cap_octet.specs.Checks.{first_failing}
 use Rattle.cap_octet.specs.declared.fault.Fault.{Fault}
 use Rattle.cap_octet.specs.declared.number.Order.{Order}
-use Rattle.cap_pcapng.specs.Interface.{IsFound, is_found}
+use Rattle.cap_pcapng.specs.Interface.{Adds, IsFound, is_found}
 use Rattle.cap_pcapng.specs.InterfaceOptions.{checks_behind, first_checks, first_value, given, list_checks, name_code, offset_code, offset_told, resolution_code, units_told, value_for}
 use Rattle.cap_pcapng.specs.OptionList.{CodedValue}
 use Rattle.cap_pcapng.specs.declared.interface.Found.{Found}
@@ -39,20 +39,18 @@ option_or-map f (Some x) b = refl
 
 -- one option more
 pub IsFound-more : (order : Order) (before : List CodedValue) (o : CodedValue) (found more : Found) → IsFound order before found
-    → option_copied more.name ≡ option_or (option_copied found.name) (value_for name_code o)
-    → more.units ≡ option_or found.units (option_map units_told (value_for resolution_code o))
-    → more.offset ≡ option_or found.offset (option_map (offset_told order) (value_for offset_code o))
-    → IsFound order (before ++ o ∷ []) more
-IsFound-more order before o found more is name units offset = record {
-  name = name ∙ ap (λ v. option_or v (value_for name_code o)) is.name ∙ sym (first_value-push name_code before o);
+    → Adds order found o more → IsFound order (before ++ o ∷ []) more
+IsFound-more order before o found more is adds = record {
+  name = adds.name ∙ ap (λ v. option_or v (value_for name_code o)) is.name ∙ sym (first_value-push name_code before o);
   units =
-      units ∙ ap (λ v. option_or v (option_map units_told (value_for resolution_code o))) is.units
+      adds.units ∙ ap (λ v. option_or v (option_map units_told (value_for resolution_code o))) is.units
       ∙ option_or-map units_told (first_value resolution_code before) (value_for resolution_code o)
       ∙ ap (option_map units_told) (sym (first_value-push resolution_code before o));
   offset =
-      offset ∙ ap (λ v. option_or v (option_map (offset_told order) (value_for offset_code o))) is.offset
+      adds.offset ∙ ap (λ v. option_or v (option_map (offset_told order) (value_for offset_code o))) is.offset
       ∙ option_or-map (offset_told order) (first_value offset_code before) (value_for offset_code o)
       ∙ ap (option_map (offset_told order)) (sym (first_value-push offset_code before o));
+  sound = adds.sound is.sound;
 }
 
 is_some-copied : (name : Option (Bor (List ℕ))) → is_some (option_copied name) ≡ is_some name
@@ -90,23 +88,21 @@ HasRead-none order all found name units offset = record {
   before = [];
   checks = refl;
   joined = refl;
-  is_found = record { name = ap option_copied name; units = units; offset = offset };
+  is_found = record { name = ap option_copied name; units = units; offset = offset; sound = record { short = rw name tt; some = rw units tt } };
 }
 
 pub HasRead-more : (order : Order) (all left rest : List (Result CodedValue Fault)) (o : CodedValue) (found more : Found)
     → HasRead order all left found → left ≡ Ok o ∷ rest
-    → option_copied more.name ≡ option_or (option_copied found.name) (value_for name_code o)
-    → more.units ≡ option_or found.units (option_map units_told (value_for resolution_code o))
-    → more.offset ≡ option_or found.offset (option_map (offset_told order) (value_for offset_code o))
+    → Adds order found o more
     → first_failing (if is_found found o.code then [] else first_checks o) ≡ None
     → HasRead order all rest more
-HasRead-more order all left rest o found more read is name units offset passes = record {
+HasRead-more order all left rest o found more read is adds passes = record {
   before = read.before ++ o ∷ [];
   checks =
       read.checks ∙ ap (λ items. first_failing (list_checks read.before items)) is
       ∙ met_front (checks_behind read.before o) _ (ap first_failing (checks_behind-found order read.before o found read.is_found) ∙ passes);
   joined = read.joined ∙ ap (λ items. read.before ++ given items) is ∙ sym (append_assoc read.before (o ∷ []) (given rest));
-  is_found = IsFound-more order read.before o found more read.is_found name units offset;
+  is_found = IsFound-more order read.before o found more read.is_found adds;
 }
 
 pub HasRead-refused : (order : Order) (all left rest : List (Result CodedValue Fault)) (o : CodedValue) (found : Found) (fault : Fault)

@@ -90,17 +90,16 @@ fn offset_in(order: Order, value: &[u8]) -> Result<i64, Fault>
 }
 
 impl<'a> Found<'a> {
-    ghost use Rattle.cap_pcapng.specs.Interface.{Adds, IsFound, IsSound, is_found};
+    ghost use Rattle.cap_pcapng.specs.Interface.{Adds, IsFound, is_found};
     ghost use Rattle.cap_pcapng.specs.InterfaceOptions.{first_checks, given, list_checks};
     ghost use Rattle.cap_pcapng.specs.OptionList.{coded_value, options_left};
 
     /// What is found in one option more, or the first check that this fails, if it is the first of
     /// its code.
     fn with(mut self, order: Order, option: BlockOption<'a>) -> Result<Self, Fault>
-        ensures found { Judges (if is_found self.entry option.entry.code then []
+        ensures { Judges (if is_found self.entry option.entry.code then []
             else first_checks (coded_value option.entry)) result
             (Adds order self.entry (coded_value option.entry)) }
-        ensures sound { IsSound self.entry → IfOk result IsSound }
     {
         match option.code {
             NAME if self.name.is_none() => self.name = Some(name_in(option.value)?),
@@ -115,9 +114,8 @@ impl<'a> Found<'a> {
 
     /// What the options say, or the first check that they fail.
     fn of(options: Options<'a>) -> Result<Self, Fault>
-        ensures found { Judges (list_checks [] (options_left options.entry)) result
+        ensures { Judges (list_checks [] (options_left options.entry)) result
             (IsFound options.entry.order (given (options_left options.entry))) }
-        ensures sound { IfOk result IsSound }
     {
         let mut found = Found {
             name: None,

@@ -1,6 +1,5 @@
 //! The interfaces of a section.
 ghost use Rattle.std.specs.Prelude.{◌≡◌, ◌≤◌, ◌<◌, ◌↔◌, [], ◌∷◌, ◌++◌, length, IsTrue, OnOk};
-ghost use Rattle.std.specs.Prelude.{OnErr, IfErr};
 
 use crate::clock::Clock;
 use crate::interface::{Interface, Name};
@@ -78,7 +77,7 @@ impl<A: Allocator> Model for Table<A> {
 }
 
 impl<A: Allocator> Table<A> {
-    ghost use Rattle.std.specs.Prelude.{slice_get};
+    ghost use Rattle.std.specs.Prelude.{IfErr, OnErr, slice_get};
     ghost use Rattle.std.specs.Option.{option_map};
     ghost use Rattle.cap_pcapng.specs.Interface.{AreFew, described};
 
