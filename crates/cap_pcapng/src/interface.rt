@@ -53,8 +53,7 @@ struct Found<'a> {
 
 /// A name, which has at most 255 bytes, else fault 8.
 fn name_in(value: &[u8]) -> Result<&[u8], Fault>
-    ensures answer { Judges (name_checks value.now) result (λ name. name.now ≡ value.now) }
-    ensures short { IfOk result (λ name. length name.now ≤ 255) }
+    ensures { Judges (name_checks value.now) result (λ name. name.now ≡ value.now) }
 {
     if value.len() > MOST_NAME {
         return Err(Fault::BadOption);
