@@ -1,7 +1,8 @@
 -- Options of an interface, read one after another.
-use Rattle.std.proofs.Common.{◌≡◌, ℕ, Bool, true, false, List, [], ◌∷◌, ◌++◌, cond, refl, sym, ap, ◌∙◌, subst, eqb-true, Option, Some, None, Result, Ok, Err}
-use Rattle.std.specs.Prelude.{is_some, if◌then◌else◌, ◌==◌}
+use Rattle.std.proofs.Common.{◌≡◌, ℕ, Bool, true, false, List, [], ◌∷◌, ◌++◌, cond, refl, sym, ap, ◌∙◌, subst, eqb-true, Option, Some, None, Result, Ok, Err, ◌<◌, ◌≤◌, ◌^◌, ◌-◌, nat_lt, unwrap_or, arith}
+use Rattle.std.specs.Prelude.{is_some, if◌then◌else◌, ◌==◌, slice_index}
 use Rattle.std.specs.Option.{option_copied, option_map, option_or}
+use Rattle.std.proofs.Math.Nat.{one-le-pow}
 use Rattle.std.proofs.lemmas.List.{append_assoc, append-nil}
 use Rattle.std.specs.Borrow.{Bor}
 use Rattle.cap_octet.proofs.Checks.{met_front, failing_front}
@@ -11,6 +12,7 @@ use Rattle.cap_octet.specs.declared.number.Order.{Order}
 use Rattle.cap_pcapng.specs.Interface.{Adds, IsFound, is_found}
 use Rattle.cap_pcapng.specs.InterfaceOptions.{checks_behind, first_checks, first_value, given, list_checks, name_code, offset_code, offset_told, resolution_code, units_told, value_for}
 use Rattle.cap_pcapng.specs.OptionList.{CodedValue}
+use Rattle.cap_pcapng.specs.Time.{microseconds}
 use Rattle.cap_pcapng.specs.declared.interface.Found.{Found}
 
 -- what an iterator of options has left, once some were read and passed, and this was found in them
@@ -50,7 +52,7 @@ IsFound-more order before o found more is adds = record {
       adds.offset ∙ ap (λ v. option_or v (option_map (offset_told order) (value_for offset_code o))) is.offset
       ∙ option_or-map (offset_told order) (first_value offset_code before) (value_for offset_code o)
       ∙ ap (option_map (offset_told order)) (sym (first_value-push offset_code before o));
-  sound = adds.sound is.sound;
+  short = adds.short is.short;
 }
 
 is_some-copied : (name : Option (Bor (List ℕ))) → is_some (option_copied name) ≡ is_some name
@@ -88,7 +90,7 @@ HasRead-none order all found name units offset = record {
   before = [];
   checks = refl;
   joined = refl;
-  is_found = record { name = ap option_copied name; units = units; offset = offset; sound = record { short = rw name tt; some = rw units tt } };
+  is_found = record { name = ap option_copied name; units = units; offset = offset; short = rw name tt };
 }
 
 pub HasRead-more : (order : Order) (all left rest : List (Result CodedValue Fault)) (o : CodedValue) (found more : Found)
@@ -126,3 +128,13 @@ pub HasRead-found : (order : Order) (all rest : List (Result CodedValue Fault)) 
 HasRead-found order all rest found read over =
     let P : List CodedValue → Type 0 = λ options. IsFound order options found in
     subst P (sym (read.joined ∙ ap (λ items. read.before ++ given items) over ∙ append-nil read.before)) read.is_found
+
+-- ---- a second has some ticks
+
+some_by : (test : Bool) (n m : ℕ) → 0 < (if test then 10 ^ n else 2 ^ m)
+some_by true n m = let some : 1 ≤ 10 ^ n = one-le-pow n 10 (omega arith) in omega arith
+some_by false n m = let some : 1 ≤ 2 ^ m = one-le-pow m 2 (omega arith) in omega arith
+
+pub units-some : (value : Option (List ℕ)) → 0 < unwrap_or (option_map units_told value) microseconds
+units-some None = omega arith
+units-some (Some value) = some_by (nat_lt (slice_index value 0) 128) (slice_index value 0) (slice_index value 0 - 128)

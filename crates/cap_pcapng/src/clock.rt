@@ -30,9 +30,8 @@ pub struct Clock {
 /// How many units of a resolution make a second, or fault 12 where its power is above 12 of ten or
 /// 32 of two (draft-ietf-opsawg-pcapng, option if_tsresol).
 pub(crate) fn units_of(resolution: u8) -> Result<u64, Fault>
-    ensures answer { result ≡ (if is_resolution resolution then Ok (units_by resolution)
+    ensures { result ≡ (if is_resolution resolution then Ok (units_by resolution)
         else Err Fault.BadTimeResolution) }
-    ensures some { IfOk result (λ units. 0 < units) }
 {
     match resolution {
         0..=MOST_OF_TEN => Ok(10u64.pow(u32::from(resolution))),

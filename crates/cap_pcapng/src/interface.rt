@@ -1,5 +1,5 @@
 //! Interfaces, as their options describe them.
-ghost use Rattle.std.specs.Prelude.{◌≡◌, ◌≤◌, ◌<◌, ◌++◌, if◌then◌else◌, [], length, IfOk};
+ghost use Rattle.std.specs.Prelude.{◌≡◌, ◌≤◌, ◌++◌, if◌then◌else◌, [], length, IfOk};
 ghost use Rattle.cap_pcapng.specs.InterfaceOptions.{name_checks, offset_checks, offset_told};
 ghost use Rattle.cap_pcapng.specs.InterfaceOptions.{resolution_checks, units_told};
 ghost use Rattle.cap_pcapng.specs.Judged.{Judges};
@@ -63,9 +63,8 @@ fn name_in(value: &[u8]) -> Result<&[u8], Fault>
 
 /// The units of a resolution, which has one byte, else fault 8, and is in range, else fault 12.
 fn units_in(value: &[u8]) -> Result<u64, Fault>
-    ensures answer { Judges (resolution_checks value.now) result
+    ensures { Judges (resolution_checks value.now) result
         (λ units. units ≡ units_told value.now) }
-    ensures some { IfOk result (λ units. 0 < units) }
 {
     if value.len() != 1 {
         return Err(Fault::BadOption);
