@@ -8,7 +8,7 @@ use Rattle.cap_io.specs.Text.{Interface, is_among, new_among, number_among}
 
 -- the interface that a key means
 abbrev pub interface_in : InterfaceKey → Interface
-interface_in key = record { link = key.link; snap = key.snap; name = key.name }
+interface_in key = record { link = key.link; snap = key.snap; name = key.name.items }
 
 -- An interface has its place among those that were numbered: its number, and whether it is new there.
 pub record HasPlace (old : List Interface) (i : Interface) (place : Place) (new : List Interface) : Type 0 where

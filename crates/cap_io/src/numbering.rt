@@ -1,6 +1,5 @@
 //! The interfaces of a pcapng file that is written, numbered by first use.
-ghost use Rattle.std.specs.Prelude.{◌≡◌, ◌++◌, ◌≤◌, [], length, map, nat_eq, nat_le, take, IsTrue, Some};
-ghost use Rattle.std.specs.Prelude.{slice_get};
+ghost use Rattle.std.specs.Prelude.{◌≡◌, ◌++◌, ◌≤◌, [], length, nat_le};
 ghost use Rattle.cap_octet.specs.Packet.{captured};
 ghost use Rattle.cap_io.specs.Text.{interface_of, is_same, most_output_interfaces, new_among};
 ghost use Rattle.cap_io.specs.Numbering.{Numbers, interface_in};
@@ -24,7 +23,7 @@ pub(crate) struct InterfaceKey {
 }
 
 /// Where an interface stands among those of a file.
-#[derive(Clone, Copy, Debug, PartialEq, Eq)]
+#[derive(Clone, Copy)]
 pub(crate) struct Place {
     /// How many interfaces come before it.
     pub number: u32,
@@ -40,7 +39,7 @@ impl InterfaceKey {
         InterfaceKey {
             link: packet.link,
             snap: packet.snap,
-            name: Name::new(packet.name),
+            name: Name::try_from(packet.name).unwrap(),
         }
     }
 
@@ -48,41 +47,7 @@ impl InterfaceKey {
     fn is_of(&self, packet: &Packet<'_>) -> bool
         ensures { result ≡ is_same (interface_in self.now) (interface_of (captured packet.now)) }
     {
-        self.link == packet.link && self.snap == packet.snap && self.name.bytes() == packet.name
-    }
-}
-
-/// Whether the key with this number is that of a packet's interface.
-fn is_numbered<A: Allocator>(
-    keys: &IndexSet<InterfaceKey, BuildHasherDefault<FoldHasher>, A>,
-    number: u32,
-    packet: &Packet<'_>,
-) -> bool
-    ensures { IsTrue result → slice_get (map interface_in keys.now.keys) number
-        ≡ Some (interface_of (captured packet.now)) }
-{
-    match keys.get_index(number as usize) {
-        Some(key) => key.is_of(packet),
-        None => false,
-    }
-}
-
-/// The place of a key, which comes last where it is new.
-fn number_key<A: Allocator>(
-    keys: &mut IndexSet<InterfaceKey, BuildHasherDefault<FoldHasher>, A>,
-    key: InterfaceKey,
-) -> Result<Place, Fault>
-    requires { length (map interface_in keys.old.keys ++ new_among (map interface_in keys.old.keys)
-        (interface_in key)) ≤ most_output_interfaces }
-    ensures { Numbers (map interface_in keys.old.keys) (interface_in key) result
-        (map interface_in keys.new.keys) }
-{
-    match keys.insert_full(key) {
-        Ok((index, is_new)) => Ok(Place {
-            number: index as u32,
-            is_new,
-        }),
-        Err(_) => Err(Fault::NoMemory),
+        self.link == packet.link && self.snap == packet.snap && self.name.as_slice() == packet.name
     }
 }
 
@@ -122,8 +87,7 @@ impl<A: Allocator + Copy> OutputInterfaces<A> {
 impl<A: Allocator> OutputInterfaces<A> {
     ghost use Rattle.cap_io.specs.Text.{AreFew};
 
-    /// Tells the caller's proof that there are at most 4,096, with names of at most 255 bytes.
-    /// Nothing happens at run time.
+    /// Tells the caller's proof that they are few. Nothing happens at run time.
     pub fn bounds(&self)
         ensures { AreFew self.now }
     {
@@ -138,22 +102,28 @@ impl<A: Allocator> OutputInterfaces<A> {
         self.keys.len() < MOST_INTERFACES || self.keys.contains(&InterfaceKey::of(packet))
     }
 
-    /// The place of a packet's interface, which comes last where it is new. `NoMemory` comes only
-    /// where a new one found none, and leaves them. The caller knows by `has_room` that there are
-    /// not too many.
+    /// The place of a packet's interface, which comes last where it is new and must have room; or
+    /// `NoMemory`, where a new one found none.
     pub fn place(&mut self, packet: &Packet<'_>) -> Result<Place, Fault>
         requires { length (self.old ++ new_among self.old (interface_of (captured packet.now))) ≤
             most_output_interfaces }
         ensures { Numbers self.old (interface_of (captured packet.now)) result self.new }
     {
-        if is_numbered(&self.keys, self.last, packet) {
+        if let Some(key) = self.keys.get_index(self.last as usize)
+            && key.is_of(packet)
+        {
             return Ok(Place {
                 number: self.last,
                 is_new: false,
             });
         }
-        let place = number_key(&mut self.keys, InterfaceKey::of(packet))?;
-        self.last = place.number;
-        Ok(place)
+        let Ok((index, is_new)) = self.keys.insert_full(InterfaceKey::of(packet)) else {
+            return Err(Fault::NoMemory);
+        };
+        self.last = index as u32;
+        Ok(Place {
+            number: self.last,
+            is_new,
+        })
     }
 }

@@ -1,16 +1,18 @@
 -- Options of an interface, read one after another.
-use Rattle.std.proofs.Common.{◌≡◌, ℕ, Bool, true, false, List, [], ◌∷◌, ◌++◌, cond, refl, sym, ap, ◌∙◌, subst, eqb-true, Option, Some, None, Result, Ok, Err}
-use Rattle.std.specs.Prelude.{is_some, if◌then◌else◌, ◌==◌}
+use Rattle.std.proofs.Common.{◌≡◌, ℕ, Bool, true, false, List, [], ◌∷◌, ◌++◌, cond, refl, sym, ap, ◌∙◌, subst, eqb-true, Option, Some, None, Result, Ok, Err, ◌<◌, ◌≤◌, ◌^◌, ◌-◌, nat_lt, unwrap_or, arith}
+use Rattle.std.specs.Prelude.{is_some, if◌then◌else◌, ◌==◌, slice_index}
 use Rattle.std.specs.Option.{option_copied, option_map, option_or}
+use Rattle.std.proofs.Math.Nat.{one-le-pow}
 use Rattle.std.proofs.lemmas.List.{append_assoc, append-nil}
 use Rattle.std.specs.Borrow.{Bor}
 use Rattle.cap_octet.proofs.Checks.{met_front, failing_front}
 use Rattle.cap_octet.specs.Checks.{first_failing}
 use Rattle.cap_octet.specs.declared.fault.Fault.{Fault}
 use Rattle.cap_octet.specs.declared.number.Order.{Order}
-use Rattle.cap_pcapng.specs.Interface.{IsFound, is_found}
+use Rattle.cap_pcapng.specs.Interface.{Adds, IsFound, is_found}
 use Rattle.cap_pcapng.specs.InterfaceOptions.{checks_behind, first_checks, first_value, given, list_checks, name_code, offset_code, offset_told, resolution_code, units_told, value_for}
 use Rattle.cap_pcapng.specs.OptionList.{CodedValue}
+use Rattle.cap_pcapng.specs.Time.{microseconds}
 use Rattle.cap_pcapng.specs.declared.interface.Found.{Found}
 
 -- what an iterator of options has left, once some were read and passed, and this was found in them
@@ -39,20 +41,18 @@ option_or-map f (Some x) b = refl
 
 -- one option more
 pub IsFound-more : (order : Order) (before : List CodedValue) (o : CodedValue) (found more : Found) → IsFound order before found
-    → option_copied more.name ≡ option_or (option_copied found.name) (value_for name_code o)
-    → more.units ≡ option_or found.units (option_map units_told (value_for resolution_code o))
-    → more.offset ≡ option_or found.offset (option_map (offset_told order) (value_for offset_code o))
-    → IsFound order (before ++ o ∷ []) more
-IsFound-more order before o found more is name units offset = record {
-  name = name ∙ ap (λ v. option_or v (value_for name_code o)) is.name ∙ sym (first_value-push name_code before o);
+    → Adds order found o more → IsFound order (before ++ o ∷ []) more
+IsFound-more order before o found more is adds = record {
+  name = adds.name ∙ ap (λ v. option_or v (value_for name_code o)) is.name ∙ sym (first_value-push name_code before o);
   units =
-      units ∙ ap (λ v. option_or v (option_map units_told (value_for resolution_code o))) is.units
+      adds.units ∙ ap (λ v. option_or v (option_map units_told (value_for resolution_code o))) is.units
       ∙ option_or-map units_told (first_value resolution_code before) (value_for resolution_code o)
       ∙ ap (option_map units_told) (sym (first_value-push resolution_code before o));
   offset =
-      offset ∙ ap (λ v. option_or v (option_map (offset_told order) (value_for offset_code o))) is.offset
+      adds.offset ∙ ap (λ v. option_or v (option_map (offset_told order) (value_for offset_code o))) is.offset
       ∙ option_or-map (offset_told order) (first_value offset_code before) (value_for offset_code o)
       ∙ ap (option_map (offset_told order)) (sym (first_value-push offset_code before o));
+  short = adds.short is.short;
 }
 
 is_some-copied : (name : Option (Bor (List ℕ))) → is_some (option_copied name) ≡ is_some name
@@ -90,23 +90,21 @@ HasRead-none order all found name units offset = record {
   before = [];
   checks = refl;
   joined = refl;
-  is_found = record { name = ap option_copied name; units = units; offset = offset };
+  is_found = record { name = ap option_copied name; units = units; offset = offset; short = rw name tt };
 }
 
 pub HasRead-more : (order : Order) (all left rest : List (Result CodedValue Fault)) (o : CodedValue) (found more : Found)
     → HasRead order all left found → left ≡ Ok o ∷ rest
-    → option_copied more.name ≡ option_or (option_copied found.name) (value_for name_code o)
-    → more.units ≡ option_or found.units (option_map units_told (value_for resolution_code o))
-    → more.offset ≡ option_or found.offset (option_map (offset_told order) (value_for offset_code o))
+    → Adds order found o more
     → first_failing (if is_found found o.code then [] else first_checks o) ≡ None
     → HasRead order all rest more
-HasRead-more order all left rest o found more read is name units offset passes = record {
+HasRead-more order all left rest o found more read is adds passes = record {
   before = read.before ++ o ∷ [];
   checks =
       read.checks ∙ ap (λ items. first_failing (list_checks read.before items)) is
       ∙ met_front (checks_behind read.before o) _ (ap first_failing (checks_behind-found order read.before o found read.is_found) ∙ passes);
   joined = read.joined ∙ ap (λ items. read.before ++ given items) is ∙ sym (append_assoc read.before (o ∷ []) (given rest));
-  is_found = IsFound-more order read.before o found more read.is_found name units offset;
+  is_found = IsFound-more order read.before o found more read.is_found adds;
 }
 
 pub HasRead-refused : (order : Order) (all left rest : List (Result CodedValue Fault)) (o : CodedValue) (found : Found) (fault : Fault)
@@ -130,3 +128,13 @@ pub HasRead-found : (order : Order) (all rest : List (Result CodedValue Fault)) 
 HasRead-found order all rest found read over =
     let P : List CodedValue → Type 0 = λ options. IsFound order options found in
     subst P (sym (read.joined ∙ ap (λ items. read.before ++ given items) over ∙ append-nil read.before)) read.is_found
+
+-- ---- a second has some ticks
+
+some_by : (test : Bool) (n m : ℕ) → 0 < (if test then 10 ^ n else 2 ^ m)
+some_by true n m = let some : 1 ≤ 10 ^ n = one-le-pow n 10 (omega arith) in omega arith
+some_by false n m = let some : 1 ≤ 2 ^ m = one-le-pow m 2 (omega arith) in omega arith
+
+pub units-some : (value : Option (List ℕ)) → 0 < unwrap_or (option_map units_told value) microseconds
+units-some None = omega arith
+units-some (Some value) = some_by (nat_lt (slice_index value 0) 128) (slice_index value 0) (slice_index value 0 - 128)

@@ -1,5 +1,5 @@
 -- What a list of options begins with.
-use Rattle.std.proofs.Common.{◌≡◌, ℕ, zero, suc, ◌+◌, ◌<◌, ◌≤◌, Bool, true, false, List, [], ◌∷◌, ◌||◌, cond, length, drop, refl, sym, ap, ap₂, ◌∙◌, ◌-◌, take, arith, lit<, ltb-false, lt-ltb, le-ltb, le-leb, eq-eqb, ne_eqb, length-drop, min, ◌≢◌, Result, Ok, Err}
+use Rattle.std.proofs.Common.{◌≡◌, ℕ, zero, suc, ◌+◌, ◌<◌, ◌≤◌, Bool, true, false, List, [], ◌∷◌, ◌||◌, cond, length, drop, refl, sym, ap, ap₂, ◌∙◌, ◌-◌, take, arith, lit<, ltb-false, lt-ltb, le-ltb, le-leb, eq-eqb, ne_eqb, length-drop, min, ◌≢◌, Result, Ok, Err, IsErr}
 use Rattle.std.proofs.lemmas.Bool.{lt-leb}
 use Rattle.std.proofs.lemmas.List.{drop_min, take_rest}
 use Rattle.std.specs.Prelude.{nat_lt}
@@ -7,8 +7,10 @@ use Rattle.cap_octet.specs.Number.{u16_in}
 use Rattle.cap_octet.specs.declared.fault.Fault.{Fault}
 use Rattle.cap_octet.specs.declared.fault.Fault.TheVariants.{BadOption}
 use Rattle.cap_octet.specs.declared.number.Order.{Order}
-use Rattle.cap_pcapng.specs.OptionList.{CodedValue, option_at, option_size, ends_at, fits_at, options_in, options_within}
+use Rattle.cap_pcapng.specs.InterfaceOptions.{given}
+use Rattle.cap_pcapng.specs.OptionList.{CodedValue, item_of, option_at, option_size, ends_at, fits_at, options_in, options_within}
 use Rattle.cap_pcapng.specs.Padding.{padded}
+use Rattle.cap_pcapng.specs.declared.options.BlockOption.{BlockOption}
 
 false_first : (a b : Bool) → (a || b) ≡ false → a ≡ false
 false_first false b is = refl
@@ -109,3 +111,22 @@ options_in-none order = options_in-short order [] (lit< tt)
 -- an item fewer is left
 pub shorter_by : {X : Type 0} (x : X) (all rest : List X) → all ≡ x ∷ rest → length rest < length all
 shorter_by x all rest is = let e : length all ≡ length rest + 1 = ap length is ∙ omega arith in omega arith
+
+-- ---- the end at a value that doesn't fit
+
+misfit_by : (ends fits : Bool) (o : CodedValue) (later rest : List (Result CodedValue Fault)) (fault : Fault)
+    → cond ends [] (cond fits (Ok o ∷ later) (Err BadOption ∷ [])) ≡ Err fault ∷ rest → rest ≡ []
+misfit_by true fits o later rest fault is = (cc)
+misfit_by false true o later rest fault is = (cc)
+misfit_by false false o later rest fault is = (cc)
+
+misfit-last : (order : Order) (text : List ℕ) (rest : List (Result CodedValue Fault)) (fault : Fault) → options_in order text ≡ Err fault ∷ rest → rest ≡ []
+unfolding options_in options_within
+misfit-last order [] rest fault is = (cc)
+misfit-last order (b ∷ bytes) rest fault is = misfit_by (ends_at order (b ∷ bytes)) (fits_at order (b ∷ bytes)) _ _ rest fault is
+
+-- no option is given from a value on that doesn't fit
+pub misfit-given : (order : Order) (text : List ℕ) (rest : List (Result CodedValue Fault)) (item : Result BlockOption Fault) → IsErr item
+    → options_in order text ≡ item_of item ∷ rest → given (options_in order text) ≡ []
+misfit-given order text rest (Ok o) misfit is = (cc)
+misfit-given order text rest (Err fault) misfit is = ap given is ∙ ap given (misfit-last order text rest fault is)

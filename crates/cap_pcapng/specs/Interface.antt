@@ -1,5 +1,5 @@
 -- An interface by its values, and what is found of it while its options are read.
-use Rattle.std.specs.Prelude.{◌≡◌, ◌≤◌, ◌<◌, ℕ, length, IfSome, ◌==◌, if◌then◌else◌, All, Bool, false, ℤ, pos, List, [], is_some, unwrap_or}
+use Rattle.std.specs.Prelude.{◌≡◌, ◌≤◌, ℕ, length, IfSome, ◌==◌, if◌then◌else◌, All, Bool, false, ℤ, pos, List, [], is_some, unwrap_or}
 use Rattle.std.specs.Option.{option_map, option_map_or, option_copied, option_or}
 use Rattle.cap_octet.specs.declared.number.Order.{Order}
 use Rattle.cap_pcapng.specs.InterfaceOptions.{first_value, given, name_code, offset_code, offset_told, resolution_code, units_told, value_for}
@@ -40,34 +40,29 @@ described_by link snap order options = record {
 abbrev pub described_in : (link snap : ℕ) → Order → List ℕ → Described
 described_in link snap order text = described_by link snap order (given (options_in order text))
 
--- an interface of this link type and snap length, as options in these bytes describe it
-pub record IsBy (link snap : ℕ) (order : Order) (text : List ℕ) (i : Interface) : Type 0 where
-  pub described : described i ≡ described_in link snap order text
-  pub same_link : i.link ≡ link
-  pub same_snap : i.snap ≡ snap
-
 -- the interface of a block is that which its options describe
 abbrev pub IsDescribed : InterfaceBlock → Type 0
 IsDescribed b = described b.interface ≡ described_in b.interface.link b.interface.snap b.options.order b.options.rest.now
 
 -- ---- while they are read
 
+-- a name that was found is short enough
+abbrev pub IsShort : Found → Type 0
+IsShort found = IfSome found.name (λ name. length name.now ≤ 255)
+
 -- what was found in these options
 pub record IsFound (order : Order) (options : List CodedValue) (found : Found) : Type 0 where
   pub name : option_copied found.name ≡ first_value name_code options
   pub units : found.units ≡ option_map units_told (first_value resolution_code options)
   pub offset : found.offset ≡ option_map (offset_told order) (first_value offset_code options)
+  pub short : IsShort found
 
 -- what is found once this option is read behind those before it
 pub record Adds (order : Order) (before : Found) (option : CodedValue) (after : Found) : Type 0 where
   pub name : option_copied after.name ≡ option_or (option_copied before.name) (value_for name_code option)
   pub units : after.units ≡ option_or before.units (option_map units_told (value_for resolution_code option))
   pub offset : after.offset ≡ option_or before.offset (option_map (offset_told order) (value_for offset_code option))
-
--- what was found is short enough, and units are some
-pub record IsSound (found : Found) : Type 0 where
-  pub short : IfSome found.name (λ name. length name.now ≤ 255)
-  pub some : IfSome found.units (λ units. 0 < units)
+  pub short : IsShort before → IsShort after
 
 -- whether an option of this code was found, if it is looked at
 abbrev pub is_found : Found → ℕ → Bool

@@ -14,8 +14,8 @@ const POWER_OF_TWO: u8 = 128;
 /// The greatest negative power of ten that a resolution may be.
 const MOST_OF_TEN: u8 = 12;
 
-/// The greatest negative power of two that a resolution may be.
-const MOST_OF_TWO: u8 = 32;
+/// The greatest negative power of two that a resolution may be, with that bit.
+const MOST_OF_TWO: u8 = POWER_OF_TWO + 32;
 
 /// The resolution and the offset of an interface's ticks.
 #[derive(Clone, Copy, Debug, PartialEq, Eq)]
@@ -30,21 +30,14 @@ pub struct Clock {
 /// How many units of a resolution make a second, or fault 12 where its power is above 12 of ten or
 /// 32 of two (draft-ietf-opsawg-pcapng, option if_tsresol).
 pub(crate) fn units_of(resolution: u8) -> Result<u64, Fault>
-    ensures answer { result ≡ (if is_resolution resolution then Ok (units_by resolution)
+    ensures { result ≡ (if is_resolution resolution then Ok (units_by resolution)
         else Err Fault.BadTimeResolution) }
-    ensures some { IfOk result (λ units. 0 < units) }
 {
-    if resolution < POWER_OF_TWO {
-        if resolution > MOST_OF_TEN {
-            return Err(Fault::BadTimeResolution);
-        }
-        return Ok(10u64.pow(u32::from(resolution)));
+    match resolution {
+        0..=MOST_OF_TEN => Ok(10u64.pow(u32::from(resolution))),
+        POWER_OF_TWO..=MOST_OF_TWO => Ok(1 << (resolution - POWER_OF_TWO)),
+        _ => Err(Fault::BadTimeResolution),
     }
-    let power = resolution - POWER_OF_TWO;
-    if power > MOST_OF_TWO {
-        return Err(Fault::BadTimeResolution);
-    }
-    Ok(1 << power)
 }
 
 impl Clock {

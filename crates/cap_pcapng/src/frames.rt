@@ -56,11 +56,7 @@ impl BlockType {
 pub(crate) fn order_of(bytes: &[u8; 12]) -> Option<Order>
     ensures { result ≡ magic_order bytes.now }
 {
-    if u32_at(Order::Little, bytes, 8) == BYTE_ORDER_MAGIC {
-        return Some(Order::Little);
-    }
-    if u32_at(Order::Big, bytes, 8) == BYTE_ORDER_MAGIC {
-        return Some(Order::Big);
-    }
-    None
+    [Order::Little, Order::Big]
+        .into_iter()
+        .find(|order| u32_at(*order, bytes, 8) == BYTE_ORDER_MAGIC)
 }

@@ -1,15 +1,13 @@
 //! Interfaces, as their options describe them.
-ghost use Rattle.std.specs.Prelude.{◌≡◌, ◌≤◌, ◌<◌, ◌++◌, if◌then◌else◌, [], length, IfOk};
-ghost use Rattle.cap_octet.specs.Checks.{checked, first_failing};
-ghost use Rattle.cap_pcapng.specs.InterfaceOptions.{first_checks, list_checks, name_checks};
-ghost use Rattle.cap_pcapng.specs.InterfaceOptions.{offset_checks, offset_told, resolution_checks};
-ghost use Rattle.cap_pcapng.specs.InterfaceOptions.{units_told};
+ghost use Rattle.std.specs.Prelude.{◌≡◌, ◌≤◌, ◌++◌, if◌then◌else◌, [], length, IfOk};
+ghost use Rattle.cap_pcapng.specs.InterfaceOptions.{name_checks, offset_checks, offset_told};
+ghost use Rattle.cap_pcapng.specs.InterfaceOptions.{resolution_checks, units_told};
 ghost use Rattle.cap_pcapng.specs.Judged.{Judges};
 
 use crate::blocks::InterfaceBlock;
 use crate::clock::{Clock, units_of};
-use crate::name::MOST_NAME;
 use crate::options::{BlockOption, Options};
+use arrayvec::ArrayVec;
 use byteorder::{BigEndian, ByteOrder, LittleEndian};
 use cap_octet::{Fault, Order, u16_at, u32_at};
 
@@ -24,6 +22,12 @@ const OFFSET: u16 = 14;
 
 /// How many ticks make a second where no resolution is given.
 const MICROSECONDS: u64 = 1_000_000;
+
+/// The most bytes of an interface's name.
+const MOST_NAME: usize = 255;
+
+/// An interface's name, held in place.
+pub type Name = ArrayVec<u8, MOST_NAME>;
 
 /// An interface, with its name lent.
 #[derive(Clone, Copy, Debug, PartialEq, Eq)]
@@ -47,22 +51,20 @@ struct Found<'a> {
     offset: Option<i64>,
 }
 
-/// Whether a name has at most 255 bytes, else fault 8.
-fn check_name(value: &[u8]) -> Result<(), Fault>
-    ensures answer { result ≡ checked (first_failing (name_checks value.now)) tt }
-    ensures short { IfOk result (λ _. length value.now ≤ 255) }
+/// A name, which has at most 255 bytes, else fault 8.
+fn name_in(value: &[u8]) -> Result<&[u8], Fault>
+    ensures { Judges (name_checks value.now) result (λ name. name.now ≡ value.now) }
 {
     if value.len() > MOST_NAME {
         return Err(Fault::BadOption);
     }
-    Ok(())
+    Ok(value)
 }
 
 /// The units of a resolution, which has one byte, else fault 8, and is in range, else fault 12.
 fn units_in(value: &[u8]) -> Result<u64, Fault>
-    ensures answer { result ≡ checked (first_failing (resolution_checks value.now))
-        (units_told value.now) }
-    ensures some { IfOk result (λ units. 0 < units) }
+    ensures { Judges (resolution_checks value.now) result
+        (λ units. units ≡ units_told value.now) }
 {
     if value.len() != 1 {
         return Err(Fault::BadOption);
@@ -73,8 +75,8 @@ fn units_in(value: &[u8]) -> Result<u64, Fault>
 /// An offset, which has eight bytes, else fault 8.
 #[tactic(auto, unfolding(cap_octet::specs::Number::number_in))]
 fn offset_in(order: Order, value: &[u8]) -> Result<i64, Fault>
-    ensures { result ≡ checked (first_failing (offset_checks value.now))
-        (offset_told order value.now) }
+    ensures { Judges (offset_checks value.now) result
+        (λ offset. offset ≡ offset_told order value.now) }
 {
     if value.len() != 8 {
         return Err(Fault::BadOption);
@@ -86,51 +88,32 @@ fn offset_in(order: Order, value: &[u8]) -> Result<i64, Fault>
 }
 
 impl<'a> Found<'a> {
-    ghost use Rattle.cap_pcapng.specs.Interface.{Adds, IsFound, IsSound, is_found};
-    ghost use Rattle.cap_pcapng.specs.InterfaceOptions.{given};
+    ghost use Rattle.cap_pcapng.specs.Interface.{Adds, IsFound, is_found};
+    ghost use Rattle.cap_pcapng.specs.InterfaceOptions.{first_checks, given, list_checks};
     ghost use Rattle.cap_pcapng.specs.OptionList.{coded_value, options_left};
 
     /// What is found in one option more, or the first check that this fails, if it is the first of
     /// its code.
-    fn with(self, order: Order, option: BlockOption<'a>) -> Result<Self, Fault>
-        ensures found { Judges (if is_found self.entry option.entry.code then []
+    fn with(mut self, order: Order, option: BlockOption<'a>) -> Result<Self, Fault>
+        ensures { Judges (if is_found self.entry option.entry.code then []
             else first_checks (coded_value option.entry)) result
             (Adds order self.entry (coded_value option.entry)) }
-        ensures sound { IsSound self.entry → IfOk result IsSound }
     {
-        let Found {
-            name,
-            units,
-            offset,
-        } = self;
         match option.code {
-            NAME if name.is_none() => {
-                check_name(option.value)?;
-                Ok(Found {
-                    name: Some(option.value),
-                    units,
-                    offset,
-                })
+            NAME if self.name.is_none() => self.name = Some(name_in(option.value)?),
+            RESOLUTION if self.units.is_none() => self.units = Some(units_in(option.value)?),
+            OFFSET if self.offset.is_none() => {
+                self.offset = Some(offset_in(order, option.value)?);
             }
-            RESOLUTION if units.is_none() => Ok(Found {
-                name,
-                units: Some(units_in(option.value)?),
-                offset,
-            }),
-            OFFSET if offset.is_none() => Ok(Found {
-                name,
-                units,
-                offset: Some(offset_in(order, option.value)?),
-            }),
-            _ => Ok(self),
+            _ => {}
         }
+        Ok(self)
     }
 
     /// What the options say, or the first check that they fail.
     fn of(options: Options<'a>) -> Result<Self, Fault>
-        ensures found { Judges (list_checks [] (options_left options.entry)) result
+        ensures { Judges (list_checks [] (options_left options.entry)) result
             (IsFound options.entry.order (given (options_left options.entry))) }
-        ensures sound { IfOk result IsSound }
     {
         let mut found = Found {
             name: None,
@@ -141,31 +124,6 @@ impl<'a> Found<'a> {
             found = found.with(options.order, option?)?;
         }
         Ok(found)
-    }
-}
-
-impl<'a> Interface<'a> {
-    ghost use Rattle.cap_pcapng.specs.Interface.{IsBy};
-    ghost use Rattle.cap_pcapng.specs.OptionList.{options_in};
-
-    /// The interface that options describe, or the first check that they fail, in their order: a
-    /// value that doesn't fit, a first name of more than 255 bytes, a first resolution of other
-    /// than 1 byte or a first offset of other than 8 (fault 8), a first resolution out of range
-    /// (fault 12).
-    fn by(link: u16, snap: u32, options: Options<'a>) -> Result<Self, Fault>
-        ensures { Judges (list_checks [] (options_in options.entry.order options.entry.rest.now))
-            result (IsBy link snap options.entry.order options.entry.rest.now) }
-    {
-        let found = Found::of(options)?;
-        Ok(Interface {
-            link,
-            snap,
-            name: found.name.unwrap_or(&[]),
-            clock: Clock {
-                units: found.units.unwrap_or(MICROSECONDS),
-                offset: found.offset.unwrap_or(0),
-            },
-        })
     }
 }
 
@@ -187,7 +145,16 @@ impl<'a> InterfaceBlock<'a> {
             return Err(Fault::BadBody);
         }
         let options = Options::new(order, &body[8..]);
-        let interface = Interface::by(u16_at(order, body, 0), u32_at(order, body, 4), options)?;
+        let found = Found::of(options)?;
+        let interface = Interface {
+            link: u16_at(order, body, 0),
+            snap: u32_at(order, body, 4),
+            name: found.name.unwrap_or(&[]),
+            clock: Clock {
+                units: found.units.unwrap_or(MICROSECONDS),
+                offset: found.offset.unwrap_or(0),
+            },
+        };
         Ok(InterfaceBlock { interface, options })
     }
 }

@@ -50,15 +50,13 @@ impl<'a> Options<'a> {
 
     /// The value of the first comment among the options of a packet; empty where there is none.
     /// They end too at a value that doesn't fit, which is no fault there.
-    pub fn comment(self) -> &'a [u8]
+    pub fn comment(mut self) -> &'a [u8]
         ensures value { result.now ≡ comment_in self.entry.order self.entry.rest.now }
         ensures short { length result.now ≤ 65535 }
     {
-        for option in self {
-            if let Ok(found) = option {
-                if found.code == COMMENT {
-                    return found.value;
-                }
+        while let Some(Ok(option)) = self.next() {
+            if option.code == COMMENT {
+                return option.value;
             }
         }
         &[]
@@ -76,8 +74,7 @@ impl<'a> Iterator for Options<'a> {
     ghost remaining = { item_count options_left };
 
     fn next(&mut self) -> Option<Result<BlockOption<'a>, Fault>> {
-        let order = self.order;
-        let rest = self.rest;
+        let Options { order, rest } = *self;
         if rest.len() < 4 {
             return None;
         }

@@ -1,10 +1,8 @@
 //! The interfaces of a section.
 ghost use Rattle.std.specs.Prelude.{◌≡◌, ◌≤◌, ◌<◌, ◌↔◌, [], ◌∷◌, ◌++◌, length, IsTrue, OnOk};
-ghost use Rattle.std.specs.Prelude.{OnErr, IfErr};
 
 use crate::clock::Clock;
-use crate::interface::Interface;
-use crate::name::Name;
+use crate::interface::{Interface, Name};
 use cap_octet::Fault;
 use std::alloc::{Allocator, Global};
 use std::marker::Model;
@@ -29,7 +27,7 @@ impl Model for Entry {
     ghost view = { λ e. record {
       link = e.link;
       snap = e.snap;
-      name = e.name;
+      name = e.name.items;
       units = e.clock.units;
       offset = e.clock.offset;
     } };
@@ -45,7 +43,7 @@ impl Entry {
             link: interface.link,
             snap: interface.snap,
             clock: interface.clock,
-            name: Name::new(interface.name),
+            name: Name::try_from(interface.name).unwrap(),
         }
     }
 
@@ -55,7 +53,7 @@ impl Entry {
         Interface {
             link: self.link,
             snap: self.snap,
-            name: self.name.bytes(),
+            name: &self.name,
             clock: self.clock,
         }
     }
@@ -79,7 +77,7 @@ impl<A: Allocator> Model for Table<A> {
 }
 
 impl<A: Allocator> Table<A> {
-    ghost use Rattle.std.specs.Prelude.{slice_get};
+    ghost use Rattle.std.specs.Prelude.{IfErr, OnErr, slice_get};
     ghost use Rattle.std.specs.Option.{option_map};
     ghost use Rattle.cap_pcapng.specs.Interface.{AreFew, described};
 
@@ -100,8 +98,7 @@ impl<A: Allocator> Table<A> {
         self.entries.len() == MOST_INTERFACES
     }
 
-    /// Tells the caller's proof that there are at most 256 interfaces, with names of at most 255
-    /// bytes. Nothing happens at run time.
+    /// Tells the caller's proof what holds of every table. Nothing happens at run time.
     pub fn bounds(&self)
         ensures { AreFew self.now }
     {
@@ -126,18 +123,15 @@ impl<A: Allocator> Table<A> {
         if self.is_full() {
             return Err(Fault::TooManyInterfaces);
         }
-        match self.entries.push(Entry::new(interface)) {
-            Ok(()) => Ok(()),
-            Err(_) => Err(Fault::NoMemory),
-        }
+        self.entries
+            .push(Entry::new(interface))
+            .map_err(|_| Fault::NoMemory)
     }
 
     /// The interface with this number, if there is one.
     pub fn get(&self, number: u32) -> Option<Interface<'_>>
         ensures { option_map described result ≡ slice_get self.now number }
     {
-        self.entries
-            .get(number as usize)
-            .map(|entry| entry.interface())
+        self.entries.get(number as usize).map(Entry::interface)
     }
 }

@@ -1,8 +1,7 @@
-use Rattle.std.proofs.Common.{◌≡◌, ◌++◌, ◌-◌, ℕ, List, ap, arith, drop, IfErr, IfOk, take, None, Option, Some, subst}
+use Rattle.std.proofs.Common.{◌≡◌, ◌++◌, ◌-◌, ℕ, List, ap, arith, drop, IfErr, take, Option, Some, subst}
 use Rattle.cap_pcapng.specs.Block.{body_checks, body_in, option_checks, parts_in_body}
 use Rattle.cap_octet.specs.declared.fault.Fault.{Fault}
-use Rattle.cap_pcapng.specs.declared.blocks.Block.{Block}
-use Rattle.cap_pcapng.proofs.Judged.{judged-fault, judged-passes, judged-value}
+use Rattle.cap_pcapng.proofs.Judged.{judged-fault}
 use Rattle.cap_pcapng.proofs.WholeBlocks.{block_fault-body}
 use Rattle.cap_pcapng.proofs.read.block.Goals as goal
 

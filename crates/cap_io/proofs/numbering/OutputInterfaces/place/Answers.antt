@@ -1,20 +1,62 @@
-use Rattle.std.proofs.Common.{rules, map}
+use Rattle.std.proofs.Common.{◌≡◌, map, not, refl, sym, ap, ◌∙◌, rules, Some}
+use Rattle.std.specs.Option.{option_map}
+use Rattle.std.proofs.lemmas.Option.{slice_get-map}
 use Rattle.cap_octet.specs.Packet.{captured}
-use Rattle.cap_io.specs.Numbering.{interface_in}
+use Rattle.cap_io.specs.Numbering.{HasPlace, interface_in}
 use Rattle.cap_io.specs.Text.{interface_of}
+use Rattle.cap_io.specs.declared.numbering.Place.{Place}
+use Rattle.cap_io.proofs.Interfaces.{same_interface}
+use Rattle.cap_io.proofs.Keys.{among-keys, number-keys, insert-keys}
 use Rattle.cap_io.proofs.Places.{few-behind, first-behind, place-of-last}
 use Rattle.cap_io.proofs.numbering.OutputInterfaces.place.Goals as goal
+use Rattle.cap_io.proofs.numbering.OutputInterfaces.place.Goals.{in_default-via-in-None-1, in_default-via-in-Some+else-is_of}
 
-pub returns-then-is_numbered : goal.returns-then-is_numbered
-returns-then-is_numbered g c =
-    place-of-last c.args.self.now c.self.inside.last (interface_of (captured c.args.packet.now))
-    (rw c.self.view_is at c.self.invariant.1) (rw c.self.view_is at (c.is_numbered.ensures c.if-is_numbered.true))
+pub returns : goal.returns
+returns g c =
+    let i = interface_of (captured c.args.packet.now) in
+    let last = c.self.inside.last in
+    let there =
+    slice_get-map interface_in c.self.inside.keys.keys last
+    ∙ ap (option_map interface_in) (sym c.in-Some.ensures.key)
+    ∙ ap Some (same_interface (interface_in c.in-Some.key.now) i (sym c.is_of.ensures ∙ c.if-is_of.true)) in
+    place-of-last c.args.self.now last i (rw c.self.view_is at c.self.invariant.1) (rw c.self.view_is at there)
+
+pub returns-in_default : goal.returns-in_default
+returns-in_default g c =
+    let keys = c.in_default.self-inside.keys.keys in
+    let is : map interface_in keys ≡ c.args.self.now =
+    elim c.in_default.branch [
+      | in_default-via-in-None-1 w ↦ rw w.self-inside-is c.self.view_is
+      | in_default-via-in-Some+else-is_of w ↦ rw w.self-inside-is c.self.view_is
+    ] in (
+      refl,
+      rw (c.of.ensures, is) at (sym (among-keys keys c.of.result) ∙ c.in_default-2.ensures.absent),
+      ap (map interface_in) c.in_default-2.ensures.err ∙ is,
+    )
+
+pub returns-2 : goal.returns-2
+returns-2 g c =
+    let keys = c.in_default.self-inside.keys.keys in
+    let is : map interface_in keys ≡ c.args.self.now =
+    elim c.in_default.branch [
+      | in_default-via-in-None-1 w ↦ rw w.self-inside-is c.self.view_is
+      | in_default-via-in-Some+else-is_of w ↦ rw w.self-inside-is c.self.view_is
+    ] in
+    let place : Place = record { number = c.in-Ok.index; is_new = c.in-Ok.is_new } in
+    let has : HasPlace (map interface_in keys) (interface_in c.of.result) place (map interface_in c.insert_full.new.self.keys) =
+    record {
+      number = c.in-Ok.ensures.index ∙ number-keys keys c.of.result;
+      is_new = c.in-Ok.ensures.added ∙ ap not (among-keys keys c.of.result);
+      interfaces = ap (map interface_in) c.in-Ok.ensures.keys ∙ insert-keys keys c.of.result;
+    } in
+    rw (c.of.ensures, is) at has
 
 pub invariant_of-self-2 : goal.invariant_of-self-2
 invariant_of-self-2 g c =
     let i = interface_of (captured c.args.packet.now) in
-    let new = map interface_in c.number_key.new.keys.keys in
-    let has = rw (c.of.ensures, c.self.view_is) at c.in_ok-place.ensures in (
-      few-behind c.args.self.now new i c.in_ok-place.place (rw c.self.view_is at c.self.invariant.0) c.requires (search rules) has,
-      first-behind c.args.self.now new i c.in_ok-place.place has,
+    let new = map interface_in c.insert_full.new.self.keys in
+    let place : Place = record { number = c.in-Ok.index; is_new = c.in-Ok.is_new } in
+    let has : HasPlace c.args.self.now i place new = returns-2 g c in (
+      few-behind c.args.self.now new i place (rw c.self.view_is at c.self.invariant.0) c.requires (search rules) has,
+      first-behind c.args.self.now new i place has,
     )

@@ -9,11 +9,11 @@ loop-option-preserved c =
     let item : options_left c.loop-option.option-iterator ≡ Ok (coded_value c.in_ok-option.field-0) ∷ options_left c.next.new.self =
     c.in-Some.ensures.steps ∙ ap (λ item. item_of item ∷ options_left c.next.new.self) c.in_ok-option.was in
     let told = c.in_ok-found.ensures in
-    (tt, tt, HasRead-more _ _ _ _ _ _ _ c.loop-option.invariant.2 item told.found.1.name told.found.1.units told.found.1.offset told.found.0, told.sound c.loop-option.invariant.3)
+    (tt, tt, HasRead-more _ _ _ _ _ _ _ c.loop-option.invariant.2 item told.1 told.0)
 
-pub returns-in_err-found-clause-found : goal.returns-in_err-found-clause-found
-returns-in_err-found-clause-found c =
+pub returns-in_err-found : goal.returns-in_err-found
+returns-in_err-found c =
     let item : options_left c.loop-option.option-iterator ≡ Ok (coded_value c.in_ok-option.field-0) ∷ options_left c.next.new.self =
     c.in-Some.ensures.steps ∙ ap (λ item. item_of item ∷ options_left c.next.new.self) c.in_ok-option.was in
     let p = err_from_is_err_and c.from_residual-in_err-found.result c.from_residual-in_err-found.ensures.1 in
-    rw (p.1, p.2) (HasRead-refused _ _ _ _ _ _ _ c.loop-option.invariant.2 item c.in_err-found.ensures.found)
+    rw (p.1, p.2) (HasRead-refused _ _ _ _ _ _ _ c.loop-option.invariant.2 item c.in_err-found.ensures)
