@@ -4,9 +4,11 @@ use Rattle.std.proofs.Math.Seq.{take-append-add}
 use Rattle.std.proofs.lemmas.List.{append_assoc, append-nil, take-append-le}
 use Rattle.cap_octet.specs.Checks.{checked}
 use Rattle.cap_octet.specs.Device.{AppendsOrStops, Stops}
+use Rattle.cap_octet.specs.Writer.{WritesExactly}
 use Rattle.cap_octet.specs.Packet.{Captured}
 use Rattle.cap_octet.specs.declared.device.DeviceFault.{DeviceFault}
 use Rattle.cap_octet.specs.declared.device.Output.{Ghosts}
+use Rattle.cap_octet.specs.declared.device.Stopped.{Stopped}
 use Rattle.cap_octet.specs.declared.fault.Fault.{Fault}
 use Rattle.cap_octet.specs.declared.fault.Fault.TheVariants.{WriteFailed}
 use Rattle.cap_octet.specs.declared.format.Format.{Format}
@@ -48,6 +50,16 @@ appends-behind (Ok value) written done part mid written' first appends =
 appends-behind (Err fault) written done part mid written' first stops = stops-behind written done part mid written' first stops
 
 -- ---- what a device did
+
+pub appends-exactly : {Device : Type 0} (d : Ghosts Device) (old new : Device) (bytes : List ℕ) → WritesExactly d old bytes (Ok tt) new → Appends d old bytes (Ok tt) new
+appends-exactly d old new bytes writes = record { told = writes.told; failed = writes.failed; room = writes.room }
+
+pub stops-exactly : {Device : Type 0} (d : Ghosts Device) (old new : Device) (bytes : List ℕ) (stopped : Stopped) (fault : DeviceFault) → WritesExactly d old bytes (Err stopped) new → Appends d old bytes (Err fault) new
+stops-exactly d old new bytes stopped fault writes = record {
+  told = λ tells. (stopped.written, writes.front, writes.told tells);
+  failed = writes.failed;
+  room = writes.room;
+}
 
 pub appends-nothing : {Device : Type 0} (d : Ghosts Device) (old : Device) → Appends d old [] (Ok tt) old
 appends-nothing d old = record { told = λ tells. sym (append-nil (d.written old)); failed = omega arith; room = refl }

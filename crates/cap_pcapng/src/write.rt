@@ -1,9 +1,9 @@
 //! Blocks as they are written, all of them little-endian.
-ghost use Rattle.std.specs.Prelude.{◌≡◌, ◌+◌, ◌<◌, ◌^◌, ◌++◌, length, replicate, IsTrue, IfErr, None};
+ghost use Rattle.std.specs.Prelude.{◌≡◌, ◌+◌, ◌<◌, ◌^◌, ◌++◌, length, replicate, None};
 ghost use Rattle.std.specs.List.{flat_map};
 ghost use Rattle.byteorder.specs.Endian.{little_bytes};
 ghost use Rattle.cap_octet.specs.Checks.{checked, first_failing};
-ghost use Rattle.cap_octet.specs.Device.{WritesAll, failures_of};
+ghost use Rattle.cap_octet.specs.Writer.{WritesExactly};
 ghost use Rattle.cap_octet.specs.Packet.{captured};
 ghost use Rattle.cap_pcapng.specs.Padding.{padded};
 ghost use Rattle.cap_pcapng.specs.Written.{comment_text, end_text, fit_checks, interface_heading};
@@ -54,12 +54,8 @@ pub fn section_bytes() -> [u8; 28]
 /// how many bytes, fewer than all, were written before it.
 fn write_pieces<O: Output>(output: &mut O, pieces: &[&[u8]]) -> Result<(), Stopped>
     requires { length (flat_map (λ piece. piece.now) pieces.now) < 2 ^ 64 }
-    ensures front { IfErr result (λ stopped.
-        stopped.written < length (flat_map (λ piece. piece.now) pieces.now)) }
-    ensures failed { O.failures output.new ≡ O.failures output.old + failures_of result }
-    ensures room { O.room output.new ≡ O.room output.old }
-    ensures told { IsTrue O.tells → WritesAll (O.written output.old)
-        (flat_map (λ piece. piece.now) pieces.now) result (O.written output.new) }
+    ensures { WritesExactly O.Output output.old (flat_map (λ piece. piece.now) pieces.now) result
+        output.new }
 {
     let mut before = 0;
     for piece in pieces {
@@ -127,12 +123,8 @@ pub fn write_packet<O: Output>(
     output: &mut O,
 ) -> Result<(), Stopped>
     requires { first_failing (fit_checks (captured packet.now)) ≡ None }
-    ensures front { IfErr result (λ stopped.
-        stopped.written < length (packet_text number (captured packet.now))) }
-    ensures failed { O.failures output.new ≡ O.failures output.old + failures_of result }
-    ensures room { O.room output.new ≡ O.room output.old }
-    ensures told { IsTrue O.tells → WritesAll (O.written output.old)
-        (packet_text number (captured packet.now)) result (O.written output.new) }
+    ensures { WritesExactly O.Output output.old (packet_text number (captured packet.now)) result
+        output.new }
 {
     let comment = packet.comment;
     let padding = padding_behind(packet.bytes.len());
@@ -180,13 +172,8 @@ fn interface_end(size: u32) -> [u8; 19]
 /// isn't empty; the ticks are nanoseconds. An error is a failure of the device in this call, and
 /// reports how many bytes of the block, fewer than all, were written before it.
 pub fn write_interface<O: Output>(packet: &Packet<'_>, output: &mut O) -> Result<(), Stopped>
-    ensures front { IfErr result (λ stopped. stopped.written
-        < length (interface_text packet.now.link packet.now.snap packet.now.name.now)) }
-    ensures failed { O.failures output.new ≡ O.failures output.old + failures_of result }
-    ensures room { O.room output.new ≡ O.room output.old }
-    ensures told { IsTrue O.tells → WritesAll (O.written output.old)
-        (interface_text packet.now.link packet.now.snap packet.now.name.now) result
-        (O.written output.new) }
+    ensures { WritesExactly O.Output output.old
+        (interface_text packet.now.link packet.now.snap packet.now.name.now) result output.new }
 {
     let name = packet.name;
     let padding = padding_behind(name.len());

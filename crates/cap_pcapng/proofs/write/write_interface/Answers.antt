@@ -1,6 +1,5 @@
-use Rattle.std.proofs.Common.{◌≡◌, [], ◌++◌, ◌-◌, ◌<◌, List, ℕ, length, take, drop, replicate, IfErr, subst, sym, ◌∙◌}
-use Rattle.cap_octet.specs.Device.{WritesAll}
-use Rattle.cap_octet.specs.declared.device.Stopped.{Stopped}
+use Rattle.std.proofs.Common.{◌≡◌, [], ◌++◌, ◌-◌, List, ℕ, take, drop, replicate, subst, sym, ◌∙◌}
+use Rattle.cap_octet.specs.Writer.{WritesExactly}
 use Rattle.cap_pcapng.specs.Written.{interface_text, name_text}
 use Rattle.cap_pcapng.proofs.WrittenBlocks.{interface_joined, named, unnamed}
 use Rattle.cap_pcapng.proofs.write.write_interface.Given.{Over}
@@ -20,12 +19,7 @@ joined g c =
     interface_joined c.args.packet.now.link c.args.packet.now.snap c.padding_behind-padding.result name c.interface_head-head.result c.if-is_empty.option.now c.interface_end-end.result
     padding.few name_is c.interface_head-head.ensures c.interface_end-end.ensures
 
-pub returns-clause-front : goal.returns-clause-front
-returns-clause-front g c =
-    let P : List ℕ → Type 0 = λ text. IfErr c.write_pieces.result (λ (stopped : Stopped). stopped.written < length text) in
-    subst P (joined g c) c.write_pieces.ensures.front
-
-pub returns-clause-told : goal.returns-clause-told
-returns-clause-told g c = λ tells.
-    let P : List ℕ → Type 0 = λ text. WritesAll (g.O.Output.written c.args.output.now) text c.write_pieces.result (g.O.Output.written c.write_pieces.new.output) in
-    subst P (joined g c) (c.write_pieces.ensures.told tells)
+pub returns : goal.returns
+returns g c =
+    let P : List ℕ → Type 0 = λ text. WritesExactly g.O.Output c.args.output.now text c.write_pieces.result c.write_pieces.new.output in
+    subst P (joined g c) c.write_pieces.ensures

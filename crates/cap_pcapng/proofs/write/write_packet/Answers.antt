@@ -1,7 +1,6 @@
-use Rattle.std.proofs.Common.{◌≡◌, [], ◌++◌, ◌-◌, ◌<◌, ◌≤◌, List, ℕ, length, take, drop, replicate, IfErr, subst, sym, ◌∙◌, arith}
-use Rattle.cap_octet.specs.Device.{WritesAll}
+use Rattle.std.proofs.Common.{◌≡◌, [], ◌++◌, ◌-◌, ◌≤◌, List, ℕ, length, take, drop, replicate, subst, sym, ◌∙◌, arith}
+use Rattle.cap_octet.specs.Writer.{WritesExactly}
 use Rattle.cap_octet.specs.Packet.{Captured, captured}
-use Rattle.cap_octet.specs.declared.device.Stopped.{Stopped}
 use Rattle.cap_pcapng.specs.Padding.{padded}
 use Rattle.cap_pcapng.specs.Written.{comment_text, packet_text}
 use Rattle.cap_pcapng.proofs.WrittenBlocks.{packet_joined, plain_behind, comment_behind}
@@ -25,12 +24,7 @@ joined g c =
     ] in
     packet_joined c.args.number c.if-is_empty.zeros.1 p c.packet_head-head.result c.if-is_empty.zeros.0.now c.packet_end-end.result few behind c.packet_head-head.ensures c.packet_end-end.ensures
 
-pub returns-clause-front : goal.returns-clause-front
-returns-clause-front g c =
-    let P : List ℕ → Type 0 = λ text. IfErr c.write_pieces.result (λ (stopped : Stopped). stopped.written < length text) in
-    subst P (joined g c) c.write_pieces.ensures.front
-
-pub returns-clause-told : goal.returns-clause-told
-returns-clause-told g c = λ tells.
-    let P : List ℕ → Type 0 = λ text. WritesAll (g.O.Output.written c.args.output.now) text c.write_pieces.result (g.O.Output.written c.write_pieces.new.output) in
-    subst P (joined g c) (c.write_pieces.ensures.told tells)
+pub returns : goal.returns
+returns g c =
+    let P : List ℕ → Type 0 = λ text. WritesExactly g.O.Output c.args.output.now text c.write_pieces.result c.write_pieces.new.output in
+    subst P (joined g c) c.write_pieces.ensures
