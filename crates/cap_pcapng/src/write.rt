@@ -1,6 +1,5 @@
 //! Blocks as they are written, all of them little-endian.
 ghost use Rattle.std.specs.Prelude.{◌≡◌, ◌+◌, ◌<◌, ◌^◌, ◌++◌, length, replicate, None};
-ghost use Rattle.std.specs.List.{flat_map};
 ghost use Rattle.byteorder.specs.Endian.{little_bytes};
 ghost use Rattle.cap_octet.specs.Checks.{checked, first_failing};
 ghost use Rattle.cap_octet.specs.Writer.{WritesExactly};
@@ -13,7 +12,7 @@ ghost use Rattle.cap_pcapng.specs.Written.{resolution_text, section_text};
 use crate::frames::MOST_BLOCK;
 use crate::options::padded_length;
 use byteorder::{ByteOrder, LittleEndian};
-use cap_octet::{Fault, Output, Packet, Stopped, write_all};
+use cap_octet::{Fault, Output, Packet, Stopped, write_all_parts};
 
 /// How many bytes a comment takes in its block: its option, and the end of the options.
 fn comment_size(comment: &[u8]) -> u64
@@ -48,25 +47,6 @@ pub fn section_bytes() -> [u8; 28]
     LittleEndian::write_u16(&mut bytes[14..], 0);
     LittleEndian::write_u32(&mut bytes[24..], 28);
     bytes
-}
-
-/// Writes pieces one after another. An error is a failure of the device in this call, and reports
-/// how many bytes, fewer than all, were written before it.
-fn write_pieces<O: Output>(output: &mut O, pieces: &[&[u8]]) -> Result<(), Stopped>
-    requires { length (flat_map (λ piece. piece.now) pieces.now) < 2 ^ 64 }
-    ensures { WritesExactly O.Output output.old (flat_map (λ piece. piece.now) pieces.now) result
-        output.new }
-{
-    let mut before = 0;
-    for piece in pieces {
-        if let Err(stopped) = write_all(output, piece) {
-            return Err(Stopped {
-                written: before + stopped.written,
-            });
-        }
-        before += piece.len();
-    }
-    Ok(())
 }
 
 /// How many zeros stand behind so many bytes.
@@ -137,7 +117,7 @@ pub fn write_packet<O: Output>(
     let size = (32 + packet.bytes.len() + option.len() + comment.len() + zeros) as u32;
     let head = packet_head(size, number, packet);
     let end = packet_end(size);
-    write_pieces(
+    write_all_parts(
         output,
         &[&head, packet.bytes, option, comment, &end[7 - zeros..]],
     )
@@ -186,5 +166,5 @@ pub fn write_interface<O: Output>(packet: &Packet<'_>, output: &mut O) -> Result
     let size = (32 + option.len() + name.len() + padding) as u32;
     let head = interface_head(size, packet);
     let end = interface_end(size);
-    write_pieces(output, &[&head, option, name, &end[3 - padding..]])
+    write_all_parts(output, &[&head, option, name, &end[3 - padding..]])
 }
