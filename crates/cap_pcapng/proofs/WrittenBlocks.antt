@@ -97,6 +97,22 @@ packet_joined number zeros p head option end few behind head_is end_is =
     ∙ ap (λ (t : List ℕ). t ++ little_bytes 4 size) (sym (append_assoc p.bytes padding (comment_text p.comment))))
     ∙ ap (λ (s : ℕ). little_bytes 4 6 ++ little_bytes 4 s ++ packet_body number p ++ little_bytes 4 s) whole
 
+empty : (bytes : List ℕ) → (length bytes == 0) ≡ true → bytes ≡ []
+empty [] none = refl
+empty (b ∷ bytes) none = absurd (false≢true (sym (ne_eqb (length (b ∷ bytes)) 0 (λ is. absurd (omega arith))) ∙ none))
+
+-- the block of a packet without a comment
+pub plain_joined : (number zeros : ℕ) (p : Captured) (head end : List ℕ) → (length p.comment == 0) ≡ true → zeros < 4 → length p.bytes + zeros ≡ padded (length p.bytes)
+    → head ≡ packet_heading (32 + length p.bytes + zeros) number p
+    → end ≡ replicate 7 0 ++ little_bytes 4 (32 + length p.bytes + zeros)
+    → head ++ (p.bytes ++ (take (11 - (7 - zeros)) (drop (7 - zeros) end) ++ [])) ≡ packet_text number p
+plain_joined number zeros p head end none few padding_is head_is end_is =
+    let comment_is : p.comment ≡ [] = empty p.comment none in
+    let size : 32 + length p.bytes + zeros ≡ 32 + length p.bytes + 0 + length p.comment + zeros = omega (arith, ap length comment_is) in
+    ap (λ (c : List ℕ). head ++ (p.bytes ++ (c ++ (take (11 - (7 - zeros)) (drop (7 - zeros) end) ++ [])))) (sym comment_is)
+    ∙ packet_joined number zeros p head [] end (omega arith) (plain_behind zeros p.bytes p.comment none padding_is)
+    (head_is ∙ ap (λ (s : ℕ). packet_heading s number p) size) (end_is ∙ ap (λ (s : ℕ). replicate 7 0 ++ little_bytes 4 s) size)
+
 -- ---- an interface
 
 pub length-interface_body : (link snap b : ℕ) (bytes : List ℕ) → length (interface_body link snap (b ∷ bytes)) ≡ 24 + padded (length (b ∷ bytes))

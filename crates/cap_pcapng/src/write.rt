@@ -106,21 +106,22 @@ pub fn write_packet<O: Output>(
     ensures { WritesExactly O.Output output.old (packet_text number (captured packet.now)) result
         output.new }
 {
-    let comment = packet.comment;
     let padding = padding_behind(packet.bytes.len());
+    if packet.comment.is_empty() {
+        let size = (32 + packet.bytes.len() + padding) as u32;
+        let head = packet_head(size, number, packet);
+        let end = packet_end(size);
+        return write_all_parts(output, &[&head, packet.bytes, &end[7 - padding..]]);
+    }
+    let comment = packet.comment;
     let option = option_head(1, comment);
-    let (option, zeros) = if comment.is_empty() {
-        (&option[7..], padding)
-    } else {
-        (&option[3 - padding..], padding_behind(comment.len()) + 4)
-    };
+    let option = &option[3 - padding..];
+    let zeros = padding_behind(comment.len()) + 4;
     let size = (32 + packet.bytes.len() + option.len() + comment.len() + zeros) as u32;
     let head = packet_head(size, number, packet);
     let end = packet_end(size);
-    write_all_parts(
-        output,
-        &[&head, packet.bytes, option, comment, &end[7 - zeros..]],
-    )
+    let parts = [&head[..], packet.bytes, option, comment, &end[7 - zeros..]];
+    write_all_parts(output, &parts)
 }
 
 /// An interface block's type, total length, link type and snap length.
