@@ -1,19 +1,24 @@
--- Parts that are written one after another, and what a sink answers of it.
-use Rattle.std.proofs.Common.{◌≡◌, ◌⊎◌, inl, inr, ℕ, ◌+◌, ◌<◌, Bool, true, false, not, if◌then◌else◌, List, [], ◌∷◌, ◌++◌, length, take, None, Result, Ok, Err, refl, sym, ap, ap₂, subst, ◌∙◌, arith, length-append}
+-- Parts that are written one after another, and what a sink adds by them.
+use Rattle.std.proofs.Common.{◌≡◌, ◌⊎◌, inl, inr, ℕ, ◌+◌, ◌<◌, Bool, true, false, not, if◌then◌else◌, List, [], ◌∷◌, ◌++◌, length, take, Option, Some, None, Result, Ok, Err, refl, sym, ap, ap₂, subst, ◌∙◌, arith, length-append}
 use Rattle.std.proofs.Math.Seq.{take-append-add}
 use Rattle.std.proofs.lemmas.List.{append_assoc, append-nil, take-append-le}
-use Rattle.cap_octet.specs.Device.{AppendsOrStops, Stops, WritesAll, failures_of}
+use Rattle.cap_octet.specs.Checks.{checked}
+use Rattle.cap_octet.specs.Device.{AppendsOrStops, Stops}
+use Rattle.cap_octet.specs.Writer.{WritesExactly}
 use Rattle.cap_octet.specs.Packet.{Captured}
 use Rattle.cap_octet.specs.declared.device.DeviceFault.{DeviceFault}
-use Rattle.cap_octet.specs.declared.fault.Fault.{Fault}
+use Rattle.cap_octet.specs.declared.device.Output.{Ghosts}
 use Rattle.cap_octet.specs.declared.device.Stopped.{Stopped}
+use Rattle.cap_octet.specs.declared.fault.Fault.{Fault}
+use Rattle.cap_octet.specs.declared.fault.Fault.TheVariants.{WriteFailed}
 use Rattle.cap_octet.specs.declared.format.Format.{Format}
 use Rattle.cap_octet.specs.declared.format.Format.TheVariants.{Pcap, NsecPcap, Pcapng}
 use Rattle.cap_pcap.specs.Written.{IsPcap, resolution_of}
 use Rattle.cap_pcapng.specs.Written.{interface_text, packet_text as pcapng_packet}
 use Rattle.cap_io.specs.declared.numbering.Place.{Place}
+use Rattle.cap_io.specs.declared.sink.SinkState.{SinkState}
 use Rattle.cap_io.specs.Numbering.{HasPlace}
-use Rattle.cap_io.specs.Sink.{IsPutAnswer, WritesPacket, answer_of, block_text, description_text, interfaces_behind, interfaces_left, packet_in, write_failures}
+use Rattle.cap_io.specs.Sink.{Appends, WritesPacket, block_text, description_text, heading_in, packet_in}
 use Rattle.cap_io.specs.Text.{Interface, interface_of, is_among, number_among, descriptions, record_text}
 
 pub appends-as : {E : Type 0} (r : Result (Unit {0}) E) (written bytes bytes' written' : List ℕ) → bytes ≡ bytes' → AppendsOrStops r written bytes written' → AppendsOrStops r written bytes' written'
@@ -44,30 +49,34 @@ appends-behind (Ok value) written done part mid written' first appends =
     appends ∙ ap (λ (l : List ℕ). l ++ part) first ∙ append_assoc written done part
 appends-behind (Err fault) written done part mid written' first stops = stops-behind written done part mid written' first stops
 
--- a beginning of what follows one that was written
-pub stops-all : (written done part mid written' : List ℕ) (stopped : Stopped) → mid ≡ written ++ done → stopped.written < length part → WritesAll mid part (Err stopped) written' → Stops written (done ++ part) written'
-stops-all written done part mid written' stopped first less writes = stops-behind written done part mid written' first (stopped.written, less, writes)
+-- ---- what a device did
 
--- ---- what a sink answers
+pub appends-exactly : {Device : Type 0} (d : Ghosts Device) (old new : Device) (bytes : List ℕ) → WritesExactly d old bytes (Ok tt) new → Appends d old bytes (Ok tt) new
+appends-exactly d old new bytes writes = record { told = writes.told; failed = writes.failed; room = writes.room }
 
-pub device-writes : (r : Result (Unit {0}) DeviceFault) (bytes written written' : List ℕ) → AppendsOrStops r written bytes written' → WritesPacket None bytes written (answer_of r) written'
-device-writes (Ok value) bytes written written' appends = appends
-device-writes (Err fault) bytes written written' stops = stops
+pub stops-exactly : {Device : Type 0} (d : Ghosts Device) (old new : Device) (bytes : List ℕ) (stopped : Stopped) (fault : DeviceFault) → WritesExactly d old bytes (Err stopped) new → Appends d old bytes (Err fault) new
+stops-exactly d old new bytes stopped fault writes = record {
+  told = λ tells. (stopped.written, writes.front, writes.told tells);
+  failed = writes.failed;
+  room = writes.room;
+}
 
-pub device-answers : (r : Result (Unit {0}) DeviceFault) (takes : Bool) → IsPutAnswer None takes (answer_of r)
-device-answers (Ok value) takes = tt
-device-answers (Err fault) takes = inl refl
+pub appends-nothing : {Device : Type 0} (d : Ghosts Device) (old : Device) → Appends d old [] (Ok tt) old
+appends-nothing d old = record { told = λ tells. sym (append-nil (d.written old)); failed = omega arith; room = refl }
 
-pub device-failures : (r : Result (Unit {0}) DeviceFault) → failures_of r ≡ write_failures (answer_of r)
-device-failures (Ok value) = refl
-device-failures (Err fault) = refl
+pub appends-stopped : {Device : Type 0} (d : Ghosts Device) (old new : Device) (part more : List ℕ) (fault : DeviceFault) → Appends d old part (Err fault) new → Appends d old (part ++ more) (Err fault) new
+appends-stopped d old new part more fault appends = record {
+  told = λ tells. stops-front (d.written old) part more (d.written new) (appends.told tells);
+  failed = appends.failed;
+  room = appends.room;
+}
 
--- the same answer and the same bytes
-pub writes-as : (r r' : Result (Unit {0}) Fault) (bytes bytes' written written' : List ℕ) → r ≡ r' → bytes ≡ bytes' → WritesPacket None bytes written r' written' → WritesPacket None bytes' written r written'
-writes-as r r' bytes bytes' written written' answer same writes =
-    let P : Result (Unit {0}) Fault → Type 0 = λ q. WritesPacket None bytes written q written' in
-    let Q : List ℕ → Type 0 = λ b. WritesPacket None b written r written' in
-    subst Q same (subst P (sym answer) writes)
+pub appends-then : {Device : Type 0} (d : Ghosts Device) (old mid new : Device) (done part : List ℕ) (r : Result (Unit {0}) DeviceFault) → Appends d old done (Ok tt) mid → Appends d mid part r new → Appends d old (done ++ part) r new
+appends-then d old mid new done part r first second = record {
+  told = λ tells. appends-behind r (d.written old) done part (d.written mid) (d.written new) (first.told tells) (second.told tells);
+  failed = omega arith;
+  room = second.room ∙ first.room;
+}
 
 -- ---- by format
 
@@ -81,11 +90,6 @@ packet-record Pcap interfaces p is = refl
 packet-record NsecPcap interfaces p is = refl
 packet-record Pcapng interfaces p is = absurd is
 
-pub interfaces-record : (format : Format) (interfaces : List Interface) (p : Captured) → IsPcap format → interfaces_behind format interfaces p ≡ interfaces
-interfaces-record Pcap interfaces p is = refl
-interfaces-record NsecPcap interfaces p is = refl
-interfaces-record Pcapng interfaces p is = absurd is
-
 described : (b : Bool) (p : Captured) → description_text (not b) p ≡ descriptions (if b then [] else interface_of p ∷ [])
 described true p = refl
 described false p = sym (append-nil (interface_text p.link p.snap p.name))
@@ -95,7 +99,22 @@ block-place old p place new has =
     ap₂ (λ (b : Bool) (n : ℕ). description_text b p ++ pcapng_packet n p) has.is_new has.number
     ∙ ap (λ (l : List ℕ). l ++ pcapng_packet (number_among old (interface_of p)) p) (described (is_among old (interface_of p)) p)
 
--- where the device was called, the packet's interface is numbered
-pub left-answer : (outcome : Result (Unit {0}) DeviceFault) (before behind : List Interface) → behind ≡ interfaces_left (answer_of outcome) before behind
-left-answer (Ok done) before behind = refl
-left-answer (Err fault) before behind = refl
+-- ---- what a sink adds
+
+pub record-adds : (r : Result (Unit {0}) DeviceFault) (format : Format) (state : SinkState) (interfaces : List Interface) (p : Captured) (written written' : List ℕ) → (format ≡ Pcap) ⊎ (format ≡ NsecPcap)
+    → AppendsOrStops r written (heading_in format state p.link ++ record_text (resolution_of format) p) written' → AppendsOrStops r written (heading_in format state p.link ++ packet_in format interfaces p) written'
+record-adds r format state interfaces p written written' form appends =
+    let same = ap (λ (l : List ℕ). heading_in format state p.link ++ l) (packet-record format interfaces p (is-pcap format form)) in
+    appends-as r written _ _ written' same appends
+
+pub block-adds : (r : Result (Unit {0}) DeviceFault) (format : Format) (state : SinkState) (interfaces : List Interface) (p : Captured) (place : Place) (new : List Interface) (written written' : List ℕ)
+    → format ≡ Pcapng → HasPlace interfaces (interface_of p) place new
+    → AppendsOrStops r written (heading_in Pcapng state p.link ++ block_text place p) written' → AppendsOrStops r written (heading_in format state p.link ++ packet_in format interfaces p) written'
+block-adds r format state interfaces p place new written written' form has appends =
+    let P : Format → Type 0 = λ f. AppendsOrStops r written (heading_in f state p.link ++ packet_in f interfaces p) written' in
+    subst P (sym form) (appends-as r written _ _ written' (ap (λ (l : List ℕ). heading_in Pcapng state p.link ++ l) (block-place interfaces p place new has)) appends)
+
+-- a packet that isn't refused, where the device failed
+pub adds-failed : (refusal : Option Fault) (bytes written written' : List ℕ) → Ok (tt {0}) ≡ checked refusal (tt {0}) → Stops written bytes written' → WritesPacket refusal bytes written (Err WriteFailed) written'
+adds-failed None bytes written written' allowed stops = stops
+adds-failed (Some fault) bytes written written' allowed stops = absurd (cc)

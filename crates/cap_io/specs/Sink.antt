@@ -214,11 +214,6 @@ pub record Appends {Device : Type 0} (d : Ghosts Device) (old : Device) (bytes :
   pub failed : d.failures new ≡ d.failures old + failures_of r
   pub room : d.room new ≡ d.room old
 
--- what a sink answers where its device was called
-abbrev pub answer_of : Result (Unit {0}) DeviceFault → Result (Unit {0}) Fault
-answer_of (Ok done) = Ok tt
-answer_of (Err fault) = Err WriteFailed
-
 -- the state and the interfaces behind a packet
 abbrev pub state_behind : SinkState → Captured → SinkState
 state_behind Empty p = Started p.link

@@ -2,7 +2,7 @@
 ghost use Rattle.std.specs.Prelude.{◌≡◌};
 
 use crate::numbering::OutputInterfaces;
-use crate::writing::{check, write, write_heading};
+use crate::writing::{check, write_block, write_heading, write_record};
 use cap_octet::{Fault, Format, Output, Packet};
 use std::alloc::Allocator;
 use std::marker::Model;
@@ -138,13 +138,18 @@ impl<O: Output, A: Allocator> Sink<O, A> {
         ensures answer { Adds self.old (captured packet.now) result self.new }
     {
         check(self.format, self.state, &self.interfaces, packet)?;
-        write(
-            &mut self.output,
-            &mut self.interfaces,
-            self.format,
-            self.state,
-            packet,
-        )?;
+        let written = match self.format {
+            Format::Pcap | Format::NsecPcap => {
+                write_record(&mut self.output, self.format, self.state, packet)
+            }
+            Format::Pcapng => {
+                let place = self.interfaces.place(packet)?;
+                write_block(&mut self.output, self.state, place, packet)
+            }
+        };
+        let Ok(()) = written else {
+            return Err(Fault::WriteFailed);
+        };
         if let SinkState::Empty = self.state {
             self.state = SinkState::Started(packet.link);
         }

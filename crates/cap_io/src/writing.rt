@@ -1,20 +1,17 @@
 //! Packets, file headers and section headers to a device, in each format.
-ghost use Rattle.std.specs.Prelude.{◌≡◌, ◌+◌, ◌++◌, None, IsTrue};
+ghost use Rattle.std.specs.Prelude.{◌≡◌, ◌++◌, None};
 ghost use Rattle.cap_octet.specs.Checks.{checked, first_failing};
 ghost use Rattle.cap_octet.specs.Packet.{captured};
 ghost use Rattle.cap_pcap.specs.Written.{IsPcap, fit_checks, resolution_of};
 ghost use Rattle.cap_pcapng.specs.Written.{fit_checks as block_fit_checks};
 ghost use Rattle.cap_io.specs.Text.{record_text};
-ghost use Rattle.cap_io.specs.Sink.{Appends, IsPutAnswer, WritesPacket, answer_of, block_text};
-ghost use Rattle.cap_io.specs.Sink.{description_text, checks_in, heading_in, interfaces_behind};
-ghost use Rattle.cap_io.specs.Sink.{interfaces_left, packet_in, takes_memory_in};
-ghost use Rattle.cap_io.specs.Sink.{write_failures};
+ghost use Rattle.cap_io.specs.Sink.{Appends, block_text, checks_in, heading_in};
 
 use crate::numbering::{OutputInterfaces, Place};
 use crate::sink::SinkState;
 use cap_octet::{DeviceFault, Fault, Format, Output, Packet, write_parts};
 use cap_pcap::{head_bytes, record_bytes};
-use cap_pcapng::{section_bytes, write_interface};
+use cap_pcapng::{section_bytes, write_interface, write_packet};
 use std::alloc::Allocator;
 
 /// Whether a packet may be put, or the first check that it fails.
@@ -65,22 +62,8 @@ pub(crate) fn write_heading<O: Output>(
     }
 }
 
-/// Writes the description of a packet's interface where it is new.
-fn describe<O: Output>(output: &mut O, is_new: bool, packet: &Packet<'_>) -> Result<(), DeviceFault>
-    ensures { Appends O.Output output.old (description_text is_new (captured packet.now)) result
-        output.new }
-{
-    if !is_new {
-        return Ok(());
-    }
-    let Ok(()) = write_interface(packet, output) else {
-        return Err(DeviceFault);
-    };
-    Ok(())
-}
-
 /// Writes a packet as a record of a pcap form, the first one behind the file header.
-fn write_record<O: Output>(
+pub(crate) fn write_record<O: Output>(
     output: &mut O,
     format: Format,
     state: SinkState,
@@ -97,7 +80,7 @@ fn write_record<O: Output>(
 
 /// Writes a packet as a block, the first one behind the section header, behind the description of
 /// its interface where that is new.
-fn write_block<O: Output>(
+pub(crate) fn write_block<O: Output>(
     output: &mut O,
     state: SinkState,
     place: Place,
@@ -108,49 +91,13 @@ fn write_block<O: Output>(
         ++ block_text place (captured packet.now)) result output.new }
 {
     write_heading(output, Format::Pcapng, state, packet.link)?;
-    describe(output, place.is_new, packet)?;
-    let Ok(()) = cap_pcapng::write_packet(place.number, packet, output) else {
+    if place.is_new {
+        let Ok(()) = write_interface(packet, output) else {
+            return Err(DeviceFault);
+        };
+    }
+    let Ok(()) = write_packet(place.number, packet, output) else {
         return Err(DeviceFault);
     };
     Ok(())
-}
-
-/// What a sink returns where its device was called.
-fn as_fault(outcome: Result<(), DeviceFault>) -> Result<(), Fault>
-    ensures { result ≡ answer_of outcome }
-{
-    match outcome {
-        Ok(()) => Ok(()),
-        Err(DeviceFault) => Err(Fault::WriteFailed),
-    }
-}
-
-/// Writes a packet that isn't refused, the first one behind the file header. Returns `WriteFailed`
-/// where the device failed; in pcapng `NoMemory`, with nothing written, where a new interface found
-/// none.
-pub(crate) fn write<O: Output, A: Allocator>(
-    output: &mut O,
-    interfaces: &mut OutputInterfaces<A>,
-    format: Format,
-    state: SinkState,
-    packet: &Packet<'_>,
-) -> Result<(), Fault>
-    requires { first_failing (checks_in format state interfaces.old (captured packet.now)) ≡ None }
-    ensures told { IsTrue O.tells → WritesPacket None (heading_in format state packet.now.link
-        ++ packet_in format interfaces.old (captured packet.now)) (O.written output.old) result
-        (O.written output.new) }
-    ensures answer { IsPutAnswer None (takes_memory_in format interfaces.old (captured packet.now))
-        result }
-    ensures interfaces { interfaces.new ≡ interfaces_left result interfaces.old
-        (interfaces_behind format interfaces.old (captured packet.now)) }
-    ensures failures { O.failures output.new ≡ O.failures output.old + write_failures result }
-    ensures room { O.room output.new ≡ O.room output.old }
-{
-    match format {
-        Format::Pcap | Format::NsecPcap => as_fault(write_record(output, format, state, packet)),
-        Format::Pcapng => {
-            let place = interfaces.place(packet)?;
-            as_fault(write_block(output, state, place, packet))
-        }
-    }
 }

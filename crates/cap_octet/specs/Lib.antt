@@ -9,3 +9,4 @@ pub mod Packet
 pub mod Seconds
 pub mod Stream
 pub mod Timestamp
+pub mod Writer

@@ -2,8 +2,8 @@
 ghost use Rattle.std.specs.Prelude.{◌≡◌, ℕ, ◌+◌, ◌^◌, ◌<◌, ◌≤◌, Bool, IsTrue, List, length, IfOk};
 ghost use Rattle.std.specs.Prelude.{IfErr};
 ghost use Rattle.std.specs.List.{flat_map};
-ghost use Rattle.cap_octet.specs.Device.{AppendsOrStops, Reads, Fills, Writes, WritesAll, count_of};
-ghost use Rattle.cap_octet.specs.Device.{failures_of};
+ghost use Rattle.cap_octet.specs.Device.{AppendsOrStops, Reads, Fills, Writes, WritesAll};
+ghost use Rattle.cap_octet.specs.Device.{WritesParts, count_of, failures_of};
 
 /// The device failed in this call.
 #[derive(Clone, Copy, Debug, PartialEq, Eq)]
@@ -124,6 +124,29 @@ pub fn write_all<O: Output>(output: &mut O, buf: &[u8]) -> Result<(), Stopped>
     Ok(())
 }
 
+/// Writes parts one after another. An error is a failure of the device in this call, and reports
+/// how many bytes, fewer than all, were written before it: that number modulo 2^64.
+pub fn write_all_parts<O: Output>(output: &mut O, parts: &[&[u8]]) -> Result<(), Stopped>
+    ensures front { IfErr result (λ stopped.
+        stopped.written < length (flat_map (λ part. part.now) parts.now)) }
+    ensures failed { O.failures output.new ≡ O.failures output.old + failures_of result }
+    ensures room { O.room output.new ≡ O.room output.old }
+    ensures told { IsTrue O.tells
+        → WritesParts (O.written output.old) (flat_map (λ part. part.now) parts.now) result
+        (O.written output.new) }
+{
+    let mut before: usize = 0;
+    for part in parts {
+        if let Err(stopped) = write_all(output, part) {
+            return Err(Stopped {
+                written: before.wrapping_add(stopped.written),
+            });
+        }
+        before = before.wrapping_add(part.len());
+    }
+    Ok(())
+}
+
 /// Writes parts one after another. An error is a failure of the device in this call, after a prefix
 /// of the parts that isn't the whole.
 pub fn write_parts<O: Output>(output: &mut O, parts: &[&[u8]]) -> Result<(), DeviceFault>
@@ -133,10 +156,8 @@ pub fn write_parts<O: Output>(output: &mut O, parts: &[&[u8]]) -> Result<(), Dev
     ensures failed { O.failures output.new ≡ O.failures output.old + failures_of result }
     ensures room { O.room output.new ≡ O.room output.old }
 {
-    for part in parts {
-        let Ok(()) = write_all(output, part) else {
-            return Err(DeviceFault);
-        };
-    }
+    let Ok(()) = write_all_parts(output, parts) else {
+        return Err(DeviceFault);
+    };
     Ok(())
 }

@@ -19,7 +19,9 @@ pub mod timestamp;
 pub mod trial;
 
 pub use date::date_bytes;
-pub use device::{DeviceFault, Input, Output, Stopped, read_full, write_all, write_parts};
+pub use device::{
+    DeviceFault, Input, Output, Stopped, read_full, write_all, write_all_parts, write_parts,
+};
 pub use fault::Fault;
 pub use format::Format;
 pub use memory::{MemInput, MemOutput};

@@ -7,4 +7,3 @@ pub mod Units
 pub mod WholeBlocks
 pub mod WrittenBack
 pub mod WrittenBlocks
-pub mod WrittenPieces

@@ -1,9 +1,8 @@
 //! Blocks as they are written, all of them little-endian.
-ghost use Rattle.std.specs.Prelude.{◌≡◌, ◌+◌, ◌<◌, ◌^◌, ◌++◌, length, replicate, IsTrue, IfErr, None};
-ghost use Rattle.std.specs.List.{flat_map};
+ghost use Rattle.std.specs.Prelude.{◌≡◌, ◌+◌, ◌<◌, ◌^◌, ◌++◌, length, replicate, None};
 ghost use Rattle.byteorder.specs.Endian.{little_bytes};
 ghost use Rattle.cap_octet.specs.Checks.{checked, first_failing};
-ghost use Rattle.cap_octet.specs.Device.{WritesAll, failures_of};
+ghost use Rattle.cap_octet.specs.Writer.{WritesExactly};
 ghost use Rattle.cap_octet.specs.Packet.{captured};
 ghost use Rattle.cap_pcapng.specs.Padding.{padded};
 ghost use Rattle.cap_pcapng.specs.Written.{comment_text, end_text, fit_checks, interface_heading};
@@ -13,7 +12,7 @@ ghost use Rattle.cap_pcapng.specs.Written.{resolution_text, section_text};
 use crate::frames::MOST_BLOCK;
 use crate::options::padded_length;
 use byteorder::{ByteOrder, LittleEndian};
-use cap_octet::{Fault, Output, Packet, Stopped, write_all};
+use cap_octet::{Fault, Output, Packet, Stopped, write_all_parts};
 
 /// How many bytes a comment takes in its block: its option, and the end of the options.
 fn comment_size(comment: &[u8]) -> u64
@@ -48,29 +47,6 @@ pub fn section_bytes() -> [u8; 28]
     LittleEndian::write_u16(&mut bytes[14..], 0);
     LittleEndian::write_u32(&mut bytes[24..], 28);
     bytes
-}
-
-/// Writes pieces one after another. An error is a failure of the device in this call, and reports
-/// how many bytes, fewer than all, were written before it.
-fn write_pieces<O: Output>(output: &mut O, pieces: &[&[u8]]) -> Result<(), Stopped>
-    requires { length (flat_map (λ piece. piece.now) pieces.now) < 2 ^ 64 }
-    ensures front { IfErr result (λ stopped.
-        stopped.written < length (flat_map (λ piece. piece.now) pieces.now)) }
-    ensures failed { O.failures output.new ≡ O.failures output.old + failures_of result }
-    ensures room { O.room output.new ≡ O.room output.old }
-    ensures told { IsTrue O.tells → WritesAll (O.written output.old)
-        (flat_map (λ piece. piece.now) pieces.now) result (O.written output.new) }
-{
-    let mut before = 0;
-    for piece in pieces {
-        if let Err(stopped) = write_all(output, piece) {
-            return Err(Stopped {
-                written: before + stopped.written,
-            });
-        }
-        before += piece.len();
-    }
-    Ok(())
 }
 
 /// How many zeros stand behind so many bytes.
@@ -127,28 +103,25 @@ pub fn write_packet<O: Output>(
     output: &mut O,
 ) -> Result<(), Stopped>
     requires { first_failing (fit_checks (captured packet.now)) ≡ None }
-    ensures front { IfErr result (λ stopped.
-        stopped.written < length (packet_text number (captured packet.now))) }
-    ensures failed { O.failures output.new ≡ O.failures output.old + failures_of result }
-    ensures room { O.room output.new ≡ O.room output.old }
-    ensures told { IsTrue O.tells → WritesAll (O.written output.old)
-        (packet_text number (captured packet.now)) result (O.written output.new) }
+    ensures { WritesExactly O.Output output.old (packet_text number (captured packet.now)) result
+        output.new }
 {
-    let comment = packet.comment;
     let padding = padding_behind(packet.bytes.len());
+    if packet.comment.is_empty() {
+        let size = (32 + packet.bytes.len() + padding) as u32;
+        let head = packet_head(size, number, packet);
+        let end = packet_end(size);
+        return write_all_parts(output, &[&head, packet.bytes, &end[7 - padding..]]);
+    }
+    let comment = packet.comment;
     let option = option_head(1, comment);
-    let (option, zeros) = if comment.is_empty() {
-        (&option[7..], padding)
-    } else {
-        (&option[3 - padding..], padding_behind(comment.len()) + 4)
-    };
+    let option = &option[3 - padding..];
+    let zeros = padding_behind(comment.len()) + 4;
     let size = (32 + packet.bytes.len() + option.len() + comment.len() + zeros) as u32;
     let head = packet_head(size, number, packet);
     let end = packet_end(size);
-    write_pieces(
-        output,
-        &[&head, packet.bytes, option, comment, &end[7 - zeros..]],
-    )
+    let parts = [&head[..], packet.bytes, option, comment, &end[7 - zeros..]];
+    write_all_parts(output, &parts)
 }
 
 /// An interface block's type, total length, link type and snap length.
@@ -180,13 +153,8 @@ fn interface_end(size: u32) -> [u8; 19]
 /// isn't empty; the ticks are nanoseconds. An error is a failure of the device in this call, and
 /// reports how many bytes of the block, fewer than all, were written before it.
 pub fn write_interface<O: Output>(packet: &Packet<'_>, output: &mut O) -> Result<(), Stopped>
-    ensures front { IfErr result (λ stopped. stopped.written
-        < length (interface_text packet.now.link packet.now.snap packet.now.name.now)) }
-    ensures failed { O.failures output.new ≡ O.failures output.old + failures_of result }
-    ensures room { O.room output.new ≡ O.room output.old }
-    ensures told { IsTrue O.tells → WritesAll (O.written output.old)
-        (interface_text packet.now.link packet.now.snap packet.now.name.now) result
-        (O.written output.new) }
+    ensures { WritesExactly O.Output output.old
+        (interface_text packet.now.link packet.now.snap packet.now.name.now) result output.new }
 {
     let name = packet.name;
     let padding = padding_behind(name.len());
@@ -199,5 +167,5 @@ pub fn write_interface<O: Output>(packet: &Packet<'_>, output: &mut O) -> Result
     let size = (32 + option.len() + name.len() + padding) as u32;
     let head = interface_head(size, packet);
     let end = interface_end(size);
-    write_pieces(output, &[&head, option, name, &end[3 - padding..]])
+    write_all_parts(output, &[&head, option, name, &end[3 - padding..]])
 }

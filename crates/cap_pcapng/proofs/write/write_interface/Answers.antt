@@ -1,13 +1,13 @@
-use Rattle.std.proofs.Common.{◌≡◌, [], ◌++◌, ◌-◌, ◌<◌, List, ℕ, length, take, drop, replicate, IfErr, subst, sym, ◌∙◌}
-use Rattle.cap_octet.specs.Device.{WritesAll}
-use Rattle.cap_octet.specs.declared.device.Stopped.{Stopped}
+use Rattle.std.proofs.Common.{◌<◌, length, ◌^◌, ◌≡◌, [], ◌++◌, ◌-◌, List, ℕ, take, drop, replicate, subst, sym, ◌∙◌, arith}
+use Rattle.cap_octet.proofs.Writing.{parts-exactly}
+use Rattle.cap_octet.specs.Writer.{WritesExactly}
 use Rattle.cap_pcapng.specs.Written.{interface_text, name_text}
-use Rattle.cap_pcapng.proofs.WrittenBlocks.{interface_joined, named, unnamed}
+use Rattle.cap_pcapng.proofs.WrittenBlocks.{few-interface_text, interface_joined, named, unnamed}
 use Rattle.cap_pcapng.proofs.write.write_interface.Given.{Over}
 use Rattle.cap_pcapng.proofs.write.write_interface.Goals.{then-is_empty, else-is_empty}
 use Rattle.cap_pcapng.proofs.write.write_interface.Goals as goal
 
-joined : (g : Over) (c : goal.After-write_pieces g) → c.interface_head-head.result
+joined : (g : Over) (c : goal.After-write_all_parts g) → c.interface_head-head.result
     ++ (c.if-is_empty.option.now ++ (c.args.packet.now.name.now ++ (take (19 - (3 - c.padding_behind-padding.result)) (drop (3 - c.padding_behind-padding.result) c.interface_end-end.result) ++ [])))
     ≡ interface_text c.args.packet.now.link c.args.packet.now.snap c.args.packet.now.name.now
 joined g c =
@@ -20,12 +20,9 @@ joined g c =
     interface_joined c.args.packet.now.link c.args.packet.now.snap c.padding_behind-padding.result name c.interface_head-head.result c.if-is_empty.option.now c.interface_end-end.result
     padding.few name_is c.interface_head-head.ensures c.interface_end-end.ensures
 
-pub returns-clause-front : goal.returns-clause-front
-returns-clause-front g c =
-    let P : List ℕ → Type 0 = λ text. IfErr c.write_pieces.result (λ (stopped : Stopped). stopped.written < length text) in
-    subst P (joined g c) c.write_pieces.ensures.front
-
-pub returns-clause-told : goal.returns-clause-told
-returns-clause-told g c = λ tells.
-    let P : List ℕ → Type 0 = λ text. WritesAll (g.O.Output.written c.args.output.now) text c.write_pieces.result (g.O.Output.written c.write_pieces.new.output) in
-    subst P (joined g c) (c.write_pieces.ensures.told tells)
+pub returns : goal.returns
+returns g c =
+    let P : List ℕ → Type 0 = λ text. length text < 2 ^ 64 → WritesExactly g.O.Output c.args.output.now text c.write_all_parts.result c.write_all_parts.new.output in
+    subst P (joined g c)
+    (parts-exactly g.O.Output _ _ _ c.write_all_parts.result c.write_all_parts.ensures.front c.write_all_parts.ensures.failed c.write_all_parts.ensures.room c.write_all_parts.ensures.told)
+    (few-interface_text c.args.packet.now.link c.args.packet.now.snap c.args.packet.now.name.now (omega arith))

@@ -1,36 +1,25 @@
-use Rattle.std.proofs.Common.{◌≡◌, [], ◌++◌, ◌-◌, ◌<◌, ◌≤◌, List, ℕ, length, take, drop, replicate, IfErr, subst, sym, ◌∙◌, arith}
-use Rattle.cap_octet.specs.Device.{WritesAll}
+use Rattle.std.proofs.Common.{◌+◌, ◌<◌, ◌^◌, List, ℕ, length, subst, sym, ◌∙◌, arith}
+use Rattle.cap_octet.proofs.Writing.{parts-exactly}
+use Rattle.cap_octet.specs.Writer.{WritesExactly}
 use Rattle.cap_octet.specs.Packet.{Captured, captured}
-use Rattle.cap_octet.specs.declared.device.Stopped.{Stopped}
-use Rattle.cap_pcapng.specs.Padding.{padded}
-use Rattle.cap_pcapng.specs.Written.{comment_text, packet_text}
-use Rattle.cap_pcapng.proofs.WrittenBlocks.{packet_joined, plain_behind, comment_behind}
-use Rattle.cap_pcapng.proofs.write.write_packet.Given.{Over}
-use Rattle.cap_pcapng.proofs.write.write_packet.Goals.{then-is_empty, else-is_empty}
+use Rattle.cap_pcapng.proofs.WrittenBlocks.{few-packet_text, packet_joined, plain_joined, comment_behind}
 use Rattle.cap_pcapng.proofs.write.write_packet.Goals as goal
 
-joined : (g : Over) (c : goal.After-write_pieces g) → c.packet_head-head.result
-    ++ (c.args.packet.now.bytes.now ++ (c.if-is_empty.zeros.0.now ++ (c.args.packet.now.comment.now ++ (take (11 - (7 - c.if-is_empty.zeros.1)) (drop (7 - c.if-is_empty.zeros.1) c.packet_end-end.result) ++ []))))
-    ≡ packet_text c.args.number (captured c.args.packet.now)
-joined g c =
+pub returns-then-is_empty : goal.returns-then-is_empty
+returns-then-is_empty g c =
     let p : Captured = captured c.args.packet.now in
     let padding = c.padding_behind-padding.ensures in
-    let few : c.if-is_empty.zeros.1 ≤ 7 = elim c.if-is_empty.branch [
-      | then-is_empty w ↦ rw w.zeros-is (omega (arith, padding.few))
-      | else-is_empty w ↦ rw w.zeros-is (omega (arith, w.padding_behind.ensures.few))
-    ] in
-    let behind : c.if-is_empty.zeros.0.now ++ (p.comment ++ replicate c.if-is_empty.zeros.1 0) ≡ replicate (padded (length p.bytes) - length p.bytes) 0 ++ comment_text p.comment = elim c.if-is_empty.branch [
-      | then-is_empty w ↦ rw w.zeros-is (plain_behind _ p.bytes p.comment (sym c.is_empty.ensures ∙ w.if-is_empty.true) padding.padded)
-      | else-is_empty w ↦ rw w.zeros-is (comment_behind _ _ p.bytes p.comment _ (sym c.is_empty.ensures ∙ w.if-is_empty.false) padding.few padding.padded w.padding_behind.ensures.padded c.option_head-option.ensures)
-    ] in
-    packet_joined c.args.number c.if-is_empty.zeros.1 p c.packet_head-head.result c.if-is_empty.zeros.0.now c.packet_end-end.result few behind c.packet_head-head.ensures c.packet_end-end.ensures
+    let P : List ℕ → Type 0 = λ text. length text < 2 ^ 64 → WritesExactly g.O.Output c.args.output.now text c.write_all_parts.result c.write_all_parts.new.output in
+    subst P (plain_joined c.args.number _ p _ _ (sym c.is_empty.ensures ∙ c.if-is_empty.true) padding.few padding.padded c.packet_head-head.ensures c.packet_end-end.ensures)
+    (parts-exactly g.O.Output _ _ _ c.write_all_parts.result c.write_all_parts.ensures.front c.write_all_parts.ensures.failed c.write_all_parts.ensures.room c.write_all_parts.ensures.told)
+    (few-packet_text c.args.number p c.requires)
 
-pub returns-clause-front : goal.returns-clause-front
-returns-clause-front g c =
-    let P : List ℕ → Type 0 = λ text. IfErr c.write_pieces.result (λ (stopped : Stopped). stopped.written < length text) in
-    subst P (joined g c) c.write_pieces.ensures.front
-
-pub returns-clause-told : goal.returns-clause-told
-returns-clause-told g c = λ tells.
-    let P : List ℕ → Type 0 = λ text. WritesAll (g.O.Output.written c.args.output.now) text c.write_pieces.result (g.O.Output.written c.write_pieces.new.output) in
-    subst P (joined g c) (c.write_pieces.ensures.told tells)
+pub returns : goal.returns
+returns g c =
+    let p : Captured = captured c.args.packet.now in
+    let padding = c.padding_behind-padding.ensures in
+    let behind = comment_behind _ _ p.bytes p.comment _ (sym c.is_empty.ensures ∙ c.if-is_empty.false) padding.few padding.padded c.padding_behind-zeros.ensures.padded c.option_head-option.ensures in
+    let P : List ℕ → Type 0 = λ text. length text < 2 ^ 64 → WritesExactly g.O.Output c.args.output.now text c.write_all_parts-2.result c.write_all_parts-2.new.output in
+    subst P (packet_joined c.args.number (c.padding_behind-zeros.result + 4) p _ _ _ (omega (arith, c.padding_behind-zeros.ensures.few)) behind c.packet_head-head-2.ensures c.packet_end-end-2.ensures)
+    (parts-exactly g.O.Output _ _ _ c.write_all_parts-2.result c.write_all_parts-2.ensures.front c.write_all_parts-2.ensures.failed c.write_all_parts-2.ensures.room c.write_all_parts-2.ensures.told)
+    (few-packet_text c.args.number p c.requires)

@@ -1,0 +1,18 @@
+use Rattle.std.proofs.Common.{[], ℕ, List, arith}
+use Rattle.std.specs.Borrow.{Bor}
+use Rattle.std.proofs.lemmas.List.Folds.{length-flat_map-take}
+use Rattle.cap_octet.proofs.Writing.{parts-stop}
+use Rattle.cap_octet.proofs.device.write_all_parts.Goals as goal
+
+abbrev none : Bor (List ℕ)
+none = record { ref_ptr = (0, 0); now = [] }
+
+pub returns-in-Err-clause-front : goal.returns-in-Err-clause-front
+returns-in-Err-clause-front g c =
+    let within = length-flat_map-take (λ (part : Bor (List ℕ)). part.now) c.args.parts.now c.loop-part.part-index none c.loop-part-test.true in
+    omega (arith, within, c.in-Err.ensures.front, c.loop-part.invariant.before)
+
+pub returns-in-Err-clause-told : goal.returns-in-Err-clause-told
+returns-in-Err-clause-told g c = λ tells.
+    parts-stop (λ (part : Bor (List ℕ)). part.now) c.args.parts.now c.loop-part.part-index none _ _ _ _ c.in-Err.stopped c.loop-part-test.true
+    c.loop-part.invariant.before (c.loop-part.invariant.told tells) c.in-Err.ensures.front (c.in-Err.ensures.told tells)
