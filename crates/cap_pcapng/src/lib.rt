@@ -4,16 +4,16 @@
 //! Nothing here takes memory but `Table::push`.
 #![tactic(auto)]
 
-pub mod blocks;
-pub mod clock;
-pub mod frames;
-pub mod interface;
+mod blocks;
+mod clock;
+mod frames;
+mod interface;
 pub mod laws;
-pub mod name;
-pub mod options;
-pub mod read;
-pub mod table;
-pub mod write;
+mod name;
+mod options;
+mod read;
+mod table;
+mod write;
 
 pub use blocks::{Block, EnhancedBlock, InterfaceBlock, SimpleBlock};
 pub use clock::Clock;
