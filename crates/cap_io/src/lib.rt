@@ -6,8 +6,8 @@ mod capture;
 pub mod laws;
 mod numbering;
 mod reading;
-pub mod sink;
-pub mod source;
+mod sink;
+mod source;
 mod unit;
 mod writing;
 

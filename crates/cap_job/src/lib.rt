@@ -1,16 +1,16 @@
 //! Jobs: one machine for all commands.
 #![tactic(auto)]
 
-pub mod drain;
-pub mod feed;
-pub mod job;
-pub mod judge;
-pub mod machine;
-pub mod packets;
-pub mod queue;
-pub mod report;
-pub mod select;
-pub mod tally;
+mod drain;
+mod feed;
+mod job;
+mod judge;
+mod machine;
+mod packets;
+mod queue;
+mod report;
+mod select;
+mod tally;
 
 pub use job::{Job, run};
 pub use packets::Turn;

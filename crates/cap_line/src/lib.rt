@@ -7,13 +7,13 @@ mod edit_line;
 mod examples;
 mod files;
 mod infos_line;
-pub mod line;
+mod line;
 mod merge_line;
-pub mod names;
+mod names;
 mod options;
 mod print_line;
 mod range;
-pub mod usage;
+mod usage;
 mod values;
 
 pub use line::{Line, command_of, with_code};

@@ -3,20 +3,20 @@
 //! Nothing here takes memory.
 #![tactic(auto)]
 
-pub mod calendar;
+mod calendar;
 pub mod date;
-pub mod device;
-pub mod failures;
-pub mod fault;
-pub mod format;
+mod device;
+mod failures;
+mod fault;
+mod format;
 pub mod laws;
-pub mod memory;
-pub mod number;
-pub mod packet;
-pub mod seconds;
-pub mod stream;
-pub mod timestamp;
-pub mod trial;
+mod memory;
+mod number;
+mod packet;
+mod seconds;
+mod stream;
+mod timestamp;
+mod trial;
 
 pub use date::date_bytes;
 pub use device::{

@@ -4,15 +4,15 @@
 //! Nothing here takes memory but `Table::push`.
 #![tactic(auto)]
 
-pub mod blocks;
-pub mod clock;
-pub mod frames;
-pub mod interface;
+mod blocks;
+mod clock;
+mod frames;
+mod interface;
 pub mod laws;
-pub mod options;
-pub mod read;
-pub mod table;
-pub mod write;
+mod options;
+mod read;
+mod table;
+mod write;
 
 pub use blocks::{Block, EnhancedBlock, InterfaceBlock, SimpleBlock};
 pub use clock::Clock;

@@ -3,8 +3,8 @@
 
 pub mod command;
 pub mod compile;
-pub mod compiled;
-pub mod expression;
+mod compiled;
+mod expression;
 pub mod filter;
 pub mod message;
 pub mod refusal;

@@ -7,14 +7,14 @@
 //! as many instructions as the program has.
 #![tactic(auto)]
 
-pub mod fault;
+mod fault;
 pub mod insn;
 pub mod laws;
-pub mod machine;
+mod machine;
 pub mod operation;
 pub mod program;
-pub mod reading;
-pub mod writing;
+mod reading;
+mod writing;
 
 pub use fault::{CheckFault, ListingFault};
 pub use insn::Insn;
