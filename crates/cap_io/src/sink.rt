@@ -83,11 +83,10 @@ impl<O: Output, A: Allocator> Sink<O, A> {
         }
         let result = self.add(packet);
         self.interfaces.bounds();
-        let Err(fault) = result else {
-            return Ok(());
-        };
-        self.state = SinkState::Broken(fault);
-        Err(fault)
+        if let Err(fault) = result {
+            self.state = SinkState::Broken(fault);
+        }
+        result
     }
 
     /// Writes the header where nothing was put, with the link type `first`, or 1 where there is none;
