@@ -1,5 +1,5 @@
 -- Parts that are written one after another, and what a sink adds by them.
-use Rattle.std.proofs.Common.{◌≡◌, ◌⊎◌, inl, inr, ℕ, ◌+◌, ◌<◌, Bool, true, false, not, if◌then◌else◌, List, [], ◌∷◌, ◌++◌, length, take, Option, Some, None, Result, Ok, Err, refl, sym, ap, ap₂, subst, ◌∙◌, arith, length-append}
+use Rattle.std.proofs.Common.{◌≡◌, ◌⊎◌, inl, inr, ℕ, ◌+◌, ◌<◌, Bool, true, false, not, if◌then◌else◌, List, [], ◌∷◌, ◌++◌, length, take, Option, Some, None, Result, is_ok, Ok, Err, refl, sym, ap, ap₂, subst, ◌∙◌, arith, length-append}
 use Rattle.std.proofs.Math.Seq.{take-append-add}
 use Rattle.std.proofs.lemmas.List.{append_assoc, append-nil, take-append-le}
 use Rattle.cap_octet.specs.Checks.{checked}
@@ -13,13 +13,13 @@ use Rattle.cap_octet.specs.declared.fault.Fault.{Fault}
 use Rattle.cap_octet.specs.declared.fault.Fault.TheVariants.{WriteFailed}
 use Rattle.cap_octet.specs.declared.format.Format.{Format}
 use Rattle.cap_octet.specs.declared.format.Format.TheVariants.{Pcap, NsecPcap, Pcapng}
-use Rattle.cap_pcap.specs.Written.{IsPcap, resolution_of}
+use Rattle.cap_pcap.specs.Written.{IsPcap, heading as pcap_heading, resolution_of}
 use Rattle.cap_pcapng.specs.Written.{interface_text, packet_text as pcapng_packet}
 use Rattle.cap_io.specs.declared.numbering.Place.{Place}
 use Rattle.cap_io.specs.declared.sink.SinkState.{SinkState}
 use Rattle.cap_io.specs.Numbering.{HasPlace}
 use Rattle.cap_io.specs.Sink.{Appends, WritesPacket, block_text, description_text, heading_in, packet_in}
-use Rattle.cap_io.specs.Text.{Interface, interface_of, is_among, number_among, descriptions, record_text}
+use Rattle.cap_io.specs.Text.{Interface, interface_of, is_among, number_among, descriptions, heading, record_text}
 
 pub appends-as : {E : Type 0} (r : Result (Unit {0}) E) (written bytes bytes' written' : List ℕ) → bytes ≡ bytes' → AppendsOrStops r written bytes written' → AppendsOrStops r written bytes' written'
 appends-as r written bytes bytes' written' same appends = let P : List ℕ → Type 0 = λ b. AppendsOrStops r written b written' in subst P same appends
@@ -51,15 +51,17 @@ appends-behind (Err fault) written done part mid written' first stops = stops-be
 
 -- ---- what a device did
 
-pub appends-exactly : {Device : Type 0} (d : Ghosts Device) (old new : Device) (bytes : List ℕ) → WritesExactly d old bytes (Ok tt) new → Appends d old bytes (Ok tt) new
-appends-exactly d old new bytes writes = record { told = writes.told; failed = writes.failed; room = writes.room }
-
-pub stops-exactly : {Device : Type 0} (d : Ghosts Device) (old new : Device) (bytes : List ℕ) (stopped : Stopped) (fault : DeviceFault) → WritesExactly d old bytes (Err stopped) new → Appends d old bytes (Err fault) new
-stops-exactly d old new bytes stopped fault writes = record {
+-- by an error that doesn't report where it stopped
+pub appends-exactly : {Device : Type 0} (d : Ghosts Device) (old new : Device) (bytes : List ℕ) (r : Result (Unit {0}) Stopped) (r' : Result (Unit {0}) DeviceFault)
+    → is_ok r' ≡ is_ok r → WritesExactly d old bytes r new → Appends d old bytes r' new
+appends-exactly d old new bytes (Ok done) (Ok done') same writes = record { told = writes.told; failed = writes.failed; room = writes.room }
+appends-exactly d old new bytes (Err stopped) (Err fault) same writes = record {
   told = λ tells. (stopped.written, writes.front, writes.told tells);
   failed = writes.failed;
   room = writes.room;
 }
+appends-exactly d old new bytes (Ok done) (Err fault) same writes = absurd (cc)
+appends-exactly d old new bytes (Err stopped) (Ok done) same writes = absurd (cc)
 
 pub appends-nothing : {Device : Type 0} (d : Ghosts Device) (old : Device) → Appends d old [] (Ok tt) old
 appends-nothing d old = record { told = λ tells. sym (append-nil (d.written old)); failed = omega arith; room = refl }
@@ -84,6 +86,11 @@ pub is-pcap : (format : Format) → (format ≡ Pcap) ⊎ (format ≡ NsecPcap) 
 is-pcap Pcap is = tt
 is-pcap NsecPcap is = tt
 is-pcap Pcapng is = elim is [ inl e ↦ absurd (cc) | inr e ↦ absurd (cc) ]
+
+pub pcap-heading : (format : Format) (link : ℕ) → IsPcap format → pcap_heading (resolution_of format) link ≡ heading format link
+pcap-heading Pcap link is = refl
+pcap-heading NsecPcap link is = refl
+pcap-heading Pcapng link is = absurd is
 
 pub packet-record : (format : Format) (interfaces : List Interface) (p : Captured) → IsPcap format → record_text (resolution_of format) p ≡ packet_in format interfaces p
 packet-record Pcap interfaces p is = refl

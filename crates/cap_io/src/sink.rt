@@ -1,5 +1,5 @@
 //! Packets to a capture, one at a time.
-ghost use Rattle.std.specs.Prelude.{◌≡◌};
+ghost use Rattle.std.specs.Prelude.{◌≡◌, IsTrue};
 
 use crate::numbering::OutputInterfaces;
 use crate::writing::{check, write_block, write_heading, write_record};
@@ -62,17 +62,14 @@ impl<O: Output, A: Allocator + Copy> Sink<O, A> {
 }
 
 impl<O: Output, A: Allocator> Sink<O, A> {
-    ghost use Rattle.std.specs.Prelude.{IsTrue};
     ghost use Rattle.cap_octet.specs.Packet.{captured};
     ghost use Rattle.cap_io.specs.Text.{AreFew};
     ghost use Rattle.cap_io.specs.Sink.{Adds, Puts, PutWrites, WritesPacket, Finishes};
     ghost use Rattle.cap_io.specs.Sink.{FinishWrites, added_in, refusal_in};
 
-    /// Writes a packet, the first one behind the file header or section header; in pcapng behind
-    /// the description of its interface where that is new. Nothing of a packet that is refused is
-    /// written: by `LinkTypesDiffer` (pcap forms), `TooLong`, `TimeOutOfRange` (pcap forms) or
-    /// `TooManyOutputInterfaces` (pcapng), the first of them, or by `NoMemory` for a new interface.
-    /// `WriteFailed` comes where the device failed, after a beginning of what the packet adds.
+    /// Writes a packet, behind a header and the description of its interface where these are new, or
+    /// nothing of it where it is refused (`LinkTypesDiffer`, `TooLong`, `TimeOutOfRange`,
+    /// `TooManyOutputInterfaces`, `NoMemory`); `WriteFailed` comes after a beginning of what it adds.
     /// After a fault it returns that again, and writes nothing.
     pub fn put(&mut self, packet: &Packet<'_>) -> Result<(), Fault>
         ensures told { IsTrue O.tells → PutWrites self.old.state self.old (captured packet.now)
@@ -86,17 +83,14 @@ impl<O: Output, A: Allocator> Sink<O, A> {
         }
         let result = self.add(packet);
         self.interfaces.bounds();
-        let Err(fault) = result else {
-            return Ok(());
-        };
-        self.state = SinkState::Broken(fault);
-        Err(fault)
+        if let Err(fault) = result {
+            self.state = SinkState::Broken(fault);
+        }
+        result
     }
 
-    /// Writes the file header or section header where nothing was put, with the link type `first`,
-    /// or 1 where there is none. `WriteFailed` comes where the device failed, after a beginning of
-    /// it. After a fault it returns that again. It takes no memory, and nothing but `into_output`
-    /// is of use behind it.
+    /// Writes the header where nothing was put, with the link type `first`, or 1 where there is none;
+    /// `WriteFailed` comes after a beginning of it. After a fault it returns that again.
     pub fn finish(&mut self, first: Option<u16>) -> Result<(), Fault>
         ensures told { IsTrue O.tells → FinishWrites self.old.state self.old first result self.new }
         ensures answer { Finishes self.old.state self.old first result self.new }
@@ -122,12 +116,7 @@ impl<O: Output, A: Allocator> Sink<O, A> {
         ensures failures { O.failures result ≡ self.failures }
         ensures room { O.room result ≡ self.room }
     {
-        let Sink {
-            output,
-            format: _,
-            state: _,
-            interfaces: _,
-        } = self;
+        let Sink { output, .. } = self;
         output
     }
 

@@ -55,8 +55,7 @@ pub(crate) fn write_heading<O: Output>(
     match state {
         SinkState::Started(_) | SinkState::Broken(_) => Ok(()),
         SinkState::Empty => match format {
-            Format::Pcap => write_parts(output, &[&head_bytes(Format::Pcap, link)]),
-            Format::NsecPcap => write_parts(output, &[&head_bytes(Format::NsecPcap, link)]),
+            Format::Pcap | Format::NsecPcap => write_parts(output, &[&head_bytes(format, link)]),
             Format::Pcapng => write_parts(output, &[&section_bytes()]),
         },
     }
@@ -92,12 +91,7 @@ pub(crate) fn write_block<O: Output>(
 {
     write_heading(output, Format::Pcapng, state, packet.link)?;
     if place.is_new {
-        let Ok(()) = write_interface(packet, output) else {
-            return Err(DeviceFault);
-        };
+        write_interface(packet, output).map_err(|_| DeviceFault)?;
     }
-    let Ok(()) = write_packet(place.number, packet, output) else {
-        return Err(DeviceFault);
-    };
-    Ok(())
+    write_packet(place.number, packet, output).map_err(|_| DeviceFault)
 }

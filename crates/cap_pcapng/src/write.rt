@@ -93,10 +93,8 @@ fn packet_end(size: u32) -> [u8; 11]
     bytes
 }
 
-/// Writes the enhanced packet block of a packet whose interface has this number, with its comment
-/// only where it isn't empty. Its caller knows by `fits` that the block isn't too long. An error is
-/// a failure of the device in this call, and reports how many bytes of the block, fewer than all,
-/// were written before it.
+/// Writes a packet that `fits`, whose interface has this number, as an enhanced packet block, or
+/// reports how many bytes of it, fewer than all, were written before the device failed.
 pub fn write_packet<O: Output>(
     number: u32,
     packet: &Packet<'_>,
@@ -149,9 +147,8 @@ fn interface_end(size: u32) -> [u8; 19]
     bytes
 }
 
-/// Writes the interface description block of a packet's interface, with its name only where it
-/// isn't empty; the ticks are nanoseconds. An error is a failure of the device in this call, and
-/// reports how many bytes of the block, fewer than all, were written before it.
+/// Writes the description of a packet's interface, in ticks of nanoseconds, or reports how many
+/// bytes of it, fewer than all, were written before the device failed.
 pub fn write_interface<O: Output>(packet: &Packet<'_>, output: &mut O) -> Result<(), Stopped>
     ensures { WritesExactly O.Output output.old
         (interface_text packet.now.link packet.now.snap packet.now.name.now) result output.new }
@@ -159,11 +156,8 @@ pub fn write_interface<O: Output>(packet: &Packet<'_>, output: &mut O) -> Result
     let name = packet.name;
     let padding = padding_behind(name.len());
     let option = option_head(2, name);
-    let option = if name.is_empty() {
-        &option[7..]
-    } else {
-        &option[3..]
-    };
+    let start = if name.is_empty() { 7 } else { 3 };
+    let option = &option[start..];
     let size = (32 + option.len() + name.len() + padding) as u32;
     let head = interface_head(size, packet);
     let end = interface_end(size);

@@ -1,9 +1,8 @@
-use Rattle.std.proofs.Common.{rules, ◌≡◌, ℕ, List, [], ◌++◌, sym, ap₂, ◌∙◌}
+use Rattle.std.proofs.Common.{rules, ◌≡◌, ℕ, List, [], ◌++◌, sym, ap, ◌∙◌}
 use Rattle.std.proofs.lemmas.List.{append-nil}
-use Rattle.cap_octet.specs.declared.format.Format.{Format}
 use Rattle.cap_io.specs.declared.sink.SinkState.{SinkState}
 use Rattle.cap_io.specs.Sink.{heading_in}
-use Rattle.cap_io.proofs.Parts.{appends-as}
+use Rattle.cap_io.proofs.Parts.{appends-as, is-pcap, pcap-heading}
 use Rattle.cap_io.proofs.writing.write_heading.Goals as goal
 
 pub returns-in-Pcap : goal.returns-in-Pcap
@@ -11,19 +10,8 @@ returns-in-Pcap g c = record {
   told = λ tells.
       let bytes : List ℕ = c.head_bytes.result in
       let same : bytes ++ [] ≡ heading_in c.args.format c.args.state c.args.link =
-      append-nil bytes ∙ c.head_bytes.ensures ∙ ap₂ (λ (f : Format) (s : SinkState). heading_in f s c.args.link) (sym c.in-Pcap.is) (sym c.in-Empty.is) in
+      append-nil bytes ∙ c.head_bytes.ensures ∙ pcap-heading c.args.format c.args.link (is-pcap c.args.format c.in-Pcap.is) ∙ ap (λ (s : SinkState). heading_in c.args.format s c.args.link) (sym c.in-Empty.is) in
       appends-as c.write_parts.result _ _ _ _ same (c.write_parts.ensures.told tells);
-  failed = search rules;
-  room = search rules;
-}
-
-pub returns-in-NsecPcap : goal.returns-in-NsecPcap
-returns-in-NsecPcap g c = record {
-  told = λ tells.
-      let bytes : List ℕ = c.head_bytes-in-NsecPcap.result in
-      let same : bytes ++ [] ≡ heading_in c.args.format c.args.state c.args.link =
-      append-nil bytes ∙ c.head_bytes-in-NsecPcap.ensures ∙ ap₂ (λ (f : Format) (s : SinkState). heading_in f s c.args.link) (sym c.in-NsecPcap.is) (sym c.in-Empty.is) in
-      appends-as c.write_parts-in-NsecPcap.result _ _ _ _ same (c.write_parts-in-NsecPcap.ensures.told tells);
   failed = search rules;
   room = search rules;
 }
