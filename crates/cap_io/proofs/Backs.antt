@@ -4,7 +4,7 @@ use Rattle.std.proofs.lemmas.List.{append_assoc, append-nil, map-append}
 use Rattle.std.specs.List.{AllByRecursion}
 use Rattle.cap_octet.specs.Packet.{Captured}
 use Rattle.cap_io.specs.Capture.{Declared, Nothing, IsUnit, Placed, placed_at, AreUnits, no_unit, unit_then, Stops, front_of, Items, End, items, after_packets}
-use Rattle.cap_io.specs.Carried.{ReadsBack}
+use Rattle.cap_io.specs.RoundTrip.{ReadsBack}
 use Rattle.cap_io.proofs.Items.{items_from-units, items_from-stops}
 
 -- what is declared, from a place on

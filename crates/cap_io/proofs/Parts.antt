@@ -13,8 +13,8 @@ use Rattle.cap_octet.specs.declared.fault.Fault.{Fault}
 use Rattle.cap_octet.specs.declared.fault.Fault.TheVariants.{WriteFailed}
 use Rattle.cap_octet.specs.declared.format.Format.{Format}
 use Rattle.cap_octet.specs.declared.format.Format.TheVariants.{Pcap, NsecPcap, Pcapng}
-use Rattle.cap_pcap.specs.Written.{IsPcap, heading as pcap_heading, resolution_of}
-use Rattle.cap_pcapng.specs.Written.{interface_text, packet_text as pcapng_packet}
+use Rattle.cap_pcap.specs.Encoding.{IsPcap, heading as pcap_heading, resolution_of}
+use Rattle.cap_pcapng.specs.Encoding.{interface_text, packet_text as pcapng_packet}
 use Rattle.cap_io.specs.declared.numbering.Place.{Place}
 use Rattle.cap_io.specs.declared.sink.SinkState.{SinkState}
 use Rattle.cap_io.specs.Numbering.{HasPlace}

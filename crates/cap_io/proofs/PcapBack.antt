@@ -12,14 +12,14 @@ use Rattle.cap_octet.specs.declared.number.Order.TheVariants.{Little}
 use Rattle.cap_octet.proofs.Checks.{all_met, none_failing}
 use Rattle.cap_pcap.specs.Header.{IsHeader, head_checks}
 use Rattle.cap_pcap.specs.Record.{IsRecord, field_checks, most_captured, nanoseconds_of_part, packet_in, parts_of_second}
-use Rattle.cap_pcap.specs.Written as pcap
+use Rattle.cap_pcap.specs.Encoding as pcap
 use Rattle.cap_pcap.specs.declared.head.Head.{Head}
 use Rattle.cap_pcap.specs.declared.head.Resolution.{Resolution}
 use Rattle.cap_pcap.specs.declared.head.Resolution.TheVariants.{Microseconds, Nanoseconds}
 use Rattle.cap_pcap.proofs.Records.{record_fault-whole}
 use Rattle.cap_pcapng.proofs.Numerals.{number_at}
 use Rattle.cap_io.specs.Capture.{PcapFile, a_pcap_header, a_pcap_record}
-use Rattle.cap_io.specs.Carried.{Back, InRange, IsPlain, ReadsBack}
+use Rattle.cap_io.specs.RoundTrip.{Back, InRange, IsPlain, ReadsBack}
 use Rattle.cap_io.specs.Text.{has_first_link, packets_text, record_text}
 use Rattle.cap_io.proofs.Backs.{Holds, each-behind, holds-none, holds-unit, reads-back}
 

@@ -11,10 +11,10 @@ use Rattle.cap_octet.proofs.Checks.{all_met, none_failing}
 use Rattle.cap_pcapng.specs.Interface.{Described}
 use Rattle.cap_pcapng.specs.Laws.{ReadsAs, written_interface, written_section}
 use Rattle.cap_pcapng.specs.Unit.{Section, most_interfaces, packets_in}
-use Rattle.cap_pcapng.specs.Written as pcapng
+use Rattle.cap_pcapng.specs.Encoding as pcapng
 use Rattle.cap_pcapng.proofs.WrittenBack.{section_back, interface_back, packet_back}
 use Rattle.cap_io.specs.Capture.{Nothing, PcapngFile, IsUnit, a_first_block, a_block, first_after}
-use Rattle.cap_io.specs.Carried.{Back, InRange, IsCarried}
+use Rattle.cap_io.specs.RoundTrip.{Back, InRange, IsCarried}
 use Rattle.cap_io.specs.Text.{Interface, interface_of, is_same, is_among, new_among, first_uses, interfaces_of, number_among, descriptions, packets_text, put_checks, text}
 use Rattle.cap_io.proofs.Backs.{Holds, each-behind, holds-none, holds-unit, reads-back}
 use Rattle.cap_io.proofs.Interfaces.{first_uses-append, interfaces_of-push, new-interfaces_of, same_interface}

@@ -5,7 +5,7 @@ use Rattle.cap_octet.specs.declared.fault.Fault.{Fault}
 use Rattle.cap_octet.specs.declared.fault.Fault.TheVariants.{ReadFailed, NoMemory}
 use Rattle.cap_io.specs.Capture.{Declared, Nothing, Placed, placed_at, AreUnits, no_unit, items, items_from, after_packets, ending_by, FaultAt, End, front_of, Stops}
 use Rattle.cap_io.specs.Source.{SourceView, Phase, Reading, Ended, Failed, source_at, Passes, FindsPacket, FindsEnd, FindsFault, Advances, Finds}
-use Rattle.cap_io.specs.Standing.{HasPacket, IsAt, IsCutShort}
+use Rattle.cap_io.specs.Position.{HasPacket, IsAt, IsCutShort}
 use Rattle.cap_io.proofs.Items.{AreUnits-append, items_from-units, items_from-stops}
 use Rattle.cap_io.proofs.Units.{one_unit}
 

@@ -11,7 +11,7 @@ use Rattle.cap_octet.specs.declared.format.Format.TheVariants.{Pcap, NsecPcap, P
 use Rattle.cap_pcap.specs.Record.{most_captured}
 use Rattle.cap_pcapng.specs.Frame.{most_block}
 use Rattle.cap_pcapng.specs.Padding.{padded}
-use Rattle.cap_pcapng.specs.Written as pcapng
+use Rattle.cap_pcapng.specs.Encoding as pcapng
 use Rattle.cap_io.specs.declared.sink.SinkState.{SinkState}
 use Rattle.cap_io.specs.declared.sink.SinkState.TheVariants.{Empty, Started, Broken}
 use Rattle.cap_io.specs.Text.{AreFew, Interface, interface_of, interfaces_of, number_among, descriptions, most_output_interfaces, heading, packet_text, packets_text, text, added, has_first_link, put_checks, refused}

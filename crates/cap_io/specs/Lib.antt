@@ -5,6 +5,6 @@ pub mod Source
 pub mod Text
 pub mod Numbering
 pub mod Sink
-pub mod Carried
-pub mod Standing
+pub mod RoundTrip
+pub mod Position
 pub mod Laws

@@ -7,9 +7,9 @@ use Rattle.cap_octet.specs.declared.fault.Fault.TheVariants.{LinkTypesDiffer, No
 use Rattle.cap_octet.specs.declared.format.Format.{Format}
 use Rattle.cap_octet.specs.declared.format.Format.TheVariants.{Pcap, NsecPcap, Pcapng}
 use Rattle.cap_octet.specs.Checks.{first_failing}
-use Rattle.cap_pcap.specs.Written as pcap
+use Rattle.cap_pcap.specs.Encoding as pcap
 use Rattle.cap_pcap.specs.declared.head.Resolution.TheVariants.{Microseconds, Nanoseconds}
-use Rattle.cap_pcapng.specs.Written as pcapng
+use Rattle.cap_pcapng.specs.Encoding as pcapng
 use Rattle.cap_octet.specs.declared.device.DeviceFault.{DeviceFault}
 use Rattle.cap_octet.specs.declared.device.Output.{Ghosts}
 use Rattle.cap_io.specs.declared.numbering.Place.{Place}

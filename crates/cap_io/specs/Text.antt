@@ -8,10 +8,10 @@ use Rattle.cap_octet.specs.declared.fault.Fault.{Fault}
 use Rattle.cap_octet.specs.declared.fault.Fault.TheVariants.{LinkTypesDiffer, TooManyOutputInterfaces}
 use Rattle.cap_octet.specs.declared.format.Format.{Format}
 use Rattle.cap_octet.specs.declared.format.Format.TheVariants.{Pcap, NsecPcap, Pcapng}
-use Rattle.cap_pcap.specs.Written as pcap
+use Rattle.cap_pcap.specs.Encoding as pcap
 use Rattle.cap_pcap.specs.declared.head.Resolution.{Resolution}
 use Rattle.cap_pcap.specs.declared.head.Resolution.TheVariants.{Microseconds, Nanoseconds}
-use Rattle.cap_pcapng.specs.Written as pcapng
+use Rattle.cap_pcapng.specs.Encoding as pcapng
 
 -- ---- the interfaces of a pcapng file
 

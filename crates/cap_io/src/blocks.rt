@@ -2,7 +2,7 @@
 ghost use Rattle.std.specs.Prelude.{◌≡◌, ℕ, ◌+◌, ◌^◌, ◌<◌, ◌≤◌, ◌++◌, ◌∷◌, ◌⊎◌, IfOk, IfErr};
 ghost use Rattle.std.specs.Prelude.{OnErr, [], length};
 ghost use Rattle.cap_pcapng.specs.Block.{parts_of};
-ghost use Rattle.cap_pcapng.specs.Judged.{Judges};
+ghost use Rattle.cap_pcapng.specs.Answer.{Judges};
 ghost use Rattle.cap_pcapng.specs.Unit.{checks_among};
 ghost use Rattle.cap_pcapng.specs.declared.blocks.Block.TheVariants as a;
 ghost use Rattle.cap_io.specs.Blocks.{Enters, IsEntryFault, PacketFound, section_of, told_behind};

@@ -1,6 +1,6 @@
 //! Laws of the definitions: each is the contract of a function that does nothing.
 ghost use Rattle.cap_io.specs.Laws.{EachHasCut, EachHasOneCut, CutTellsItems};
-ghost use Rattle.cap_io.specs.Carried.{ItemsBack};
+ghost use Rattle.cap_io.specs.RoundTrip.{ItemsBack};
 
 /// Each text is cut into units in one way, and the cut tells its items.
 pub fn one_cut()

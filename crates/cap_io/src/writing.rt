@@ -2,8 +2,8 @@
 ghost use Rattle.std.specs.Prelude.{◌≡◌, ◌++◌, None};
 ghost use Rattle.cap_octet.specs.Checks.{checked, first_failing};
 ghost use Rattle.cap_octet.specs.Packet.{captured};
-ghost use Rattle.cap_pcap.specs.Written.{IsPcap, fit_checks, resolution_of};
-ghost use Rattle.cap_pcapng.specs.Written.{fit_checks as block_fit_checks};
+ghost use Rattle.cap_pcap.specs.Encoding.{IsPcap, fit_checks, resolution_of};
+ghost use Rattle.cap_pcapng.specs.Encoding.{fit_checks as block_fit_checks};
 ghost use Rattle.cap_io.specs.Text.{record_text};
 ghost use Rattle.cap_io.specs.Sink.{Appends, block_text, checks_in, heading_in};
 

@@ -7,16 +7,16 @@ use Rattle.cap_octet.specs.Packet.{Captured}
 use Rattle.cap_octet.specs.declared.fault.Fault.{Fault}
 use Rattle.cap_octet.specs.declared.fault.Fault.TheVariants.{NoMemory, TooManyPackets, WriteFailed}
 use Rattle.cap_io.specs.Capture.{Placed}
-use Rattle.cap_io.specs.Standing.{IsAt}
+use Rattle.cap_io.specs.Position.{IsAt}
 use Rattle.cap_io.specs.Sink.{SinkView, HasPackets}
 use Rattle.cap_io.specs.Text.{text, added, packets_text, refused}
 use Rattle.cap_io.proofs.Standing.{IsAt-decided}
 use Rattle.cap_io.proofs.Texts.{text-more}
-use Rattle.cap_tools.specs.Chosen as chosen
-use Rattle.cap_tools.specs.Chosen.{Decision}
-use Rattle.cap_tools.specs.Printed as rule_spec
+use Rattle.cap_tools.specs.Decisions as chosen
+use Rattle.cap_tools.specs.Decisions.{Decision}
+use Rattle.cap_tools.specs.FilterRules as rule_spec
 use Rattle.cap_tools.specs.Links.{link_of}
-use Rattle.cap_tools.specs.Printed.{Rule, rule_decides, read_on, passing, answering}
+use Rattle.cap_tools.specs.FilterRules.{Rule, rule_decides, read_on, passing, answering}
 use Rattle.flt_bpf.specs.Machine.{machine, Progress, Answered}
 use Rattle.flt_lang.specs.Tree.{Expression, empty, truth}
 use Rattle.flt_gen.specs.declared.link.Link.{Link}
@@ -34,7 +34,7 @@ use Rattle.cap_window.specs.Marks.{mark_of, has_same}
 use Rattle.cap_job.specs.Verdicts as judged_spec
 use Rattle.cap_job.specs.Judge.{JudgeStand, GrowsByOne, IsWithin, Tells}
 use Rattle.cap_lines.specs.declared.print.Options.{Options}
-use Rattle.cap_lines.specs.Printed.{printed}
+use Rattle.cap_lines.specs.Rendering.{printed}
 use Rattle.cap_job.specs.Course.{Form, AsCapture, AsLines, Way, lines_text, set_out, unless_refused, by_verdict, goes, way, course, refused_by, stops_at, output, first_link, written}
 use Rattle.cap_job.specs.Course as course_spec
 use Rattle.cap_job.specs.Drain.{DrainView, Target, Capture, Text, Lines, Drained, DrainedTo, Puts, PutsTo, form_at, form_to, written_to, failures_to}

@@ -2,10 +2,10 @@
 use Rattle.std.proofs.Common.{◌≡◌, inl, inr, ℕ, List, Bool, Option, None, Some, refl, sym, ◌∙◌, ap, subst}
 use Rattle.cap_tools.specs.Messages.{refusal_message}
 use Rattle.flt_bpf.specs.Content.{Content}
-use Rattle.cap_tools.specs.Printed.{Rule, IsRule}
-use Rattle.cap_tools.specs.Printing.{AreNew}
-use Rattle.cap_tools.specs.Running.{OutputView, IsTold, Runs, seen}
-use Rattle.cap_tools.specs.Compiled.{CompileLeaves, ListingLeaves}
+use Rattle.cap_tools.specs.FilterRules.{Rule, IsRule}
+use Rattle.cap_tools.specs.Filters.{AreNew}
+use Rattle.cap_tools.specs.Outcome.{OutputView, IsTold, Runs, seen}
+use Rattle.cap_tools.specs.Compilation.{CompileLeaves, ListingLeaves}
 use Rattle.cap_tools.specs.declared.refusal.Refusal.TheVariants.{Expression}
 use Rattle.flt_gen.specs.declared.link.Link.{Link}
 use Rattle.cap_job.specs.declared.packets.Turn.TheVariants as turn

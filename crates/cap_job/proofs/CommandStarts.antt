@@ -11,8 +11,8 @@ use Rattle.std.proofs.lemmas.Bool.{and_parts, eqb-true, leb-true}
 use Rattle.cap_tools.specs.Command.{is_proper, is_proper_edit, is_proper_print}
 use Rattle.cap_tools.specs.declared.command.Command.{Command}
 use Rattle.cap_tools.specs.declared.command.Command.TheVariants as command
-use Rattle.cap_tools.specs.Compiled.{IsCompiled}
-use Rattle.cap_tools.specs.Running.{OutputView, IsTold}
+use Rattle.cap_tools.specs.Compilation.{IsCompiled}
+use Rattle.cap_tools.specs.Outcome.{OutputView, IsTold}
 use Rattle.flt_bpf.specs.declared.insn.Insn.{Insn}
 use Rattle.flt_gen.specs.declared.link.Link.{Link}
 use Rattle.cap_job.specs.declared.packets.Turn.{Turn}

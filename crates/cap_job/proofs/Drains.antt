@@ -8,7 +8,7 @@ use Rattle.cap_octet.specs.declared.fault.Fault.TheVariants.{NoMemory, WriteFail
 use Rattle.cap_octet.specs.declared.format.Format.{Format}
 use Rattle.std.proofs.lemmas.Grind.{flat_map-append}
 use Rattle.cap_lines.specs.declared.print.Options.{Options}
-use Rattle.cap_lines.specs.Printed.{printed}
+use Rattle.cap_lines.specs.Rendering.{printed}
 use Rattle.cap_io.specs.Sink as sinks
 use Rattle.cap_io.specs.Sink.{SinkView, HasPackets, PutsAfter, IsPutAnswer, PutWrites, WritesPacket, takes_memory}
 use Rattle.cap_io.specs.Text.{added, refused}

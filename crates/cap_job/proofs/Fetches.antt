@@ -10,7 +10,7 @@ use Rattle.cap_octet.specs.declared.fault.Fault.TheVariants.{ReadFailed}
 use Rattle.cap_io.specs.declared.source.Kind.{Kind}
 use Rattle.cap_io.specs.Capture.{Placed, Items, FaultAt, no_items, kind_of, after_packets}
 use Rattle.cap_io.specs.Source.{SourceView, Phase, Reading, Ended, Failed, Steps, FindsPacket, FindsEnd, FindsFault, Advances}
-use Rattle.cap_io.specs.Standing.{IsAt}
+use Rattle.cap_io.specs.Position.{IsAt}
 use Rattle.cap_io.proofs.Standing.{IsAt-found, IsAt-closed, IsAt-fault}
 use Rattle.cap_job.specs.declared.feed.Place.{Place}
 use Rattle.cap_job.specs.declared.feed.Place.TheVariants.{Turn, Merge}

@@ -6,7 +6,7 @@ use Rattle.cap_job.specs.declared.feed.Place.TheVariants.{Turn, Merge}
 use Rattle.cap_job.specs.declared.feed.Next.TheVariants as next
 use Rattle.cap_job.specs.Feed.{HeadView, Among, Tells}
 use Rattle.cap_job.specs.Judge.{JudgeView, most_spent, spent_by_verdict}
-use Rattle.cap_tools.specs.Compiling.{spent_in}
+use Rattle.cap_tools.specs.Programs.{spent_in}
 use Rattle.cap_job.specs.Machine.{Spends}
 use Rattle.cap_job.proofs.Fetches.{among-same}
 

@@ -4,8 +4,8 @@ use Rattle.std.proofs.lemmas.Bool.Decides.{nat_tests}
 use Rattle.cap_octet.specs.Packet.{Captured}
 use Rattle.cap_octet.specs.declared.fault.Fault.{Fault}
 use Rattle.cap_octet.specs.declared.fault.Fault.TheVariants.{TooManyPackets}
-use Rattle.cap_tools.specs.Chosen.{Decision, Keep, Refuse, Answers}
-use Rattle.cap_tools.specs.Chosen as chosen
+use Rattle.cap_tools.specs.Decisions.{Decision, Keep, Refuse, Answers}
+use Rattle.cap_tools.specs.Decisions as chosen
 use Rattle.cap_window.specs.View.{WindowView}
 use Rattle.cap_window.specs.declared.mark.Mark.{Mark}
 use Rattle.cap_job.specs.declared.judge.Verdict as code

@@ -4,7 +4,7 @@ use Rattle.std.proofs.lemmas.List.{append_assoc, append-nil}
 use Rattle.cap_octet.specs.Packet.{Captured}
 use Rattle.cap_io.proofs.Texts.{text-more}
 use Rattle.cap_io.specs.Text.{added, text}
-use Rattle.cap_lines.specs.Printed.{printed}
+use Rattle.cap_lines.specs.Rendering.{printed}
 use Rattle.cap_job.specs.Reports.{Report, report_text, reports_text}
 use Rattle.cap_job.specs.Course.{Form, AsCapture, AsReports, AsLines, written}
 use Rattle.cap_job.specs.Drain.{DrainView, Drained, form_at, written_to}

@@ -4,11 +4,11 @@ use Rattle.std.specs.List.{All}
 use Rattle.std.specs.Option.{is_some, option_map}
 use Rattle.flt_bpf.specs.Content.{Content}
 use Rattle.flt_lang.specs.Tree.{empty, truth}
-use Rattle.cap_tools.specs.Printed.{Rule, by_reading, by_answer}
-use Rattle.cap_tools.specs.Printing.{AreNew}
+use Rattle.cap_tools.specs.FilterRules.{Rule, by_reading, by_answer}
+use Rattle.cap_tools.specs.Filters.{AreNew}
 use Rattle.cap_job.specs.declared.job.Preparation.{Preparation}
 use Rattle.cap_job.specs.Commands.{preparing_of}
-use Rattle.cap_tools.specs.Compiling.{spent_in}
+use Rattle.cap_tools.specs.Programs.{spent_in}
 
 pub none-before : {Z : Type 0} (p : Option (Preparation Z)) → is_some p ≡ false → option_map preparing_of p ≡ None
 none-before None is = refl

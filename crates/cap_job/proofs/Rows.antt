@@ -5,7 +5,7 @@ use Rattle.cap_octet.specs.declared.fault.Fault.TheVariants.{Truncated, TimeOutO
 use Rattle.cap_octet.specs.declared.format.Format.TheVariants.{Pcap}
 use Rattle.cap_io.specs.Capture.{Placed, Ending, End, FaultAt, Nothing, items_from, items_within}
 use Rattle.flt_lang.specs.Tree.{empty}
-use Rattle.cap_tools.specs.Printed.{by_reading}
+use Rattle.cap_tools.specs.FilterRules.{by_reading}
 use Rattle.cap_job.specs.Events.{Rest, InTurn, Merging, fed, Came, Over, Broken, whole}
 use Rattle.cap_tools.specs.declared.command.Shift.TheVariants as shift
 use Rattle.cap_job.specs.Verdicts.{Select, Filter, Count}

@@ -9,7 +9,7 @@ use Rattle.cap_io.specs.Text.{AreFew, most_output_interfaces}
 use Rattle.cap_job.specs.Drain.{DrainView, Target, Capture, Text, Lines}
 use Rattle.cap_job.specs.Feed.{HeadView, FeedView, Among, Fetches, FetchSteps, Settles, closes, place_left, waiting_total, weight_of}
 use Rattle.cap_octet.specs.Packet.{Captured}
-use Rattle.cap_tools.specs.Compiling.{spent_in}
+use Rattle.cap_tools.specs.Programs.{spent_in}
 use Rattle.cap_job.specs.Judge.{most_spent, places, spent_by_verdict, window_asked}
 use Rattle.cap_job.specs.declared.machine.Progress.{Progress}
 use Rattle.cap_job.specs.declared.machine.Progress.TheVariants.{More, Done}

@@ -10,12 +10,12 @@ use Rattle.cap_tools.specs.declared.command.Command.{Command}
 use Rattle.cap_tools.specs.declared.command.Command.TheVariants as command
 use Rattle.cap_tools.specs.declared.refusal.Refusal.{Refusal}
 use Rattle.cap_tools.specs.declared.refusal.Refusal.TheVariants as refusal
-use Rattle.cap_tools.specs.Compiled.{IsCompiled, CompileLeaves}
+use Rattle.cap_tools.specs.Compilation.{IsCompiled, CompileLeaves}
 use Rattle.cap_tools.specs.Expressions.{IsReasonFor}
 use Rattle.cap_tools.specs.Messages.{refusal_message, refusal_status}
-use Rattle.cap_tools.specs.Printed.{Rule, IsRule, IsWhy, code_of}
-use Rattle.cap_tools.specs.Printing.{AreNew}
-use Rattle.cap_tools.specs.Running.{OutputView, IsTold, Runs}
+use Rattle.cap_tools.specs.FilterRules.{Rule, IsRule, IsWhy, code_of}
+use Rattle.cap_tools.specs.Filters.{AreNew}
+use Rattle.cap_tools.specs.Outcome.{OutputView, IsTold, Runs}
 use Rattle.cap_job.specs.declared.job.Preparation.{Preparation}
 use Rattle.cap_job.specs.declared.job.Preparation.TheVariants as preparation
 use Rattle.cap_job.specs.declared.drain.Writing.{Writing}
@@ -27,7 +27,7 @@ use Rattle.cap_job.specs.Verdicts.{Asked, Select, Filter, Everything, Count}
 use Rattle.cap_job.specs.Judge.{selection_of}
 use Rattle.cap_job.specs.Feed.{Stood, feed_left}
 use Rattle.cap_job.specs.Bounds.{StepReads}
-use Rattle.cap_tools.specs.Compiling.{spent_in}
+use Rattle.cap_tools.specs.Programs.{spent_in}
 use Rattle.cap_job.specs.Machine.{MachineStand, MachineView, Decided}
 use Rattle.cap_job.specs.Jobs.{JobView, JobGives, JobRuns, NeverBegan, Opened, job_first, order_of, stood_at}
 use Rattle.cap_job.specs.FirstStep.{IsFresh, Lists, Refuses, asking, filtering, is_text, output_of, output_name}

@@ -9,7 +9,7 @@ use Rattle.cap_io.specs.declared.source.Kind.{Kind}
 use Rattle.cap_io.specs.Capture.{Placed, first_link_of}
 use Rattle.cap_io.specs.Text.{heading, text, refused}
 use Rattle.cap_lines.specs.declared.print.Options.{Options}
-use Rattle.cap_lines.specs.Printed.{printed}
+use Rattle.cap_lines.specs.Rendering.{printed}
 use Rattle.cap_tools.specs.Messages.{fault_message}
 use Rattle.cap_job.specs.Events.{Event, Came, Closed, Close, Over, Broken, Fed, Rest, Ordering, fed, whole}
 use Rattle.cap_job.specs.Verdicts.{Asked, Count, Stand, at_first, Verdict, Pass, Last, Skip, Refuse, verdict}

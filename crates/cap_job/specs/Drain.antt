@@ -9,7 +9,7 @@ use Rattle.flt_bpf.specs.Listing.{listing}
 use Rattle.cap_octet.specs.declared.fault.Fault.{Fault}
 use Rattle.cap_octet.specs.declared.fault.Fault.TheVariants.{WriteFailed}
 use Rattle.cap_lines.specs.declared.print.Options.{Options}
-use Rattle.cap_lines.specs.Printed.{printed}
+use Rattle.cap_lines.specs.Rendering.{printed}
 use Rattle.cap_io.specs.Sink as sinks
 use Rattle.cap_io.specs.Sink.{SinkView, HasPackets, PutWrites, FinishWrites, sink_at}
 use Rattle.cap_job.specs.declared.drain.Device.{Device}

@@ -6,7 +6,7 @@ use Rattle.cap_octet.specs.Packet.{Captured}
 use Rattle.cap_octet.specs.declared.fault.Fault.{Fault}
 use Rattle.cap_io.specs.Capture.{Placed, Items, End, items_from, after_packets, first_link_of}
 use Rattle.cap_io.specs.Source.{SourceView, Ended, Advances, HasFew, Steps}
-use Rattle.cap_io.specs.Standing.{IsAt}
+use Rattle.cap_io.specs.Position.{IsAt}
 use Rattle.std.specs.List.Sorted.{IsPermutation}
 use Rattle.cap_job.specs.declared.queue.Waiting.{Waiting}
 use Rattle.cap_job.specs.Queue.{Queue, Precedes, is_entered}

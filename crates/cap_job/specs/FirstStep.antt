@@ -3,10 +3,10 @@ use Rattle.std.specs.Prelude.{◌≡◌, ℕ, ◌+◌, ◌<◌, Bool, true, fals
 use Rattle.flt_bpf.specs.declared.insn.Insn.{Insn}
 use Rattle.flt_bpf.specs.Content.{Content}
 use Rattle.cap_tools.specs.declared.refusal.Refusal.{Refusal}
-use Rattle.cap_tools.specs.Compiled.{ListingLeaves}
+use Rattle.cap_tools.specs.Compilation.{ListingLeaves}
 use Rattle.cap_tools.specs.Messages.{refusal_message, refusal_status}
-use Rattle.cap_tools.specs.Printed.{Rule}
-use Rattle.cap_tools.specs.Running.{OutputView, IsTold, Runs, seen}
+use Rattle.cap_tools.specs.FilterRules.{Rule}
+use Rattle.cap_tools.specs.Outcome.{OutputView, IsTold, Runs, seen}
 use Rattle.cap_job.specs.declared.packets.Turn.{Turn}
 use Rattle.cap_job.specs.declared.packets.Turn.TheVariants as turn
 use Rattle.cap_job.specs.Drain.{Target, Capture, Text, Lines}

@@ -4,7 +4,7 @@ use Rattle.std.specs.List.{slice_get}
 use Rattle.cap_octet.specs.declared.fault.Fault.{Fault}
 use Rattle.cap_io.specs.Source.{source_at}
 use Rattle.cap_tools.specs.Messages.{fault_message, write_failed_message, no_memory_message}
-use Rattle.cap_tools.specs.Running.{OutputView, IsTold}
+use Rattle.cap_tools.specs.Outcome.{OutputView, IsTold}
 use Rattle.cap_job.specs.declared.feed.Place.{Place}
 use Rattle.cap_job.specs.declared.feed.Place.TheVariants as place
 use Rattle.cap_job.specs.declared.machine.End.{End}

@@ -6,7 +6,7 @@ use Rattle.cap_window.specs.declared.mark.Mark.{Mark}
 use Rattle.cap_window.specs.View.{WindowView}
 use Rattle.flt_bpf.specs.Content.{Content}
 use Rattle.cap_tools.specs.declared.command.Edit.{Edit}
-use Rattle.cap_tools.specs.Printing.{most_cost, programs_of, rule_of, spent_on}
+use Rattle.cap_tools.specs.Filters.{most_cost, programs_of, rule_of, spent_on}
 use Rattle.cap_job.specs.declared.judge.Rule.{Rule}
 use Rattle.cap_job.specs.declared.judge.Rule.TheVariants as rule
 use Rattle.cap_job.specs.declared.judge.Verdict as code

@@ -7,9 +7,9 @@ use Rattle.cap_octet.specs.declared.fault.Fault.TheVariants.{ReadFailed, NoMemor
 use Rattle.cap_octet.specs.declared.device.DeviceFault.{DeviceFault}
 use Rattle.cap_io.specs.Capture.{Placed, Items, kind_of}
 use Rattle.cap_io.specs.Source.{SourceView, Advances}
-use Rattle.cap_io.specs.Standing.{IsCutShort}
+use Rattle.cap_io.specs.Position.{IsCutShort}
 use Rattle.flt_bpf.specs.Content.{Content}
-use Rattle.cap_tools.specs.Compiling.{spent_in}
+use Rattle.cap_tools.specs.Programs.{spent_in}
 use Rattle.cap_job.specs.declared.feed.Next.TheVariants as next
 use Rattle.cap_job.specs.declared.judge.Verdict.{Verdict}
 use Rattle.cap_job.specs.declared.judge.Verdict.TheVariants as code

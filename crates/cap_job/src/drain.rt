@@ -3,7 +3,7 @@ ghost use Rattle.std.specs.Prelude.{◌≡◌, ◌+◌, IfErr, IsTrue, map};
 ghost use Rattle.std.specs.String.{string_bytes};
 ghost use Rattle.cap_octet.specs.Device.{AppendsOrStops, failures_of};
 ghost use Rattle.cap_octet.specs.Packet.{captured};
-ghost use Rattle.cap_lines.specs.Printed.{printed};
+ghost use Rattle.cap_lines.specs.Rendering.{printed};
 ghost use Rattle.cap_job.specs.Drain.{target_at};
 ghost use Rattle.cap_job.specs.Reports.{name_at};
 

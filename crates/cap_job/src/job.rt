@@ -3,9 +3,9 @@ ghost use Rattle.std.specs.Prelude.{ℕ, ◌≡◌, ◌+◌, ◌<◌, ◌≤◌,
 ghost use Rattle.std.specs.Prelude.{map, string_bytes, true, vec_len};
 ghost use Rattle.std.specs.Option.{option_map};
 ghost use Rattle.cap_tools.specs.Command.{is_proper};
-ghost use Rattle.cap_tools.specs.Printed.{IsRule, IsWhy, code_of};
-ghost use Rattle.cap_tools.specs.Printing.{AreNew, programs_of, rule_of};
-ghost use Rattle.cap_tools.specs.Running.{seen};
+ghost use Rattle.cap_tools.specs.FilterRules.{IsRule, IsWhy, code_of};
+ghost use Rattle.cap_tools.specs.Filters.{AreNew, programs_of, rule_of};
+ghost use Rattle.cap_tools.specs.Outcome.{seen};
 ghost use Rattle.cap_job.specs.Bounds.{IsLight, most_turns};
 ghost use Rattle.cap_job.specs.Commands.{CommandRuns, IsReady, Prepares, PreparesOnly, RunsCommand};
 ghost use Rattle.cap_job.specs.Commands.{assigned, lines_unless, preparing_of};
@@ -138,7 +138,7 @@ pub struct Job<I: Input, O: Output, E: Output, A: Allocator> {
 impl<I: Input, O: Output, E: Output, A: Allocator> Model for Job<I, O, E, A> {
     ghost use Rattle.std.specs.Option.{option_map};
     ghost use Rattle.std.specs.Coded.{codes};
-    ghost use Rattle.cap_tools.specs.Compiling.{expression_code};
+    ghost use Rattle.cap_tools.specs.Programs.{expression_code};
     ghost use Rattle.cap_job.specs.Commands.{CommandView, IsReadyIf, preparing_of};
 
     ghost Value = { CommandView };

@@ -3,7 +3,7 @@ ghost use Rattle.std.specs.Prelude.{◌≡◌, ℕ, ◌+◌, ◌-◌, ◌<◌, �
 ghost use Rattle.std.specs.Prelude.{if◌then◌else◌, length};
 ghost use Rattle.cap_octet.specs.Packet.{Captured, captured};
 ghost use Rattle.cap_io.specs.Reading.{most_in_unit};
-ghost use Rattle.cap_tools.specs.Compiling.{spent_in};
+ghost use Rattle.cap_tools.specs.Programs.{spent_in};
 ghost use Rattle.cap_job.specs.Feed.{most_steps};
 ghost use Rattle.cap_job.specs.Verdicts.{is_last, judged};
 ghost use Rattle.cap_job.specs.Judge.{IsWindowFor, Keeps, asked_of, count_of, is_count, marks_in};
@@ -56,7 +56,7 @@ pub struct Judge<A: Allocator> {
 
 impl<A: Allocator> Model for Judge<A> {
     ghost use Rattle.std.specs.Coded.{codes};
-    ghost use Rattle.cap_tools.specs.Compiling.{expression_code};
+    ghost use Rattle.cap_tools.specs.Programs.{expression_code};
     ghost use Rattle.cap_job.specs.Judge.{IsWindowFor, JudgeView, asked_of, marks_in};
     ghost use Rattle.cap_job.specs.Judge.{programs_in, stand_of, window_asked};
 
@@ -160,7 +160,7 @@ impl<A: Allocator> Rule<A> {
 
 impl<A: Allocator> Judge<A> {
     ghost use Rattle.std.specs.Prelude.{IfOk};
-    ghost use Rattle.cap_tools.specs.Printing.{programs_of, rule_of};
+    ghost use Rattle.cap_tools.specs.Filters.{programs_of, rule_of};
     ghost use Rattle.cap_job.specs.Verdicts.{Filter as AskedFilter, verdict};
     ghost use Rattle.cap_job.specs.Judge.{Closes, GrowsByOne, HasFewMarks, IsWithin, JudgeView};
     ghost use Rattle.cap_job.specs.Judge.{Tells, judge_stand, spent_by_verdict, stand_with};

@@ -5,7 +5,7 @@ ghost use Rattle.cap_job.specs.Bounds.{HasFewInterfaces, IsBounded, IsLight};
 ghost use Rattle.cap_job.specs.Feed.{most_steps};
 ghost use Rattle.cap_job.specs.Drain.{Lists};
 ghost use Rattle.cap_job.specs.FirstStep.{asking};
-ghost use Rattle.cap_tools.specs.Printing.{programs_of, rule_of};
+ghost use Rattle.cap_tools.specs.Filters.{programs_of, rule_of};
 ghost use Rattle.cap_job.specs.Verdicts.{Filter as AskedFilter};
 ghost use Rattle.cap_job.specs.Judge.{GrowsByOne, HasFewMarks, IsWithin, judge_stand};
 ghost use Rattle.cap_job.specs.Machine.{Closes, Decides, Offers, Spends, machine_stand, unwritten};
@@ -51,7 +51,7 @@ pub struct Machine<I: Input, O: Output, A: Allocator> {
 impl<I: Input, O: Output, A: Allocator> Model for Machine<I, O, A> {
     ghost use Rattle.std.specs.Prelude.{◌+◌, ◌≤◌};
     ghost use Rattle.std.specs.Coded.{codes};
-    ghost use Rattle.cap_tools.specs.Compiling.{expression_code};
+    ghost use Rattle.cap_tools.specs.Programs.{expression_code};
     ghost use Rattle.cap_job.specs.Bounds.{IsBounded};
     ghost use Rattle.cap_job.specs.Feed.{feed_left, most_steps};
     ghost use Rattle.cap_job.specs.Judge.{HasFewMarks};

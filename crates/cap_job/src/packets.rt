@@ -3,7 +3,7 @@ ghost use Rattle.std.specs.Prelude.{ℕ, ◌≡◌, ◌+◌, ◌<◌, ◌≤◌,
 ghost use Rattle.std.specs.Prelude.{true};
 ghost use Rattle.std.specs.String.{string_bytes};
 ghost use Rattle.cap_octet.specs.Device.{AppendsOrStops, failures_of};
-ghost use Rattle.cap_tools.specs.Running.{seen};
+ghost use Rattle.cap_tools.specs.Outcome.{seen};
 ghost use Rattle.cap_job.specs.Bounds.{IsLight, ReadsNothing, StepReads, most_turns};
 ghost use Rattle.cap_job.specs.Feed.{feed_left};
 ghost use Rattle.cap_job.specs.Judge.{asked_of, programs_in};
@@ -52,8 +52,8 @@ pub struct PacketJob<I: Input, O: Output, E: Output, A: Allocator> {
 
 impl<I: Input, O: Output, E: Output, A: Allocator> Model for PacketJob<I, O, E, A> {
     ghost use Rattle.std.specs.Coded.{codes};
-    ghost use Rattle.cap_tools.specs.Compiling.{expression_code};
-    ghost use Rattle.cap_tools.specs.Running.{seen};
+    ghost use Rattle.cap_tools.specs.Programs.{expression_code};
+    ghost use Rattle.cap_tools.specs.Outcome.{seen};
     ghost use Rattle.cap_job.specs.Bounds.{HasFewTurns, IsLight};
     ghost use Rattle.cap_job.specs.Feed.{feed_left};
     ghost use Rattle.cap_job.specs.Jobs.{JobView, IsCounted};
@@ -137,7 +137,7 @@ impl<I: Input, O: Output, E: Output, A: Allocator + Copy + Drop> PacketJob<I, O,
     ghost use Rattle.std.specs.Result.{IfOk, IfErr};
     ghost use Rattle.std.specs.Prelude.{true};
     ghost use Rattle.cap_tools.specs.Messages.{refusal_status};
-    ghost use Rattle.cap_tools.specs.Printing.{programs_of, rule_of};
+    ghost use Rattle.cap_tools.specs.Filters.{programs_of, rule_of};
     ghost use Rattle.cap_job.specs.Jobs.{IsStatus, JobGives, done_by, job_first, machine_of};
     ghost use Rattle.cap_job.specs.Jobs.{turn_goes_on};
     ghost use Rattle.cap_job.specs.FirstStep.{EndsList, IsFresh, Refuses, filtering, is_text};

@@ -8,7 +8,7 @@ use Rattle.cap_octet.specs.declared.device.Stopped.{Stopped}
 use Rattle.cap_octet.proofs.Writing.{stops-part}
 use Rattle.cap_lines.specs.Dump.{payload, rows}
 use Rattle.cap_lines.specs.Line.{line}
-use Rattle.cap_lines.specs.Printed.{printed}
+use Rattle.cap_lines.specs.Rendering.{printed}
 use Rattle.cap_lines.specs.declared.print.Options.{Options}
 
 pub printed-alone : (options : Options) (p : Captured) → options.bytes ≡ false → printed options p ≡ line options.link p

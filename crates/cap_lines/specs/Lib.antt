@@ -3,4 +3,4 @@ pub mod Dump
 pub mod Hexadecimal
 pub mod Line
 pub mod Network
-pub mod Printed
+pub mod Rendering

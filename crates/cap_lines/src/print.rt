@@ -3,7 +3,7 @@ ghost use Rattle.std.specs.Prelude.{◌≡◌, ◌+◌, IsTrue};
 ghost use Rattle.cap_octet.specs.Device.{AppendsOrStops, failures_of};
 ghost use Rattle.cap_octet.specs.Packet.{captured};
 ghost use Rattle.cap_lines.specs.Dump.{rows};
-ghost use Rattle.cap_lines.specs.Printed.{printed};
+ghost use Rattle.cap_lines.specs.Rendering.{printed};
 
 use crate::dump::{payload, row_count, write_row};
 use crate::line::write_line;

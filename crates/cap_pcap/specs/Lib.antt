@@ -1,3 +1,3 @@
 pub mod Header
 pub mod Record
-pub mod Written
+pub mod Encoding

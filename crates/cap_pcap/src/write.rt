@@ -3,8 +3,8 @@ ghost use Rattle.std.specs.Prelude.{◌≡◌, None};
 ghost use Rattle.cap_octet.specs.Checks.{checked, first_failing};
 ghost use Rattle.cap_octet.specs.Packet.{captured};
 ghost use Rattle.cap_pcap.specs.Header.{magic};
-ghost use Rattle.cap_pcap.specs.Written.{IsPcap, heading, record_heading, resolution_of};
-ghost use Rattle.cap_pcap.specs.Written.{fit_checks};
+ghost use Rattle.cap_pcap.specs.Encoding.{IsPcap, heading, record_heading, resolution_of};
+ghost use Rattle.cap_pcap.specs.Encoding.{fit_checks};
 
 use crate::head::{MOST_CAPTURED, Resolution, SECOND};
 use byteorder::{ByteOrder, LittleEndian};

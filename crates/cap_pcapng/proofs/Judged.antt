@@ -2,7 +2,7 @@
 use Rattle.std.proofs.Common.{◌≡◌, Bool, List, None, Some, Result, Ok, Err, IfOk, IfErr}
 use Rattle.cap_octet.specs.Checks.{first_failing}
 use Rattle.cap_octet.specs.declared.fault.Fault.{Fault}
-use Rattle.cap_pcapng.specs.Judged.{Judges}
+use Rattle.cap_pcapng.specs.Answer.{Judges}
 
 pub judged-value : {X : Type 0} → (checks : List (Bool × Fault)) (result : Result X Fault) (Holds : X → Type 0) → Judges checks result Holds → IfOk result Holds
 judged-value checks (Ok value) Holds judged = judged.1

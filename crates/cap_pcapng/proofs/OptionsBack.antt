@@ -13,7 +13,7 @@ use Rattle.cap_pcapng.specs.InterfaceOptions.{first_value, given, list_checks}
 use Rattle.cap_pcapng.specs.Laws.{written_interface}
 use Rattle.cap_pcapng.specs.OptionList.{CodedValue, option_at, option_size, options_in, options_within}
 use Rattle.cap_pcapng.specs.Padding.{padded}
-use Rattle.cap_pcapng.specs.Written.{comment_text, end_text, name_text, option_text, padded_text, resolution_text}
+use Rattle.cap_pcapng.specs.Encoding.{comment_text, end_text, name_text, option_text, padded_text, resolution_text}
 use Rattle.cap_pcapng.proofs.Numerals.{number_at}
 use Rattle.cap_pcapng.proofs.OptionLists.{goes_on, options_in-more, options_in-none}
 

@@ -20,7 +20,7 @@ use Rattle.cap_pcapng.specs.Laws.{InterfaceBack, PacketBack, SectionBack, ReadsA
 use Rattle.cap_pcapng.specs.Padding.{padded}
 use Rattle.cap_pcapng.specs.Time.{second, time_by, time_in}
 use Rattle.cap_pcapng.specs.Unit.{Section, checks_among, frame_behind, interfaces_before, most_interfaces, order_before, packet_by, section_by, unit_fault}
-use Rattle.cap_pcapng.specs.Written.{block_text, comment_text, end_text, fit_checks, interface_body, name_text, packet_body, padded_text, resolution_text}
+use Rattle.cap_pcapng.specs.Encoding.{block_text, comment_text, end_text, fit_checks, interface_body, name_text, packet_body, padded_text, resolution_text}
 use Rattle.cap_pcapng.proofs.Numerals.{number_at}
 use Rattle.cap_pcapng.proofs.OptionsBack.{comment_back, options_describe, options_pass}
 use Rattle.cap_pcapng.proofs.WrittenBlocks.{comment_text-whole, length-interface_body, length-packet_body}

@@ -10,7 +10,7 @@ use Rattle.cap_octet.specs.Packet.{Captured}
 use Rattle.cap_octet.proofs.Checks.{all_met}
 use Rattle.cap_pcapng.specs.Padding.{padded}
 use Rattle.cap_pcapng.specs.Frame.{most_block}
-use Rattle.cap_pcapng.specs.Written.{block_text, comment_text, end_text, fit_checks, interface_body, interface_heading, interface_text, name_text, packet_body, packet_heading, packet_text, padded_text, resolution_text}
+use Rattle.cap_pcapng.specs.Encoding.{block_text, comment_text, end_text, fit_checks, interface_body, interface_heading, interface_text, name_text, packet_body, packet_heading, packet_text, padded_text, resolution_text}
 
 -- the last of the zeros in front of more bytes, and these
 block_end : (k zeros n : ℕ) (more end : List ℕ) → zeros ≤ k → end ≡ replicate k 0 ++ more → n ≡ k + length more

@@ -7,7 +7,7 @@ use Rattle.cap_octet.specs.declared.number.Order.TheVariants.{Little}
 use Rattle.cap_pcapng.specs.Interface.{Described}
 use Rattle.cap_pcapng.specs.Time.{second}
 use Rattle.cap_pcapng.specs.Unit.{IsBlock, Section, most_interfaces, packets_in, section_after}
-use Rattle.cap_pcapng.specs.Written.{fit_checks, interface_text, packet_text, section_text}
+use Rattle.cap_pcapng.specs.Encoding.{fit_checks, interface_text, packet_text, section_text}
 
 -- These bytes are one block, behind which the section is this, and they hold these packets.
 pub record ReadsAs (before : Option Section) (bytes : List ℕ) (after : Section) (packets : List Captured) : Type 0 where

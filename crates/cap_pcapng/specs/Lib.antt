@@ -3,10 +3,10 @@ pub mod Comment
 pub mod Frame
 pub mod Interface
 pub mod InterfaceOptions
-pub mod Judged
+pub mod Answer
 pub mod Laws
 pub mod OptionList
 pub mod Padding
 pub mod Time
 pub mod Unit
-pub mod Written
+pub mod Encoding

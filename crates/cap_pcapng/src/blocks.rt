@@ -3,7 +3,7 @@ ghost use Rattle.std.specs.Prelude.{◌≡◌, drop, take};
 ghost use Rattle.cap_octet.specs.Checks.{checked, first_failing};
 ghost use Rattle.cap_pcapng.specs.Block.{body_checks, data_checks, parts_in_body, parts_of};
 ghost use Rattle.cap_pcapng.specs.Block.{simple_captured};
-ghost use Rattle.cap_pcapng.specs.Judged.{Judges};
+ghost use Rattle.cap_pcapng.specs.Answer.{Judges};
 ghost use Rattle.cap_pcapng.specs.Padding.{padded};
 ghost use Rattle.cap_pcapng.specs.declared.blocks.Block.TheVariants as a;
 ghost use Rattle.cap_pcapng.specs.declared.frames.BlockType.TheVariants as kind;

@@ -2,7 +2,7 @@
 ghost use Rattle.std.specs.Prelude.{◌≡◌, ◌≤◌, ◌++◌, if◌then◌else◌, [], length, IfOk};
 ghost use Rattle.cap_pcapng.specs.InterfaceOptions.{name_checks, offset_checks, offset_told};
 ghost use Rattle.cap_pcapng.specs.InterfaceOptions.{resolution_checks, units_told};
-ghost use Rattle.cap_pcapng.specs.Judged.{Judges};
+ghost use Rattle.cap_pcapng.specs.Answer.{Judges};
 
 use crate::blocks::InterfaceBlock;
 use crate::clock::{Clock, units_of};

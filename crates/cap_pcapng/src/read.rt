@@ -4,7 +4,7 @@ ghost use Rattle.cap_octet.specs.Checks.{checked};
 ghost use Rattle.cap_pcapng.specs.Block.{IsDescribedIfAny, block_fault, body_checks, option_checks};
 ghost use Rattle.cap_pcapng.specs.Block.{parts_in, parts_in_body, parts_of};
 ghost use Rattle.cap_pcapng.specs.Frame.{frame_fault, frame_in, is_section, most_block};
-ghost use Rattle.cap_pcapng.specs.Judged.{Judges};
+ghost use Rattle.cap_pcapng.specs.Answer.{Judges};
 
 use crate::blocks::{Block, EnhancedBlock, InterfaceBlock, SimpleBlock, check_section};
 use crate::frames::{BlockType, Frame, MOST_BLOCK, order_of};

@@ -5,9 +5,9 @@ ghost use Rattle.cap_octet.specs.Checks.{checked, first_failing};
 ghost use Rattle.cap_octet.specs.Writer.{WritesExactly};
 ghost use Rattle.cap_octet.specs.Packet.{captured};
 ghost use Rattle.cap_pcapng.specs.Padding.{padded};
-ghost use Rattle.cap_pcapng.specs.Written.{comment_text, end_text, fit_checks, interface_heading};
-ghost use Rattle.cap_pcapng.specs.Written.{interface_text, packet_heading, packet_text};
-ghost use Rattle.cap_pcapng.specs.Written.{resolution_text, section_text};
+ghost use Rattle.cap_pcapng.specs.Encoding.{comment_text, end_text, fit_checks, interface_heading};
+ghost use Rattle.cap_pcapng.specs.Encoding.{interface_text, packet_heading, packet_text};
+ghost use Rattle.cap_pcapng.specs.Encoding.{resolution_text, section_text};
 
 use crate::frames::MOST_BLOCK;
 use crate::options::padded_length;

@@ -5,10 +5,10 @@ use Rattle.flt_bpf.specs.Content.{Content}
 use Rattle.flt_lang.specs.Tree.{Expression, empty, truth}
 use Rattle.flt_lang.specs.Counts.{bound_of}
 use Rattle.flt_gen.specs.declared.link.Link.{Link}
-use Rattle.cap_tools.specs.Compiling.{AreMade, IsMade, IsSound, count_of, met_on, ran_at, spent_in}
+use Rattle.cap_tools.specs.Programs.{AreMade, IsMade, IsSound, count_of, met_on, ran_at, spent_in}
 use Rattle.cap_tools.specs.Links.{link_types}
-use Rattle.cap_tools.specs.Printed.{by_reading}
-use Rattle.cap_tools.specs.Printing.{most_cost}
+use Rattle.cap_tools.specs.FilterRules.{by_reading}
+use Rattle.cap_tools.specs.Filters.{most_cost}
 
 made-cost : (program : Content) (e : Expression) (link : Link) (p : Captured) → IsMade program e link → count_of (met_on p program.insns) ≤ bound_of e
 made-cost program e link p made =

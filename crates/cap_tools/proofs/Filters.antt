@@ -17,11 +17,11 @@ use Rattle.flt_gen.specs.declared.link.Link.TheVariants.{Ether}
 use Rattle.flt_gen.specs.Correct.{IsProgramOf}
 use Rattle.flt_gen.specs.Elementary.{Reading, Yes, No, Rejected}
 use Rattle.flt_gen.specs.Reading.{holds}
-use Rattle.cap_tools.specs.Chosen.{Answers}
-use Rattle.cap_tools.specs.Compiling.{AreMade, IsMade, IsSound, count_of, met_on, ran_at, ran_if, ran_on}
+use Rattle.cap_tools.specs.Decisions.{Answers}
+use Rattle.cap_tools.specs.Programs.{AreMade, IsMade, IsSound, count_of, met_on, ran_at, ran_if, ran_on}
 use Rattle.cap_tools.specs.Links.{link_at, link_of, link_types, place_of}
-use Rattle.cap_tools.specs.Printed.{by_reading, expression_decides, passing, read_on}
-use Rattle.cap_tools.specs.Printing.{spent_on}
+use Rattle.cap_tools.specs.FilterRules.{by_reading, expression_decides, passing, read_on}
+use Rattle.cap_tools.specs.Filters.{spent_on}
 
 -- ---- the answer
 

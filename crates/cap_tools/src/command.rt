@@ -6,7 +6,7 @@ ghost use Rattle.cap_tools.specs.Command.{is_proper, is_input_count, is_range, i
 ghost use Rattle.cap_tools.specs.Command.{is_at_least_one, is_window, is_proper_shift};
 ghost use Rattle.cap_tools.specs.Command.{is_proper_edit, is_proper_print, has_one_filter};
 ghost use Rattle.cap_tools.specs.Command.{has_one_output, has_proper_ranges};
-ghost use Rattle.cap_tools.specs.Selected.{is_named, is_kept};
+ghost use Rattle.cap_tools.specs.Selection.{is_named, is_kept};
 
 use cap_octet::Format;
 use flt_gen::Link;

@@ -1,6 +1,6 @@
 //! Compilations: from an expression to a listing.
 ghost use Rattle.std.specs.Prelude.{IfOk, IfErr};
-ghost use Rattle.cap_tools.specs.Compiled.{IsCompiled};
+ghost use Rattle.cap_tools.specs.Compilation.{IsCompiled};
 ghost use Rattle.cap_tools.specs.Expressions.{IsReasonFor};
 
 use crate::expression::read_expression;

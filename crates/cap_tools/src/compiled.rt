@@ -3,7 +3,7 @@ ghost use Rattle.std.specs.Prelude.{◌≡◌, ◌==◌, ◌<◌, All, IfOk, len
 ghost use Rattle.cap_octet.specs.Packet.{captured};
 ghost use Rattle.flt_bpf.specs.Content.{Content};
 ghost use Rattle.flt_bpf.specs.Machine.{Answered};
-ghost use Rattle.cap_tools.specs.Compiling.{AreMade, met_on, ran_at};
+ghost use Rattle.cap_tools.specs.Programs.{AreMade, met_on, ran_at};
 ghost use Rattle.cap_tools.specs.Links.{place_of};
 
 use cap_octet::{Fault, Packet};
@@ -27,7 +27,7 @@ pub struct Compiled<A: Allocator> {
 
 impl<A: Allocator> Model for Compiled<A> {
     ghost use Rattle.std.specs.Coded.{codes};
-    ghost use Rattle.cap_tools.specs.Compiling.{CompiledView, IsSound, expression_code};
+    ghost use Rattle.cap_tools.specs.Programs.{CompiledView, IsSound, expression_code};
 
     ghost Value = { CompiledView };
 
@@ -89,11 +89,11 @@ fn run_at<A: Allocator>(
 impl<A: Allocator> Compiled<A> {
     ghost use Rattle.std.specs.Prelude.{◌≡◌, ◌+◌, ◌≤◌, All, IfOk};
     ghost use Rattle.cap_octet.specs.Packet.{captured};
-    ghost use Rattle.cap_tools.specs.Chosen.{Answers};
-    ghost use Rattle.cap_tools.specs.Compiling.{AreMade, IsTruth, spent_in};
+    ghost use Rattle.cap_tools.specs.Decisions.{Answers};
+    ghost use Rattle.cap_tools.specs.Programs.{AreMade, IsTruth, spent_in};
     ghost use Rattle.cap_tools.specs.Links.{link_types};
-    ghost use Rattle.cap_tools.specs.Printed.{by_reading, expression_decides};
-    ghost use Rattle.cap_tools.specs.Printing.{most_cost, spent_on};
+    ghost use Rattle.cap_tools.specs.FilterRules.{by_reading, expression_decides};
+    ghost use Rattle.cap_tools.specs.Filters.{most_cost, spent_on};
 
     /// Makes the programs of a tree. An error means that memory ran out.
     #[tactic(auto, unfolding(crate::specs::Links::link_types))]

@@ -1,7 +1,7 @@
 //! What decides which packets pass.
 ghost use Rattle.std.specs.Prelude.{◌≡◌, IfErr, IfOk, None, Some};
-ghost use Rattle.cap_tools.specs.Printed.{IsRule, IsWhy, by_reading};
-ghost use Rattle.cap_tools.specs.Printing.{AreNew, programs_of, rule_of};
+ghost use Rattle.cap_tools.specs.FilterRules.{IsRule, IsWhy, by_reading};
+ghost use Rattle.cap_tools.specs.Filters.{AreNew, programs_of, rule_of};
 
 use crate::compiled::Compiled;
 use crate::expression::read_expression;
@@ -26,10 +26,10 @@ pub enum Filter<A: Allocator> {
 impl<A: Allocator> Filter<A> {
     ghost use Rattle.std.specs.Prelude.{◌≡◌, ◌+◌, ◌≤◌};
     ghost use Rattle.cap_octet.specs.Packet.{captured};
-    ghost use Rattle.cap_tools.specs.Chosen.{Answers};
-    ghost use Rattle.cap_tools.specs.Printed.{rule_decides};
-    ghost use Rattle.cap_tools.specs.Compiling.{spent_in};
-    ghost use Rattle.cap_tools.specs.Printing.{most_cost, programs_of, rule_of, spent_on};
+    ghost use Rattle.cap_tools.specs.Decisions.{Answers};
+    ghost use Rattle.cap_tools.specs.FilterRules.{rule_decides};
+    ghost use Rattle.cap_tools.specs.Programs.{spent_in};
+    ghost use Rattle.cap_tools.specs.Filters.{most_cost, programs_of, rule_of, spent_on};
 
     /// Whether a packet passes. It takes no memory.
     ///

@@ -1,5 +1,5 @@
 use Rattle.cap_octet.specs.declared.format.Format.TheVariants.{Pcap, NsecPcap, Pcapng}
-use Rattle.cap_io.specs.Carried.{ItemsBack}
+use Rattle.cap_io.specs.RoundTrip.{ItemsBack}
 use Rattle.cap_io.proofs.PcapBack.{pcap-back, nanoseconds-back}
 use Rattle.cap_io.proofs.PcapngBack.{pcapng-back}
 use Rattle.cap_io.proofs.laws.items_back.Goals as goal

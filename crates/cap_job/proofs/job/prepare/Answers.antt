@@ -1,12 +1,12 @@
 use Rattle.std.proofs.Common.{ℕ, List, refl, sym, ap, subst, ◌∙◌}
-use Rattle.cap_tools.specs.Printing.{programs_of, rule_of}
+use Rattle.cap_tools.specs.Filters.{programs_of, rule_of}
 use Rattle.cap_job.specs.declared.job.Preparation.{Preparation}
-use Rattle.cap_tools.specs.Compiling.{spent_in}
+use Rattle.cap_tools.specs.Programs.{spent_in}
 use Rattle.cap_job.specs.Jobs.{JobView, machine_of}
 use Rattle.cap_job.specs.FirstStep.{IsFresh}
 use Rattle.cap_job.specs.Commands.{IsReady, PreparesOnly, preparing_of}
 use Rattle.cap_job.proofs.Preparing.{new-unspent}
-use Rattle.cap_tools.specs.Compiled.{IsCompiled}
+use Rattle.cap_tools.specs.Compilation.{IsCompiled}
 use Rattle.cap_job.proofs.CommandStarts.{lists-some}
 use Rattle.cap_job.proofs.job.prepare.Goals as goal
 

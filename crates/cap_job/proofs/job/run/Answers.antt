@@ -1,6 +1,6 @@
 use Rattle.std.proofs.Common.{inl, inr, map, refl, ap, subst, string_bytes}
 use Rattle.cap_tools.specs.Messages.{no_memory_message}
-use Rattle.cap_tools.specs.Running.{OutputView, IsTold, seen}
+use Rattle.cap_tools.specs.Outcome.{OutputView, IsTold, seen}
 use Rattle.cap_job.specs.Jobs.{opened}
 use Rattle.cap_job.proofs.CommandStarts.{command-begun}
 use Rattle.cap_job.proofs.job.run.Goals as goal

@@ -1,6 +1,6 @@
 use Rattle.std.proofs.Common.{◌≡◌, ℕ, List, length, ap, subst, ◌∙◌}
 use Rattle.cap_tools.specs.Messages.{write_failed_message}
-use Rattle.cap_tools.specs.Running.{IsTold, seen}
+use Rattle.cap_tools.specs.Outcome.{IsTold, seen}
 use Rattle.cap_job.specs.Feed.{FeedView}
 use Rattle.cap_job.specs.Reports.{name_at}
 use Rattle.cap_job.specs.Machine.{machine_stand}

@@ -1,7 +1,7 @@
 use Rattle.std.proofs.Common.{◌<◌, length, ◌^◌, ◌≡◌, [], ◌++◌, ◌-◌, List, ℕ, take, drop, replicate, subst, sym, ◌∙◌, arith}
 use Rattle.cap_octet.proofs.Writing.{parts-exactly}
 use Rattle.cap_octet.specs.Writer.{WritesExactly}
-use Rattle.cap_pcapng.specs.Written.{interface_text, name_text}
+use Rattle.cap_pcapng.specs.Encoding.{interface_text, name_text}
 use Rattle.cap_pcapng.proofs.WrittenBlocks.{few-interface_text, interface_joined, named, unnamed}
 use Rattle.cap_pcapng.proofs.write.write_interface.Given.{Over}
 use Rattle.cap_pcapng.proofs.write.write_interface.Goals.{then-is_empty, else-is_empty}

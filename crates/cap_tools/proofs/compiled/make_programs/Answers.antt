@@ -3,7 +3,7 @@ use Rattle.std.proofs.lemmas.List.{take_more}
 use Rattle.flt_bpf.specs.Content.{Content}
 use Rattle.flt_gen.specs.declared.link.Link.{Link}
 use Rattle.flt_gen.specs.declared.link.Link.TheVariants.{Ether}
-use Rattle.cap_tools.specs.Compiling.{AreMade}
+use Rattle.cap_tools.specs.Programs.{AreMade}
 use Rattle.cap_tools.proofs.Filters.{fresh-put, made-put}
 use Rattle.cap_tools.proofs.compiled.make_programs.Goals as goal
 

@@ -1,6 +1,6 @@
 use Rattle.std.proofs.Common.{◌≡◌, All, take}
 use Rattle.flt_bpf.specs.Content.{Content}
-use Rattle.cap_tools.specs.Compiling.{AreMade}
+use Rattle.cap_tools.specs.Programs.{AreMade}
 use Rattle.cap_tools.proofs.compiled.make_programs.Given as goal
 
 abbrev pub invariant-loop-link : goal.invariant-loop-link

@@ -3,7 +3,7 @@ use Rattle.std.proofs.lemmas.List.{get_or_default}
 use Rattle.cap_octet.specs.Packet.{captured}
 use Rattle.flt_bpf.specs.Content.{Content}
 use Rattle.flt_bpf.specs.Machine.{Answered}
-use Rattle.cap_tools.specs.Compiling.{met_on}
+use Rattle.cap_tools.specs.Programs.{met_on}
 use Rattle.cap_tools.proofs.Filters.{set-ran}
 use Rattle.cap_tools.proofs.compiled.run_at.Goals as goal
 

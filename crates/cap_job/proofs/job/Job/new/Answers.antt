@@ -1,5 +1,5 @@
 use Rattle.std.proofs.Common.{◌≡◌, List, ℕ, Option, map, length, string_bytes, sym, subst, ◌∙◌, arith}
-use Rattle.cap_tools.specs.Running.{OutputView, seen}
+use Rattle.cap_tools.specs.Outcome.{OutputView, seen}
 use Rattle.cap_job.specs.Jobs.{JobView, Opened, opened, stood_at}
 use Rattle.cap_job.specs.Commands.{Preparing, DecidedBy, IsReadyIf, command_first}
 use Rattle.cap_job.proofs.CommandStarts.{few-inputs, first-decided, first-is, first-ready}

@@ -1,6 +1,6 @@
 use Rattle.std.proofs.Common.{ℕ, ◌+◌, Some, refl, ap, subst}
 use Rattle.cap_tools.specs.Messages.{refusal_status}
-use Rattle.cap_tools.specs.Running.{seen}
+use Rattle.cap_tools.specs.Outcome.{seen}
 use Rattle.cap_job.specs.Jobs.{JobView}
 use Rattle.cap_job.specs.Machine.{machine_stand}
 use Rattle.cap_job.specs.FirstStep.{Refuses}

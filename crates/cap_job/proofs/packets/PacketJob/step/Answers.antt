@@ -1,5 +1,5 @@
 use Rattle.std.proofs.Common.{List, ℕ, ◌+◌, true, false, Some, ap, subst, sym, ◌∙◌}
-use Rattle.cap_tools.specs.Running.{seen}
+use Rattle.cap_tools.specs.Outcome.{seen}
 use Rattle.cap_job.specs.declared.machine.Progress.{Progress}
 use Rattle.cap_job.specs.Bounds.{StepReads, goes_on}
 use Rattle.cap_job.specs.Feed.{Stood}

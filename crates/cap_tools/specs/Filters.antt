@@ -6,9 +6,9 @@ use Rattle.flt_lang.specs.Counts.{bound_of}
 use Rattle.flt_lang.specs.Tree.{empty, truth}
 use Rattle.cap_tools.specs.declared.filter.Filter.{Filter}
 use Rattle.cap_tools.specs.declared.filter.Filter.TheVariants as filter
-use Rattle.cap_tools.specs.Compiling.{AreMade, ran_if}
+use Rattle.cap_tools.specs.Programs.{AreMade, ran_if}
 use Rattle.cap_tools.specs.Links.{link_types, place_of}
-use Rattle.cap_tools.specs.Printed.{Rule, by_reading, by_answer}
+use Rattle.cap_tools.specs.FilterRules.{Rule, by_reading, by_answer}
 
 -- ---- the filter
 

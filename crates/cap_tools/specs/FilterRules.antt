@@ -15,7 +15,7 @@ use Rattle.flt_gen.specs.Reading.{holds}
 use Rattle.cap_tools.specs.declared.command.Print.{Print}
 use Rattle.cap_tools.specs.declared.refusal.Refusal.{Refusal}
 use Rattle.cap_tools.specs.declared.refusal.Refusal.TheVariants as refusal
-use Rattle.cap_tools.specs.Chosen.{Decision, Keep, Skip, Refuse, keep_if}
+use Rattle.cap_tools.specs.Decisions.{Decision, Keep, Skip, Refuse, keep_if}
 use Rattle.cap_tools.specs.Expressions.{IsExpression, IsReasonFor}
 use Rattle.cap_tools.specs.Links.{link_of}
 

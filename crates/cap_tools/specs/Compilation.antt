@@ -10,7 +10,7 @@ use Rattle.flt_gen.specs.Correct.{IsProgramOf}
 use Rattle.cap_tools.specs.declared.refusal.Refusal.TheVariants.{Expression}
 use Rattle.cap_tools.specs.Expressions.{IsExpression, IsReasonFor}
 use Rattle.cap_tools.specs.Messages.{refusal_message, refusal_status}
-use Rattle.cap_tools.specs.Running.{OutputView, OutputFails, OnlyTells}
+use Rattle.cap_tools.specs.Outcome.{OutputView, OutputFails, OnlyTells}
 
 -- a valid program for the expression that a text is: it accepts a packet exactly where the expression matches the
 -- link, and has at most as many instructions as the expression's bound
