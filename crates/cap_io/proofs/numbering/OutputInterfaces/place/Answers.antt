@@ -9,7 +9,6 @@ use Rattle.cap_io.proofs.Interfaces.{same_interface}
 use Rattle.cap_io.proofs.Keys.{among-keys, number-keys, insert-keys}
 use Rattle.cap_io.proofs.Places.{few-behind, first-behind, place-of-last}
 use Rattle.cap_io.proofs.numbering.OutputInterfaces.place.Goals as goal
-use Rattle.cap_io.proofs.numbering.OutputInterfaces.place.Goals.{in_default-via-in-None-1, in_default-via-in-Some+else-is_of}
 
 pub returns : goal.returns
 returns g c =
@@ -24,11 +23,7 @@ returns g c =
 pub returns-in_default : goal.returns-in_default
 returns-in_default g c =
     let keys = c.in_default.self-inside.keys.keys in
-    let is : map interface_in keys ≡ c.args.self.now =
-    elim c.in_default.branch [
-      | in_default-via-in-None-1 w ↦ rw w.self-inside-is c.self.view_is
-      | in_default-via-in-Some+else-is_of w ↦ rw w.self-inside-is c.self.view_is
-    ] in (
+    let is : map interface_in keys ≡ c.args.self.now = search rules in (
       refl,
       rw (c.of.ensures, is) at (sym (among-keys keys c.of.result) ∙ c.in_default-2.ensures.absent),
       ap (map interface_in) c.in_default-2.ensures.err ∙ is,
@@ -37,11 +32,7 @@ returns-in_default g c =
 pub returns-2 : goal.returns-2
 returns-2 g c =
     let keys = c.in_default.self-inside.keys.keys in
-    let is : map interface_in keys ≡ c.args.self.now =
-    elim c.in_default.branch [
-      | in_default-via-in-None-1 w ↦ rw w.self-inside-is c.self.view_is
-      | in_default-via-in-Some+else-is_of w ↦ rw w.self-inside-is c.self.view_is
-    ] in
+    let is : map interface_in keys ≡ c.args.self.now = search rules in
     let place : Place = record { number = c.in-Ok.index; is_new = c.in-Ok.is_new } in
     let has : HasPlace (map interface_in keys) (interface_in c.of.result) place (map interface_in c.insert_full.new.self.keys) =
     record {
