@@ -67,10 +67,15 @@ impl<O: Output, A: Allocator> Sink<O, A> {
     ghost use Rattle.cap_io.specs.Sink.{Adds, Puts, PutWrites, WritesPacket, Finishes};
     ghost use Rattle.cap_io.specs.Sink.{FinishWrites, added_in, refusal_in};
 
-    /// Writes a packet, behind a header and the description of its interface where these are new, or
-    /// nothing of it where it is refused (`LinkTypesDiffer`, `TooLong`, `TimeOutOfRange`,
-    /// `TooManyOutputInterfaces`, `NoMemory`); `WriteFailed` comes after a beginning of what it adds.
-    /// After a fault it returns that again, and writes nothing.
+    /// Appends a packet, behind the file header or section header where it is the first, and in
+    /// pcapng behind the description of its interface where that is new.
+    ///
+    /// On an error it returns the first of these that applies, and nothing of the packet is
+    /// written, except a part of it on `WriteFailed`. Every later call returns the same error.
+    /// - `LinkTypesDiffer` (pcap forms), `TooLong`, `TimeOutOfRange` (pcap forms),
+    ///   `TooManyOutputInterfaces` (pcapng): the format doesn't hold it;
+    /// - `NoMemory`: none was left for a new interface (pcapng);
+    /// - `WriteFailed`: the device failed in this call.
     pub fn put(&mut self, packet: &Packet<'_>) -> Result<(), Fault>
         ensures told { IsTrue O.tells → PutWrites self.old.state self.old (captured packet.now)
             result self.new }
@@ -89,8 +94,12 @@ impl<O: Output, A: Allocator> Sink<O, A> {
         result
     }
 
-    /// Writes the header where nothing was put, with the link type `first`, or 1 where there is none;
-    /// `WriteFailed` comes after a beginning of it. After a fault it returns that again.
+    /// Writes the file header or section header where nothing was put, with the link type `first`,
+    /// or 1 where there is none. It takes no memory, and nothing but `into_output` is of use behind
+    /// it.
+    ///
+    /// `WriteFailed`: the device failed in this call, after a beginning of the header. After an
+    /// error of an earlier call it returns that again.
     pub fn finish(&mut self, first: Option<u16>) -> Result<(), Fault>
         ensures told { IsTrue O.tells → FinishWrites self.old.state self.old first result self.new }
         ensures answer { Finishes self.old.state self.old first result self.new }
