@@ -96,7 +96,7 @@ fn tell<I: Input, O: Output, E: Output, A: Allocator + Copy + Drop>(
     }
 }
 
-fn status_of(end: End) -> u8
+fn status_at_end(end: End) -> u8
     ensures { result ≡ end_status end }
 {
     match end {
@@ -209,7 +209,7 @@ impl<I: Input, O: Output, E: Output, A: Allocator + Copy + Drop> PacketJob<I, O,
             Progress::More => Turn::More,
             Progress::Done(end) => {
                 let _ = tell(&mut self.err, &self.machine, end);
-                let status = status_of(end);
+                let status = status_at_end(end);
                 self.done = Some(status);
                 Turn::Done(status)
             }

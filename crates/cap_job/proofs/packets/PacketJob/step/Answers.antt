@@ -11,19 +11,19 @@ use Rattle.cap_job.proofs.packets.PacketJob.step.Goals as goal
 pub returns-in-Done-clause-told : goal.returns-in-Done-clause-told
 returns-in-Done-clause-told g c = λ ti to none.
     let names : List (List ℕ) = c.step.new.self.drain.names in
-    let new : JobView = record { machine = machine_stand c.step.new.self; programs = c.step.new.self.programs; err = seen (g.E.Output.written c.tell.new.err) (g.E.Output.failures c.tell.new.err); turns = c.self.inside.turns + 1; done = Some c.status_of-status.result } in
-    let P : JobView → Type 0 = λ v. EndsJob g.E.Output.tells v c.status_of-status.result new in
+    let new : JobView = record { machine = machine_stand c.step.new.self; programs = c.step.new.self.programs; err = seen (g.E.Output.written c.tell.new.err) (g.E.Output.failures c.tell.new.err); turns = c.self.inside.turns + 1; done = Some c.status_at_end-status.result } in
+    let P : JobView → Type 0 = λ v. EndsJob g.E.Output.tells v c.status_at_end-status.result new in
     let N : List (List ℕ) → Type 0 = λ l. (ss : List Stood) (before : List ℕ) → Decided ss before (machine_stand c.self.inside.machine)
-    → EndsAs ss before l (machine_stand c.self.inside.machine) (machine_stand c.step.new.self) (end_text names c.step.new.self.feed.heads c.in-Done.end) c.status_of-status.result in
+    → EndsAs ss before l (machine_stand c.self.inside.machine) (machine_stand c.step.new.self) (end_text names c.step.new.self.feed.heads c.in-Done.end) c.status_at_end-status.result in
     subst P c.self.view_is (record {
       text = end_text names c.step.new.self.feed.heads c.in-Done.end;
-      ends = subst N c.in-Done.ensures.names (λ ss before d. rw c.status_of-status.ensures (ends-as ss before names (machine_stand c.self.inside.machine) (machine_stand c.step.new.self) c.in-Done.end (c.in-Done.ensures.told ti to ss before d)));
+      ends = subst N c.in-Done.ensures.names (λ ss before d. rw c.status_at_end-status.ensures (ends-as ss before names (machine_stand c.self.inside.machine) (machine_stand c.step.new.self) c.in-Done.end (c.in-Done.ensures.told ti to ss before d)));
       told = record {
         answer = c.tell.result;
         told = λ te. c.tell.ensures.told te;
         counted = c.tell.ensures.failed;
       };
-      quiet = λ zero. ap (λ e. seen (g.E.Output.written e) (g.E.Output.failures e)) (c.tell.ensures.quiet (clean-status c.in-Done.end (sym c.status_of-status.ensures ∙ zero)));
+      quiet = λ zero. ap (λ e. seen (g.E.Output.written e) (g.E.Output.failures e)) (c.tell.ensures.quiet (clean-status c.in-Done.end (sym c.status_at_end-status.ensures ∙ zero)));
     })
 
 pub returns-in-More-clause-reads : goal.returns-in-More-clause-reads
