@@ -74,10 +74,12 @@ pub(crate) fn read_rest<I: Input>(
     let from = front.len();
     let unit = &mut buffer[..size];
     unit[..from].copy_from_slice(front);
-    let Ok(count) = read_full(input, &mut unit[from..]) else {
+    let rest = &mut unit[from..];
+    let room = rest.len();
+    let Ok(count) = read_full(input, rest) else {
         return Err(Fault::ReadFailed);
     };
-    if from + count < size {
+    if count < room {
         return Err(Fault::Truncated);
     }
     Ok(())

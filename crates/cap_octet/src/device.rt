@@ -126,6 +126,7 @@ pub fn write_all<O: Output>(output: &mut O, buf: &[u8]) -> Result<(), Stopped>
 
 /// Writes parts one after another. An error is a failure of the device in this call, and reports
 /// how many bytes, fewer than all, were written before it: that number modulo 2^64.
+#[inline(always)]
 pub fn write_all_parts<O: Output>(output: &mut O, parts: &[&[u8]]) -> Result<(), Stopped>
     ensures front { IfErr result (λ stopped.
         stopped.written < length (flat_map (λ part. part.now) parts.now)) }
