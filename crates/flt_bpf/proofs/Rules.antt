@@ -8,8 +8,8 @@ use Rattle.flt_bpf.specs.declared.fault.CheckFault.TheVariants.{Empty, TooLong, 
 use Rattle.flt_bpf.specs.declared.operation.Operation.{Operation}
 use Rattle.flt_bpf.specs.declared.operation.Operation.TheVariants.{Load, Store, Compute, Jump, JumpIf}
 use Rattle.flt_bpf.specs.declared.operation.Source.TheVariants.{Memory}
-use Rattle.flt_bpf.specs.declared.operation.Operator.{Operator}
-use Rattle.flt_bpf.specs.declared.operation.Operator.TheVariants.{Divide, Remainder, ShiftLeft, ShiftRight}
+use Rattle.flt_bpf.specs.declared.operation.AluOperation.{AluOperation}
+use Rattle.flt_bpf.specs.declared.operation.AluOperation.TheVariants.{Divide, Remainder, ShiftLeft, ShiftRight}
 use Rattle.flt_bpf.specs.declared.operation.Operand.TheVariants.{Constant, IndexRegister}
 use Rattle.flt_bpf.specs.Instructions.{operation_of}
 use Rattle.flt_bpf.specs.Check.{unless, constant_fault, fault_if_known, fault_of}
@@ -34,7 +34,7 @@ zero_failed true f e = (refl, cc)
 zero_failed false f e = cc
 
 -- the fault of arithmetic on a constant is a rule that is broken
-constant_breaks : (operator : Operator) (i : Insn) (at len : ℕ) (f : CheckFault) → constant_fault operator i.k ≡ Some f → OperationBreaks f (Some (Compute operator Constant)) i at len
+constant_breaks : (operator : AluOperation) (i : Insn) (at len : ℕ) (f : CheckFault) → constant_fault operator i.k ≡ Some f → OperationBreaks f (Some (Compute operator Constant)) i at len
 constant_breaks Divide i at len f e =
     let t = zero_failed (i.k == 0) f e in
     let h = t.0 in

@@ -33,7 +33,7 @@ pub enum Source {
 
 /// What arithmetic does with A and an operand, modulo 2^32.
 #[derive(Clone, Copy, PartialEq, Eq, Debug)]
-pub enum Operator {
+pub enum AluOperation {
     Add,
     Subtract,
     Multiply,
@@ -84,7 +84,7 @@ pub enum Operation {
     /// M[k] = a register.
     Store(Register),
     /// A = A and an operand, computed.
-    Compute(Operator, Operand),
+    Compute(AluOperation, Operand),
     /// A = 0 - A.
     Negate,
     /// Skip k instructions.
@@ -110,7 +110,7 @@ pub fn decode(code: u16) -> Option<Operation>
 {
     use Operand::{Constant, IndexRegister};
     use Operation::*;
-    use Operator::*;
+    use AluOperation::*;
     use Register::{Accumulator, Index};
     use Source::{Immediate, Length, Memory};
     use Test::{AnyBit, AtLeast, Equal, Greater};
@@ -180,7 +180,7 @@ impl Operation {
     {
         use Operand::{Constant, IndexRegister};
         use Operation::*;
-        use Operator::*;
+        use AluOperation::*;
         use Register::{Accumulator, Index};
         use Source::{Immediate, Length, Memory};
         use Test::{AnyBit, AtLeast, Equal, Greater};

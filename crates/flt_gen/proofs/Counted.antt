@@ -19,8 +19,8 @@ use Rattle.flt_lang.specs.Counts as count
 use Rattle.flt_lang.specs.Resolved.{is_unfilled, any_primitive}
 use Rattle.flt_gen.specs.declared.link.Link.{Link}
 use Rattle.flt_gen.specs.declared.link.Link.TheVariants.{Ether, Raw, Cooked}
-use Rattle.flt_gen.specs.declared.elementary.Kind.{Kind}
-use Rattle.flt_gen.specs.declared.elementary.Kind.TheVariants as kind
+use Rattle.flt_gen.specs.declared.elementary.FrameKind.{FrameKind}
+use Rattle.flt_gen.specs.declared.elementary.FrameKind.TheVariants as kind
 use Rattle.flt_gen.specs.declared.elementary.Place.{Place}
 use Rattle.flt_gen.specs.declared.elementary.Elementary.{Elementary}
 use Rattle.flt_gen.specs.declared.elementary.Ports.{Ports}
@@ -94,7 +94,7 @@ two_a_side (direction.One Destination) s s' t t' = refl
 two_a_side (direction.Both Or) s s' t t' = refl
 two_a_side (direction.Both And) s s' t t' = refl
 
-kind_tests_fit : (link : Link) (k : Kind) (d : Direction) (mask : Option ℕ) (a : ℕ) → tests (net_of_kind link k (net_test d mask a)) ≤ 1 + count.side_tests d 1
+kind_tests_fit : (link : Link) (k : FrameKind) (d : Direction) (mask : Option ℕ) (a : ℕ) → tests (net_of_kind link k (net_test d mask a)) ≤ 1 + count.side_tests d 1
 kind_tests_fit link k (direction.One Source) mask a = omega arith
 kind_tests_fit link k (direction.One Destination) mask a = omega arith
 kind_tests_fit link k (direction.Both Or) mask a = omega arith
@@ -317,7 +317,7 @@ bare_proto_value Raw (Some protocol.Ether) n = bare_pair _ _
 bare_proto_value Cooked (Some protocol.Ether) n = bare_one _
 bare_proto_value link (Some _) n = bare_one _
 
-bare_kind : (link : Link) (k : Kind) (net : NetTest) → Bare (net_of_kind link k net)
+bare_kind : (link : Link) (k : FrameKind) (net : NetTest) → Bare (net_of_kind link k net)
 bare_kind link k net = bare_guard _ _ (bare_sides net.direction _ _)
 
 pub bare_net : (link : Link) (p : Option Protocol) (net : NetTest) → Bare (net_formula link p net)

@@ -39,7 +39,7 @@ use Rattle.flt_gen.proofs.Tails.{one_of_four, by_test}
 use Rattle.flt_bpf.specs.declared.operation.Operation.TheVariants.{LoadAbsolute, LoadIndirect, Load, LoadHeaderLength, Store, Compute, Negate, Jump, CopyToIndex}
 use Rattle.flt_bpf.specs.declared.operation.Register.TheVariants.{Accumulator}
 use Rattle.flt_bpf.specs.declared.operation.Source.TheVariants.{Immediate, Memory, Length}
-use Rattle.flt_bpf.specs.declared.operation.Operator.TheVariants as arithmetic
+use Rattle.flt_bpf.specs.declared.operation.AluOperation.TheVariants as arithmetic
 
 passes : (k m : ℕ) (f : CheckFault) → k < m → unless (nat_lt k m) f ≡ None
 passes k m f l = let t : nat_lt k m ≡ true = grind (arith, nat_tests) in ap (λ b. unless b f) t

@@ -31,7 +31,7 @@ use Rattle.flt_gen.specs.Code.{plain, computation, branch_insn, base_before, tra
 use Rattle.flt_bpf.proofs.Suffix.{answer_of, answer_after}
 use Rattle.flt_bpf.specs.declared.operation.Operation.TheVariants.{LoadAbsolute, LoadIndirect, Load, LoadHeaderLength, Store, Compute, Negate, Jump, CopyToIndex}
 use Rattle.flt_bpf.specs.declared.operation.Source.TheVariants.{Immediate, Memory, Length}
-use Rattle.flt_bpf.specs.declared.operation.Operator.TheVariants as arithmetic
+use Rattle.flt_bpf.specs.declared.operation.AluOperation.TheVariants as arithmetic
 
 get_set_same : (xs : List ℕ) (i v : ℕ) → i < length xs → slice_get (slice_set xs i v) i ≡ Some v
 get_set_same xs i v l =

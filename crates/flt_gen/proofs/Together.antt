@@ -12,8 +12,8 @@ use Rattle.flt_words.specs.declared.token.Join.TheVariants.{And, Or}
 use Rattle.flt_lang.specs.declared.quals.Direction.{Direction}
 use Rattle.flt_lang.specs.declared.quals.Direction.TheVariants as direction
 use Rattle.flt_gen.specs.declared.link.Link.{Link}
-use Rattle.flt_gen.specs.declared.elementary.Kind.{Kind}
-use Rattle.flt_gen.specs.declared.elementary.Kind.TheVariants as kind
+use Rattle.flt_gen.specs.declared.elementary.FrameKind.{FrameKind}
+use Rattle.flt_gen.specs.declared.elementary.FrameKind.TheVariants as kind
 use Rattle.flt_gen.specs.declared.elementary.Elementary.{Elementary}
 use Rattle.flt_gen.specs.declared.elementary.Hosts.TheVariants as hosts
 use Rattle.flt_gen.specs.declared.elementary.Ports.{Ports}
@@ -143,11 +143,11 @@ module _ (link : Link) (p : List ℕ) (n : ℕ) where
   three_kinds Yes No Rejected a b c x y z ir iq rq = absurd (let e = iq refl in cc)
   three_kinds Yes No No a b c x y z ir iq rq = or_no (either a x) ∙ ap (λ v. either v x) (sym (or_no a)) ∙ ap (λ v. either (either a No) v) (sym (or_no x))
 
-  abbrev kind_reads : Kind → Reading
+  abbrev kind_reads : FrameKind → Reading
   kind_reads k = elementary_reads (kind_test link k) p
 
   -- hosts
-  abbrev of_kind : Kind → Direction → ℕ → List ℕ → Reading
+  abbrev of_kind : FrameKind → Direction → ℕ → List ℕ → Reading
   of_kind k d f bs = side_reads (address_places link k) d f bs
 
   abbrev hosts_read : Option Protocol → Direction → ℕ → List ℕ → Reading

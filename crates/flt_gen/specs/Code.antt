@@ -10,8 +10,6 @@ use Rattle.flt_words.specs.declared.token.Operator.{Operator}
 use Rattle.flt_words.specs.declared.token.Operator.TheVariants.{Or, And, ShiftLeft, ShiftRight, Add, Subtract, Multiply, Divide, Remainder, ExclusiveOr}
 use Rattle.flt_words.specs.declared.token.Comparison.{Comparison}
 use Rattle.flt_words.specs.declared.token.Comparison.TheVariants.{Equal, NotEqual, Less, AtMost, Greater, AtLeast}
-use Rattle.flt_words.specs.declared.token.Size.{Size}
-use Rattle.flt_words.specs.declared.token.Size.TheVariants as size
 use Rattle.flt_words.specs.declared.token.Protocol.{Protocol}
 use Rattle.flt_words.specs.declared.token.Protocol.TheVariants.{Ether, Tcp, Udp, Icmp}
 use Rattle.flt_lang.specs.Tree.{NumberTree, literal, len, named, load, negated, applied, Expression, empty, truth}
@@ -32,8 +30,8 @@ use Rattle.flt_bpf.specs.declared.operation.Operation.{Operation}
 use Rattle.flt_bpf.specs.declared.operation.Operation.TheVariants.{LoadAbsolute, LoadIndirect, Load, LoadHeaderLength, Store, Compute, Negate, Jump, JumpIf, ReturnConstant, CopyToIndex}
 use Rattle.flt_bpf.specs.declared.operation.Register.TheVariants.{Accumulator}
 use Rattle.flt_bpf.specs.declared.operation.Source.TheVariants.{Immediate, Memory, Length}
-use Rattle.flt_bpf.specs.declared.operation.Operator.{Operator as MachineOperator}
-use Rattle.flt_bpf.specs.declared.operation.Operator.TheVariants as arithmetic
+use Rattle.flt_bpf.specs.declared.operation.AluOperation.{AluOperation}
+use Rattle.flt_bpf.specs.declared.operation.AluOperation.TheVariants as arithmetic
 use Rattle.flt_bpf.specs.Instructions.{code_of}
 
 -- an instruction that isn't a test
@@ -41,21 +39,21 @@ abbrev pub plain : Operation → ℕ → Insn
 plain operation k = record { code = code_of operation; jt = 0; jf = 0; k = k }
 
 -- the machine's operator for one of an expression
-abbrev pub machine_operator : Operator → MachineOperator
-machine_operator Add = arithmetic.Add
-machine_operator Subtract = arithmetic.Subtract
-machine_operator Multiply = arithmetic.Multiply
-machine_operator Divide = arithmetic.Divide
-machine_operator Or = arithmetic.Or
-machine_operator And = arithmetic.And
-machine_operator ShiftLeft = arithmetic.ShiftLeft
-machine_operator ShiftRight = arithmetic.ShiftRight
-machine_operator Remainder = arithmetic.Remainder
-machine_operator ExclusiveOr = arithmetic.ExclusiveOr
+abbrev pub alu_operation : Operator → AluOperation
+alu_operation Add = arithmetic.Add
+alu_operation Subtract = arithmetic.Subtract
+alu_operation Multiply = arithmetic.Multiply
+alu_operation Divide = arithmetic.Divide
+alu_operation Or = arithmetic.Or
+alu_operation And = arithmetic.And
+alu_operation ShiftLeft = arithmetic.ShiftLeft
+alu_operation ShiftRight = arithmetic.ShiftRight
+alu_operation Remainder = arithmetic.Remainder
+alu_operation ExclusiveOr = arithmetic.ExclusiveOr
 
 -- an operator with X
 abbrev pub computation : Operator → Operation
-computation operator = Compute (machine_operator operator) IndexRegister
+computation operator = Compute (alu_operation operator) IndexRegister
 
 -- the greatest offset of a conditional jump
 abbrev pub NEAR : ℕ

@@ -7,8 +7,8 @@ use Rattle.flt_words.specs.declared.token.Comparison.{Comparison}
 use Rattle.flt_words.specs.declared.token.Comparison.TheVariants.{Equal, NotEqual, Less, AtMost, Greater, AtLeast}
 use Rattle.flt_gen.specs.declared.link.Link.{Link}
 use Rattle.flt_gen.specs.declared.link.Link.TheVariants.{Ether, Raw, Cooked}
-use Rattle.flt_gen.specs.declared.elementary.Kind.{Kind}
-use Rattle.flt_gen.specs.declared.elementary.Kind.TheVariants.{Ethernet, Ip, Ip6, Arp, Rarp}
+use Rattle.flt_gen.specs.declared.elementary.FrameKind.{FrameKind}
+use Rattle.flt_gen.specs.declared.elementary.FrameKind.TheVariants.{Ethernet, Ip, Ip6, Arp, Rarp}
 use Rattle.flt_gen.specs.declared.elementary.Place.{Place}
 use Rattle.flt_gen.specs.declared.elementary.Place.TheVariants.{At, Past}
 use Rattle.flt_gen.specs.declared.elementary.FieldTest.{FieldTest}
@@ -79,7 +79,7 @@ network Raw = 0
 network Cooked = 16
 
 -- a frame is of a kind: by the type in its Ethernet header, else by the version in its first byte
-abbrev pub kind_test : Link → Kind → Elementary
+abbrev pub kind_test : Link → FrameKind → Elementary
 kind_test Ether Ethernet = Known true
 kind_test Ether Ip = is_at 12 HalfWord 0x0800
 kind_test Ether Ip6 = is_at 12 HalfWord 0x86dd

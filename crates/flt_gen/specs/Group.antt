@@ -14,8 +14,8 @@ use Rattle.flt_lang.specs.declared.value.Value.{Value}
 use Rattle.flt_lang.specs.declared.value.Value.TheVariants as value
 use Rattle.flt_lang.specs.Tree.{TruthTree, qualified, denied, joined}
 use Rattle.flt_gen.specs.declared.link.Link.{Link}
-use Rattle.flt_gen.specs.declared.elementary.Kind.{Kind}
-use Rattle.flt_gen.specs.declared.elementary.Kind.TheVariants as kind
+use Rattle.flt_gen.specs.declared.elementary.FrameKind.{FrameKind}
+use Rattle.flt_gen.specs.declared.elementary.FrameKind.TheVariants as kind
 use Rattle.flt_gen.specs.declared.elementary.Place.TheVariants.{At}
 use Rattle.flt_gen.specs.declared.elementary.Ports.TheVariants.{One, Several}
 use Rattle.flt_gen.specs.declared.elementary.Hosts.{Hosts}
@@ -94,15 +94,15 @@ larger_group q v group = group_and q group (member_number q.value_type v)
 
 -- hosts of IPv4: those of a network, or several, whose addresses are passed beside
 
-abbrev pub address_places : Link → Kind → Sides
+abbrev pub address_places : Link → FrameKind → Sides
 address_places link kind =
     record { width = Word; source = At (network link + source_offset kind); destination = At (network link + destination_offset kind) }
 
-abbrev pub hosts_sides : Link → Kind → Hosts → List ℕ → Formula
+abbrev pub hosts_sides : Link → FrameKind → Hosts → List ℕ → Formula
 hosts_sides link kind (hosts.Net net) numbers = net_sides link kind net
 hosts_sides link kind (hosts.Several direction first) numbers = any_sides direction (address_places link kind) first numbers
 
-abbrev pub hosts_of_kind : Link → Kind → Hosts → List ℕ → Formula
+abbrev pub hosts_of_kind : Link → FrameKind → Hosts → List ℕ → Formula
 hosts_of_kind link kind wanted numbers = Guard (kind_test link kind) (hosts_sides link kind wanted numbers)
 
 abbrev pub any_hosts : Link → Hosts → List ℕ → Formula

@@ -24,8 +24,8 @@ use Rattle.flt_lang.specs.Nets.{first_bits, ip4_net}
 use Rattle.flt_lang.specs.Tree.{literal, len}
 use Rattle.flt_gen.specs.declared.link.Link.{Link}
 use Rattle.flt_gen.specs.declared.link.Link.TheVariants.{Cooked}
-use Rattle.flt_gen.specs.declared.elementary.Kind.{Kind}
-use Rattle.flt_gen.specs.declared.elementary.Kind.TheVariants.{Ethernet, Ip, Ip6, Arp, Rarp}
+use Rattle.flt_gen.specs.declared.elementary.FrameKind.{FrameKind}
+use Rattle.flt_gen.specs.declared.elementary.FrameKind.TheVariants.{Ethernet, Ip, Ip6, Arp, Rarp}
 use Rattle.flt_gen.specs.declared.elementary.Place.{Place}
 use Rattle.flt_gen.specs.declared.elementary.Place.TheVariants.{At, Past}
 use Rattle.flt_gen.specs.declared.elementary.Elementary.{Elementary}
@@ -102,19 +102,19 @@ abbrev pub address_test : Option ℕ → ℕ → ℕ → Elementary
 address_test mask address at = Field (record { place = At at; width = Word; mask = mask; comparison = Equal; value = address })
 
 -- how far behind the network header's start the addresses stand
-abbrev pub source_offset : Kind → ℕ
+abbrev pub source_offset : FrameKind → ℕ
 source_offset Ip = 12
 source_offset _ = 14
 
-abbrev pub destination_offset : Kind → ℕ
+abbrev pub destination_offset : FrameKind → ℕ
 destination_offset Ip = 16
 destination_offset _ = 24
 
-abbrev pub net_sides : Link → Kind → NetTest → Formula
+abbrev pub net_sides : Link → FrameKind → NetTest → Formula
 net_sides link kind net =
     sides net.direction (address_test net.mask net.address (network link + source_offset kind) ∷ []) (address_test net.mask net.address (network link + destination_offset kind) ∷ [])
 
-abbrev pub net_of_kind : Link → Kind → NetTest → Formula
+abbrev pub net_of_kind : Link → FrameKind → NetTest → Formula
 net_of_kind link kind net = Guard (kind_test link kind) (net_sides link kind net)
 
 abbrev pub net_formula : Link → Option Protocol → NetTest → Formula

@@ -11,7 +11,7 @@ ghost use Rattle.flt_gen.specs.Primitives.{net_formula, ip6_test, ip6_tests, ip6
 use crate::among::put_any_sides;
 use crate::code::Code;
 use crate::context::Context;
-use crate::elementary::{Elementary, FieldTest, Hosts, Kind, NetTest, Place, Sides};
+use crate::elementary::{Elementary, FieldTest, FrameKind, Hosts, NetTest, Place, Sides};
 use crate::link::Link;
 use crate::put::{put_elementary, put_sides};
 use crate::table::{kind_test, network};
@@ -34,27 +34,27 @@ fn address_test(mask: Option<u32>, address: u32, at: u32) -> Elementary
 }
 
 /// How far behind the network header's start the source address stands (RFC 791, RFC 826).
-fn source_offset(kind: Kind) -> u32
+fn source_offset(kind: FrameKind) -> u32
     ensures offset { result ≡ source_offset kind }
     ensures near { result ≤ 14 }
 {
     match kind {
-        Kind::Ip => 12,
+        FrameKind::Ip => 12,
         _ => 14,
     }
 }
 
-fn destination_offset(kind: Kind) -> u32
+fn destination_offset(kind: FrameKind) -> u32
     ensures offset { result ≡ destination_offset kind }
     ensures near { result ≤ 24 }
 {
     match kind {
-        Kind::Ip => 16,
+        FrameKind::Ip => 16,
         _ => 24,
     }
 }
 
-fn address_places(link: Link, kind: Kind) -> Sides
+fn address_places(link: Link, kind: FrameKind) -> Sides
     ensures { result ≡ address_places link kind }
 {
     let start = network(link);
@@ -69,7 +69,7 @@ fn address_places(link: Link, kind: Kind) -> Sides
 fn put_host_sides<A: Allocator>(
     code: &mut Code<A>,
     context: Context,
-    kind: Kind,
+    kind: FrameKind,
     wanted: Hosts,
     numbers: &[u32],
 ) -> Result<usize, AllocError>
@@ -95,7 +95,7 @@ fn put_host_sides<A: Allocator>(
 fn put_hosts_behind<A: Allocator>(
     code: &mut Code<A>,
     context: Context,
-    kind: Kind,
+    kind: FrameKind,
     wanted: Hosts,
     numbers: &[u32],
     other: usize,
@@ -121,11 +121,18 @@ fn put_any_hosts<A: Allocator>(
     ensures { Emits (36 * length numbers.now + 72) result context
         (any_hosts context.link wanted numbers.now) code.old code.new }
 {
-    let not_ip = context.elsewhere(kind_test(context.link, Kind::Ip));
-    let neither = not_ip.elsewhere(kind_test(context.link, Kind::Arp));
-    let rarp = put_hosts_behind(code, neither, Kind::Rarp, wanted, numbers, context.to.no)?;
-    let arp = put_hosts_behind(code, not_ip, Kind::Arp, wanted, numbers, rarp)?;
-    put_hosts_behind(code, context, Kind::Ip, wanted, numbers, arp)
+    let not_ip = context.elsewhere(kind_test(context.link, FrameKind::Ip));
+    let neither = not_ip.elsewhere(kind_test(context.link, FrameKind::Arp));
+    let rarp = put_hosts_behind(
+        code,
+        neither,
+        FrameKind::Rarp,
+        wanted,
+        numbers,
+        context.to.no,
+    )?;
+    let arp = put_hosts_behind(code, not_ip, FrameKind::Arp, wanted, numbers, rarp)?;
+    put_hosts_behind(code, context, FrameKind::Ip, wanted, numbers, arp)
 }
 
 /// Hosts of IPv4, by the forms that their protocol allows.
@@ -141,9 +148,9 @@ pub fn put_hosts<A: Allocator>(
         (hosts_formula context.link protocol wanted numbers.now) code.old code.new }
 {
     let kind = match protocol {
-        Some(Protocol::Ip) => Kind::Ip,
-        Some(Protocol::Arp) => Kind::Arp,
-        Some(Protocol::Rarp) => Kind::Rarp,
+        Some(Protocol::Ip) => FrameKind::Ip,
+        Some(Protocol::Arp) => FrameKind::Arp,
+        Some(Protocol::Rarp) => FrameKind::Rarp,
         Some(_) => return Ok(context.to.no),
         None => return put_any_hosts(code, context, wanted, numbers),
     };
@@ -213,7 +220,7 @@ pub fn put_ip6<A: Allocator>(
     let start = network(context.link);
     let source = ip6_tests(prefix, address, start + 8);
     let destination = ip6_tests(prefix, address, start + 24);
-    let kind = kind_test(context.link, Kind::Ip6);
+    let kind = kind_test(context.link, FrameKind::Ip6);
     let yes = put_sides(code, context.behind(kind), direction, &source, &destination)?;
     put_elementary(code, context.going_to(yes, context.to.no), kind)
 }

@@ -9,7 +9,7 @@ use flt_words::{Comparison, Protocol};
 
 /// What a frame is by its link header, or by its version where there is none.
 #[derive(Clone, Copy)]
-pub enum Kind {
+pub enum FrameKind {
     Ethernet,
     Ip,
     Ip6,

@@ -7,7 +7,7 @@ ghost use Rattle.flt_gen.specs.Follow.{and_fork};
 
 use crate::elementary::{Alternatives, Elementary, Fact, FieldTest, Place};
 use flt_bpf::insn::Insn;
-use flt_bpf::operation::{Operand, Operation, Operator, Test};
+use flt_bpf::operation::{AluOperation, Operand, Operation, Test};
 use flt_words::Comparison;
 
 fn same_mask(one: Option<u32>, other: Option<u32>) -> bool
@@ -178,7 +178,7 @@ fn past_load(behind: &[Insn], facts: &[Fact], load: u16, at: u32, place: usize) 
     match first_insn(behind) {
         None => place,
         Some((insn, others)) => {
-            if insn.code == Operation::Compute(Operator::And, Operand::Constant).code() {
+            if insn.code == Operation::Compute(AluOperation::And, Operand::Constant).code() {
                 let mask = Some(insn.k);
                 past_mask(others, facts, Look { load, at, mask }, place)
             } else {

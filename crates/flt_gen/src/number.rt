@@ -2,7 +2,7 @@
 
 ghost use Rattle.std.specs.Prelude.{◌≡◌, ◌^◌, ◌<◌, length, OnOk, IfOk, reverse};
 ghost use Rattle.flt_gen.specs.Code.{entered, base_before, transport_before, accessor_before};
-ghost use Rattle.flt_gen.specs.Code.{machine_operator, computation, operands_before, all_before};
+ghost use Rattle.flt_gen.specs.Code.{alu_operation, computation, operands_before, all_before};
 ghost use Rattle.flt_gen.specs.Code.{accessors_before};
 ghost use Rattle.flt_gen.specs.Follow.{nothing};
 ghost use Rattle.flt_gen.specs.Numbers.{accessor_tests, width_of};
@@ -10,28 +10,28 @@ ghost use Rattle.flt_gen.specs.Puts.{HasRoom, Puts};
 
 use crate::code::{Code, Targets};
 use crate::context::Context;
-use crate::elementary::Kind;
+use crate::elementary::FrameKind;
 use crate::link::Link;
 use crate::put::put_all;
 use crate::table::{first_fragment, has_ip_proto, kind_test, network};
-use flt_bpf::operation::{self, Operand, Operation, Register, Source, Width};
+use flt_bpf::operation::{AluOperation, Operand, Operation, Register, Source, Width};
 use flt_words::{Operator, Protocol};
 use std::alloc::{AllocError, Allocator};
 
-fn machine_operator(operator: Operator) -> operation::Operator
-    ensures { result ≡ machine_operator operator }
+fn alu_operation(operator: Operator) -> AluOperation
+    ensures { result ≡ alu_operation operator }
 {
     match operator {
-        Operator::Add => operation::Operator::Add,
-        Operator::Subtract => operation::Operator::Subtract,
-        Operator::Multiply => operation::Operator::Multiply,
-        Operator::Divide => operation::Operator::Divide,
-        Operator::Or => operation::Operator::Or,
-        Operator::And => operation::Operator::And,
-        Operator::ShiftLeft => operation::Operator::ShiftLeft,
-        Operator::ShiftRight => operation::Operator::ShiftRight,
-        Operator::Remainder => operation::Operator::Remainder,
-        Operator::ExclusiveOr => operation::Operator::ExclusiveOr,
+        Operator::Add => AluOperation::Add,
+        Operator::Subtract => AluOperation::Subtract,
+        Operator::Multiply => AluOperation::Multiply,
+        Operator::Divide => AluOperation::Divide,
+        Operator::Or => AluOperation::Or,
+        Operator::And => AluOperation::And,
+        Operator::ShiftLeft => AluOperation::ShiftLeft,
+        Operator::ShiftRight => AluOperation::ShiftRight,
+        Operator::Remainder => AluOperation::Remainder,
+        Operator::ExclusiveOr => AluOperation::ExclusiveOr,
     }
 }
 
@@ -39,7 +39,7 @@ fn machine_operator(operator: Operator) -> operation::Operator
 pub fn computation(operator: Operator) -> Operation
     ensures { result ≡ computation operator }
 {
-    Operation::Compute(machine_operator(operator), Operand::IndexRegister)
+    Operation::Compute(alu_operation(operator), Operand::IndexRegister)
 }
 
 /// How much an accessor reads of which the size in bytes is written: 1, 2 or 4.
@@ -113,13 +113,17 @@ fn put_accessor_tests<A: Allocator>(
         code.old code.new }
 {
     let context = Context::new(link, to);
-    let (ip, first) = (kind_test(link, Kind::Ip), first_fragment(link));
+    let (ip, first) = (kind_test(link, FrameKind::Ip), first_fragment(link));
     match protocol {
-        Protocol::Ether => put_all(code, context, &[kind_test(link, Kind::Ethernet)]),
+        Protocol::Ether => put_all(code, context, &[kind_test(link, FrameKind::Ethernet)]),
         Protocol::Ip => put_all(code, context, &[ip]),
-        Protocol::Ip6 | Protocol::Icmp6 => put_all(code, context, &[kind_test(link, Kind::Ip6)]),
-        Protocol::Arp => put_all(code, context, &[kind_test(link, Kind::Arp)]),
-        Protocol::Rarp => put_all(code, context, &[kind_test(link, Kind::Rarp)]),
+        Protocol::Ip6 | Protocol::Icmp6 => put_all(
+            code,
+            context,
+            &[kind_test(link, FrameKind::Ip6)],
+        ),
+        Protocol::Arp => put_all(code, context, &[kind_test(link, FrameKind::Arp)]),
+        Protocol::Rarp => put_all(code, context, &[kind_test(link, FrameKind::Rarp)]),
         Protocol::Tcp => put_all(code, context, &[ip, has_ip_proto(link, 6), first]),
         Protocol::Udp => put_all(code, context, &[ip, has_ip_proto(link, 17), first]),
         Protocol::Icmp => put_all(code, context, &[ip, has_ip_proto(link, 1), first]),

@@ -10,7 +10,7 @@ ghost use Rattle.flt_gen.specs.Primitives.{ip6_transport, port_formula};
 use crate::among::put_any_sides;
 use crate::code::Code;
 use crate::context::Context;
-use crate::elementary::{Elementary, Kind, Place, PortTest, Ports, Sides, Transport};
+use crate::elementary::{Elementary, FrameKind, Place, PortTest, Ports, Sides, Transport};
 use crate::link::Link;
 use crate::put::{put_elementary, put_fork, put_sides};
 use crate::table::{compares_at, first_fragment, has_ip_proto, has_ip6_proto, kind_test, network};
@@ -196,7 +196,10 @@ pub fn put_ports<A: Allocator>(
         (port_formula context.link wanted numbers.now) code.old code.new }
 {
     let (link, no) = (context.link, context.to.no);
-    let (ip, ip6) = (kind_test(link, Kind::Ip), kind_test(link, Kind::Ip6));
+    let (ip, ip6) = (
+        kind_test(link, FrameKind::Ip),
+        kind_test(link, FrameKind::Ip6),
+    );
     let (header, not_ip) = (ip6_transport(link), context.elsewhere(ip));
     let other = put_ports_of_kind(code, not_ip, ip6, header, wanted, numbers, no)?;
     put_ports_of_kind(

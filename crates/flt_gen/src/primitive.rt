@@ -10,7 +10,7 @@ ghost use Rattle.flt_gen.specs.Primitives.{is_group_address, cast_formula};
 
 use crate::code::Code;
 use crate::context::Context;
-use crate::elementary::{Elementary, FieldTest, Kind, Place};
+use crate::elementary::{Elementary, FieldTest, FrameKind, Place};
 use crate::link::Link;
 use crate::put::{put_all, put_elementary, put_sides};
 use crate::table::{compares_at, has_ip_proto, has_ip6_proto, is_at, kind_test, network};
@@ -42,7 +42,7 @@ fn put_ip_proto<A: Allocator>(
     requires { HasRoom 12 code.old }
     ensures { Emits 12 result context (ip_proto context.link protocol) code.old code.new }
 {
-    let kind = kind_test(context.link, Kind::Ip);
+    let kind = kind_test(context.link, FrameKind::Ip);
     let has_proto = has_ip_proto(context.link, protocol);
     put_proto_behind(code, context, kind, has_proto, context.to.no)
 }
@@ -55,7 +55,7 @@ fn put_ip6_proto<A: Allocator>(
     requires { HasRoom 12 code.old }
     ensures { Emits 12 result context (ip6_proto context.link protocol) code.old code.new }
 {
-    let kind = kind_test(context.link, Kind::Ip6);
+    let kind = kind_test(context.link, FrameKind::Ip6);
     let has_proto = has_ip6_proto(context.link, protocol);
     put_proto_behind(code, context, kind, has_proto, context.to.no)
 }
@@ -68,7 +68,7 @@ fn put_any_proto<A: Allocator>(
     requires { HasRoom 24 code.old }
     ensures { Emits 24 result context (any_proto context.link protocol) code.old code.new }
 {
-    let kind = kind_test(context.link, Kind::Ip);
+    let kind = kind_test(context.link, FrameKind::Ip);
     let other = put_ip6_proto(code, context.elsewhere(kind), protocol)?;
     let has_proto = has_ip_proto(context.link, protocol);
     put_proto_behind(code, context, kind, has_proto, other)
@@ -86,7 +86,11 @@ fn put_ether_proto<A: Allocator>(
         Link::Cooked => put_elementary(code, context, is_at(14, Width::HalfWord, protocol)),
         link => {
             let has_type = is_at(12, Width::HalfWord, protocol);
-            put_all(code, context, &[kind_test(link, Kind::Ethernet), has_type])
+            put_all(
+                code,
+                context,
+                &[kind_test(link, FrameKind::Ethernet), has_type],
+            )
         }
     }
 }
@@ -94,7 +98,7 @@ fn put_ether_proto<A: Allocator>(
 fn put_kind<A: Allocator>(
     code: &mut Code<A>,
     context: Context,
-    kind: Kind,
+    kind: FrameKind,
 ) -> Result<usize, AllocError>
     requires { HasRoom 6 code.old }
     ensures { Emits 6 result context (Single (kind_test context.link kind)) code.old code.new }
@@ -112,11 +116,11 @@ pub fn put_check<A: Allocator>(
     ensures { Emits 24 result context (check_formula context.link protocol) code.old code.new }
 {
     match protocol {
-        Protocol::Ether => put_kind(code, context, Kind::Ethernet),
-        Protocol::Ip => put_kind(code, context, Kind::Ip),
-        Protocol::Ip6 => put_kind(code, context, Kind::Ip6),
-        Protocol::Arp => put_kind(code, context, Kind::Arp),
-        Protocol::Rarp => put_kind(code, context, Kind::Rarp),
+        Protocol::Ether => put_kind(code, context, FrameKind::Ethernet),
+        Protocol::Ip => put_kind(code, context, FrameKind::Ip),
+        Protocol::Ip6 => put_kind(code, context, FrameKind::Ip6),
+        Protocol::Arp => put_kind(code, context, FrameKind::Arp),
+        Protocol::Rarp => put_kind(code, context, FrameKind::Rarp),
         Protocol::Tcp => put_any_proto(code, context, 6),
         Protocol::Udp => put_any_proto(code, context, 17),
         Protocol::Icmp => put_ip_proto(code, context, 1),
@@ -170,7 +174,11 @@ pub fn put_ether_host<A: Allocator>(
 {
     let (source, destination) = (mac_tests(6, address), mac_tests(0, address));
     let yes = put_sides(code, context, direction, &source, &destination)?;
-    put_kind(code, context.going_to(yes, context.to.no), Kind::Ethernet)
+    put_kind(
+        code,
+        context.going_to(yes, context.to.no),
+        FrameKind::Ethernet,
+    )
 }
 
 /// The lowest bit of an Ethernet address' first byte is set.
@@ -204,17 +212,17 @@ pub fn put_cast<A: Allocator>(
             put_ether_host(code, context, destination, 0xffff_ffff_ffff)
         }
         (Cast::Multicast, None | Some(Protocol::Ether)) => {
-            let tests = [kind_test(link, Kind::Ethernet), is_group_address()];
+            let tests = [kind_test(link, FrameKind::Ethernet), is_group_address()];
             put_all(code, context, &tests)
         }
         (Cast::Multicast, Some(Protocol::Ip)) => {
             let first = Place::At(network(link) + 16);
             let is_high = compares_at(first, Width::Byte, Comparison::AtLeast, 224);
-            put_all(code, context, &[kind_test(link, Kind::Ip), is_high])
+            put_all(code, context, &[kind_test(link, FrameKind::Ip), is_high])
         }
         (Cast::Multicast, Some(Protocol::Ip6)) => {
             let is_high = is_at(network(link) + 24, Width::Byte, 255);
-            put_all(code, context, &[kind_test(link, Kind::Ip6), is_high])
+            put_all(code, context, &[kind_test(link, FrameKind::Ip6), is_high])
         }
         (_, Some(_)) => Ok(context.to.no),
     }

@@ -9,7 +9,7 @@ ghost use Rattle.flt_gen.specs.Puts.{HasRoom, Puts, Emits};
 use crate::code::{Code, Targets};
 use crate::context::Context;
 use crate::elementary::{Elementary, Fact, FieldTest, Place};
-use flt_bpf::operation::{Operand, Operation, Operator, Test, Width};
+use flt_bpf::operation::{AluOperation, Operand, Operation, Test, Width};
 use flt_lang::Direction;
 use flt_words::{Comparison, Join, Side};
 use std::alloc::{AllocError, Allocator};
@@ -38,7 +38,7 @@ pub fn put_mask<A: Allocator>(code: &mut Code<A>, mask: Option<u32>) -> Result<(
     match mask {
         None => Ok(()),
         Some(mask) => {
-            let and = Operation::Compute(Operator::And, Operand::Constant);
+            let and = Operation::Compute(AluOperation::And, Operand::Constant);
             code.put_plain(and, mask)
         }
     }

@@ -4,7 +4,7 @@ ghost use Rattle.std.specs.Prelude.{◌≡◌, ◌≤◌, Some, None};
 ghost use Rattle.flt_gen.specs.Elementary.{network, is_at, is_masked, compares_at, kind_test};
 ghost use Rattle.flt_gen.specs.Elementary.{first_fragment, has_ip_proto, has_ip6_proto};
 
-use crate::elementary::{Elementary, FieldTest, Kind, Place};
+use crate::elementary::{Elementary, FieldTest, FrameKind, Place};
 use crate::link::Link;
 use flt_bpf::operation::Width;
 use flt_words::Comparison;
@@ -55,23 +55,25 @@ pub fn compares_at(place: Place, width: Width, comparison: Comparison, value: u3
 }
 
 /// A frame is of a kind: by the type in its Ethernet header, else by the version in its first byte.
-pub fn kind_test(link: Link, kind: Kind) -> Elementary
+pub fn kind_test(link: Link, kind: FrameKind) -> Elementary
     ensures { result ≡ kind_test link kind }
 {
     match (link, kind) {
-        (Link::Ether, Kind::Ethernet) => Elementary::Known(true),
-        (Link::Ether, Kind::Ip) => is_at(12, Width::HalfWord, 0x0800),
-        (Link::Ether, Kind::Ip6) => is_at(12, Width::HalfWord, 0x86dd),
-        (Link::Ether, Kind::Arp) => is_at(12, Width::HalfWord, 0x0806),
-        (Link::Ether, Kind::Rarp) => is_at(12, Width::HalfWord, 0x8035),
-        (Link::Raw, Kind::Ip) => is_masked(0, Width::Byte, 0xf0, 0x40),
-        (Link::Raw, Kind::Ip6) => is_masked(0, Width::Byte, 0xf0, 0x60),
-        (Link::Raw, Kind::Ethernet | Kind::Arp | Kind::Rarp) => Elementary::Known(false),
-        (Link::Cooked, Kind::Ethernet) => Elementary::Known(false),
-        (Link::Cooked, Kind::Ip) => is_at(14, Width::HalfWord, 0x0800),
-        (Link::Cooked, Kind::Ip6) => is_at(14, Width::HalfWord, 0x86dd),
-        (Link::Cooked, Kind::Arp) => is_at(14, Width::HalfWord, 0x0806),
-        (Link::Cooked, Kind::Rarp) => is_at(14, Width::HalfWord, 0x8035),
+        (Link::Ether, FrameKind::Ethernet) => Elementary::Known(true),
+        (Link::Ether, FrameKind::Ip) => is_at(12, Width::HalfWord, 0x0800),
+        (Link::Ether, FrameKind::Ip6) => is_at(12, Width::HalfWord, 0x86dd),
+        (Link::Ether, FrameKind::Arp) => is_at(12, Width::HalfWord, 0x0806),
+        (Link::Ether, FrameKind::Rarp) => is_at(12, Width::HalfWord, 0x8035),
+        (Link::Raw, FrameKind::Ip) => is_masked(0, Width::Byte, 0xf0, 0x40),
+        (Link::Raw, FrameKind::Ip6) => is_masked(0, Width::Byte, 0xf0, 0x60),
+        (Link::Raw, FrameKind::Ethernet | FrameKind::Arp | FrameKind::Rarp) => Elementary::Known(
+            false,
+        ),
+        (Link::Cooked, FrameKind::Ethernet) => Elementary::Known(false),
+        (Link::Cooked, FrameKind::Ip) => is_at(14, Width::HalfWord, 0x0800),
+        (Link::Cooked, FrameKind::Ip6) => is_at(14, Width::HalfWord, 0x86dd),
+        (Link::Cooked, FrameKind::Arp) => is_at(14, Width::HalfWord, 0x0806),
+        (Link::Cooked, FrameKind::Rarp) => is_at(14, Width::HalfWord, 0x8035),
     }
 }
 

@@ -8,6 +8,7 @@ pub mod Complete
 pub mod Stacked
 pub mod Begins
 pub mod Sound
+pub mod Prefixes
 pub mod Parsing
 pub mod Filling
 pub mod Primitives

@@ -1,5 +1,5 @@
 -- What the loop of the parser needs of the machine.
-use Rattle.std.proofs.Common.{◌≡◌, ℕ, ◌+◌, ◌-◌, ◌<◌, List, [], ◌∷◌, length, take, drop, get_or, reverse, refl, sym, ap, ◌∙◌, subst, arith, Some, None, one-add}
+use Rattle.std.proofs.Common.{◌≡◌, ℕ, ◌+◌, ◌-◌, ◌<◌, List, [], ◌∷◌, length, take, drop, get_or, reverse, sym, ap, ◌∙◌, subst, arith, Some, None, one-add}
 use Rattle.flt_words.specs.declared.token.TokenKind.{TokenKind}
 use Rattle.flt_lang.specs.declared.node.Node.{Node}
 use Rattle.flt_lang.specs.declared.reading.frame.Frame.{Frame}
@@ -7,7 +7,7 @@ use Rattle.flt_lang.specs.declared.reading.frame.Operand.{Operand}
 use Rattle.flt_lang.specs.Tree.{Expression}
 use Rattle.flt_lang.specs.Nodes.{expr_nodes, tree_of, tree_back, IsTree}
 use Rattle.flt_lang.specs.Grammar.{Reads}
-use Rattle.flt_lang.specs.Machine.{State, run, all_run, go_on, begin, begin_at}
+use Rattle.flt_lang.specs.Machine.{State, run, all_run, go_on, begin_at}
 use Rattle.flt_lang.proofs.Fronts.{first_and_rest}
 use Rattle.flt_lang.proofs.Valued.{run_begins, run_skip}
 use Rattle.flt_lang.proofs.Complete.{complete}

@@ -1,7 +1,6 @@
 //! How deep tokens nest.
 
 ghost use Rattle.std.specs.Prelude.{◌≡◌, ◌↔◌, IsTrue};
-ghost use Rattle.std.specs.List.{list_all};
 ghost use Rattle.flt_lang.specs.Nesting.{is_opening, is_closing, is_prefix, HasDeepFront};
 ghost use Rattle.flt_lang.specs.Nesting.{HasLongPrefix, IsTooDeep};
 
@@ -61,16 +60,12 @@ fn has_deep_front(tokens: &[Token]) -> bool
 fn has_long_prefix(tokens: &[Token]) -> bool
     ensures { IsTrue result ↔ HasLongPrefix tokens.now }
 {
-    for i in 0..tokens.len() {
-        if tokens.len() - i > 100 && all_prefixes(&tokens[i..i + 101]) {
+    let mut run: usize = 0;
+    for token in tokens {
+        run = if is_prefix(token) { run + 1 } else { 0 };
+        if run > 100 {
             return true;
         }
     }
     false
-}
-
-fn all_prefixes(tokens: &[Token]) -> bool
-    ensures { result ≡ list_all is_prefix tokens.now }
-{
-    tokens.iter().all(|token| is_prefix(token))
 }

@@ -71,11 +71,8 @@ pub inside_at : (P : Bool → List ℕ → Type 0) (text : List ℕ) (at opened 
     → P (nat_lt closed opened) (take (length text - at) (drop at text)) → P (is_inside (take at text)) (drop at text)
 inside_at P text at opened closed o c h = subst (λ rest. P (is_inside (take at text)) rest) (take_rest text at) (subst (λ m. P (nat_lt m (count_by (λ b. b == 91) (take at text))) (take (length text - at) (drop at text))) c (subst (λ m. P (nat_lt closed m) (take (length text - at) (drop at text))) o h))
 
-pub counted_step : (p : ℕ → Bool) (text : List ℕ) (at n old more : ℕ) → old ≡ count_by p (take at text) → more ≡ count_by p (take (at + n - at) (drop at text)) → old + more ≡ count_by p (take (at + n) text)
-counted_step p text at n old more o m =
-    let long : at + n - at ≡ n = omega arith in
-    let piece : more ≡ count_by p (take n (drop at text)) = m ∙ ap (λ k. count_by p (take k (drop at text))) long in
-    rw (o, piece) (sym (counted_more p text at n))
+pub counted_step : (p : ℕ → Bool) (text : List ℕ) (at n old more : ℕ) → old ≡ count_by p (take at text) → count_by p (take n (drop at text)) ≡ more → old + more ≡ count_by p (take (at + n) text)
+counted_step p text at n old more o m = rw (o, ← m) (sym (counted_more p text at n))
 
 pub counted_few : (p : ℕ → Bool) (text : List ℕ) (at n : ℕ) → n ≡ count_by p (take at text) → n ≤ at
 counted_few p text at n e = omega (arith, count_by-le-length p (take at text), length-take at text)

@@ -12,6 +12,7 @@ pub mod Tables
 pub mod WordKinds
 pub mod Symbols
 pub mod Pieces
+pub mod BracketCounts
 pub mod Lexing
 pub mod OneNumber
 pub mod OneKind

@@ -1,7 +1,7 @@
 //! The tokens of a text.
 
 ghost use Rattle.std.specs.Prelude.{◌≡◌, ◌≢◌, ◌<◌, ◌+◌, ◌==◌, ◌≤◌, IfErr, IfOk, MatchOption};
-ghost use Rattle.std.specs.Prelude.{MatchResult, Ok, Err, None, Some, count_by, length};
+ghost use Rattle.std.specs.Prelude.{MatchResult, Ok, Err, None, Some, length};
 ghost use Rattle.std.specs.Prelude.{slice_index, take, false, true, ℕ};
 ghost use Rattle.flt_words.specs.Characters.{starts_word};
 ghost use Rattle.flt_words.specs.Spellings.{symbol_of};
@@ -79,14 +79,6 @@ fn token_at(inside: bool, place: u32, rest: &[u8]) -> Result<(TokenKind, usize),
     }
 }
 
-/// How often a byte is in a piece.
-fn count(byte: u8, piece: &[u8]) -> usize
-    ensures value { result ≡ count_by (λ b. b == byte) piece.now }
-    ensures few { result ≤ length piece.now }
-{
-    piece.iter().filter(|other| **other == byte).count()
-}
-
 /// The tokens of a text, each with its place, or the leftmost refusal.
 ///
 /// A text over 65,536 bytes is `TooLong` (E1). Else the leftmost of these is reported: a character
@@ -102,8 +94,8 @@ pub fn lex<A: Allocator>(alloc: A, text: &str) -> Result<Vec<Token, A>, ExprFaul
         return Err(ExprFault::TooLong);
     }
     let mut tokens = Vec::new(alloc);
-    let mut opened = 0;
-    let mut closed = 0;
+    let mut opened: usize = 0;
+    let mut closed: usize = 0;
     let mut at = 0;
     while at < bytes.len() {
         if is_blank(bytes[at]) {
@@ -112,9 +104,11 @@ pub fn lex<A: Allocator>(alloc: A, text: &str) -> Result<Vec<Token, A>, ExprFaul
             let place = at as u32 + 1;
             let (kind, len) = token_at(closed < opened, place, &bytes[at..])?;
             tokens.push(Token { kind, place })?;
-            let piece = &bytes[at..at + len];
-            opened += count(b'[', piece);
-            closed += count(b']', piece);
+            match kind {
+                TokenKind::OpenBracket => opened += 1,
+                TokenKind::CloseBracket => closed += 1,
+                _ => {}
+            }
             at += len;
         }
     }

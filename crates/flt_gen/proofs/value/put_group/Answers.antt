@@ -1,5 +1,5 @@
 -- The formula of ports, one or several, is that of their group.
-use Rattle.std.proofs.Common.{◌≡◌, ◌∙◌, sym, ap, List, [], ◌∷◌, length, arith}
+use Rattle.std.proofs.Common.{◌≡◌, ◌∙◌, sym, ap, [], length, arith}
 use Rattle.std.proofs.lemmas.Grind.{common_steps}
 use Rattle.flt_words.specs.declared.token.ValueType.TheVariants.{Port}
 use Rattle.flt_gen.specs.declared.elementary.PortTest.{PortTest}

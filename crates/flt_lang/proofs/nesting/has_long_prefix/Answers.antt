@@ -1,15 +1,19 @@
--- No run of prefixes begins at the place that was just looked at.
-use Rattle.std.proofs.Common.{◌≡◌, ◌+◌, ◌-◌, take, drop, arith, below_more, ap, sym, ◌∙◌}
-use Rattle.std.specs.List.{list_all}
-use Rattle.flt_lang.specs.Nesting.{is_prefix}
+-- The run is the first that gets too long, or none does.
+use Rattle.std.proofs.Common.{arith, ap, sym, ◌∙◌}
+use Rattle.std.proofs.lemmas.List.{drop_all}
+use Rattle.flt_lang.proofs.Prefixes.{found_is, gets_long, has_long_run}
 use Rattle.flt_lang.proofs.nesting.has_long_prefix.Goals as goal
-use Rattle.flt_lang.proofs.nesting.has_long_prefix.Goals.{else-tokens-i-gt100-via-then-tokens-i-gt100+else-all_prefixes, else-tokens-i-gt100-via-else-tokens-i-gt100}
+use Rattle.flt_lang.proofs.nesting.has_long_prefix.Goals.{then-is_prefix, else-is_prefix}
 
-pub loop-i-preserved : goal.loop-i-preserved
-loop-i-preserved c =
-    elim c.else-tokens-i-gt100.branch [
-      | else-tokens-i-gt100-via-then-tokens-i-gt100+else-all_prefixes w ↦ below_more _ _ c.loop-i.invariant (λ h.
-          let many : c.loop-i.i + 101 - c.loop-i.i ≡ 101 = omega arith in
-          ap (λ n. list_all is_prefix (take n (drop c.loop-i.i c.args.tokens.now))) (sym many) ∙ sym w.all_prefixes.ensures ∙ w.if-all_prefixes.false)
-      | else-tokens-i-gt100-via-else-tokens-i-gt100 w ↦ below_more _ _ c.loop-i.invariant (λ h. absurd (omega arith))
+pub returns-then-run-gt100 : goal.returns-then-run-gt100
+returns-then-run-gt100 c =
+    let ts = c.args.tokens.now in
+    elim c.if-is_prefix.branch [
+      | then-is_prefix w ↦ found_is ts _ (c.loop-token.invariant.same ∙ gets_long c.loop-token.run c.loop-token.token-index ts _ (omega (arith, w.run-is)) c.loop-token-test.true (sym c.is_prefix.ensures ∙ w.if-is_prefix.true))
+      | else-is_prefix w ↦ absurd (omega (arith, w.run-is))
     ]
+
+pub returns : goal.returns
+returns c =
+    let ts = c.args.tokens.now in
+    found_is ts _ (c.loop-token.invariant.same ∙ ap (has_long_run c.loop-token.run) (drop_all c.loop-token.token-index ts c.loop-token-test.false))

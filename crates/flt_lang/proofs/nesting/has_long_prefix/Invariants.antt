@@ -1,7 +1,10 @@
-use Rattle.std.proofs.Common.{◌≡◌, ℕ, ◌+◌, ◌<◌, ◌≤◌, length, take, drop, false}
-use Rattle.std.specs.List.{list_all}
-use Rattle.flt_lang.specs.Nesting.{is_prefix}
+-- What is left, read on from the run that stands before it, has a long run where the whole has one.
+use Rattle.std.proofs.Common.{◌≡◌, ◌≤◌, drop}
+use Rattle.flt_lang.proofs.Prefixes.{has_long_run}
 use Rattle.flt_lang.proofs.nesting.has_long_prefix.Given as goal
 
-abbrev pub invariant-loop-i : goal.invariant-loop-i
-invariant-loop-i l = (k : ℕ) → k < l.i → k + 101 ≤ length l.tokens → list_all is_prefix (take 101 (drop k l.tokens)) ≡ false
+abbrev pub invariant-loop-token : goal.invariant-loop-token
+invariant-loop-token l = record {
+  short : l.run ≤ 100;
+  same : has_long_run 0 l.tokens ≡ has_long_run l.run (drop l.token-index l.tokens);
+}

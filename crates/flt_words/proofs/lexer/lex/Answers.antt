@@ -1,11 +1,13 @@
 -- The loop's steps.
-use Rattle.std.proofs.Common.{◌+◌, ◌==◌, arith, sym, ◌∙◌, subst, length-drop, Err}
+use Rattle.std.proofs.Common.{◌≡◌, ◌+◌, ◌==◌, arith, sym, ◌∙◌, subst, length-drop, Err}
 use Rattle.std.proofs.lemmas.Result.{err_from_is_err_and}
 use Rattle.flt_words.specs.Tokens.{IsRefused, IsToken, Tokens}
 use Rattle.flt_words.specs.Tokens.Tokens.{short, too_long}
+use Rattle.flt_words.proofs.BracketCounts.{closes_none, closings, openings, opens_none, token_has}
 use Rattle.flt_words.proofs.Lexing.{blank_keeps_closed, blank_keeps_opened, counted_few, counted_step, cut_blank, cut_end, cut_refused, cut_token, inside_at}
 use Rattle.flt_words.proofs.Pieces.{longest_some}
 use Rattle.flt_words.proofs.lexer.lex.Goals as goal
+use Rattle.flt_words.proofs.lexer.lex.Goals.{in-OpenBracket, in-CloseBracket, in_default}
 
 pub returns-then-bytes-gt-LONGEST-clause-err : goal.returns-then-bytes-gt-LONGEST-clause-err
 returns-then-bytes-gt-LONGEST-clause-err g c = λ other. too_long (omega arith)
@@ -42,10 +44,17 @@ pub loop-at-preserved : goal.loop-at-preserved
 loop-at-preserved g c =
     let text = c.as_bytes-bytes.result.now in
     let at = c.loop-at.at in
+    let kind = c.in_ok-kind.kind in
     let len = c.in_ok-kind.len in
-    let is = inside_at (λ inside rest. IsToken inside (at + 1) rest c.in_ok-kind.kind len) text at c.loop-at.opened c.loop-at.closed c.loop-at.invariant.opened c.loop-at.invariant.closed c.in_ok-kind.ensures in
-    let opened = counted_step (λ b. b == 91) text at len c.loop-at.opened _ c.loop-at.invariant.opened c.count-opened.ensures.value in
-    let closed = counted_step (λ b. b == 93) text at len c.loop-at.closed _ c.loop-at.invariant.closed c.count-closed.ensures.value in
+    let is = inside_at (λ inside rest. IsToken inside (at + 1) rest kind len) text at c.loop-at.opened c.loop-at.closed c.loop-at.invariant.opened c.loop-at.invariant.closed c.in_ok-kind.ensures in
+    let has = token_has is in
+    let grown : (c.match-kind.opened ≡ c.loop-at.opened + openings kind) × (c.match-kind.closed ≡ c.loop-at.closed + closings kind) = elim c.match-kind.branch [
+      | in-OpenBracket w ↦ rw w.in-OpenBracket.is (omega (arith, w.opened-is), omega (arith, w.closed-is))
+      | in-CloseBracket w ↦ rw w.in-CloseBracket.is (omega (arith, w.opened-is), omega (arith, w.closed-is))
+      | in_default w ↦ (omega (arith, w.opened-is, opens_none kind w.in_default.not-OpenBracket), omega (arith, w.closed-is, closes_none kind w.in_default.not-CloseBracket))
+    ] in
+    let opened = grown.0 ∙ counted_step (λ b. b == 91) text at len c.loop-at.opened (openings kind) c.loop-at.invariant.opened has.opened in
+    let closed = grown.1 ∙ counted_step (λ b. b == 93) text at len c.loop-at.closed (closings kind) c.loop-at.invariant.closed has.closed in
     record {
       in_range = omega (arith, is.longest.in_range, length-drop at text);
       opened = opened;
