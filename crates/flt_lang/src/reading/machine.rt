@@ -11,6 +11,7 @@ ghost use Rattle.flt_lang.specs.Machine.{go_on, run, finish, all_run};
 use crate::node::Node;
 use crate::reading::fault::ReadFault;
 use crate::reading::frame::{Frame, Operand, Sort, reach_of};
+use crate::reading::primitive::kind_at;
 use crate::reading::reader::Reader;
 use crate::value::{NetMask, Value};
 use flt_words::{Operator, Token, TokenKind};
@@ -30,18 +31,12 @@ fn prefix_len(operand: Operand, first: TokenKind, rest: &[Token]) -> Option<(u32
     ensures value { result ≡ prefix_len operand (first ∷ kinds_of rest.now) }
     ensures within { IfSome result (λ _. 0 < length rest.now) }
 {
-    match (operand, first, rest) {
+    match (operand, first, kind_at(rest, 0)) {
         (
             Operand::Plain(number),
             TokenKind::Operator(Operator::Divide),
-            [
-                Token {
-                    kind: TokenKind::Number(len),
-                    ..
-                },
-                ..
-            ],
-        ) => Some((number, *len)),
+            Some(TokenKind::Number(len)),
+        ) => Some((number, len)),
         _ => None,
     }
 }
@@ -51,18 +46,8 @@ fn size_of(tokens: &[Token]) -> Option<u32>
     ensures value { result ≡ size_of (kinds_of tokens.now) }
     ensures within { IfSome result (λ _. 1 < length tokens.now) }
 {
-    match tokens {
-        [
-            Token {
-                kind: TokenKind::Number(size),
-                ..
-            },
-            Token {
-                kind: TokenKind::CloseBracket,
-                ..
-            },
-            ..
-        ] => Some(*size),
+    match (kind_at(tokens, 0), kind_at(tokens, 1)) {
+        (Some(TokenKind::Number(size)), Some(TokenKind::CloseBracket)) => Some(size),
         _ => None,
     }
 }

@@ -2,7 +2,7 @@
 //! many.
 
 ghost use Rattle.std.specs.Prelude.{◌≡◌, ◌∷◌, List, IsTrue, IfSome, IfNone};
-ghost use Rattle.std.specs.Prelude.{Some, None, length, drop, ◌<◌, ◌≤◌};
+ghost use Rattle.std.specs.Prelude.{Some, None, length, slice_get, drop, ◌<◌, ◌≤◌};
 ghost use Rattle.flt_words.specs.declared.token.TokenKind.{TokenKind};
 ghost use Rattle.flt_lang.specs.declared.quals.Quals.{Quals};
 ghost use Rattle.flt_lang.specs.Grammar.{kinds_of};
@@ -14,19 +14,20 @@ use crate::quals::{Direction, Quals};
 use crate::value::{Dotted, NetMask, Value};
 use flt_words::{Operator, Protocol, Side, Token, TokenKind, ValueType};
 
+/// The kind of the token at a place.
+pub fn kind_at(tokens: &[Token], i: usize) -> Option<TokenKind>
+    ensures { result ≡ slice_get (kinds_of tokens.now) i }
+{
+    Some(tokens.get(i)?.kind)
+}
+
 fn read_protocol(tokens: &[Token]) -> (Option<Protocol>, usize)
     ensures value { result.0 ≡ (protocol_of (kinds_of tokens.now)).0 }
     ensures rest { kinds_of (drop result.1 tokens.now) ≡ (protocol_of (kinds_of tokens.now)).1 }
     ensures within { result.1 ≤ length tokens.now }
 {
-    match tokens {
-        [
-            Token {
-                kind: TokenKind::Protocol(protocol),
-                ..
-            },
-            ..
-        ] => (Some(*protocol), 1),
+    match kind_at(tokens, 0) {
+        Some(TokenKind::Protocol(protocol)) => (Some(protocol), 1),
         _ => (None, 0),
     }
 }
@@ -36,45 +37,15 @@ fn read_direction(tokens: &[Token]) -> (Option<Direction>, usize)
     ensures rest { kinds_of (drop result.1 tokens.now) ≡ (direction_of (kinds_of tokens.now)).1 }
     ensures within { result.1 ≤ length tokens.now }
 {
-    match tokens {
-        [
-            Token {
-                kind: TokenKind::Side(Side::Source),
-                ..
-            },
-            Token {
-                kind: TokenKind::Join(join),
-                ..
-            },
-            Token {
-                kind: TokenKind::Side(Side::Destination),
-                ..
-            },
-            ..
-        ]
-        | [
-            Token {
-                kind: TokenKind::Side(Side::Destination),
-                ..
-            },
-            Token {
-                kind: TokenKind::Join(join),
-                ..
-            },
-            Token {
-                kind: TokenKind::Side(Side::Source),
-                ..
-            },
-            ..
-        ] => (Some(Direction::Both(*join)), 3),
-        [
-            Token {
-                kind: TokenKind::Side(side),
-                ..
-            },
-            ..
-        ] => (Some(Direction::One(*side)), 1),
-        _ => (None, 0),
+    let Some(TokenKind::Side(side)) = kind_at(tokens, 0) else {
+        return (None, 0);
+    };
+    match (side, kind_at(tokens, 1), kind_at(tokens, 2)) {
+        (Side::Source, Some(TokenKind::Join(join)), Some(TokenKind::Side(Side::Destination)))
+        | (Side::Destination, Some(TokenKind::Join(join)), Some(TokenKind::Side(Side::Source))) => {
+            (Some(Direction::Both(join)), 3)
+        }
+        _ => (Some(Direction::One(side)), 1),
     }
 }
 
@@ -83,14 +54,8 @@ fn read_type(tokens: &[Token]) -> (Option<ValueType>, usize)
     ensures rest { kinds_of (drop result.1 tokens.now) ≡ (type_of (kinds_of tokens.now)).1 }
     ensures within { result.1 ≤ length tokens.now }
 {
-    match tokens {
-        [
-            Token {
-                kind: TokenKind::ValueType(value_type),
-                ..
-            },
-            ..
-        ] => (Some(*value_type), 1),
+    match kind_at(tokens, 0) {
+        Some(TokenKind::ValueType(value_type)) => (Some(value_type), 1),
         _ => (None, 0),
     }
 }
@@ -116,34 +81,12 @@ fn read_mask(tokens: &[Token]) -> (NetMask, usize)
     ensures rest { kinds_of (drop result.1 tokens.now) ≡ (mask_of (kinds_of tokens.now)).1 }
     ensures within { result.1 ≤ length tokens.now }
 {
-    match tokens {
-        [
-            Token {
-                kind: TokenKind::Operator(Operator::Divide),
-                ..
-            },
-            Token {
-                kind: TokenKind::Number(len),
-                ..
-            },
-            ..
-        ] => { (NetMask::Prefix(*len), 2) }
-        [
-            Token {
-                kind: TokenKind::Mask,
-                ..
-            },
-            Token {
-                kind: TokenKind::Dotted { address, parts },
-                ..
-            },
-            ..
-        ] => {
-            let mask = Dotted {
-                address: *address,
-                parts: *parts,
-            };
-            (NetMask::Mask(mask), 2)
+    match (kind_at(tokens, 0), kind_at(tokens, 1)) {
+        (Some(TokenKind::Operator(Operator::Divide)), Some(TokenKind::Number(len))) => {
+            (NetMask::Prefix(len), 2)
+        }
+        (Some(TokenKind::Mask), Some(TokenKind::Dotted { address, parts })) => {
+            (NetMask::Mask(Dotted { address, parts }), 2)
         }
         _ => (NetMask::Unwritten, 0),
     }
@@ -154,18 +97,10 @@ fn read_prefix(tokens: &[Token]) -> (Option<u32>, usize)
     ensures rest { kinds_of (drop result.1 tokens.now) ≡ (prefix_of (kinds_of tokens.now)).1 }
     ensures within { result.1 ≤ length tokens.now }
 {
-    match tokens {
-        [
-            Token {
-                kind: TokenKind::Operator(Operator::Divide),
-                ..
-            },
-            Token {
-                kind: TokenKind::Number(len),
-                ..
-            },
-            ..
-        ] => { (Some(*len), 2) }
+    match (kind_at(tokens, 0), kind_at(tokens, 1)) {
+        (Some(TokenKind::Operator(Operator::Divide)), Some(TokenKind::Number(len))) => {
+            (Some(len), 2)
+        }
         _ => (None, 0),
     }
 }

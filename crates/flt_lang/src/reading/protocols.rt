@@ -4,6 +4,7 @@ ghost use Rattle.std.specs.Prelude.{◌≡◌, ◌⊎◌, ◌<◌, length};
 ghost use Rattle.flt_lang.specs.Grammar.{is_check, is_accessor, has_casts, kinds_of};
 ghost use Rattle.flt_lang.specs.Machine.{opening_of};
 
+use crate::reading::primitive::kind_at;
 use flt_words::{Cast, Protocol, Token, TokenKind};
 
 /// What the token behind a protocol makes of it.
@@ -19,23 +20,9 @@ pub fn read_opening(tokens: &[Token]) -> Opening
     ensures value { result ≡ opening_of (kinds_of tokens.now) }
     ensures within { (result ≡ Opening.Other) ⊎ (1 < length tokens.now) }
 {
-    match tokens {
-        [
-            _,
-            Token {
-                kind: TokenKind::OpenBracket,
-                ..
-            },
-            ..
-        ] => Opening::Bracket,
-        [
-            _,
-            Token {
-                kind: TokenKind::Cast(cast),
-                ..
-            },
-            ..
-        ] => Opening::Cast(*cast),
+    match kind_at(tokens, 1) {
+        Some(TokenKind::OpenBracket) => Opening::Bracket,
+        Some(TokenKind::Cast(cast)) => Opening::Cast(cast),
         _ => Opening::Other,
     }
 }

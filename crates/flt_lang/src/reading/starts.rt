@@ -11,7 +11,7 @@ ghost use Rattle.flt_lang.specs.Machine.{sized_of, primitive, bare_of, one_node,
 use crate::node::Node;
 use crate::reading::fault::ReadFault;
 use crate::reading::frame::{Frame, Operand};
-use crate::reading::primitive::{read_value, read_valued};
+use crate::reading::primitive::{kind_at, read_value, read_valued};
 use crate::reading::protocols::{Opening, has_casts, is_accessor, is_check, read_opening};
 use crate::reading::reader::Reader;
 use flt_words::{Operator, Protocol, Token, TokenKind};
@@ -23,18 +23,10 @@ fn read_sized(tokens: &[Token]) -> Option<(Node, usize)>
         one_node nodes result ≡ sized_of (kinds_of tokens.now) nodes }
     ensures within { IfSome result (λ r. r.1 < length tokens.now) }
 {
-    match tokens {
-        [
-            Token {
-                kind: TokenKind::Size(size),
-                ..
-            },
-            Token {
-                kind: TokenKind::Number(number),
-                ..
-            },
-            ..
-        ] => { Some((Node::Sized(*size, *number), 1)) }
+    match (kind_at(tokens, 0), kind_at(tokens, 1)) {
+        (Some(TokenKind::Size(size)), Some(TokenKind::Number(number))) => {
+            Some((Node::Sized(size, number), 1))
+        }
         _ => None,
     }
 }
@@ -48,14 +40,10 @@ fn read_primitive(tokens: &[Token]) -> Option<(Node, usize)>
     if let Some((quals, value, more)) = read_valued(tokens) {
         return Some((Node::Valued(quals, value), more));
     }
-    match tokens {
-        [
-            Token {
-                kind: TokenKind::Protocol(protocol),
-                ..
-            },
-            ..
-        ] if is_check(*protocol) => { Some((Node::Check(*protocol), 0)) }
+    match kind_at(tokens, 0) {
+        Some(TokenKind::Protocol(protocol)) if is_check(protocol) => {
+            Some((Node::Check(protocol), 0))
+        }
         _ => None,
     }
 }
@@ -182,29 +170,10 @@ impl<A: Allocator> Reader<A> {
         ensures none { result ≡ Err ReadFault.NotAnExpression
             → with_frames self.old.frames (number_of (kinds_of tokens.now) self.old.nodes) ≡ None }
     {
-        match tokens {
-            [
-                Token {
-                    kind: TokenKind::Number(_),
-                    ..
-                },
-                Token {
-                    kind: TokenKind::Mask,
-                    ..
-                },
-                Token {
-                    kind: TokenKind::Dotted { .. },
-                    ..
-                },
-                ..
-            ] => self.put_truth(read_bare(tokens)),
-            [
-                Token {
-                    kind: TokenKind::Number(number),
-                    ..
-                },
-                ..
-            ] => Ok((0, Some(Operand::Plain(*number)))),
+        match (kind_at(tokens, 0), kind_at(tokens, 1), kind_at(tokens, 2)) {
+            (Some(TokenKind::Number(_)), Some(TokenKind::Mask), Some(TokenKind::Dotted { .. })) =>
+                self.put_truth(read_bare(tokens)),
+            (Some(TokenKind::Number(number)), _, _) => Ok((0, Some(Operand::Plain(number)))),
             _ => Err(ReadFault::NotAnExpression),
         }
     }
