@@ -1,12 +1,14 @@
 -- What the loop of the parser needs of the machine.
 use Rattle.std.proofs.Common.{◌≡◌, ℕ, ◌+◌, ◌-◌, ◌<◌, List, [], ◌∷◌, length, take, drop, get_or, reverse, sym, ap, ◌∙◌, subst, arith, Some, None, one-add}
+use Rattle.std.proofs.lemmas.List.{drop-map}
+use Rattle.flt_words.specs.declared.token.Token.{Token}
 use Rattle.flt_words.specs.declared.token.TokenKind.{TokenKind}
 use Rattle.flt_lang.specs.declared.node.Node.{Node}
 use Rattle.flt_lang.specs.declared.reading.frame.Frame.{Frame}
 use Rattle.flt_lang.specs.declared.reading.frame.Operand.{Operand}
 use Rattle.flt_lang.specs.Tree.{Expression}
 use Rattle.flt_lang.specs.Nodes.{expr_nodes, tree_of, tree_back, IsTree}
-use Rattle.flt_lang.specs.Grammar.{Reads}
+use Rattle.flt_lang.specs.Grammar.{Reads, kinds_of}
 use Rattle.flt_lang.specs.Machine.{State, run, all_run, go_on, begin_at}
 use Rattle.flt_lang.proofs.Fronts.{first_and_rest}
 use Rattle.flt_lang.proofs.Valued.{run_begins, run_skip}
@@ -15,16 +17,16 @@ use Rattle.flt_lang.proofs.Sound.{sound}
 use Rattle.flt_lang.proofs.NodesBack.{expr_turned}
 
 -- what comes behind an operand
-pub run_goes_on : (ts : List TokenKind) (t : TokenKind) (fs : List Frame) (x : Operand) (d : List Node) (k : ℕ) (s : State) → 0 < length ts → go_on (get_or ts 0 t ∷ take (length ts - 1) (drop 1 ts)) fs x d ≡ Some (k, s) → run ts 0 fs (Some x) d ≡ run (drop (1 + k) ts) 0 s.0 s.1 s.2
+pub run_goes_on : (ts : List Token) (t : Token) (fs : List Frame) (x : Operand) (d : List Node) (k : ℕ) (s : State) → 0 < length ts → go_on ((get_or ts 0 t).kind ∷ kinds_of (take (length ts - 1) (drop 1 ts))) fs x d ≡ Some (k, s) → run (kinds_of ts) 0 fs (Some x) d ≡ run (kinds_of (drop (1 + k) ts)) 0 s.0 s.1 s.2
 run_goes_on [] t fs x d k s h e = absurd (omega arith)
 run_goes_on (u ∷ ts) t fs x d k s h e =
-    let goes : go_on (u ∷ ts) fs x d ≡ Some (k, s) = ap (λ us. go_on us fs x d) (sym (first_and_rest (u ∷ ts) t h)) ∙ e in
-    rw (goes, one-add) (run_skip ts k s.0 s.1 s.2)
+    let goes : go_on (kinds_of (u ∷ ts)) fs x d ≡ Some (k, s) = ap (λ us. go_on us fs x d) (sym (first_and_rest (u ∷ ts) t h)) ∙ e in
+    rw (goes, one-add, ← drop-map) (run_skip (kinds_of ts) k s.0 s.1 s.2)
 
 -- where an operand begins
-pub run_begins_on : (ts : List TokenKind) (t : TokenKind) (fs : List Frame) (d : List Node) (k : ℕ) (s : State) → 0 < length ts → begin_at (get_or ts 0 t) ts fs d ≡ Some (k, s) → run ts 0 fs None d ≡ run (drop (1 + k) ts) 0 s.0 s.1 s.2
+pub run_begins_on : (ts : List Token) (t : Token) (fs : List Frame) (d : List Node) (k : ℕ) (s : State) → 0 < length ts → begin_at (get_or ts 0 t).kind (kinds_of ts) fs d ≡ Some (k, s) → run (kinds_of ts) 0 fs None d ≡ run (kinds_of (drop (1 + k) ts)) 0 s.0 s.1 s.2
 run_begins_on [] t fs d k s h e = absurd (omega arith)
-run_begins_on (u ∷ ts) t fs d k s h e = rw one-add (run_begins (u ∷ ts) fs d k s h e)
+run_begins_on (u ∷ ts) t fs d k s h e = rw (one-add, ← drop-map) (run_begins (kinds_of (u ∷ ts)) fs d k s (omega arith) e)
 
 -- where the machine fails there is no tree
 pub no_tree : (tokens : List TokenKind) → all_run tokens ≡ None → (tree : Expression) → Reads tokens tree → ⊥

@@ -3,6 +3,7 @@
 
 ghost use Rattle.std.specs.Prelude.{◌≡◌, [], ◌∷◌, ◌<◌, ◌≤◌, Some, None, Err};
 ghost use Rattle.std.specs.Prelude.{IfOk, IfSome, OnOk, length, drop};
+ghost use Rattle.flt_lang.specs.Grammar.{kinds_of};
 ghost use Rattle.flt_lang.specs.Machine.{as_number, as_truth, as_sort, prefix_mask, fill, settle};
 ghost use Rattle.flt_lang.specs.Machine.{waits, load_ends, size_of, closes, place_at, prefix_len};
 ghost use Rattle.flt_lang.specs.Machine.{go_on, run, finish, all_run};
@@ -10,9 +11,10 @@ ghost use Rattle.flt_lang.specs.Machine.{go_on, run, finish, all_run};
 use crate::node::Node;
 use crate::reading::fault::ReadFault;
 use crate::reading::frame::{Frame, Operand, Sort, reach_of};
+use crate::reading::primitive::kind_at;
 use crate::reading::reader::Reader;
 use crate::value::{NetMask, Value};
-use flt_words::{Operator, TokenKind};
+use flt_words::{Operator, Token, TokenKind};
 use std::alloc::Allocator;
 
 fn prefix_mask(len: Option<u32>) -> NetMask
@@ -25,27 +27,27 @@ fn prefix_mask(len: Option<u32>) -> NetMask
 }
 
 /// The number and the length of a prefix, where a plain number has one behind it.
-fn prefix_len(operand: Operand, first: TokenKind, rest: &[TokenKind]) -> Option<(u32, u32)>
-    ensures value { result ≡ prefix_len operand (first ∷ rest.now) }
+fn prefix_len(operand: Operand, first: TokenKind, rest: &[Token]) -> Option<(u32, u32)>
+    ensures value { result ≡ prefix_len operand (first ∷ kinds_of rest.now) }
     ensures within { IfSome result (λ _. 0 < length rest.now) }
 {
-    match (operand, first, rest) {
+    match (operand, first, kind_at(rest, 0)) {
         (
             Operand::Plain(number),
             TokenKind::Operator(Operator::Divide),
-            [TokenKind::Number(len), ..],
-        ) => Some((number, *len)),
+            Some(TokenKind::Number(len)),
+        ) => Some((number, len)),
         _ => None,
     }
 }
 
 /// The size of an accessor, behind its colon.
-fn size_of(tokens: &[TokenKind]) -> Option<u32>
-    ensures value { result ≡ size_of tokens.now }
+fn size_of(tokens: &[Token]) -> Option<u32>
+    ensures value { result ≡ size_of (kinds_of tokens.now) }
     ensures within { IfSome result (λ _. 1 < length tokens.now) }
 {
-    match tokens {
-        [TokenKind::Number(size), TokenKind::CloseBracket, ..] => Some(*size),
+    match (kind_at(tokens, 0), kind_at(tokens, 1)) {
+        (Some(TokenKind::Number(size)), Some(TokenKind::CloseBracket)) => Some(size),
         _ => None,
     }
 }
@@ -199,14 +201,14 @@ impl<A: Allocator> Reader<A> {
         &mut self,
         operand: Operand,
         first: TokenKind,
-        rest: &[TokenKind],
+        rest: &[Token],
     ) -> Result<(usize, Option<Operand>), ReadFault>
         ensures ok { IfOk result (λ r.
-            place_at first rest.now self.old.frames operand self.old.nodes
+            place_at first (kinds_of rest.now) self.old.frames operand self.old.nodes
             ≡ Some (r.0, (self.new.frames, r.1, self.new.nodes))) }
         ensures within { IfOk result (λ r. r.0 ≤ length rest.now) }
         ensures none { result ≡ Err ReadFault.NotAnExpression
-            → place_at first rest.now self.old.frames operand self.old.nodes ≡ None }
+            → place_at first (kinds_of rest.now) self.old.frames operand self.old.nodes ≡ None }
     {
         match first {
             TokenKind::Operator(operator) => self.wait_behind(Frame::Apply(operator), operand),
@@ -230,14 +232,14 @@ impl<A: Allocator> Reader<A> {
         &mut self,
         operand: Operand,
         first: TokenKind,
-        rest: &[TokenKind],
+        rest: &[Token],
     ) -> Result<(usize, Option<Operand>), ReadFault>
         ensures ok { IfOk result (λ r.
-            go_on (first ∷ rest.now) self.old.frames operand self.old.nodes
+            go_on (first ∷ kinds_of rest.now) self.old.frames operand self.old.nodes
             ≡ Some (r.0, (self.new.frames, r.1, self.new.nodes))) }
         ensures within { IfOk result (λ r. r.0 ≤ length rest.now) }
         ensures none { result ≡ Err ReadFault.NotAnExpression
-            → go_on (first ∷ rest.now) self.old.frames operand self.old.nodes ≡ None }
+            → go_on (first ∷ kinds_of rest.now) self.old.frames operand self.old.nodes ≡ None }
     {
         match prefix_len(operand, first, rest) {
             Some((number, len)) if self.room() >= 1 => {
@@ -254,26 +256,27 @@ impl<A: Allocator> Reader<A> {
     pub fn step(
         &mut self,
         operand: Option<Operand>,
-        tokens: &[TokenKind],
+        tokens: &[Token],
     ) -> Result<(usize, Option<Operand>), ReadFault>
         requires { 0 < length tokens.now }
-        ensures ok { IfOk result (λ r. run tokens.now 0 self.old.frames operand self.old.nodes
-            ≡ run (drop r.0 tokens.now) 0 self.new.frames r.1 self.new.nodes) }
+        ensures ok { IfOk result (λ r.
+            run (kinds_of tokens.now) 0 self.old.frames operand self.old.nodes
+            ≡ run (kinds_of (drop r.0 tokens.now)) 0 self.new.frames r.1 self.new.nodes) }
         ensures used { IfOk result (λ r. 0 < r.0) }
         ensures within { IfOk result (λ r. r.0 ≤ length tokens.now) }
         ensures none { result ≡ Err ReadFault.NotAnExpression
-            → run tokens.now 0 self.old.frames operand self.old.nodes ≡ None }
+            → run (kinds_of tokens.now) 0 self.old.frames operand self.old.nodes ≡ None }
     {
         let [first, rest @ ..] = tokens else {
             return Err(ReadFault::NotAnExpression);
         };
         match operand {
             None => {
-                let (more, next) = self.begin(*first, tokens)?;
+                let (more, next) = self.begin(first.kind, tokens)?;
                 Ok((1 + more, next))
             }
             Some(read) => {
-                let (more, next) = self.go_on(read, *first, rest)?;
+                let (more, next) = self.go_on(read, first.kind, rest)?;
                 Ok((1 + more, next))
             }
         }
@@ -297,11 +300,12 @@ impl<A: Allocator> Reader<A> {
     }
 
     /// Reads the tokens of a whole expression, where nothing is read yet.
-    pub fn read(&mut self, tokens: &[TokenKind]) -> Result<(), ReadFault>
+    pub fn read(&mut self, tokens: &[Token]) -> Result<(), ReadFault>
         requires frames { self.old.frames ≡ [] }
         requires nodes { self.old.nodes ≡ [] }
-        ensures ok { OnOk result (all_run tokens.now ≡ Some self.new.nodes) }
-        ensures none { result ≡ Err ReadFault.NotAnExpression → all_run tokens.now ≡ None }
+        ensures ok { OnOk result (all_run (kinds_of tokens.now) ≡ Some self.new.nodes) }
+        ensures none { result ≡ Err ReadFault.NotAnExpression
+            → all_run (kinds_of tokens.now) ≡ None }
     {
         if tokens.is_empty() {
             return Ok(());

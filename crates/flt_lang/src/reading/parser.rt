@@ -9,8 +9,8 @@ use crate::expr::Expr;
 use crate::nesting::is_nested_too_deep;
 use crate::reading::fault::ReadFault;
 use crate::reading::reader::Reader;
-use flt_words::{ExprFault, Token, TokenKind};
-use std::alloc::{AllocError, Allocator};
+use flt_words::{ExprFault, Token};
+use std::alloc::Allocator;
 
 /// Reads the tokens of a whole expression.
 ///
@@ -35,13 +35,6 @@ pub fn parse<A: Allocator + Clone>(alloc: A, tokens: &[Token]) -> Result<Expr<A>
     }
 }
 
-/// The tokens without their places.
-fn kinds_of<A: Allocator>(alloc: A, tokens: &[Token]) -> Result<Vec<TokenKind, A>, AllocError>
-    ensures { IfOk result (λ kinds. kinds.items ≡ kinds_of tokens.now) }
-{
-    tokens.iter().map(|token| token.kind).collect(alloc)
-}
-
 /// The tree of the tokens.
 #[tactic(auto, using(crate::proofs::Parsing::parsing))]
 fn read<A: Allocator + Clone>(alloc: A, tokens: &[Token]) -> Result<Expr<A>, ReadFault>
@@ -49,8 +42,7 @@ fn read<A: Allocator + Clone>(alloc: A, tokens: &[Token]) -> Result<Expr<A>, Rea
     ensures none { result ≡ Err ReadFault.NotAnExpression
         → (tree : Expression) → Reads (kinds_of tokens.now) tree → ⊥ }
 {
-    let kinds = kinds_of(alloc.clone()?, tokens)?;
     let mut reader = Reader::new(alloc)?;
-    reader.read(&kinds)?;
+    reader.read(tokens)?;
     Ok(reader.into_expr())
 }

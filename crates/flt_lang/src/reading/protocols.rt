@@ -1,10 +1,11 @@
 //! Where a protocol may stand.
 
 ghost use Rattle.std.specs.Prelude.{◌≡◌, ◌⊎◌, ◌<◌, length};
-ghost use Rattle.flt_lang.specs.Grammar.{is_check, is_accessor, has_casts};
+ghost use Rattle.flt_lang.specs.Grammar.{is_check, is_accessor, has_casts, kinds_of};
 ghost use Rattle.flt_lang.specs.Machine.{opening_of};
 
-use flt_words::{Cast, Protocol, TokenKind};
+use crate::reading::primitive::kind_at;
+use flt_words::{Cast, Protocol, Token, TokenKind};
 
 /// What the token behind a protocol makes of it.
 #[derive(Clone, Copy)]
@@ -15,13 +16,13 @@ pub enum Opening {
 }
 
 /// Looks at the second of the tokens.
-pub fn read_opening(tokens: &[TokenKind]) -> Opening
-    ensures value { result ≡ opening_of tokens.now }
+pub fn read_opening(tokens: &[Token]) -> Opening
+    ensures value { result ≡ opening_of (kinds_of tokens.now) }
     ensures within { (result ≡ Opening.Other) ⊎ (1 < length tokens.now) }
 {
-    match tokens {
-        [_, TokenKind::OpenBracket, ..] => Opening::Bracket,
-        [_, TokenKind::Cast(cast), ..] => Opening::Cast(*cast),
+    match kind_at(tokens, 1) {
+        Some(TokenKind::OpenBracket) => Opening::Bracket,
+        Some(TokenKind::Cast(cast)) => Opening::Cast(cast),
         _ => Opening::Other,
     }
 }

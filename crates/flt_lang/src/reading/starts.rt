@@ -4,50 +4,54 @@ ghost use Rattle.std.specs.Prelude.{◌≡◌, ◌<◌, List, ◌∷◌, Some, N
 ghost use Rattle.std.specs.Prelude.{IfErr, IfOk, IfSome, OnOk, length};
 ghost use Rattle.flt_words.specs.declared.token.TokenKind.{TokenKind};
 ghost use Rattle.flt_lang.specs.declared.node.Node.{Node};
+ghost use Rattle.flt_lang.specs.Grammar.{kinds_of};
 ghost use Rattle.flt_lang.specs.Machine.{begin_at, protocol_begins, opening_of, number_of};
 ghost use Rattle.flt_lang.specs.Machine.{sized_of, primitive, bare_of, one_node, with_frames};
 
 use crate::node::Node;
 use crate::reading::fault::ReadFault;
 use crate::reading::frame::{Frame, Operand};
-use crate::reading::primitive::{read_value, read_valued};
+use crate::reading::primitive::{kind_at, read_value, read_valued};
 use crate::reading::protocols::{Opening, has_casts, is_accessor, is_check, read_opening};
 use crate::reading::reader::Reader;
-use flt_words::{Operator, Protocol, TokenKind};
+use flt_words::{Operator, Protocol, Token, TokenKind};
 use std::alloc::Allocator;
 
 /// `less N` or `greater N`, and how many tokens more than one it takes.
-fn read_sized(tokens: &[TokenKind]) -> Option<(Node, usize)>
-    ensures value { (nodes : List Node) → one_node nodes result ≡ sized_of tokens.now nodes }
+fn read_sized(tokens: &[Token]) -> Option<(Node, usize)>
+    ensures value { (nodes : List Node) →
+        one_node nodes result ≡ sized_of (kinds_of tokens.now) nodes }
     ensures within { IfSome result (λ r. r.1 < length tokens.now) }
 {
-    match tokens {
-        [TokenKind::Size(size), TokenKind::Number(number), ..] => {
-            Some((Node::Sized(*size, *number), 1))
+    match (kind_at(tokens, 0), kind_at(tokens, 1)) {
+        (Some(TokenKind::Size(size)), Some(TokenKind::Number(number))) => {
+            Some((Node::Sized(size, number), 1))
         }
         _ => None,
     }
 }
 
 /// A value with what stands before it, or else a check.
-fn read_primitive(tokens: &[TokenKind]) -> Option<(Node, usize)>
-    ensures value { (nodes : List Node) → one_node nodes result ≡ primitive tokens.now nodes }
+fn read_primitive(tokens: &[Token]) -> Option<(Node, usize)>
+    ensures value { (nodes : List Node) →
+        one_node nodes result ≡ primitive (kinds_of tokens.now) nodes }
     ensures within { IfSome result (λ r. r.1 < length tokens.now) }
 {
     if let Some((quals, value, more)) = read_valued(tokens) {
         return Some((Node::Valued(quals, value), more));
     }
-    match tokens {
-        [TokenKind::Protocol(protocol), ..] if is_check(*protocol) => {
-            Some((Node::Check(*protocol), 0))
+    match kind_at(tokens, 0) {
+        Some(TokenKind::Protocol(protocol)) if is_check(protocol) => {
+            Some((Node::Check(protocol), 0))
         }
         _ => None,
     }
 }
 
 /// A value with nothing before it.
-fn read_bare(tokens: &[TokenKind]) -> Option<(Node, usize)>
-    ensures value { (nodes : List Node) → one_node nodes result ≡ bare_of tokens.now nodes }
+fn read_bare(tokens: &[Token]) -> Option<(Node, usize)>
+    ensures value { (nodes : List Node) →
+        one_node nodes result ≡ bare_of (kinds_of tokens.now) nodes }
     ensures within { IfSome result (λ r. r.1 < length tokens.now) }
 {
     let (value, used) = read_value(tokens)?;
@@ -60,14 +64,15 @@ impl<A: Allocator> Reader<A> {
     pub fn begin(
         &mut self,
         first: TokenKind,
-        tokens: &[TokenKind],
+        tokens: &[Token],
     ) -> Result<(usize, Option<Operand>), ReadFault>
         requires { 0 < length tokens.now }
-        ensures ok { IfOk result (λ r. begin_at first tokens.now self.old.frames self.old.nodes
+        ensures ok { IfOk result (λ r.
+            begin_at first (kinds_of tokens.now) self.old.frames self.old.nodes
             ≡ Some (r.0, (self.new.frames, r.1, self.new.nodes))) }
         ensures within { IfOk result (λ r. r.0 < length tokens.now) }
         ensures none { result ≡ Err ReadFault.NotAnExpression
-            → begin_at first tokens.now self.old.frames self.old.nodes ≡ None }
+            → begin_at first (kinds_of tokens.now) self.old.frames self.old.nodes ≡ None }
     {
         match first {
             TokenKind::Protocol(protocol) => self.begin_protocol(protocol, tokens),
@@ -132,14 +137,15 @@ impl<A: Allocator> Reader<A> {
     fn begin_protocol(
         &mut self,
         protocol: Protocol,
-        tokens: &[TokenKind],
+        tokens: &[Token],
     ) -> Result<(usize, Option<Operand>), ReadFault>
-        ensures ok { IfOk result (λ r. protocol_begins protocol (opening_of tokens.now) tokens.now
+        ensures ok { IfOk result (λ r. protocol_begins protocol
+            (opening_of (kinds_of tokens.now)) (kinds_of tokens.now)
             self.old.frames self.old.nodes
             ≡ Some (r.0, (self.new.frames, r.1, self.new.nodes))) }
         ensures within { IfOk result (λ r. r.0 < length tokens.now) }
         ensures none { result ≡ Err ReadFault.NotAnExpression
-            → protocol_begins protocol (opening_of tokens.now) tokens.now
+            → protocol_begins protocol (opening_of (kinds_of tokens.now)) (kinds_of tokens.now)
             self.old.frames self.old.nodes ≡ None }
     {
         match read_opening(tokens) {
@@ -156,22 +162,18 @@ impl<A: Allocator> Reader<A> {
     }
 
     /// Reads a number, or a network's number with its mask.
-    fn begin_number(&mut self, tokens: &[TokenKind]) -> Result<(usize, Option<Operand>), ReadFault>
+    fn begin_number(&mut self, tokens: &[Token]) -> Result<(usize, Option<Operand>), ReadFault>
         ensures ok { IfOk result (λ r.
-            with_frames self.old.frames (number_of tokens.now self.old.nodes)
+            with_frames self.old.frames (number_of (kinds_of tokens.now) self.old.nodes)
             ≡ Some (r.0, (self.new.frames, r.1, self.new.nodes))) }
         ensures within { IfOk result (λ r. r.0 < length tokens.now) }
         ensures none { result ≡ Err ReadFault.NotAnExpression
-            → with_frames self.old.frames (number_of tokens.now self.old.nodes) ≡ None }
+            → with_frames self.old.frames (number_of (kinds_of tokens.now) self.old.nodes) ≡ None }
     {
-        match tokens {
-            [
-                TokenKind::Number(_),
-                TokenKind::Mask,
-                TokenKind::Dotted { .. },
-                ..
-            ] => self.put_truth(read_bare(tokens)),
-            [TokenKind::Number(number), ..] => Ok((0, Some(Operand::Plain(*number)))),
+        match (kind_at(tokens, 0), kind_at(tokens, 1), kind_at(tokens, 2)) {
+            (Some(TokenKind::Number(_)), Some(TokenKind::Mask), Some(TokenKind::Dotted { .. })) =>
+                self.put_truth(read_bare(tokens)),
+            (Some(TokenKind::Number(number)), _, _) => Ok((0, Some(Operand::Plain(number)))),
             _ => Err(ReadFault::NotAnExpression),
         }
     }
