@@ -88,6 +88,7 @@ fn place_among(numbers: &[u32], number: u32) -> usize
     ensures place { insert numbers.now result number ≡ inserted number numbers.now }
 {
     let mut at = 0;
+    // The label names the loop in its proof.
     'lower: while at < numbers.len() && numbers[at] < number {
         at += 1;
     }

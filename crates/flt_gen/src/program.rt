@@ -27,6 +27,7 @@ fn program_insns<A: Allocator + Clone + Drop>(
 {
     let mut walk = Walk::new(alloc)?;
     let mut left = nodes.len();
+    // The label names the loop in its proof.
     'nodes: while left > 0 {
         left -= 1;
         walk.put_node(link, &nodes[left])?;

@@ -112,6 +112,7 @@ impl<A: Allocator> Walk<A> {
         requires { length (number_put link self.old.numbers self.old).code < 2 ^ 30 }
         ensures { OnOk result (self.new ≡ number_put link self.old.numbers self.old) }
     {
+        // The label names the loop in its proof.
         'waiting: loop {
             match self.numbers.pop() {
                 Some(Waiting::Index(protocol)) => self.accessors.push(protocol)?,

@@ -39,16 +39,16 @@ sound_step : (m run : ℕ) (t : Token) (ts : List Token) (is : Bool) → is_pref
     → (has_long_run 0 ts ≡ true → Begins 101 ts ⊎ HasLongPrefix ts)
     → cond is (nat_lt 99 run || has_long_run (run + 1) ts) (has_long_run 0 ts) ≡ true → Begins (suc m) (t ∷ ts) ⊎ HasLongPrefix (t ∷ ts)
 sound_step m run t ts true is left on anew h = elim (either_true (nat_lt 99 run) (has_long_run (run + 1) ts) h) [
-    | inl over ↦ inl (begins_next m t ts is (no_more m ts (omega (arith, ltb-true 99 run over))))
-    | inr more ↦ elim (on more) [
-        | inl b ↦ inl (begins_next m t ts is b)
-        | inr found ↦ inr (later t ts found)
-      ]
-  ]
-sound_step m run t ts false is left on anew h = elim (anew h) [
-    | inl b ↦ inr (1, omega (arith, b.long), b.all)
+  | inl over ↦ inl (begins_next m t ts is (no_more m ts (omega (arith, ltb-true 99 run over))))
+  | inr more ↦ elim (on more) [
+    | inl b ↦ inl (begins_next m t ts is b)
     | inr found ↦ inr (later t ts found)
   ]
+]
+sound_step m run t ts false is left on anew h = elim (anew h) [
+  | inl b ↦ inr (1, omega (arith, b.long), b.all)
+  | inr found ↦ inr (later t ts found)
+]
 
 -- what gets too long behind a run is the run itself or stands in the list
 sound : (m run : ℕ) (ts : List Token) → m + run ≡ 101 → has_long_run run ts ≡ true → Begins m ts ⊎ HasLongPrefix ts
@@ -58,9 +58,9 @@ sound (suc m) run (t ∷ ts) left h = sound_step m run t ts (is_prefix t) refl l
 
 long_run_is : (ts : List Token) → has_long_run 0 ts ≡ true → HasLongPrefix ts
 long_run_is ts h = elim (sound 101 0 ts refl h) [
-    | inl b ↦ (0, b.long, b.all)
-    | inr found ↦ found
-  ]
+  | inl b ↦ (0, b.long, b.all)
+  | inr found ↦ found
+]
 
 both : (a b : Bool) → a && b ≡ true → (a ≡ true) × (b ≡ true)
 both true b h = (refl, h)
@@ -73,7 +73,7 @@ run_gets_long (suc m) run [] enough few b = absurd (omega (arith, b.long))
 run_gets_long (suc m) run (t ∷ ts) enough few b =
     let first = both (is_prefix t) (list_all is_prefix (take m ts)) b.all in
     rw first.0 (or_else (nat_lt 99 run) (has_long_run (run + 1) ts) (λ under.
-        run_gets_long m (run + 1) ts (omega arith) (omega (arith, ltb-false 99 run under)) (record { long = omega (arith, b.long); all = first.1 })))
+    run_gets_long m (run + 1) ts (omega arith) (omega (arith, ltb-false 99 run under)) (record { long = omega (arith, b.long); all = first.1 })))
 
 -- so does one that begins later
 later_step : (run : ℕ) (ts : List Token) (is : Bool) → (run ≤ 99 → has_long_run (run + 1) ts ≡ true) → has_long_run 0 ts ≡ true

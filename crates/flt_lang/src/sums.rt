@@ -15,6 +15,7 @@ fn sum_of_tests(nodes: &[Node]) -> u128
     ensures sum { result ≡ sum_by node_tests nodes.now }
     ensures few { result ≤ 27 * 2 ^ 64 }
 {
+    // A u128, since no number of nodes makes it wrap.
     let mut sum: u128 = 0;
     for node in nodes {
         sum += u128::from(node.tests());
@@ -26,6 +27,7 @@ fn sum_of_sizes(nodes: &[Node]) -> u128
     ensures sum { result ≡ sum_by node_size nodes.now }
     ensures few { result ≤ 2 * 2 ^ 64 }
 {
+    // A u128, since no number of nodes makes it wrap.
     let mut sum: u128 = 0;
     for node in nodes {
         sum += u128::from(node.size());

@@ -109,6 +109,7 @@ fn before_zeros(form: Group, joined: Joined, zeros: u32) -> u128
     requires few { joined.count + zeros ≤ 8 }
     ensures { result ≡ joined.value * base_of form ^ zeros }
 {
+    // A product for a shift, as the definition has it.
     let mut value = joined.value;
     for _done in 0..zeros {
         value *= u128::from(form.base());
