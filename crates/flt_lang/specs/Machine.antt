@@ -1,5 +1,7 @@
 -- The parser's steps over plain lists: the frames and the nodes are listed latest first.
-use Rattle.std.specs.Prelude.{ℕ, suc, zero, ◌+◌, ◌-◌, ◌<◌, List, [], ◌∷◌, Option, Some, None, nat_le, length, if◌then◌else◌, option_and_then}
+use Rattle.std.specs.Prelude.{◌≡◌, ◌⊎◌, ℕ, suc, zero, ◌+◌, ◌-◌, ◌<◌, List, [], ◌∷◌, Option, Some, None, nat_le, length, if◌then◌else◌, option_and_then}
+use Rattle.flt_words.specs.declared.fault.ExprFault.{ExprFault}
+use Rattle.flt_words.specs.declared.fault.ExprFault.TheVariants as expr_fault
 use Rattle.flt_words.specs.declared.token.Protocol.{Protocol}
 use Rattle.flt_words.specs.declared.token.Operator.TheVariants.{Subtract, Divide}
 use Rattle.flt_words.specs.declared.token.TokenKind.{TokenKind}
@@ -316,3 +318,7 @@ run (t ∷ ts) zero fs (Some x) d = go_on (t ∷ ts) fs x d >>= λ r. run ts r.0
 abbrev pub all_run : List TokenKind → Option (List Node)
 all_run [] = Some []
 all_run (t ∷ ts) = run (t ∷ ts) 0 [] None []
+
+-- why the readers stop: the tokens have no tree, or an allocation failed
+abbrev pub IsReadFault : ExprFault → Type 0
+IsReadFault fault = (fault ≡ expr_fault.NotAnExpression) ⊎ (fault ≡ expr_fault.Memory)

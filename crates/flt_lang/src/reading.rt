@@ -1,6 +1,5 @@
 //! Tokens become a tree.
 
-mod fault;
 mod frame;
 mod machine;
 mod parser;

@@ -2,19 +2,18 @@
 //! frames, and decides late which sort an operand is of.
 
 ghost use Rattle.std.specs.Prelude.{◌≡◌, [], ◌∷◌, ◌<◌, ◌≤◌, Some, None, Err};
-ghost use Rattle.std.specs.Prelude.{IfOk, IfSome, OnOk, length, drop};
+ghost use Rattle.std.specs.Prelude.{IfErr, IfOk, IfSome, OnOk, length, drop};
 ghost use Rattle.flt_lang.specs.Grammar.{kinds_of};
 ghost use Rattle.flt_lang.specs.Machine.{as_number, as_truth, as_sort, prefix_mask, fill, settle};
 ghost use Rattle.flt_lang.specs.Machine.{waits, load_ends, size_of, closes, place_at, prefix_len};
-ghost use Rattle.flt_lang.specs.Machine.{go_on, run, finish, all_run};
+ghost use Rattle.flt_lang.specs.Machine.{go_on, run, finish, all_run, IsReadFault};
 
 use crate::node::Node;
-use crate::reading::fault::ReadFault;
 use crate::reading::frame::{Frame, Operand, Sort, reach_of};
 use crate::reading::primitive::kind_at;
 use crate::reading::reader::Reader;
 use crate::value::{NetMask, Value};
-use flt_words::{Operator, Token, TokenKind};
+use flt_words::{ExprFault, Operator, Token, TokenKind};
 use std::alloc::Allocator;
 
 fn prefix_mask(len: Option<u32>) -> NetMask
@@ -54,11 +53,12 @@ fn size_of(tokens: &[Token]) -> Option<u32>
 
 impl<A: Allocator> Reader<A> {
     /// Takes the operand for a number.
-    fn write_number(&mut self, operand: Operand) -> Result<(), ReadFault>
+    fn write_number(&mut self, operand: Operand) -> Result<(), ExprFault>
         ensures ok { OnOk result (as_number operand self.old.nodes ≡ Some self.new.nodes) }
         ensures frames { OnOk result (self.new.frames ≡ self.old.frames) }
-        ensures none { result ≡ Err ReadFault.NotAnExpression
+        ensures none { result ≡ Err ExprFault.NotAnExpression
             → as_number operand self.old.nodes ≡ None }
+        ensures err { IfErr result IsReadFault }
     {
         match operand {
             Operand::Number => Ok(()),
@@ -70,16 +70,17 @@ impl<A: Allocator> Reader<A> {
                 self.write(Node::Literal(len))?;
                 self.write(Node::Apply(Operator::Divide))
             }
-            Operand::Truth => Err(ReadFault::NotAnExpression),
+            Operand::Truth => Err(ExprFault::NotAnExpression),
         }
     }
 
     /// Takes the operand for a truth.
-    fn write_truth(&mut self, operand: Operand) -> Result<(), ReadFault>
+    fn write_truth(&mut self, operand: Operand) -> Result<(), ExprFault>
         ensures ok { OnOk result (as_truth operand self.old.nodes ≡ Some self.new.nodes) }
         ensures frames { OnOk result (self.new.frames ≡ self.old.frames) }
-        ensures none { result ≡ Err ReadFault.NotAnExpression
+        ensures none { result ≡ Err ExprFault.NotAnExpression
             → as_truth operand self.old.nodes ≡ None }
+        ensures err { IfErr result IsReadFault }
     {
         match operand {
             Operand::Truth => Ok(()),
@@ -89,16 +90,17 @@ impl<A: Allocator> Reader<A> {
             Operand::Either(number, len) => {
                 self.write(Node::Bare(Value::Number(number, prefix_mask(len))))
             }
-            Operand::Number => Err(ReadFault::NotAnExpression),
+            Operand::Number => Err(ExprFault::NotAnExpression),
         }
     }
 
     /// Takes the operand for one of a sort.
-    fn write_operand(&mut self, sort: Sort, operand: Operand) -> Result<(), ReadFault>
+    fn write_operand(&mut self, sort: Sort, operand: Operand) -> Result<(), ExprFault>
         ensures ok { OnOk result (as_sort sort operand self.old.nodes ≡ Some self.new.nodes) }
         ensures frames { OnOk result (self.new.frames ≡ self.old.frames) }
-        ensures none { result ≡ Err ReadFault.NotAnExpression
+        ensures none { result ≡ Err ExprFault.NotAnExpression
             → as_sort sort operand self.old.nodes ≡ None }
+        ensures err { IfErr result IsReadFault }
     {
         match sort {
             Sort::Truth => self.write_truth(operand),
@@ -107,15 +109,16 @@ impl<A: Allocator> Reader<A> {
     }
 
     /// Writes a frame behind its operand. What the two are is returned.
-    fn fill(&mut self, frame: Frame, operand: Operand) -> Result<Operand, ReadFault>
+    fn fill(&mut self, frame: Frame, operand: Operand) -> Result<Operand, ExprFault>
         ensures ok { IfOk result (λ x.
             fill frame operand self.old.nodes ≡ Some (x, self.new.nodes)) }
         ensures frames { IfOk result (λ _. self.new.frames ≡ self.old.frames) }
-        ensures none { result ≡ Err ReadFault.NotAnExpression
+        ensures none { result ≡ Err ExprFault.NotAnExpression
             → fill frame operand self.old.nodes ≡ None }
+        ensures err { IfErr result IsReadFault }
     {
         let Some((node, whole)) = frame.node() else {
-            return Err(ReadFault::NotAnExpression);
+            return Err(ExprFault::NotAnExpression);
         };
         self.write_operand(frame.sort(), operand)?;
         self.write(node)?;
@@ -124,11 +127,12 @@ impl<A: Allocator> Reader<A> {
 
     /// The frames that bind at least as tightly as `reach` take the operand.
     #[tactic(auto, using(crate::proofs::Settling::settling))]
-    fn settle(&mut self, operand: Operand, reach: u8) -> Result<Operand, ReadFault>
+    fn settle(&mut self, operand: Operand, reach: u8) -> Result<Operand, ExprFault>
         ensures ok { IfOk result (λ x. settle reach self.old.frames operand self.old.nodes
             ≡ Some (self.new.frames, x, self.new.nodes)) }
-        ensures none { result ≡ Err ReadFault.NotAnExpression
+        ensures none { result ≡ Err ExprFault.NotAnExpression
             → settle reach self.old.frames operand self.old.nodes ≡ None }
+        ensures err { IfErr result IsReadFault }
     {
         let mut operand = operand;
         while let Some(frame) = self.pop_tight(reach) {
@@ -142,15 +146,16 @@ impl<A: Allocator> Reader<A> {
         &mut self,
         frame: Frame,
         operand: Operand,
-    ) -> Result<(usize, Option<Operand>), ReadFault>
+    ) -> Result<(usize, Option<Operand>), ExprFault>
         ensures ok { IfOk result (λ r. waits frame self.old.frames operand self.old.nodes
             ≡ Some (r.0, (self.new.frames, r.1, self.new.nodes))) }
         ensures used { IfOk result (λ r. r.0 ≡ 0) }
-        ensures none { result ≡ Err ReadFault.NotAnExpression
+        ensures none { result ≡ Err ExprFault.NotAnExpression
             → waits frame self.old.frames operand self.old.nodes ≡ None }
+        ensures err { IfErr result IsReadFault }
     {
         if self.room() < frame.looseness() {
-            return Err(ReadFault::NotAnExpression);
+            return Err(ExprFault::NotAnExpression);
         }
         self.write_operand(frame.sort(), operand)?;
         self.wait(frame)?;
@@ -158,16 +163,17 @@ impl<A: Allocator> Reader<A> {
     }
 
     /// A parenthesis closes.
-    fn close(&mut self, operand: Operand) -> Result<(usize, Option<Operand>), ReadFault>
+    fn close(&mut self, operand: Operand) -> Result<(usize, Option<Operand>), ExprFault>
         ensures ok { IfOk result (λ r. closes self.old.frames operand self.old.nodes
             ≡ Some (r.0, (self.new.frames, r.1, self.new.nodes))) }
         ensures used { IfOk result (λ r. r.0 ≡ 0) }
-        ensures none { result ≡ Err ReadFault.NotAnExpression
+        ensures none { result ≡ Err ExprFault.NotAnExpression
             → closes self.old.frames operand self.old.nodes ≡ None }
+        ensures err { IfErr result IsReadFault }
     {
         match self.pop() {
             Some(Frame::Open) => Ok((0, Some(operand.enclosed()))),
-            _ => Err(ReadFault::NotAnExpression),
+            _ => Err(ExprFault::NotAnExpression),
         }
     }
 
@@ -178,12 +184,13 @@ impl<A: Allocator> Reader<A> {
         operand: Operand,
         more: usize,
         size: u32,
-    ) -> Result<(usize, Option<Operand>), ReadFault>
+    ) -> Result<(usize, Option<Operand>), ExprFault>
         ensures ok { IfOk result (λ r. load_ends more size self.old.frames operand self.old.nodes
             ≡ Some (r.0, (self.new.frames, r.1, self.new.nodes))) }
         ensures used { IfOk result (λ r. r.0 ≡ more) }
-        ensures none { result ≡ Err ReadFault.NotAnExpression
+        ensures none { result ≡ Err ExprFault.NotAnExpression
             → load_ends more size self.old.frames operand self.old.nodes ≡ None }
+        ensures err { IfErr result IsReadFault }
     {
         match self.pop() {
             Some(Frame::Load(protocol)) => {
@@ -191,7 +198,7 @@ impl<A: Allocator> Reader<A> {
                 self.write(Node::Load(protocol, size))?;
                 Ok((more, Some(Operand::Number)))
             }
-            _ => Err(ReadFault::NotAnExpression),
+            _ => Err(ExprFault::NotAnExpression),
         }
     }
 
@@ -202,13 +209,14 @@ impl<A: Allocator> Reader<A> {
         operand: Operand,
         first: TokenKind,
         rest: &[Token],
-    ) -> Result<(usize, Option<Operand>), ReadFault>
+    ) -> Result<(usize, Option<Operand>), ExprFault>
         ensures ok { IfOk result (λ r.
             place_at first (kinds_of rest.now) self.old.frames operand self.old.nodes
             ≡ Some (r.0, (self.new.frames, r.1, self.new.nodes))) }
         ensures within { IfOk result (λ r. r.0 ≤ length rest.now) }
-        ensures none { result ≡ Err ReadFault.NotAnExpression
+        ensures none { result ≡ Err ExprFault.NotAnExpression
             → place_at first (kinds_of rest.now) self.old.frames operand self.old.nodes ≡ None }
+        ensures err { IfErr result IsReadFault }
     {
         match first {
             TokenKind::Operator(operator) => self.wait_behind(Frame::Apply(operator), operand),
@@ -220,9 +228,9 @@ impl<A: Allocator> Reader<A> {
             TokenKind::CloseBracket => self.end_load(operand, 0, 1),
             TokenKind::Colon => match size_of(rest) {
                 Some(size) => self.end_load(operand, 2, size),
-                None => Err(ReadFault::NotAnExpression),
+                None => Err(ExprFault::NotAnExpression),
             },
-            _ => Err(ReadFault::NotAnExpression),
+            _ => Err(ExprFault::NotAnExpression),
         }
     }
 
@@ -233,13 +241,14 @@ impl<A: Allocator> Reader<A> {
         operand: Operand,
         first: TokenKind,
         rest: &[Token],
-    ) -> Result<(usize, Option<Operand>), ReadFault>
+    ) -> Result<(usize, Option<Operand>), ExprFault>
         ensures ok { IfOk result (λ r.
             go_on (first ∷ kinds_of rest.now) self.old.frames operand self.old.nodes
             ≡ Some (r.0, (self.new.frames, r.1, self.new.nodes))) }
         ensures within { IfOk result (λ r. r.0 ≤ length rest.now) }
-        ensures none { result ≡ Err ReadFault.NotAnExpression
+        ensures none { result ≡ Err ExprFault.NotAnExpression
             → go_on (first ∷ kinds_of rest.now) self.old.frames operand self.old.nodes ≡ None }
+        ensures err { IfErr result IsReadFault }
     {
         match prefix_len(operand, first, rest) {
             Some((number, len)) if self.room() >= 1 => {
@@ -257,18 +266,19 @@ impl<A: Allocator> Reader<A> {
         &mut self,
         operand: Option<Operand>,
         tokens: &[Token],
-    ) -> Result<(usize, Option<Operand>), ReadFault>
+    ) -> Result<(usize, Option<Operand>), ExprFault>
         requires { 0 < length tokens.now }
         ensures ok { IfOk result (λ r.
             run (kinds_of tokens.now) 0 self.old.frames operand self.old.nodes
             ≡ run (kinds_of (drop r.0 tokens.now)) 0 self.new.frames r.1 self.new.nodes) }
         ensures used { IfOk result (λ r. 0 < r.0) }
         ensures within { IfOk result (λ r. r.0 ≤ length tokens.now) }
-        ensures none { result ≡ Err ReadFault.NotAnExpression
+        ensures none { result ≡ Err ExprFault.NotAnExpression
             → run (kinds_of tokens.now) 0 self.old.frames operand self.old.nodes ≡ None }
+        ensures err { IfErr result IsReadFault }
     {
         let [first, rest @ ..] = tokens else {
-            return Err(ReadFault::NotAnExpression);
+            return Err(ExprFault::NotAnExpression);
         };
         match operand {
             None => {
@@ -283,29 +293,31 @@ impl<A: Allocator> Reader<A> {
     }
 
     /// What the tokens leave is one truth.
-    pub fn finish(&mut self, operand: Option<Operand>) -> Result<(), ReadFault>
+    pub fn finish(&mut self, operand: Option<Operand>) -> Result<(), ExprFault>
         ensures ok { OnOk result (finish operand self.old.frames self.old.nodes
             ≡ Some self.new.nodes) }
-        ensures none { result ≡ Err ReadFault.NotAnExpression
+        ensures none { result ≡ Err ExprFault.NotAnExpression
             → finish operand self.old.frames self.old.nodes ≡ None }
+        ensures err { IfErr result IsReadFault }
     {
         let Some(read) = operand else {
-            return Err(ReadFault::NotAnExpression);
+            return Err(ExprFault::NotAnExpression);
         };
         let settled = self.settle(read, 8)?;
         match self.pop() {
             None => self.write_truth(settled),
-            Some(_) => Err(ReadFault::NotAnExpression),
+            Some(_) => Err(ExprFault::NotAnExpression),
         }
     }
 
     /// Reads the tokens of a whole expression, where nothing is read yet.
-    pub fn read(&mut self, tokens: &[Token]) -> Result<(), ReadFault>
+    pub fn read(&mut self, tokens: &[Token]) -> Result<(), ExprFault>
         requires frames { self.old.frames ≡ [] }
         requires nodes { self.old.nodes ≡ [] }
         ensures ok { OnOk result (all_run (kinds_of tokens.now) ≡ Some self.new.nodes) }
-        ensures none { result ≡ Err ReadFault.NotAnExpression
+        ensures none { result ≡ Err ExprFault.NotAnExpression
             → all_run (kinds_of tokens.now) ≡ None }
+        ensures err { IfErr result IsReadFault }
     {
         if tokens.is_empty() {
             return Ok(());

@@ -3,11 +3,11 @@
 ghost use Rattle.std.specs.Prelude.{◌≡◌, ◌↔◌, ◌⊎◌, Err, IfOk, IfErr};
 ghost use Rattle.flt_lang.specs.Tree.{Expression};
 ghost use Rattle.flt_lang.specs.Grammar.{Reads, kinds_of};
+ghost use Rattle.flt_lang.specs.Machine.{IsReadFault};
 ghost use Rattle.flt_lang.specs.Nesting.{IsTooDeep};
 
 use crate::expr::Expr;
 use crate::nesting::is_nested_too_deep;
-use crate::reading::fault::ReadFault;
 use crate::reading::reader::Reader;
 use flt_words::{ExprFault, Token};
 use std::alloc::Allocator;
@@ -28,19 +28,16 @@ pub fn parse<A: Allocator + Clone>(alloc: A, tokens: &[Token]) -> Result<Expr<A>
     if is_nested_too_deep(tokens) {
         return Err(ExprFault::NestedTooDeep);
     }
-    match read(alloc, tokens) {
-        Ok(expr) => Ok(expr),
-        Err(ReadFault::NotAnExpression) => Err(ExprFault::NotAnExpression),
-        Err(ReadFault::Memory) => Err(ExprFault::Memory),
-    }
+    read(alloc, tokens)
 }
 
 /// The tree of the tokens.
 #[tactic(auto, using(crate::proofs::Parsing::parsing))]
-fn read<A: Allocator + Clone>(alloc: A, tokens: &[Token]) -> Result<Expr<A>, ReadFault>
+fn read<A: Allocator + Clone>(alloc: A, tokens: &[Token]) -> Result<Expr<A>, ExprFault>
     ensures ok { IfOk result (λ tree. Reads (kinds_of tokens.now) tree) }
-    ensures none { result ≡ Err ReadFault.NotAnExpression
+    ensures none { result ≡ Err ExprFault.NotAnExpression
         → (tree : Expression) → Reads (kinds_of tokens.now) tree → ⊥ }
+    ensures err { IfErr result IsReadFault }
 {
     let mut reader = Reader::new(alloc)?;
     reader.read(tokens)?;

@@ -14,11 +14,11 @@ use crate::quals::{Direction, Quals};
 use crate::value::{Dotted, NetMask, Value};
 use flt_words::{Operator, Protocol, Side, Token, TokenKind, ValueType};
 
-/// The kind of the token at a place.
-pub fn kind_at(tokens: &[Token], i: usize) -> Option<TokenKind>
-    ensures { result ≡ slice_get (kinds_of tokens.now) i }
+/// The kind of the token at an index, if there is one.
+pub fn kind_at(tokens: &[Token], index: usize) -> Option<TokenKind>
+    ensures { result ≡ slice_get (kinds_of tokens.now) index }
 {
-    Some(tokens.get(i)?.kind)
+    Some(tokens.get(index)?.kind)
 }
 
 fn read_protocol(tokens: &[Token]) -> (Option<Protocol>, usize)

@@ -7,8 +7,8 @@ ghost use Rattle.flt_lang.specs.Nodes.{IsTree, tree_of};
 
 use crate::expr::Expr;
 use crate::node::Node;
-use crate::reading::fault::ReadFault;
 use crate::reading::frame::{Frame, room};
+use flt_words::ExprFault;
 use std::alloc::{AllocError, Allocator};
 use std::marker::Model;
 
@@ -49,20 +49,20 @@ impl<A: Allocator> Reader<A> {
     }
 
     /// Adds a node.
-    pub fn write(&mut self, node: Node) -> Result<(), ReadFault>
+    pub fn write(&mut self, node: Node) -> Result<(), ExprFault>
         ensures nodes { OnOk result (self.new.nodes ≡ node ∷ self.old.nodes) }
         ensures frames { OnOk result (self.new.frames ≡ self.old.frames) }
-        ensures err { IfErr result (λ fault. fault ≡ ReadFault.Memory) }
+        ensures err { IfErr result (λ fault. fault ≡ ExprFault.Memory) }
     {
         self.nodes.push(node)?;
         Ok(())
     }
 
     /// Adds a frame, which waits from now on.
-    pub fn wait(&mut self, frame: Frame) -> Result<(), ReadFault>
+    pub fn wait(&mut self, frame: Frame) -> Result<(), ExprFault>
         ensures frames { OnOk result (self.new.frames ≡ frame ∷ self.old.frames) }
         ensures nodes { OnOk result (self.new.nodes ≡ self.old.nodes) }
-        ensures err { IfErr result (λ fault. fault ≡ ReadFault.Memory) }
+        ensures err { IfErr result (λ fault. fault ≡ ExprFault.Memory) }
     {
         self.frames.push(frame)?;
         Ok(())

@@ -7,14 +7,14 @@ ghost use Rattle.flt_lang.specs.declared.node.Node.{Node};
 ghost use Rattle.flt_lang.specs.Grammar.{kinds_of};
 ghost use Rattle.flt_lang.specs.Machine.{begin_at, protocol_begins, opening_of, number_of};
 ghost use Rattle.flt_lang.specs.Machine.{sized_of, primitive, bare_of, one_node, with_frames};
+ghost use Rattle.flt_lang.specs.Machine.{IsReadFault};
 
 use crate::node::Node;
-use crate::reading::fault::ReadFault;
 use crate::reading::frame::{Frame, Operand};
 use crate::reading::primitive::{kind_at, read_value, read_valued};
 use crate::reading::protocols::{Opening, has_casts, is_accessor, is_check, read_opening};
 use crate::reading::reader::Reader;
-use flt_words::{Operator, Protocol, Token, TokenKind};
+use flt_words::{ExprFault, Operator, Protocol, Token, TokenKind};
 use std::alloc::Allocator;
 
 /// `less N` or `greater N`, and how many tokens more than one it takes.
@@ -65,14 +65,15 @@ impl<A: Allocator> Reader<A> {
         &mut self,
         first: TokenKind,
         tokens: &[Token],
-    ) -> Result<(usize, Option<Operand>), ReadFault>
+    ) -> Result<(usize, Option<Operand>), ExprFault>
         requires { 0 < length tokens.now }
         ensures ok { IfOk result (λ r.
             begin_at first (kinds_of tokens.now) self.old.frames self.old.nodes
             ≡ Some (r.0, (self.new.frames, r.1, self.new.nodes))) }
         ensures within { IfOk result (λ r. r.0 < length tokens.now) }
-        ensures none { result ≡ Err ReadFault.NotAnExpression
+        ensures none { result ≡ Err ExprFault.NotAnExpression
             → begin_at first (kinds_of tokens.now) self.old.frames self.old.nodes ≡ None }
+        ensures err { IfErr result IsReadFault }
     {
         match first {
             TokenKind::Protocol(protocol) => self.begin_protocol(protocol, tokens),
@@ -89,27 +90,27 @@ impl<A: Allocator> Reader<A> {
             TokenKind::Not if self.room() >= 6 => self.begin_behind(Frame::Not),
             TokenKind::Operator(Operator::Subtract) => self.begin_behind(Frame::Negate),
             TokenKind::Open => self.begin_behind(Frame::Open),
-            _ => Err(ReadFault::NotAnExpression),
+            _ => Err(ExprFault::NotAnExpression),
         }
     }
 
     /// A frame waits for an operand.
-    fn begin_behind(&mut self, frame: Frame) -> Result<(usize, Option<Operand>), ReadFault>
+    fn begin_behind(&mut self, frame: Frame) -> Result<(usize, Option<Operand>), ExprFault>
         ensures ok { IfOk result (λ r. r ≡ (0, None)) }
         ensures frames { IfOk result (λ _. self.new.frames ≡ frame ∷ self.old.frames) }
         ensures nodes { IfOk result (λ _. self.new.nodes ≡ self.old.nodes) }
-        ensures err { IfErr result (λ fault. fault ≡ ReadFault.Memory) }
+        ensures err { IfErr result (λ fault. fault ≡ ExprFault.Memory) }
     {
         self.wait(frame)?;
         Ok((0, None))
     }
 
     /// A number is one node.
-    fn put_number(&mut self, node: Node) -> Result<(usize, Option<Operand>), ReadFault>
+    fn put_number(&mut self, node: Node) -> Result<(usize, Option<Operand>), ExprFault>
         ensures ok { IfOk result (λ r. r ≡ (0, Some Operand.Number)) }
         ensures frames { IfOk result (λ _. self.new.frames ≡ self.old.frames) }
         ensures nodes { IfOk result (λ _. self.new.nodes ≡ node ∷ self.old.nodes) }
-        ensures err { IfErr result (λ fault. fault ≡ ReadFault.Memory) }
+        ensures err { IfErr result (λ fault. fault ≡ ExprFault.Memory) }
     {
         self.write(node)?;
         Ok((0, Some(Operand::Number)))
@@ -119,15 +120,16 @@ impl<A: Allocator> Reader<A> {
     fn put_truth(
         &mut self,
         read: Option<(Node, usize)>,
-    ) -> Result<(usize, Option<Operand>), ReadFault>
+    ) -> Result<(usize, Option<Operand>), ExprFault>
         ensures ok { IfOk result (λ r. with_frames self.old.frames (one_node self.old.nodes read)
             ≡ Some (r.0, (self.new.frames, r.1, self.new.nodes))) }
         ensures used { IfOk result (λ r. IfSome read (λ node. r.0 ≡ node.1)) }
-        ensures none { result ≡ Err ReadFault.NotAnExpression
+        ensures none { result ≡ Err ExprFault.NotAnExpression
             → with_frames self.old.frames (one_node self.old.nodes read) ≡ None }
+        ensures err { IfErr result IsReadFault }
     {
         let Some((node, more)) = read else {
-            return Err(ReadFault::NotAnExpression);
+            return Err(ExprFault::NotAnExpression);
         };
         self.write(node)?;
         Ok((more, Some(Operand::Truth)))
@@ -138,15 +140,16 @@ impl<A: Allocator> Reader<A> {
         &mut self,
         protocol: Protocol,
         tokens: &[Token],
-    ) -> Result<(usize, Option<Operand>), ReadFault>
+    ) -> Result<(usize, Option<Operand>), ExprFault>
         ensures ok { IfOk result (λ r. protocol_begins protocol
             (opening_of (kinds_of tokens.now)) (kinds_of tokens.now)
             self.old.frames self.old.nodes
             ≡ Some (r.0, (self.new.frames, r.1, self.new.nodes))) }
         ensures within { IfOk result (λ r. r.0 < length tokens.now) }
-        ensures none { result ≡ Err ReadFault.NotAnExpression
+        ensures none { result ≡ Err ExprFault.NotAnExpression
             → protocol_begins protocol (opening_of (kinds_of tokens.now)) (kinds_of tokens.now)
             self.old.frames self.old.nodes ≡ None }
+        ensures err { IfErr result IsReadFault }
     {
         match read_opening(tokens) {
             Opening::Bracket if is_accessor(protocol) => {
@@ -157,24 +160,25 @@ impl<A: Allocator> Reader<A> {
                 self.put_truth(Some((Node::Cast(Some(protocol), cast), 1)))
             }
             Opening::Other => self.put_truth(read_primitive(tokens)),
-            _ => Err(ReadFault::NotAnExpression),
+            _ => Err(ExprFault::NotAnExpression),
         }
     }
 
     /// Reads a number, or a network's number with its mask.
-    fn begin_number(&mut self, tokens: &[Token]) -> Result<(usize, Option<Operand>), ReadFault>
+    fn begin_number(&mut self, tokens: &[Token]) -> Result<(usize, Option<Operand>), ExprFault>
         ensures ok { IfOk result (λ r.
             with_frames self.old.frames (number_of (kinds_of tokens.now) self.old.nodes)
             ≡ Some (r.0, (self.new.frames, r.1, self.new.nodes))) }
         ensures within { IfOk result (λ r. r.0 < length tokens.now) }
-        ensures none { result ≡ Err ReadFault.NotAnExpression
+        ensures none { result ≡ Err ExprFault.NotAnExpression
             → with_frames self.old.frames (number_of (kinds_of tokens.now) self.old.nodes) ≡ None }
+        ensures err { IfErr result IsReadFault }
     {
         match (kind_at(tokens, 0), kind_at(tokens, 1), kind_at(tokens, 2)) {
             (Some(TokenKind::Number(_)), Some(TokenKind::Mask), Some(TokenKind::Dotted { .. })) =>
                 self.put_truth(read_bare(tokens)),
             (Some(TokenKind::Number(number)), _, _) => Ok((0, Some(Operand::Plain(number)))),
-            _ => Err(ReadFault::NotAnExpression),
+            _ => Err(ExprFault::NotAnExpression),
         }
     }
 }
