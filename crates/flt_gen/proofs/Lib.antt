@@ -18,3 +18,4 @@ pub mod Together
 pub mod Grouping
 pub mod Whole
 pub mod Turned
+pub mod Masks

@@ -11,3 +11,4 @@ pub mod Walk
 pub mod Correct
 pub mod Follow
 pub mod Puts
+pub mod Laws

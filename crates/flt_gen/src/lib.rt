@@ -8,6 +8,7 @@ mod context;
 mod elementary;
 mod follow;
 mod group;
+pub mod laws;
 mod link;
 mod number;
 mod port;

@@ -1,0 +1,54 @@
+-- A mask of 128 bits, by the four words in which it stands.
+use Rattle.std.proofs.Common.{◌≡◌, ℕ, ◌+◌, ◌-◌, ◌*◌, ◌^◌, ◌≤◌, [], ◌∷◌, map, refl, ap, ◌∙◌, arith, Option, None, Some, ⊎_elim}
+use Rattle.std.proofs.Math.Pow.{pow_mono}
+use Rattle.std.proofs.lemmas.Bool.{cases_lt}
+use Rattle.std.proofs.lemmas.Nat.{pow-add}
+use Rattle.std.specs.Int.Digits.{number_from_digits}
+use Rattle.flt_lang.specs.Nets.{first_bits, ip6_mask}
+use Rattle.flt_gen.specs.Laws.{word_mask}
+use Rattle.flt_gen.specs.Primitives.{ip6_tests}
+
+-- each word lacks a power of 2, the whole word where it has no bit of the mask; so does the mask
+in_first : (a b c d q : ℕ) → a ≤ 2 ^ 32 → b ≡ 2 ^ 32 → c ≡ 2 ^ 32 → d ≡ 2 ^ 32 → q ≡ a * 2 ^ 96
+    → number_from_digits (2 ^ 32) ((2 ^ 32 - a) ∷ (2 ^ 32 - b) ∷ (2 ^ 32 - c) ∷ (2 ^ 32 - d) ∷ []) ≡ 2 ^ 128 - q
+in_first a b c d q few second third fourth same = omega arith
+
+in_second : (a b c d q : ℕ) → a ≡ 1 → b ≤ 2 ^ 32 → c ≡ 2 ^ 32 → d ≡ 2 ^ 32 → q ≡ b * 2 ^ 64
+    → number_from_digits (2 ^ 32) ((2 ^ 32 - a) ∷ (2 ^ 32 - b) ∷ (2 ^ 32 - c) ∷ (2 ^ 32 - d) ∷ []) ≡ 2 ^ 128 - q
+in_second a b c d q first few third fourth same = omega arith
+
+in_third : (a b c d q : ℕ) → a ≡ 1 → b ≡ 1 → c ≤ 2 ^ 32 → d ≡ 2 ^ 32 → q ≡ c * 2 ^ 32
+    → number_from_digits (2 ^ 32) ((2 ^ 32 - a) ∷ (2 ^ 32 - b) ∷ (2 ^ 32 - c) ∷ (2 ^ 32 - d) ∷ []) ≡ 2 ^ 128 - q
+in_third a b c d q first second few fourth same = omega arith
+
+in_fourth : (a b c d q : ℕ) → a ≡ 1 → b ≡ 1 → c ≡ 1 → d ≤ 2 ^ 32 → q ≡ d
+    → number_from_digits (2 ^ 32) ((2 ^ 32 - a) ∷ (2 ^ 32 - b) ∷ (2 ^ 32 - c) ∷ (2 ^ 32 - d) ∷ []) ≡ 2 ^ 128 - q
+in_fourth a b c d q first second third few same = omega arith
+
+-- powers of 2
+same : (k m : ℕ) → k ≡ m → 2 ^ k ≡ 2 ^ m
+same k m e = ap (λ n. 2 ^ n) e
+
+few_bits : (k : ℕ) → k ≤ 32 → 2 ^ k ≤ 2 ^ 32
+few_bits k few = pow_mono {i = k} {j = 32} few
+
+raised : (k m up : ℕ) → k ≡ m + up → 2 ^ k ≡ 2 ^ m * 2 ^ up
+raised k m up e = same k (m + up) e ∙ pow-add 2 m up
+
+-- what the mask of a word lacks, as an exponent of 2
+abbrev lack : ℕ → ℕ → ℕ
+lack bits word = 32 - (bits - 32 * word)
+
+masks_join : (bits : ℕ) → number_from_digits (2 ^ 32) (first_bits 32 (bits - 32 * 0) ∷ first_bits 32 (bits - 32 * 1) ∷ first_bits 32 (bits - 32 * 2) ∷ first_bits 32 (bits - 32 * 3) ∷ []) ≡ first_bits 128 bits
+masks_join bits =
+    ⊎_elim (λ first. in_first _ _ _ _ _ (few_bits (lack bits 0) (omega arith)) (same (lack bits 1) 32 (omega arith)) (same (lack bits 2) 32 (omega arith)) (same (lack bits 3) 32 (omega arith)) (raised (128 - bits) (lack bits 0) 96 (omega arith)))
+    (λ past_first. ⊎_elim (λ second. in_second _ _ _ _ _ (same (lack bits 0) 0 (omega arith)) (few_bits (lack bits 1) (omega arith)) (same (lack bits 2) 32 (omega arith)) (same (lack bits 3) 32 (omega arith)) (raised (128 - bits) (lack bits 1) 64 (omega arith)))
+    (λ past_second. ⊎_elim (λ third. in_third _ _ _ _ _ (same (lack bits 0) 0 (omega arith)) (same (lack bits 1) 0 (omega arith)) (few_bits (lack bits 2) (omega arith)) (same (lack bits 3) 32 (omega arith)) (raised (128 - bits) (lack bits 2) 32 (omega arith)))
+    (λ past_third. in_fourth _ _ _ _ _ (same (lack bits 0) 0 (omega arith)) (same (lack bits 1) 0 (omega arith)) (same (lack bits 2) 0 (omega arith)) (few_bits (lack bits 3) (omega arith)) (same (128 - bits) (lack bits 3) (omega arith)))
+    (cases_lt bits 96))
+    (cases_lt bits 64))
+    (cases_lt bits 32)
+
+pub joined : (prefix : Option ℕ) (address at : ℕ) → number_from_digits (2 ^ 32) (map word_mask (ip6_tests prefix address at)) ≡ ip6_mask prefix
+joined None address at = refl
+joined (Some bits) address at = masks_join bits
