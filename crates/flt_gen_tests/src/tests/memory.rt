@@ -22,22 +22,20 @@ fn program_refused<A: Allocator>(trial: &Trial<Global>, expr: &Checked<A>) -> bo
     generate(trial, expr, Link::Ether).is_err()
 }
 
-// A list that is collected asks again, for less; each other refusal is told.
 #[test]
 fn each_growth_of_a_tree_is_refused(rt: HostRuntime) -> Result<(), Fail> {
     let trial = Trial::new(rt.alloc());
     assert!(rt; tree_refused(&trial).is_none());
     let growths = trial.growths();
     assert!(rt; (5..100).contains(&growths));
-    let mut told = 0u64;
     for number in 0..growths {
         trial.refuse(number + 1);
-        if let Some(fault) = tree_refused(&trial) {
-            assert_eq!(rt; fault, ExprFault::Memory, "growth {number}");
-            told = told.saturating_add(1);
-        }
+        assert_eq!(rt;
+            tree_refused(&trial),
+            Some(ExprFault::Memory),
+            "growth {number}"
+        );
     }
-    assert_eq!(rt; told, growths - 1);
     trial.refuse(0);
     assert!(rt; tree_refused(&trial).is_none());
     Ok(())
