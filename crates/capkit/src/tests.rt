@@ -1,8 +1,8 @@
 //! Files that are opened, read, created and left alone.
 
-use crate::runner::{Stop, create, open, read_listing, run};
 use crate::overwrites::overwrites_input;
 use crate::progress::Progress;
+use crate::runner::{Stop, create, open, read_listing, run};
 use cap_line::command_of;
 use std::alloc::{AllocError, Global};
 use std::os::unix::fs::symlink;
