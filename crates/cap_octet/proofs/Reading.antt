@@ -1,10 +1,12 @@
 -- One read after another, and one write after another.
-use Rattle.std.proofs.Common.{◌≡◌, ℕ, ◌+◌, ◌-◌, ◌<◌, ◌≤◌, List, [], ◌++◌, length, take, drop, sym, ◌∙◌, ap, arith, subst, Result, Ok, Err, IfOk}
+use Rattle.std.proofs.Common.{◌≡◌, ℕ, ◌+◌, ◌-◌, ◌<◌, ◌≤◌, min, Bool, true, false, if◌then◌else◌, List, [], ◌++◌, length, take, drop, sym, ◌∙◌, ap, arith, subst, Option, None, Some, Result, Ok, Err, IfOk}
+use Rattle.std.specs.Io.KnownBytes.{Consumes, prepend_known}
+use Rattle.std.specs.Io.BufRead.{DropsConsumable}
 use Rattle.std.proofs.lemmas.List.{length-take, length-drop, drop-drop, drop_at, take_at, append-nil, append_assoc, take-take, take_all, length-take-le, drop-append-le, take-append-drop}
 use Rattle.std.proofs.Math.Seq.{take-add}
 use Rattle.std.proofs.Math.ListN.{drop_of_length-le}
 use borrow.Rule.Slice.PartMut.{put_mid, mid_of}
-use Rattle.cap_octet.specs.Device.{Takes, TakesSome, TakesFull, Reads}
+use Rattle.cap_octet.specs.Device.{Takes, TakesSome, TakesFull, TakesFront, Reads}
 use Rattle.cap_octet.specs.declared.device.DeviceFault.{DeviceFault}
 
 -- what is behind the first c bytes of the buffer after the first c came
@@ -20,14 +22,42 @@ joined u b c k n h l =
     rw (front u b c h, behind u b c h, drop_of_length-le (drop c b) l, take_all k (drop c b) l, drop-drop n c b, take-add c n u)
     (grind (arith, append_assoc, append-nil))
 
-pub Takes-again : (u b u1 b1 : List ℕ) (c k n : ℕ) (u2 p : List ℕ) → Takes u b c u1 b1 → TakesSome u1 (mid_of c k b1) n u2 p
+-- what came into the rest of a buffer came into the buffer
+Takes-behind : (u b u1 b1 : List ℕ) (c k n : ℕ) (u2 p : List ℕ) → Takes u b c u1 b1 → Takes u1 (mid_of c k b1) n u2 p
     → c + k ≡ length b → c ≤ length b → Takes u b (c + n) u2 (put_mid c k b1 p)
-Takes-again u b u1 b1 c k n u2 p first next e h =
+Takes-behind u b u1 b1 c k n u2 p first next e h =
     let l : length (drop c b) ≤ k = simp length-drop (omega arith) in
     record {
-      there = let r : n ≤ length u1 = next.taken.there in let q : length u1 ≡ length u - c = ap length first.rest ∙ length-drop c u in omega (arith, first.there);
-      bytes = rw (next.taken.bytes, first.rest, first.bytes) (joined u b c k n first.there l);
-      rest = next.taken.rest ∙ ap (λ (x : List ℕ). drop n x) first.rest ∙ drop-drop n c u;
+      there = let r : n ≤ length u1 = next.there in let q : length u1 ≡ length u - c = ap length first.rest ∙ length-drop c u in omega (arith, first.there);
+      bytes = rw (next.bytes, first.rest, first.bytes) (joined u b c k n first.there l);
+      rest = next.rest ∙ ap (λ (x : List ℕ). drop n x) first.rest ∙ drop-drop n c u;
+    }
+
+pub Takes-again : (u b u1 b1 : List ℕ) (c k n : ℕ) (u2 p : List ℕ) → Takes u b c u1 b1 → TakesSome u1 (mid_of c k b1) n u2 p
+    → c + k ≡ length b → c ≤ length b → Takes u b (c + n) u2 (put_mid c k b1 p)
+Takes-again u b u1 b1 c k n u2 p first next e h = Takes-behind u b u1 b1 c k n u2 p first next.taken e h
+
+-- a first read, and then reads until the rest is full or the end is met
+pub full-behind : (u b u1 b1 : List ℕ) (c k n : ℕ) (u2 p : List ℕ) → Takes u b c u1 b1 → TakesFull u1 (mid_of c k b1) n u2 p
+    → c + k ≡ length b → c ≤ length b → length b1 ≡ length b → TakesFull u b (c + n) u2 (put_mid c k b1 p)
+full-behind u b u1 b1 c k n u2 p first next e h same =
+    let mid : length (mid_of c k b1) ≡ k = length-take k (drop c b1) ∙ (simp length-drop (omega arith)) in
+    let q : length u1 ≡ length u - c = ap length first.rest ∙ length-drop c u in
+    record {
+      taken = Takes-behind u b u1 b1 c k n u2 p first next.taken e h;
+      full = let f : n ≡ min (length (mid_of c k b1)) (length u1) = next.full in omega (arith, first.there, mid, q);
+    }
+
+-- the same where the device failed
+pub front-behind : (u b u1 b1 : List ℕ) (c k given : ℕ) (u2 p : List ℕ) (given1 given2 : ℕ) → Takes u b c u1 b1 → TakesFront u1 (mid_of c k b1) given1 u2 p given2
+    → c + k ≡ length b → c ≤ length b → length b1 ≡ length b → given1 ≡ given + c → TakesFront u b given u2 (put_mid c k b1 p) given2
+front-behind u b u1 b1 c k given u2 p given1 given2 first next e h same counts =
+    let mid : length (mid_of c k b1) ≡ k = length-take k (drop c b1) ∙ (simp length-drop (omega arith)) in
+    record {
+      k = c + next.k;
+      short = omega (arith, mid, next.short);
+      counted = omega (arith, next.counted);
+      taken = Takes-behind u b u1 b1 c k next.k u2 p first next.taken e h;
     }
 
 -- the end of a full read: the buffer is full, or nothing came
@@ -73,3 +103,15 @@ pub Reads-front : (u b : List ℕ) (most : ℕ) (result : Result ℕ DeviceFault
 Reads-front u b most (Ok n) u' p within some few came = TakesSome-front u b most n u' p within some few came
 Reads-front u b most (Err fault) u' p within some few came =
     (came.0, ap (λ (x : List ℕ). x ++ drop most b) came.1 ∙ take-append-drop most b)
+
+-- A read that takes bytes which a reader holds takes them of what is left of it: of nothing that is known where it has no
+-- room for any.
+pub held-consumed : (without : Bool) (held : List ℕ) (known after : Option (List ℕ)) (n : ℕ) → n ≤ length held
+    → DropsConsumable (if without then None else prepend_known held known) after (Some (length held)) n
+    → Consumes (if without then None else prepend_known held known) after (take n held)
+held-consumed true held known after n within drops = tt
+held-consumed false held None after n within drops = tt
+held-consumed false held (Some xs) after n within drops =
+    let parts : take n held ++ (drop n held ++ xs) ≡ held ++ xs =
+    sym (append_assoc (take n held) (drop n held) xs) ∙ ap (λ (x : List ℕ). x ++ xs) (take-append-drop n held) in
+    rw (drops within) (rw (drop-append-le n held xs within) (sym parts))

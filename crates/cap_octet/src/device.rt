@@ -79,8 +79,39 @@ pub trait Output {
 /// Fills the buffer from its start and returns how many bytes came: fewer than it has room for only
 /// at the end. An error is a failure of the device in this call, after fewer bytes than the buffer
 /// has room for; these are at its start.
+// The first read mostly fills it. Where this is inlined, no loop is left then, and the size of a
+// fixed buffer is known.
 #[inline(always)]
 pub fn read_full<I: Input>(input: &mut I, buf: &mut [u8]) -> Result<usize, DeviceFault>
+    ensures within { IfOk result (λ n. n ≤ length buf.old) }
+    ensures counted { IfOk result (λ n. I.given input.new ≡ I.given input.old + n) }
+    ensures grown { I.given input.old ≤ I.given input.new }
+    ensures bounded { IfOk result (λ n. 0 < n → I.given input.new < 2 ^ 63) }
+    ensures stopped { IfErr result (λ _. I.given input.new < 2 ^ 63) }
+    ensures few { IfErr result (λ _. I.given input.new < I.given input.old + length buf.old) }
+    ensures failed { I.failures input.new ≡ I.failures input.old + failures_of result }
+    ensures never { I.never_fails input.new ≡ I.never_fails input.old }
+    ensures told { IsTrue I.tells
+        → Fills (I.unread input.old) buf.old (I.given input.old) result (I.unread input.new) buf.new
+        (I.given input.new) }
+{
+    if buf.is_empty() {
+        return Ok(0);
+    }
+    let count = input.read(buf)?;
+    if count == 0 || count == buf.len() {
+        return Ok(count);
+    }
+    match read_in_turns(input, &mut buf[count..]) {
+        Ok(more) => Ok(count + more),
+        Err(fault) => Err(fault),
+    }
+}
+
+/// The same, read by read.
+#[cold]
+#[inline(never)]
+fn read_in_turns<I: Input>(input: &mut I, buf: &mut [u8]) -> Result<usize, DeviceFault>
     ensures within { IfOk result (λ n. n ≤ length buf.old) }
     ensures counted { IfOk result (λ n. I.given input.new ≡ I.given input.old + n) }
     ensures grown { I.given input.old ≤ I.given input.new }
@@ -106,8 +137,36 @@ pub fn read_full<I: Input>(input: &mut I, buf: &mut [u8]) -> Result<usize, Devic
 
 /// Writes all of the bytes. An error is a failure of the device in this call, and reports how many
 /// bytes, fewer than all, were written before it.
+// The first write mostly takes all.
 #[inline(always)]
 pub fn write_all<O: Output>(output: &mut O, buf: &[u8]) -> Result<(), Stopped>
+    ensures front { IfErr result (λ stopped. stopped.written < length buf.now) }
+    ensures failed { O.failures output.new ≡ O.failures output.old + failures_of result }
+    ensures room { O.room output.new ≡ O.room output.old }
+    ensures told { IsTrue O.tells
+        → WritesAll (O.written output.old) buf.now result (O.written output.new) }
+{
+    if buf.is_empty() {
+        return Ok(());
+    }
+    let Ok(count) = output.write(buf) else {
+        return Err(Stopped { written: 0 });
+    };
+    if count == buf.len() {
+        return Ok(());
+    }
+    match write_in_turns(output, &buf[count..]) {
+        Ok(()) => Ok(()),
+        Err(stopped) => Err(Stopped {
+            written: count + stopped.written,
+        }),
+    }
+}
+
+/// The same, write by write.
+#[cold]
+#[inline(never)]
+fn write_in_turns<O: Output>(output: &mut O, buf: &[u8]) -> Result<(), Stopped>
     ensures front { IfErr result (λ stopped. stopped.written < length buf.now) }
     ensures failed { O.failures output.new ≡ O.failures output.old + failures_of result }
     ensures room { O.room output.new ≡ O.room output.old }

@@ -1,16 +1,13 @@
-use Rattle.std.proofs.Common.{rules, ◌∙◌, arith}
-use Rattle.cap_octet.proofs.Reading.{Takes-again, Takes-nothing}
+use Rattle.std.proofs.Common.{arith}
+use Rattle.cap_octet.proofs.Reading.{full-behind, front-behind}
 use Rattle.cap_octet.proofs.device.read_full.Goals as goal
 
-pub loop-count-preserved : goal.loop-count-preserved
-loop-count-preserved g c = record {
-  within = search rules;
-  counted = search rules;
-  bounded = search rules;
-  failed = search rules;
-  never = c.in_ok-n.ensures.never ∙ c.loop-count.invariant.never;
-  told = λ told. Takes-again _ _ _ _ c.loop-count.count _ c.in_ok-n.n _ _ (c.loop-count.invariant.told told) (c.in_ok-n.ensures.told told) (omega arith) (omega arith);
-}
+pub returns-in-Ok-clause-told : goal.returns-in-Ok-clause-told
+returns-in-Ok-clause-told g c = λ tells.
+    let first = c.in_ok-count.ensures.told tells in
+    full-behind _ _ _ _ c.in_ok-count.count _ c.in-Ok.more _ _ first.taken (c.in-Ok.ensures.told tells) (omega (arith, c.in_ok-count.ensures.within)) (omega (arith, c.in_ok-count.ensures.within)) (omega arith)
 
-pub returns-then-n-eq0-clause-told : goal.returns-then-n-eq0-clause-told
-returns-then-n-eq0-clause-told g c = λ told. Takes-nothing _ _ _ _ c.loop-count.count _ c.in_ok-n.n _ _ (c.loop-count.invariant.told told) (c.in_ok-n.ensures.told told) (omega arith) (omega arith) c.if-n-eq0.true (omega arith)
+pub returns-in-Err-clause-told : goal.returns-in-Err-clause-told
+returns-in-Err-clause-told g c = λ tells.
+    let first = c.in_ok-count.ensures.told tells in
+    front-behind _ _ _ _ c.in_ok-count.count _ _ _ _ _ _ first.taken (c.in-Err.ensures.told tells) (omega (arith, c.in_ok-count.ensures.within)) (omega (arith, c.in_ok-count.ensures.within)) (omega arith) c.in_ok-count.ensures.counted

@@ -1,0 +1,16 @@
+use Rattle.std.proofs.Common.{rules, ◌∙◌, arith}
+use Rattle.cap_octet.proofs.Reading.{Takes-again, Takes-nothing}
+use Rattle.cap_octet.proofs.device.read_in_turns.Goals as goal
+
+pub loop-count-preserved : goal.loop-count-preserved
+loop-count-preserved g c = record {
+  within = search rules;
+  counted = search rules;
+  bounded = search rules;
+  failed = search rules;
+  never = c.in_ok-n.ensures.never ∙ c.loop-count.invariant.never;
+  told = λ told. Takes-again _ _ _ _ c.loop-count.count _ c.in_ok-n.n _ _ (c.loop-count.invariant.told told) (c.in_ok-n.ensures.told told) (omega arith) (omega arith);
+}
+
+pub returns-then-n-eq0-clause-told : goal.returns-then-n-eq0-clause-told
+returns-then-n-eq0-clause-told g c = λ told. Takes-nothing _ _ _ _ c.loop-count.count _ c.in_ok-n.n _ _ (c.loop-count.invariant.told told) (c.in_ok-n.ensures.told told) (omega arith) (omega arith) c.if-n-eq0.true (omega arith)

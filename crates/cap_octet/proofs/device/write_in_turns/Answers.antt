@@ -1,0 +1,12 @@
+use Rattle.std.proofs.Common.{rules, ℕ, ◌∙◌, arith}
+use Rattle.std.proofs.lemmas.List.{length-take}
+use Rattle.cap_octet.proofs.Reading.{written-again}
+use Rattle.cap_octet.proofs.device.write_in_turns.Goals as goal
+
+pub loop-written-preserved : goal.loop-written-preserved
+loop-written-preserved g c = record {
+  within = search rules;
+  failed = search rules;
+  room = c.in-Ok.ensures.room ∙ c.loop-written.invariant.room;
+  told = λ t. written-again _ _ _ _ _ _ _ (c.loop-written.invariant.told t) (c.in-Ok.ensures.told t) (omega (arith, length-take {A = ℕ}, c.in-Ok.ensures.within));
+}
