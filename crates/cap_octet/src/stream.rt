@@ -1,12 +1,14 @@
-//! Devices over std's readers and writers.
-ghost use Rattle.std.specs.Prelude.{◌≡◌, ℕ, ◌+◌, ◌≤◌, ◌<◌, ◌^◌, IsTrue, IfOk, false, [], length};
+//! Devices over std's buffered readers and writers.
+ghost use Rattle.std.specs.Prelude.{◌≡◌, ℕ, ◌+◌, ◌≤◌, ◌<◌, ◌^◌, ◌||◌, IsTrue, IfOk, None, false, []};
+ghost use Rattle.std.specs.Prelude.{is_err, is_some, length};
 ghost use Rattle.std.proofs.Common.{rules};
+ghost use Rattle.std.specs.Io.Buffered.{reader_remaining, writer_contents};
 ghost use Rattle.cap_octet.specs.Device.{Reads, Writes, count_of, failures_of};
 ghost use Rattle.cap_octet.specs.Stream.{HandsOver, IsOneRead, IsOneWrite, TakesOver};
 
 use crate::device::{DeviceFault, Input, Output};
 use crate::failures::FailureCount;
-use std::io::{Read, Write};
+use std::io::{BufRead, BufReader, BufWriter, ErrorKind, Read, Write};
 
 /// Fewer bytes than this are read from one input.
 const MOST_GIVEN: u64 = 0x8000_0000_0000_0000;
@@ -15,7 +17,7 @@ const MOST_GIVEN: u64 = 0x8000_0000_0000_0000;
 /// failure.
 #[derive(Drop)]
 pub struct StdInput<R> {
-    reader: R,
+    reader: BufReader<R>,
     given: u64,
     failures: FailureCount,
     ghost bounded: { given < 2 ^ 63 },
@@ -23,7 +25,7 @@ pub struct StdInput<R> {
 
 impl<R: Read> StdInput<R> {
     /// An input that has given nothing yet.
-    pub fn new(reader: R) -> Self
+    pub fn new(reader: BufReader<R>) -> Self
         ensures reader { result.reader ≡ reader }
         ensures given { ⟦<StdInput<R> as Input>⟧.given result ≡ 0 }
         ensures failures { ⟦<StdInput<R> as Input>⟧.failures result ≡ 0 }
@@ -32,6 +34,29 @@ impl<R: Read> StdInput<R> {
             reader,
             given: 0,
             failures: FailureCount::new(),
+        }
+    }
+
+    /// One read of the reader with this buffer, whatever it holds.
+    #[cold]
+    #[inline(never)]
+    fn read_through(&mut self, buf: &mut [u8]) -> Result<usize, DeviceFault>
+        ensures within { IfOk result (λ n. n ≤ length buf.old) }
+        ensures counted { self.new.given ≡ self.old.given + count_of result }
+        ensures bounded { self.new.given < 2 ^ 63 }
+        ensures failed { self.new.failures.count ≡ self.old.failures.count + failures_of result }
+        ensures passes { IsOneRead (reader_remaining R.remaining self.old.reader) self.old.given
+            result (reader_remaining R.remaining self.new.reader) buf.new }
+    {
+        match self.reader.read(buf) {
+            Ok(count) if (count as u64) < MOST_GIVEN - self.given => {
+                self.given += count as u64;
+                Ok(count)
+            }
+            _ => {
+                self.failures.add_one();
+                Err(DeviceFault)
+            }
         }
     }
 }
@@ -48,6 +73,9 @@ impl<R: Read> Input for StdInput<R> {
     ghost never_fails = { λ _. false };
 
     /// One read of the reader with this buffer, whose answer it hands over.
+    // Mostly the reader holds as many bytes already. They are taken here, without the errors of std,
+    // which are large and would be made room for each time.
+    #[inline(always)]
     fn read(&mut self, buf: &mut [u8]) -> Result<usize, DeviceFault>
         ensures within { IfOk result (λ n. n ≤ length buf.old) }
         ensures counted { self.new.given ≡ self.old.given + count_of result }
@@ -55,19 +83,18 @@ impl<R: Read> Input for StdInput<R> {
         ensures failed { self.new.failures.count ≡ self.old.failures.count + failures_of result }
         ensures never { false ≡ false }
         ensures told { IsTrue false → Reads [] buf.old result [] buf.new }
-        ensures passes { IsOneRead (R.remaining self.old.reader) self.old.given result
-            (R.remaining self.new.reader) buf.new }
+        ensures passes { IsOneRead (reader_remaining R.remaining self.old.reader) self.old.given
+            result (reader_remaining R.remaining self.new.reader) buf.new }
     {
-        match self.reader.read(buf) {
-            Ok(count) if (count as u64) < MOST_GIVEN - self.given => {
-                self.given += count as u64;
-                Ok(count)
-            }
-            _ => {
-                self.failures.add_one();
-                Err(DeviceFault)
-            }
+        let room = buf.len();
+        let held = self.reader.buffer();
+        if room <= held.len() && (room as u64) < MOST_GIVEN - self.given {
+            buf.copy_from_slice(&held[..room]);
+            self.reader.consume(room);
+            self.given += room as u64;
+            return Ok(room);
         }
+        self.read_through(buf)
     }
 
     ghost unfailed = { Prim.search rules };
@@ -76,36 +103,76 @@ impl<R: Read> Input for StdInput<R> {
 /// Over a writer, as a file or standard output. A write that takes nothing of some bytes is a
 /// failure.
 #[derive(Drop)]
-pub struct StdOutput<W> {
-    writer: W,
+pub struct StdOutput<W: Write + Drop> {
+    writer: BufWriter<W>,
+    /// Why it failed last.
+    cause: Option<ErrorKind>,
     failures: FailureCount,
 }
 
-impl<W: Write> StdOutput<W> {
+impl<W: Write + Drop> StdOutput<W> {
     /// An output to which nothing was written yet.
-    pub fn new(writer: W) -> Self
+    pub fn new(writer: BufWriter<W>) -> Self
         ensures writer { result.writer ≡ writer }
+        ensures cause { result.cause ≡ None }
         ensures failures { ⟦<StdOutput<W> as Output>⟧.failures result ≡ 0 }
     {
         StdOutput {
             writer,
+            cause: None,
             failures: FailureCount::new(),
         }
     }
 
-    /// The writer, as to flush it.
-    pub fn into_inner(self) -> W
-        ensures { result ≡ self.writer }
+    /// The writer, as to flush it, and why it failed last.
+    pub fn into_inner(self) -> (BufWriter<W>, Option<ErrorKind>)
+        ensures writer { result.0 ≡ self.writer }
+        ensures cause { result.1 ≡ self.cause }
     {
         let StdOutput {
             writer,
+            cause,
             failures: _,
         } = self;
-        writer
+        (writer, cause)
+    }
+
+    /// One write of the writer with these bytes, whose answer it hands over.
+    #[inline(always)]
+    fn write_once(&mut self, buf: &[u8]) -> Result<usize, DeviceFault>
+        ensures within { IfOk result (λ n. n ≤ length buf.now) }
+        ensures some { IfOk result (λ n. 0 < length buf.now → 0 < n) }
+        ensures failed { self.new.failures.count ≡ self.old.failures.count + failures_of result }
+        ensures cause { is_some self.new.cause ≡ (is_some self.old.cause || is_err result) }
+        ensures passes { IsOneWrite (writer_contents W.contents self.old.writer) buf.now result
+            (writer_contents W.contents self.new.writer) }
+    {
+        let cause = match self.writer.write(buf) {
+            Ok(count) if 0 < count || buf.is_empty() => return Ok(count),
+            Ok(_) => ErrorKind::WriteZero,
+            Err(error) => error.kind(),
+        };
+        self.cause = Some(cause);
+        self.failures.add_one();
+        Err(DeviceFault)
+    }
+
+    /// The same where the buffer has no room.
+    #[cold]
+    #[inline(never)]
+    fn write_through(&mut self, buf: &[u8]) -> Result<usize, DeviceFault>
+        ensures within { IfOk result (λ n. n ≤ length buf.now) }
+        ensures some { IfOk result (λ n. 0 < length buf.now → 0 < n) }
+        ensures failed { self.new.failures.count ≡ self.old.failures.count + failures_of result }
+        ensures cause { is_some self.new.cause ≡ (is_some self.old.cause || is_err result) }
+        ensures passes { IsOneWrite (writer_contents W.contents self.old.writer) buf.now result
+            (writer_contents W.contents self.new.writer) }
+    {
+        self.write_once(buf)
     }
 }
 
-impl<W: Write> Output for StdOutput<W> {
+impl<W: Write + Drop> Output for StdOutput<W> {
     ghost tells = { false };
 
     ghost written = { λ _. [] };
@@ -115,21 +182,23 @@ impl<W: Write> Output for StdOutput<W> {
     ghost room = { λ _. 0 };
 
     /// One write of the writer with these bytes, whose answer it hands over.
+    // Both ways do the same. Where the buffer has room the compiler sees that no write of the
+    // system and no error can come.
+    #[inline(always)]
     fn write(&mut self, buf: &[u8]) -> Result<usize, DeviceFault>
         ensures within { IfOk result (λ n. n ≤ length buf.now) }
         ensures some { IfOk result (λ n. 0 < length buf.now → 0 < n) }
         ensures failed { self.new.failures.count ≡ self.old.failures.count + failures_of result }
         ensures room { ◌≡◌ {A = ℕ} 0 0 }
         ensures told { IsTrue false → Writes [] buf.now result [] }
-        ensures passes { IsOneWrite (W.contents self.old.writer) buf.now result
-            (W.contents self.new.writer) }
+        ensures cause { is_some self.new.cause ≡ (is_some self.old.cause || is_err result) }
+        ensures passes { IsOneWrite (writer_contents W.contents self.old.writer) buf.now result
+            (writer_contents W.contents self.new.writer) }
     {
-        match self.writer.write(buf) {
-            Ok(count) if 0 < count || buf.is_empty() => Ok(count),
-            _ => {
-                self.failures.add_one();
-                Err(DeviceFault)
-            }
+        if buf.len() < self.writer.capacity() - self.writer.buffer().len() {
+            self.write_once(buf)
+        } else {
+            self.write_through(buf)
         }
     }
 

@@ -1,7 +1,7 @@
 //! What std's readers and writers give and take through capkit's devices, a few bytes a call and
 //! where they fail.
 use cap_octet::{DeviceFault, Input, Output, StdInput, StdOutput, read_full, write_all};
-use std::io::{Cursor, Read};
+use std::io::{BufReader, BufWriter, Cursor, ErrorKind, Read, Write};
 
 /// Whether the next read, of at most two bytes, gives these.
 fn gives<I: Input>(input: &mut I, bytes: &[u8]) -> bool {
@@ -11,7 +11,8 @@ fn gives<I: Input>(input: &mut I, bytes: &[u8]) -> bool {
 
 #[test]
 fn a_reader_is_read_to_its_end(rt: HostRuntime) {
-    let mut input = StdInput::new(b"abcde".as_slice());
+    let reader = BufReader::with_capacity(rt.alloc(), 8, b"abcde".as_slice()).unwrap();
+    let mut input = StdInput::new(reader);
     for bytes in [b"ab".as_slice(), b"cd", b"e", b"", b""] {
         assert!(rt; gives(&mut input, bytes), "{bytes:?}");
     }
@@ -19,7 +20,8 @@ fn a_reader_is_read_to_its_end(rt: HostRuntime) {
 
 #[test]
 fn readers_in_pieces_fill_a_buffer(rt: HostRuntime) {
-    let mut input = StdInput::new(b"abc".as_slice().chain(b"de".as_slice()));
+    let pieces = b"abc".as_slice().chain(b"de".as_slice());
+    let mut input = StdInput::new(BufReader::with_capacity(rt.alloc(), 4, pieces).unwrap());
     let mut buf = [0; 4];
     assert!(rt; read_full(&mut input, &mut buf) == Ok(4));
     assert!(rt; buf == *b"abcd");
@@ -29,19 +31,25 @@ fn readers_in_pieces_fill_a_buffer(rt: HostRuntime) {
 
 #[test]
 fn a_writer_takes_all(rt: HostRuntime) {
-    let mut output = StdOutput::new(Vec::new(rt.alloc()));
+    let bytes = Vec::new(rt.alloc());
+    let mut output = StdOutput::new(BufWriter::with_capacity(rt.alloc(), 4, bytes).unwrap());
     assert!(rt; output.write(b"abc") == Ok(3));
     assert!(rt; output.write(b"") == Ok(0));
     assert!(rt; write_all(&mut output, b"de") == Ok(()));
-    assert!(rt; output.into_inner().as_slice() == b"abcde".as_slice());
+    let (mut writer, cause) = output.into_inner();
+    assert!(rt; cause.is_none() && writer.flush().is_ok());
+    assert!(rt; writer.get_ref().as_slice() == b"abcde".as_slice());
 }
 
 #[test]
 fn a_full_writer_takes_a_front(rt: HostRuntime) {
-    let mut output = StdOutput::new(Cursor::new([0; 5]));
+    let cursor = Cursor::new([0; 5]);
+    let mut output = StdOutput::new(BufWriter::with_capacity(rt.alloc(), 0, cursor).unwrap());
     for answer in [Ok(3), Ok(2), Err(DeviceFault)] {
         assert!(rt; output.write(b"abc") == answer);
     }
     assert!(rt; output.write(b"") == Ok(0));
-    assert!(rt; output.into_inner().into_inner() == *b"abcab");
+    let (writer, cause) = output.into_inner();
+    assert!(rt; cause == Some(ErrorKind::WriteZero));
+    assert!(rt; *writer.get_ref().get_ref() == *b"abcab");
 }

@@ -7,7 +7,7 @@ ghost use Rattle.cap_tools.specs.Command.{is_proper};
 ghost use Rattle.cap_line.specs.Line.{has_expression, is_ready, with_code};
 
 use crate::progress::{Counted, Progress};
-use crate::streams::{Created, Opened, Watched};
+use crate::streams::{Created, Opened};
 use crate::{FAULT, tell};
 use cap_line::{Line, STANDARD, with_code};
 use cap_octet::{StdInput, StdOutput};
@@ -23,9 +23,9 @@ const BUFFER: usize = 65_536;
 /// is known.
 const LISTING_ROOM: u64 = 1_048_577;
 
-pub(crate) type Source<'a> = StdInput<BufReader<Counted<'a, Opened>>>;
+pub(crate) type Source<'a> = StdInput<Counted<'a, Opened>>;
 
-pub(crate) type Target = Watched<BufWriter<Created>>;
+pub(crate) type Target = BufWriter<Created>;
 
 /// Why a command was not run to its end.
 #[derive(Drop)]
@@ -131,8 +131,7 @@ pub(crate) fn create<'a>(rt: &HostRuntime, name: &'a str) -> Result<Target, Stop
     };
     // A terminal shows each line, report or listing as it is written.
     let size = if created.is_terminal() { 0 } else { BUFFER };
-    let writer = buffered(BufWriter::with_capacity(rt.alloc(), size, created))?;
-    Ok(Watched::new(writer))
+    buffered(BufWriter::with_capacity(rt.alloc(), size, created))
 }
 
 /// Runs the command over its inputs and the output of that name. What the command told of the
@@ -161,16 +160,25 @@ fn run_over<'a>(
         StdOutput::new(messages),
     );
     progress.erase();
-    end(status, target.into_inner(), messages.into_inner(), output)
+    let (target, cause) = target.into_inner();
+    let (messages, _) = messages.into_inner();
+    end(status, target, cause, messages, output)
 }
 
-/// Ends the output and the messages of a run, and returns the status.
+/// Whether it failed since the reader of a pipe went away.
+fn is_unread(cause: Option<ErrorKind>) -> bool {
+    cause == Some(ErrorKind::BrokenPipe)
+}
+
+/// Ends the output, whose writes failed for this cause or did not, and the messages of a run, and
+/// returns the status.
 ///
 /// Where the reader of a pipe went away, as of `| head`, nobody hears that the rest can't be
 /// written.
 fn end<'a, W: Write + Drop>(
     status: u8,
     mut target: Target,
+    cause: Option<ErrorKind>,
     mut messages: BufWriter<W>,
     output: &'a str,
 ) -> Result<u8, Stop<'a>>
@@ -178,14 +186,14 @@ fn end<'a, W: Write + Drop>(
     ensures { IfOk result (λ status. status ≤ 2) }
 {
     let flushed = target.flush();
-    if target.has_failed() && target.is_unread() {
+    if is_unread(cause) {
         let _ = messages.into_parts();
         return Ok(status);
     }
     let _ = messages.flush();
     match flushed {
-        Err(_) if target.has_failed() => Ok(status),
-        Err(_) if target.is_unread() => Ok(FAULT),
+        Err(_) if cause.is_some() => Ok(status),
+        Err(error) if is_unread(Some(error.kind())) => Ok(FAULT),
         Err(_) => Err(Stop::WriteFailed(output)),
         Ok(()) => Ok(status),
     }

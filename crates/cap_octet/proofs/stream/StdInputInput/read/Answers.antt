@@ -1,0 +1,20 @@
+use Rattle.std.proofs.Common.{rules, ◌==◌, ◌≡◌, ◌∙◌, Ok, length, take, arith, ap, ℕ}
+use Rattle.std.proofs.lemmas.List.{take-take}
+use Rattle.std.specs.Io.Buffered.{reader_buffer, reader_capacity, reader_inner}
+use Rattle.cap_octet.proofs.Reading.{held-consumed}
+use Rattle.cap_octet.proofs.stream.StdInputInput.read.Goals as goal
+
+pub returns-then-room-self-clause-passes : goal.returns-then-room-self-clause-passes
+returns-then-room-self-clause-passes g c =
+    record {
+      answer = Ok (length c.args.buf.now);
+      bound = search rules;
+      bytes = (
+        let came : c.copy_from_slice.new.self ≡ take (length c.args.buf.now) (reader_buffer c.args.self.now.reader) =
+            c.copy_from_slice.ensures.after ∙ ap (take (length c.args.buf.now)) c.buffer-held.ensures in
+            rw (came, take-take (length c.args.buf.now) (length c.args.buf.now) (reader_buffer c.args.self.now.reader) (omega arith))
+            (held-consumed (reader_capacity c.args.self.now.reader == 0) (reader_buffer c.args.self.now.reader) (g.R.Read.remaining (reader_inner c.args.self.now.reader)) _ (length c.args.buf.now) (omega (arith, c.if-room-held.true, ap (length {A = ℕ}) c.buffer-held.ensures)) c.consume.ensures.bytes),
+        λ none some. absurd (omega (arith, none, some, c.copy_from_slice.ensures.len)),
+      );
+      hands = search rules;
+    }
