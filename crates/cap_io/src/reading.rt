@@ -21,6 +21,7 @@ const RECORD_HEAD: usize = 16;
 
 /// Reads the first bytes of a unit that is behind others; `false` is the end of the
 /// file.
+#[inline(always)]
 pub(crate) fn read_front<I: Input>(input: &mut I, front: &mut [u8]) -> Result<bool, Fault>
     requires { 0 < length front.old }
     ensures moves { Moves I.Input input.old input.new 0
@@ -56,6 +57,7 @@ pub(crate) fn make_room<A: Allocator>(buffer: &mut Vec<u8, A>, size: usize) -> R
 
 /// Reads what is left of a unit of so many bytes to the start of the buffer, behind the part of it
 /// that came.
+#[inline(always)]
 pub(crate) fn read_rest<I: Input>(
     input: &mut I,
     front: &[u8],
@@ -106,6 +108,7 @@ pub(crate) fn read_header<I: Input>(input: &mut I, first: &[u8; 4]) -> Result<He
 
 /// Reads the next record to the start of the buffer. Its limits are looked at before the buffer
 /// grows.
+#[inline(always)]
 pub(crate) fn next_record<I: Input, A: Allocator>(
     input: &mut I,
     head: &Head,
