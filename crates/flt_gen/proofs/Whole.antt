@@ -25,6 +25,9 @@ use Rattle.flt_bpf.proofs.Suffix.{IsFaultless, valid_if_faultless, faultless_dro
 use Rattle.flt_gen.proofs.Onward.{Leads, Settled}
 use Rattle.flt_gen.proofs.Exclusive.{Apt}
 use Rattle.flt_gen.proofs.Runs.{pick, emitted_works}
+use Rattle.flt_gen.specs.Reload.{without_reloads}
+use Rattle.flt_gen.proofs.Reloads.{reloads_answer}
+use Rattle.flt_gen.proofs.Passing.{length_flow, faultless_flow, ends_flow, no_jump_flow, reloads_needed}
 use Rattle.flt_gen.proofs.Far.{emitted_needed}
 use Rattle.flt_gen.proofs.Short.{emitted_slim, all_put}
 use Rattle.flt_gen.proofs.Grows.{Sits, emitted_sits}
@@ -110,17 +113,28 @@ code_fits link (truth a) filled few short =
     let s = sits link (truth a) filled few in
     record { room = omega (arith, s.grows.shorter, tests_of_formula link a filled, nodes_of_formula link a filled); inside = s.inside }
 
-pub program_valid : (link : Link) (e : Expression) → some_primitive is_unfilled e ≡ false → words_of e ≤ 16 → bound_of e ≤ 32768 → IsValid (program_code link e)
+-- the program of an expression: its jumps go past loads of what is in A
+abbrev pub final_code : Link → Expression → List Insn
+final_code link e = without_reloads (program_code link e)
+
+pub program_few : (link : Link) (e : Expression) → some_primitive is_unfilled e ≡ false → words_of e ≤ 16 → bound_of e ≤ 32768 → length (program_code link e) ≤ 32768
+program_few link e filled few short = omega (arith, short_code link e filled few)
+
+final_length : (link : Link) (e : Expression) → length (final_code link e) ≡ length (program_code link e)
+final_length link e = length_flow _ (program_code link e)
+
+pub program_valid : (link : Link) (e : Expression) → some_primitive is_unfilled e ≡ false → words_of e ≤ 16 → bound_of e ≤ 32768 → IsValid (final_code link e)
 program_valid link e filled few short =
     let x = expression_code link e in
     let s = sits link e filled few in
     let n = entry_length x s.inside in
     let k : length x.code - x.entry < length x.code = omega (arith, s.low, s.inside) in
-    valid_if_faultless (from_entry x) (faultless_drop x.code (length x.code - x.entry) s.grows.sound) (omega (arith, n, s.low)) (omega (arith, short_code link e filled few)) (ends_drop x.code (length x.code - x.entry) k s.grows.ends)
+    let same = final_length link e in
+    valid_if_faultless (final_code link e) (faultless_flow _ (from_entry x) (faultless_drop x.code (length x.code - x.entry) s.grows.sound)) (omega (arith, same, n, s.low)) (omega (arith, same, short_code link e filled few)) (ends_flow _ (from_entry x) ∙ ends_drop x.code (length x.code - x.entry) k s.grows.ends)
 
-pub program_decides : (link : Link) (e : Expression) → some_primitive is_unfilled e ≡ false → words_of e ≤ 16 → bound_of e ≤ 32768 → IsProgramOf (program_code link e) e link
+pub program_decides : (link : Link) (e : Expression) → some_primitive is_unfilled e ≡ false → words_of e ≤ 16 → bound_of e ≤ 32768 → IsProgramOf (final_code link e) e link
 program_decides link e filled few short =
-    record { bounded = short_code link e filled few; decides = decided }
+    record { bounded = omega (arith, final_length link e, short_code link e filled few); decides = decided }
   where
     f : Formula
     f = formula_of link e
@@ -132,13 +146,13 @@ program_decides link e filled few short =
     apt p empty filled = tt
     apt p (truth a) filled = (grouped_stands link a no_group kept_none filled).apt p
 
-    decided : (p : List ℕ) (n : ℕ) → Decides (program_code link e) e link p n
+    decided : (p : List ℕ) (n : ℕ) → Decides (final_code link e) e link p n
     decided p n =
         let v = pick (reads link f p n) 262144 0 in
         let w = emitted_works p n link nothing f 2 1 262144 0 returns_code (few_words link e filled few) (apt p e filled) (omega arith) (omega arith) (record { by = returns_settled }) (hit_leads p n) (miss_leads p n) in
         let same : w.u ≡ v = w.right (record { facts = (refl, (refl, (refl, tt))); either = inl refl }) in
         let l : Leads p n x.code x.entry v = subst (λ (y : Entered). Leads p n y.code y.entry v) (code_of link e) (subst (λ a. Leads p n (emitted link nothing f 2 1 returns_code).code (emitted link nothing f 2 1 returns_code).entry a) same w.leads) in
-        let c = machine_answers (from_entry x) p n v (answer_drop x.code p n (length x.code - x.entry) start ∙ l.by start refl) in
+        let c = machine_answers (final_code link e) p n v (reloads_answer p n (from_entry x) start ∙ answer_drop x.code p n (length x.code - x.entry) start ∙ l.by start refl) in
         record {
           answer = v;
           count = c.met;
@@ -155,16 +169,19 @@ returns_no_jump =
 none_needed : (c : List Insn) → All (λ i. i.code ≢ JUMP) c → JumpsAreNeeded c
 none_needed c h = record { each = λ place jump g e. absurd (h place jump (slice_get_within c place jump g) (ap (λ i. i.code) (get_or_from_slice_get c place jump jump g) ∙ e)) }
 
-pub program_layout : (link : Link) (e : Expression) → JumpsAreNeeded (program_code link e)
-program_layout link e =
+code_layout : (link : Link) (e : Expression) → JumpsAreNeeded (program_code link e)
+code_layout link e =
     let all = none_needed returns_code returns_no_jump in
     let last = none_needed (drop 1 returns_code) (All-drop (λ i. i.code ≢ JUMP) 1 returns_code returns_no_jump) in
     let n = (emitted_needed link nothing (formula_of link e) 2 1 returns_code (omega arith) (omega arith) all all last).needed.entered in
     subst (λ (x : Entered). JumpsAreNeeded (from_entry x)) (code_of link e) n
 
-pub program_short : (link : Link) (e : Expression) → some_primitive is_unfilled e ≡ false → short_bound_of e ≤ 256 → IsShort (program_code link e) (short_bound_of e)
-program_short link empty filled l = record { no_jump = returns_no_jump; short = omega arith }
-program_short link (truth a) filled l =
+pub program_layout : (link : Link) (e : Expression) → JumpsAreNeeded (final_code link e)
+program_layout link e = reloads_needed (program_code link e) (code_layout link e)
+
+code_short : (link : Link) (e : Expression) → some_primitive is_unfilled e ≡ false → short_bound_of e ≤ 256 → IsShort (program_code link e) (short_bound_of e)
+code_short link empty filled l = record { no_jump = returns_no_jump; short = omega arith }
+code_short link (truth a) filled l =
     let f = grouped link no_group a in
     let e = emitted link nothing f 2 1 returns_code in
     let t = tests_of_formula link a filled in
@@ -174,3 +191,9 @@ program_short link (truth a) filled l =
       no_jump = All-drop (λ i. i.code ≢ JUMP) (length e.code - e.entry) e.code s.none;
       short = omega (arith, length-drop (length e.code - e.entry) e.code, s.shorter);
     }
+
+pub program_short : (link : Link) (e : Expression) → some_primitive is_unfilled e ≡ false → short_bound_of e ≤ 256 → IsShort (final_code link e) (short_bound_of e)
+program_short link e filled l =
+    let s = code_short link e filled l in
+    let short = s.short in
+    record { no_jump = no_jump_flow _ (program_code link e) s.no_jump; short = omega (arith, final_length link e) }

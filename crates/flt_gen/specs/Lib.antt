@@ -12,3 +12,4 @@ pub mod Correct
 pub mod Follow
 pub mod Puts
 pub mod Laws
+pub mod Reload

@@ -15,6 +15,7 @@ mod port;
 mod primitive;
 mod program;
 mod put;
+mod reload;
 mod table;
 mod value;
 mod waiting;

@@ -7,6 +7,7 @@ ghost use Rattle.flt_gen.specs.Layout.{JumpsAreNeeded, IsShort};
 ghost use Rattle.flt_gen.specs.Walk.{walked, start, insns_of};
 
 use crate::link::Link;
+use crate::reload::pass_loads;
 use crate::walk::Walk;
 use flt_bpf::insn::Insn;
 use flt_bpf::program::{Program, check};
@@ -56,8 +57,9 @@ pub fn generate<A: Allocator + Clone + Drop, B: Allocator>(
         → IfOk result (λ program. IsShort program.insns (short_bound_of expr.now.expr)) }
     ensures fresh { IfOk result (λ program. program.spent ≡ 0) }
 {
-    let insns = program_insns(alloc, expr.expr.nodes(), link)?;
-    match check(insns) {
+    let insns = program_insns(alloc.clone()?, expr.expr.nodes(), link)?;
+    let turned = pass_loads(alloc, insns)?;
+    match check(turned) {
         Ok(program) => Ok(program),
         Err(_) => unreachable!(),
     }

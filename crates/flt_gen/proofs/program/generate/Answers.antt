@@ -1,10 +1,11 @@
 -- The nodes make the program of the expression, which is valid and keeps every promise.
-use Rattle.std.proofs.Common.{◌∙◌, sym, subst}
+use Rattle.std.proofs.Common.{◌∙◌, sym, ap, subst, length, arith}
 use Rattle.flt_bpf.specs.Valid.{IsValid}
 use Rattle.flt_gen.specs.Correct.{IsProgramOf}
 use Rattle.flt_gen.specs.Counts.{short_bound_of}
 use Rattle.flt_gen.specs.Layout.{JumpsAreNeeded, IsShort}
-use Rattle.flt_gen.proofs.Whole.{code_fits, program_valid, program_decides, program_layout, program_short}
+use Rattle.flt_gen.specs.Reload.{without_reloads}
+use Rattle.flt_gen.proofs.Whole.{code_fits, program_few, program_valid, program_decides, program_layout, program_short}
 use Rattle.flt_gen.proofs.Turned.{room_is, inside_is, program_is}
 use Rattle.flt_gen.proofs.program.generate.Goals as goal
 
@@ -22,24 +23,31 @@ pub unreachable-requires : goal.unreachable-requires
 unreachable-requires g c =
     let e = c.args.expr.now in
     let valid = program_valid c.args.link e.expr e.resolved.is_filled e.few_words e.short in
-    let same = c.in_ok-insns.ensures ∙ program_is c.args.link e.expr c.nodes.result.now c.nodes.ensures in
+    let same = c.in_ok-turned.ensures ∙ ap without_reloads (c.in_ok-insns.ensures ∙ program_is c.args.link e.expr c.nodes.result.now c.nodes.ensures) in
     let first = c.in-Err.ensures.refused in
     subst IsValid (sym same) valid c.in-Err.field-0.0 c.in-Err.field-0.1 first.broken
 
 pub returns-clause-decides : goal.returns-clause-decides
 returns-clause-decides g c =
     let e = c.args.expr.now in
-    let same = c.in-Ok.ensures.made.0 ∙ c.in_ok-insns.ensures ∙ program_is c.args.link e.expr c.nodes.result.now c.nodes.ensures in
+    let same = c.in-Ok.ensures.made.0 ∙ c.in_ok-turned.ensures ∙ ap without_reloads (c.in_ok-insns.ensures ∙ program_is c.args.link e.expr c.nodes.result.now c.nodes.ensures) in
     subst (λ prog. IsProgramOf prog e.expr c.args.link) (sym same) (program_decides c.args.link e.expr e.resolved.is_filled e.few_words e.short)
 
 pub returns-clause-jumps : goal.returns-clause-jumps
 returns-clause-jumps g c =
     let e = c.args.expr.now in
-    let same = c.in-Ok.ensures.made.0 ∙ c.in_ok-insns.ensures ∙ program_is c.args.link e.expr c.nodes.result.now c.nodes.ensures in
+    let same = c.in-Ok.ensures.made.0 ∙ c.in_ok-turned.ensures ∙ ap without_reloads (c.in_ok-insns.ensures ∙ program_is c.args.link e.expr c.nodes.result.now c.nodes.ensures) in
     subst JumpsAreNeeded (sym same) (program_layout c.args.link e.expr)
 
 pub returns-clause-short : goal.returns-clause-short
 returns-clause-short g c = λ few.
     let e = c.args.expr.now in
-    let same = c.in-Ok.ensures.made.0 ∙ c.in_ok-insns.ensures ∙ program_is c.args.link e.expr c.nodes.result.now c.nodes.ensures in
+    let same = c.in-Ok.ensures.made.0 ∙ c.in_ok-turned.ensures ∙ ap without_reloads (c.in_ok-insns.ensures ∙ program_is c.args.link e.expr c.nodes.result.now c.nodes.ensures) in
     subst (λ prog. IsShort prog (short_bound_of e.expr)) (sym same) (program_short c.args.link e.expr e.resolved.is_filled few)
+
+pub pass_loads-requires : goal.pass_loads-requires
+pass_loads-requires g c =
+    let e = c.args.expr.now in
+    let same = ap length (c.in_ok-insns.ensures ∙ program_is c.args.link e.expr c.nodes.result.now c.nodes.ensures) in
+    let few = program_few c.args.link e.expr e.resolved.is_filled e.few_words e.short in
+    omega arith
