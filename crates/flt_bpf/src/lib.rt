@@ -18,6 +18,6 @@ mod writing;
 
 pub use fault::{CheckFault, ListingFault};
 pub use insn::Insn;
-pub use program::{Program, check, run};
+pub use program::{Program, check, check_insns, run, run_any, run_insns};
 pub use reading::read_listing;
 pub use writing::write_listing;
