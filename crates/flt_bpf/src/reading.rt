@@ -164,7 +164,7 @@ fn first_line(text: &[u8]) -> FirstLine<'_>
 }
 
 /// So many instructions, one on each line of a text, behind the first line of a listing.
-fn insns_on<A: Allocator + Drop>(
+fn insns_on<A: Allocator>(
     alloc: A,
     count: usize,
     text: &[u8],
@@ -197,7 +197,7 @@ fn insns_on<A: Allocator + Drop>(
 }
 
 /// The instructions of a listing, or the number of the line at which a text is refused.
-fn insns_of<A: Allocator + Drop>(alloc: A, text: &[u8]) -> Result<Vec<Insn, A>, ListingFault>
+fn insns_of<A: Allocator>(alloc: A, text: &[u8]) -> Result<Vec<Insn, A>, ListingFault>
     ensures { MatchResult result (λ insns. read text.now ≡ Ok insns.items)
         (λ fault. IsFaultOf fault (read text.now)) }
 {
@@ -217,7 +217,7 @@ fn insns_of<A: Allocator + Drop>(alloc: A, text: &[u8]) -> Result<Vec<Insn, A>, 
 /// zeros up to 10 digits a number, and a last line without a line feed. An error is `NotListing`
 /// with the first wrong line, which is line 1 of a text over 1,048,576 bytes, or a failed
 /// allocation.
-pub fn read_listing<A: Allocator + Drop>(
+pub fn read_listing<A: Allocator>(
     alloc: A,
     text: &[u8],
 ) -> Result<Vec<Insn, A>, ListingFault>

@@ -15,7 +15,7 @@ use flt_lang::{Checked, Node};
 use std::alloc::{AllocError, Allocator};
 
 /// The instructions of a program for the tree with these nodes.
-fn program_insns<A: Allocator + Clone + Drop>(
+fn program_insns<A: Allocator + Clone>(
     alloc: A,
     nodes: &[Node],
     link: Link,
@@ -46,7 +46,7 @@ fn program_insns<A: Allocator + Clone + Drop>(
 ///
 /// An error is a failed allocation: for the instructions, or for what waits while the tree is
 /// walked.
-pub fn generate<A: Allocator + Clone + Drop, B: Allocator>(
+pub fn generate<A: Allocator + Clone, B: Allocator>(
     alloc: A,
     expr: &Checked<B>,
     link: Link,
