@@ -164,11 +164,7 @@ fn first_line(text: &[u8]) -> FirstLine<'_>
 }
 
 /// So many instructions, one on each line of a text, behind the first line of a listing.
-fn insns_on<A: Allocator>(
-    alloc: A,
-    count: usize,
-    text: &[u8],
-) -> Result<Vec<Insn, A>, ListingFault>
+fn insns_on<A: Allocator>(alloc: A, count: usize, text: &[u8]) -> Result<Vec<Insn, A>, ListingFault>
     requires { count ≤ 32768 }
     ensures { MatchResult result
         (λ insns. read_insns count (lines_of text.now) 2 ≡ Ok insns.items)
@@ -217,10 +213,7 @@ fn insns_of<A: Allocator>(alloc: A, text: &[u8]) -> Result<Vec<Insn, A>, Listing
 /// zeros up to 10 digits a number, and a last line without a line feed. An error is `NotListing`
 /// with the first wrong line, which is line 1 of a text over 1,048,576 bytes, or a failed
 /// allocation.
-pub fn read_listing<A: Allocator>(
-    alloc: A,
-    text: &[u8],
-) -> Result<Vec<Insn, A>, ListingFault>
+pub fn read_listing<A: Allocator>(alloc: A, text: &[u8]) -> Result<Vec<Insn, A>, ListingFault>
     ensures listing { IfOk result (λ insns. IsListing text.now insns.items) }
     ensures refused { IfErr result (IsReasonFor text.now) }
 {
