@@ -11,7 +11,7 @@ import re
 import sys
 
 ROOT = pathlib.Path(__file__).resolve().parent.parent
-PATTERNS = ["README.md", "CONTRIBUTING.md", "CHANGELOG.md", "docs/*.md", "crates/*/src/**/*.rt", "crates/*/specs/*.antt"]
+PATTERNS = ["README.md", "CONTRIBUTING.md", "CHANGELOG.md", "docs/**/*.md", "crates/*/src/**/*.rt", "crates/*/specs/*.antt"]
 COMMENTS = {".rt": re.compile(r"(?:^|\s)//[/!]?\s(.*)"), ".antt": re.compile(r"(?:^|\s)--\s(.*)")}
 WORDS = [
     (r"\banswers? other than 0\b|\bsays yes\b", "accepts the packet, returns non-zero"),

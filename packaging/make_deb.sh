@@ -38,7 +38,7 @@ work=$(mktemp -d)
 trap 'rm -rf "$work"' EXIT
 tree=$work/tree
 documents=$tree/usr/share/doc/capkit
-mkdir -p "$tree/DEBIAN" "$documents/docs" "$documents/samples"
+mkdir -p "$tree/DEBIAN" "$documents/bench" "$documents/samples"
 
 # The program, and what it needs of the C library.
 install -D "$program" "$tree/usr/bin/capkit"
@@ -63,12 +63,34 @@ for page in "$work"/pages/*; do
 done
 gzip -9n "$tree"/usr/share/man/man1/*
 
-# The documents that a user reads, and the samples.
-install -m 644 "$root/README.md" "$documents/"
-for page in FILTER FORMATS FROM_TCPDUMP INSTALL LINES MACHINE RECIPES SCALE; do
-    install -m 644 "$root/docs/$page.md" "$documents/docs/"
-done
+# The documents that a user reads, the samples, and what the recipes call beside them.
 install -m 644 "$root"/samples/* "$documents/samples/"
+install -m 644 "$root/bench/draw_listing.py" "$root/bench/make_capture.py" "$documents/bench/"
+# A link to a page that isn't in the package becomes its text.
+for page in README.md docs/*.md docs/inside/FORMATS.md docs/inside/MACHINE.md; do
+    install -D -m 644 "$root/$page" "$documents/$page"
+done
+for page in "$documents"/*.md "$documents"/docs/*.md "$documents"/docs/inside/*.md; do
+    awk -v folder="${page%/*}/" '
+        {
+            shown = ""
+            while (match($0, /\]\([^)]*\)/)) {
+                target = substr($0, RSTART + 2, RLENGTH - 3)
+                text = substr($0, 1, RSTART - 1)
+                path = target
+                sub(/#.*/, "", path)
+                is_dead = path != "" && path !~ /^[a-z]+:/ && (getline line < (folder path)) < 0
+                close(folder path)
+                if (is_dead && match(text, /.*\[/))
+                    shown = shown substr(text, 1, RLENGTH - 1) substr(text, RLENGTH + 1)
+                else
+                    shown = shown text "](" target ")"
+                $0 = substr($0, length(text) + length(target) + 4)
+            }
+            print shown $0
+        }' "$page" >"$work/page"
+    install -m 644 "$work/page" "$page"
+done
 ln -s samples "$documents/examples"
 install -m 644 "$root/packaging/copyright" "$documents/"
 cat >"$documents/changelog.Debian" <<END
