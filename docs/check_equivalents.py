@@ -5,7 +5,8 @@ of them is true.
 usage: check_equivalents.py [--capkit PROGRAM]
 
 Each line is run in a folder of its own with a copy of samples/ and with TZ=UTC. What it writes is the file OUT, or else its
-standard output. Times and lengths of packets are compared by editcap.
+standard output. Times and lengths of packets are compared by editcap. Both lines end with the same status where the page
+doesn't name it: "status 1 here and 2 there", "both end with status 1".
 """
 import argparse
 import os
@@ -52,7 +53,18 @@ class Outcome:
         return name.read_bytes()[24:]
 
 
+def ends_as_told(claim, theirs, ours):
+    """Whether the statuses are those that the claim names, or else equal; a difference may be one of statuses."""
+    if found := re.search(r"status is (\d) here and (\d) there", claim):
+        return (ours.status, theirs.status) == (int(found.group(1)), int(found.group(2)))
+    if found := re.search(r"both end with status (\d)", claim):
+        return ours.status == theirs.status == int(found.group(1))
+    return claim.startswith("differs") or ours.status == theirs.status
+
+
 def is_true(claim, theirs, ours):
+    if not ends_as_told(claim, theirs, ours):
+        return False
     if claim.startswith("same file"):
         return theirs.written is not None and theirs.written == ours.written
     if claim.startswith("same packets"):
