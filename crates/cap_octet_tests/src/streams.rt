@@ -11,7 +11,7 @@ fn gives<I: Input>(input: &mut I, bytes: &[u8]) -> bool {
 
 #[test]
 fn a_reader_is_read_to_its_end(rt: HostRuntime) {
-    let reader = BufReader::with_capacity(rt.alloc(), 8, b"abcde".as_slice()).unwrap();
+    let reader = BufReader::with_capacity(rt.alloc(), 8, b"abcde".as_slice()).expect(&rt, "memory");
     let mut input = StdInput::new(reader);
     for bytes in [b"ab".as_slice(), b"cd", b"e", b"", b""] {
         assert!(rt; gives(&mut input, bytes), "{bytes:?}");
@@ -21,7 +21,8 @@ fn a_reader_is_read_to_its_end(rt: HostRuntime) {
 #[test]
 fn readers_in_pieces_fill_a_buffer(rt: HostRuntime) {
     let pieces = b"abc".as_slice().chain(b"de".as_slice());
-    let mut input = StdInput::new(BufReader::with_capacity(rt.alloc(), 4, pieces).unwrap());
+    let reader = BufReader::with_capacity(rt.alloc(), 4, pieces).expect(&rt, "memory");
+    let mut input = StdInput::new(reader);
     let mut buf = [0; 4];
     assert!(rt; read_full(&mut input, &mut buf) == Ok(4));
     assert!(rt; buf == *b"abcd");
@@ -32,7 +33,8 @@ fn readers_in_pieces_fill_a_buffer(rt: HostRuntime) {
 #[test]
 fn a_writer_takes_all(rt: HostRuntime) {
     let bytes = Vec::new(rt.alloc());
-    let mut output = StdOutput::new(BufWriter::with_capacity(rt.alloc(), 4, bytes).unwrap());
+    let writer = BufWriter::with_capacity(rt.alloc(), 4, bytes).expect(&rt, "memory");
+    let mut output = StdOutput::new(writer);
     assert!(rt; output.write(b"abc") == Ok(3));
     assert!(rt; output.write(b"") == Ok(0));
     assert!(rt; write_all(&mut output, b"de") == Ok(()));
@@ -44,7 +46,8 @@ fn a_writer_takes_all(rt: HostRuntime) {
 #[test]
 fn a_full_writer_takes_a_front(rt: HostRuntime) {
     let cursor = Cursor::new([0; 5]);
-    let mut output = StdOutput::new(BufWriter::with_capacity(rt.alloc(), 0, cursor).unwrap());
+    let writer = BufWriter::with_capacity(rt.alloc(), 0, cursor).expect(&rt, "memory");
+    let mut output = StdOutput::new(writer);
     for answer in [Ok(3), Ok(2), Err(DeviceFault)] {
         assert!(rt; output.write(b"abc") == answer);
     }
