@@ -2,6 +2,14 @@
 #![tactic(auto)]
 
 #[cfg(test)]
+mod courses;
+#[cfg(test)]
+mod marked;
+#[cfg(test)]
+mod reads;
+#[cfg(test)]
 mod streams;
 #[cfg(test)]
 mod times;
+#[cfg(test)]
+mod writes;

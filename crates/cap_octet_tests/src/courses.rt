@@ -1,0 +1,69 @@
+//! How many bytes go through a device in a test, and how.
+ghost use Rattle.std.specs.Prelude.{◌≤◌};
+
+use crate::marked::Manner;
+use std::io::ErrorKind;
+
+/// So many bytes go through a buffer of this capacity, in calls of these sizes by turns.
+#[derive(Clone, Copy, Debug)]
+pub struct Course {
+    pub len: usize,
+    pub capacity: usize,
+    pub sizes: [usize; 6],
+    pub manner: Manner,
+}
+
+impl Course {
+    /// Past 4 MiB. The largest call is larger than every buffer.
+    pub fn long(capacity: usize, piece: usize, failing: usize) -> Self {
+        Course {
+            len: 5_000_000,
+            capacity,
+            sizes: [16, 1, 1500, 24, LARGEST, 8],
+            manner: Manner {
+                piece,
+                failing,
+                kind: ErrorKind::TimedOut,
+            },
+        }
+    }
+
+    /// A few calls over a small buffer.
+    pub fn small(capacity: usize, piece: usize, failing: usize) -> Self {
+        Course {
+            len: 100,
+            capacity,
+            sizes: [3, 1, 17, 2, 7, 20],
+            manner: Manner {
+                piece,
+                failing,
+                kind: ErrorKind::TimedOut,
+            },
+        }
+    }
+
+    /// How many bytes the call of this turn is for, where there is room for so many.
+    pub fn size(&self, turn: usize, room: usize) -> usize
+        ensures { result ≤ room }
+    {
+        self.sizes[turn % self.sizes.len()].min(room)
+    }
+}
+
+/// The most bytes of one call.
+pub const LARGEST: usize = 70_000;
+
+/// Capacity, piece and failing calls of long courses: each call goes through; pieces smaller than
+/// the buffer; the program's buffer.
+pub const LONG: [(usize, usize, usize); 3] = [
+    (0, 4096, 5),
+    (8192, 1000, 7),
+    (65_536, usize::MAX, 3),
+];
+
+/// The same of small courses, each with each.
+pub const CAPACITIES: [usize; 5] = [1, 2, 7, 16, 17];
+
+pub const PIECES: [usize; 5] = [1, 2, 3, 5, usize::MAX];
+
+pub const FAILING: [usize; 4] = [0, 2, 3, 7];

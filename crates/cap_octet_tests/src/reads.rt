@@ -1,0 +1,162 @@
+//! Reads of the device over std's readers, each beside what the reader did in that call.
+use crate::courses::{CAPACITIES, Course, FAILING, LARGEST, LONG, PIECES};
+use crate::marked::{Counts, MarkedReader, are_marks};
+use cap_octet::{DeviceFault, Input, StdInput, read_full};
+use std::alloc::AllocGlobal;
+use std::cell::Cell;
+use std::io::{BufReader, ErrorKind, Result as IoResult};
+use std::process::Abort;
+use std::test::Fail;
+
+/// An input over a marked reader of this course.
+fn input_of<'a>(
+    rt: &impl AllocGlobal,
+    course: &Course,
+    counts: &'a Cell<Counts>,
+) -> IoResult<StdInput<MarkedReader<'a>>> {
+    let reader = MarkedReader {
+        len: course.len,
+        manner: course.manner,
+        counts,
+    };
+    let buffered = BufReader::with_capacity(rt.alloc(), course.capacity, reader)?;
+    Ok(StdInput::new(buffered))
+}
+
+/// Whether a read's answer is what the reader did in that call: it is asked where all that it gave
+/// before was handed on, and then once.
+fn is_the_readers(
+    answer: Result<usize, DeviceFault>,
+    buf: &[u8],
+    given: usize,
+    old: Counts,
+    new: Counts,
+) -> bool {
+    let asks = usize::from(old.bytes == given);
+    let fails = usize::from(answer.is_err());
+    let count = answer.unwrap_or(0);
+    new.calls == old.calls.wrapping_add(asks)
+        && new.failures == old.failures.wrapping_add(fails)
+        && count == buf.len().min(new.bytes.wrapping_sub(given))
+        && are_marks(given, &buf[..count])
+}
+
+/// Reads to the end, and holds each answer against the reader.
+fn check_reads(
+    rt: &(impl Abort + AllocGlobal),
+    course: &Course,
+    room: &mut [u8],
+) -> Result<(), Fail> {
+    let counts = Cell::new(Counts::new());
+    let mut input = input_of(rt, course, &counts)?;
+    let mut given = 0usize;
+    for turn in 0..usize::MAX {
+        let size = course.size(turn, room.len());
+        let buf = &mut room[..size];
+        let old = counts.get();
+        let answer = input.read(buf);
+        assert!(rt;
+            is_the_readers(answer, buf, given, old, counts.get()),
+            "{course:?} at {given}"
+        );
+        given = given.wrapping_add(answer.unwrap_or(0));
+        if answer == Ok(0) {
+            break;
+        }
+    }
+    assert!(rt; given == course.len, "{course:?}");
+    Ok(())
+}
+
+/// Whether a buffer of zeros has so many bytes of the stream at its start, and no others.
+fn is_filled(buf: &[u8], given: usize, count: usize) -> bool {
+    count <= buf.len()
+        && are_marks(given, &buf[..count])
+        && buf[count..].iter().all(|byte| *byte == 0)
+}
+
+/// Fills buffers to the end, and holds each answer against the reader: it is full but at the end
+/// or where the reader failed, and then all that the reader gave was handed on.
+fn check_full_reads(
+    rt: &(impl Abort + AllocGlobal),
+    course: &Course,
+    room: &mut [u8],
+) -> Result<(), Fail> {
+    let counts = Cell::new(Counts::new());
+    let mut input = input_of(rt, course, &counts)?;
+    let mut given = 0usize;
+    for turn in 0..usize::MAX {
+        let size = course.size(turn, room.len());
+        let buf = &mut room[..size];
+        buf.fill(0);
+        let old = counts.get();
+        let answer = read_full(&mut input, buf);
+        let new = counts.get();
+        let (count, fits) = match answer {
+            Ok(count) => (count, count == size.min(course.len.wrapping_sub(given))),
+            Err(DeviceFault) => {
+                let count = new.bytes.wrapping_sub(given);
+                (count, count < size)
+            }
+        };
+        let failures = old.failures.wrapping_add(usize::from(answer.is_err()));
+        assert!(rt; fits && new.failures == failures, "{course:?} at {given}");
+        assert!(rt; is_filled(buf, given, count), "{course:?} at {given}");
+        given = given.wrapping_add(count);
+        if answer == Ok(0) {
+            break;
+        }
+    }
+    assert!(rt; given == course.len, "{course:?}");
+    Ok(())
+}
+
+#[test]
+fn reads_past_4_mib_are_the_readers(rt: HostRuntime) -> Result<(), Fail> {
+    let mut room = vec![in rt.alloc(); 0; LARGEST]?;
+    for (capacity, piece, failing) in LONG {
+        check_reads(&rt, &Course::long(capacity, piece, failing), &mut room)?;
+    }
+    Ok(())
+}
+
+#[test]
+fn reads_over_small_buffers_are_the_readers(rt: HostRuntime) -> Result<(), Fail> {
+    let mut room = [0; 20];
+    for capacity in CAPACITIES {
+        for piece in PIECES {
+            for failing in FAILING {
+                let course = Course::small(capacity, piece, failing);
+                check_reads(&rt, &course, &mut room)?;
+                check_full_reads(&rt, &course, &mut room)?;
+            }
+        }
+    }
+    Ok(())
+}
+
+/// A read that a signal interrupts is a failure as any other. The next one goes on.
+#[test]
+fn an_interrupted_read_fails(rt: HostRuntime) -> Result<(), Fail> {
+    for capacity in [0, 1, 7] {
+        let mut course = Course::small(capacity, 2, 2);
+        course.manner.kind = ErrorKind::Interrupted;
+        check_reads(&rt, &course, &mut [0; 20])?;
+        check_full_reads(&rt, &course, &mut [0; 20])?;
+    }
+    Ok(())
+}
+
+/// Each read of a reader that always fails asks it once.
+#[test]
+fn reads_of_a_broken_reader_fail(rt: HostRuntime) -> Result<(), Fail> {
+    for capacity in CAPACITIES {
+        let counts = Cell::new(Counts::new());
+        let mut input = input_of(&rt, &Course::small(capacity, 1, 1), &counts)?;
+        for calls in 1..9 {
+            assert!(rt; input.read(&mut [0; 3]) == Err(DeviceFault));
+            assert!(rt; counts.get().calls == calls && counts.get().failures == calls);
+        }
+    }
+    Ok(())
+}
