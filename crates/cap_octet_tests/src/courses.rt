@@ -14,12 +14,12 @@ pub struct Course {
 }
 
 impl Course {
-    /// Past 4 MiB. The largest call is larger than every buffer.
-    pub fn long(capacity: usize, piece: usize, failing: usize) -> Self {
+    /// Past 4 MiB, in small calls and one that is large.
+    pub fn long(capacity: usize, piece: usize, failing: usize, large: usize) -> Self {
         Course {
             len: 5_000_000,
             capacity,
-            sizes: [16, 1, 1500, 24, LARGEST, 8],
+            sizes: [16, 1, 1500, 24, large, 8],
             manner: Manner {
                 piece,
                 failing,
@@ -53,15 +53,15 @@ impl Course {
 /// The most bytes of one call.
 pub const LARGEST: usize = 70_000;
 
-/// Capacity, piece and failing calls of long courses: each call goes through; pieces smaller than
-/// the buffer; the program's buffer.
-pub const LONG: [(usize, usize, usize); 3] = [
-    (0, 4096, 5),
-    (8192, 1000, 7),
-    (65_536, usize::MAX, 3),
+/// Long courses: capacity, piece, failing calls and the size of large ones. In turn: every call
+/// goes through; large calls go past the buffer; small calls alone fill the program's buffer.
+pub const LONG: [(usize, usize, usize, usize); 3] = [
+    (0, 4096, 5, LARGEST),
+    (8192, 1000, 7, LARGEST),
+    (65_536, usize::MAX, 3, 1000),
 ];
 
-/// The same of small courses, each with each.
+/// Small courses: capacity, piece and failing calls, each with each.
 pub const CAPACITIES: [usize; 5] = [1, 2, 7, 16, 17];
 
 pub const PIECES: [usize; 5] = [1, 2, 3, 5, usize::MAX];

@@ -1,4 +1,4 @@
-//! A reader and a writer of marked bytes that count what they are asked and where they fail.
+//! A reader and a writer of marked bytes that count their calls and failures.
 ghost use Rattle.std.specs.Prelude.{◌≤◌, IfOk};
 
 use std::cell::Cell;
@@ -27,7 +27,7 @@ pub fn are_marks(place: usize, bytes: &[u8]) -> bool {
     true
 }
 
-/// What was asked of a reader or a writer so far.
+/// What a reader or a writer did so far.
 #[derive(Clone, Copy, Debug)]
 pub struct Counts {
     /// Every call but those to flush.
@@ -52,8 +52,8 @@ impl Counts {
     }
 }
 
-/// How a reader or a writer answers: at most `piece` bytes a call, and a failure of this kind at
-/// each call whose number is a multiple of `failing`. None fails where that is 0.
+/// What a call moves: at most `piece` bytes. Each call whose number is a multiple of `failing`
+/// fails by this kind of error, none where that is 0.
 #[derive(Clone, Copy, Debug)]
 pub struct Manner {
     pub piece: usize,

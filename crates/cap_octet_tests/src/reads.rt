@@ -23,25 +23,25 @@ fn input_of<'a>(
     Ok(StdInput::new(buffered))
 }
 
-/// Whether a read's answer is what the reader did in that call: it is asked where all that it gave
-/// before was handed on, and then once.
+/// Whether what a read returned is what the reader did in that call: it was called where the device
+/// had given all of its bytes, and then once.
 fn is_the_readers(
-    answer: Result<usize, DeviceFault>,
+    returned: Result<usize, DeviceFault>,
     buf: &[u8],
     given: usize,
     old: Counts,
     new: Counts,
 ) -> bool {
-    let asks = usize::from(old.bytes == given);
-    let fails = usize::from(answer.is_err());
-    let count = answer.unwrap_or(0);
-    new.calls == old.calls.wrapping_add(asks)
+    let calls = usize::from(old.bytes == given);
+    let fails = usize::from(returned.is_err());
+    let count = returned.unwrap_or(0);
+    new.calls == old.calls.wrapping_add(calls)
         && new.failures == old.failures.wrapping_add(fails)
         && count == buf.len().min(new.bytes.wrapping_sub(given))
         && are_marks(given, &buf[..count])
 }
 
-/// Reads to the end, and holds each answer against the reader.
+/// Reads to the end, and compares what each read returns with what the reader did.
 fn check_reads(
     rt: &(impl Abort + AllocGlobal),
     course: &Course,
@@ -54,13 +54,13 @@ fn check_reads(
         let size = course.size(turn, room.len());
         let buf = &mut room[..size];
         let old = counts.get();
-        let answer = input.read(buf);
+        let returned = input.read(buf);
         assert!(rt;
-            is_the_readers(answer, buf, given, old, counts.get()),
+            is_the_readers(returned, buf, given, old, counts.get()),
             "{course:?} at {given}"
         );
-        given = given.wrapping_add(answer.unwrap_or(0));
-        if answer == Ok(0) {
+        given = given.wrapping_add(returned.unwrap_or(0));
+        if returned == Ok(0) {
             break;
         }
     }
@@ -75,8 +75,8 @@ fn is_filled(buf: &[u8], given: usize, count: usize) -> bool {
         && buf[count..].iter().all(|byte| *byte == 0)
 }
 
-/// Fills buffers to the end, and holds each answer against the reader: it is full but at the end
-/// or where the reader failed, and then all that the reader gave was handed on.
+/// Fills buffers to the end, and compares what each call returns with what the reader did. A buffer
+/// is full but at the end, or where the reader failed: then it has all that the reader gave.
 fn check_full_reads(
     rt: &(impl Abort + AllocGlobal),
     course: &Course,
@@ -90,20 +90,20 @@ fn check_full_reads(
         let buf = &mut room[..size];
         buf.fill(0);
         let old = counts.get();
-        let answer = read_full(&mut input, buf);
+        let returned = read_full(&mut input, buf);
         let new = counts.get();
-        let (count, fits) = match answer {
+        let (count, fits) = match returned {
             Ok(count) => (count, count == size.min(course.len.wrapping_sub(given))),
             Err(DeviceFault) => {
                 let count = new.bytes.wrapping_sub(given);
                 (count, count < size)
             }
         };
-        let failures = old.failures.wrapping_add(usize::from(answer.is_err()));
+        let failures = old.failures.wrapping_add(usize::from(returned.is_err()));
         assert!(rt; fits && new.failures == failures, "{course:?} at {given}");
         assert!(rt; is_filled(buf, given, count), "{course:?} at {given}");
         given = given.wrapping_add(count);
-        if answer == Ok(0) {
+        if returned == Ok(0) {
             break;
         }
     }
@@ -114,8 +114,9 @@ fn check_full_reads(
 #[test]
 fn reads_past_4_mib_are_the_readers(rt: HostRuntime) -> Result<(), Fail> {
     let mut room = vec![in rt.alloc(); 0; LARGEST]?;
-    for (capacity, piece, failing) in LONG {
-        check_reads(&rt, &Course::long(capacity, piece, failing), &mut room)?;
+    for (capacity, piece, failing, large) in LONG {
+        let course = Course::long(capacity, piece, failing, large);
+        check_reads(&rt, &course, &mut room)?;
     }
     Ok(())
 }
@@ -147,7 +148,7 @@ fn an_interrupted_read_fails(rt: HostRuntime) -> Result<(), Fail> {
     Ok(())
 }
 
-/// Each read of a reader that always fails asks it once.
+/// Each read over a reader that always fails calls it once.
 #[test]
 fn reads_of_a_broken_reader_fail(rt: HostRuntime) -> Result<(), Fail> {
     for capacity in CAPACITIES {

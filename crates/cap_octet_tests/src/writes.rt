@@ -20,9 +20,8 @@ fn output_of<'a>(
     Ok(StdOutput::new(buffered))
 }
 
-/// Whether a call that failed or not, after which so many bytes are taken in all, is what the
-/// writer did in it: it failed as often, and the bytes came to it in order, all but those that the
-/// buffer holds.
+/// Whether this is what the writer did in a call that fails or not, after which so many bytes are
+/// written in all: it failed as often, and took the bytes in order, all but those in the buffer.
 fn is_the_writers(fails: bool, taken: usize, capacity: usize, old: Counts, new: Counts) -> bool {
     new.failures == old.failures.wrapping_add(usize::from(fails))
         && new.in_order
@@ -30,8 +29,8 @@ fn is_the_writers(fails: bool, taken: usize, capacity: usize, old: Counts, new: 
         && taken - new.bytes <= capacity
 }
 
-/// Flushes until all has come to the writer, and checks that it is all that was written, and what
-/// is told of the failures.
+/// Flushes until the writer took the remainder, and checks that it took every byte once, and that
+/// the device reports why it failed.
 fn check_end(
     rt: &impl Abort,
     course: &Course,
@@ -50,10 +49,27 @@ fn check_end(
     assert!(rt; end.in_order && end.bytes == course.len, "{course:?}");
 }
 
-/// Writes marked bytes, and holds each answer against the writer.
+/// Writes once, or until all is written or a write fails. Returns how many bytes were written, and
+/// whether it failed.
+fn write_by(output: &mut impl Output, whole: bool, buf: &[u8]) -> (usize, bool) {
+    if whole {
+        return match write_all(output, buf) {
+            Ok(()) => (buf.len(), false),
+            Err(stopped) => (stopped.written, true),
+        };
+    }
+    match output.write(buf) {
+        Ok(count) => (count, false),
+        Err(DeviceFault) => (0, true),
+    }
+}
+
+/// Writes marked bytes, in single writes or whole ones, and compares what each returns with what
+/// the writer did.
 fn check_writes(
     rt: &(impl Abort + AllocGlobal),
     course: &Course,
+    whole: bool,
     room: &mut [u8],
 ) -> Result<(), Fail> {
     let counts = Cell::new(Counts::new());
@@ -68,45 +84,11 @@ fn check_writes(
         let buf = &mut room[..size];
         write_marks(taken, buf);
         let old = counts.get();
-        let answer = output.write(buf);
-        taken = taken.wrapping_add(answer.unwrap_or(0));
-        let new = counts.get();
-        assert!(rt;
-            is_the_writers(answer.is_err(), taken, course.capacity, old, new),
-            "{course:?} at {taken}"
-        );
-    }
-    check_end(rt, course, output, &counts);
-    Ok(())
-}
-
-/// The same, each call writing all or telling how many bytes it wrote before a failure.
-fn check_whole_writes(
-    rt: &(impl Abort + AllocGlobal),
-    course: &Course,
-    room: &mut [u8],
-) -> Result<(), Fail> {
-    let counts = Cell::new(Counts::new());
-    let mut output = output_of(rt, course, &counts)?;
-    let mut taken = 0usize;
-    for turn in 0..usize::MAX {
-        let left = course.len.saturating_sub(taken);
-        if left == 0 {
-            break;
-        }
-        let size = course.size(turn, room.len().min(left));
-        let buf = &mut room[..size];
-        write_marks(taken, buf);
-        let old = counts.get();
-        let answer = write_all(&mut output, buf);
-        let written = match answer {
-            Ok(()) => size,
-            Err(stopped) => stopped.written,
-        };
+        let (written, fails) = write_by(&mut output, whole, buf);
         taken = taken.wrapping_add(written);
         let new = counts.get();
         assert!(rt;
-            is_the_writers(answer.is_err(), taken, course.capacity, old, new),
+            is_the_writers(fails, taken, course.capacity, old, new),
             "{course:?} at {taken}"
         );
     }
@@ -117,8 +99,9 @@ fn check_whole_writes(
 #[test]
 fn writes_past_4_mib_come_to_the_writer(rt: HostRuntime) -> Result<(), Fail> {
     let mut room = vec![in rt.alloc(); 0; LARGEST]?;
-    for (capacity, piece, failing) in LONG {
-        check_writes(&rt, &Course::long(capacity, piece, failing), &mut room)?;
+    for (capacity, piece, failing, large) in LONG {
+        let course = Course::long(capacity, piece, failing, large);
+        check_writes(&rt, &course, false, &mut room)?;
     }
     Ok(())
 }
@@ -130,30 +113,30 @@ fn writes_over_small_buffers_come_to_the_writer(rt: HostRuntime) -> Result<(), F
         for piece in PIECES {
             for failing in FAILING {
                 let course = Course::small(capacity, piece, failing);
-                check_writes(&rt, &course, &mut room)?;
-                check_whole_writes(&rt, &course, &mut room)?;
+                check_writes(&rt, &course, false, &mut room)?;
+                check_writes(&rt, &course, true, &mut room)?;
             }
         }
     }
     Ok(())
 }
 
-/// What std's buffer writes out it writes again where a signal interrupts it, as here every second
-/// call. A write past the buffer fails then as at any other failure.
+/// Every second call is interrupted. std's buffer makes its own writes again; a write past the
+/// buffer fails, as at any other failure.
 #[test]
 fn an_interrupted_write_fails_past_the_buffer(rt: HostRuntime) -> Result<(), Fail> {
     let mut course = Course::small(4, usize::MAX, 2);
     course.manner.kind = ErrorKind::Interrupted;
     let counts = Cell::new(Counts::new());
     let mut output = output_of(&rt, &course, &counts)?;
-    for (size, answer, calls) in [
+    for (size, result, calls) in [
         (3, Ok(3), 0),
         (3, Ok(3), 1),
         (3, Ok(3), 3),
         (5, Err(DeviceFault), 6),
         (5, Ok(5), 7),
     ] {
-        assert!(rt; output.write(&[0; 5][..size]) == answer);
+        assert!(rt; output.write(&[0; 5][..size]) == result);
         assert!(rt; counts.get().calls == calls);
     }
     let (_, cause) = output.into_inner();
@@ -161,7 +144,7 @@ fn an_interrupted_write_fails_past_the_buffer(rt: HostRuntime) -> Result<(), Fai
     Ok(())
 }
 
-/// Each write past the buffer of a writer that always fails asks it once.
+/// Each write past the buffer of a writer that always fails calls it once.
 #[test]
 fn writes_to_a_broken_writer_fail(rt: HostRuntime) -> Result<(), Fail> {
     for capacity in CAPACITIES {
