@@ -48,7 +48,7 @@ use Rattle.cap_job.proofs.Growing.{Grows, course-grows}
 use Rattle.cap_job.proofs.Laws.{DecideLaws, DecideAt, decide-at}
 use Rattle.cap_job.proofs.Once.{once-nothing, once-packet}
 use Rattle.cap_job.proofs.Courses.{way-next, course-stop}
-use Rattle.cap_job.proofs.Heads.{set-here}
+use Rattle.cap_job.proofs.Heads.{never-at, set-here}
 use Rattle.cap_job.proofs.Fetches.{mk, among-same, comes-broken}
 
 -- ---- a packet that is judged
@@ -192,6 +192,7 @@ decided-goes us vs s before xs ys h place turn asked stand stand' drain drain' d
       output = t.failures;
       names = t.names;
       order = laws.order;
+      never = never-at xs ys h (settled h) refl;
     }
   where
     took-one : (q : Captured) → t.passed ≡ q ∷ [] → Drained before drain' (d.packets ++ q ∷ []) d.reports

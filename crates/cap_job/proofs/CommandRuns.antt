@@ -47,7 +47,7 @@ pub data Under (first : CommandView) (ss : List Stood) (before : List ℕ) (job 
   goes : job.preparing ≡ None → IsOn first.preparing first.packets ss before job.packets → Under first ss before job
 
 abbrev start-way : (ss : List Stood) (before : List ℕ) (m : MachineStand) → Decided ss before m → IsUnderWay ss before m m
-start-way ss before m d = record { stood = ss; texts = refl; decided = d; asked = refl; form = refl; output = refl; names = refl; order = refl }
+start-way ss before m d = record { stood = ss; texts = refl; decided = d; asked = refl; form = refl; output = refl; names = refl; order = refl; never = refl }
 
 first-more : (tells : Bool) (p : Option Preparing) (old new : JobView) (ss : List Stood) (before : List ℕ) → GivesBy p tells old turn.More new → DecidedBy p ss before old.machine → new.done ≡ None → new.machine.drain.names ≡ old.machine.drain.names
     → (p ≡ None → new.machine.asked ≡ old.machine.asked) → IsOn p old ss before new

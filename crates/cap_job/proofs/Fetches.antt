@@ -33,7 +33,7 @@ use Rattle.cap_job.proofs.Growing.{Grows, course-grows}
 use Rattle.cap_job.proofs.Laws.{ReadLaws, ReadAt, closed_in, read-at}
 use Rattle.cap_job.proofs.Once.{once-nothing, once-report}
 use Rattle.cap_job.proofs.Courses.{way-append, course-close}
-use Rattle.cap_job.proofs.Heads.{set-here}
+use Rattle.cap_job.proofs.Heads.{never-at, never-kept, set-here}
 
 abbrev pub mk : List HeadView → Place → Asked → Stand → DrainView → ℕ → MachineStand
 mk heads place asked stand drain decided = record { feed = record { heads = heads; place = place }; asked = asked; stand = stand; drain = drain; decided = decided }
@@ -51,10 +51,10 @@ among-same heads i h h' a b =
 -- ---- a packet is found
 
 found-goes : (us vs : List Stood) (s : Stood) (before : List ℕ) (xs ys : List HeadView) (h : HeadView) (s' : SourceView) (place : Place) (turn : ℕ) (asked : Asked) (stand : Stand) (drain : DrainView) (decided : ℕ)
-    → ReadLaws place turn xs ys h → Standing us xs → At s h → Standing vs ys → Advances h.source.phase h.source (Ok true) s'
+    → ReadLaws place turn xs ys h → Standing us xs → At s h → Standing vs ys → Advances h.source.phase h.source (Ok true) s' → s'.never_fails ≡ h.source.never_fails
     → Decided (us ++ s ∷ vs) before (mk (xs ++ h ∷ ys) place asked stand drain decided)
     → GoesOn (us ++ s ∷ vs) before (mk (xs ++ h ∷ ys) place asked stand drain decided) (mk (xs ++ head_after h (Ok true) s' ∷ ys) (place_after place turn false) asked stand drain decided)
-found-goes us vs s before xs ys h s' place turn asked stand drain decided laws front at back advances d =
+found-goes us vs s before xs ys h s' place turn asked stand drain decided laws front at back advances never d =
     let waits : h.waiting ≡ false = laws.waits in
     let found : FindsPacket h.source s' = finds s h s' (Ok true) at waits advances in
     let P : Bool → Type 0 = λ b. IsAt s.text s.done s.packets b h.source in
@@ -86,6 +86,7 @@ found-goes us vs s before xs ys h s' place turn asked stand drain decided laws f
       output = refl;
       names = refl;
       order = laws.order false;
+      never = never-at xs ys h (head_after h (Ok true) s') never;
     }
 
 -- ---- a clean end is met
@@ -120,14 +121,14 @@ closed-out us vs s before xs ys h s' place turn asked stand drain decided laws f
 
 -- it goes on, with what closing the input makes of the course
 closed-goes : (us vs : List Stood) (s : Stood) (before : List ℕ) (xs ys : List HeadView) (h : HeadView) (s' : SourceView) (place : Place) (turn : ℕ) (asked : Asked) (stand : Stand) (drain : DrainView) (decided : ℕ) (stand' : Stand) (drain' : DrainView) (reports : List Report)
-    → (laws : ReadLaws place turn xs ys h) → Standing us xs → At s h → Standing vs ys → Advances h.source.phase h.source (Ok false) s'
+    → (laws : ReadLaws place turn xs ys h) → Standing us xs → At s h → Standing vs ys → Advances h.source.phase h.source (Ok false) s' → s'.never_fails ≡ h.source.never_fails
     → (d : Decided (us ++ s ∷ vs) before (mk (xs ++ h ∷ ys) place asked stand drain decided))
     → closed_in (ordering_of place) asked (stands_at (mk (xs ++ h ∷ ys) place asked stand drain decided) d.packets d.reports) turn (kind_of s'.declared) s'.offset
     ≡ record { number = decided; stand = stand'; packets = d.packets; reports = reports; end = None }
     → Drained before drain' d.packets reports → AppendsOnce (first_link (wholes_of (us ++ s ∷ vs))) before drain drain' → form_at drain' ≡ form_at drain → failures_to drain'.target ≡ failures_to drain.target → drain'.names ≡ drain.names
     → stand'.passed ≤ decided → IsWithin decided stand'.tally
     → GoesOn (us ++ s ∷ vs) before (mk (xs ++ h ∷ ys) place asked stand drain decided) (mk (xs ++ head_after h (Ok false) s' ∷ ys) (place_after place turn true) asked stand' drain' decided)
-closed-goes us vs s before xs ys h s' place turn asked stand drain decided stand' drain' reports laws front at back advances d goes output once form failures names passed counted =
+closed-goes us vs s before xs ys h s' place turn asked stand drain decided stand' drain' reports laws front at back advances never d goes output once form failures names passed counted =
     let found : FindsEnd h.source s' = finds s h s' (Ok false) at laws.waits advances in
     let out = closed-out us vs s before xs ys h s' place turn asked stand drain decided laws front at back advances found d in
     let new : MachineStand = mk (xs ++ head_after h (Ok false) s' ∷ ys) (place_after place turn true) asked stand' drain' decided in
@@ -158,6 +159,7 @@ closed-goes us vs s before xs ys h s' place turn asked stand drain decided stand
       output = failures;
       names = names;
       order = laws.order true;
+      never = never-at xs ys h (head_after h (Ok false) s') never;
     }
 
 -- ---- it ends by a fault
@@ -349,16 +351,16 @@ report-stops us vs s before xs ys h s' place turn asked stand names (Text bytes 
     }
 
 closed-core : (us vs : List Stood) (s : Stood) (before : List ℕ) (xs ys : List HeadView) (h : HeadView) (s' : SourceView) (place : Place) (turn : ℕ) (asked : Asked) (stand : Stand) (drain : DrainView) (decided : ℕ) (r : Progress) (judge' : JudgeStand) (drain' : DrainView)
-    → (laws : ReadLaws place turn xs ys h) → Standing us xs → At s h → Standing vs ys → Advances h.source.phase h.source (Ok false) s'
+    → (laws : ReadLaws place turn xs ys h) → Standing us xs → At s h → Standing vs ys → Advances h.source.phase h.source (Ok false) s' → s'.never_fails ≡ h.source.never_fails
     → (d : Decided (us ++ s ∷ vs) before (mk (xs ++ h ∷ ys) place asked stand drain decided))
     → (b : Bool) → asks_report (ordering_of place) asked ≡ b → ClosesBy b turn (head_after h (Ok false) s') (record { asked = asked; stand = stand }) drain r judge' drain'
     → StepLeaves (us ++ s ∷ vs) before (mk (xs ++ h ∷ ys) place asked stand drain decided) r (mk (xs ++ head_after h (Ok false) s' ∷ ys) (place_after place turn true) asked judge'.stand drain' decided)
-closed-core us vs s before xs ys h s' place turn asked stand drain decided r judge' drain' laws front at back advances d false asks by =
+closed-core us vs s before xs ys h s' place turn asked stand drain decided r judge' drain' laws front at back advances never d false asks by =
     rw (by.0, by.1, by.2)
-    (closed-goes us vs s before xs ys h s' place turn asked stand drain decided stand drain d.reports laws front at back advances d
+    (closed-goes us vs s before xs ys h s' place turn asked stand drain decided stand drain d.reports laws front at back advances never d
     (quiet-closed (ordering_of place) asked (stands_at (mk (xs ++ h ∷ ys) place asked stand drain decided) d.packets d.reports) turn (kind_of s'.declared) s'.offset asks)
     d.output (once-nothing (first_link (wholes_of (us ++ s ∷ vs))) before drain drain d.packets d.reports d.output refl) refl refl refl d.passed d.counted)
-closed-core us vs s before xs ys h s' place turn asked stand drain decided r judge' drain' laws front at back advances d true asks by =
+closed-core us vs s before xs ys h s' place turn asked stand drain decided r judge' drain' laws front at back advances never d true asks by =
     rw (by.is, by.judge_is) (by_answer by.answer by.reports)
   where
     old : MachineStand
@@ -372,7 +374,7 @@ closed-core us vs s before xs ys h s' place turn asked stand drain decided r jud
     by_answer (Ok done) reports =
         let ok : ReportOk before d.packets d.reports report drain.names drain'.names drain.target drain'.target =
         report-ok before d.packets d.reports report drain.names drain'.names drain.target drain'.target reports.names d.output reports.target in
-        closed-goes us vs s before xs ys h s' place turn asked stand drain decided (emptied stand) drain' (d.reports ++ report ∷ []) laws front at back advances d
+        closed-goes us vs s before xs ys h s' place turn asked stand drain decided (emptied stand) drain' (d.reports ++ report ∷ []) laws front at back advances never d
         (told-closed (ordering_of place) asked (stands_at old d.packets d.reports) turn (kind_of s'.declared) s'.offset asks)
         ok.output (once-report (first_link (wholes_of (us ++ s ∷ vs))) before drain drain' d.packets d.reports report d.output ok.output ok.form) ok.form ok.failures reports.names d.passed (omega arith, omega arith, omega arith)
     by_answer (Err fault) reports = report-stops us vs s before xs ys h s' place turn asked stand drain.names drain.target decided (emptied stand) drain' fault laws front at back advances d asks reports.target
@@ -396,13 +398,13 @@ fetch-core : (us vs : List Stood) (s : Stood) (before : List ℕ) (xs ys : List 
     → Follows a (record { heads = xs ++ head_after h a s' ∷ ys; place = place_after place turn (closes a) }) turn (record { asked = asked; stand = stand }) drain r judge' drain'
     → FetchLeaves (us ++ s ∷ vs) before (mk (xs ++ h ∷ ys) place asked stand drain decided) turn a r (mk (xs ++ head_after h a s' ∷ ys) (place_after place turn (closes a)) asked judge'.stand drain' decided)
 fetch-core us vs s before xs ys h s' (Ok true) place turn asked stand drain decided r judge' drain' laws tells front at back advances steps d follows =
-    rw (follows.0, follows.1) (found-goes us vs s before xs ys h s' place turn asked stand drain decided laws front at back advances d)
+    rw (follows.0, follows.1) (found-goes us vs s before xs ys h s' place turn asked stand drain decided laws front at back advances (never-kept h.source s' (Ok true) steps) d)
 fetch-core us vs s before xs ys h s' (Ok false) place turn asked stand drain decided r judge' drain' laws tells front at back advances steps d follows =
     let h' : HeadView = head_after h (Ok false) s' in
     let same : follows.head ≡ h' = among-same (xs ++ h' ∷ ys) turn follows.head h' follows.among (record { front = xs; back = ys; place = laws.here; splits = refl }) in
     let P : HeadView → Type 0 = λ v. ClosesBy (asks_report (ordering_of (place_after place turn true)) asked) turn v (record { asked = asked; stand = stand }) drain r judge' drain' in
     let Q : Ordering → Type 0 = λ o. ClosesBy (asks_report o asked) turn h' (record { asked = asked; stand = stand }) drain r judge' drain' in
-    closed-core us vs s before xs ys h s' place turn asked stand drain decided r judge' drain' laws front at back advances d (asks_report (ordering_of place) asked) refl
+    closed-core us vs s before xs ys h s' place turn asked stand drain decided r judge' drain' laws front at back advances (never-kept h.source s' (Ok false) steps) d (asks_report (ordering_of place) asked) refl
     (subst Q (laws.order true) (subst P same follows.by))
 fetch-core us vs s before xs ys h s' (Err fault) place turn asked stand drain decided r judge' drain' laws tells front at back advances steps d follows = rw (follows.0, follows.1) (record {
   head = head_after h (Err fault) s';

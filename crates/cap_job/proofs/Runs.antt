@@ -19,4 +19,5 @@ goes-on ss before first m new way goes asked = record {
   output = goes.output ∙ way.output;
   names = goes.names ∙ way.names;
   order = goes.order ∙ way.order;
+  never = goes.never ∙ way.never;
 }

@@ -185,6 +185,10 @@ pub record AppendsOnce (link : Option ℕ) (before : List ℕ) (old new : DrainV
   pub appended : written_to new.target ≡ written_to old.target ++ bytes
   pub one : (bytes ≡ []) ⊎ OneAnswer (form_at old) link front bytes
 
+-- of each input whether its device never fails
+abbrev pub never_failing : List HeadView → List Bool
+never_failing hs = map (λ h. h.source.never_fails) hs
+
 -- it goes on, and finished some bytes of one input
 pub record GoesOn (ss : List Stood) (before : List ℕ) (old new : MachineStand) : Type 0 where
   pub input : ℕ
@@ -198,6 +202,7 @@ pub record GoesOn (ss : List Stood) (before : List ℕ) (old new : MachineStand)
   pub output : failures_by new ≡ failures_by old
   pub names : new.drain.names ≡ old.drain.names
   pub order : ordering_of new.feed.place ≡ ordering_of old.feed.place
+  pub never : never_failing new.feed.heads ≡ never_failing old.feed.heads
 
 -- the output is all that the job writes of inputs with these items, and they end so
 pub record Comes (rs : List Rest) (before : List ℕ) (m new : MachineStand) (close : Close) : Type 0 where
@@ -280,3 +285,5 @@ pub record IsUnderWay (ss : List Stood) (before : List ℕ) (first m : MachineSt
   pub output : failures_by m ≡ failures_by first
   pub names : m.drain.names ≡ first.drain.names
   pub order : ordering_of m.feed.place ≡ ordering_of first.feed.place
+  -- an input that never fails is cut short by no failure
+  pub never : never_failing m.feed.heads ≡ never_failing first.feed.heads
