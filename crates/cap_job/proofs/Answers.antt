@@ -220,6 +220,7 @@ pub record LastTook (asked : Asked) (w : Way) (before : List ℕ) (i : ℕ) (x :
   pub went : goes asked (form_at old) w (Came i x) ≡ course_spec.decided w stand' (packet ∷ []) (Some Over)
   pub output : Drained before new (w.packets ++ packet ∷ []) w.reports
   pub form : form_at new ≡ form_at old
+  pub failures : failures_to new.target ≡ failures_to old.target
 
 pub last-took : (asked : Asked) (w : Way) (before : List ℕ) (i : ℕ) (x : Placed) (old new : DrainView) (stand' : Stand) (v : code.Verdict) (q : Captured) → Tells (verdict asked w.stand (w.number + 1) x.packet) (Ok v) q stand' → Offers v q old (Ok true) new
     → Drained before old w.packets w.reports → LastTook asked w before i x stand' old new
@@ -231,6 +232,7 @@ last-took asked w before i x old new stand' code_verdict.Last q told offers has 
       went = goes-by asked (form_at old) w i x (Last q) stand' told.0 told.1 ∙ ap (λ (f : Option Fault). unless_refused f w i x stand' q (Some Over)) ok.none;
       output = ok.output;
       form = ok.form;
+      failures = ok.failures;
     }
 last-took asked w before i x old new stand' code_verdict.Skip q told offers has = absurd (let b = offers.0 in cc)
 
@@ -325,7 +327,7 @@ unput-capture ss before heads place turn asked stand stand' names sink sink' dec
     stops-writing ss before heads place asked stand stand' names sink sink' decided new packets reports es (Came turn x) q o ahead far has
     (went ∙ ap (λ (f : Option Fault). unless_refused f (stands_at (mk heads place asked stand (record { names = names; target = Capture sink }) decided) packets reports) turn x stand' q o) why.0) why is
 unput-capture ss before heads place turn asked stand stand' names sink sink' decided new packets reports es x q o NoMemory ahead far has went tells same_feed head among offset why is =
-    record { head = head; among = among; why = inr (inr (record { next = tells; feed = same_feed; why = refl; written = ap written_to is ∙ why })) }
+    record { head = head; among = among; why = inr (inr (record { next = tells; feed = same_feed; why = refl; written = ap written_to is ∙ why.0; device = ap failures_to is ∙ why.1 })) }
 unput-capture ss before heads place turn asked stand stand' names sink sink' decided new packets reports es x q o fault ahead far has went tells same_feed head among offset why is =
     let m : MachineStand = mk heads place asked stand (record { names = names; target = Capture sink }) decided in
     let w : Way = stands_at m packets reports in
@@ -335,7 +337,7 @@ unput-capture ss before heads place turn asked stand stand' names sink sink' dec
     record {
       head = head;
       among = among;
-      why = inl (rw offset (comes-broken (wholes_of ss) before m new packets reports turn fault x.offset stop has (ap written_to is ∙ why.1)));
+      why = inl (rw offset (comes-broken (wholes_of ss) before m new packets reports turn fault x.offset stop has (ap written_to is ∙ why.1) (ap failures_to is ∙ why.2)));
     }
 
 unput-leaves : (ss : List Stood) (before : List ℕ) (heads : List HeadView) (place : Place) (turn : ℕ) (asked : Asked) (stand stand' : Stand) (names : List (List ℕ)) (target : Target) (decided : ℕ) (new : MachineStand) (packets : List Captured) (reports : List Report) (es : List Event) (x : Placed) (q : Captured) (o : Option Close) (fault : Fault)
@@ -370,7 +372,7 @@ reject-leaves ss before heads place turn asked stand stand' drain decided new pa
       why = inl (rw offset (comes-broken (wholes_of ss) before (mk heads place asked stand drain decided) new packets reports turn fault x.offset
           (stops-course ss heads place es (Came turn x) asked (form_at drain) w (stops_at w (Broken turn fault x.offset)) (Broken turn fault x.offset) ahead far refl
           (ap (λ (v : Verdict). by_verdict (form_at drain) w turn x v (verdict asked stand (decided + 1) x.packet).stand) told) refl)
-          has kept));
+          has kept (ap (λ (v : DrainView). failures_to v.target) same)));
     } in
     other fault device breaks
   where
@@ -475,6 +477,7 @@ answer-core us vs s before xs ys h place turn asked stand stand' drain drain' de
                 closing-some before drain'.names (form_at drain) drain'.target (first_link (wholes_of (us ++ s ∷ vs))) (d.packets ++ l.packet ∷ []) d.reports (decided + 1) stand' l.output l.form (some d.packets l.packet)
                 ∙ ap (λ (v : Way). before ++ output (form_at drain) (first_link (wholes_of (us ++ s ∷ vs))) v) (sym stop);
             once = once-packet (first_link (wholes_of (us ++ s ∷ vs))) before drain drain' d.packets l.packet d.reports d.output l.output l.form;
+            device = l.failures;
           }
       | inr x ↦ absurd (let e = x.answer in cc)
     ]

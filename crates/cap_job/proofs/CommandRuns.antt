@@ -1,5 +1,5 @@
 -- All steps of a command's job.
-use Rattle.std.proofs.Common.{◌≡◌, inl, inr, ℕ, List, Bool, Option, None, Some, refl, sym, ◌∙◌, ap, subst}
+use Rattle.std.proofs.Common.{◌≡◌, inl, inr, ℕ, List, [], Bool, Option, None, Some, refl, sym, ◌∙◌, ap, subst}
 use Rattle.cap_tools.specs.Messages.{refusal_message}
 use Rattle.flt_bpf.specs.Content.{Content}
 use Rattle.cap_tools.specs.FilterRules.{Rule, IsRule}
@@ -7,6 +7,8 @@ use Rattle.cap_tools.specs.Filters.{AreNew}
 use Rattle.cap_tools.specs.Outcome.{OutputView, IsTold, Runs, seen}
 use Rattle.cap_tools.specs.Compilation.{CompileLeaves, ListingLeaves}
 use Rattle.cap_tools.specs.declared.refusal.Refusal.TheVariants.{Expression}
+use Rattle.flt_words.specs.declared.fault.ExprFault.{ExprFault}
+use Rattle.flt_words.specs.declared.fault.ExprFault.TheVariants.{Memory}
 use Rattle.flt_gen.specs.declared.link.Link.{Link}
 use Rattle.cap_job.specs.declared.packets.Turn.TheVariants as turn
 use Rattle.cap_job.specs.Verdicts.{Filter}
@@ -106,7 +108,7 @@ ended tells from job new s ss before out err way same names ends written failure
       last = new.machine;
       way = way;
       text = ends.text;
-      ends = ends-whole ss before from.machine.drain.names from.machine job.machine new.machine out.written ends.text s way written (subst N names (ends.ends way.stood before way.decided));
+      ends = ends-whole ss before from.machine.drain.names from.machine job.machine new.machine out ends.text s way written failures (subst N names (ends.ends way.stood before way.decided));
       written = written;
       failures = failures;
       told = subst T (sym is) (subst F same ends.told);
@@ -125,7 +127,13 @@ listed tells words link old new s out err same is some =
       message = some.lists.runs.message;
       left = inl (record { prog = some.prog; compiled = some.compiled; listed = subst L (sym same) some.lists.runs.left });
       told = subst T (sym is) some.lists.runs.told;
+      quiet = λ none. is ∙ some.lists.runs.quiet none;
     }
+
+-- a refusal has something to report
+never-silent : (fault : ExprFault) → refusal_message (Expression fault) ≡ [] → ⊥
+never-silent Memory none = (cc)
+never-silent fault none = (cc)
 
 unlisted : (tells : Bool) (words : List ℕ) (link : Link) (old new : JobView) (s : ℕ) (out err : OutputView) → out ≡ output_of new → err ≡ new.err → RefusesExpression words tells old s new
     → Runs (λ message. CompileLeaves words link (output_name old) (output_of old) out message s) tells old.err err
@@ -140,6 +148,7 @@ unlisted tells words link old new s out err same is refuses =
         tells = record { output = same ∙ ap output_of refuses.refuses.new_is; told = refl; answered = refuses.refuses.status_is };
       });
       told = subst T (sym is) refuses.refuses.told;
+      quiet = λ none. absurd (never-silent refuses.fault none);
     }
 
 first-done : (tells : Bool) (p : Option Preparing) (old new : JobView) (s : ℕ) (ss : List Stood) (before : List ℕ) (out err : OutputView) → GivesBy p tells old (turn.Done s) new → DecidedBy p ss before old.machine

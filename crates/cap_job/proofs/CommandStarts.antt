@@ -86,7 +86,8 @@ lists-ok insns tells old new err text lists = by_target old.drain.target refl te
         let after : written_by new ≡ to.after = ap written_to to.is in
         record {
           message = [];
-          left = inl (record { written = after ∙ to.appends ∙ ap (λ (l : List ℕ). l ++ listing insns) (sym before); told = refl; answered = refl });
+          left = inl (record { written = after ∙ to.appends ∙ ap (λ (l : List ℕ). l ++ listing insns) (sym before); device = ap failures_to to.is ∙ add-zero failures ∙ sym (ap failures_to is); told = refl; answered = refl });
+          quiet = λ none. refl;
           told = record { answer = Ok tt; told = λ te. sym (append-nil err.written); counted = sym (add-zero err.failures) };
         }
 
@@ -111,4 +112,5 @@ lists-err insns tells old new stopped err err' text lists told = by_target old.d
             answered = refl;
           });
           told = told;
+          quiet = λ none. (cc);
         }

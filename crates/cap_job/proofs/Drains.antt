@@ -99,8 +99,8 @@ stayed-written (Some fault) bytes written written' is writes = writes
 -- why a packet that passes isn't put into a capture: the format refuses it; there was no memory; or the device failed
 abbrev pub WhyUnput : Fault → SinkView → List Captured → Captured → SinkView → Type 0
 WhyUnput WriteFailed old ps q new = (refused old.format ps q ≡ None) × (new.failures ≡ old.failures + 1) × Stops old.written (added old.format ps q) new.written
-WhyUnput NoMemory old ps q new = new.written ≡ old.written
-WhyUnput fault old ps q new = (refused old.format ps q ≡ Some fault) × (new.written ≡ old.written)
+WhyUnput NoMemory old ps q new = (new.written ≡ old.written) × (new.failures ≡ old.failures)
+WhyUnput fault old ps q new = (refused old.format ps q ≡ Some fault) × (new.written ≡ old.written) × (new.failures ≡ old.failures)
 
 pub unput : (before : List ℕ) (ps : List Captured) (q : Captured) (old new : SinkView) (fault : Fault) → HasPackets before old ps
     → sinks.Puts old.state old q (Err fault) new → PutWrites old.state old q (Err fault) new → WhyUnput fault old ps q new
@@ -111,11 +111,11 @@ unput before ps q old new WriteFailed has puts writes =
 unput before ps q old new NoMemory has puts writes =
     let after : PutsAfter ps old q (Err NoMemory) new = put-answers before ps old q (Err NoMemory) new has puts in
     let none = not-refused old.format ps q NoMemory (refused-no_memory old.format ps q) after.answer in
-    stayed-written (refused old.format ps q) (added old.format ps q) old.written new.written none (put-writes before ps old q (Err NoMemory) new has writes)
+    (stayed-written (refused old.format ps q) (added old.format ps q) old.written new.written none (put-writes before ps old q (Err NoMemory) new has writes), after.failures ∙ add-zero old.failures)
 unput before ps q old new fault has puts writes =
     let after : PutsAfter ps old q (Err fault) new = put-answers before ps old q (Err fault) new has puts in
     let is = refusal-is (refused old.format ps q) (takes_memory old.format ps q) fault after.answer (λ same. (cc)) (λ same. (cc)) in
-    (is, stays-written (refused old.format ps q) fault (added old.format ps q) old.written new.written is (put-writes before ps old q (Err fault) new has writes))
+    (is, stays-written (refused old.format ps q) fault (added old.format ps q) old.written new.written is (put-writes before ps old q (Err fault) new has writes), after.failures ∙ add-zero old.failures)
 
 -- ---- the clean end
 

@@ -9,7 +9,8 @@ use Rattle.cap_job.specs.Reports.{name_at}
 use Rattle.cap_job.specs.Verdicts.{Asked}
 use Rattle.cap_job.specs.Course.{Form, Work, Outcome, outcome, out, message, status}
 use Rattle.cap_job.specs.Feed.{HeadView, Stood, Among, ordering_of}
-use Rattle.cap_job.specs.Machine.{MachineStand, Comes, EndLeaves, IsUnderWay, form_of, written_by, texts, wholes_of, cut_at}
+use Rattle.cap_tools.specs.Outcome.{OutputView}
+use Rattle.cap_job.specs.Machine.{MachineStand, Comes, EndLeaves, IsUnderWay, failures_by, form_of, written_by, texts, wholes_of, cut_at}
 use Rattle.cap_job.specs.Jobs.{IsOut, EndsAs, EndsElse, IsOutOf, work_of, end_text, end_status, offset_at, offset_of}
 
 comes-out : (rs : List Rest) (before : List ℕ) (names : List (List ℕ)) (old new : MachineStand) (close : Close) (text : List ℕ) (s : ℕ) → Comes rs before old new close → text ≡ message names (Some close) → s ≡ status (Some close)
@@ -17,6 +18,7 @@ comes-out : (rs : List Rest) (before : List ℕ) (names : List (List ℕ)) (old 
 comes-out rs before names old new close text s comes text_is status_is = record {
   written = comes.written;
   once = comes.once;
+  device = comes.device;
   text_is = text_is ∙ ap (message names) (sym comes.ends);
   status_is = status_is ∙ ap status (sym comes.ends);
 }
@@ -56,12 +58,13 @@ same-work ss before first old way =
     ∙ ap (λ (f : Form). record { order = ordering_of first.feed.place; asked = first.asked; form = f }) way.form
 
 -- the last step's inputs have the bytes that the first step's have
-pub ends-whole : (ss : List Stood) (before : List ℕ) (names : List (List ℕ)) (first old last : MachineStand) (written text : List ℕ) (s : ℕ) (way : IsUnderWay ss before first old) → written ≡ written_by last
-    → EndsAs way.stood before names old last text s → IsOutOf (work_of first) names (texts ss) before written text s ⊎ EndsElse way.stood before names old last text s
-ends-whole ss before names first old last written text s way is ends =
+pub ends-whole : (ss : List Stood) (before : List ℕ) (names : List (List ℕ)) (first old last : MachineStand) (output : OutputView) (text : List ℕ) (s : ℕ) (way : IsUnderWay ss before first old) → output.written ≡ written_by last → output.failures ≡ failures_by last
+    → EndsAs way.stood before names old last text s → IsOutOf (work_of first) names (texts ss) before (failures_by first) output text s ⊎ EndsElse way.stood before names old last text s
+ends-whole ss before names first old last output text s way is device ends =
     elim ends [
       | inl whole ↦ inl (record {
         written_is = is ∙ whole.written ∙ ap (λ (o : Outcome). before ++ o.output) same;
+        device = device ∙ whole.device ∙ way.output;
         text_is = whole.text_is ∙ ap (λ (o : Outcome). o.messages) same;
         status_is = whole.status_is ∙ ap (λ (o : Outcome). o.status) same;
       })

@@ -25,7 +25,7 @@ use Rattle.cap_job.specs.Course.{Form, AsReports, Way, set_out, way, course, sto
 use Rattle.cap_job.specs.Drain.{DrainView, Target, Capture, Text, Lines, Drained, Reports, ReportsTo, form_at, written_to, failures_to}
 use Rattle.cap_job.specs.Feed.{HeadView, FeedView, Future, Stood, Standing, HasCome, Among, EndedBefore, Fetches, Tells, waits_from, in_hand, head_after, place_after, closes, later, whole_with, wholes, rests, left, is_in_turn, ordering_of}
 use Rattle.cap_job.specs.Reports.{report_text, reports_text}
-use Rattle.cap_job.specs.Machine.{MachineStand, AppendsOnce, Decided, GoesOn, Comes, BreaksAt, WhyBroken, StopsWriting, StepLeaves, Closes, ClosesBy, asks_report, report_at, unless_failed, stands_at, form_of, written_by, cut_at, wholes_of}
+use Rattle.cap_job.specs.Machine.{MachineStand, AppendsOnce, Decided, GoesOn, Comes, BreaksAt, WhyBroken, StopsWriting, StepLeaves, Closes, ClosesBy, asks_report, report_at, unless_failed, stands_at, form_of, failures_by, written_by, cut_at, wholes_of}
 use Rattle.cap_job.proofs.Splits.{At, Fit, stands-split, stands-join, stands-length, fits-join, wholes-join, rests-join, finish-here, come-on}
 use Rattle.cap_job.proofs.Coming.{carries-found, carries-closed, true-wholes, true-fits, finds}
 use Rattle.cap_job.proofs.Drains.{drained-text, ReportOk, report-ok, reports-more}
@@ -178,15 +178,16 @@ wholes_of-length (u ∷ us) = ap suc (wholes_of-length us)
 
 -- what the output has where the job ends by a fault behind what is decided
 pub comes-broken : (rs : List Rest) (before : List ℕ) (m new : MachineStand) (packets : List Captured) (reports : List Report) (input : ℕ) (fault : Fault) (offset : ℕ)
-    → course m.asked (form_of m) (fed (ordering_of m.feed.place) rs) ≡ stops_at (stands_at m packets reports) (Broken input fault offset) → Drained before m.drain packets reports → written_by new ≡ written_by m
+    → course m.asked (form_of m) (fed (ordering_of m.feed.place) rs) ≡ stops_at (stands_at m packets reports) (Broken input fault offset) → Drained before m.drain packets reports → written_by new ≡ written_by m → failures_by new ≡ failures_by m
     → Comes rs before m new (Broken input fault offset)
-comes-broken rs before m new packets reports input fault offset is has same = record {
+comes-broken rs before m new packets reports input fault offset is has same device = record {
   ends = ap (λ (w : Way). w.end) is;
   written =
       same ∙ drained-text before m.drain.names m.drain.target packets reports has
       ∙ ap (λ (l : List ℕ). before ++ l) (sym (append-nil (written (form_of m) packets reports)))
       ∙ ap (λ (w : Way). before ++ output (form_of m) (first_link rs) w) (sym is);
   once = once-nothing (first_link rs) before m.drain new.drain packets reports has same;
+  device = device;
 }
 
 -- a device that failed isn't one that never does
@@ -221,7 +222,7 @@ broken-ends us vs s before xs ys h s' fault place turn asked stand drain decided
           (ap (λ (l : List Rest). course asked (form_at drain) (fed (ordering_of place) l))
           (wholes_of-join us vs s ∙ ap (λ (r : Rest). wholes_of us ++ r ∷ wholes_of vs) (ap (λ (i : Items). record { greatest = 0; items = i; size = length s.text }) faulty.items))
           ∙ cut-course)
-          d.output refl)
+          d.output refl refl)
       | inr cut ↦ inr (inl (record {
         front = us;
         stood = s;
@@ -240,7 +241,7 @@ broken-ends us vs s before xs ys h s' fault place turn asked stand drain decided
             (ap (λ (l : List Rest). cut_at l turn (record { packets = s.packets; declared = s'.declared; ending = FaultAt fault s'.offset })) (wholes_of-join us vs s)
             ∙ cut-here (wholes_of us) (wholes_of vs) (whole s.text) turn (record { packets = s.packets; declared = s'.declared; ending = FaultAt fault s'.offset }) (wholes_of-length us ∙ stands-length us xs front ∙ laws.here))
             ∙ cut-course)
-            d.output refl;
+            d.output refl refl;
       }))
     ]
   where
@@ -457,3 +458,10 @@ closes-by (Turn turn) input head judge judge' drain drain' r tally report answer
         let same : tally ≡ judge.stand.tally = (let e = taken.0 in cc) in
         let P : Report → Type 0 = λ v. Reports v drain answer drain' in
         record { answer = answer; reports = subst P (is ∙ ap (report_at input head) same) reports; is = ends; judge_is = taken.1 }
+
+-- what was counted is taken of an input that is reported alone
+pub counted : (place : Place) (asked : Asked) (judge judge' : JudgeStand) (tally : Tally) → is_in_turn place ≡ true → judging.Closes (is_count asked) judge (Some tally) judge' → asks_report (ordering_of place) asked ≡ false → ⊥
+counted (Merge n u) asked judge judge' tally turn taken none = (cc)
+counted (Turn turn) asked judge judge' tally here taken none =
+    let C : Bool → Type 0 = λ b. judging.Closes b judge (Some tally) judge' in
+    let e = (subst C none taken).0 in cc

@@ -1,5 +1,5 @@
 -- The step that ends the output.
-use Rattle.std.proofs.Common.{◌≡◌, ℕ, zero, suc, ◌+◌, ◌≤◌, List, [], ◌∷◌, ◌++◌, length, map, Option, Some, Result, Ok, Err, refl, sym, ◌∙◌, ap, arith, subst, inr}
+use Rattle.std.proofs.Common.{◌≡◌, ℕ, zero, suc, ◌+◌, ◌≤◌, List, [], ◌∷◌, ◌++◌, length, map, Option, Some, Result, Ok, Err, refl, sym, ◌∙◌, ap, arith, subst, inr, add-zero}
 use Rattle.std.proofs.lemmas.List.{append-nil}
 use Rattle.std.specs.Option.{option_or}
 use Rattle.cap_octet.specs.Device.{Stops}
@@ -70,6 +70,18 @@ finish-text before names ps rs n stand (Text bytes failures room) new link has f
 finish-text before names ps rs n stand (Lines options bytes failures room) new link has finishes =
     ap written_to finishes.1 ∙ has ∙ ap (λ (l : List ℕ). before ++ l) (sym (append-nil (lines_text options ps)))
 
+-- it is written without a failure
+finish-device : (before : List ℕ) (names : List (List ℕ)) (ps : List Captured) (rs : List Report) (target new : Target) (link : Option ℕ) → DrainedTo before names target ps rs → FinishesTo link target (Ok tt) new
+    → failures_to new ≡ failures_to target
+finish-device before names [] rs (Capture sink) new link has finishes =
+    let empty : FinishesEmpty sink (link_or_ethernet link) (Ok tt) finishes.sink = finish-none before sink link (Ok tt) finishes.sink has finishes.finishes in
+    ap failures_to finishes.is ∙ empty.failures ∙ add-zero sink.failures
+finish-device before names (q ∷ qs) rs (Capture sink) new link has finishes =
+    let same = finish-some before q qs sink link (Ok tt) finishes.sink has finishes.finishes in
+    ap failures_to finishes.is ∙ ap (λ (v : SinkView). v.failures) same.1
+finish-device before names ps rs (Text bytes failures room) new link has finishes = ap failures_to finishes.1
+finish-device before names ps rs (Lines options bytes failures room) new link has finishes = ap failures_to finishes.1
+
 abbrev pub FinishLeaves : List Stood → List ℕ → MachineStand → Result (Unit {0}) Fault → MachineStand → Type 0
 FinishLeaves ss before old (Ok done) new = Comes (wholes_of ss) before old new Over
 FinishLeaves ss before old (Err fault) new = StopsWriting ss before old new
@@ -121,6 +133,7 @@ finish-leaves ss before heads place asked stand drain decided (Ok done) new tell
           (finish-text before drain.names d.packets d.reports decided stand drain.target new.drain.target (first_of heads) d.output finishes
           ∙ ap (λ (o : Option ℕ). before ++ output (form_at drain) o (over m d.packets d.reports)) (sym link))
           (inr (inr refl));
+      device = finish-device before drain.names d.packets d.reports drain.target new.drain.target (first_of heads) d.output finishes;
     }
 finish-leaves ss before heads place asked stand drain decided (Err fault) new tells finishes d =
     let at : OverAt place heads = over-at place heads tells d.ended in

@@ -122,6 +122,10 @@ turn-order : (turn i : ℕ) (c : Bool) → ordering_of (place_after (Turn turn) 
 turn-order turn i true = refl
 turn-order turn i false = refl
 
+pub after-order : (place : Place) (i : ℕ) (c : Bool) → ordering_of (place_after place i c) ≡ ordering_of place
+after-order (Turn turn) i c = turn-order turn i c
+after-order (Merge next last) i c = refl
+
 turn-reads : (turn i : ℕ) (xs ys : List HeadView) (h : HeadView) → length xs ≡ i → i ≡ turn → h.waiting ≡ false → EndedTo turn (xs ++ h ∷ ys) → ReadLaws (Turn turn) i xs ys h
 turn-reads turn i xs ys h here is waits ended = record {
   here = here;

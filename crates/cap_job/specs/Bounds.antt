@@ -1,5 +1,5 @@
 -- The bounds of a step, whatever the devices: what it reads, how many steps were made, and what the job holds.
-use Rattle.std.specs.Prelude.{◌≡◌, ℕ, ◌+◌, ◌*◌, ◌-◌, ◌≤◌, Bool, IsTrue, true, false, List, [], ◌∷◌, length, map, Option, None, Some, Result, Ok, Err}
+use Rattle.std.specs.Prelude.{◌≡◌, ℕ, ◌+◌, ◌*◌, ◌-◌, ◌≤◌, ◌&&◌, Bool, IsTrue, true, false, List, [], ◌∷◌, length, map, Option, None, Some, Result, Ok, Err}
 use Rattle.std.specs.List.{All}
 use Rattle.cap_octet.specs.declared.fault.Fault.{Fault}
 use Rattle.cap_io.specs.Capture.{Declared, Nothing, PcapFile, PcapngFile}
@@ -7,24 +7,24 @@ use Rattle.cap_io.specs.Reading.{most_in_unit}
 use Rattle.cap_io.specs.Source.{HasFew, behind}
 use Rattle.cap_io.specs.Text.{AreFew, most_output_interfaces}
 use Rattle.cap_job.specs.Drain.{DrainView, Target, Capture, Text, Lines}
-use Rattle.cap_job.specs.Feed.{HeadView, FeedView, Among, Fetches, FetchSteps, Settles, closes, place_left, waiting_total, weight_of}
+use Rattle.cap_job.specs.Feed.{HeadView, FeedView, Among, Fetches, FetchSteps, Settles, closes, ordering_of, place_left, waiting_total, weight_of}
 use Rattle.cap_octet.specs.Packet.{Captured}
 use Rattle.cap_tools.specs.Programs.{spent_in}
 use Rattle.cap_job.specs.Judge.{most_spent, places, spent_by_verdict, window_asked}
 use Rattle.cap_job.specs.declared.machine.Progress.{Progress}
 use Rattle.cap_job.specs.declared.machine.Progress.TheVariants.{More, Done}
-use Rattle.cap_job.specs.Machine.{MachineStand, MachineView}
+use Rattle.cap_job.specs.Machine.{MachineStand, MachineView, asks_report}
 
 -- ---- what a step reads
 
 -- One input was read on, to its next packet and no further. No packet is decided, and nothing is written unless the
--- input was read to its end.
+-- input was read to its end and is to be reported.
 pub record ReadsOn (tells : Bool) (old : MachineView) (input : ℕ) (answer : Result Bool Fault) (new : MachineView) : Type 0 where
   pub fetches : FetchSteps old.feed input answer new.feed
   -- where the input tells its bytes: its next packet, its clean end or its fault, and no more
   pub told : IsTrue tells → Fetches old.feed input answer new.feed
   pub decided : new.decided ≡ old.decided
-  pub drain : closes answer ≡ false → new.drain ≡ old.drain
+  pub drain : (closes answer && asks_report (ordering_of old.feed.place) old.asked) ≡ false → new.drain ≡ old.drain
   pub programs : new.programs ≡ old.programs
 
 -- an input's current packet, which isn't decided yet

@@ -112,6 +112,7 @@ work_of m = record { order = ordering_of m.feed.place; asked = m.asked; form = f
 pub record IsOut (rs : List Rest) (before : List ℕ) (names : List (List ℕ)) (old new : MachineStand) (text : List ℕ) (status : ℕ) : Type 0 where
   pub written : written_by new ≡ before ++ (outcome (work_of old) names rs).output
   pub once : AppendsOnce (first_link rs) before old.drain new.drain
+  pub device : failures_by new ≡ failures_by old
   pub text_is : text ≡ (outcome (work_of old) names rs).messages
   pub status_is : status ≡ (outcome (work_of old) names rs).status
 
@@ -183,9 +184,10 @@ done_by (turn.Done status) = Some status
 
 -- ---- all steps
 
--- output, message and status are those of inputs with these bytes
-pub record IsOutOf (work : Work) (names : List (List ℕ)) (texts : List (List ℕ)) (before written text : List ℕ) (status : ℕ) : Type 0 where
-  pub written_is : written ≡ before ++ (out work names texts).output
+-- output, message and status are those of inputs with these bytes, and the output's device didn't fail
+pub record IsOutOf (work : Work) (names : List (List ℕ)) (texts : List (List ℕ)) (before : List ℕ) (failures : ℕ) (output : OutputView) (text : List ℕ) (status : ℕ) : Type 0 where
+  pub written_is : output.written ≡ before ++ (out work names texts).output
+  pub device : output.failures ≡ failures
   pub text_is : text ≡ (out work names texts).messages
   pub status_is : status ≡ (out work names texts).status
 
@@ -196,7 +198,7 @@ pub record JobRuns (ss : List Stood) (before : List ℕ) (tells : Bool) (first :
   pub last : MachineStand
   pub way : IsUnderWay ss before first.machine old
   pub text : List ℕ
-  pub ends : IsOutOf (work_of first.machine) first.machine.drain.names (texts ss) before output.written text status ⊎ EndsElse way.stood before first.machine.drain.names old last text status
+  pub ends : IsOutOf (work_of first.machine) first.machine.drain.names (texts ss) before (failures_by first.machine) output text status ⊎ EndsElse way.stood before first.machine.drain.names old last text status
   pub written : output.written ≡ written_by last
   pub failures : output.failures ≡ failures_by last
   pub told : IsTold tells first.err text err

@@ -209,6 +209,8 @@ pub record Comes (rs : List Rest) (before : List ℕ) (m new : MachineStand) (cl
   pub ends : (course m.asked (form_of m) (fed (ordering_of m.feed.place) rs)).end ≡ Some close
   pub written : written_by new ≡ before ++ output (form_of m) (first_link rs) (course m.asked (form_of m) (fed (ordering_of m.feed.place) rs))
   pub once : AppendsOnce (first_link rs) before m.drain new.drain
+  -- the output's device didn't fail
+  pub device : failures_by new ≡ failures_by m
 
 -- these items in place of one input's
 abbrev pub cut_at : List Rest → ℕ → Items → List Rest
@@ -239,6 +241,7 @@ pub record WantsMemory (old new : MachineStand) (input : ℕ) (fault : Fault) : 
   pub feed : new.feed ≡ old.feed
   pub why : fault ≡ NoMemory
   pub written : written_by new ≡ written_by old
+  pub device : failures_by new ≡ failures_by old
 
 -- The output's device failed in this step, after a prefix of the one answer that it would have appended.
 pub record StopsWriting (ss : List Stood) (before : List ℕ) (old new : MachineStand) : Type 0 where

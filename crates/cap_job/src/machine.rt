@@ -2,13 +2,14 @@
 ghost use Rattle.std.specs.Prelude.{◌≡◌, ◌+◌, ◌<◌, ◌≤◌, IsTrue, length, true};
 ghost use Rattle.cap_octet.specs.Packet.{captured};
 ghost use Rattle.cap_job.specs.Bounds.{HasFewInterfaces, IsBounded, IsLight};
-ghost use Rattle.cap_job.specs.Feed.{most_steps};
+ghost use Rattle.cap_job.specs.Feed.{most_steps, ordering_of};
 ghost use Rattle.cap_job.specs.Drain.{Lists};
 ghost use Rattle.cap_job.specs.FirstStep.{asking};
 ghost use Rattle.cap_tools.specs.Filters.{programs_of, rule_of};
 ghost use Rattle.cap_job.specs.Verdicts.{Filter as AskedFilter};
 ghost use Rattle.cap_job.specs.Judge.{GrowsByOne, HasFewMarks, IsWithin, judge_stand};
-ghost use Rattle.cap_job.specs.Machine.{Closes, Decides, Offers, Spends, machine_stand, unwritten};
+ghost use Rattle.cap_job.specs.Machine.{Closes, Decides, Offers, Spends, asks_report};
+ghost use Rattle.cap_job.specs.Machine.{machine_stand, unwritten};
 
 use crate::drain::Drain;
 use crate::feed::{Feed, Head, Next};
@@ -137,6 +138,8 @@ fn close<I: Input, O: Output, A: Allocator>(
         → HasFewMarks judge.new.asked judge.new.stand }
     ensures few { HasFewInterfaces drain.old.target → HasFewInterfaces drain.new.target }
     ensures names { drain.new.names ≡ drain.old.names }
+    ensures kept { asks_report (ordering_of feed.now.place) judge.old.asked ≡ false
+        → drain.new ≡ drain.old }
 {
     let head = feed.head(input);
     if !feed.is_in_turn() {

@@ -23,6 +23,7 @@ pub record IsCompiled (text : List ℕ) (link : Link) (prog : List Insn) : Type 
 -- the bytes are written
 pub record IsWritten (bytes : List ℕ) (out out' : OutputView) (message : List ℕ) (status : ℕ) : Type 0 where
   pub written : out'.written ≡ out.written ++ bytes
+  pub device : out'.failures ≡ out.failures
   pub told : message ≡ []
   pub answered : status ≡ 0
 

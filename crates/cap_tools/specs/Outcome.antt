@@ -1,5 +1,5 @@
 -- What a run of a command leaves: the output, the messages and the status.
-use Rattle.std.specs.Prelude.{◌≡◌, ℕ, ◌+◌, ◌<◌, Bool, IsTrue, List, ◌++◌, length, take, Result}
+use Rattle.std.specs.Prelude.{◌≡◌, ℕ, ◌+◌, ◌<◌, Bool, IsTrue, List, [], ◌++◌, length, take, Result}
 use Rattle.cap_octet.specs.Device.{AppendsOrStops, failures_of}
 use Rattle.cap_octet.specs.declared.device.DeviceFault.{DeviceFault}
 use Rattle.cap_tools.specs.Messages.{write_failed_message}
@@ -25,6 +25,8 @@ pub record Runs (leaves : List ℕ → Type 0) (tells : Bool) (err err' : Output
   pub message : List ℕ
   pub left : leaves message
   pub told : IsTold tells err message err'
+  -- where there is nothing to report, the device isn't called
+  pub quiet : message ≡ [] → err' ≡ err
 
 -- ---- the ways in which a run ends
 

@@ -1,12 +1,14 @@
-use Rattle.std.proofs.Common.{◌≡◌, ◌<◌, ◌∙◌, length, Bool, true, false, Result, Ok, refl, sym, ap, arith, subst}
+use Rattle.std.proofs.Common.{◌≡◌, ◌<◌, ◌∙◌, ◌&&◌, length, Bool, true, false, Result, Ok, refl, sym, ap, arith, subst}
 use Rattle.cap_octet.specs.declared.fault.Fault.{Fault}
 use Rattle.cap_job.specs.declared.feed.Next.TheVariants as next
 use Rattle.cap_job.specs.declared.machine.Progress.TheVariants.{More}
-use Rattle.cap_job.specs.Feed.{Stood, closes, feed_left}
+use Rattle.cap_job.specs.Events.{Ordering}
+use Rattle.cap_job.specs.Feed.{FeedView, Stood, closes, feed_left, ordering_of}
 use Rattle.cap_job.specs.Feed as feeding
 use Rattle.cap_job.specs.Verdicts.{Asked}
 use Rattle.cap_job.specs.Judge.{JudgeView, judge_stand}
-use Rattle.cap_job.specs.Machine.{MachineStand, MachineView, machine_stand, machine_with, Decided, GoesOn, BreaksAt, StepLeaves}
+use Rattle.cap_job.specs.Machine.{MachineStand, MachineView, machine_stand, machine_with, Decided, GoesOn, BreaksAt, StepLeaves, asks_report}
+use Rattle.cap_job.proofs.Laws.{after-order}
 use Rattle.cap_job.proofs.Fetches.{Follows, FetchLeaves, fetch-leaves}
 use Rattle.cap_job.specs.Bounds.{StepReads, reads_on, IsPaid, goes_on, is_fault}
 use Rattle.cap_job.proofs.Lefts.{Goes, fetch-kept, fetch-less}
@@ -103,7 +105,12 @@ pub returns-in-Ok-false-clause-reads : goal.returns-in-Ok-false-clause-reads
 returns-in-Ok-false-clause-reads g c =
     let j : JudgeView = c.close.new.judge in
     let P : MachineView → Type 0 = λ v. StepReads g.I.Input.tells (goes_on c.close.result) v (record { feed = c.fetch.new.self; asked = j.asked; stand = j.stand; drain = c.close.new.drain; decided = c.self.inside.decided; programs = j.programs }) in
-    subst P c.self.view_is (reads_on c.args.input c.fetch.result (λ on. ap is_fault c.in-Ok-false.is) (record { fetches = c.fetch.ensures.steps; told = c.fetch.ensures.told; decided = refl; programs = c.close.ensures.programs; drain = λ on. absurd (let e : closes c.fetch.result ≡ true = ap closes (c.in-Ok-false.is ∙ ap Ok c.in-Ok-false.field-0-test) in cc) }))
+    subst P c.self.view_is (reads_on c.args.input c.fetch.result (λ on. ap is_fault c.in-Ok-false.is) (record { fetches = c.fetch.ensures.steps; told = c.fetch.ensures.told; decided = refl; programs = c.close.ensures.programs; drain = λ none.
+        let closed : closes c.fetch.result ≡ true = ap closes (c.in-Ok-false.is ∙ ap Ok c.in-Ok-false.field-0-test) in
+        let K : Bool → Type 0 = λ b. (b && asks_report (ordering_of c.self.inside.feed.place) c.self.inside.judge.asked) ≡ false in
+        c.close.ensures.kept (ap (λ (f : FeedView). asks_report (ordering_of f.place) c.self.inside.judge.asked) c.fetch.ensures.steps.is
+        ∙ ap (λ (o : Ordering). asks_report o c.self.inside.judge.asked) (after-order c.self.inside.feed.place c.args.input (closes c.fetch.result))
+        ∙ subst K closed none) }))
 
 pub returns-in-Ok-false-clause-paid : goal.returns-in-Ok-false-clause-paid
 returns-in-Ok-false-clause-paid g c = λ more.
