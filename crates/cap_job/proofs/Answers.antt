@@ -35,12 +35,12 @@ use Rattle.cap_job.specs.Verdicts as judged_spec
 use Rattle.cap_job.specs.Judge.{JudgeStand, GrowsByOne, IsWithin, Tells}
 use Rattle.cap_lines.specs.declared.print.Options.{Options}
 use Rattle.cap_lines.specs.Rendering.{printed}
-use Rattle.cap_job.specs.Course.{Form, AsCapture, AsLines, Way, lines_text, set_out, unless_refused, by_verdict, goes, way, course, refused_by, stops_at, output, first_link, written}
+use Rattle.cap_job.specs.Course.{Form, AsCapture, AsLines, Way, lines_text, set_out, unless_refused, by_verdict, goes, way, course, packet_bytes, refused_by, stops_at, output, first_link, written}
 use Rattle.cap_job.specs.Course as course_spec
 use Rattle.cap_job.specs.Drain.{DrainView, Target, Capture, Text, Lines, Drained, DrainedTo, Puts, PutsTo, form_at, form_to, written_to, failures_to}
 use Rattle.cap_job.specs.Feed.{HeadView, FeedView, Future, Stood, Standing, Among, settled, place_behind, later, wholes, rest_with, rests, left, most_steps, ordering_of}
 use Rattle.cap_job.specs.Feed as feeding
-use Rattle.cap_job.specs.Machine.{MachineStand, Decided, GoesOn, Comes, Decides, Offers, StopsWriting, OneAnswer, EndLeaves, stands_at, wholes_of, written_by, unwritten}
+use Rattle.cap_job.specs.Machine.{MachineStand, Decided, GoesOn, Comes, Decides, Offers, StopsWriting, NextPacket, PassesAs, EndLeaves, stands_at, way_of, course_over, form_of, wholes_of, written_by, unwritten}
 use Rattle.cap_job.proofs.Splits.{At, stands-split, stands-join, stands-length, rests-join, finish-here, come-on}
 use Rattle.cap_job.proofs.Coming.{carries-decided, true-wholes, true-fit, true-fits}
 use Rattle.cap_job.proofs.Drains.{drained-text, PutOk, put-ok, WhyUnput, lines-more, lines-one, unput, closing-some}
@@ -48,7 +48,7 @@ use Rattle.cap_job.proofs.Growing.{Grows, course-grows}
 use Rattle.cap_job.proofs.Laws.{DecideLaws, DecideAt, decide-at}
 use Rattle.cap_job.proofs.Once.{once-nothing, once-packet}
 use Rattle.cap_job.proofs.Courses.{way-next, course-stop}
-use Rattle.cap_job.proofs.Heads.{never-at, set-here}
+use Rattle.cap_job.proofs.Heads.{greatest-decided, greatest-here, never-at, set-here}
 use Rattle.cap_job.proofs.Fetches.{mk, among-same, comes-broken}
 
 -- ---- a packet that is judged
@@ -153,7 +153,7 @@ pub decided-goes : (us vs : List Stood) (s : Stood) (before : List ℕ) (xs ys :
     → DecideLaws place turn xs ys h → Standing us xs → At s h → Standing vs ys → h.source.packet ≡ Some p → stand'.passed ≤ decided + 1 → GrowsByOne stand.tally stand'.tally
     → (d : Decided (us ++ s ∷ vs) before (mk (xs ++ h ∷ ys) place asked stand drain decided))
     → Took asked (stands_at (mk (xs ++ h ∷ ys) place asked stand drain decided) d.packets d.reports) before turn (record { offset = h.source.offset; packet = p }) stand' drain drain' false
-    → GoesOn (us ++ s ∷ vs) before (mk (xs ++ h ∷ ys) place asked stand drain decided) (mk (xs ++ settled h ∷ ys) (place_behind place turn) asked stand' drain' (decided + 1))
+    → GoesOn d (mk (xs ++ settled h ∷ ys) (place_behind place turn) asked stand' drain' (decided + 1))
 decided-goes us vs s before xs ys h place turn asked stand stand' drain drain' decided p laws front at back held within grows d t =
     let waits : h.waiting ≡ true = laws.waits in
     let x : Placed = record { offset = h.source.offset; packet = p } in
@@ -165,13 +165,15 @@ decided-goes us vs s before xs ys h place turn asked stand stand' drain drain' d
     let here : At after (settled h) = subst A same (IsAt-decided s.text s.done s.packets h.source was).1 in
     let old : MachineStand = mk (xs ++ h ∷ ys) place asked stand drain decided in
     let new : MachineStand = mk (xs ++ settled h ∷ ys) (place_behind place turn) asked stand' drain' (decided + 1) in
-    let D : List Stood → Type 0 = λ l. Decided l before new in
     record {
       input = turn;
       finished = h.source.block;
       packets = x ∷ [];
-      decided = subst D (sym (finish-here us vs s turn h.source.block (x ∷ []) (stands-length us xs front ∙ laws.here))) (record {
+      stood = us ++ after ∷ vs;
+      stood_is = sym (finish-here us vs s turn h.source.block (x ∷ []) (stands-length us xs front ∙ laws.here));
+      decided = record {
         standing = stands-join us vs after xs ys (settled h) front here back;
+        greatest = greatest-here us vs s after xs ys h (settled h) front d.greatest (greatest-decided h p h.source.offset s.packets held);
         events = d.events ++ Came turn x ∷ [];
         come = come-on us vs s after xs ys h (settled h) place (place_behind place turn) d.events (Came turn x ∷ []) laws.order front d.come
             (λ f' fit. carries-decided s xs ys h turn place (place_behind place turn) h.source.block p waits held (λ f fit fs gs before behind. laws.decided_left p held f fit fs gs before behind) f' fit);
@@ -182,12 +184,14 @@ decided-goes us vs s before xs ys h place turn asked stand stand' drain drain' d
         passed = within;
         counted = counted-more decided stand.tally stand'.tally d.counted grows;
         ended = laws.ended;
-      });
+      };
       at_most_one = omega arith;
       form = t.form;
       once = elim t.few [
-        | inl none ↦ once-nothing (first_link (wholes_of (us ++ s ∷ vs))) before drain drain' d.packets d.reports d.output (took-nothing none)
-        | inr one ↦ once-packet (first_link (wholes_of (us ++ s ∷ vs))) before drain drain' d.packets one.0 d.reports d.output (took-one one.0 one.1) t.form
+        | inl none ↦ once-nothing (first_link (wholes_of (us ++ s ∷ vs))) (way_of d) (stands_at new (d.packets ++ t.passed) d.reports) drain drain'
+            (ap (λ (l : List Captured). d.packets ++ l) none ∙ append-nil d.packets) refl (took-nothing none)
+        | inr one ↦ once-packet (first_link (wholes_of (us ++ s ∷ vs))) before (way_of d) (stands_at new (d.packets ++ t.passed) d.reports) drain drain' one.0 d.output (took-one one.0 one.1) t.form
+            (ap (λ (l : List Captured). d.packets ++ l) one.1) refl
       ];
       output = t.failures;
       names = t.names;
@@ -238,145 +242,134 @@ last-took asked w before i x old new stand' code_verdict.Skip q told offers has 
 
 -- ---- it is not put
 
+-- the next packet that would be written, as a failed write has it
+abbrev AnswersNext : {ss : List Stood} {before : List ℕ} {old : MachineStand} → Decided ss before old → MachineStand → Captured → Type 0
+AnswersNext {ss} {before} {old} d new q = refused_by (form_of old) d.packets q ≡ None → (bytes : List ℕ) → bytes ≡ packet_bytes (form_of old) d.packets q → NextPacket d new bytes
+
 -- the device failed at a packet
-stops-writing : (ss : List Stood) (before : List ℕ) (heads : List HeadView) (place : Place) (asked : Asked) (stand stand' : Stand) (names : List (List ℕ)) (sink sink' : SinkView) (decided : ℕ) (new : MachineStand) (packets : List Captured) (reports : List Report) (es : List Event) (e : Event) (q : Captured) (o : Option Close)
-    → Ahead ss heads place es e → way asked (AsCapture sink.format) set_out es ≡ stands_at (mk heads place asked stand (record { names = names; target = Capture sink }) decided) packets reports → HasPackets before sink packets
-    → goes asked (AsCapture sink.format) (stands_at (mk heads place asked stand (record { names = names; target = Capture sink }) decided) packets reports) e
-    ≡ course_spec.decided (stands_at (mk heads place asked stand (record { names = names; target = Capture sink }) decided) packets reports) stand' (q ∷ []) o
-    → WhyUnput WriteFailed sink packets q sink' → new.drain.target ≡ Capture sink'
-    → StopsWriting ss before (mk heads place asked stand (record { names = names; target = Capture sink }) decided) new
-stops-writing ss before heads place asked stand stand' names sink sink' decided new packets reports es e q o ahead far has went why is =
+stops-writing : (ss : List Stood) (before : List ℕ) (heads : List HeadView) (place : Place) (asked : Asked) (stand stand' : Stand) (names : List (List ℕ)) (sink sink' : SinkView) (decided : ℕ) (new : MachineStand) (e : Event) (q : Captured) (o : Option Close)
+    → (d : Decided ss before (mk heads place asked stand (record { names = names; target = Capture sink }) decided)) → Ahead ss heads place d.events e
+    → goes asked (AsCapture sink.format) (way_of d) e ≡ course_spec.decided (way_of d) stand' (q ∷ []) o
+    → AnswersNext d new q → WhyUnput WriteFailed sink d.packets q sink' → new.drain.target ≡ Capture sink'
+    → StopsWriting d new
+stops-writing ss before heads place asked stand stand' names sink sink' decided new e q o d ahead went answers why is =
     let form : Form = AsCapture sink.format in
-    let w : Way = stands_at (mk heads place asked stand (record { names = names; target = Capture sink }) decided) packets reports in
+    let packets : List Captured = d.packets in
+    let w : Way = way_of d in
     let w' : Way = course_spec.decided w stand' (q ∷ []) o in
     let all : Way = course asked form (fed (ordering_of place) (wholes_of ss)) in
-    let grows : Grows w' all = course-grows asked form (fed (ordering_of place) (wholes_of ss)) ahead.more (es ++ e ∷ []) w'
-    (ahead.is ∙ ap (λ (l : List Event). record { events = l; close = ahead.more.close }) (sym (append_assoc es (e ∷ []) ahead.more.events)))
-    (way-next asked form es e w w' far went) in
+    let grows : Grows w' all = course-grows asked form (fed (ordering_of place) (wholes_of ss)) ahead.more (d.events ++ e ∷ []) w'
+    (ahead.is ∙ ap (λ (l : List Event). record { events = l; close = ahead.more.close }) (sym (append_assoc d.events (e ∷ []) ahead.more.events)))
+    (way-next asked form d.events e w w' d.way went) in
     let closes : List ℕ = course_spec.closing_by all.end form (first_link (wholes_of ss)) all.packets in
     let tail : List ℕ = packets_text sink.format (packets ++ q ∷ []) grows.packets in
     record {
       failures = ap failures_to is ∙ why.1;
-      front = text sink.format packets;
       bytes = added sink.format packets q;
+      answer = inl (answers why.0 (added sink.format packets q) refl);
       back = tail ++ closes;
-      one = record { packets = packets; reports = reports; so_far = refl; answer = inl (q, text-more sink.format packets q [] ∙ ap (λ (l : List ℕ). text sink.format packets ++ l) (append-nil (added sink.format packets q))) };
       whole =
           ap (λ (l : List Captured). text sink.format l ++ closes) (grows.packets_is ∙ append_assoc packets (q ∷ []) grows.packets)
           ∙ ap (λ (l : List ℕ). l ++ closes) (text-more sink.format packets q grows.packets)
           ∙ append_assoc (text sink.format packets) (added sink.format packets q ++ tail) closes
           ∙ ap (λ (l : List ℕ). text sink.format packets ++ l) (append_assoc (added sink.format packets q) tail closes);
-      so_far = has.written;
+      so_far = d.output.written;
       stops = (let S : Target → Type 0 = λ t. Stops sink.written (added sink.format packets q) (written_to t) in subst S (sym is) why.2);
     }
 
 -- the device failed at the line of a packet
-stops-line : (ss : List Stood) (before : List ℕ) (heads : List HeadView) (place : Place) (asked : Asked) (stand stand' : Stand) (drain : DrainView) (options : Options) (bytes after : List ℕ) (failures room decided : ℕ) (new : MachineStand) (packets : List Captured) (reports : List Report) (es : List Event) (e : Event) (q : Captured) (o : Option Close)
-    → drain.target ≡ Lines options bytes failures room
-    → Ahead ss heads place es e → way asked (AsLines options) set_out es ≡ stands_at (mk heads place asked stand drain decided) packets reports → bytes ≡ before ++ lines_text options packets
-    → goes asked (AsLines options) (stands_at (mk heads place asked stand drain decided) packets reports) e
-    ≡ course_spec.decided (stands_at (mk heads place asked stand drain decided) packets reports) stand' (q ∷ []) o
-    → Stops bytes (printed options q) after → new.drain.target ≡ Lines options after (failures + 1) room
-    → StopsWriting ss before (mk heads place asked stand drain decided) new
-stops-line ss before heads place asked stand stand' drain options bytes after failures room decided new packets reports es e q o target ahead far has went stops is =
+stops-line : (ss : List Stood) (before : List ℕ) (heads : List HeadView) (place : Place) (asked : Asked) (stand stand' : Stand) (names : List (List ℕ)) (options : Options) (bytes after : List ℕ) (failures room decided : ℕ) (new : MachineStand) (e : Event) (q : Captured) (o : Option Close)
+    → (d : Decided ss before (mk heads place asked stand (record { names = names; target = Lines options bytes failures room }) decided)) → Ahead ss heads place d.events e
+    → goes asked (AsLines options) (way_of d) e ≡ course_spec.decided (way_of d) stand' (q ∷ []) o
+    → AnswersNext d new q → Stops bytes (printed options q) after → new.drain.target ≡ Lines options after (failures + 1) room
+    → StopsWriting d new
+stops-line ss before heads place asked stand stand' names options bytes after failures room decided new e q o d ahead went answers stops is =
     let form : Form = AsLines options in
-    let form_is : form_at drain ≡ form = ap (form_to drain.names) target in
-    let w : Way = stands_at (mk heads place asked stand drain decided) packets reports in
+    let packets : List Captured = d.packets in
+    let w : Way = way_of d in
     let w' : Way = course_spec.decided w stand' (q ∷ []) o in
     let all : Way = course asked form (fed (ordering_of place) (wholes_of ss)) in
-    let grows : Grows w' all = course-grows asked form (fed (ordering_of place) (wholes_of ss)) ahead.more (es ++ e ∷ []) w'
-    (ahead.is ∙ ap (λ (l : List Event). record { events = l; close = ahead.more.close }) (sym (append_assoc es (e ∷ []) ahead.more.events)))
-    (way-next asked form es e w w' far went) in
+    let grows : Grows w' all = course-grows asked form (fed (ordering_of place) (wholes_of ss)) ahead.more (d.events ++ e ∷ []) w'
+    (ahead.is ∙ ap (λ (l : List Event). record { events = l; close = ahead.more.close }) (sym (append_assoc d.events (e ∷ []) ahead.more.events)))
+    (way-next asked form d.events e w w' d.way went) in
     let closes : List ℕ = course_spec.closing_by all.end form (first_link (wholes_of ss)) all.packets in
     let tail : List ℕ = lines_text options grows.packets in
-    let S : Target → Type 0 = λ t. Stops (written_to t) (printed options q) (written_to new.drain.target) in
     let T : Target → Type 0 = λ t. Stops bytes (printed options q) (written_to t) in
-    let O : Form → Type 0 = λ f. OneAnswer f (first_link (wholes_of ss)) (lines_text options packets) (printed options q) in
     record {
-      failures = ap failures_to is ∙ ap (λ (t : Target). failures_to t + 1) (sym target);
-      front = lines_text options packets;
+      failures = ap failures_to is;
       bytes = printed options q;
+      answer = inl (answers refl (printed options q) refl);
       back = tail ++ closes;
-      one = subst O (sym form_is) (record {
-        packets = packets;
-        reports = reports;
-        so_far = refl;
-        answer = inl (q, lines-one options packets q);
-      });
       whole =
-          ap (λ (f : Form). output f (first_link (wholes_of ss)) (course asked f (fed (ordering_of place) (wholes_of ss)))) form_is
-          ∙ ap (λ (l : List Captured). lines_text options l ++ closes) grows.packets_is
+          ap (λ (l : List Captured). lines_text options l ++ closes) grows.packets_is
           ∙ ap (λ (l : List ℕ). l ++ closes) (lines-more options packets q grows.packets)
           ∙ append_assoc (lines_text options packets) (printed options q ++ tail) closes
           ∙ ap (λ (l : List ℕ). lines_text options packets ++ l) (append_assoc (printed options q) tail closes);
-      so_far = ap written_to target ∙ has;
-      stops = subst S (sym target) (subst T (sym is) stops);
+      so_far = d.output;
+      stops = subst T (sym is) stops;
     }
 
 -- ---- what an answer leaves
 
 -- a packet that passes isn't put into a capture
-unput-capture : (ss : List Stood) (before : List ℕ) (heads : List HeadView) (place : Place) (turn : ℕ) (asked : Asked) (stand stand' : Stand) (names : List (List ℕ)) (sink sink' : SinkView) (decided : ℕ) (new : MachineStand) (packets : List Captured) (reports : List Report) (es : List Event) (x : Placed) (q : Captured) (o : Option Close) (fault : Fault)
-    → Ahead ss heads place es (Came turn x) → way asked (AsCapture sink.format) set_out es ≡ stands_at (mk heads place asked stand (record { names = names; target = Capture sink }) decided) packets reports → HasPackets before sink packets
-    → goes asked (AsCapture sink.format) (stands_at (mk heads place asked stand (record { names = names; target = Capture sink }) decided) packets reports) (Came turn x)
-    ≡ unless_refused (refused sink.format packets q) (stands_at (mk heads place asked stand (record { names = names; target = Capture sink }) decided) packets reports) turn x stand' q o
+unput-capture : (ss : List Stood) (before : List ℕ) (heads : List HeadView) (place : Place) (turn : ℕ) (asked : Asked) (stand stand' : Stand) (names : List (List ℕ)) (sink sink' : SinkView) (decided : ℕ) (new : MachineStand) (x : Placed) (q : Captured) (o : Option Close) (fault : Fault)
+    → (d : Decided ss before (mk heads place asked stand (record { names = names; target = Capture sink }) decided)) → Ahead ss heads place d.events (Came turn x)
+    → goes asked (AsCapture sink.format) (way_of d) (Came turn x) ≡ unless_refused (refused sink.format d.packets q) (way_of d) turn x stand' q o
     → feeding.Tells place heads (next.Answer turn) → new.feed ≡ record { heads = heads; place = place } → (head : HeadView) → Among new.feed.heads turn head → head.source.offset ≡ x.offset
-    → WhyUnput fault sink packets q sink' → new.drain.target ≡ Capture sink'
-    → EndLeaves ss before (mk heads place asked stand (record { names = names; target = Capture sink }) decided) (unwritten turn fault) new
-unput-capture ss before heads place turn asked stand stand' names sink sink' decided new packets reports es x q o WriteFailed ahead far has went tells same_feed head among offset why is =
-    stops-writing ss before heads place asked stand stand' names sink sink' decided new packets reports es (Came turn x) q o ahead far has
-    (went ∙ ap (λ (f : Option Fault). unless_refused f (stands_at (mk heads place asked stand (record { names = names; target = Capture sink }) decided) packets reports) turn x stand' q o) why.0) why is
-unput-capture ss before heads place turn asked stand stand' names sink sink' decided new packets reports es x q o NoMemory ahead far has went tells same_feed head among offset why is =
+    → AnswersNext d new q → WhyUnput fault sink d.packets q sink' → new.drain.target ≡ Capture sink'
+    → EndLeaves d (unwritten turn fault) new
+unput-capture ss before heads place turn asked stand stand' names sink sink' decided new x q o WriteFailed d ahead went tells same_feed head among offset answers why is =
+    stops-writing ss before heads place asked stand stand' names sink sink' decided new (Came turn x) q o d ahead
+    (went ∙ ap (λ (f : Option Fault). unless_refused f (way_of d) turn x stand' q o) why.0) answers why is
+unput-capture ss before heads place turn asked stand stand' names sink sink' decided new x q o NoMemory d ahead went tells same_feed head among offset answers why is =
     record { head = head; among = among; why = inr (inr (record { next = tells; feed = same_feed; why = refl; written = ap written_to is ∙ why.0; device = ap failures_to is ∙ why.1 })) }
-unput-capture ss before heads place turn asked stand stand' names sink sink' decided new packets reports es x q o fault ahead far has went tells same_feed head among offset why is =
+unput-capture ss before heads place turn asked stand stand' names sink sink' decided new x q o fault d ahead went tells same_feed head among offset answers why is =
     let m : MachineStand = mk heads place asked stand (record { names = names; target = Capture sink }) decided in
-    let w : Way = stands_at m packets reports in
+    let w : Way = way_of d in
     let stop : course asked (AsCapture sink.format) (fed (ordering_of place) (wholes_of ss)) ≡ stops_at w (Broken turn fault x.offset) =
-    stops-course ss heads place es (Came turn x) asked (AsCapture sink.format) w (stops_at w (Broken turn fault x.offset)) (Broken turn fault x.offset) ahead far refl
+    stops-course ss heads place d.events (Came turn x) asked (AsCapture sink.format) w (stops_at w (Broken turn fault x.offset)) (Broken turn fault x.offset) ahead d.way refl
     (went ∙ ap (λ (f : Option Fault). unless_refused f w turn x stand' q o) why.0) refl in
     record {
       head = head;
       among = among;
-      why = inl (rw offset (comes-broken (wholes_of ss) before m new packets reports turn fault x.offset stop has (ap written_to is ∙ why.1) (ap failures_to is ∙ why.2)));
+      why = inl (rw offset (comes-broken ss before m (wholes_of ss) d new turn fault x.offset stop (ap written_to is ∙ why.1) (ap failures_to is ∙ why.2)));
     }
 
-unput-leaves : (ss : List Stood) (before : List ℕ) (heads : List HeadView) (place : Place) (turn : ℕ) (asked : Asked) (stand stand' : Stand) (names : List (List ℕ)) (target : Target) (decided : ℕ) (new : MachineStand) (packets : List Captured) (reports : List Report) (es : List Event) (x : Placed) (q : Captured) (o : Option Close) (fault : Fault)
-    → Ahead ss heads place es (Came turn x) → way asked (form_to names target) set_out es ≡ stands_at (mk heads place asked stand (record { names = names; target = target }) decided) packets reports → DrainedTo before names target packets reports
-    → goes asked (form_to names target) (stands_at (mk heads place asked stand (record { names = names; target = target }) decided) packets reports) (Came turn x)
-    ≡ unless_refused (refused_by (form_to names target) packets q) (stands_at (mk heads place asked stand (record { names = names; target = target }) decided) packets reports) turn x stand' q o
+unput-leaves : (ss : List Stood) (before : List ℕ) (heads : List HeadView) (place : Place) (turn : ℕ) (asked : Asked) (stand stand' : Stand) (names : List (List ℕ)) (target : Target) (decided : ℕ) (new : MachineStand) (x : Placed) (q : Captured) (o : Option Close) (fault : Fault)
+    → (d : Decided ss before (mk heads place asked stand (record { names = names; target = target }) decided)) → Ahead ss heads place d.events (Came turn x)
+    → goes asked (form_to names target) (way_of d) (Came turn x) ≡ unless_refused (refused_by (form_to names target) d.packets q) (way_of d) turn x stand' q o
     → feeding.Tells place heads (next.Answer turn) → new.feed ≡ record { heads = heads; place = place } → (head : HeadView) → Among new.feed.heads turn head → head.source.offset ≡ x.offset
-    → PutsTo q target (Err fault) new.drain.target
-    → EndLeaves ss before (mk heads place asked stand (record { names = names; target = target }) decided) (unwritten turn fault) new
-unput-leaves ss before heads place turn asked stand stand' names (Capture sink) decided new packets reports es x q o fault ahead far has went tells same_feed head among offset puts =
-    unput-capture ss before heads place turn asked stand stand' names sink puts.sink decided new packets reports es x q o fault ahead far has went tells same_feed head among offset
-    (unput before packets q sink puts.sink fault has puts.puts puts.writes) puts.is
-unput-leaves ss before heads place turn asked stand stand' names (Text bytes failures room) decided new packets reports es x q o fault ahead far has went tells same_feed head among offset puts = absurd (let e = puts.0 in cc)
-unput-leaves ss before heads place turn asked stand stand' names (Lines options bytes failures room) decided new packets reports es x q o fault ahead far has went tells same_feed head among offset puts =
-    let m : MachineStand = mk heads place asked stand (record { names = names; target = Lines options bytes failures room }) decided in
-    let L : Fault → Type 0 = λ f. EndLeaves ss before m (unwritten turn f) new in
+    → AnswersNext d new q → PutsTo q target (Err fault) new.drain.target
+    → EndLeaves d (unwritten turn fault) new
+unput-leaves ss before heads place turn asked stand stand' names (Capture sink) decided new x q o fault d ahead went tells same_feed head among offset answers puts =
+    unput-capture ss before heads place turn asked stand stand' names sink puts.sink decided new x q o fault d ahead went tells same_feed head among offset answers
+    (unput before d.packets q sink puts.sink fault d.output puts.puts puts.writes) puts.is
+unput-leaves ss before heads place turn asked stand stand' names (Text bytes failures room) decided new x q o fault d ahead went tells same_feed head among offset answers puts = absurd (let e = puts.0 in cc)
+unput-leaves ss before heads place turn asked stand stand' names (Lines options bytes failures room) decided new x q o fault d ahead went tells same_feed head among offset answers puts =
+    let L : Fault → Type 0 = λ f. EndLeaves d (unwritten turn f) new in
     subst L (sym puts.fault)
-    (stops-line ss before heads place asked stand stand' (record { names = names; target = Lines options bytes failures room }) options bytes puts.after failures room decided new packets reports es (Came turn x) q o refl ahead far has went puts.appends puts.is)
+    (stops-line ss before heads place asked stand stand' names options bytes puts.after failures room decided new (Came turn x) q o d ahead went answers puts.appends puts.is)
 
-reject-leaves : (ss : List Stood) (before : List ℕ) (heads : List HeadView) (place : Place) (turn : ℕ) (asked : Asked) (stand stand' : Stand) (drain : DrainView) (decided : ℕ) (new : MachineStand) (packets : List Captured) (reports : List Report) (es : List Event) (x : Placed) (fault : Fault)
-    → Ahead ss heads place es (Came turn x) → way asked (form_at drain) set_out es ≡ stands_at (mk heads place asked stand drain decided) packets reports → Drained before drain packets reports
+reject-leaves : (ss : List Stood) (before : List ℕ) (heads : List HeadView) (place : Place) (turn : ℕ) (asked : Asked) (stand stand' : Stand) (drain : DrainView) (decided : ℕ) (new : MachineStand) (x : Placed) (fault : Fault)
+    → (d : Decided ss before (mk heads place asked stand drain decided)) → Ahead ss heads place d.events (Came turn x)
     → Tells (verdict asked stand (decided + 1) x.packet) (Err fault) x.packet stand'
     → (head : HeadView) → Among new.feed.heads turn head → head.source.offset ≡ x.offset → new.drain ≡ drain → (fault ≡ WriteFailed → ⊥)
-    → EndLeaves ss before (mk heads place asked stand drain decided) (unwritten turn fault) new
-reject-leaves ss before heads place turn asked stand stand' drain decided new packets reports es x fault ahead far has told head among offset same device =
-    let w : Way = stands_at (mk heads place asked stand drain decided) packets reports in
+    → EndLeaves d (unwritten turn fault) new
+reject-leaves ss before heads place turn asked stand stand' drain decided new x fault d ahead told head among offset same device =
+    let w : Way = way_of d in
     let kept : written_by new ≡ written_to drain.target = ap (λ (v : DrainView). written_to v.target) same in
-    let B : Type 0 = EndLeaves ss before (mk heads place asked stand drain decided) (end.Broken turn fault) new in
+    let B : Type 0 = EndLeaves d (end.Broken turn fault) new in
     let breaks : B = record {
       head = head;
       among = among;
-      why = inl (rw offset (comes-broken (wholes_of ss) before (mk heads place asked stand drain decided) new packets reports turn fault x.offset
-          (stops-course ss heads place es (Came turn x) asked (form_at drain) w (stops_at w (Broken turn fault x.offset)) (Broken turn fault x.offset) ahead far refl
+      why = inl (rw offset (comes-broken ss before (mk heads place asked stand drain decided) (wholes_of ss) d new turn fault x.offset
+          (stops-course ss heads place d.events (Came turn x) asked (form_at drain) w (stops_at w (Broken turn fault x.offset)) (Broken turn fault x.offset) ahead d.way refl
           (ap (λ (v : Verdict). by_verdict (form_at drain) w turn x v (verdict asked stand (decided + 1) x.packet).stand) told) refl)
-          has kept (ap (λ (v : DrainView). failures_to v.target) same)));
+          kept (ap (λ (v : DrainView). failures_to v.target) same)));
     } in
     other fault device breaks
   where
-    other : (f : Fault) → (f ≡ WriteFailed → ⊥) → EndLeaves ss before (mk heads place asked stand drain decided) (end.Broken turn f) new → EndLeaves ss before (mk heads place asked stand drain decided) (unwritten turn f) new
+    other : (f : Fault) → (f ≡ WriteFailed → ⊥) → EndLeaves d (end.Broken turn f) new → EndLeaves d (unwritten turn f) new
     other WriteFailed device breaks = absurd (device refl)
     other f device breaks = breaks
 
@@ -447,16 +440,16 @@ never-device : (asked : Asked) (stand stand' : Stand) (number : ℕ) (p : Captur
 never-device asked stand stand' number p fault told is = (let P : Verdict → Type 0 = λ v. Own v in subst P told (own-verdict asked stand number p)) is
 
 -- what an answer leaves: `new` is the machine where the packet is decided, `failed` where it isn't
-abbrev pub AnswerLeaves : List Stood → List ℕ → MachineStand → ℕ → Result Bool Fault → MachineStand → MachineStand → Type 0
-AnswerLeaves ss before old i (Ok false) new failed = GoesOn ss before old new
-AnswerLeaves ss before old i (Ok true) new failed = Comes (wholes_of ss) before old new Over
-AnswerLeaves ss before old i (Err fault) new failed = EndLeaves ss before old (unwritten i fault) failed
+abbrev pub AnswerLeaves : {ss : List Stood} {before : List ℕ} {old : MachineStand} → Decided ss before old → ℕ → Result Bool Fault → MachineStand → MachineStand → Type 0
+AnswerLeaves {ss} {before} {old} d i (Ok false) new failed = GoesOn d new
+AnswerLeaves {ss} {before} {old} d i (Ok true) new failed = Comes (wholes_of ss) d new Over
+AnswerLeaves {ss} {before} {old} d i (Err fault) new failed = EndLeaves d (unwritten i fault) failed
 
 answer-core : (us vs : List Stood) (s : Stood) (before : List ℕ) (xs ys : List HeadView) (h : HeadView) (place : Place) (turn : ℕ) (asked : Asked) (stand stand' : Stand) (drain drain' : DrainView) (decided : ℕ) (p : Captured) (r : Result Bool Fault)
     → DecideLaws place turn xs ys h → feeding.Tells place (xs ++ h ∷ ys) (next.Answer turn) → Standing us xs → At s h → Standing vs ys → h.source.packet ≡ Some p → stand'.passed ≤ decided + 1 → GrowsByOne stand.tally stand'.tally
     → (d : Decided (us ++ s ∷ vs) before (mk (xs ++ h ∷ ys) place asked stand drain decided))
     → Decides (Some p) (record { asked = asked; stand = stand }) (decided + 1) drain r (record { asked = asked; stand = stand' }) drain'
-    → AnswerLeaves (us ++ s ∷ vs) before (mk (xs ++ h ∷ ys) place asked stand drain decided) turn r (mk (xs ++ settled h ∷ ys) (place_behind place turn) asked stand' drain' (decided + 1)) (mk (xs ++ h ∷ ys) place asked stand' drain' decided)
+    → AnswerLeaves d turn r (mk (xs ++ settled h ∷ ys) (place_behind place turn) asked stand' drain' (decided + 1)) (mk (xs ++ h ∷ ys) place asked stand' drain' decided)
 answer-core us vs s before xs ys h place turn asked stand stand' drain drain' decided p (Ok false) laws tells front at back held within grows d decides =
     elim decides [
       | inl j ↦ decided-goes us vs s before xs ys h place turn asked stand stand' drain drain' decided p laws front at back held within grows d
@@ -476,7 +469,8 @@ answer-core us vs s before xs ys h place turn asked stand stand' drain drain' de
             written =
                 closing-some before drain'.names (form_at drain) drain'.target (first_link (wholes_of (us ++ s ∷ vs))) (d.packets ++ l.packet ∷ []) d.reports (decided + 1) stand' l.output l.form (some d.packets l.packet)
                 ∙ ap (λ (v : Way). before ++ output (form_at drain) (first_link (wholes_of (us ++ s ∷ vs))) v) (sym stop);
-            once = once-packet (first_link (wholes_of (us ++ s ∷ vs))) before drain drain' d.packets l.packet d.reports d.output l.output l.form;
+            once = once-packet (first_link (wholes_of (us ++ s ∷ vs))) before w (course_over (mk (xs ++ h ∷ ys) place asked stand drain decided) (wholes_of (us ++ s ∷ vs))) drain drain' l.packet d.output l.output l.form
+                (ap (λ (v : Way). v.packets) stop) (ap (λ (v : Way). v.reports) stop);
             device = l.failures;
           }
       | inr x ↦ absurd (let e = x.answer in cc)
@@ -490,7 +484,7 @@ answer-core us vs s before xs ys h place turn asked stand stand' drain drain' de
       | inl j ↦ by_verdict_of j.answer j.packet j.told j.offers
       | inr j ↦
           let e : fault ≡ j.fault = (let e = j.answer in cc) in
-          rw e (reject-leaves (us ++ s ∷ vs) before (xs ++ h ∷ ys) place turn asked stand stand' drain decided failed d.packets d.reports d.events x j.fault ahead d.way d.output j.told h here refl j.same (never-device asked stand stand' (decided + 1) p j.fault j.told))
+          rw e (reject-leaves (us ++ s ∷ vs) before (xs ++ h ∷ ys) place turn asked stand stand' drain decided failed x j.fault d ahead j.told h here refl j.same (never-device asked stand stand' (decided + 1) p j.fault j.told))
     ]
   where
     x : Placed
@@ -508,20 +502,35 @@ answer-core us vs s before xs ys h place turn asked stand stand' drain drain' de
     w : Way
     w = stands_at (mk (xs ++ h ∷ ys) place asked stand drain decided) d.packets d.reports
 
-    by_verdict_of : (v : code.Verdict) (q : Captured) → Tells (verdict asked stand (decided + 1) p) (Ok v) q stand' → Offers v q drain (Err fault) drain' → EndLeaves (us ++ s ∷ vs) before (mk (xs ++ h ∷ ys) place asked stand drain decided) (unwritten turn fault) failed
+    answers : (q : Captured) → PassesAs (verdict asked stand (decided + 1) p).verdict q → AnswersNext d failed q
+    answers q passes = λ taken bytes is. record {
+      input = turn;
+      next = tells;
+      head = h;
+      among = here;
+      packet = p;
+      held = held;
+      passed = q;
+      passes = passes;
+      taken = taken;
+      bytes_are = is;
+      feed = refl;
+    }
+
+    by_verdict_of : (v : code.Verdict) (q : Captured) → Tells (verdict asked stand (decided + 1) p) (Ok v) q stand' → Offers v q drain (Err fault) drain' → EndLeaves d (unwritten turn fault) failed
     by_verdict_of code_verdict.Pass q told offers =
-        unput-leaves (us ++ s ∷ vs) before (xs ++ h ∷ ys) place turn asked stand stand' drain.names drain.target decided failed d.packets d.reports d.events x q None fault ahead d.way d.output
-        (goes-by asked (form_at drain) w turn x (Pass q) stand' told.0 told.1) tells refl h here refl offers.target
+        unput-leaves (us ++ s ∷ vs) before (xs ++ h ∷ ys) place turn asked stand stand' drain.names drain.target decided failed x q None fault d ahead
+        (goes-by asked (form_at drain) w turn x (Pass q) stand' told.0 told.1) tells refl h here refl (answers q (let A : Verdict → Type 0 = λ v. PassesAs v q in subst A told.0 refl)) offers.target
     by_verdict_of code_verdict.Last q told offers =
-        unput-leaves (us ++ s ∷ vs) before (xs ++ h ∷ ys) place turn asked stand stand' drain.names drain.target decided failed d.packets d.reports d.events x q (Some Over) fault ahead d.way d.output
-        (goes-by asked (form_at drain) w turn x (Last q) stand' told.0 told.1) tells refl h here refl offers.target
+        unput-leaves (us ++ s ∷ vs) before (xs ++ h ∷ ys) place turn asked stand stand' drain.names drain.target decided failed x q (Some Over) fault d ahead
+        (goes-by asked (form_at drain) w turn x (Last q) stand' told.0 told.1) tells refl h here refl (answers q (let A : Verdict → Type 0 = λ v. PassesAs v q in subst A told.0 refl)) offers.target
     by_verdict_of code_verdict.Skip q told offers = absurd (let e = offers.0 in cc)
 
 pub answer-leaves : (ss : List Stood) (before : List ℕ) (heads : List HeadView) (place : Place) (asked : Asked) (stand : Stand) (drain : DrainView) (decided i : ℕ) (r : Result Bool Fault) (h : HeadView) (judge' : JudgeStand) (drain' : DrainView)
     → feeding.Tells place heads (next.Answer i) → Among heads i h → judge'.asked ≡ asked → (stand.passed ≤ decided + 1 → judge'.stand.passed ≤ decided + 1) → GrowsByOne stand.tally judge'.stand.tally → decided ≤ most_steps
     → (stand.passed < decided + 1 → IsWithin most_steps stand.tally → Decides h.source.packet (record { asked = asked; stand = stand }) (decided + 1) drain r judge' drain')
-    → Decided ss before (mk heads place asked stand drain decided)
-    → AnswerLeaves ss before (mk heads place asked stand drain decided) i r (mk (slice_set heads i (settled h)) (place_behind place i) asked judge'.stand drain' (decided + 1)) (mk heads place asked judge'.stand drain' decided)
+    → (d : Decided ss before (mk heads place asked stand drain decided))
+    → AnswerLeaves d i r (mk (slice_set heads i (settled h)) (place_behind place i) asked judge'.stand drain' (decided + 1)) (mk heads place asked judge'.stand drain' decided)
 answer-leaves ss before heads place asked stand drain decided i r other judge' drain' tells among_other asks passes grows few decides d =
     let at : DecideAt place heads i = decide-at place heads i tells d.ended in
     let among = at.among in
@@ -530,7 +539,6 @@ answer-leaves ss before heads place asked stand drain decided i r other judge' d
     let D : List HeadView → Type 0 = λ l. Decided ss before (mk l place asked stand drain decided) in
     let d' = subst D among.splits d in
     let st = stands-split ss among.front among.back h d'.standing in
-    let E : List Stood → Type 0 = λ l. Decided l before (mk (among.front ++ h ∷ among.back) place asked stand drain decided) in
     let T : List HeadView → Type 0 = λ l. feeding.Tells place l (next.Answer i) in
     let W : Bool → Type 0 = λ b. IsAt st.here.text st.here.done st.here.packets b h.source in
     let was : IsAt st.here.text st.here.done st.here.packets true h.source = subst W at.laws.waits st.at in
@@ -540,11 +548,15 @@ answer-leaves ss before heads place asked stand drain decided i r other judge' d
     let C' : Asked → Type 0 = λ k. Decides (Some has.packet) (record { asked = asked; stand = stand }) (decided + 1) drain r (record { asked = k; stand = judge'.stand }) drain' in
     let held : other.source.packet ≡ Some has.packet = ap (λ (v : HeadView). v.source.packet) same ∙ has.held in
     let chosen = subst C' asks (subst C held (decides within (within-more decided most_steps stand.tally few d.counted))) in
-    let core = answer-core st.front st.back st.here before among.front among.back h place i asked stand judge'.stand drain drain' decided has.packet r at.laws (subst T among.splits tells) st.before st.at st.behind has.held
-    (passes (let l = d.passed in omega (arith, l))) grows (subst E st.is d') chosen in
     let heads' : slice_set heads i (settled h) ≡ among.front ++ settled h ∷ among.back = ap (λ (l : List HeadView). slice_set l i (settled h)) among.splits ∙ set-here among.front among.back h (settled h) i among.place in
-    let G : List Stood → Type 0 = λ l. AnswerLeaves l before (mk (among.front ++ h ∷ among.back) place asked stand drain decided) i r (mk (among.front ++ settled h ∷ among.back) (place_behind place i) asked judge'.stand drain' (decided + 1)) (mk (among.front ++ h ∷ among.back) place asked judge'.stand drain' decided) in
-    let H : List HeadView → Type 0 = λ l. AnswerLeaves ss before (mk l place asked stand drain decided) i r (mk (among.front ++ settled h ∷ among.back) (place_behind place i) asked judge'.stand drain' (decided + 1)) (mk l place asked judge'.stand drain' decided) in
-    let I : List HeadView → Type 0 = λ l. AnswerLeaves ss before (mk heads place asked stand drain decided) i r (mk l (place_behind place i) asked judge'.stand drain' (decided + 1)) (mk heads place asked judge'.stand drain' decided) in
-    let J : HeadView → Type 0 = λ v. AnswerLeaves ss before (mk heads place asked stand drain decided) i r (mk (slice_set heads i (settled v)) (place_behind place i) asked judge'.stand drain' (decided + 1)) (mk heads place asked judge'.stand drain' decided) in
-    subst J (sym same) (subst I (sym heads') (subst H (sym among.splits) (subst G (sym st.is) core)))
+    let new : List HeadView → MachineStand = λ l. mk l (place_behind place i) asked judge'.stand drain' (decided + 1) in
+    let failed : List HeadView → MachineStand = λ l. mk l place asked judge'.stand drain' decided in
+    let passes_on : judge'.stand.passed ≤ decided + 1 = passes (let l = d.passed in omega (arith, l)) in
+    let core : (e : Decided (st.front ++ st.here ∷ st.back) before (mk (among.front ++ h ∷ among.back) place asked stand drain decided)) → AnswerLeaves e i r (new (among.front ++ settled h ∷ among.back)) (failed (among.front ++ h ∷ among.back)) = λ e.
+    answer-core st.front st.back st.here before among.front among.back h place i asked stand judge'.stand drain drain' decided has.packet r at.laws (subst T among.splits tells) st.before st.at st.behind has.held passes_on grows e chosen in
+    let G : List Stood → Type 0 = λ l. (e : Decided l before (mk (among.front ++ h ∷ among.back) place asked stand drain decided)) → AnswerLeaves e i r (new (among.front ++ settled h ∷ among.back)) (failed (among.front ++ h ∷ among.back)) in
+    let H : List HeadView → Type 0 = λ l. (e : Decided ss before (mk l place asked stand drain decided)) → AnswerLeaves e i r (new (among.front ++ settled h ∷ among.back)) (failed l) in
+    let I : List HeadView → Type 0 = λ l. AnswerLeaves d i r (new l) (failed heads) in
+    let J : HeadView → Type 0 = λ v. AnswerLeaves d i r (new (slice_set heads i (settled v))) (failed heads) in
+    let whole : H heads = subst H (sym among.splits) (subst G (sym st.is) core) in
+    subst J (sym same) (subst I (sym heads') (whole d))

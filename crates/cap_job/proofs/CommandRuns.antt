@@ -100,7 +100,7 @@ under-more tells first job new ss before gives d prepared done names asked (goes
 ended : (tells : Bool) (from job new : JobView) (s : ℕ) (ss : List Stood) (before : List ℕ) (out err : OutputView) (way : IsUnderWay ss before from.machine job.machine) → job.err ≡ from.err → job.machine.drain.names ≡ from.machine.drain.names
     → EndsJob tells job s new → out.written ≡ written_by new.machine → out.failures ≡ failures_by new.machine → err ≡ new.err → JobRuns ss before tells from s out err
 ended tells from job new s ss before out err way same names ends written failures is =
-    let N : List (List ℕ) → Type 0 = λ l. EndsAs way.stood before l job.machine new.machine ends.text s in
+    let N : List (List ℕ) → Type 0 = λ l. EndsAs way.decided l new.machine ends.text s in
     let F : OutputView → Type 0 = λ v. IsTold tells v ends.text new.err in
     let T : OutputView → Type 0 = λ v. IsTold tells from.err ends.text v in
     record {

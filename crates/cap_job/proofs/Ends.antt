@@ -10,12 +10,12 @@ use Rattle.cap_job.specs.Verdicts.{Asked}
 use Rattle.cap_job.specs.Course.{Form, Work, Outcome, outcome, out, message, status}
 use Rattle.cap_job.specs.Feed.{HeadView, Stood, Among, ordering_of}
 use Rattle.cap_tools.specs.Outcome.{OutputView}
-use Rattle.cap_job.specs.Machine.{MachineStand, Comes, EndLeaves, IsUnderWay, failures_by, form_of, written_by, texts, wholes_of, cut_at}
+use Rattle.cap_job.specs.Machine.{MachineStand, Decided, Comes, EndLeaves, IsUnderWay, failures_by, form_of, written_by, texts, wholes_of, cut_at}
 use Rattle.cap_job.specs.Jobs.{IsOut, EndsAs, EndsElse, IsOutOf, work_of, end_text, end_status, offset_at, offset_of}
 
-comes-out : (rs : List Rest) (before : List ℕ) (names : List (List ℕ)) (old new : MachineStand) (close : Close) (text : List ℕ) (s : ℕ) → Comes rs before old new close → text ≡ message names (Some close) → s ≡ status (Some close)
-    → IsOut rs before names old new text s
-comes-out rs before names old new close text s comes text_is status_is = record {
+comes-out : (ss : List Stood) (before : List ℕ) (old : MachineStand) (rs : List Rest) (d : Decided ss before old) (names : List (List ℕ)) (new : MachineStand) (close : Close) (text : List ℕ) (s : ℕ) → Comes rs d new close → text ≡ message names (Some close) → s ≡ status (Some close)
+    → IsOut rs d names new text s
+comes-out ss before old rs d names new close text s comes text_is status_is = record {
   written = comes.written;
   once = comes.once;
   device = comes.device;
@@ -30,13 +30,13 @@ get-here (x ∷ xs) ys h i is = rw (← is) (get-here xs ys h (length xs) refl)
 offset-here : (heads : List HeadView) (i : ℕ) (h : HeadView) → Among heads i h → offset_at heads i ≡ h.source.offset
 offset-here heads i h a = ap (λ (l : List HeadView). offset_at l i) a.splits ∙ ap offset_of (get-here a.front a.back h i a.place)
 
-pub ends-as : (ss : List Stood) (before : List ℕ) (names : List (List ℕ)) (old new : MachineStand) (e : End) → EndLeaves ss before old e new → EndsAs ss before names old new (end_text names new.feed.heads e) (end_status e)
-ends-as ss before names old new end.Clean leaves = inl (comes-out (wholes_of ss) before names old new Over [] 0 leaves refl refl)
-ends-as ss before names old new (end.Broken input fault) leaves =
+pub ends-as : (ss : List Stood) (before : List ℕ) (old : MachineStand) (d : Decided ss before old) (names : List (List ℕ)) (new : MachineStand) (e : End) → EndLeaves d e new → EndsAs d names new (end_text names new.feed.heads e) (end_status e)
+ends-as ss before old d names new end.Clean leaves = inl (comes-out ss before old (wholes_of ss) d names new Over [] 0 leaves refl refl)
+ends-as ss before old d names new (end.Broken input fault) leaves =
     let place = offset-here new.feed.heads input leaves.head leaves.among in
     let text : end_text names new.feed.heads (end.Broken input fault) ≡ message names (Some (Broken input fault leaves.head.source.offset)) = ap (λ n. fault_message (name_at names input) n fault) place in
     elim leaves.why [
-      | inl comes ↦ inl (comes-out (wholes_of ss) before names old new (Broken input fault leaves.head.source.offset) (end_text names new.feed.heads (end.Broken input fault)) 1 comes text refl)
+      | inl comes ↦ inl (comes-out ss before old (wholes_of ss) d names new (Broken input fault leaves.head.source.offset) (end_text names new.feed.heads (end.Broken input fault)) 1 comes text refl)
       | inr other ↦ elim other [
         | inl cut ↦ inr (inl (record {
           input = input;
@@ -44,12 +44,12 @@ ends-as ss before names old new (end.Broken input fault) leaves =
           head = leaves.head;
           among = leaves.among;
           cut = cut;
-          out = comes-out (cut_at (wholes_of ss) input cut.held) before names old new (Broken input fault leaves.head.source.offset) (end_text names new.feed.heads (end.Broken input fault)) 1 cut.comes text refl;
+          out = comes-out ss before old (cut_at (wholes_of ss) input cut.held) d names new (Broken input fault leaves.head.source.offset) (end_text names new.feed.heads (end.Broken input fault)) 1 cut.comes text refl;
         }))
         | inr wants ↦ inr (inr (inl (record { input = input; fault = fault; wants = wants; text_is = refl; status_is = refl })))
       ]
     ]
-ends-as ss before names old new end.OutputFailed leaves = inr (inr (inr (record { stops = leaves; text_is = refl; status_is = refl })))
+ends-as ss before old d names new end.OutputFailed leaves = inr (inr (inr (record { stops = leaves; text_is = refl; status_is = refl })))
 
 same-work : (ss : List Stood) (before : List ℕ) (first old : MachineStand) → IsUnderWay ss before first old → work_of old ≡ work_of first
 same-work ss before first old way =
@@ -59,7 +59,7 @@ same-work ss before first old way =
 
 -- the last step's inputs have the bytes that the first step's have
 pub ends-whole : (ss : List Stood) (before : List ℕ) (names : List (List ℕ)) (first old last : MachineStand) (output : OutputView) (text : List ℕ) (s : ℕ) (way : IsUnderWay ss before first old) → output.written ≡ written_by last → output.failures ≡ failures_by last
-    → EndsAs way.stood before names old last text s → IsOutOf (work_of first) names (texts ss) before (failures_by first) output text s ⊎ EndsElse way.stood before names old last text s
+    → EndsAs way.decided names last text s → IsOutOf (work_of first) names (texts ss) before (failures_by first) output text s ⊎ EndsElse way.decided names last text s
 ends-whole ss before names first old last output text s way is device ends =
     elim ends [
       | inl whole ↦ inl (record {

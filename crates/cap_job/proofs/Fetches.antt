@@ -25,7 +25,7 @@ use Rattle.cap_job.specs.Course.{Form, AsReports, Way, set_out, way, course, sto
 use Rattle.cap_job.specs.Drain.{DrainView, Target, Capture, Text, Lines, Drained, Reports, ReportsTo, form_at, written_to, failures_to}
 use Rattle.cap_job.specs.Feed.{HeadView, FeedView, Future, Stood, Standing, HasCome, Among, EndedBefore, Fetches, Tells, waits_from, in_hand, head_after, place_after, closes, later, whole_with, wholes, rests, left, is_in_turn, ordering_of}
 use Rattle.cap_job.specs.Reports.{report_text, reports_text}
-use Rattle.cap_job.specs.Machine.{MachineStand, AppendsOnce, Decided, GoesOn, Comes, BreaksAt, WhyBroken, StopsWriting, StepLeaves, Closes, ClosesBy, asks_report, report_at, unless_failed, stands_at, form_of, failures_by, written_by, cut_at, wholes_of}
+use Rattle.cap_job.specs.Machine.{MachineStand, AppendsOnce, Decided, GoesOn, Comes, BreaksAt, WhyBroken, StopsWriting, StepLeaves, Closes, ClosesBy, asks_report, report_at, unless_failed, stands_at, way_of, course_over, form_of, failures_by, written_by, cut_at, wholes_of}
 use Rattle.cap_job.proofs.Splits.{At, Fit, stands-split, stands-join, stands-length, fits-join, wholes-join, rests-join, finish-here, come-on}
 use Rattle.cap_job.proofs.Coming.{carries-found, carries-closed, true-wholes, true-fits, finds}
 use Rattle.cap_job.proofs.Drains.{drained-text, ReportOk, report-ok, reports-more}
@@ -33,7 +33,7 @@ use Rattle.cap_job.proofs.Growing.{Grows, course-grows}
 use Rattle.cap_job.proofs.Laws.{ReadLaws, ReadAt, closed_in, read-at}
 use Rattle.cap_job.proofs.Once.{once-nothing, once-report}
 use Rattle.cap_job.proofs.Courses.{way-append, course-close}
-use Rattle.cap_job.proofs.Heads.{never-at, never-kept, set-here}
+use Rattle.cap_job.proofs.Heads.{greatest-here, greatest-same, never-at, never-kept, set-here}
 
 abbrev pub mk : List HeadView → Place → Asked → Stand → DrainView → ℕ → MachineStand
 mk heads place asked stand drain decided = record { feed = record { heads = heads; place = place }; asked = asked; stand = stand; drain = drain; decided = decided }
@@ -52,14 +52,13 @@ among-same heads i h h' a b =
 
 found-goes : (us vs : List Stood) (s : Stood) (before : List ℕ) (xs ys : List HeadView) (h : HeadView) (s' : SourceView) (place : Place) (turn : ℕ) (asked : Asked) (stand : Stand) (drain : DrainView) (decided : ℕ)
     → ReadLaws place turn xs ys h → Standing us xs → At s h → Standing vs ys → Advances h.source.phase h.source (Ok true) s' → s'.never_fails ≡ h.source.never_fails
-    → Decided (us ++ s ∷ vs) before (mk (xs ++ h ∷ ys) place asked stand drain decided)
-    → GoesOn (us ++ s ∷ vs) before (mk (xs ++ h ∷ ys) place asked stand drain decided) (mk (xs ++ head_after h (Ok true) s' ∷ ys) (place_after place turn false) asked stand drain decided)
+    → (d : Decided (us ++ s ∷ vs) before (mk (xs ++ h ∷ ys) place asked stand drain decided))
+    → GoesOn d (mk (xs ++ head_after h (Ok true) s' ∷ ys) (place_after place turn false) asked stand drain decided)
 found-goes us vs s before xs ys h s' place turn asked stand drain decided laws front at back advances never d =
     let waits : h.waiting ≡ false = laws.waits in
     let found : FindsPacket h.source s' = finds s h s' (Ok true) at waits advances in
     let P : Bool → Type 0 = λ b. IsAt s.text s.done s.packets b h.source in
     let new : MachineStand = mk (xs ++ head_after h (Ok true) s' ∷ ys) (place_after place turn false) asked stand drain decided in
-    let D : List Stood → Type 0 = λ l. Decided l before new in
     let same : s.packets ++ [] ≡ s.packets = append-nil s.packets in
     let here : At (record { text = s.text; done = s.done ++ found.passes.passed; packets = s.packets ++ [] }) (head_after h (Ok true) s') =
     rw same (IsAt-found s.text s.done s.packets h.source s' (subst P waits at) found) in
@@ -67,8 +66,11 @@ found-goes us vs s before xs ys h s' place turn asked stand drain decided laws f
       input = turn;
       finished = found.passes.passed;
       packets = [];
-      decided = subst D (sym (finish-here us vs s turn found.passes.passed [] (stands-length us xs front ∙ laws.here))) (record {
+      stood = us ++ record { text = s.text; done = s.done ++ found.passes.passed; packets = s.packets ++ [] } ∷ vs;
+      stood_is = sym (finish-here us vs s turn found.passes.passed [] (stands-length us xs front ∙ laws.here));
+      decided = record {
         standing = stands-join us vs (record { text = s.text; done = s.done ++ found.passes.passed; packets = s.packets ++ [] }) xs ys (head_after h (Ok true) s') front here back;
+        greatest = greatest-here us vs s (record { text = s.text; done = s.done ++ found.passes.passed; packets = s.packets ++ [] }) xs ys h (head_after h (Ok true) s') front d.greatest (greatest-same h.greatest s.packets);
         events = d.events ++ [];
         come = come-on us vs s (record { text = s.text; done = s.done ++ found.passes.passed; packets = s.packets ++ [] }) xs ys h (head_after h (Ok true) s') place (place_after place turn false) d.events [] (laws.order false) front d.come
             (λ f' fit. carries-found s xs ys h s' place (place_after place turn false) laws.found_left waits advances found f');
@@ -79,10 +81,10 @@ found-goes us vs s before xs ys h s' place turn asked stand drain decided laws f
         passed = d.passed;
         counted = d.counted;
         ended = laws.found_ended (head_after h (Ok true) s') (let has = here.waits refl in waits_from has.packet refl has.held (omega arith));
-      });
+      };
       at_most_one = omega arith;
       form = refl;
-      once = once-nothing (first_link (wholes_of (us ++ s ∷ vs))) before drain drain d.packets d.reports d.output refl;
+      once = once-nothing (first_link (wholes_of (us ++ s ∷ vs))) (way_of d) (stands_at new d.packets d.reports) drain drain refl refl refl;
       output = refl;
       names = refl;
       order = laws.order false;
@@ -125,22 +127,23 @@ closed-goes : (us vs : List Stood) (s : Stood) (before : List ℕ) (xs ys : List
     → (d : Decided (us ++ s ∷ vs) before (mk (xs ++ h ∷ ys) place asked stand drain decided))
     → closed_in (ordering_of place) asked (stands_at (mk (xs ++ h ∷ ys) place asked stand drain decided) d.packets d.reports) turn (kind_of s'.declared) s'.offset
     ≡ record { number = decided; stand = stand'; packets = d.packets; reports = reports; end = None }
-    → Drained before drain' d.packets reports → AppendsOnce (first_link (wholes_of (us ++ s ∷ vs))) before drain drain' → form_at drain' ≡ form_at drain → failures_to drain'.target ≡ failures_to drain.target → drain'.names ≡ drain.names
+    → Drained before drain' d.packets reports → AppendsOnce (first_link (wholes_of (us ++ s ∷ vs))) (way_of d) (record { number = decided; stand = stand'; packets = d.packets; reports = reports; end = None }) drain drain' → form_at drain' ≡ form_at drain → failures_to drain'.target ≡ failures_to drain.target → drain'.names ≡ drain.names
     → stand'.passed ≤ decided → IsWithin decided stand'.tally
-    → GoesOn (us ++ s ∷ vs) before (mk (xs ++ h ∷ ys) place asked stand drain decided) (mk (xs ++ head_after h (Ok false) s' ∷ ys) (place_after place turn true) asked stand' drain' decided)
+    → GoesOn d (mk (xs ++ head_after h (Ok false) s' ∷ ys) (place_after place turn true) asked stand' drain' decided)
 closed-goes us vs s before xs ys h s' place turn asked stand drain decided stand' drain' reports laws front at back advances never d goes output once form failures names passed counted =
     let found : FindsEnd h.source s' = finds s h s' (Ok false) at laws.waits advances in
     let out = closed-out us vs s before xs ys h s' place turn asked stand drain decided laws front at back advances found d in
-    let new : MachineStand = mk (xs ++ head_after h (Ok false) s' ∷ ys) (place_after place turn true) asked stand' drain' decided in
-    let D : List Stood → Type 0 = λ l. Decided l before new in
     let w : Way = stands_at (mk (xs ++ h ∷ ys) place asked stand drain decided) d.packets d.reports in
     let es : List Event = laws.closed_events (kind_of s'.declared) s'.offset in
     record {
       input = turn;
       finished = found.passes.passed;
       packets = [];
-      decided = subst D (sym (finish-here us vs s turn found.passes.passed [] (stands-length us xs front ∙ laws.here))) (record {
+      stood = us ++ read-out s found.passes.passed ∷ vs;
+      stood_is = sym (finish-here us vs s turn found.passes.passed [] (stands-length us xs front ∙ laws.here));
+      decided = record {
         standing = out.standing;
+        greatest = greatest-here us vs s (read-out s found.passes.passed) xs ys h (head_after h (Ok false) s') front d.greatest (greatest-same h.greatest s.packets);
         events = d.events ++ es;
         come = out.come;
         packets = d.packets;
@@ -152,7 +155,7 @@ closed-goes us vs s before xs ys h s' place turn asked stand drain decided stand
         passed = passed;
         counted = counted;
         ended = out.ended;
-      });
+      };
       at_most_one = omega arith;
       form = form;
       once = once;
@@ -177,16 +180,16 @@ wholes_of-length [] = refl
 wholes_of-length (u ∷ us) = ap suc (wholes_of-length us)
 
 -- what the output has where the job ends by a fault behind what is decided
-pub comes-broken : (rs : List Rest) (before : List ℕ) (m new : MachineStand) (packets : List Captured) (reports : List Report) (input : ℕ) (fault : Fault) (offset : ℕ)
-    → course m.asked (form_of m) (fed (ordering_of m.feed.place) rs) ≡ stops_at (stands_at m packets reports) (Broken input fault offset) → Drained before m.drain packets reports → written_by new ≡ written_by m → failures_by new ≡ failures_by m
-    → Comes rs before m new (Broken input fault offset)
-comes-broken rs before m new packets reports input fault offset is has same device = record {
+pub comes-broken : (ss : List Stood) (before : List ℕ) (m : MachineStand) (rs : List Rest) (d : Decided ss before m) (new : MachineStand) (input : ℕ) (fault : Fault) (offset : ℕ)
+    → course_over m rs ≡ stops_at (way_of d) (Broken input fault offset) → written_by new ≡ written_by m → failures_by new ≡ failures_by m
+    → Comes rs d new (Broken input fault offset)
+comes-broken ss before m rs d new input fault offset is same device = record {
   ends = ap (λ (w : Way). w.end) is;
   written =
-      same ∙ drained-text before m.drain.names m.drain.target packets reports has
-      ∙ ap (λ (l : List ℕ). before ++ l) (sym (append-nil (written (form_of m) packets reports)))
+      same ∙ drained-text before m.drain.names m.drain.target d.packets d.reports d.output
+      ∙ ap (λ (l : List ℕ). before ++ l) (sym (append-nil (written (form_of m) d.packets d.reports)))
       ∙ ap (λ (w : Way). before ++ output (form_of m) (first_link rs) w) (sym is);
-  once = once-nothing (first_link rs) before m.drain new.drain packets reports has same;
+  once = once-nothing (first_link rs) (way_of d) (course_over m rs) m.drain new.drain (ap (λ (w : Way). w.packets) is) (ap (λ (w : Way). w.reports) is) same;
   device = device;
 }
 
@@ -210,19 +213,19 @@ risen s h s' fault at steps is = by_phase h.source.phase refl steps
 pub broken-ends : (us vs : List Stood) (s : Stood) (before : List ℕ) (xs ys : List HeadView) (h : HeadView) (s' : SourceView) (fault : Fault) (place : Place) (turn : ℕ) (asked : Asked) (stand : Stand) (drain : DrainView) (decided : ℕ)
     → ReadLaws place turn xs ys h → Tells place (xs ++ h ∷ ys) (next.Read turn) → Standing us xs → At s h → Standing vs ys → Advances h.source.phase h.source (Err fault) s'
     → Steps h.source.phase h.source (Err fault) s'
-    → Decided (us ++ s ∷ vs) before (mk (xs ++ h ∷ ys) place asked stand drain decided)
-    → WhyBroken (us ++ s ∷ vs) before (mk (xs ++ h ∷ ys) place asked stand drain decided) (mk (xs ++ head_after h (Err fault) s' ∷ ys) (place_after place turn false) asked stand drain decided) turn fault s'
+    → (d : Decided (us ++ s ∷ vs) before (mk (xs ++ h ∷ ys) place asked stand drain decided))
+    → WhyBroken d (mk (xs ++ head_after h (Err fault) s' ∷ ys) (place_after place turn false) asked stand drain decided) turn fault s'
 broken-ends us vs s before xs ys h s' fault place turn asked stand drain decided laws tells front at back advances steps d =
     let waits : h.waiting ≡ false = laws.waits in
     let found : FindsFault h.source s' fault = finds s h s' (Err fault) at waits advances in
     let P : Bool → Type 0 = λ b. IsAt s.text s.done s.packets b h.source in
     let here : IsAt s.text s.done s.packets false h.source = subst P waits at in
     elim (IsAt-fault s.text s.done s.packets h.source s' fault here found) [
-      | inl faulty ↦ inl (comes-broken (wholes_of (us ++ s ∷ vs)) before m new d.packets d.reports turn fault s'.offset
+      | inl faulty ↦ inl (comes-broken (us ++ s ∷ vs) before m (wholes_of (us ++ s ∷ vs)) d new turn fault s'.offset
           (ap (λ (l : List Rest). course asked (form_at drain) (fed (ordering_of place) l))
           (wholes_of-join us vs s ∙ ap (λ (r : Rest). wholes_of us ++ r ∷ wholes_of vs) (ap (λ (i : Items). record { greatest = 0; items = i; size = length s.text }) faulty.items))
           ∙ cut-course)
-          d.output refl refl)
+          refl refl)
       | inr cut ↦ inr (inl (record {
         front = us;
         stood = s;
@@ -236,12 +239,12 @@ broken-ends us vs s before xs ys h s' fault place turn asked stand drain decided
         held = record { packets = s.packets; declared = s'.declared; ending = FaultAt fault s'.offset };
         cut = cut.cut;
         why = elim cut.why [ inl failed ↦ let rose = risen s h s' fault at steps failed in inl (failed, rose.0, rose.1) | inr full ↦ inr full ];
-        comes = comes-broken (cut_at (wholes_of (us ++ s ∷ vs)) turn (record { packets = s.packets; declared = s'.declared; ending = FaultAt fault s'.offset })) before m new d.packets d.reports turn fault s'.offset
+        comes = comes-broken (us ++ s ∷ vs) before m (cut_at (wholes_of (us ++ s ∷ vs)) turn (record { packets = s.packets; declared = s'.declared; ending = FaultAt fault s'.offset })) d new turn fault s'.offset
             (ap (λ (l : List Rest). course asked (form_at drain) (fed (ordering_of place) l))
             (ap (λ (l : List Rest). cut_at l turn (record { packets = s.packets; declared = s'.declared; ending = FaultAt fault s'.offset })) (wholes_of-join us vs s)
             ∙ cut-here (wholes_of us) (wholes_of vs) (whole s.text) turn (record { packets = s.packets; declared = s'.declared; ending = FaultAt fault s'.offset }) (wholes_of-length us ∙ stands-length us xs front ∙ laws.here))
             ∙ cut-course)
-            d.output refl refl;
+            refl refl;
       }))
     ]
   where
@@ -304,14 +307,14 @@ told-closed InTurn Everything w i kind size is = (cc)
 
 -- the device failed at a report
 report-stops : (us vs : List Stood) (s : Stood) (before : List ℕ) (xs ys : List HeadView) (h : HeadView) (s' : SourceView) (place : Place) (turn : ℕ) (asked : Asked) (stand : Stand) (names : List (List ℕ)) (target : Target) (decided : ℕ) (stand' : Stand) (drain' : DrainView) (fault : DeviceFault)
-    → (laws : ReadLaws place turn xs ys h) → Standing us xs → At s h → Standing vs ys → Advances h.source.phase h.source (Ok false) s'
+    → (laws : ReadLaws place turn xs ys h) → Tells place (xs ++ h ∷ ys) (next.Read turn) → Standing us xs → At s h → Standing vs ys → Advances h.source.phase h.source (Ok false) s' → Steps h.source.phase h.source (Ok false) s'
     → (d : Decided (us ++ s ∷ vs) before (mk (xs ++ h ∷ ys) place asked stand (record { names = names; target = target }) decided))
     → asks_report (ordering_of place) asked ≡ true
     → ReportsTo (report_text names (report_at turn (head_after h (Ok false) s') stand.tally)) target (Err fault) drain'.target
-    → StopsWriting (us ++ s ∷ vs) before (mk (xs ++ h ∷ ys) place asked stand (record { names = names; target = target }) decided) (mk (xs ++ head_after h (Ok false) s' ∷ ys) (place_after place turn true) asked stand' drain' decided)
-report-stops us vs s before xs ys h s' place turn asked stand names (Capture sink) decided stand' drain' fault laws front at back advances d asks reports = absurd (let e = reports.0 in cc)
-report-stops us vs s before xs ys h s' place turn asked stand names (Lines options bytes failures room) decided stand' drain' fault laws front at back advances d asks reports = absurd (let e = reports.0 in cc)
-report-stops us vs s before xs ys h s' place turn asked stand names (Text bytes failures room) decided stand' drain' fault laws front at back advances d asks reports =
+    → StopsWriting d (mk (xs ++ head_after h (Ok false) s' ∷ ys) (place_after place turn true) asked stand' drain' decided)
+report-stops us vs s before xs ys h s' place turn asked stand names (Capture sink) decided stand' drain' fault laws tells front at back advances steps d asks reports = absurd (let e = reports.0 in cc)
+report-stops us vs s before xs ys h s' place turn asked stand names (Lines options bytes failures room) decided stand' drain' fault laws tells front at back advances steps d asks reports = absurd (let e = reports.0 in cc)
+report-stops us vs s before xs ys h s' place turn asked stand names (Text bytes failures room) decided stand' drain' fault laws tells front at back advances steps d asks reports =
     let form : Form = AsReports names in
     let drain : DrainView = record { names = names; target = Text bytes failures room } in
     let h' : HeadView = head_after h (Ok false) s' in
@@ -336,12 +339,25 @@ report-stops us vs s before xs ys h s' place turn asked stand names (Text bytes 
     let grows : Grows w' all = course-grows asked form (fed (ordering_of place) (wholes_of (us ++ s ∷ vs))) (left place' (rests hs' fs)) (d.events ++ es) w' is far in
     let closes : List ℕ = closing_by all.end form (first_link (wholes_of (us ++ s ∷ vs))) all.packets in
     let own : List ℕ = report_text names report in
+    let fetched : Fetches (record { heads = xs ++ h ∷ ys; place = place }) turn (Ok false) (record { heads = hs'; place = place' }) = record {
+      head = h;
+      among = record { front = xs; back = ys; place = laws.here; splits = refl };
+      source = s';
+      advances = advances;
+      steps = steps;
+      is = ap (λ (l : List HeadView). record { heads = l; place = place' }) (sym (set-here xs ys h h' turn laws.here));
+    } in
     record {
       failures = ap failures_to reports.is;
-      front = reports_text names d.reports;
       bytes = own;
+      answer = inr (inl (record {
+        input = turn;
+        next = tells;
+        fetches = fetched;
+        asked = asks;
+        bytes_are = refl;
+      }));
       back = reports_text names grows.reports ++ closes;
-      one = record { packets = d.packets; reports = d.reports; so_far = refl; answer = inr (inl (report, ap (reports_text names) (sym (append-nil (d.reports ++ report ∷ []))) ∙ reports-more names d.reports report [] ∙ ap (λ (l : List ℕ). reports_text names d.reports ++ l) (append-nil own))) };
       whole =
           ap (λ (l : List Report). reports_text names l ++ closes) grows.reports_is
           ∙ ap (λ (l : List ℕ). l ++ closes) (reports-more names d.reports report grows.reports)
@@ -352,16 +368,16 @@ report-stops us vs s before xs ys h s' place turn asked stand names (Text bytes 
     }
 
 closed-core : (us vs : List Stood) (s : Stood) (before : List ℕ) (xs ys : List HeadView) (h : HeadView) (s' : SourceView) (place : Place) (turn : ℕ) (asked : Asked) (stand : Stand) (drain : DrainView) (decided : ℕ) (r : Progress) (judge' : JudgeStand) (drain' : DrainView)
-    → (laws : ReadLaws place turn xs ys h) → Standing us xs → At s h → Standing vs ys → Advances h.source.phase h.source (Ok false) s' → s'.never_fails ≡ h.source.never_fails
+    → (laws : ReadLaws place turn xs ys h) → Tells place (xs ++ h ∷ ys) (next.Read turn) → Standing us xs → At s h → Standing vs ys → Advances h.source.phase h.source (Ok false) s' → Steps h.source.phase h.source (Ok false) s'
     → (d : Decided (us ++ s ∷ vs) before (mk (xs ++ h ∷ ys) place asked stand drain decided))
     → (b : Bool) → asks_report (ordering_of place) asked ≡ b → ClosesBy b turn (head_after h (Ok false) s') (record { asked = asked; stand = stand }) drain r judge' drain'
-    → StepLeaves (us ++ s ∷ vs) before (mk (xs ++ h ∷ ys) place asked stand drain decided) r (mk (xs ++ head_after h (Ok false) s' ∷ ys) (place_after place turn true) asked judge'.stand drain' decided)
-closed-core us vs s before xs ys h s' place turn asked stand drain decided r judge' drain' laws front at back advances never d false asks by =
+    → StepLeaves d r (mk (xs ++ head_after h (Ok false) s' ∷ ys) (place_after place turn true) asked judge'.stand drain' decided)
+closed-core us vs s before xs ys h s' place turn asked stand drain decided r judge' drain' laws tells front at back advances steps d false asks by =
     rw (by.0, by.1, by.2)
-    (closed-goes us vs s before xs ys h s' place turn asked stand drain decided stand drain d.reports laws front at back advances never d
+    (closed-goes us vs s before xs ys h s' place turn asked stand drain decided stand drain d.reports laws front at back advances (never-kept h.source s' (Ok false) steps) d
     (quiet-closed (ordering_of place) asked (stands_at (mk (xs ++ h ∷ ys) place asked stand drain decided) d.packets d.reports) turn (kind_of s'.declared) s'.offset asks)
-    d.output (once-nothing (first_link (wholes_of (us ++ s ∷ vs))) before drain drain d.packets d.reports d.output refl) refl refl refl d.passed d.counted)
-closed-core us vs s before xs ys h s' place turn asked stand drain decided r judge' drain' laws front at back advances never d true asks by =
+    d.output (once-nothing (first_link (wholes_of (us ++ s ∷ vs))) (way_of d) (way_of d) drain drain refl refl refl) refl refl refl d.passed d.counted)
+closed-core us vs s before xs ys h s' place turn asked stand drain decided r judge' drain' laws tells front at back advances steps d true asks by =
     rw (by.is, by.judge_is) (by_answer by.answer by.reports)
   where
     old : MachineStand
@@ -371,21 +387,21 @@ closed-core us vs s before xs ys h s' place turn asked stand drain decided r jud
     report = report_at turn (head_after h (Ok false) s') stand.tally
 
     by_answer : (answer : Result (Unit {0}) DeviceFault) → Reports report drain answer drain'
-        → StepLeaves (us ++ s ∷ vs) before old (unless_failed answer) (mk (xs ++ head_after h (Ok false) s' ∷ ys) (place_after place turn true) asked (emptied stand) drain' decided)
+        → StepLeaves d (unless_failed answer) (mk (xs ++ head_after h (Ok false) s' ∷ ys) (place_after place turn true) asked (emptied stand) drain' decided)
     by_answer (Ok done) reports =
         let ok : ReportOk before d.packets d.reports report drain.names drain'.names drain.target drain'.target =
         report-ok before d.packets d.reports report drain.names drain'.names drain.target drain'.target reports.names d.output reports.target in
-        closed-goes us vs s before xs ys h s' place turn asked stand drain decided (emptied stand) drain' (d.reports ++ report ∷ []) laws front at back advances never d
+        closed-goes us vs s before xs ys h s' place turn asked stand drain decided (emptied stand) drain' (d.reports ++ report ∷ []) laws front at back advances (never-kept h.source s' (Ok false) steps) d
         (told-closed (ordering_of place) asked (stands_at old d.packets d.reports) turn (kind_of s'.declared) s'.offset asks)
-        ok.output (once-report (first_link (wholes_of (us ++ s ∷ vs))) before drain drain' d.packets d.reports report d.output ok.output ok.form) ok.form ok.failures reports.names d.passed (omega arith, omega arith, omega arith)
-    by_answer (Err fault) reports = report-stops us vs s before xs ys h s' place turn asked stand drain.names drain.target decided (emptied stand) drain' fault laws front at back advances d asks reports.target
+        ok.output (once-report (first_link (wholes_of (us ++ s ∷ vs))) before (way_of d) (with_report (way_of d) report) drain drain' report d.output ok.output ok.form refl refl) ok.form ok.failures reports.names d.passed (omega arith, omega arith, omega arith)
+    by_answer (Err fault) reports = report-stops us vs s before xs ys h s' place turn asked stand drain.names drain.target decided (emptied stand) drain' fault laws tells front at back advances steps d asks reports.target
 
 -- ---- all of them
 
-abbrev pub FetchLeaves : List Stood → List ℕ → MachineStand → ℕ → Result Bool Fault → Progress → MachineStand → Type 0
-FetchLeaves ss before old i (Ok true) r new = GoesOn ss before old new
-FetchLeaves ss before old i (Ok false) r new = StepLeaves ss before old r new
-FetchLeaves ss before old i (Err fault) r new = BreaksAt ss before old new i fault
+abbrev pub FetchLeaves : {ss : List Stood} {before : List ℕ} {old : MachineStand} → Decided ss before old → ℕ → Result Bool Fault → Progress → MachineStand → Type 0
+FetchLeaves {ss} {before} {old} d i (Ok true) r new = GoesOn d new
+FetchLeaves {ss} {before} {old} d i (Ok false) r new = StepLeaves d r new
+FetchLeaves {ss} {before} {old} d i (Err fault) r new = BreaksAt d new i fault
 
 -- what is made of an answer: at its end an input is closed, and else the rest stays
 abbrev pub Follows : Result Bool Fault → FeedView → ℕ → JudgeStand → DrainView → Progress → JudgeStand → DrainView → Type 0
@@ -395,9 +411,9 @@ Follows (Err fault) feed i judge old r judge' new = (judge' ≡ judge) × (new �
 
 fetch-core : (us vs : List Stood) (s : Stood) (before : List ℕ) (xs ys : List HeadView) (h : HeadView) (s' : SourceView) (a : Result Bool Fault) (place : Place) (turn : ℕ) (asked : Asked) (stand : Stand) (drain : DrainView) (decided : ℕ) (r : Progress) (judge' : JudgeStand) (drain' : DrainView)
     → ReadLaws place turn xs ys h → Tells place (xs ++ h ∷ ys) (next.Read turn) → Standing us xs → At s h → Standing vs ys → Advances h.source.phase h.source a s' → Steps h.source.phase h.source a s'
-    → Decided (us ++ s ∷ vs) before (mk (xs ++ h ∷ ys) place asked stand drain decided)
+    → (d : Decided (us ++ s ∷ vs) before (mk (xs ++ h ∷ ys) place asked stand drain decided))
     → Follows a (record { heads = xs ++ head_after h a s' ∷ ys; place = place_after place turn (closes a) }) turn (record { asked = asked; stand = stand }) drain r judge' drain'
-    → FetchLeaves (us ++ s ∷ vs) before (mk (xs ++ h ∷ ys) place asked stand drain decided) turn a r (mk (xs ++ head_after h a s' ∷ ys) (place_after place turn (closes a)) asked judge'.stand drain' decided)
+    → FetchLeaves d turn a r (mk (xs ++ head_after h a s' ∷ ys) (place_after place turn (closes a)) asked judge'.stand drain' decided)
 fetch-core us vs s before xs ys h s' (Ok true) place turn asked stand drain decided r judge' drain' laws tells front at back advances steps d follows =
     rw (follows.0, follows.1) (found-goes us vs s before xs ys h s' place turn asked stand drain decided laws front at back advances (never-kept h.source s' (Ok true) steps) d)
 fetch-core us vs s before xs ys h s' (Ok false) place turn asked stand drain decided r judge' drain' laws tells front at back advances steps d follows =
@@ -405,7 +421,7 @@ fetch-core us vs s before xs ys h s' (Ok false) place turn asked stand drain dec
     let same : follows.head ≡ h' = among-same (xs ++ h' ∷ ys) turn follows.head h' follows.among (record { front = xs; back = ys; place = laws.here; splits = refl }) in
     let P : HeadView → Type 0 = λ v. ClosesBy (asks_report (ordering_of (place_after place turn true)) asked) turn v (record { asked = asked; stand = stand }) drain r judge' drain' in
     let Q : Ordering → Type 0 = λ o. ClosesBy (asks_report o asked) turn h' (record { asked = asked; stand = stand }) drain r judge' drain' in
-    closed-core us vs s before xs ys h s' place turn asked stand drain decided r judge' drain' laws front at back advances (never-kept h.source s' (Ok false) steps) d (asks_report (ordering_of place) asked) refl
+    closed-core us vs s before xs ys h s' place turn asked stand drain decided r judge' drain' laws tells front at back advances steps d (asks_report (ordering_of place) asked) refl
     (subst Q (laws.order true) (subst P same follows.by))
 fetch-core us vs s before xs ys h s' (Err fault) place turn asked stand drain decided r judge' drain' laws tells front at back advances steps d follows = rw (follows.0, follows.1) (record {
   head = head_after h (Err fault) s';
@@ -415,9 +431,9 @@ fetch-core us vs s before xs ys h s' (Err fault) place turn asked stand drain de
 
 -- one head taken out of a step's premises
 pub fetch-leaves : (ss : List Stood) (before : List ℕ) (heads : List HeadView) (place : Place) (asked : Asked) (stand : Stand) (drain : DrainView) (decided : ℕ) (i : ℕ) (a : Result Bool Fault) (feed' : FeedView) (r : Progress) (judge' : JudgeStand) (drain' : DrainView)
-    → Tells place heads (next.Read i) → Fetches (record { heads = heads; place = place }) i a feed' → Decided ss before (mk heads place asked stand drain decided)
+    → Tells place heads (next.Read i) → Fetches (record { heads = heads; place = place }) i a feed' → (d : Decided ss before (mk heads place asked stand drain decided))
     → Follows a feed' i (record { asked = asked; stand = stand }) drain r judge' drain'
-    → FetchLeaves ss before (mk heads place asked stand drain decided) i a r (mk feed'.heads feed'.place asked judge'.stand drain' decided)
+    → FetchLeaves d i a r (mk feed'.heads feed'.place asked judge'.stand drain' decided)
 fetch-leaves ss before heads place asked stand drain decided i a feed' r judge' drain' tells fetches d follows =
     let at : ReadAt place heads i = read-at place heads i tells d.ended in
     let m = at.among in
@@ -437,12 +453,14 @@ fetch-leaves ss before heads place asked stand drain decided i a feed' r judge' 
     let T : List HeadView → Type 0 = λ l. Tells place l (next.Read i) in
     let d' = subst D m.splits d in
     let st = stands-split ss m.front m.back h d'.standing in
-    let E : List Stood → Type 0 = λ l. Decided l before (mk (m.front ++ h ∷ m.back) place asked stand drain decided) in
-    let core = fetch-core st.front st.back st.here before m.front m.back h fetches.source a place i asked stand drain decided r judge' drain' at.laws (subst T m.splits tells) st.before st.at st.behind (subst A same fetches.advances) (subst S same fetches.steps) (subst E st.is d') (subst F feed'_is follows) in
-    let G : List Stood → Type 0 = λ l. FetchLeaves l before (mk (m.front ++ h ∷ m.back) place asked stand drain decided) i a r (mk (m.front ++ h' ∷ m.back) place' asked judge'.stand drain' decided) in
-    let H : List HeadView → Type 0 = λ l. FetchLeaves ss before (mk l place asked stand drain decided) i a r (mk (m.front ++ h' ∷ m.back) place' asked judge'.stand drain' decided) in
-    let N : FeedView → Type 0 = λ f. FetchLeaves ss before (mk heads place asked stand drain decided) i a r (mk f.heads f.place asked judge'.stand drain' decided) in
-    subst N (sym feed'_is) (subst H (sym m.splits) (subst G (sym st.is) core))
+    let new : MachineStand = mk (m.front ++ h' ∷ m.back) place' asked judge'.stand drain' decided in
+    let core : (e : Decided (st.front ++ st.here ∷ st.back) before (mk (m.front ++ h ∷ m.back) place asked stand drain decided)) → FetchLeaves e i a r new = λ e.
+    fetch-core st.front st.back st.here before m.front m.back h fetches.source a place i asked stand drain decided r judge' drain' at.laws (subst T m.splits tells) st.before st.at st.behind (subst A same fetches.advances) (subst S same fetches.steps) e (subst F feed'_is follows) in
+    let G : List Stood → Type 0 = λ l. (e : Decided l before (mk (m.front ++ h ∷ m.back) place asked stand drain decided)) → FetchLeaves e i a r new in
+    let H : List HeadView → Type 0 = λ l. (e : Decided ss before (mk l place asked stand drain decided)) → FetchLeaves e i a r new in
+    let N : FeedView → Type 0 = λ f. FetchLeaves d i a r (mk f.heads f.place asked judge'.stand drain' decided) in
+    let whole : H heads = subst H (sym m.splits) (subst G (sym st.is) core) in
+    subst N (sym feed'_is) (whole d)
 
 -- ---- an input is closed
 

@@ -7,7 +7,7 @@ use Rattle.cap_octet.specs.Packet.{Captured}
 use Rattle.cap_octet.specs.declared.fault.Fault.{Fault}
 use Rattle.cap_octet.specs.declared.fault.Fault.TheVariants.{WriteFailed}
 use Rattle.cap_io.specs.Capture.{first_link_of, items}
-use Rattle.cap_io.specs.Sink.{SinkView, FinishesEmpty, link_or_ethernet}
+use Rattle.cap_io.specs.Sink.{SinkView, FinishesEmpty, HasPackets, link_or_ethernet}
 use Rattle.cap_io.specs.Text.{heading, text}
 use Rattle.cap_io.specs.Source.{Ended}
 use Rattle.cap_io.proofs.Texts.{finish-none, finish-none-writes, finish-some}
@@ -20,13 +20,13 @@ use Rattle.cap_job.specs.Course.{Form, AsCapture, Way, closing, course, lines_te
 use Rattle.cap_job.specs.Drain.{DrainView, Target, Capture, Text, Lines, DrainedTo, FinishesTo, form_at, form_to, written_to, failures_to}
 use Rattle.cap_job.specs.Feed.{HeadView, Future, Stood, Standing, EndedTo, Tells, later, ordering_of, first_of}
 use Rattle.cap_job.specs.Reports.{reports_text}
-use Rattle.cap_job.specs.Machine.{MachineStand, Decided, Comes, StopsWriting, stands_at, wholes_of}
+use Rattle.cap_job.specs.Machine.{MachineStand, Decided, Comes, StopsWriting, stands_at, way_of, course_over, wholes_of}
 use Rattle.cap_job.proofs.Splits.{At}
 use Rattle.cap_job.proofs.Coming.{true-whole, true-wholes, true-fit, true-fits}
 use Rattle.cap_job.proofs.Courses.{course-close}
 use Rattle.cap_job.proofs.Laws.{OverAt, over-at}
 use Rattle.cap_job.proofs.Fetches.{mk}
-use Rattle.cap_job.proofs.Once.{once-of}
+use Rattle.cap_job.proofs.Once.{once-closing}
 
 pub over-course : (ss : List Stood) (before : List ℕ) (heads : List HeadView) (place : Place) (asked : Asked) (stand : Stand) (drain : DrainView) (decided : ℕ) → OverAt place heads → (d : Decided ss before (mk heads place asked stand drain decided))
     → course asked (form_at drain) (fed (ordering_of place) (wholes_of ss)) ≡ stops_at (stands_at (mk heads place asked stand drain decided) d.packets d.reports) Over
@@ -82,60 +82,75 @@ finish-device before names (q ∷ qs) rs (Capture sink) new link has finishes =
 finish-device before names ps rs (Text bytes failures room) new link has finishes = ap failures_to finishes.1
 finish-device before names ps rs (Lines options bytes failures room) new link has finishes = ap failures_to finishes.1
 
-abbrev pub FinishLeaves : List Stood → List ℕ → MachineStand → Result (Unit {0}) Fault → MachineStand → Type 0
-FinishLeaves ss before old (Ok done) new = Comes (wholes_of ss) before old new Over
-FinishLeaves ss before old (Err fault) new = StopsWriting ss before old new
+abbrev pub FinishLeaves : {ss : List Stood} {before : List ℕ} {old : MachineStand} → Decided ss before old → Result (Unit {0}) Fault → MachineStand → Type 0
+FinishLeaves {ss} {before} {old} d (Ok done) new = Comes (wholes_of ss) d new Over
+FinishLeaves {ss} {before} {old} d (Err fault) new = StopsWriting d new
 
--- the device failed at the file header of a capture without packets
-finish-stops : (ss : List Stood) (before : List ℕ) (names : List (List ℕ)) (target : Target) (heads : List HeadView) (place : Place) (asked : Asked) (stand : Stand) (decided : ℕ) (packets : List Captured) (reports : List Report) (fault : Fault) (new : MachineStand)
-    → course asked (form_to names target) (fed (ordering_of place) (wholes_of ss)) ≡ over (mk heads place asked stand (record { names = names; target = target }) decided) packets reports
-    → first_link (wholes_of ss) ≡ first_of heads → DrainedTo before names target packets reports → FinishesTo (first_of heads) target (Err fault) new.drain.target
-    → StopsWriting ss before (mk heads place asked stand (record { names = names; target = target }) decided) new
-finish-stops ss before names (Text bytes failures room) heads place asked stand decided packets reports fault new stop link has finishes = absurd (let e = finishes.0 in cc)
-finish-stops ss before names (Lines options bytes failures room) heads place asked stand decided packets reports fault new stop link has finishes = absurd (let e = finishes.0 in cc)
-finish-stops ss before names (Capture sink) heads place asked stand decided (q ∷ qs) reports fault new stop link has finishes =
-    absurd (let same = finish-some before q qs sink (first_of heads) (Err fault) finishes.sink has finishes.finishes in let e = same.0 in cc)
-finish-stops ss before names (Capture sink) heads place asked stand decided [] reports fault new stop link has finishes =
-    let form : Form = AsCapture sink.format in
-    let empty : FinishesEmpty sink (link_or_ethernet (first_of heads)) (Err fault) finishes.sink = finish-none before sink (first_of heads) (Err fault) finishes.sink has finishes.finishes in
+-- the device failed at the file header of a capture, which has no packets then
+record StopsEmpty (before : List ℕ) (sink : SinkView) (packets : List Captured) (link : Option ℕ) (new : Target) : Type 0 where
+  pub none : packets ≡ []
+  pub failures : failures_to new ≡ sink.failures + 1
+  pub stops : Stops sink.written (heading sink.format (link_or_ethernet link)) (written_to new)
+
+finish-empty : (before : List ℕ) (sink : SinkView) (packets : List Captured) (link : Option ℕ) (fault : Fault) (new : Target) → HasPackets before sink packets → FinishesTo link (Capture sink) (Err fault) new
+    → StopsEmpty before sink packets link new
+finish-empty before sink (q ∷ qs) link fault new has finishes =
+    absurd (let same = finish-some before q qs sink link (Err fault) finishes.sink has finishes.finishes in let e = same.0 in cc)
+finish-empty before sink [] link fault new has finishes =
+    let empty : FinishesEmpty sink (link_or_ethernet link) (Err fault) finishes.sink = finish-none before sink link (Err fault) finishes.sink has finishes.finishes in
     let told : fault ≡ WriteFailed = empty.answer in
     let failed : finishes.sink.failures ≡ sink.failures + 1 = rw told at empty.failures in
-    let bytes : List ℕ = heading sink.format (link_or_ethernet (first_of heads)) in
+    let S : Target → Type 0 = λ t. Stops sink.written (heading sink.format (link_or_ethernet link)) (written_to t) in
     record {
+      none = refl;
       failures = ap failures_to finishes.is ∙ failed;
-      front = [];
+      stops = subst S (sym finishes.is) (finish-none-writes before sink link (Err fault) finishes.sink has finishes.writes);
+    }
+
+finish-stops : (ss : List Stood) (before : List ℕ) (names : List (List ℕ)) (target : Target) (heads : List HeadView) (place : Place) (asked : Asked) (stand : Stand) (decided : ℕ) (fault : Fault) (new : MachineStand)
+    → (d : Decided ss before (mk heads place asked stand (record { names = names; target = target }) decided))
+    → course asked (form_to names target) (fed (ordering_of place) (wholes_of ss)) ≡ over (mk heads place asked stand (record { names = names; target = target }) decided) d.packets d.reports
+    → first_link (wholes_of ss) ≡ first_of heads → Tells place heads next.Nothing → new.feed ≡ record { heads = heads; place = place } → FinishesTo (first_of heads) target (Err fault) new.drain.target
+    → StopsWriting d new
+finish-stops ss before names (Text bytes failures room) heads place asked stand decided fault new d stop link tells feed finishes = absurd (let e = finishes.0 in cc)
+finish-stops ss before names (Lines options bytes failures room) heads place asked stand decided fault new d stop link tells feed finishes = absurd (let e = finishes.0 in cc)
+finish-stops ss before names (Capture sink) heads place asked stand decided fault new d stop link tells feed finishes =
+    let form : Form = AsCapture sink.format in
+    let empty : StopsEmpty before sink d.packets (first_of heads) new.drain.target = finish-empty before sink d.packets (first_of heads) fault new.drain.target d.output finishes in
+    let bytes : List ℕ = heading sink.format (link_or_ethernet (first_of heads)) in
+    let closing_is : bytes ≡ closing form (first_link (wholes_of ss)) d.packets =
+    ap (λ (o : Option ℕ). heading sink.format (link_or_ethernet o)) (sym link) ∙ ap (closing form (first_link (wholes_of ss))) (sym empty.none) in
+    record {
+      failures = empty.failures;
       bytes = bytes;
+      answer = inr (inr (record { next = tells; bytes_are = closing_is; feed = feed }));
       back = [];
-      one = record { packets = []; reports = reports; so_far = refl; answer = inr (inr (ap (λ (o : Option ℕ). heading sink.format (link_or_ethernet o)) (sym link))) };
       whole =
           ap (λ (w : Way). output form (first_link (wholes_of ss)) w) stop
-          ∙ ap (λ (o : Option ℕ). heading sink.format (link_or_ethernet o)) link
-          ∙ sym (append-nil bytes);
-      so_far = has.written;
-      stops = (let S : Target → Type 0 = λ t. Stops sink.written bytes (written_to t) in subst S (sym finishes.is) (finish-none-writes before sink (first_of heads) (Err fault) finishes.sink has finishes.writes));
+          ∙ ap (λ (l : List ℕ). text sink.format d.packets ++ l) (sym closing_is ∙ sym (append-nil bytes));
+      so_far = d.output.written;
+      stops = empty.stops;
     }
 
 pub finish-leaves : (ss : List Stood) (before : List ℕ) (heads : List HeadView) (place : Place) (asked : Asked) (stand : Stand) (drain : DrainView) (decided : ℕ) (r : Result (Unit {0}) Fault) (new : MachineStand)
-    → Tells place heads next.Nothing → FinishesTo (first_of heads) drain.target r new.drain.target → Decided ss before (mk heads place asked stand drain decided)
-    → FinishLeaves ss before (mk heads place asked stand drain decided) r new
-finish-leaves ss before heads place asked stand drain decided (Ok done) new tells finishes d =
+    → Tells place heads next.Nothing → new.feed ≡ record { heads = heads; place = place } → FinishesTo (first_of heads) drain.target r new.drain.target → (d : Decided ss before (mk heads place asked stand drain decided))
+    → FinishLeaves d r new
+finish-leaves ss before heads place asked stand drain decided (Ok done) new tells feed finishes d =
     let at : OverAt place heads = over-at place heads tells d.ended in
     let m : MachineStand = mk heads place asked stand drain decided in
     let stop = over-course ss before heads place asked stand drain decided at d in
     let link = links ss heads at.count d.standing at.few at.ended in
+    let text_is : written_to new.drain.target ≡ before ++ output (form_at drain) (first_link (wholes_of ss)) (over m d.packets d.reports) =
+    finish-text before drain.names d.packets d.reports decided stand drain.target new.drain.target (first_of heads) d.output finishes
+    ∙ ap (λ (o : Option ℕ). before ++ output (form_at drain) o (over m d.packets d.reports)) (sym link) in
     record {
       ends = ap (λ (w : Way). w.end) stop;
-      written =
-          finish-text before drain.names d.packets d.reports decided stand drain.target new.drain.target (first_of heads) d.output finishes
-          ∙ ap (λ (o : Option ℕ). before ++ output (form_at drain) o (over m d.packets d.reports)) (sym link)
-          ∙ ap (λ (w : Way). before ++ output (form_at drain) (first_link (wholes_of ss)) w) (sym stop);
-      once = once-of (first_link (wholes_of ss)) before drain new.drain d.packets d.reports (closing (form_at drain) (first_link (wholes_of ss)) d.packets) d.output
-          (finish-text before drain.names d.packets d.reports decided stand drain.target new.drain.target (first_of heads) d.output finishes
-          ∙ ap (λ (o : Option ℕ). before ++ output (form_at drain) o (over m d.packets d.reports)) (sym link))
-          (inr (inr refl));
+      written = text_is ∙ ap (λ (w : Way). before ++ output (form_at drain) (first_link (wholes_of ss)) w) (sym stop);
+      once = once-closing (first_link (wholes_of ss)) before (way_of d) (course_over m (wholes_of ss)) drain new.drain d.output text_is
+          (ap (λ (w : Way). w.packets) stop) (ap (λ (w : Way). w.reports) stop) (ap (λ (w : Way). w.end) stop);
       device = finish-device before drain.names d.packets d.reports drain.target new.drain.target (first_of heads) d.output finishes;
     }
-finish-leaves ss before heads place asked stand drain decided (Err fault) new tells finishes d =
+finish-leaves ss before heads place asked stand drain decided (Err fault) new tells feed finishes d =
     let at : OverAt place heads = over-at place heads tells d.ended in
-    finish-stops ss before drain.names drain.target heads place asked stand decided d.packets d.reports fault new
-    (over-course ss before heads place asked stand drain decided at d) (links ss heads at.count d.standing at.few at.ended) d.output finishes
+    finish-stops ss before drain.names drain.target heads place asked stand decided fault new d
+    (over-course ss before heads place asked stand drain decided at d) (links ss heads at.count d.standing at.few at.ended) tells feed finishes

@@ -9,10 +9,10 @@ finish-texts [] i bytes packets = refl
 finish-texts (s ∷ ss) zero bytes packets = refl
 finish-texts (s ∷ ss) (suc i) bytes packets = ap (λ (l : List (List ℕ)). s.text ∷ l) (finish-texts ss i bytes packets)
 
-pub goes-on : (ss : List Stood) (before : List ℕ) (first m new : MachineStand) (way : IsUnderWay ss before first m) → GoesOn way.stood before m new → new.asked ≡ m.asked → IsUnderWay ss before first new
+pub goes-on : (ss : List Stood) (before : List ℕ) (first m new : MachineStand) (way : IsUnderWay ss before first m) → GoesOn way.decided new → new.asked ≡ m.asked → IsUnderWay ss before first new
 goes-on ss before first m new way goes asked = record {
-  stood = finish_at way.stood goes.input goes.finished goes.packets;
-  texts = finish-texts way.stood goes.input goes.finished goes.packets ∙ way.texts;
+  stood = goes.stood;
+  texts = ap texts goes.stood_is ∙ finish-texts way.stood goes.input goes.finished goes.packets ∙ way.texts;
   decided = goes.decided;
   asked = asked ∙ way.asked;
   form = goes.form ∙ way.form;

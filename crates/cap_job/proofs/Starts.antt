@@ -13,7 +13,7 @@ use Rattle.cap_job.proofs.Laws.{laid-start}
 use Rattle.cap_job.specs.Verdicts.{Asked}
 use Rattle.cap_job.specs.Jobs.{Opened, head_at, stood_at, place_first, feed_first, order_of, most_inputs}
 use Rattle.cap_job.specs.Judge.{stand_with}
-use Rattle.cap_job.specs.Feed.{HeadView, Future, Standing, Fits, HasCome, NoneWaits, EndedBefore, wholes, rests, whole_with, heads_left, feed_left, most_steps, waiting_total}
+use Rattle.cap_job.specs.Feed.{HeadView, Future, Standing, KnowGreatest, Fits, HasCome, NoneWaits, EndedBefore, wholes, rests, whole_with, heads_left, feed_left, most_steps, waiting_total}
 use Rattle.cap_job.specs.Bounds.{reads_of, owed, most_turns}
 use Rattle.cap_job.specs.Machine.{Decided}
 use Rattle.cap_job.proofs.Fetches.{mk}
@@ -46,10 +46,15 @@ start-ended : (order : Ordering) (os : List Opened) → EndedBefore (place_first
 start-ended InTurn os = tt
 start-ended Merging os = laid-start (map head_at os) (start-none os)
 
+start-greatest : (os : List Opened) → KnowGreatest (map stood_at os) (map head_at os)
+start-greatest [] = tt
+start-greatest (o ∷ os) = (refl, start-greatest os)
+
 pub Decided-start : (order : Ordering) (os : List Opened) (before : List ℕ) (asked : Asked) (names : List (List ℕ)) (w : Writing) (failures room : ℕ)
     → Decided (map stood_at os) before (mk (map head_at os) (place_first order (length (map head_at os))) asked (stand_with 0 nothing_counted) (record { names = names; target = target_at w before failures room }) 0)
 Decided-start order os before asked names w failures room = record {
   standing = start-standing os;
+  greatest = start-greatest os;
   events = [];
   come = start-come order os;
   packets = [];

@@ -7,13 +7,13 @@ use Rattle.cap_octet.specs.declared.fault.Fault.{Fault}
 use Rattle.cap_octet.specs.declared.format.Format.{Format}
 use Rattle.cap_io.specs.declared.source.Kind.{Kind}
 use Rattle.cap_io.specs.Capture.{Placed, first_link_of}
-use Rattle.cap_io.specs.Text.{heading, text, refused}
+use Rattle.cap_io.specs.Text.{added, heading, text, refused}
 use Rattle.cap_lines.specs.declared.print.Options.{Options}
 use Rattle.cap_lines.specs.Rendering.{printed}
 use Rattle.cap_tools.specs.Messages.{fault_message}
 use Rattle.cap_job.specs.Events.{Event, Came, Closed, Close, Over, Broken, Fed, Rest, Ordering, fed, whole}
 use Rattle.cap_job.specs.Verdicts.{Asked, Count, Stand, at_first, Verdict, Pass, Last, Skip, Refuse, verdict}
-use Rattle.cap_job.specs.Reports.{Report, nothing_counted, reports_text, name_at}
+use Rattle.cap_job.specs.Reports.{Report, nothing_counted, report_text, reports_text, name_at}
 
 -- ---- forms
 
@@ -118,6 +118,18 @@ abbrev pub written : Form → List Captured → List Report → List ℕ
 written (AsCapture format) ps rs = text format ps
 written (AsReports names) ps rs = reports_text names rs
 written (AsLines options) ps rs = lines_text options ps
+
+-- what a packet that passes adds behind those before it
+abbrev pub packet_bytes : Form → List Captured → Captured → List ℕ
+packet_bytes (AsCapture format) ps p = added format ps p
+packet_bytes (AsReports names) ps p = []
+packet_bytes (AsLines options) ps p = printed options p
+
+-- what a report adds
+abbrev pub report_bytes : Form → Report → List ℕ
+report_bytes (AsCapture format) r = []
+report_bytes (AsReports names) r = report_text names r
+report_bytes (AsLines options) r = []
 
 -- the first link type that the inputs declare, in their order
 abbrev pub first_link : List Rest → Option ℕ

@@ -95,6 +95,17 @@ Standing (s ∷ ss) (h ∷ hs) = IsAt s.text s.done s.packets h.waiting h.source
 Standing [] (h ∷ hs) = ⊥
 Standing (s ∷ ss) [] = ⊥
 
+-- the greatest time of packets; 0 of none
+abbrev pub greatest_of : List Placed → ℕ
+greatest_of [] = 0
+greatest_of (x ∷ xs) = max x.packet.time (greatest_of xs)
+
+-- of each input the greatest time of its packets that are done is known
+abbrev pub KnowGreatest : List Stood → List HeadView → Type 0
+KnowGreatest (s ∷ ss) (h ∷ hs) = (h.greatest ≡ greatest_of s.packets) × KnowGreatest ss hs
+KnowGreatest [] hs = Unit {0}
+KnowGreatest (s ∷ ss) [] = Unit {0}
+
 -- an input at its clean end has no other future than that
 abbrev pub closed_future : SourceView → Future
 closed_future s = record { items = record { packets = []; declared = s.declared; ending = End }; size = s.offset }

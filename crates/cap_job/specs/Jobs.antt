@@ -20,7 +20,7 @@ use Rattle.cap_job.specs.Reports.{name_at, nothing_counted}
 use Rattle.cap_job.specs.Course.{Work, first_link, outcome, out}
 use Rattle.cap_job.specs.Feed.{HeadView, FeedView, Stood, Among, most_steps, ordering_of}
 use Rattle.flt_bpf.specs.Content.{Content}
-use Rattle.cap_job.specs.Machine.{MachineStand, MachineView, machine_with, AppendsOnce, Decided, GoesOn, EndsByCut, WantsMemory, StopsWriting, IsUnderWay, form_of, written_by, failures_by, texts, wholes_of, cut_at}
+use Rattle.cap_job.specs.Machine.{MachineStand, MachineView, machine_with, AppendsOnce, Decided, GoesOn, EndsByCut, WantsMemory, StopsWriting, IsUnderWay, form_of, written_by, failures_by, texts, way_of, course_over, wholes_of, cut_at}
 
 -- ---- as it is handed over
 
@@ -108,23 +108,23 @@ end_status end.OutputFailed = 1
 abbrev pub work_of : MachineStand → Work
 work_of m = record { order = ordering_of m.feed.place; asked = m.asked; form = form_of m }
 
--- output, message and status are those of inputs with these items
-pub record IsOut (rs : List Rest) (before : List ℕ) (names : List (List ℕ)) (old new : MachineStand) (text : List ℕ) (status : ℕ) : Type 0 where
+-- output, message and status are those of inputs with these items, and the output's device didn't fail
+pub record IsOut {ss : List Stood} {before : List ℕ} {old : MachineStand} (rs : List Rest) (d : Decided ss before old) (names : List (List ℕ)) (new : MachineStand) (text : List ℕ) (status : ℕ) : Type 0 where
   pub written : written_by new ≡ before ++ (outcome (work_of old) names rs).output
-  pub once : AppendsOnce (first_link rs) before old.drain new.drain
+  pub once : AppendsOnce (first_link rs) (way_of d) (course_over old rs) old.drain new.drain
   pub device : failures_by new ≡ failures_by old
   pub text_is : text ≡ (outcome (work_of old) names rs).messages
   pub status_is : status ≡ (outcome (work_of old) names rs).status
 
 -- an input is cut short: its device failed in this step, or there was no memory for its next unit
-pub record IsOutCut (ss : List Stood) (before : List ℕ) (names : List (List ℕ)) (old new : MachineStand) (text : List ℕ) (status : ℕ) : Type 0 where
+pub record IsOutCut {ss : List Stood} {before : List ℕ} {old : MachineStand} (d : Decided ss before old) (names : List (List ℕ)) (new : MachineStand) (text : List ℕ) (status : ℕ) : Type 0 where
   pub input : ℕ
   pub fault : Fault
   -- as this step left it
   pub head : HeadView
   pub among : Among new.feed.heads input head
-  pub cut : EndsByCut ss before old new input fault head.source
-  pub out : IsOut (cut_at (wholes_of ss) input cut.held) before names old new text status
+  pub cut : EndsByCut d new input fault head.source
+  pub out : IsOut (cut_at (wholes_of ss) input cut.held) d names new text status
 
 -- there was no memory elsewhere: the output stays
 pub record LacksMemory (names : List (List ℕ)) (old new : MachineStand) (text : List ℕ) (status : ℕ) : Type 0 where
@@ -135,26 +135,22 @@ pub record LacksMemory (names : List (List ℕ)) (old new : MachineStand) (text 
   pub status_is : status ≡ 1
 
 -- the output's device failed
-pub record LosesOutput (ss : List Stood) (before : List ℕ) (names : List (List ℕ)) (old new : MachineStand) (text : List ℕ) (status : ℕ) : Type 0 where
-  pub stops : StopsWriting ss before old new
+pub record LosesOutput {ss : List Stood} {before : List ℕ} {old : MachineStand} (d : Decided ss before old) (names : List (List ℕ)) (new : MachineStand) (text : List ℕ) (status : ℕ) : Type 0 where
+  pub stops : StopsWriting d new
   pub text_is : text ≡ write_failed_message (name_at names (length new.feed.heads))
   pub status_is : status ≡ 1
 
-abbrev pub EndsElse : List Stood → List ℕ → List (List ℕ) → MachineStand → MachineStand → List ℕ → ℕ → Type 0
-EndsElse ss before names old new text status =
-    IsOutCut ss before names old new text status
-    ⊎ LacksMemory names old new text status
-    ⊎ LosesOutput ss before names old new text status
+abbrev pub EndsElse : {ss : List Stood} {before : List ℕ} {old : MachineStand} → Decided ss before old → List (List ℕ) → MachineStand → List ℕ → ℕ → Type 0
+EndsElse {ss} {before} {old} d names new text status =
+    IsOutCut d names new text status ⊎ LacksMemory names old new text status ⊎ LosesOutput d names new text status
 
-abbrev pub EndsAs : List Stood → List ℕ → List (List ℕ) → MachineStand → MachineStand → List ℕ → ℕ → Type 0
-EndsAs ss before names old new text status =
-    IsOut (wholes_of ss) before names old new text status
-    ⊎ EndsElse ss before names old new text status
+abbrev pub EndsAs : {ss : List Stood} {before : List ℕ} {old : MachineStand} → Decided ss before old → List (List ℕ) → MachineStand → List ℕ → ℕ → Type 0
+EndsAs {ss} {before} {old} d names new text status = IsOut (wholes_of ss) d names new text status ⊎ EndsElse d names new text status
 
 -- ---- a step
 
 abbrev pub Ends : List (List ℕ) → MachineStand → MachineStand → List ℕ → ℕ → Type 0
-Ends names old new text status = (ss : List Stood) (before : List ℕ) → Decided ss before old → EndsAs ss before names old new text status
+Ends names old new text status = (ss : List Stood) (before : List ℕ) (d : Decided ss before old) → EndsAs d names new text status
 
 -- a message that can't be written is lost
 pub record EndsJob (tells : Bool) (old : JobView) (status : ℕ) (new : JobView) : Type 0 where
@@ -166,7 +162,7 @@ pub record EndsJob (tells : Bool) (old : JobView) (status : ℕ) (new : JobView)
 
 -- a job that goes on reports nothing
 abbrev pub JobGives : Bool → JobView → Turn → JobView → Type 0
-JobGives tells old turn.More new = (new.err ≡ old.err) × ((ss : List Stood) (before : List ℕ) → Decided ss before old.machine → GoesOn ss before old.machine new.machine)
+JobGives tells old turn.More new = (new.err ≡ old.err) × ((ss : List Stood) (before : List ℕ) (d : Decided ss before old.machine) → GoesOn d new.machine)
 JobGives tells old (turn.Done status) new = EndsJob tells old status new
 
 abbrev pub turn_goes_on : Turn → Bool
@@ -198,7 +194,7 @@ pub record JobRuns (ss : List Stood) (before : List ℕ) (tells : Bool) (first :
   pub last : MachineStand
   pub way : IsUnderWay ss before first.machine old
   pub text : List ℕ
-  pub ends : IsOutOf (work_of first.machine) first.machine.drain.names (texts ss) before (failures_by first.machine) output text status ⊎ EndsElse way.stood before first.machine.drain.names old last text status
+  pub ends : IsOutOf (work_of first.machine) first.machine.drain.names (texts ss) before (failures_by first.machine) output text status ⊎ EndsElse way.decided first.machine.drain.names last text status
   pub written : output.written ≡ written_by last
   pub failures : output.failures ≡ failures_by last
   pub told : IsTold tells first.err text err

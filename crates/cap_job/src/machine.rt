@@ -1,5 +1,5 @@
 //! The steps of a job over its packets.
-ghost use Rattle.std.specs.Prelude.{◌≡◌, ◌+◌, ◌<◌, ◌≤◌, IsTrue, length, true};
+ghost use Rattle.std.specs.Prelude.{◌≡◌, ◌+◌, ◌<◌, ◌≤◌, IsTrue, length, true, false};
 ghost use Rattle.cap_octet.specs.Packet.{captured};
 ghost use Rattle.cap_job.specs.Bounds.{HasFewInterfaces, IsBounded, IsLight};
 ghost use Rattle.cap_job.specs.Feed.{most_steps, ordering_of};

@@ -21,9 +21,10 @@ returns-in-Err-clause-told g c = λ ti to ss before d.
     let j : JudgeView = c.decide.new.judge in
     let m : MachineStand = record { feed = c.self.inside.feed; asked = c.self.inside.judge.asked; stand = c.self.inside.judge.stand; drain = c.self.inside.drain; decided = c.self.inside.decided } in
     let new : Asked → MachineStand = λ k. record { feed = c.self.inside.feed; asked = k; stand = j.stand; drain = c.decide.new.drain; decided = c.self.inside.decided } in
-    let P : MachineView → Type 0 = λ v. Decided ss before (machine_stand v) → feeding.Tells v.feed.place v.feed.heads (next.Answer c.args.input) → EndLeaves ss before (machine_stand v) (unwritten c.args.input c.in-Err.fault) (new j.asked) in
-    let N : Asked → Type 0 = λ k. EndLeaves ss before m (unwritten c.args.input c.in-Err.fault) (new k) in
-    let core : P (machine_with m c.self.inside.judge.programs) = λ d t. subst N (sym c.in-Err.ensures.asked)
+    let P : MachineView → Type 0 = λ v. (e : Decided ss before (machine_stand v)) → feeding.Tells v.feed.place v.feed.heads (next.Answer c.args.input) → EndLeaves e (unwritten c.args.input c.in-Err.fault) (new j.asked) in
+    let core : P (machine_with m c.self.inside.judge.programs) = λ d t.
+    let N : Asked → Type 0 = λ k. EndLeaves d (unwritten c.args.input c.in-Err.fault) (new k) in
+    subst N (sym c.in-Err.ensures.asked)
     (answer-leaves ss before m.feed.heads m.feed.place m.asked m.stand m.drain m.decided c.args.input (Err c.in-Err.fault) c.head.result.now (judge_stand j) c.decide.new.drain t c.head.ensures c.in-Err.ensures.asked c.in-Err.ensures.passed c.in-Err.ensures.counted (let i = c.self.invariant.0 in omega (arith, i)) (c.in-Err.ensures.told to) d) in
     rw c.unwritten.ensures (subst P c.self.view_is core d c.requires.next)
 
@@ -36,16 +37,16 @@ returns-after-last-clause-told g c = λ ti to ss before d.
     let same : c.head.result.now ≡ h = among-same c.self.inside.feed.heads c.args.input c.head.result.now h c.head.ensures c.settle.ensures.among in
     let feed : c.settle.new.self ≡ record { heads = slice_set c.self.inside.feed.heads c.args.input (settled c.head.result.now); place = place_behind c.self.inside.feed.place c.args.input } =
     c.settle.ensures.is ∙ ap (λ (v : HeadView). record { heads = slice_set c.self.inside.feed.heads c.args.input (settled v); place = place_behind c.self.inside.feed.place c.args.input }) (sym same) in
-    let P : Bool → MachineView → Type 0 = λ b v. Decided ss before (machine_stand v) → feeding.Tells v.feed.place v.feed.heads (next.Answer c.args.input)
-    → AnswerLeaves ss before (machine_stand v) c.args.input (Ok b) (new c.settle.new.self j.asked) (mk v.feed.heads v.feed.place v.asked j.stand c.decide.new.drain v.decided) in
-    let N : FeedView → Asked → Type 0 = λ f k. AnswerLeaves ss before m c.args.input (Ok c.in-Ok.last) (new f k) (mk m.feed.heads m.feed.place m.asked j.stand c.decide.new.drain m.decided) in
+    let P : Bool → MachineView → Type 0 = λ b v. (e : Decided ss before (machine_stand v)) → feeding.Tells v.feed.place v.feed.heads (next.Answer c.args.input)
+    → AnswerLeaves e c.args.input (Ok b) (new c.settle.new.self j.asked) (mk v.feed.heads v.feed.place v.asked j.stand c.decide.new.drain v.decided) in
     let core : P c.in-Ok.last (machine_with m c.self.inside.judge.programs) = λ d t.
+    let N : FeedView → Asked → Type 0 = λ f k. AnswerLeaves d c.args.input (Ok c.in-Ok.last) (new f k) (mk m.feed.heads m.feed.place m.asked j.stand c.decide.new.drain m.decided) in
     let one = answer-leaves ss before m.feed.heads m.feed.place m.asked m.stand m.drain m.decided c.args.input (Ok c.in-Ok.last) c.head.result.now (judge_stand j) c.decide.new.drain t c.head.ensures c.in-Ok.ensures.asked c.in-Ok.ensures.passed c.in-Ok.ensures.counted (let i = c.self.invariant.0 in omega (arith, i)) (c.in-Ok.ensures.told to) d in
     let NF : FeedView → Type 0 = λ f. N f m.asked in
     let NK : Asked → Type 0 = λ k. N c.settle.new.self k in
     subst NK (sym c.in-Ok.ensures.asked) (subst NF (sym feed) one) in
-    let all : AnswerLeaves ss before (machine_stand c.args.self.now) c.args.input (Ok c.in-Ok.last) (new c.settle.new.self j.asked) _ = (let Q : MachineView → Type 0 = λ v. P c.in-Ok.last v in subst Q c.self.view_is core) d c.requires.next in
-    let R : Bool → Type 0 = λ b. AnswerLeaves ss before (machine_stand c.args.self.now) c.args.input (Ok b) (new c.settle.new.self j.asked) (mk c.args.self.now.feed.heads c.args.self.now.feed.place c.args.self.now.asked j.stand c.decide.new.drain c.args.self.now.decided) in
+    let all : AnswerLeaves d c.args.input (Ok c.in-Ok.last) (new c.settle.new.self j.asked) _ = (let Q : MachineView → Type 0 = λ v. P c.in-Ok.last v in subst Q c.self.view_is core) d c.requires.next in
+    let R : Bool → Type 0 = λ b. AnswerLeaves d c.args.input (Ok b) (new c.settle.new.self j.asked) (mk c.args.self.now.feed.heads c.args.self.now.feed.place c.args.self.now.asked j.stand c.decide.new.drain c.args.self.now.decided) in
     elim c.if-last.branch [ then-last w ↦ rw w.result-is (subst R w.if-last.true all) | else-last w ↦ rw w.result-is (subst R w.if-last.false all) ]
 
 pub returns-after-last-clause-progress : goal.returns-after-last-clause-progress

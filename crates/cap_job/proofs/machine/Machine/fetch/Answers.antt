@@ -47,9 +47,10 @@ returns-in-Ok-true-clause-told g c = λ ti to ss before d.
     let new : MachineStand = record { feed = c.fetch.new.self; asked = j.asked; stand = j.stand; drain = c.self.inside.drain; decided = c.self.inside.decided } in
     let found : c.fetch.result ≡ Ok true = c.in-Ok-true.is ∙ ap Ok c.in-Ok-true.field-0-test in
     let F : Result Bool Fault → Type 0 = λ a. Follows a c.fetch.new.self c.args.input (judge_stand j) m.drain More (judge_stand j) m.drain in
-    let L : Result Bool Fault → Type 0 = λ a. FetchLeaves ss before m c.args.input a More new in
-    let P : MachineView → Type 0 = λ v. Decided ss before (machine_stand v) → feeding.Tells v.feed.place v.feed.heads (next.Read c.args.input) → GoesOn ss before (machine_stand v) new in
-    let core : P (machine_with m c.self.inside.judge.programs) = λ d t. subst L found
+    let P : MachineView → Type 0 = λ v. (e : Decided ss before (machine_stand v)) → feeding.Tells v.feed.place v.feed.heads (next.Read c.args.input) → GoesOn e new in
+    let core : P (machine_with m c.self.inside.judge.programs) = λ d t.
+    let L : Result Bool Fault → Type 0 = λ a. FetchLeaves d c.args.input a More new in
+    subst L found
     (fetch-leaves ss before m.feed.heads m.feed.place m.asked m.stand m.drain m.decided c.args.input c.fetch.result c.fetch.new.self More (judge_stand j) m.drain t (c.fetch.ensures.told ti) d (subst F (sym found) (refl, refl))) in
     subst P c.self.view_is core d c.requires.next
 
@@ -66,10 +67,11 @@ returns-in-Ok-false-clause-told g c = λ ti to ss before d.
     let new : Asked → MachineStand = λ k. record { feed = c.fetch.new.self; asked = k; stand = j'.stand; drain = c.close.new.drain; decided = c.self.inside.decided } in
     let found : c.fetch.result ≡ Ok false = c.in-Ok-false.is ∙ ap Ok c.in-Ok-false.field-0-test in
     let F : Result Bool Fault → Type 0 = λ a. Follows a c.fetch.new.self c.args.input (judge_stand j) m.drain c.close.result (judge_stand j') c.close.new.drain in
-    let L : Result Bool Fault → Type 0 = λ a. FetchLeaves ss before m c.args.input a c.close.result (new m.asked) in
-    let N : Asked → Type 0 = λ k. StepLeaves ss before m c.close.result (new k) in
-    let P : MachineView → Type 0 = λ v. Decided ss before (machine_stand v) → feeding.Tells v.feed.place v.feed.heads (next.Read c.args.input) → StepLeaves ss before (machine_stand v) c.close.result (new j'.asked) in
-    let core : P (machine_with m c.self.inside.judge.programs) = λ d t. subst N (sym c.close.ensures.asked) (subst L found
+    let P : MachineView → Type 0 = λ v. (e : Decided ss before (machine_stand v)) → feeding.Tells v.feed.place v.feed.heads (next.Read c.args.input) → StepLeaves e c.close.result (new j'.asked) in
+    let core : P (machine_with m c.self.inside.judge.programs) = λ d t.
+    let L : Result Bool Fault → Type 0 = λ a. FetchLeaves d c.args.input a c.close.result (new m.asked) in
+    let N : Asked → Type 0 = λ k. StepLeaves d c.close.result (new k) in
+    subst N (sym c.close.ensures.asked) (subst L found
     (fetch-leaves ss before m.feed.heads m.feed.place m.asked m.stand m.drain m.decided c.args.input c.fetch.result c.fetch.new.self c.close.result (judge_stand j') c.close.new.drain t (c.fetch.ensures.told ti) d (subst F (sym found) (c.close.ensures.told to)))) in
     subst P c.self.view_is core d c.requires.next
 
@@ -84,9 +86,10 @@ returns-in-Err-clause-told g c = λ ti to ss before d.
     let m : MachineStand = record { feed = c.self.inside.feed; asked = j.asked; stand = j.stand; drain = c.self.inside.drain; decided = c.self.inside.decided } in
     let new : MachineStand = record { feed = c.fetch.new.self; asked = j.asked; stand = j.stand; drain = c.self.inside.drain; decided = c.self.inside.decided } in
     let F : Result Bool Fault → Type 0 = λ a. Follows a c.fetch.new.self c.args.input (judge_stand j) m.drain More (judge_stand j) m.drain in
-    let L : Result Bool Fault → Type 0 = λ a. FetchLeaves ss before m c.args.input a More new in
-    let P : MachineView → Type 0 = λ v. Decided ss before (machine_stand v) → feeding.Tells v.feed.place v.feed.heads (next.Read c.args.input) → BreaksAt ss before (machine_stand v) new c.args.input c.in-Err.fault in
-    let core : P (machine_with m c.self.inside.judge.programs) = λ d t. subst L c.in-Err.is
+    let P : MachineView → Type 0 = λ v. (e : Decided ss before (machine_stand v)) → feeding.Tells v.feed.place v.feed.heads (next.Read c.args.input) → BreaksAt e new c.args.input c.in-Err.fault in
+    let core : P (machine_with m c.self.inside.judge.programs) = λ d t.
+    let L : Result Bool Fault → Type 0 = λ a. FetchLeaves d c.args.input a More new in
+    subst L c.in-Err.is
     (fetch-leaves ss before m.feed.heads m.feed.place m.asked m.stand m.drain m.decided c.args.input c.fetch.result c.fetch.new.self More (judge_stand j) m.drain t (c.fetch.ensures.told ti) d (subst F (sym c.in-Err.is) (refl, refl))) in
     subst P c.self.view_is core d c.requires.next
 
@@ -105,12 +108,18 @@ pub returns-in-Ok-false-clause-reads : goal.returns-in-Ok-false-clause-reads
 returns-in-Ok-false-clause-reads g c =
     let j : JudgeView = c.close.new.judge in
     let P : MachineView → Type 0 = λ v. StepReads g.I.Input.tells (goes_on c.close.result) v (record { feed = c.fetch.new.self; asked = j.asked; stand = j.stand; drain = c.close.new.drain; decided = c.self.inside.decided; programs = j.programs }) in
-    subst P c.self.view_is (reads_on c.args.input c.fetch.result (λ on. ap is_fault c.in-Ok-false.is) (record { fetches = c.fetch.ensures.steps; told = c.fetch.ensures.told; decided = refl; programs = c.close.ensures.programs; drain = λ none.
-        let closed : closes c.fetch.result ≡ true = ap closes (c.in-Ok-false.is ∙ ap Ok c.in-Ok-false.field-0-test) in
-        let K : Bool → Type 0 = λ b. (b && asks_report (ordering_of c.self.inside.feed.place) c.self.inside.judge.asked) ≡ false in
-        c.close.ensures.kept (ap (λ (f : FeedView). asks_report (ordering_of f.place) c.self.inside.judge.asked) c.fetch.ensures.steps.is
-        ∙ ap (λ (o : Ordering). asks_report o c.self.inside.judge.asked) (after-order c.self.inside.feed.place c.args.input (closes c.fetch.result))
-        ∙ subst K closed none) }))
+    subst P c.self.view_is (reads_on c.args.input c.fetch.result (λ on. ap is_fault c.in-Ok-false.is) (record {
+      fetches = c.fetch.ensures.steps;
+      told = c.fetch.ensures.told;
+      decided = refl;
+      programs = c.close.ensures.programs;
+      drain = λ none.
+          let closed : closes c.fetch.result ≡ true = ap closes (c.in-Ok-false.is ∙ ap Ok c.in-Ok-false.field-0-test) in
+          let K : Bool → Type 0 = λ b. (b && asks_report (ordering_of c.self.inside.feed.place) c.self.inside.judge.asked) ≡ false in
+          c.close.ensures.kept (ap (λ (f : FeedView). asks_report (ordering_of f.place) c.self.inside.judge.asked) c.fetch.ensures.steps.is
+          ∙ ap (λ (o : Ordering). asks_report o c.self.inside.judge.asked) (after-order c.self.inside.feed.place c.args.input (closes c.fetch.result))
+          ∙ subst K closed none);
+    }))
 
 pub returns-in-Ok-false-clause-paid : goal.returns-in-Ok-false-clause-paid
 returns-in-Ok-false-clause-paid g c = λ more.

@@ -1,10 +1,11 @@
-use Rattle.std.proofs.Common.{List, ℕ, ◌+◌, true, false, Some, ap, subst, sym, ◌∙◌}
+use Rattle.std.proofs.Common.{List, ℕ, ◌+◌, true, false, Some, refl, ap, subst, sym, ◌∙◌}
 use Rattle.cap_tools.specs.Outcome.{seen}
 use Rattle.cap_job.specs.declared.machine.Progress.{Progress}
 use Rattle.cap_job.specs.Bounds.{StepReads, goes_on}
 use Rattle.cap_job.specs.Feed.{Stood}
 use Rattle.cap_job.specs.Machine.{Decided, machine_stand}
-use Rattle.cap_job.specs.Jobs.{JobView, EndsJob, EndsAs, end_text, machine_of}
+use Rattle.cap_job.specs.declared.packets.Turn.TheVariants as turn
+use Rattle.cap_job.specs.Jobs.{JobView, JobGives, EndsJob, EndsAs, end_text, machine_of}
 use Rattle.cap_job.proofs.Ends.{clean-status, ends-as}
 use Rattle.cap_job.proofs.packets.PacketJob.step.Goals as goal
 
@@ -13,11 +14,11 @@ returns-in-Done-clause-told g c = λ ti to none.
     let names : List (List ℕ) = c.step.new.self.drain.names in
     let new : JobView = record { machine = machine_stand c.step.new.self; programs = c.step.new.self.programs; err = seen (g.E.Output.written c.tell.new.err) (g.E.Output.failures c.tell.new.err); turns = c.self.inside.turns + 1; done = Some c.status_at_end-status.result } in
     let P : JobView → Type 0 = λ v. EndsJob g.E.Output.tells v c.status_at_end-status.result new in
-    let N : List (List ℕ) → Type 0 = λ l. (ss : List Stood) (before : List ℕ) → Decided ss before (machine_stand c.self.inside.machine)
-    → EndsAs ss before l (machine_stand c.self.inside.machine) (machine_stand c.step.new.self) (end_text names c.step.new.self.feed.heads c.in-Done.end) c.status_at_end-status.result in
+    let N : List (List ℕ) → Type 0 = λ l. (ss : List Stood) (before : List ℕ) (d : Decided ss before (machine_stand c.self.inside.machine))
+    → EndsAs d l (machine_stand c.step.new.self) (end_text names c.step.new.self.feed.heads c.in-Done.end) c.status_at_end-status.result in
     subst P c.self.view_is (record {
       text = end_text names c.step.new.self.feed.heads c.in-Done.end;
-      ends = subst N c.in-Done.ensures.names (λ ss before d. rw c.status_at_end-status.ensures (ends-as ss before names (machine_stand c.self.inside.machine) (machine_stand c.step.new.self) c.in-Done.end (c.in-Done.ensures.told ti to ss before d)));
+      ends = subst N c.in-Done.ensures.names (λ ss before d. rw c.status_at_end-status.ensures (ends-as ss before (machine_stand c.self.inside.machine) d names (machine_stand c.step.new.self) c.in-Done.end (c.in-Done.ensures.told ti to ss before d)));
       told = record {
         answer = c.tell.result;
         told = λ te. c.tell.ensures.told te;
@@ -25,6 +26,12 @@ returns-in-Done-clause-told g c = λ ti to none.
       };
       quiet = λ zero. ap (λ e. seen (g.E.Output.written e) (g.E.Output.failures e)) (c.tell.ensures.quiet (clean-status c.in-Done.end (sym c.status_at_end-status.ensures ∙ zero)));
     })
+
+pub returns-in-More-clause-told : goal.returns-in-More-clause-told
+returns-in-More-clause-told g c = λ ti to none.
+    let new : JobView = record { machine = machine_stand c.step.new.self; programs = c.step.new.self.programs; err = seen (g.E.Output.written c.self.inside.err) (g.E.Output.failures c.self.inside.err); turns = c.self.inside.turns + 1; done = c.self.inside.done } in
+    let P : JobView → Type 0 = λ v. JobGives g.E.Output.tells v turn.More new in
+    subst P c.self.view_is (refl, λ ss before d. c.in-More.ensures.told ti to ss before d)
 
 pub returns-in-More-clause-reads : goal.returns-in-More-clause-reads
 returns-in-More-clause-reads g c =
