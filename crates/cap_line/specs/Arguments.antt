@@ -1,7 +1,7 @@
 -- The command line as clap parses it.
 use Rattle.std.specs.Prelude.{◌≡◌, ℕ, List, [], ◌∷◌, Option, Some, true, codes, if◌then◌else◌, map, pos}
 use Rattle.std.specs.Str.{bytes_eq}
-use Rattle.clap.specs.Words.{App, HasKind, Row, Rule, Text, fault_of, kind_of, new_app, new_rule, subcommand_of, takes, with_rule, with_subcommand}
+use Rattle.clap.specs.Words.{App, HasKind, Row, Rule, Text, fault_of, is_simple, is_simple_and_free, kind_of, new_app, new_rule, subcommand_of, takes, with_rule, with_subcommand}
 use Rattle.clap.specs.declared.builder.action.ArgAction.TheVariants.{SetTrue}
 use Rattle.clap.specs.declared.builder.value_parser.ValueParser.{ValueParser}
 use Rattle.clap.specs.declared.builder.value_parser.ValueParser.TheVariants as parser
@@ -164,6 +164,13 @@ abbrev pub line_app : (formats links : ValueParser) → App
 line_app formats links =
     with_subcommand (with_subcommand (with_subcommand (with_subcommand (with_subcommand bare_line
     (edit_app formats).top) (merge_app formats).top) infos_app.top) (print_app formats).top) (compile_app links).top
+
+-- what clap states of a parse, it states of simple commands, and why one fails, of simple and free ones: the line is both
+abbrev pub LineIsSimple : Type 0
+LineIsSimple = (formats links : ValueParser) → is_simple (line_app formats links) ≡ true
+
+abbrev pub LineIsFree : Type 0
+LineIsFree = (formats links : ValueParser) → is_simple_and_free (line_app formats links) ≡ true
 
 -- ---- names to choose from
 

@@ -4,7 +4,7 @@
 //! `cap_pages` reads them so for the manual pages. No line has more than 80 columns.
 
 /// The version of the program, as in `packaging/version`, and of the toolchain that proves it.
-pub const VERSION: &str = "0.1.0 (rattle-kit-13b logic dac8208d650f15bf)";
+pub const VERSION: &str = "0.1.0 (rattle-kit-13f logic dac8208d650f15bf)";
 
 pub const LINE_HELP: &str = "\
 capkit COMMAND --help has the options and examples of a command.
@@ -18,7 +18,7 @@ Examples:
   Keep the first thousand packets alone:
     capkit edit -r in.pcapng out.pcapng 1-1000
   Keep an hour of a day:
-    capkit edit -A 2026-01-31T12:00:00Z -B 2026-01-31T13:00:00Z day.pcap 12.pcap
+    capkit edit -A 2026-01-31T12:00:00Z -B 2026-01-31T13:00:00Z day.pcap 12.pcapng
   Keep the headers alone:
     capkit edit -s 96 in.pcap headers.pcapng
   Remove 8 bytes that a tap puts before each packet:

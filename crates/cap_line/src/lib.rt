@@ -7,6 +7,7 @@ mod edit_line;
 mod examples;
 mod files;
 mod infos_line;
+pub mod laws;
 mod line;
 mod merge_line;
 mod names;
