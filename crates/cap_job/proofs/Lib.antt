@@ -20,6 +20,7 @@ pub mod Merges
 pub mod Once
 pub mod Order
 pub mod Preparing
+pub mod Programs
 pub mod Queues
 pub mod Rows
 pub mod Runs

@@ -1,11 +1,16 @@
 -- What a contract sees of a judge.
-use Rattle.std.specs.Prelude.{◌≡◌, ℕ, ◌+◌, ◌-◌, ◌^◌, ◌≤◌, Bool, true, false, if◌then◌else◌, List, [], length, Option, None, Result, Ok, Err, ◌*◌, Some}
+use Rattle.std.specs.Prelude.{◌≡◌, ℕ, ◌+◌, ◌-◌, ◌^◌, ◌≤◌, Bool, true, false, if◌then◌else◌, List, [], ◌∷◌, length, map, Option, None, Result, Ok, Err, ◌*◌, Some}
 use Rattle.cap_octet.specs.Packet.{Captured}
 use Rattle.cap_octet.specs.declared.fault.Fault.{Fault}
 use Rattle.cap_window.specs.declared.mark.Mark.{Mark}
 use Rattle.cap_window.specs.View.{WindowView}
 use Rattle.flt_bpf.specs.Content.{Content}
 use Rattle.cap_tools.specs.declared.command.Edit.{Edit}
+use Rattle.flt_lang.specs.Tree.{empty, truth}
+use Rattle.cap_tools.specs.FilterRules as rules
+use Rattle.cap_tools.specs.FilterRules.{by_reading, by_answer}
+use Rattle.cap_tools.specs.Links.{link_types}
+use Rattle.cap_tools.specs.Programs.{AreMade}
 use Rattle.cap_tools.specs.Filters.{most_cost, programs_of, rule_of, spent_on}
 use Rattle.cap_job.specs.declared.judge.Rule.{Rule}
 use Rattle.cap_job.specs.declared.judge.Rule.TheVariants as rule
@@ -62,6 +67,20 @@ programs_in (rule.Select edit) = []
 programs_in (rule.Filter filter count) = programs_of filter
 programs_in rule.Everything = []
 programs_in rule.Count = []
+
+-- the programs for what a rule asks, whether or not they ran: of an expression one for each link type, each of which
+-- accepts exactly the packets that match; or the listing's; or none where all packets match
+abbrev pub AreFor : rules.Rule → List Content → Type 0
+AreFor (by_reading empty) programs = programs ≡ []
+AreFor (by_reading (truth a)) programs = AreMade (truth a) link_types programs
+AreFor (by_answer prog) programs = map (λ program. program.insns) programs ≡ prog ∷ []
+
+-- the programs are those for what is asked: only a filter has any
+abbrev pub HavePrograms : Asked → List Content → Type 0
+HavePrograms (Select s) programs = programs ≡ []
+HavePrograms (Filter rule count) programs = AreFor rule programs
+HavePrograms Everything programs = programs ≡ []
+HavePrograms Count programs = programs ≡ []
 
 -- what judging a packet costs: under a filter one run of one program, or nothing
 abbrev pub spent_by : Asked → Captured → List Content → List Content

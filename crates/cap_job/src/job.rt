@@ -10,7 +10,7 @@ ghost use Rattle.cap_job.specs.Bounds.{IsLight, most_turns};
 ghost use Rattle.cap_job.specs.Commands.{CommandRuns, IsReady, Prepares, PreparesOnly, RunsCommand};
 ghost use Rattle.cap_job.specs.Commands.{assigned, lines_unless, preparing_of};
 ghost use Rattle.cap_job.specs.Jobs.{IsStatus, done_by, machine_of, opened, order_of, turn_goes_on};
-ghost use Rattle.cap_job.specs.Judge.{asked_of, programs_in};
+ghost use Rattle.cap_job.specs.Judge.{HavePrograms, asked_of, programs_in};
 
 use crate::drain::Writing;
 use crate::judge::Rule;
@@ -77,6 +77,7 @@ fn assignment_of<A: Allocator>(command: Command<A>) -> Assignment<A>
     ensures order { order_of result.work.merges ≡ (assigned command).order }
     ensures writing { result.work.writing ≡ (assigned command).writing }
     ensures programs { programs_in result.work.rule ≡ [] }
+    ensures sound { HavePrograms (asked_of result.work.rule) (programs_in result.work.rule) }
 {
     match command {
         Command::Edit(edit) => {
@@ -210,6 +211,7 @@ impl<I: Input, O: Output, E: Output, A: Allocator + Copy + Drop> Job<I, O, E, A>
         ensures reads { StepReadsBy self.old.preparing I.tells (turn_goes_on result)
             (machine_of self.old.packets) (machine_of self.new.packets) }
         ensures light { IsLight self.new.packets.machine }
+        ensures sound { HavePrograms self.new.packets.machine.asked self.new.packets.programs }
         ensures left { result ≡ Turn.More → command_left self.new < command_left self.old }
         ensures names { self.new.packets.machine.drain.names
             ≡ self.old.packets.machine.drain.names }
@@ -253,6 +255,7 @@ fn prepare<I: Input, O: Output, E: Output, A: Allocator + Copy + Drop>(
     ensures few { packets.new.turns ≤ most_turns packets.old.machine.feed + 1 }
     ensures reads { PreparesOnly (machine_of packets.old) (machine_of packets.new) }
     ensures light { IsLight packets.new.machine }
+    ensures sound { HavePrograms packets.new.machine.asked packets.new.programs }
     ensures feed { packets.new.machine.feed ≡ packets.old.machine.feed }
     ensures names { packets.new.machine.drain.names ≡ packets.old.machine.drain.names }
 {

@@ -5,9 +5,9 @@ ghost use Rattle.cap_job.specs.Bounds.{HasFewInterfaces, IsBounded, IsLight};
 ghost use Rattle.cap_job.specs.Feed.{most_steps, ordering_of};
 ghost use Rattle.cap_job.specs.Drain.{Lists};
 ghost use Rattle.cap_job.specs.FirstStep.{asking};
-ghost use Rattle.cap_tools.specs.Filters.{programs_of, rule_of};
+ghost use Rattle.cap_tools.specs.Filters.{AreNew, programs_of, rule_of};
 ghost use Rattle.cap_job.specs.Verdicts.{Filter as AskedFilter};
-ghost use Rattle.cap_job.specs.Judge.{GrowsByOne, HasFewMarks, IsWithin, judge_stand};
+ghost use Rattle.cap_job.specs.Judge.{GrowsByOne, HasFewMarks, HavePrograms, IsWithin, judge_stand};
 ghost use Rattle.cap_job.specs.Machine.{Closes, Decides, Offers, Spends, asks_report};
 ghost use Rattle.cap_job.specs.Machine.{machine_stand, unwritten};
 
@@ -55,7 +55,7 @@ impl<I: Input, O: Output, A: Allocator> Model for Machine<I, O, A> {
     ghost use Rattle.cap_tools.specs.Programs.{expression_code};
     ghost use Rattle.cap_job.specs.Bounds.{IsBounded};
     ghost use Rattle.cap_job.specs.Feed.{feed_left, most_steps};
-    ghost use Rattle.cap_job.specs.Judge.{HasFewMarks};
+    ghost use Rattle.cap_job.specs.Judge.{HasFewMarks, HavePrograms};
     ghost use Rattle.cap_job.specs.Machine.{MachineView};
 
     ghost Value = { MachineView };
@@ -72,7 +72,8 @@ impl<I: Input, O: Output, A: Allocator> Model for Machine<I, O, A> {
     } };
 
     ghost invariant = { λ m. (m.decided + feed_left m.feed ≤ most_steps) × IsBounded m.feed m.drain
-        × HasFewMarks m.judge.asked m.judge.stand };
+        × HasFewMarks m.judge.asked m.judge.stand
+        × HavePrograms m.judge.asked m.judge.programs };
 }
 
 /// Writes a packet that passes, and returns whether it is the last.
@@ -183,6 +184,7 @@ impl<I: Input, O: Output, A: Allocator + Copy + Drop> Machine<I, O, A> {
         requires left { feed_left feed ≤ most_steps }
         requires bounded { IsBounded feed drain }
         requires few { HasFewMarks judge.asked judge.stand }
+        requires sound { HavePrograms judge.asked judge.programs }
         ensures { result ≡ record {
           feed = feed;
           asked = judge.asked;
@@ -217,10 +219,12 @@ impl<I: Input, O: Output, A: Allocator + Copy + Drop> Machine<I, O, A> {
     /// From here on packets are judged by this filter, up to so many that pass where there is a
     /// number.
     pub fn judge_by(&mut self, filter: Filter<A>, count: Option<u64>)
+        requires { AreNew (rule_of filter) (programs_of filter) }
         ensures stand { machine_stand self.new ≡ asking (AskedFilter (rule_of filter) count)
             (machine_stand self.old) }
         ensures programs { self.new.programs ≡ programs_of filter }
         ensures light { IsLight (machine_stand self.new) }
+        ensures sound { HavePrograms self.new.asked self.new.programs }
     {
         self.judge = Judge::filtering(filter, count);
     }
@@ -232,6 +236,7 @@ impl<I: Input, O: Output, A: Allocator + Copy + Drop> Machine<I, O, A> {
         ensures feed { self.new.feed ≡ self.old.feed }
         ensures decided { self.new.decided ≡ self.old.decided }
         ensures light { IsLight (machine_stand self.new) }
+        ensures sound { HavePrograms self.new.asked self.new.programs }
         ensures names { self.new.drain.names ≡ self.old.drain.names }
         ensures programs { self.new.programs ≡ self.old.programs }
         ensures asked { self.new.asked ≡ self.old.asked }
@@ -260,6 +265,7 @@ impl<I: Input, O: Output, A: Allocator + Copy + Drop> Machine<I, O, A> {
             < feed_left self.old.feed }
         ensures reads { StepReads I.tells (goes_on result) self.old self.new }
         ensures light { IsLight (machine_stand self.new) }
+        ensures sound { HavePrograms self.new.asked self.new.programs }
         ensures paid { result ≡ Progress.More → IsPaid self.old.feed self.new.feed }
     {
         match self.feed.next() {
@@ -281,6 +287,7 @@ impl<I: Input, O: Output, A: Allocator + Copy + Drop> Machine<I, O, A> {
             < feed_left self.old.feed }
         ensures reads { StepReads I.tells (goes_on result) self.old self.new }
         ensures light { IsLight (machine_stand self.new) }
+        ensures sound { HavePrograms self.new.asked self.new.programs }
         ensures paid { result ≡ Progress.More → IsPaid self.old.feed self.new.feed }
     {
         let number = self.decided + 1;
@@ -315,6 +322,7 @@ impl<I: Input, O: Output, A: Allocator + Copy + Drop> Machine<I, O, A> {
             < feed_left self.old.feed }
         ensures reads { StepReads I.tells (goes_on result) self.old self.new }
         ensures light { IsLight (machine_stand self.new) }
+        ensures sound { HavePrograms self.new.asked self.new.programs }
         ensures paid { result ≡ Progress.More → IsPaid self.old.feed self.new.feed }
     {
         match self.feed.fetch(input) {
@@ -335,6 +343,7 @@ impl<I: Input, O: Output, A: Allocator + Copy + Drop> Machine<I, O, A> {
             < feed_left self.old.feed }
         ensures reads { StepReads I.tells (goes_on result) self.old self.new }
         ensures light { IsLight (machine_stand self.new) }
+        ensures sound { HavePrograms self.new.asked self.new.programs }
         ensures paid { result ≡ Progress.More → IsPaid self.old.feed self.new.feed }
     {
         let first = self.feed.first_link();

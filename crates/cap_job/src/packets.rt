@@ -6,7 +6,7 @@ ghost use Rattle.cap_octet.specs.Device.{AppendsOrStops, failures_of};
 ghost use Rattle.cap_tools.specs.Outcome.{seen};
 ghost use Rattle.cap_job.specs.Bounds.{IsLight, ReadsNothing, StepReads, most_turns};
 ghost use Rattle.cap_job.specs.Feed.{feed_left};
-ghost use Rattle.cap_job.specs.Judge.{asked_of, programs_in};
+ghost use Rattle.cap_job.specs.Judge.{HavePrograms, asked_of, programs_in};
 ghost use Rattle.cap_job.specs.Machine.{machine_stand};
 ghost use Rattle.cap_job.specs.FirstStep.{ListsInto, is_text, output_by};
 ghost use Rattle.cap_job.specs.Jobs.{end_status, end_text, most_inputs, opened, order_of};
@@ -57,6 +57,7 @@ impl<I: Input, O: Output, E: Output, A: Allocator> Model for PacketJob<I, O, E, 
     ghost use Rattle.cap_job.specs.Bounds.{HasFewTurns, IsLight};
     ghost use Rattle.cap_job.specs.Feed.{feed_left};
     ghost use Rattle.cap_job.specs.Jobs.{JobView, IsCounted};
+    ghost use Rattle.cap_job.specs.Judge.{HavePrograms};
     ghost use Rattle.cap_job.specs.Machine.{machine_stand};
 
     ghost Value = { JobView };
@@ -72,7 +73,8 @@ impl<I: Input, O: Output, E: Output, A: Allocator> Model for PacketJob<I, O, E, 
     } };
 
     ghost invariant = { λ j. IsCounted j.done j.turns (feed_left j.machine.feed)
-        × HasFewTurns j.done j.turns j.machine.feed × IsLight (machine_stand j.machine) };
+        × HasFewTurns j.done j.turns j.machine.feed × IsLight (machine_stand j.machine)
+        × HavePrograms j.machine.asked j.machine.programs };
 }
 
 /// Reports how a job ended.
@@ -120,6 +122,7 @@ fn list<I: Input, O: Output, E: Output, A: Allocator + Copy + Drop>(
     ensures feed { machine.new.feed ≡ machine.old.feed }
     ensures decided { machine.new.decided ≡ machine.old.decided }
     ensures light { IsLight (machine_stand machine.new) }
+    ensures sound { HavePrograms machine.new.asked machine.new.programs }
     ensures names { machine.new.drain.names ≡ machine.old.drain.names }
     ensures programs { machine.new.programs ≡ machine.old.programs }
     ensures asked { machine.new.asked ≡ machine.old.asked }
@@ -137,7 +140,7 @@ impl<I: Input, O: Output, E: Output, A: Allocator + Copy + Drop> PacketJob<I, O,
     ghost use Rattle.std.specs.Result.{IfOk, IfErr};
     ghost use Rattle.std.specs.Prelude.{true};
     ghost use Rattle.cap_tools.specs.Messages.{refusal_status};
-    ghost use Rattle.cap_tools.specs.Filters.{programs_of, rule_of};
+    ghost use Rattle.cap_tools.specs.Filters.{AreNew, programs_of, rule_of};
     ghost use Rattle.cap_job.specs.Jobs.{IsStatus, JobGives, done_by, job_first, machine_of};
     ghost use Rattle.cap_job.specs.Jobs.{turn_goes_on};
     ghost use Rattle.cap_job.specs.FirstStep.{EndsList, IsFresh, Refuses, filtering, is_text};
@@ -157,6 +160,7 @@ impl<I: Input, O: Output, E: Output, A: Allocator + Copy + Drop> PacketJob<I, O,
         I: Drop,
         requires few { length inputs.items ≤ most_inputs }
         requires programs { programs_in work.rule ≡ [] }
+        requires sound { HavePrograms (asked_of work.rule) (programs_in work.rule) }
         ensures fresh { IfOk result (λ job. job ≡ job_first (order_of work.merges)
             (asked_of work.rule) work.writing (map string_bytes names.items)
             (map (λ input. opened (I.unread input) (I.given input) (I.failures input)
@@ -196,6 +200,7 @@ impl<I: Input, O: Output, E: Output, A: Allocator + Copy + Drop> PacketJob<I, O,
         ensures reads { StepReads I.tells (turn_goes_on result) (machine_of self.old)
             (machine_of self.new) }
         ensures light { IsLight self.new.machine }
+        ensures sound { HavePrograms self.new.machine.asked self.new.programs }
         ensures left { result ≡ Turn.More → (self.new.turns ≡ self.old.turns + 1)
             × (feed_left self.new.machine.feed < feed_left self.old.machine.feed) }
         ensures kept { (self.new.machine.drain.names ≡ self.old.machine.drain.names)
@@ -218,11 +223,13 @@ impl<I: Input, O: Output, E: Output, A: Allocator + Copy + Drop> PacketJob<I, O,
 
     /// From here on packets are judged by this filter, up to so many that pass. It is one step.
     pub(crate) fn filter(&mut self, filter: Filter<A>, count: Option<u64>) -> Turn
-        requires { IsFresh self.old }
+        requires fresh { IsFresh self.old }
+        requires new { AreNew (rule_of filter) (programs_of filter) }
         ensures more { result ≡ Turn.More }
         ensures filtered { self.new ≡ filtering (rule_of filter) count (programs_of filter)
             self.old }
         ensures light { IsLight self.new.machine }
+        ensures sound { HavePrograms self.new.machine.asked self.new.programs }
     {
         self.machine.judge_by(filter, count);
         self.turns += 1;
@@ -236,6 +243,7 @@ impl<I: Input, O: Output, E: Output, A: Allocator + Copy + Drop> PacketJob<I, O,
         ensures status { IsStatus result }
         ensures refused { Refuses refusal E.tells self.old (refusal_status refusal) self.new }
         ensures light { IsLight self.new.machine }
+        ensures sound { HavePrograms self.new.machine.asked self.new.programs }
     {
         let _ = tell_refusal(&mut self.err, refusal);
         let status = refusal.status();
@@ -256,6 +264,7 @@ impl<I: Input, O: Output, E: Output, A: Allocator + Copy + Drop> PacketJob<I, O,
         ensures feed { self.new.machine.feed ≡ self.old.machine.feed }
         ensures reads { ReadsNothing (machine_of self.old) (machine_of self.new) }
         ensures light { IsLight self.new.machine }
+        ensures sound { HavePrograms self.new.machine.asked self.new.programs }
         ensures names { self.new.machine.drain.names ≡ self.old.machine.drain.names }
     {
         let status = list(&mut self.machine, &mut self.err, program);

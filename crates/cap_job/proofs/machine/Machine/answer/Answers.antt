@@ -5,6 +5,7 @@ use Rattle.cap_job.specs.Feed.{FeedView, HeadView, Stood, Among, settled, feed_l
 use Rattle.cap_job.proofs.Lefts.{settle-less}
 use Rattle.cap_job.specs.Bounds.{StepReads, decides_one, leaves_one, IsPaid}
 use Rattle.cap_job.proofs.Held.{answer-waits, held}
+use Rattle.cap_job.proofs.Programs.{have-decided}
 use Rattle.cap_job.proofs.Turns.{settle-paid}
 use Rattle.cap_job.proofs.Weights.{is-light, settle-small}
 use Rattle.cap_job.specs.Feed as feeding
@@ -59,7 +60,15 @@ invariant_of-self g c =
     let P : MachineView → Type 0 = λ v. feeding.Tells v.feed.place v.feed.heads (next.Answer c.args.input) in
     let less = settle-less c.self.inside.feed c.settle.new.self c.args.input (subst P (sym c.self.view_is) c.requires.next) c.settle.ensures in
     let was = c.self.invariant.0 in
-    (omega (arith, less, was), (settle-small c.self.inside.feed c.settle.new.self c.args.input c.settle.ensures c.self.invariant.1.0, c.decide.ensures.few c.self.invariant.1.1), c.decide.ensures.marks)
+    (omega (arith, less, was), (settle-small c.self.inside.feed c.settle.new.self c.args.input c.settle.ensures c.self.invariant.1.0, c.decide.ensures.few c.self.invariant.1.1), c.decide.ensures.marks, have-decided c.head.result.now.source.packet c.self.inside.judge (c.self.inside.decided + 1) c.decide.new.judge c.decide.ensures.spends c.decide.ensures.asked c.self.invariant.3)
+
+pub invariant_of-self-in-Err : goal.invariant_of-self-in-Err
+invariant_of-self-in-Err g c = (
+  c.self.invariant.0,
+  (c.self.invariant.1.0, c.decide.ensures.few c.self.invariant.1.1),
+  c.decide.ensures.marks,
+  have-decided c.head.result.now.source.packet c.self.inside.judge (c.self.inside.decided + 1) c.decide.new.judge c.decide.ensures.spends c.decide.ensures.asked c.self.invariant.3,
+)
 
 pub returns-after-last-clause-reads : goal.returns-after-last-clause-reads
 returns-after-last-clause-reads g c =
@@ -109,3 +118,11 @@ pub returns-in-Err-clause-light : goal.returns-in-Err-clause-light
 returns-in-Err-clause-light g c =
     is-light (record { feed = c.self.inside.feed; asked = c.decide.new.judge.asked; stand = c.decide.new.judge.stand; drain = c.decide.new.drain; decided = c.self.inside.decided })
     (c.self.invariant.1.0, c.decide.ensures.few c.self.invariant.1.1) c.decide.ensures.marks
+
+pub returns-after-last-clause-sound : goal.returns-after-last-clause-sound
+returns-after-last-clause-sound g c =
+    have-decided c.head.result.now.source.packet c.self.inside.judge (c.self.inside.decided + 1) c.decide.new.judge c.decide.ensures.spends c.decide.ensures.asked c.self.invariant.3
+
+pub returns-in-Err-clause-sound : goal.returns-in-Err-clause-sound
+returns-in-Err-clause-sound g c =
+    have-decided c.head.result.now.source.packet c.self.inside.judge (c.self.inside.decided + 1) c.decide.new.judge c.decide.ensures.spends c.decide.ensures.asked c.self.invariant.3

@@ -9,6 +9,7 @@ use Rattle.cap_job.specs.Verdicts.{Asked}
 use Rattle.cap_job.specs.Judge.{JudgeView, judge_stand}
 use Rattle.cap_job.specs.Machine.{MachineStand, MachineView, machine_stand, machine_with, Decided, GoesOn, BreaksAt, StepLeaves, asks_report}
 use Rattle.cap_job.proofs.Laws.{after-order}
+use Rattle.cap_job.proofs.Programs.{have-kept}
 use Rattle.cap_job.proofs.Fetches.{Follows, FetchLeaves, fetch-leaves}
 use Rattle.cap_job.specs.Bounds.{StepReads, reads_on, IsPaid, goes_on, is_fault}
 use Rattle.cap_job.proofs.Lefts.{Goes, fetch-kept, fetch-less}
@@ -22,7 +23,7 @@ invariant_of-self g c =
     let W : MachineView → Type 0 = λ v. c.args.input < length v.feed.heads in
     let less = fetch-kept c.self.inside.feed c.fetch.new.self c.args.input c.fetch.result (subst N (sym c.self.view_is) c.requires.next) (subst W (sym c.self.view_is) c.requires.within) c.fetch.ensures.steps in
     let was = c.self.invariant.0 in
-    (omega (arith, less, was), (fetch-small c.self.inside.feed c.fetch.new.self c.args.input c.fetch.result c.fetch.ensures.steps c.self.invariant.1.0, c.self.invariant.1.1), c.self.invariant.2)
+    (omega (arith, less, was), (fetch-small c.self.inside.feed c.fetch.new.self c.args.input c.fetch.result c.fetch.ensures.steps c.self.invariant.1.0, c.self.invariant.1.1), c.self.invariant.2, c.self.invariant.3)
 
 pub invariant_of-self-in-Ok-false : goal.invariant_of-self-in-Ok-false
 invariant_of-self-in-Ok-false g c =
@@ -30,7 +31,7 @@ invariant_of-self-in-Ok-false g c =
     let W : MachineView → Type 0 = λ v. c.args.input < length v.feed.heads in
     let less = fetch-kept c.self.inside.feed c.fetch.new.self c.args.input c.fetch.result (subst N (sym c.self.view_is) c.requires.next) (subst W (sym c.self.view_is) c.requires.within) c.fetch.ensures.steps in
     let was = c.self.invariant.0 in
-    (omega (arith, less, was), (fetch-small c.self.inside.feed c.fetch.new.self c.args.input c.fetch.result c.fetch.ensures.steps c.self.invariant.1.0, c.close.ensures.few c.self.invariant.1.1), c.close.ensures.marks c.self.invariant.2)
+    (omega (arith, less, was), (fetch-small c.self.inside.feed c.fetch.new.self c.args.input c.fetch.result c.fetch.ensures.steps c.self.invariant.1.0, c.close.ensures.few c.self.invariant.1.1), c.close.ensures.marks c.self.invariant.2, have-kept c.self.inside.judge c.close.new.judge c.close.ensures.programs c.close.ensures.asked c.self.invariant.3)
 
 pub invariant_of-self-in-Err : goal.invariant_of-self-in-Err
 invariant_of-self-in-Err g c =
@@ -38,7 +39,7 @@ invariant_of-self-in-Err g c =
     let W : MachineView → Type 0 = λ v. c.args.input < length v.feed.heads in
     let less = fetch-kept c.self.inside.feed c.fetch.new.self c.args.input c.fetch.result (subst N (sym c.self.view_is) c.requires.next) (subst W (sym c.self.view_is) c.requires.within) c.fetch.ensures.steps in
     let was = c.self.invariant.0 in
-    (omega (arith, less, was), (fetch-small c.self.inside.feed c.fetch.new.self c.args.input c.fetch.result c.fetch.ensures.steps c.self.invariant.1.0, c.self.invariant.1.1), c.self.invariant.2)
+    (omega (arith, less, was), (fetch-small c.self.inside.feed c.fetch.new.self c.args.input c.fetch.result c.fetch.ensures.steps c.self.invariant.1.0, c.self.invariant.1.1), c.self.invariant.2, c.self.invariant.3)
 
 pub returns-in-Ok-true-clause-told : goal.returns-in-Ok-true-clause-told
 returns-in-Ok-true-clause-told g c = λ ti to ss before d.
@@ -146,3 +147,7 @@ pub returns-in-Err-clause-light : goal.returns-in-Err-clause-light
 returns-in-Err-clause-light g c =
     is-light (record { feed = c.fetch.new.self; asked = c.self.inside.judge.asked; stand = c.self.inside.judge.stand; drain = c.self.inside.drain; decided = c.self.inside.decided })
     (fetch-small c.self.inside.feed c.fetch.new.self c.args.input c.fetch.result c.fetch.ensures.steps c.self.invariant.1.0, c.self.invariant.1.1) c.self.invariant.2
+
+pub returns-in-Ok-false-clause-sound : goal.returns-in-Ok-false-clause-sound
+returns-in-Ok-false-clause-sound g c =
+    have-kept c.self.inside.judge c.close.new.judge c.close.ensures.programs c.close.ensures.asked c.self.invariant.3
