@@ -3,11 +3,11 @@
 
 usage: build.py PROGRAM
 
-A crate is proved as soon as those that it needs are, as many side by side as there are processors
-and memory for them, first the one with the longest chain of crates above it. A run of rt keeps
-other runs out of the folders of its crate and of those that this one needs. So each crate has a
-workspace of its own, out/crates/NAME: copies of their sources, and links to the libraries that the
-other workspaces have built. It is kept, which makes the next build shorter.
+A crate is proved as soon as those that it needs are, many side by side on all processors, first
+the one with the longest chain of crates above it. A run of rt keeps other runs out of the folders
+of its crate and of those that this one needs. So each crate has a workspace of its own,
+out/crates/NAME: copies of their sources, and links to the libraries that the other workspaces have
+built. It is kept, which makes the next build shorter.
 
 The program is copied to PROGRAM in one step, so that no launch finds a part of it. The status is 1
 where a crate isn't proved or something can't be written.
@@ -28,7 +28,7 @@ import time
 ROOT = pathlib.Path(__file__).resolve().parent.parent
 OUT = ROOT / "out"
 TOP = "capkit"
-# What a check of a crate takes of memory, in bytes.
+# What a job of a check takes of memory, in bytes.
 MEMORY = 2_000_000_000
 
 
@@ -140,7 +140,7 @@ class Build:
     def __init__(self, crates):
         self.crates = crates
         self.waiting = sorted(crates.values(), key=lambda it: -it.chain)
-        self.running, self.proved, self.spare = {}, [], processors()
+        self.running, self.proved, self.spare = {}, [], most_jobs()
         self.events, self.screen = queue.Queue(), Screen()
         self.turn, self.is_ending = threading.Lock(), False
 
@@ -158,7 +158,7 @@ class Build:
             self.stop()
 
     def begin_ready(self):
-        """Begins crates that wait for no other, and gives them the free processors."""
+        """Begins crates that wait for no other, and gives them the jobs that are free."""
         is_ready = lambda crate: all(self.crates[it] in self.proved for it in crate.needs)
         ready = [it for it in self.waiting if is_ready(it)]
         while ready and self.spare:
@@ -226,15 +226,16 @@ class Build:
             process.wait()
 
 
-def processors():
-    """Returns how many processors may be used, of which each has to have its memory."""
-    found = len(os.sched_getaffinity(0))
+def most_jobs():
+    """Returns how many jobs the checks may have: half as many again as there are processors, since
+    a check doesn't keep all of its jobs busy from first to last, as far as there is memory."""
+    jobs = len(os.sched_getaffinity(0)) * 3 // 2
     try:
         free = re.search(r"MemAvailable:\s+(\d+) kB", pathlib.Path("/proc/meminfo").read_text())
-        found = min(found, 1024 * int(free[1]) // MEMORY)
+        jobs = min(jobs, 1024 * int(free[1]) // MEMORY)
     except (OSError, TypeError):
         pass
-    return max(found, 1)
+    return max(jobs, 1)
 
 
 class Screen:
