@@ -76,6 +76,11 @@ _capkit_files() {{
 _capkit() {{
     local word=$2 before=$3 options='' has_files=''
     COMPREPLY=()
+    # bash takes an option and its value apart at =
+    case $word$before in
+    =*) word='' ;;
+    *=) before=${{COMP_WORDS[COMP_CWORD-2]}} ;;
+    esac
     if [ \"$COMP_CWORD\" = 1 ]; then
         _capkit_offer '{commands}{options}' \"$word\"
         return

@@ -14,6 +14,15 @@ fn without_bracket(choices: &str) -> &str {
     choices.strip_suffix("]").unwrap_or(choices)
 }
 
+/// What a usage has behind the command and the options that may be left out.
+fn behind_options(usage: &str) -> &str {
+    if let Some((_, behind)) = usage.split_once("[OPTIONS]") {
+        return behind.trim();
+    }
+    let start = usage.find('<').unwrap_or(usage.len());
+    usage.get(start..).unwrap_or("")
+}
+
 /// A command, an argument or an option, as a line of help lists it.
 #[derive(Clone, Copy, Drop)]
 pub struct Entry<'a> {
@@ -124,7 +133,7 @@ impl<'a> Help<'a> {
     /// Reads a line of that part.
     fn read(&mut self, part: Part, line: &'a str) -> Result<(), AllocError> {
         if let Some(usage) = line.strip_prefix("Usage: ") {
-            self.usage = usage.split_once("[OPTIONS]").unwrap_or(("", "")).1.trim();
+            self.usage = behind_options(usage);
             return Ok(());
         }
         match part {

@@ -34,13 +34,15 @@ fn action(alloc: Global, entry: &Entry<'_>) -> Result<String, AllocError> {
     format!(in alloc; "({choices})")
 }
 
-/// Writes an option under one of its names.
+/// Writes an option under one of its names. A value may also stand in the same word, behind `=` if
+/// the name is a long one.
 fn write_option(rt: &HostRuntime, option: &Entry<'_>, name: &str) -> Result<(), Fail> {
     let text = escaped(rt.alloc(), option.text)?;
     match option.value() {
         Some(value) => {
             let action = action(rt.alloc(), option)?;
-            rt.println(format_args!("            '{name}[{text}]:{value}:{action}' \\"))?;
+            let joint = if name.starts_with("--") { "=" } else { "+" };
+            rt.println(format_args!("            '{name}{joint}[{text}]:{value}:{action}' \\"))?;
         }
         None => rt.println(format_args!("            '{name}[{text}]' \\"))?,
     }
@@ -77,22 +79,39 @@ fn write_command(rt: &HostRuntime, name: &str) -> Result<(), Fail> {
     Ok(())
 }
 
+/// Writes the commands, and the options that stand in place of one.
+fn write_first(rt: &HostRuntime, program: &Help<'_>) -> Result<(), Fail> {
+    rt.println(format_args!("    commands=("))?;
+    for command in &program.commands {
+        let text = escaped(rt.alloc(), command.text)?;
+        rt.println(format_args!("        '{}:{text}'", command.form))?;
+    }
+    rt.println(format_args!("    )\n    options=("))?;
+    for option in &program.options {
+        let text = escaped(rt.alloc(), option.text)?;
+        for name in [option.short(), option.long()].into_iter().flatten() {
+            rt.println(format_args!("        '{name}:{text}'"))?;
+        }
+    }
+    rt.println(format_args!("    )"))?;
+    Ok(())
+}
+
 /// Writes the completion.
 pub fn write_completion(rt: &HostRuntime, program: &Help<'_>) -> Result<(), Fail> {
     rt.println(format_args!(
         "#compdef capkit
 _capkit() {{
-    local -a commands
-    commands=("
+    local -a commands options"
     ))?;
-    for command in &program.commands {
-        let text = escaped(rt.alloc(), command.text)?;
-        rt.println(format_args!("        '{}:{text}'", command.form))?;
-    }
+    write_first(rt, program)?;
     rt.println(format_args!(
-        "    )
-    if (( CURRENT == 2 )); then
-        _describe command commands
+        "    if (( CURRENT == 2 )); then
+        if [[ $PREFIX == -* ]]; then
+            _describe -o option options
+        else
+            _describe command commands
+        fi
         return
     fi
     local command=$words[2]
