@@ -4,17 +4,32 @@
 # usage: packaging/make_deb.sh [PROGRAM]
 #
 # The package goes to out/. PROGRAM is the built program; where none is given, ./capkit builds it first. The maintainer is
-# DEBFULLNAME and DEBEMAIL, else git's user. It needs dpkg-dev and binutils, and no rights of root.
+# DEBFULLNAME and DEBEMAIL, else git's user. Its time is SOURCE_DATE_EPOCH, else that of the commit, or of CHANGELOG.md
+# where there is no commit, as in a tarball. It needs dpkg-dev and binutils, and no rights of root.
 
 set -eu
 umask 022
 
 root=$(CDPATH='' cd -- "$(dirname -- "$0")/.." && pwd -P)
-version=$(cat "$root/packaging/version")-1
+release=$(cat "$root/packaging/version")
+# This revision sorts before -1, that of the first package that a distribution makes.
+version=$release-0local1
 architecture=$(dpkg --print-architecture)
-name=${DEBFULLNAME:-$(git -C "$root" config user.name)}
-email=${DEBEMAIL:-$(git -C "$root" config user.email)}
-SOURCE_DATE_EPOCH=${SOURCE_DATE_EPOCH:-$(git -C "$root" log -1 --format=%ct)}
+name=${DEBFULLNAME:-$(git -C "$root" config user.name 2>/dev/null || :)}
+email=${DEBEMAIL:-$(git -C "$root" config user.email 2>/dev/null || :)}
+if [ -z "$name" ] || [ -z "$email" ]; then
+    printf '%s: the package needs a maintainer: set DEBFULLNAME and DEBEMAIL (git has no user.name or user.email)\n' "$0" >&2
+    exit 1
+fi
+# A tarball may be unpacked in another repository.
+if [ -e "$root/.git" ]; then
+    made=$(git -C "$root" log -1 --format=%ct)
+    built="As built from the sources at $(git -C "$root" rev-parse --short=12 HEAD)."
+else
+    made=$(date -r "$root/CHANGELOG.md" +%s)
+    built="As built from the sources of release $release."
+fi
+SOURCE_DATE_EPOCH=${SOURCE_DATE_EPOCH:-$made}
 export SOURCE_DATE_EPOCH
 
 if [ $# -gt 0 ]; then
@@ -27,9 +42,9 @@ fi
 
 # The program tells its version itself.
 case $("$program" --version) in
-"capkit ${version%-1} ("*) ;;
+"capkit $release ("*) ;;
 *)
-    printf '%s: packaging/version is %s, and the program is: %s\n' "$0" "${version%-1}" "$("$program" --version)" >&2
+    printf '%s: packaging/version is %s, and the program is: %s\n' "$0" "$release" "$("$program" --version)" >&2
     exit 1
     ;;
 esac
@@ -96,7 +111,7 @@ install -m 644 "$root/packaging/copyright" "$documents/"
 cat >"$documents/changelog.Debian" <<END
 capkit ($version) unstable; urgency=medium
 
-  * As built from the sources at $(git -C "$root" rev-parse --short=12 HEAD).
+  * $built
 
  -- $name <$email>  $(LC_ALL=C date -Ru -d "@$SOURCE_DATE_EPOCH")
 END
