@@ -90,7 +90,8 @@ def run(commands, capkit):
         shutil.copytree(ROOT / "samples", folder / "samples")
         (folder / "bin").mkdir()
         (folder / "bin" / "capkit").symlink_to(pathlib.Path(capkit).resolve())
-        (folder / "bench").symlink_to(ROOT / "bench")
+        for name in ("bench", "scale"):
+            (folder / name).symlink_to(ROOT / name)
         path = f"{folder / 'bin'}:{os.environ['PATH']}"
         kept = {"PATH": path, "TZ": "UTC", "LC_ALL": "C", "HOME": temporary}
         words = ["bash", "-c", script]

@@ -62,6 +62,9 @@ mkdir "$work/debian"
 : >"$work/debian/control"
 needs=$(cd "$work" && dpkg-shlibdeps -O "$tree/usr/bin/capkit" | sed -n 's/^shlibs:Depends=//p')
 
+# What a user copies to work on many machines.
+install -D -m 644 -t "$documents/scale" "$root/scale/filter.sbatch" "$root/scale/filter.py"
+
 # The manual pages and completions, which cap_pages writes one behind another, each after a line '==> NAME <=='.
 place() {
     case $1 in

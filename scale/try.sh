@@ -1,6 +1,6 @@
 #!/bin/bash
 # Runs filter.sbatch by Slurm and filter.py by dask.distributed over sixteen files, on this machine alone, and compares
-# what they write with what one run writes.
+# what they write with what one run writes. Of a refused expression both have to tell.
 #
 # usage: scale/try.sh [PROGRAM]
 #
@@ -97,7 +97,12 @@ END
 
 # The Python that has dask.distributed, which Debian's own has.
 start_dask() {
-    python=$(for it in python3 /usr/bin/python3; do "$it" -c 'import distributed' 2>/dev/null && echo "$it" && break; done)
+    for python in python3 /usr/bin/python3 ''; do
+        if "$python" -c 'import distributed' 2>/dev/null; then
+            break
+        fi
+    done
+    [ -n "$python" ] || { printf '%s: no python3 has dask.distributed\n' "$0" >&2 && return 1; }
     start scheduler dask-scheduler --host 127.0.0.1 --port 0 --no-dashboard --scheduler-file "$work/scheduler.json"
     wait_for test -s "$work/scheduler.json"
     for number in 1 2; do
@@ -107,7 +112,14 @@ start_dask() {
     scheduler=$(sed -n 's/.*"address": "\([^"]*\)".*/\1/p' "$work/scheduler.json" | head -n 1)
 }
 
-# Says whether a capture is that of one run.
+# Looks whether a command ends with the status of a refused expression.
+is_refused() {
+    result=0
+    "$@" 2>/dev/null || result=$?
+    [ "$result" = 2 ]
+}
+
+# Looks whether a capture is that of one run, and says so.
 compare() {
     cmp "$1" one.pcap
     printf '%s: sixteen files, the same bytes as one run\n' "$2"
@@ -127,8 +139,10 @@ capkit print -w one.pcap --format pcap all.pcap "$expression"
 start_slurm
 sbatch --quiet --wait --array=0-15 "$root/scale/filter.sbatch" "$expression" part-*.pcap
 capkit merge -a -F pcap -w slurm.pcap part-*.match
+is_refused sbatch --quiet --wait --array=0-15 "$root/scale/filter.sbatch" 'tcp port' part-*.pcap
 compare slurm.pcap "$(sinfo --version)"
 
 start_dask
 "$python" "$root/scale/filter.py" "$scheduler" dask.pcap "$expression" part-*.pcap
+is_refused "$python" "$root/scale/filter.py" "$scheduler" none.pcap 'tcp port' part-*.pcap
 compare dask.pcap "dask.distributed $("$python" -c 'import distributed; print(distributed.__version__)')"
