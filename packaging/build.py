@@ -5,13 +5,15 @@ usage: build.py PROGRAM
 
 A crate is proved as soon as those that it needs are, many side by side on all processors, first
 the one with the longest chain of crates above it. A run of rt keeps other runs out of the folders
-of its crate and of those that this one needs. So each crate has a workspace of its own,
-out/crates/NAME: copies of their sources, and links to the libraries that the other workspaces have
-built. It is kept, which makes the next build shorter.
+of its crate and of those that this one needs. So each crate is proved in a workspace of its own,
+out/crates/NAME: copies of the sources, links to the libraries that are built, and the crate's own
+out/, which is moved there and back. rt knows one crates.txt in a repository, so no workspace is
+left behind, and `rt ci` and `rt all` are refused while crates are proved here.
 
 The program is copied to PROGRAM in one step, so that no launch finds a part of it. The status is 1
 where a crate isn't proved or something can't be written.
 """
+import contextlib
 import dataclasses
 import fcntl
 import os
@@ -50,10 +52,19 @@ class Crate:
     # While it is proved: how far it is, and the process that works on it.
     state: str = ""
     process: subprocess.Popen = None
+    worker: threading.Thread = None
+
+    @property
+    def home(self):
+        return ROOT / "crates" / self.name
 
     @property
     def workspace(self):
         return OUT / "crates" / self.name
+
+    @property
+    def place(self):
+        return self.workspace / "crates" / self.name
 
     @property
     def log(self):
@@ -82,7 +93,7 @@ def crates_of(text):
 def measure(crates):
     """Sets the size of each crate, and of its chain."""
     for crate in crates.values():
-        crate.size = sum(it.stat().st_size for it in sources(ROOT / "crates" / crate.name))
+        crate.size = sum(it.stat().st_size for it in sources(crate.home))
     for crate in reversed(crates.values()):
         crate.chain += crate.size
         for need in crate.needs:
@@ -99,21 +110,28 @@ def sources(folder):
 
 def prepare(crate, crates):
     """Makes the workspace of a crate: a repository of it and those below it, as they are now."""
-    for name in [*crate.below, crate.name]:
-        place = crate.workspace / "crates" / name
-        place.mkdir(parents=True, exist_ok=True)
-        for it in place.iterdir():
-            if it.is_dir() and it.name != "out":
-                shutil.rmtree(it)
-            elif it.name != "out":
-                it.unlink()
-        for it in sources(ROOT / "crates" / name):
-            copy = place / it.relative_to(ROOT / "crates" / name)
+    with_below = [crates[name] for name in [*crate.below, crate.name]]
+    for it in with_below:
+        for file in sources(it.home):
+            copy = crate.workspace / "crates" / it.name / file.relative_to(it.home)
             copy.parent.mkdir(parents=True, exist_ok=True)
-            shutil.copyfile(it, copy)
-    lines = [crates[name].line for name in [*crate.below, crate.name]]
-    (crate.workspace / "crates.txt").write_text("\n".join(lines) + "\n")
+            shutil.copyfile(file, copy)
+    lines = "\n".join(it.line for it in with_below)
+    (crate.workspace / "crates.txt").write_text(f"{lines}\n")
     shutil.copyfile(ROOT / "HANDLES", crate.workspace / "HANDLES")
+    for it in with_below[:-1]:
+        to = crate.workspace / "crates" / it.name / "out" / "rlib"
+        shutil.copytree(it.home / "out" / "rlib", to, copy_function=link_or_copy)
+    if (crate.home / "out").is_dir():
+        (crate.home / "out").rename(crate.place / "out")
+
+
+def dissolve(workspace):
+    """Removes a workspace, if it is there; the out/ of its crate moves to the crate."""
+    made, home = workspace / "crates" / workspace.name / "out", ROOT / "crates" / workspace.name
+    if made.is_dir() and home.is_dir() and not (home / "out").exists():
+        made.rename(home / "out")
+    shutil.rmtree(workspace, ignore_errors=True)
 
 
 def link_or_copy(source, to):
@@ -124,21 +142,11 @@ def link_or_copy(source, to):
         shutil.copy2(source, to)
 
 
-def take_libraries(crate, crates):
-    """Links the libraries of the crates below, each from its own workspace, into the workspace."""
-    for name in crate.below:
-        built = crates[name].workspace / "crates" / name / "out" / "rlib"
-        to = crate.workspace / "crates" / name / "out" / "rlib"
-        shutil.rmtree(to, ignore_errors=True)
-        if built.is_dir():
-            shutil.copytree(built, to, copy_function=link_or_copy)
-
-
 class Build:
     """The crates, and what is known of their proofs."""
 
-    def __init__(self, crates):
-        self.crates = crates
+    def __init__(self, crates, lock):
+        self.crates, self.lock = crates, lock
         self.waiting = sorted(crates.values(), key=lambda it: -it.chain)
         self.running, self.proved, self.spare = {}, [], most_jobs()
         self.events, self.screen = queue.Queue(), Screen()
@@ -167,24 +175,45 @@ class Build:
             self.waiting.remove(crate)
             self.spare -= jobs
             self.running[crate.name] = jobs, time.monotonic()
-            threading.Thread(target=self.work, args=(crate, jobs), daemon=True).start()
+            crate.worker = threading.Thread(target=self.work, args=(crate, jobs))
+            crate.worker.start()
 
     def work(self, crate, jobs):
         """Proves a crate and builds what comes of it; what it says and its end are events."""
         status, jobs = 1, ["--jobs", str(jobs)]
         last = ["run", *jobs, "--", "--help"] if crate.name == TOP else ["lib", *jobs]
         try:
-            take_libraries(crate, self.crates)
-            with crate.log.open("w") as log:
-                status = self.run(crate, log, ["check", *jobs]) or self.run(crate, log, last)
+            with self.alone_in(crate), crate.log.open("w") as log:
+                try:
+                    prepare(crate, self.crates)
+                    status = self.run(crate, log, ["check", *jobs]) or self.run(crate, log, last)
+                finally:
+                    dissolve(crate.workspace)
         except OSError as error:
-            say(f"{error.filename}: {error.strerror}")
-        self.events.put((crate.name, status))
+            say(error)
+        finally:
+            self.events.put((crate.name, status))
+
+    @contextlib.contextmanager
+    def alone_in(self, crate):
+        """Keeps other runs of rt out of the crate's folder, as these do among themselves."""
+        held = os.open(crate.home, os.O_RDONLY)
+        try:
+            while not self.is_ending and not has_locked(held):
+                crate.state = "waits for another rt"
+                self.events.put((crate.name, None))
+                time.sleep(1)
+            crate.state = ""
+            yield
+        finally:
+            os.close(held)
 
     def run(self, crate, log, words):
         """Runs rt in the crate, follows its output, and returns its status."""
         how = {"stdin": subprocess.DEVNULL, "stdout": subprocess.PIPE, "stderr": subprocess.STDOUT}
-        how.update(cwd=crate.workspace / "crates" / crate.name, text=True, errors="replace")
+        how.update(cwd=crate.place, text=True, errors="replace", start_new_session=True)
+        # rt keeps the lock: after a build that was killed, the next one waits until rt ends too.
+        how.update(pass_fds=[self.lock.fileno()])
         with self.turn:
             if self.is_ending:
                 return 1
@@ -216,14 +245,16 @@ class Build:
         return f"{len(self.proved)} of {len(self.crates)} crates proved; now {', '.join(now)}"
 
     def stop(self):
-        """Ends the processes that are still at work."""
+        """Ends the processes that are still at work, and waits until their workspaces are gone."""
         with self.turn:
             self.is_ending = True
-        left = [it.process for it in self.crates.values() if it.process]
-        for process in left:
-            process.terminate()
-        for process in left:
-            process.wait()
+        for crate in self.crates.values():
+            if crate.process and crate.process.poll() is None:
+                with contextlib.suppress(ProcessLookupError):
+                    os.killpg(crate.process.pid, signal.SIGTERM)
+        for crate in self.crates.values():
+            if crate.worker:
+                crate.worker.join()
 
 
 def most_jobs():
@@ -262,6 +293,18 @@ def say(text):
     print(f"capkit: {text}", file=sys.stderr, flush=True)
 
 
+def has_locked(file):
+    """Locks a file or folder, if nobody else has it locked."""
+    try:
+        fcntl.flock(file, fcntl.LOCK_EX | fcntl.LOCK_NB)
+    except BlockingIOError:
+        return False
+    except OSError:
+        # Some file systems have no locks.
+        pass
+    return True
+
+
 def lock():
     """Waits until no other build works here, and returns what keeps others out until closed."""
     try:
@@ -272,46 +315,38 @@ def lock():
             f"it is not built yet, and {OUT} can't be written to ({error.strerror}): build it "
             "in a copy of this folder that is yours, or install a package (docs/INSTALL.md)"
         ) from error
-    try:
-        fcntl.flock(held, fcntl.LOCK_EX | fcntl.LOCK_NB)
-    except BlockingIOError:
+    if not has_locked(held):
         say("another capkit is proving and building the program; this one waits until it is done")
         fcntl.flock(held, fcntl.LOCK_EX)
-    except OSError:
-        # Some file systems have no locks.
-        pass
     return held
 
 
-def remove_leavings(program, crates):
-    """Removes logs of earlier builds, older programs, and workspaces of crates that are gone."""
-    old = [*OUT.glob("build-*.log"), *OUT.glob("new-*"), *OUT.glob("built-*")]
-    old += [it for it in OUT.glob("crates/*") if it.name not in crates]
-    for it in old:
-        if it.is_dir() and it != program.parent:
+def remove_old(program):
+    """Removes what earlier builds left: logs, older programs, workspaces."""
+    for it in [*OUT.glob("build-*.log"), *OUT.glob("new-*")]:
+        it.unlink()
+    for it in OUT.glob("built-*"):
+        if it != program.parent:
             shutil.rmtree(it)
-        elif it.is_file():
-            it.unlink()
+    for it in OUT.glob("crates/*"):
+        dissolve(it)
 
 
 def build(program):
     """Proves and builds the program, unless another build that was waited for has done so."""
-    held = lock()
-    with held:
+    with lock() as held:
         if program.exists():
             return
         say("proving and building the program: once, about an hour of processor time")
         crates = crates_of((ROOT / "crates.txt").read_text())
-        remove_leavings(program, crates)
+        remove_old(program)
         measure(crates)
-        for crate in crates.values():
-            prepare(crate, crates)
-        Build(crates).prove()
+        Build(crates, held).prove()
         new = OUT / f"new-{os.getpid()}"
-        shutil.copy2(crates[TOP].workspace / "crates" / TOP / "out" / TOP, new)
+        shutil.copy2(crates[TOP].home / "out" / TOP, new)
         program.parent.mkdir(exist_ok=True)
         new.rename(program)
-        remove_leavings(program, crates)
+        remove_old(program)
 
 
 def interrupt(_signal, _frame):
@@ -331,11 +366,12 @@ def main():
         say(refused.args[0])
         sys.exit(1)
     except OSError as error:
-        say(f"{error.filename}: {error.strerror}")
+        say(error)
         sys.exit(1)
     except KeyboardInterrupt:
         say("the build was interrupted; what is proved is kept for the next one")
         sys.exit(130)
 
 
-main()
+if __name__ == "__main__":
+    main()

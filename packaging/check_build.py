@@ -78,6 +78,10 @@ class Checkout:
     def logs(self):
         return sorted(it.name for it in (self.at / "out").glob("build-*.log"))
 
+    def has_one_list(self):
+        """Whether the repository has one crates.txt, as rt wants it."""
+        return len([*self.at.rglob("crates.txt")]) == 1
+
 
 def wait_for(condition):
     for _ in range(200):
@@ -99,7 +103,8 @@ def try_first(checkout):
     is_single = len(os.sched_getaffinity(0)) == 1
     yield "crates are proved side by side", is_single or checks[1].startswith("begin")
     yield "it says how far it is", "proved capkit in 0 s, 4 of 4 crates" in messages
-    yield "nothing is left of the build", checkout.logs() == []
+    yield "nothing is left of the build", checkout.logs() == [] and checkout.has_one_list()
+    yield "but what is kept for the next one", (checkout.at / "crates/low_a/out/rlib").is_dir()
     status, out, messages = checkout.call()
     yield "it is built once", (status, out, messages) == (0, "runs infos\n", "")
     yield "and rt isn't called again", checkout.noted() == []
@@ -128,6 +133,12 @@ def try_interrupted(checkout):
     yield "and says so", "interrupted" in messages
     checkout.noted()
     yield "its logs are there", checkout.logs() != []
+    yield "and nothing that rt refuses", checkout.has_one_list()
+    kept = checkout.at / "crates/low_a/out"
+    moved = checkout.at / "out/crates/low_a/crates/low_a/out"
+    moved.parent.mkdir(parents=True)
+    kept.rename(moved)
+    (moved / "kept").touch()
     (checkout.at / "out" / "build-12345.log").write_text("of an older launcher\n")
     status, out, messages = checkout.call(FAILS="middle")
     yield "a crate that isn't proved ends the build", (status, out) == (1, "")
@@ -135,6 +146,7 @@ def try_interrupted(checkout):
     yield "with the end of its output", "not proved: f\n" in messages
     yield "and what is above it isn't tried", "begin check capkit" not in checkout.noted()
     yield "logs of earlier builds are gone", "build-12345.log" not in checkout.logs()
+    yield "what a killed one kept is the crate's again", (kept / "kept").exists()
     status, out, _ = checkout.call()
     yield "then it is built", (status, out, checkout.logs()) == (0, "runs infos\n", [])
 
