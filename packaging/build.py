@@ -277,7 +277,7 @@ class Screen:
 
     def show(self, text):
         if self.is_terminal:
-            columns = max(os.get_terminal_size(2).columns, 20)
+            columns = os.get_terminal_size(2).columns or 80
             print(f"\r\033[K{f'capkit: {text}'[:columns - 1]}", end="", file=sys.stderr, flush=True)
 
     def hide(self):
