@@ -321,13 +321,10 @@ def lock():
     return held
 
 
-def remove_old(program):
-    """Removes what earlier builds left: logs, older programs, workspaces."""
+def tidy():
+    """Removes what a build leaves that ended early: logs, workspaces, a part of a program."""
     for it in [*OUT.glob("build-*.log"), *OUT.glob("new-*")]:
         it.unlink()
-    for it in OUT.glob("built-*"):
-        if it != program.parent:
-            shutil.rmtree(it)
     for it in OUT.glob("crates/*"):
         dissolve(it)
 
@@ -339,14 +336,17 @@ def build(program):
             return
         say("proving and building the program: once, about an hour of processor time")
         crates = crates_of((ROOT / "crates.txt").read_text())
-        remove_old(program)
+        tidy()
         measure(crates)
         Build(crates, held).prove()
         new = OUT / f"new-{os.getpid()}"
         shutil.copy2(crates[TOP].home / "out" / TOP, new)
         program.parent.mkdir(exist_ok=True)
         new.rename(program)
-        remove_old(program)
+        tidy()
+        for it in OUT.glob("built-*"):
+            if it != program.parent:
+                shutil.rmtree(it)
 
 
 def interrupt(_signal, _frame):
@@ -369,7 +369,7 @@ def main():
         say(error)
         sys.exit(1)
     except KeyboardInterrupt:
-        say("the build was interrupted; what is proved is kept for the next one")
+        say("interrupted; what is proved is kept for the next build")
         sys.exit(130)
 
 
