@@ -23,7 +23,7 @@ else
 fi
 
 # Whoever runs it, munged wants a folder that nobody else may write to.
-work=$(mktemp -d /var/tmp/capkit-scale-XXXXXX)
+work=$(mktemp -dt capkit-scale-XXXXXX)
 chmod 755 "$work"
 jobs=()
 # shellcheck disable=SC2317  # called at the end
