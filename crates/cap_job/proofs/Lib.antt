@@ -15,6 +15,7 @@ pub mod Judges
 pub mod Laws
 pub mod Leasts
 pub mod Lines
+pub mod Lists
 pub mod Lefts
 pub mod Merges
 pub mod Once

@@ -8,6 +8,7 @@ pub mod Feed
 pub mod FirstStep
 pub mod Jobs
 pub mod Judge
+pub mod Lists
 pub mod Machine
 pub mod Queue
 pub mod Reports

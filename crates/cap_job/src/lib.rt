@@ -5,6 +5,7 @@ mod drain;
 mod feed;
 mod job;
 mod judge;
+pub mod law;
 mod machine;
 mod packets;
 mod queue;
