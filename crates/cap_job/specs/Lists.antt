@@ -1,8 +1,10 @@
 -- What is counted, kept and searched of packets that come one behind another, as lists.
-use Rattle.std.specs.Prelude.{◌≡◌, ℕ, ◌&&◌, Bool, true, nat_le, min, max, List, [], ◌∷◌, length, map}
+use Rattle.std.specs.Prelude.{◌≡◌, ℕ, ◌^◌, ◌<◌, ◌&&◌, Bool, true, nat_le, min, max, List, [], ◌∷◌, length, map, take, Option, None, Some, IfSome}
 use Rattle.std.specs.List.{sum_by}
 use Rattle.cap_octet.specs.Packet.{Captured}
-use Rattle.cap_job.specs.Verdicts.{Count}
+use Rattle.cap_tools.specs.Decisions.{Decision, Keep, Skip, Refuse}
+use Rattle.cap_tools.specs.FilterRules.{Rule, rule_decides}
+use Rattle.cap_job.specs.Verdicts.{Count, Filter}
 use Rattle.cap_job.specs.Reports.{Tally}
 use Rattle.cap_job.specs.Course.{AsReports, set_out, way}
 use Rattle.cap_job.specs.Edits.{coming}
@@ -51,3 +53,26 @@ tally_of ps = record {
 -- what is counted of packets is their tally, however many they are
 abbrev pub CountsAll : Type 0
 CountsAll = (names : List (List ℕ)) (ps : List Captured) → (way Count (AsReports names) set_out (coming ps)).stand.tally ≡ tally_of ps
+
+-- ---- what a filter keeps
+
+-- by the decision on the packet, before these
+abbrev pub kept_by : Decision → Captured → List Captured → List Captured
+kept_by Keep p rest = p ∷ rest
+kept_by Skip p rest = rest
+kept_by (Refuse fault) p rest = []
+
+-- the packets that a rule keeps, up to the first that it refuses
+abbrev pub kept : Rule → List Captured → List Captured
+kept rule [] = []
+kept rule (p ∷ ps) = kept_by (rule_decides rule p) p (kept rule ps)
+
+-- the first so many, or all
+abbrev pub at_most : Option ℕ → List Captured → List Captured
+at_most None ps = ps
+at_most (Some n) ps = take n ps
+
+-- of fewer than 2^63 packets those pass that the rule keeps, the first so many where a count is given
+abbrev pub PassesFiltered : Type 0
+PassesFiltered = (rule : Rule) (count : Option ℕ) (ps : List Captured) → IfSome count (λ (n : ℕ). 0 < n) → length ps < 2 ^ 63
+    → (way (Filter rule count) (AsReports []) set_out (coming ps)).packets ≡ at_most count (kept rule ps)
