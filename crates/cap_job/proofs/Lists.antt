@@ -1,5 +1,5 @@
 -- What is counted, kept and searched of packets that come one behind another.
-use Rattle.std.proofs.Common.{◌≡◌, ℕ, suc, ◌+◌, ◌-◌, ◌^◌, ◌<◌, ◌==◌, ◌&&◌, Bool, true, false, if◌then◌else◌, nat_le, min, max, Option, None, Some, List, [], ◌∷◌, ◌++◌, length, refl, sym, ◌∙◌, ap, arith}
+use Rattle.std.proofs.Common.{◌≡◌, ℕ, zero, suc, drop, ◌+◌, ◌-◌, ◌^◌, ◌<◌, ◌==◌, ◌&&◌, Bool, true, false, if◌then◌else◌, nat_le, min, max, Option, None, Some, List, [], ◌∷◌, ◌++◌, length, refl, sym, ◌∙◌, ap, arith, subst}
 use Rattle.std.proofs.lemmas.Bool.Decides.{nat_tests}
 use Rattle.std.proofs.lemmas.List.{append_assoc, append-nil}
 use Rattle.std.proofs.lemmas.List.Sums.{sum_by-append}
@@ -7,17 +7,21 @@ use Rattle.std.proofs.Math.Seq.{take-nil}
 use Rattle.std.specs.List.{sum_by}
 use Rattle.std.specs.Option.{IfSome}
 use Rattle.cap_octet.specs.Packet.{Captured}
+use Rattle.cap_octet.specs.declared.fault.Fault.TheVariants.{TimeOutOfRange}
 use Rattle.cap_io.specs.Capture.{Placed}
 use Rattle.cap_tools.specs.Decisions.{Decision, Keep}
 use Rattle.cap_tools.specs.Decisions as chosen
 use Rattle.cap_tools.specs.FilterRules.{Rule, rule_decides}
-use Rattle.cap_job.specs.Events.{Came, Over, Broken}
-use Rattle.cap_job.specs.Verdicts.{Asked, Count, Filter, Judged, Last, Pass, Stand, at_first, filters, is_last, judged, refuses, skipped}
+use Rattle.cap_window.specs.declared.mark.Mark.{Mark}
+use Rattle.cap_window.specs.Marks.{mark_of, has_same, last}
+use Rattle.cap_window.proofs.Marks.{last-last}
+use Rattle.cap_job.specs.Events.{Event, Came, Over, Broken}
+use Rattle.cap_job.specs.Verdicts.{Asked, Count, Filter, Select, Selection, Judged, Last, Pass, Stand, at_first, changed, filters, is_last, is_selected, judged, moved, passes, refuses, selects, skipped, unique, with_mark}
 use Rattle.cap_job.specs.Reports.{Tally, counted}
 use Rattle.cap_job.specs.Course.{Form, AsReports, Way, by_verdict, steps, stops_at, way}
-use Rattle.cap_job.specs.Edits.{coming}
+use Rattle.cap_job.specs.Edits.{coming, is_repeated, selected, unique_behind}
 use Rattle.cap_job.specs.Judge.{is_count}
-use Rattle.cap_job.specs.Lists.{CountsAll, PassesFiltered, ascends, at_most, final, greatest, kept, least, tally_of, times}
+use Rattle.cap_job.specs.Lists.{CountsAll, EndsOutOfRange, HasLastMarks, PassesFiltered, arriving, ascends, at_most, ends_at, final, first_out_of_range, greatest, kept, least, marks, packets_of, tally_of, times}
 use Rattle.cap_job.proofs.Courses.{way-ended}
 use Rattle.cap_job.proofs.Judges.{few}
 
@@ -205,3 +209,169 @@ below-first (Some n) some = some
 pub passes_filtered : PassesFiltered
 passes_filtered rule count ps some less =
     filtered rule count 0 at_first [] ps (omega arith) (below-first count some) ∙ ap (λ (o : Option ℕ). at_most o (kept rule ps)) (all-still count)
+
+-- ---- an edit
+
+-- the window has the marks just before
+abbrev IsKept : Option ℕ → List Mark → List Mark → Type 0
+IsKept None before window = Unit {0}
+IsKept (Some n) before window = window ≡ last (n - 1) before
+
+kept-as : (n : Option ℕ) (before before' window : List Mark) → before ≡ before' → IsKept n before window → IsKept n before' window
+kept-as n before before' window same kept = subst (λ (ms : List Mark). IsKept n ms window) same kept
+
+record Noted (n : Option ℕ) (stand : Stand) (before : List Mark) (p : Captured) (b : Bool) : Type 0 where
+  stand' : Stand
+  is : unique n stand p ≡ (if b then skipped stand' else passes stand' p)
+  kept : IsKept n (before ++ mark_of p.bytes ∷ []) stand'.window
+
+noted : (n : Option ℕ) (stand : Stand) (before : List Mark) (p : Captured) (b : Bool) → IsKept n before stand.window → is_repeated n before (mark_of p.bytes) ≡ b → Noted n stand before p b
+noted None stand before p true kept is = (cc)
+noted None stand before p false kept is = record { stand' = stand; is = refl; kept = tt }
+noted (Some n) stand before p b kept is =
+    let m : Mark = mark_of p.bytes in
+    let same : has_same stand.window m ≡ b = ap (λ (ms : List Mark). has_same ms m) kept ∙ is in
+    record {
+      stand' = with_mark (n - 1) m stand;
+      is = rw same refl;
+      kept = ap (λ (ms : List Mark). last (n - 1) (ms ++ m ∷ [])) kept ∙ last-last (n - 1) before m;
+    }
+
+-- where the way is behind packets, the first with this number, where these passed and these marks came before
+record Follows (s : Selection) (number : ℕ) (before : List Mark) (out : List Captured) (ps : List Placed) (w : Way) : Type 0 where
+  passed : w.packets ≡ out ++ unique_behind s.window before (selected s number (packets_of ps))
+  kept : IsKept s.window (before ++ marks (selected s number (packets_of ps))) w.stand.window
+  end : w.end ≡ ends_at (first_out_of_range s number ps)
+
+abbrev Goes : Selection → ℕ → Stand → List Mark → List Captured → List Placed → Type 0
+Goes s k stand before out ps = Follows s (k + 1) before out ps (way (Select s) reports (under_way k stand out) (arriving ps))
+
+-- one packet, where those behind it are followed so
+follows-next : (s : Selection) (k : ℕ) (stand : Stand) (before : List Mark) (out : List Captured) (p : Placed) (ps : List Placed) → k + 1 < 2 ^ 63 → IsKept s.window before stand.window
+    → ((stand' : Stand) (before' : List Mark) (out' : List Captured) → IsKept s.window before' stand'.window → Goes s (k + 1) stand' before' out' ps) → Goes s k stand before out (p ∷ ps)
+follows-next s k stand before out p ps near kept next = by_selected (is_selected s (k + 1) p.packet) refl
+  where
+    To : Way → Type 0
+    To w = Follows s (k + 1) before out (p ∷ ps) w
+
+    behind : Judged → Way
+    behind j = way (Select s) reports (by_verdict reports (under_way k stand out) 0 p j.verdict j.stand) (arriving ps)
+
+    to : (j : Judged) → selects s stand (k + 1) p.packet ≡ j → To (behind j) → Goes s k stand before out (p ∷ ps)
+    to j is follows = subst To (sym (ap (λ (w : Way). way (Select s) reports w (arriving ps)) (step-is (Select s) k stand out p j refl near is))) follows
+
+    -- what is selected behind the packet
+    more : List Captured
+    more = selected s (k + 1 + 1) (packets_of ps)
+
+    at_time : (time : ℕ) (u : List Captured) (w : Way) → is_selected s (k + 1) p.packet ≡ true → moved s.shift p.packet.time ≡ Some time
+        → Follows s (k + 1 + 1) (before ++ mark_of (changed s p.packet time).bytes ∷ []) (out ++ u) ps w
+        → unique_behind s.window before (changed s p.packet time ∷ more) ≡ u ++ unique_behind s.window (before ++ mark_of (changed s p.packet time).bytes ∷ []) more → To w
+    at_time time u w is timed f same =
+        let q : Captured = changed s p.packet time in
+        let rest : selected s (k + 1) (packets_of (p ∷ ps)) ≡ q ∷ more = rw (is, timed) refl in
+        let after : List Mark = before ++ mark_of q.bytes ∷ [] in
+        record {
+          passed = f.passed
+              ∙ append_assoc out u (unique_behind s.window after more)
+              ∙ ap (λ (l : List Captured). out ++ l) (sym same)
+              ∙ ap (λ (l : List Captured). out ++ unique_behind s.window before l) (sym rest);
+          kept = kept-as s.window (after ++ marks more) (before ++ marks (selected s (k + 1) (packets_of (p ∷ ps)))) w.stand.window
+              (append_assoc before (mark_of q.bytes ∷ []) (marks more) ∙ ap (λ (l : List Captured). before ++ marks l) (sym rest)) f.kept;
+          end = rw (is, timed) f.end;
+        }
+
+    by_unique : (time : ℕ) → is_selected s (k + 1) p.packet ≡ true → moved s.shift p.packet.time ≡ Some time → (b : Bool) → is_repeated s.window before (mark_of (changed s p.packet time).bytes) ≡ b
+        → Goes s k stand before out (p ∷ ps)
+    by_unique time is timed true same =
+        let q : Captured = changed s p.packet time in
+        let n : Noted s.window stand before q true = noted s.window stand before q true kept same in
+        to (skipped n.stand') (rw (is, timed) n.is)
+        (at_time time [] (behind (skipped n.stand')) is timed (next n.stand' (before ++ mark_of q.bytes ∷ []) (out ++ []) n.kept) (rw same refl))
+    by_unique time is timed false same =
+        let q : Captured = changed s p.packet time in
+        let n : Noted s.window stand before q false = noted s.window stand before q false kept same in
+        to (passes n.stand' q) (rw (is, timed) n.is)
+        (at_time time (q ∷ []) (behind (passes n.stand' q)) is timed (next (passes n.stand' q).stand (before ++ mark_of q.bytes ∷ []) (out ++ q ∷ []) n.kept) (rw same refl))
+
+    by_moved : is_selected s (k + 1) p.packet ≡ true → (o : Option ℕ) → moved s.shift p.packet.time ≡ o → Goes s k stand before out (p ∷ ps)
+    by_moved is None beyond =
+        let none : selected s (k + 1) (packets_of (p ∷ ps)) ≡ [] = rw (is, beyond) refl in
+        let ended : Way = stops_at (under_way k stand out) (Broken 0 TimeOutOfRange p.offset) in
+        let here : To ended = record {
+          passed = sym (append-nil out) ∙ ap (λ (l : List Captured). out ++ unique_behind s.window before l) (sym none);
+          kept = kept-as s.window before (before ++ marks (selected s (k + 1) (packets_of (p ∷ ps)))) stand.window
+              (sym (append-nil before) ∙ ap (λ (l : List Captured). before ++ marks l) (sym none)) kept;
+          end = rw (is, beyond) refl;
+        } in
+        to (refuses stand TimeOutOfRange) (rw (is, beyond) refl)
+        (subst To (sym (way-ended (Select s) reports ended (arriving ps) (Broken 0 TimeOutOfRange p.offset) refl)) here)
+    by_moved is (Some time) timed = by_unique time is timed (is_repeated s.window before (mark_of (changed s p.packet time).bytes)) refl
+
+    by_selected : (b : Bool) → is_selected s (k + 1) p.packet ≡ b → Goes s k stand before out (p ∷ ps)
+    by_selected true is = by_moved is (moved s.shift p.packet.time) refl
+    by_selected false is =
+        let rest : selected s (k + 1) (packets_of (p ∷ ps)) ≡ more = rw is refl in
+        let f : Goes s (k + 1) stand before (out ++ []) ps = next stand before (out ++ []) kept in
+        to (skipped stand) (rw is refl)
+        record {
+          passed = f.passed
+              ∙ ap (λ (o : List Captured). o ++ unique_behind s.window before more) (append-nil out)
+              ∙ ap (λ (l : List Captured). out ++ unique_behind s.window before l) (sym rest);
+          kept = kept-as s.window (before ++ marks more) (before ++ marks (selected s (k + 1) (packets_of (p ∷ ps)))) (behind (skipped stand)).stand.window
+              (ap (λ (l : List Captured). before ++ marks l) (sym rest)) f.kept;
+          end = rw is f.end;
+        }
+
+follows : (s : Selection) (k : ℕ) (stand : Stand) (before : List Mark) (out : List Captured) (ps : List Placed) → k + length ps < 2 ^ 63 → IsKept s.window before stand.window
+    → Goes s k stand before out ps
+follows s k stand before out [] less kept = record {
+  passed = sym (append-nil out);
+  kept = kept-as s.window before (before ++ []) stand.window (sym (append-nil before)) kept;
+  end = refl;
+}
+follows s k stand before out (p ∷ ps) less kept =
+    follows-next s k stand before out p ps (omega arith) kept (λ stand' before' out' kept'. follows s (k + 1) stand' before' out' ps (omega arith) kept')
+
+none-dropped : (k : ℕ) (ms : List Mark) → ms ≡ [] → drop k ms ≡ []
+none-dropped zero ms none = none
+none-dropped (suc k) ms none = rw none refl
+
+kept-first : (n : Option ℕ) → IsKept n [] []
+kept-first None = tt
+kept-first (Some n) = sym (none-dropped (0 - (n - 1)) [] refl)
+
+follows-first : (s : Selection) (ps : List Placed) → length ps < 2 ^ 63 → Goes s 0 at_first [] [] ps
+follows-first s ps less = follows s 0 at_first [] [] ps (omega arith) (kept-first s.window)
+
+pub ends_out_of_range : EndsOutOfRange
+ends_out_of_range s ps less = let f = follows-first s ps less in (f.end, f.passed)
+
+-- ---- packets without places
+
+abbrev places : List Captured → List Placed
+places [] = []
+places (p ∷ ps) = placed p ∷ places ps
+
+coming-as : (ps : List Captured) → coming ps ≡ arriving (places ps)
+coming-as [] = refl
+coming-as (p ∷ ps) = ap (λ (es : List Event). Came 0 (placed p) ∷ es) (coming-as ps)
+
+packets-as : (ps : List Captured) → packets_of (places ps) ≡ ps
+packets-as [] = refl
+packets-as (p ∷ ps) = ap (λ (qs : List Captured). p ∷ qs) (packets-as ps)
+
+places-length : (ps : List Captured) → length (places ps) ≡ length ps
+places-length [] = refl
+places-length (p ∷ ps) = ap suc (places-length ps)
+
+window-as : (n : ℕ) (o : Option ℕ) (before window : List Mark) → o ≡ Some n → IsKept o before window → window ≡ last (n - 1) before
+window-as n o before window is kept = subst (λ (x : Option ℕ). IsKept x before window) is kept
+
+pub has_last_marks : HasLastMarks
+has_last_marks s n ps is less =
+    let same = places-length ps in
+    let f = follows-first s (places ps) (omega (arith, same, less)) in
+    ap (λ (es : List Event). (way (Select s) reports (under_way 0 at_first []) es).stand.window) (coming-as ps)
+    ∙ window-as n s.window (marks (selected s 1 (packets_of (places ps)))) (way (Select s) reports (under_way 0 at_first []) (arriving (places ps))).stand.window is f.kept
+    ∙ ap (λ (qs : List Captured). last (n - 1) (marks (selected s 1 qs))) (packets-as ps)

@@ -1,13 +1,19 @@
 -- What is counted, kept and searched of packets that come one behind another, as lists.
-use Rattle.std.specs.Prelude.{◌≡◌, ℕ, ◌^◌, ◌<◌, ◌&&◌, Bool, true, nat_le, min, max, List, [], ◌∷◌, length, map, take, Option, None, Some, IfSome}
+use Rattle.std.specs.Prelude.{◌≡◌, ℕ, ◌+◌, ◌-◌, ◌^◌, ◌<◌, ◌&&◌, Bool, true, if◌then◌else◌, nat_le, min, max, List, [], ◌∷◌, length, map, take, Option, None, Some, IfSome}
 use Rattle.std.specs.List.{sum_by}
+use Rattle.std.specs.Option.{is_none}
 use Rattle.cap_octet.specs.Packet.{Captured}
+use Rattle.cap_octet.specs.declared.fault.Fault.TheVariants.{TimeOutOfRange}
+use Rattle.cap_io.specs.Capture.{Placed}
 use Rattle.cap_tools.specs.Decisions.{Decision, Keep, Skip, Refuse}
 use Rattle.cap_tools.specs.FilterRules.{Rule, rule_decides}
-use Rattle.cap_job.specs.Verdicts.{Count, Filter}
+use Rattle.cap_window.specs.declared.mark.Mark.{Mark}
+use Rattle.cap_window.specs.Marks.{mark_of, last}
+use Rattle.cap_job.specs.Events.{Event, Came, Close, Broken}
+use Rattle.cap_job.specs.Verdicts.{Count, Filter, Select, Selection, is_selected, moved}
 use Rattle.cap_job.specs.Reports.{Tally}
 use Rattle.cap_job.specs.Course.{AsReports, set_out, way}
-use Rattle.cap_job.specs.Edits.{coming}
+use Rattle.cap_job.specs.Edits.{coming, selected, unique_behind}
 
 -- ---- what is counted
 
@@ -76,3 +82,46 @@ at_most (Some n) ps = take n ps
 abbrev pub PassesFiltered : Type 0
 PassesFiltered = (rule : Rule) (count : Option ℕ) (ps : List Captured) → IfSome count (λ (n : ℕ). 0 < n) → length ps < 2 ^ 63
     → (way (Filter rule count) (AsReports []) set_out (coming ps)).packets ≡ at_most count (kept rule ps)
+
+-- ---- the window of an edit
+
+-- the marks of packets
+abbrev pub marks : List Captured → List Mark
+marks ps = map (λ (p : Captured). mark_of p.bytes) ps
+
+-- behind fewer than 2^63 packets the window has the marks of the last n - 1 that were selected
+abbrev pub HasLastMarks : Type 0
+HasLastMarks = (s : Selection) (n : ℕ) (ps : List Captured) → s.window ≡ Some n → length ps < 2 ^ 63
+    → (way (Select s) (AsReports []) set_out (coming ps)).stand.window ≡ last (n - 1) (marks (selected s 1 ps))
+
+-- ---- how an edit ends
+
+-- packets with places of their own come one behind another
+abbrev pub arriving : List Placed → List Event
+arriving [] = []
+arriving (p ∷ ps) = Came 0 p ∷ arriving ps
+
+-- the packets without their places
+abbrev pub packets_of : List Placed → List Captured
+packets_of ps = map (λ (p : Placed). p.packet) ps
+
+-- whether the packet with this number is selected, and its time leaves its range by the shift
+abbrev pub leaves_range : Selection → ℕ → Captured → Bool
+leaves_range s number p = is_selected s number p && is_none (moved s.shift p.time)
+
+-- where the first lies that does, the first of all having this number
+abbrev pub first_out_of_range : Selection → ℕ → List Placed → Option ℕ
+first_out_of_range s number [] = None
+first_out_of_range s number (p ∷ ps) = if leaves_range s number p.packet then Some p.offset else first_out_of_range s (number + 1) ps
+
+-- the job goes on where there is none, and else it ends there, for its time
+abbrev pub ends_at : Option ℕ → Option Close
+ends_at None = None
+ends_at (Some offset) = Some (Broken 0 TimeOutOfRange offset)
+
+-- An edit of fewer than 2^63 packets ends at the first that is selected and whose time leaves its range; what passes is
+-- what is unique of what is selected in front of it.
+abbrev pub EndsOutOfRange : Type 0
+EndsOutOfRange = (s : Selection) (ps : List Placed) → length ps < 2 ^ 63
+    → ((way (Select s) (AsReports []) set_out (arriving ps)).end ≡ ends_at (first_out_of_range s 1 ps))
+    × ((way (Select s) (AsReports []) set_out (arriving ps)).packets ≡ unique_behind s.window [] (selected s 1 (packets_of ps)))
