@@ -1,14 +1,15 @@
 //! A command over files and standard streams.
-ghost use Rattle.std.specs.Prelude.{◌≡◌, ◌≤◌, ◌&&◌, ◌||◌, ℕ, not, is_none, IfErr, IfOk, Ok, true};
-ghost use Rattle.std.specs.Prelude.{false, length, vec_len};
+ghost use Rattle.std.specs.Prelude.{◌≡◌, ◌≢◌, ◌≤◌, ◌&&◌, ◌||◌, ℕ, not, is_none, IfErr, IfOk, Ok};
+ghost use Rattle.std.specs.Prelude.{OnOk, true, false, length, vec_len};
 ghost use Rattle.std.specs.Global.{Vec};
 ghost use Rattle.std.specs.IoError.{error_kind};
 ghost use Rattle.cap_tools.specs.Command.{is_proper};
 ghost use Rattle.cap_line.specs.Line.{has_expression, is_ready, with_code};
+ghost use Rattle.capkit.specs.Streams.{is_kept};
 
 use crate::progress::{Counted, Progress};
 use crate::streams::{Created, Opened};
-use crate::{FAULT, tell};
+use crate::{FAULT, USAGE, tell};
 use cap_line::{Line, STANDARD, with_code};
 use cap_octet::{StdInput, StdOutput};
 use cap_tools::Command;
@@ -170,6 +171,24 @@ fn is_unread(cause: Option<ErrorKind>) -> bool {
     cause == Some(ErrorKind::BrokenPipe)
 }
 
+/// Keeps what the output held before if the expression or the listing was refused, and else removes
+/// it.
+fn leave(status: u8, output: &mut Created) -> io::Result<()>
+    ensures refused { status ≡ 2 → output.new ≡ output.old }
+    ensures ran { status ≢ 2 → OnOk result (is_kept output.new ≡ false) }
+{
+    if status == USAGE {
+        return Ok(());
+    }
+    output.empty()
+}
+
+/// Writes what is buffered, and decides over what the output held before.
+fn settle(status: u8, target: &mut Target) -> io::Result<()> {
+    leave(status, target.get_mut())?;
+    target.flush()
+}
+
 /// Ends the output, whose writes failed for this cause or did not, and the messages of a run, and
 /// returns the status.
 ///
@@ -185,7 +204,7 @@ fn end<'a, W: Write + Drop>(
     requires { status ≤ 2 }
     ensures { IfOk result (λ status. status ≤ 2) }
 {
-    let flushed = target.flush();
+    let flushed = settle(status, &mut target);
     if is_unread(cause) {
         let _ = messages.into_parts();
         return Ok(status);

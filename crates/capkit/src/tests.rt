@@ -160,8 +160,7 @@ fn long_files_are_copied(rt: HostRuntime) -> Result<(), Fail> {
     Ok(())
 }
 
-/// An output in a folder that isn't there can't be created; a refused expression leaves an empty
-/// one.
+/// An output in a folder that isn't there can't be created. A new one is there after a refusal too.
 #[test]
 fn outputs_are_created_before_the_run(rt: HostRuntime) -> Result<(), Fail> {
     let folder = folder(&rt, "created")?;
@@ -170,6 +169,42 @@ fn outputs_are_created_before_the_run(rt: HostRuntime) -> Result<(), Fail> {
     let refused = ["capkit", "print", "-w", "@out", "@in", "port"];
     assert!(rt; status_after(&rt, &folder, &refused)? == 2);
     assert!(rt; has_written(&rt, &folder, 0)?);
+    fs::remove_dir_all(&rt, &folder)?;
+    Ok(())
+}
+
+/// A refused expression or listing leaves an output that was there. After another run only what it
+/// wrote is there, be it nothing.
+#[test]
+fn refusals_keep_the_output(rt: HostRuntime) -> Result<(), Fail> {
+    let folder = folder(&rt, "kept")?;
+    let output = path(&rt, &folder, "out")?;
+    for (words, status, written) in [
+        (
+            ["capkit", "print", "-w", "@out", "@in", "port"].as_slice(),
+            2,
+            84,
+        ),
+        (
+            ["capkit", "print", "--code", "@in", "-w", "@out", "@in"].as_slice(),
+            2,
+            84,
+        ),
+        (["capkit", "print", "-w", "@out", "@code"].as_slice(), 1, 0),
+        (["capkit", "print", "-w", "@out", "@none"].as_slice(), 1, 84),
+        (
+            [
+                "capkit", "print", "-w", "@out", "--format", "pcap", "-c", "1", "@in",
+            ]
+            .as_slice(),
+            0,
+            54,
+        ),
+    ] {
+        fs::write(&rt, &output, &capture())?;
+        assert!(rt; status_after(&rt, &folder, words)? == status, "{words:?}");
+        assert!(rt; has_written(&rt, &folder, written)?, "{words:?}");
+    }
     fs::remove_dir_all(&rt, &folder)?;
     Ok(())
 }
