@@ -1,9 +1,9 @@
 //! Files that are opened, read, created and left alone.
 
-use crate::overwrites::overwrites_input;
+use crate::overwrites::{overwrites_input, reads_file_at};
 use crate::progress::Progress;
 use crate::runner::{Stop, create, open, read_listing, run};
-use cap_line::command_of;
+use cap_line::{Line, command_of};
 use std::alloc::{AllocError, Global};
 use std::os::unix::fs::symlink;
 use std::test::Fail;
@@ -53,10 +53,14 @@ fn line(alloc: Global, folder: &str, words: &[&str]) -> Result<Vec<String>, Allo
     Ok(line)
 }
 
+/// What the words ask for, over files of the folder.
+fn line_of(rt: &HostRuntime, folder: &str, words: &[&str]) -> Result<Line, Fail> {
+    Ok(command_of(rt.alloc(), line(rt.alloc(), folder, words)?)?)
+}
+
 /// The status of a run of the words.
 fn status_after(rt: &HostRuntime, folder: &str, words: &[&str]) -> Result<u8, Fail> {
-    let line = line(rt.alloc(), folder, words)?;
-    Ok(run(rt, command_of(rt.alloc(), line)?))
+    Ok(run(rt, line_of(rt, folder, words)?))
 }
 
 /// Whether the file `out` of the folder has so many bytes of the capture.
@@ -209,13 +213,6 @@ fn refusals_keep_the_output(rt: HostRuntime) -> Result<(), Fail> {
     Ok(())
 }
 
-/// Whether the words' output is a file that they read.
-fn is_overwriting(rt: &HostRuntime, folder: &str, words: &[&str]) -> Result<bool, Fail> {
-    let line = line(rt.alloc(), folder, words)?;
-    let line = command_of(rt.alloc(), line)?;
-    Ok(overwrites_input(rt, &line))
-}
-
 /// A file is known again through a path that goes round, a link and a second name; others and new
 /// ones are no inputs.
 #[test]
@@ -231,15 +228,42 @@ fn one_file_under_two_names_is_known(rt: HostRuntime) -> Result<(), Fail> {
         ("@second", true),
         ("@other", false),
         ("@new", false),
-        ("-", false),
     ] {
-        let edit = ["capkit", "edit", "@in", output];
-        assert!(rt; is_overwriting(&rt, &folder, &edit)? == wanted, "{output}");
+        let edit = line_of(&rt, &folder, &["capkit", "edit", "@in", output])?;
+        assert!(rt; overwrites_input(&rt, &edit) == wanted, "{output}");
         let merge = ["capkit", "merge", "-w", output, "@code", "@in"];
-        assert!(rt; is_overwriting(&rt, &folder, &merge)? == wanted, "{output}");
+        let merge = line_of(&rt, &folder, &merge)?;
+        assert!(rt; overwrites_input(&rt, &merge) == wanted, "{output}");
         let print = ["capkit", "print", "--code", "@in", "-w", output, "@code"];
-        assert!(rt; is_overwriting(&rt, &folder, &print)? == wanted, "{output}");
+        let print = line_of(&rt, &folder, &print)?;
+        assert!(rt; overwrites_input(&rt, &print) == wanted, "{output}");
     }
+    fs::remove_dir_all(&rt, &folder)?;
+    Ok(())
+}
+
+/// The file that standard output may be is looked for among the inputs and the listing. A device
+/// may be both.
+#[test]
+fn standard_output_may_be_an_input(rt: HostRuntime) -> Result<(), Fail> {
+    let folder = folder(&rt, "standard")?;
+    let input = path(&rt, &folder, "in")?;
+    fs::hard_link(&rt, &input, &path(&rt, &folder, "second")?)?;
+    for (words, wanted) in [
+        (["capkit", "edit", "@second", "-"].as_slice(), true),
+        (["capkit", "infos", "@code", "@second"].as_slice(), true),
+        (
+            ["capkit", "print", "--code", "@second", "@code"].as_slice(),
+            true,
+        ),
+        (["capkit", "print", "@code"].as_slice(), false),
+        (["capkit", "compile"].as_slice(), false),
+    ] {
+        let line = line_of(&rt, &folder, words)?;
+        assert!(rt; reads_file_at(&rt, &line, &input) == wanted, "{words:?}");
+    }
+    let device = line_of(&rt, &folder, &["capkit", "print", "/dev/null"])?;
+    assert!(rt; !reads_file_at(&rt, &device, "/dev/null"));
     fs::remove_dir_all(&rt, &folder)?;
     Ok(())
 }

@@ -1,0 +1,95 @@
+#!/usr/bin/env python3
+"""Runs capkit over real files and devices in a shell, and compares what is left with what must be.
+
+usage: check_files.py [--capkit PROGRAM]
+
+Each case has a folder of its own with a copy of samples/. It is a shell line, the status that it must end with, what
+standard error must hold, and files with what they must hold: bytes, the name of a sample that is unchanged, or None where
+there must be no such file.
+"""
+import argparse
+import os
+import pathlib
+import shutil
+import subprocess
+import sys
+import tempfile
+
+from check_examples import ROOT, built_program
+
+SAMPLES = ROOT / "samples"
+TWICE = "capkit: usage: name used twice\n"
+
+CASES = [
+    # What an output held before goes, unless an expression or a listing is refused.
+    ("printf keep > out; capkit print -w out day.pcap 'prot 80'", 2,
+     "capkit: expression: unknown word at 1\n", {"out": b"keep"}),
+    ("capkit print -w out day.pcap 'prot 80'", 2, "capkit: expression: unknown word at 1\n", {"out": b""}),
+    ("printf keep > out; echo text > code; capkit print -w out --code code day.pcap", 2,
+     "capkit: code: not a listing at line 1\n", {"out": b"keep"}),
+    ("printf keep > out; capkit edit nowhere out", 1, "capkit: nowhere: cannot open\n", {"out": b"keep"}),
+    ("capkit edit nowhere out", 1, "capkit: nowhere: cannot open\n", {"out": None}),
+    ("printf keep > out; echo text > in; capkit edit in out", 1,
+     "capkit: in: offset 0: not a capture file\n", {"out": b""}),
+    ("cat day.pcap day.pcap > out; capkit edit -F pcap day.pcap out", 0, "", {"out": "day.pcap"}),
+    ("printf keep > kept; ln -s kept out; capkit edit -F pcap day.pcap out", 0, "", {"kept": "day.pcap"}),
+    ("mkfifo pipe; cat pipe > out & capkit edit -F pcap day.pcap pipe; s=$?; wait; exit $s", 0, "", {"out": "day.pcap"}),
+    ("capkit print -w /dev/null day.pcap", 0, "", {}),
+    ("capkit print -w /dev/full day.pcap", 1, "capkit: /dev/full: write failed\n", {}),
+    ("capkit print -w . day.pcap", 1, "capkit: .: cannot create\n", {}),
+    # A file that is read is no output, under whatever name.
+    ("capkit edit -F pcap day.pcap - >> day.pcap", 2, TWICE, {"day.pcap": "day.pcap"}),
+    ("ln day.pcap hard.pcap; capkit edit day.pcap - >> hard.pcap", 2, TWICE, {"day.pcap": "day.pcap"}),
+    ("ln -s day.pcap soft.pcap; capkit edit soft.pcap day.pcap", 2, TWICE, {"day.pcap": "day.pcap"}),
+    ("capkit print - < day.pcap >> day.pcap", 2, TWICE, {"day.pcap": "day.pcap"}),
+    ("capkit edit - day.pcap < day.pcap", 2, TWICE, {"day.pcap": "day.pcap"}),
+    ("capkit infos mirror.pcap day.pcap >> day.pcap", 2, TWICE, {"day.pcap": "day.pcap"}),
+    ("capkit merge -w - mirror.pcap day.pcap >> day.pcap", 2, TWICE, {"day.pcap": "day.pcap"}),
+    ("capkit print day.pcap 1<> day.pcap", 2, TWICE, {"day.pcap": "day.pcap"}),
+    ("capkit compile tcp > code; cp code before; capkit print --code code day.pcap >> code; s=$?; cmp code before && exit $s",
+     2, TWICE, {}),
+    ("capkit edit -F pcap day.pcap - > out", 0, "", {"out": "day.pcap", "day.pcap": "day.pcap"}),
+    ("capkit edit -F pcap - - < day.pcap | cat > out", 0, "", {"out": "day.pcap"}),
+    ("capkit print - < /dev/null > /dev/null", 1, "capkit: -: offset 0: not a capture file\n", {}),
+]
+
+
+def differences(program, line, status, message, files):
+    """What differs after the line was run."""
+    with tempfile.TemporaryDirectory() as folder:
+        here = pathlib.Path(folder)
+        shutil.copytree(SAMPLES, here, dirs_exist_ok=True)
+        (here / ".bin").mkdir()
+        (here / ".bin" / "capkit").symlink_to(program)
+        paths = f"{here / '.bin'}:{os.environ['PATH']}"
+        run = subprocess.run(["bash", "-c", line], cwd=here, env={**os.environ, "PATH": paths}, capture_output=True,
+                             stdin=subprocess.DEVNULL, timeout=60)
+        if run.returncode != status:
+            yield f"status {run.returncode}, not {status}"
+        if run.stderr != message.encode():
+            yield f"standard error {run.stderr!r}, not {message!r}"
+        for name, wanted in files.items():
+            path = here / name
+            held = path.read_bytes() if path.exists() else None
+            if isinstance(wanted, str):
+                wanted = (SAMPLES / wanted).read_bytes()
+            if held != wanted:
+                yield f"{name} is not as it must be"
+
+
+def main():
+    parser = argparse.ArgumentParser(usage=__doc__.split("usage: ")[1].split("\n")[0])
+    parser.add_argument("--capkit", type=pathlib.Path)
+    options = parser.parse_args()
+    program = (options.capkit or built_program()).resolve()
+    count = 0
+    for line, *wanted in CASES:
+        for difference in differences(program, line, *wanted):
+            count += 1
+            print(f"{line}\n    {difference}")
+    print(f"{len(CASES)} cases, {count} differ")
+    return 1 if count else 0
+
+
+if __name__ == "__main__":
+    sys.exit(main())
