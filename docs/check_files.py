@@ -51,6 +51,17 @@ CASES = [
     ("capkit edit -F pcap day.pcap - > out", 0, "", {"out": "day.pcap", "day.pcap": "day.pcap"}),
     ("capkit edit -F pcap - - < day.pcap | cat > out", 0, "", {"out": "day.pcap"}),
     ("capkit print - < /dev/null > /dev/null", 1, "capkit: -: offset 0: not a capture file\n", {}),
+    # What was asked for and can't be written is a fault.
+    ("capkit --help > /dev/full", 1, "capkit: -: write failed\n", {}),
+    ("capkit --version > /dev/full", 1, "capkit: -: write failed\n", {}),
+    ("capkit edit --help > /dev/full", 1, "capkit: -: write failed\n", {}),
+    ("capkit help > shown; capkit --help | cmp - shown", 0, "", {}),
+    ("capkit help edit > shown; capkit edit --help | cmp - shown", 0, "", {}),
+    # A name is shown without its control characters, and reported with them.
+    ("capkit infos $'a\\nb\\e[31m'", 1, "capkit: a\\x0ab\\x1b[31m: cannot open\n", {}),
+    ("echo text > $'a\\nb'; capkit infos $'a\\nb'", 1, "capkit: a\\x0ab: offset 0: not a capture file\n", {}),
+    ("cp day.pcap $'a\\eb'; capkit infos $'a\\eb' | head -n 1 > out", 0, "", {"out": b"File: a\x1bb\n"}),
+    ("capkit print $'-\\e' 2> out; s=$?; grep -q $'\\e' out || exit $s", 2, "", {}),
 ]
 
 

@@ -1,2 +1,3 @@
 pub mod Status
 pub mod Streams
+pub mod Words

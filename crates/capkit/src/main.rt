@@ -1,19 +1,23 @@
 //! capkit: a workbench for saved packet captures.
 #![tactic(auto)]
 
-ghost use Rattle.std.specs.Prelude.{◌≡◌, ◌≤◌};
+ghost use Rattle.std.specs.Prelude.{◌≡◌, ◌≤◌, Bool};
 ghost use Rattle.capkit.specs.Status.{status_of};
 
+mod message;
 mod overwrites;
 mod progress;
 mod runner;
 mod streams;
 #[cfg(test)]
 mod tests;
+mod words;
 
+use crate::message::refusal_text;
 use crate::overwrites::overwrites_input;
-use crate::runner::run;
-use cap_line::{Usage, command_of};
+use crate::runner::{Stop, run};
+use crate::words::with_help_option;
+use cap_line::{STANDARD, Usage, command_of};
 use std::alloc::AllocError;
 use std::env;
 use std::fmt::Display;
@@ -45,6 +49,9 @@ fn status(rt: &HostRuntime) -> u8
     let Ok(words) = words else {
         return refuse(rt, Usage::Memory);
     };
+    let Ok(words) = with_help_option(rt.alloc(), words) else {
+        return refuse(rt, Usage::Memory);
+    };
     match command_of(rt.alloc(), words) {
         Ok(line) if overwrites_input(rt, &line) => refuse(rt, Usage::NameUsedTwice),
         Ok(line) => run(rt, line),
@@ -52,24 +59,60 @@ fn status(rt: &HostRuntime) -> u8
     }
 }
 
-/// Reports why words are no command line, or what the user asked to know of the command line.
-fn refuse(rt: &HostRuntime, usage: Usage) -> u8
-    ensures { result ≡ status_of usage }
-{
-    match usage {
-        Usage::Refused(error) => {
-            let _ = error.print(rt);
-            if error.use_stderr() { USAGE } else { 0 }
-        }
-        Usage::Memory => {
-            tell(rt, usage);
-            FAULT
-        }
-        fault => {
-            tell(rt, format_args!("usage: {fault}"));
-            USAGE
+/// Prints what the user asked to know of the command line, and returns whether it could be written.
+///
+/// Where the reader of a pipe went away nobody hears that it can't.
+fn print_answer(rt: &HostRuntime, answer: &clap::Error) -> bool {
+    match answer.print(rt) {
+        Ok(()) => true,
+        Err(error) => {
+            if error.kind() != ErrorKind::BrokenPipe {
+                tell(rt, Stop::WriteFailed(STANDARD));
+            }
+            false
         }
     }
+}
+
+/// Reports why clap refuses the words.
+fn tell_refusal(rt: &HostRuntime, error: &clap::Error) {
+    let _ = match refusal_text(rt.alloc(), error) {
+        Ok(text) => rt.eprint(text.as_str()),
+        Err(_) => error.print(rt),
+    };
+}
+
+/// Reports why words are no command line, or prints what the user asked to know of it, and returns
+/// whether such an answer could be written.
+fn tell_usage(rt: &HostRuntime, usage: &Usage) -> bool {
+    match usage {
+        Usage::Refused(error) if error.use_stderr() => tell_refusal(rt, error),
+        Usage::Refused(answer) => return print_answer(rt, answer),
+        Usage::Memory => tell(rt, format_args!("{usage}")),
+        fault => tell(rt, format_args!("usage: {fault}")),
+    }
+    true
+}
+
+/// The status of words that are no command line, and of an answer that could be written or not.
+fn status_of(usage: &Usage, is_written: bool) -> u8
+    ensures { result ≡ status_of usage.now is_written }
+{
+    match usage {
+        Usage::Refused(error) if error.use_stderr() => USAGE,
+        Usage::Refused(_) if is_written => 0,
+        Usage::Refused(_) | Usage::Memory => FAULT,
+        _ => USAGE,
+    }
+}
+
+/// Reports why words are no command line, or what the user asked to know of it, and returns the
+/// status.
+fn refuse(rt: &HostRuntime, usage: Usage) -> u8
+    ensures { (is_written : Bool) × (result ≡ status_of usage is_written) }
+{
+    let is_written = tell_usage(rt, &usage);
+    status_of(&usage, is_written)
 }
 
 /// Writes a message to standard error. One that can't be written is lost.

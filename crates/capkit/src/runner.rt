@@ -7,6 +7,7 @@ ghost use Rattle.cap_tools.specs.Command.{is_proper};
 ghost use Rattle.cap_line.specs.Line.{has_expression, is_ready, with_code};
 ghost use Rattle.capkit.specs.Streams.{is_kept};
 
+use crate::message::Shown;
 use crate::progress::{Counted, Progress};
 use crate::streams::{Created, Opened};
 use crate::{FAULT, USAGE, tell};
@@ -43,9 +44,9 @@ pub(crate) enum Stop<'a> {
 impl fmt::Display for Stop<'_> {
     fn fmt<W: fmt::Write>(&self, f: &mut fmt::Formatter<W>) -> fmt::Result {
         match self {
-            Stop::CannotOpen(name) => write!(f, "{name}: cannot open"),
-            Stop::CannotCreate(name) => write!(f, "{name}: cannot create"),
-            Stop::WriteFailed(name) => write!(f, "{name}: write failed"),
+            Stop::CannotOpen(name) => write!(f, "{}: cannot open", Shown { text: name }),
+            Stop::CannotCreate(name) => write!(f, "{}: cannot create", Shown { text: name }),
+            Stop::WriteFailed(name) => write!(f, "{}: write failed", Shown { text: name }),
             Stop::NoMemory => write!(f, "no memory"),
         }
     }
@@ -163,7 +164,8 @@ fn run_over<'a>(
     progress.erase();
     let (target, cause) = target.into_inner();
     let (messages, _) = messages.into_inner();
-    end(status, target, cause, messages, output)
+    let (_, message) = messages.into_parts();
+    end(rt, status, target, cause, &message, output)
 }
 
 /// Whether it failed since the reader of a pipe went away.
@@ -189,16 +191,27 @@ fn settle(status: u8, target: &mut Target) -> io::Result<()> {
     target.flush()
 }
 
-/// Ends the output, whose writes failed for this cause or did not, and the messages of a run, and
+/// Writes the message of a run, which a line break ends. One that can't be written is lost.
+fn tell_bytes(rt: &HostRuntime, message: &[u8]) {
+    let Ok(text) = str::from_utf8(message) else {
+        return;
+    };
+    if let Some(text) = text.strip_suffix("\n") {
+        let _ = rt.eprintln(Shown { text });
+    }
+}
+
+/// Ends the output, whose writes failed for this cause or did not, and the message of a run, and
 /// returns the status.
 ///
 /// Where the reader of a pipe went away, as of `| head`, nobody hears that the rest can't be
 /// written.
-fn end<'a, W: Write + Drop>(
+fn end<'a>(
+    rt: &HostRuntime,
     status: u8,
     mut target: Target,
     cause: Option<ErrorKind>,
-    mut messages: BufWriter<W>,
+    message: &[u8],
     output: &'a str,
 ) -> Result<u8, Stop<'a>>
     requires { status ≤ 2 }
@@ -206,10 +219,9 @@ fn end<'a, W: Write + Drop>(
 {
     let flushed = settle(status, &mut target);
     if is_unread(cause) {
-        let _ = messages.into_parts();
         return Ok(status);
     }
-    let _ = messages.flush();
+    tell_bytes(rt, message);
     match flushed {
         Err(_) if cause.is_some() => Ok(status),
         Err(error) if is_unread(Some(error.kind())) => Ok(FAULT),

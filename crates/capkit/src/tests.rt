@@ -1,9 +1,11 @@
 //! Files that are opened, read, created and left alone.
 
+use crate::message::{Shown, refusal_text};
 use crate::overwrites::{overwrites_input, reads_file_at};
 use crate::progress::Progress;
 use crate::runner::{Stop, create, open, read_listing, run};
-use cap_line::{Line, command_of};
+use crate::words::with_help_option;
+use cap_line::{Line, Usage, command_of};
 use std::alloc::{AllocError, Global};
 use std::os::unix::fs::symlink;
 use std::test::Fail;
@@ -265,5 +267,62 @@ fn standard_output_may_be_an_input(rt: HostRuntime) -> Result<(), Fail> {
     let device = line_of(&rt, &folder, &["capkit", "print", "/dev/null"])?;
     assert!(rt; !reads_file_at(&rt, &device, "/dev/null"));
     fs::remove_dir_all(&rt, &folder)?;
+    Ok(())
+}
+
+/// Whether this is how a text is shown.
+fn is_shown_as(alloc: Global, text: &str, wanted: &str) -> Result<bool, AllocError> {
+    Ok(format!(in alloc; "{}", Shown { text })?.as_str() == wanted)
+}
+
+/// What a terminal would obey is shown by its number.
+#[test]
+fn control_characters_are_shown(rt: HostRuntime) -> Result<(), Fail> {
+    let alloc = rt.alloc();
+    assert!(rt; is_shown_as(alloc, "caf\u{e9} 1.pcap", "caf\u{e9} 1.pcap")?);
+    assert!(rt; is_shown_as(alloc, "a\nb\x1b[31m", "a\\x0ab\\x1b[31m")?);
+    assert!(rt; is_shown_as(alloc, "\x7f\u{9b}", "\\x7f\\x9b")?);
+    Ok(())
+}
+
+/// Advice that can be followed stays.
+#[test]
+fn advice_that_fails_is_left_out(rt: HostRuntime) -> Result<(), Fail> {
+    let alloc = rt.alloc();
+    for (words, wanted) in [
+        (
+            ["capkit", "print", "-r", "in"].as_slice(),
+            "error: unexpected argument '-r' found\n\nUsage: capkit print [OPTIONS] <FILE> [WORD]...\n\nFor more information, try '--help'.\n",
+        ),
+        (
+            ["capkit", "edit", "--latter", "5", "in", "out"].as_slice(),
+            "error: unexpected argument '--latter' found\n\n  tip: a similar argument exists: '--later'\n\nUsage: capkit edit --later <S> <IN> <OUT> [RANGE]...\n\nFor more information, try '--help'.\n",
+        ),
+    ] {
+        let line = line(alloc, "", words)?;
+        let Err(Usage::Refused(error)) = command_of(alloc, line) else {
+            return Err(Fail::new("taken"));
+        };
+        assert!(rt; refusal_text(alloc, &error)?.as_str() == wanted);
+    }
+    Ok(())
+}
+
+/// `help` is read as `--help` of the command that follows it, and of the program where none does.
+#[test]
+fn help_is_an_option(rt: HostRuntime) -> Result<(), Fail> {
+    let alloc = rt.alloc();
+    for (words, wanted) in [
+        (
+            ["capkit", "help"].as_slice(),
+            ["capkit", "--help"].as_slice(),
+        ),
+        (&["capkit", "help", "edit"], &["capkit", "edit", "--help"]),
+        (&["capkit", "infos", "help"], &["capkit", "infos", "help"]),
+        (&["capkit"], &["capkit"]),
+    ] {
+        let given = with_help_option(alloc, line(alloc, "", words)?)?;
+        assert!(rt; given == line(alloc, "", wanted)?, "{words:?}");
+    }
     Ok(())
 }
