@@ -5,11 +5,13 @@ usage: check_files.py [--capkit PROGRAM]
 
 Each case has a folder of its own with a copy of samples/. It is a shell line, the status that it must end with, what
 standard error must hold, and files with what they must hold: bytes, the name of a sample that is unchanged, or None where
-there must be no such file.
+there must be no such file. A case on a terminal is a line over an input that takes three seconds, the terminal's name, and
+whether progress must be shown there.
 """
 import argparse
 import os
 import pathlib
+import pty
 import shutil
 import subprocess
 import sys
@@ -64,17 +66,55 @@ CASES = [
     ("capkit print $'-\\e' 2> out; s=$?; grep -q $'\\e' out || exit $s", 2, "", {}),
 ]
 
+SLOW = "(cat day.pcap; sleep 3; tail -c +25 day.pcap) |"
+PROGRESS = b"\r\x1b[K0 MiB read, 0 MiB/s\r\x1b[K"
+
+TERMINAL_CASES = [
+    (f"{SLOW} capkit edit - out", "xterm", True),
+    (f"{SLOW} capkit print -w out - tcp", "xterm", True),
+    (f"{SLOW} capkit edit - out", "dumb", False),
+    (f"{SLOW} capkit edit - - > out", "xterm", False),
+    (f"{SLOW} capkit print - | wc -l > out", "xterm", False),
+    (f"{SLOW} capkit edit - /dev/null", "xterm", False),
+]
+
+
+def folder_of(here, program):
+    """Fills the folder, and returns the variables of a shell in it."""
+    shutil.copytree(SAMPLES, here, dirs_exist_ok=True)
+    (here / ".bin").mkdir()
+    (here / ".bin" / "capkit").symlink_to(program)
+    return {**os.environ, "PATH": f"{here / '.bin'}:{os.environ['PATH']}"}
+
+
+def differences_on_terminal(program, line, name, is_shown):
+    """What differs on a terminal of that name, which is the line's standard error."""
+    with tempfile.TemporaryDirectory() as folder:
+        here = pathlib.Path(folder)
+        variables = folder_of(here, program)
+        ours, theirs = pty.openpty()
+        run = subprocess.run(["bash", "-c", line], cwd=here, env={**variables, "TERM": name}, stderr=theirs,
+                             stdout=subprocess.DEVNULL, stdin=subprocess.DEVNULL, timeout=60)
+        os.set_blocking(ours, False)
+        try:
+            shown = os.read(ours, 65536)
+        except BlockingIOError:
+            shown = b""
+        os.close(ours)
+        os.close(theirs)
+        if run.returncode != 0:
+            yield f"status {run.returncode}, not 0"
+        if shown != (PROGRESS if is_shown else b""):
+            yield f"{shown!r} is shown on {name}"
+
 
 def differences(program, line, status, message, files):
     """What differs after the line was run."""
     with tempfile.TemporaryDirectory() as folder:
         here = pathlib.Path(folder)
-        shutil.copytree(SAMPLES, here, dirs_exist_ok=True)
-        (here / ".bin").mkdir()
-        (here / ".bin" / "capkit").symlink_to(program)
-        paths = f"{here / '.bin'}:{os.environ['PATH']}"
-        run = subprocess.run(["bash", "-c", line], cwd=here, env={**os.environ, "PATH": paths}, capture_output=True,
-                             stdin=subprocess.DEVNULL, timeout=60)
+        variables = folder_of(here, program)
+        run = subprocess.run(["bash", "-c", line], cwd=here, env=variables, capture_output=True, stdin=subprocess.DEVNULL,
+                             timeout=60)
         if run.returncode != status:
             yield f"status {run.returncode}, not {status}"
         if run.stderr != message.encode():
@@ -93,13 +133,12 @@ def main():
     parser.add_argument("--capkit", type=pathlib.Path)
     options = parser.parse_args()
     program = (options.capkit or built_program()).resolve()
-    count = 0
-    for line, *wanted in CASES:
-        for difference in differences(program, line, *wanted):
-            count += 1
-            print(f"{line}\n    {difference}")
-    print(f"{len(CASES)} cases, {count} differ")
-    return 1 if count else 0
+    found = [(case[0], text) for case in CASES for text in differences(program, *case)]
+    found += [(case[0], text) for case in TERMINAL_CASES for text in differences_on_terminal(program, *case)]
+    for line, difference in found:
+        print(f"{line}\n    {difference}")
+    print(f"{len(CASES) + len(TERMINAL_CASES)} cases, {len(found)} differences")
+    return 1 if found else 0
 
 
 if __name__ == "__main__":

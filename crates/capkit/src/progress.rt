@@ -1,11 +1,11 @@
-//! How far long work is: shown where standard error is a terminal, from two seconds on, and erased
-//! at the end.
+//! How far long work is: shown on a terminal, where the output is a file, from two seconds on, and
+//! erased at the end.
 
 use cap_line::STANDARD;
 use std::cell::Cell;
-use std::fs;
 use std::io::{self, IsTerminal, Read};
 use std::time::Instant;
+use std::{env, fs};
 
 /// The second since the start at which progress is shown first.
 const FIRST: u64 = 2;
@@ -28,6 +28,29 @@ fn total_size(rt: &HostRuntime, names: &[String]) -> u64 {
     total
 }
 
+/// Whether the output of this name is a file, be it a new one. What goes to standard output may
+/// come to the terminal, by a pipe too.
+fn is_file(rt: &HostRuntime, output: &str) -> bool {
+    if output == STANDARD {
+        return false;
+    }
+    match fs::metadata(rt, output) {
+        Ok(file) => file.is_file(),
+        Err(_) => true,
+    }
+}
+
+/// Whether standard error is a terminal on which a line can be written over.
+fn is_drawable(rt: &HostRuntime) -> bool {
+    if !rt.stderr().is_terminal() {
+        return false;
+    }
+    match env::var(rt, "TERM") {
+        Ok(terminal) => terminal.as_str() != "dumb",
+        Err(_) => true,
+    }
+}
+
 /// Counts the bytes that the inputs of a job read.
 #[derive(Drop)]
 pub struct Progress<'a> {
@@ -42,11 +65,10 @@ pub struct Progress<'a> {
 }
 
 impl<'a> Progress<'a> {
-    /// Nothing is read yet of the inputs of these names. What the job writes to a terminal isn't
-    /// disturbed.
+    /// Nothing is read yet of the inputs of these names. Nothing is shown where that could meet
+    /// lines, or another program's progress, on the terminal.
     pub fn new(rt: &'a HostRuntime, names: &[String], output: &str) -> Progress<'a> {
-        let is_disturbing = output == STANDARD && rt.stdout().is_terminal();
-        let start = if rt.stderr().is_terminal() && !is_disturbing {
+        let start = if is_file(rt, output) && is_drawable(rt) {
             Instant::now(rt).ok()
         } else {
             None
