@@ -218,7 +218,8 @@ fn end<'a>(
     ensures { IfOk result (λ status. status ≤ 2) }
 {
     let flushed = settle(status, &mut target);
-    if is_unread(cause) {
+    let is_closed = matches!(&flushed, Err(error) if is_unread(Some(error.kind())));
+    if is_unread(cause) || cause.is_some() && is_closed {
         return Ok(status);
     }
     tell_bytes(rt, message);
