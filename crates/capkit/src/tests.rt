@@ -289,21 +289,16 @@ fn control_characters_are_shown(rt: HostRuntime) -> Result<(), Fail> {
 #[test]
 fn advice_that_fails_is_left_out(rt: HostRuntime) -> Result<(), Fail> {
     let alloc = rt.alloc();
-    for (words, wanted) in [
-        (
-            ["capkit", "print", "-r", "in"].as_slice(),
-            "error: unexpected argument '-r' found\n\nUsage: capkit print [OPTIONS] <FILE> [WORD]...\n\nFor more information, try '--help'.\n",
-        ),
-        (
-            ["capkit", "edit", "--latter", "5", "in", "out"].as_slice(),
-            "error: unexpected argument '--latter' found\n\n  tip: a similar argument exists: '--later'\n\nUsage: capkit edit --later <S> <IN> <OUT> [RANGE]...\n\nFor more information, try '--help'.\n",
-        ),
+    for (words, has_tip) in [
+        (["capkit", "print", "-r", "in"].as_slice(), false),
+        (&["capkit", "edit", "--latter", "5", "in", "out"], true),
     ] {
         let line = line(alloc, "", words)?;
         let Err(Usage::Refused(error)) = command_of(alloc, line) else {
             return Err(Fail::new("taken"));
         };
-        assert!(rt; refusal_text(alloc, &error)?.as_str() == wanted);
+        let text = refusal_text(alloc, &error)?;
+        assert!(rt; text.contains("tip: ") == has_tip, "{words:?}");
     }
     Ok(())
 }
