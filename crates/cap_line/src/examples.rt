@@ -18,7 +18,7 @@ Examples:
   Keep the first thousand packets alone:
     capkit edit -r in.pcapng out.pcapng 1-1000
   Keep an hour of a day:
-    capkit edit -A 2026-01-31T12:00:00Z -B 2026-01-31T13:00:00Z day.pcap 12.pcapng
+    capkit edit -A 2026-01-31T12:00:00Z -B 2026-01-31T13:00:00Z day.pcap noon
   Keep the headers alone:
     capkit edit -s 96 in.pcap headers.pcapng
   Remove 8 bytes that a tap puts before each packet:
