@@ -62,7 +62,8 @@ fn line_of(rt: &HostRuntime, folder: &str, words: &[&str]) -> Result<Line, Fail>
 
 /// The status of a run of the words.
 fn status_after(rt: &HostRuntime, folder: &str, words: &[&str]) -> Result<u8, Fail> {
-    Ok(run(rt, line_of(rt, folder, words)?))
+    let line = line(rt.alloc(), folder, words)?;
+    Ok(run(rt, command_of(rt.alloc(), line)?))
 }
 
 /// Whether the file `out` of the folder has so many bytes of the capture.
