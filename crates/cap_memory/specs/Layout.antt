@@ -1,0 +1,53 @@
+-- What the caller's structs say.
+use Rattle.std.specs.Prelude.{◌≡◌, ℕ, ◌==◌, if◌then◌else◌, min, List, length, map, take, Option, Some, None}
+use Rattle.cap_octet.specs.declared.number.Order.{Order}
+use Rattle.cap_octet.specs.declared.number.Order.TheVariants.{Little, Big}
+use Rattle.cap_pcap.specs.declared.head.Head.{Head}
+use Rattle.cap_pcap.specs.declared.head.Resolution.{Resolution}
+use Rattle.cap_pcap.specs.declared.head.Resolution.TheVariants.{Microseconds, Nanoseconds}
+use Rattle.cap_pcapng.specs.Interface.{Described}
+use Rattle.cap_pcapng.specs.Unit.{Section}
+use Rattle.cap_io.specs.Capture.{Declared, Nothing, PcapFile, PcapngFile}
+use Rattle.cap_memory.specs.declared.layout.Form.{Form}
+use Rattle.cap_memory.specs.declared.layout.Form.TheVariants as form
+use Rattle.cap_memory.specs.declared.layout.Interface.{Interface}
+use Rattle.cap_memory.specs.declared.layout.Reader.{Reader}
+
+-- flags: 0 is no, and every other number yes
+abbrev pub order_by : ℕ → Order
+order_by flag = if flag == 0 then Little else Big
+
+abbrev pub resolution_by : ℕ → Resolution
+resolution_by flag = if flag == 0 then Microseconds else Nanoseconds
+
+abbrev pub link_by : ℕ → ℕ → Option ℕ
+link_by flag link = if flag == 0 then None else Some link
+
+-- what a reader says of the file
+abbrev pub form_of : Reader → Form
+form_of r =
+    if r.form == 1 then form.Pcap (record { order = order_by r.big_endian; resolution = resolution_by r.nanoseconds; snap = r.snap; link = r.link_type })
+    else (if r.form == 2 then form.Pcapng (order_by r.big_endian) (link_by r.has_link_type r.link_type)
+    else form.Unknown)
+
+-- how many interfaces it knows, in a table with so much room
+abbrev pub most_known : Reader → ℕ → ℕ
+most_known r room = min (min r.interfaces room) 256
+
+-- an interface of the table
+abbrev pub described_of : Interface → Described
+described_of i = record { link = i.link_type; snap = i.snap; name = take i.name_length i.name; units = if i.units == 0 then 1 else i.units; offset = i.offset }
+
+-- the first of a table
+abbrev pub first_of : ℕ → List Interface → List Described
+first_of count table = map described_of (take count table)
+
+-- what is declared by the form of a file and the interfaces of its section
+abbrev pub declared_by : Form → List Described → Declared
+declared_by form.Unknown interfaces = Nothing
+declared_by (form.Pcap head) interfaces = PcapFile head
+declared_by (form.Pcapng order first) interfaces = PcapngFile first (record { order = order; interfaces = interfaces })
+
+-- the same by a reader and its table
+abbrev pub declared_in : Reader → List Interface → Declared
+declared_in r table = declared_by (form_of r) (first_of (most_known r (length table)) table)

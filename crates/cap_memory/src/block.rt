@@ -1,0 +1,151 @@
+//! One block of a pcapng capture in memory, in the caller's table of interfaces.
+ghost use Rattle.std.specs.Prelude.{◌≡◌, ℕ, ◌+◌, ◌<◌, ◌≤◌, ◌++◌, ◌∷◌, [], IfOk, IfErr, OnErr, length};
+ghost use Rattle.std.specs.Prelude.{Option, drop, take};
+ghost use Rattle.std.specs.Option.{option_map};
+ghost use Rattle.std.specs.List.{slice_get};
+ghost use Rattle.cap_pcapng.specs.Answer.{Judges};
+ghost use Rattle.cap_pcapng.specs.Block.{parts_of};
+ghost use Rattle.cap_pcapng.specs.Interface.{described};
+ghost use Rattle.cap_pcapng.specs.Unit.{Section, checks_among, interfaces_before, order_before};
+ghost use Rattle.cap_pcapng.specs.declared.blocks.Block.TheVariants as a;
+ghost use Rattle.cap_io.specs.Blocks.{Enters, PacketFound, told_behind};
+ghost use Rattle.cap_memory.specs.Layout.{described_of, first_of};
+ghost use Rattle.cap_memory.specs.Blocks.{IsOf, held_of, holds};
+
+use crate::layout::Interface;
+use cap_octet::{Fault, Order};
+use cap_pcapng::{
+    Block, EnhancedBlock, Frame, Interface as ReadInterface, SimpleBlock, block, frame,
+};
+
+/// Where the data of an enhanced packet begin in its block.
+const ENHANCED_DATA: u32 = 28;
+
+/// Where the data of a simple packet begin in its block.
+const SIMPLE_DATA: u32 = 12;
+
+/// The most interfaces of a section.
+const MOST_INTERFACES: usize = 256;
+
+/// A packet, and where its parts are in its unit.
+#[derive(Clone, Copy)]
+pub(crate) struct Placed {
+    pub(crate) start: u32,
+    pub(crate) length: u32,
+    pub(crate) options_start: u32,
+    pub(crate) options_length: u32,
+    pub(crate) interface: u32,
+    pub(crate) link_type: u16,
+    pub(crate) snap: u32,
+    pub(crate) time: u64,
+    pub(crate) orig: u32,
+}
+
+/// Why a block isn't read.
+#[derive(Clone, Copy)]
+pub(crate) enum Refusal {
+    /// The first check that fails.
+    Fault(Fault),
+    /// Its interface finds no room in the table.
+    NoRoom,
+}
+
+/// A block that passed all of its checks: how many interfaces there are behind it, and its packet.
+#[derive(Clone, Copy)]
+pub(crate) struct Entered {
+    pub(crate) interfaces: usize,
+    pub(crate) packet: Option<Placed>,
+}
+
+/// The interface with this number among the first of a table.
+fn get(table: &[Interface], count: usize, number: u32) -> Option<&Interface>
+    requires { count ≤ length table.now }
+    ensures { option_map (λ i. described_of i.now) result
+        ≡ slice_get (first_of count table.now) number }
+{
+    if number as usize >= count {
+        return None;
+    }
+    table.get(number as usize)
+}
+
+/// Puts an interface behind the first of a table.
+fn put(table: &mut [Interface], count: usize, interface: &ReadInterface<'_>)
+    requires { count < length table.old }
+    ensures put { first_of (count + 1) table.new
+        ≡ first_of count table.old ++ described interface.now ∷ [] }
+    ensures same { length table.new ≡ length table.old }
+{
+    table[count] = Interface::of(interface);
+}
+
+/// The fault of a block that fails by itself, behind the interfaces of a table.
+fn fault_behind(count: usize, fault: Fault) -> Fault
+    ensures { holds count (λ interfaces. result ≡ told_behind interfaces fault) }
+{
+    match fault {
+        Fault::BadOption | Fault::BadTimeResolution if count >= MOST_INTERFACES => {
+            Fault::TooManyInterfaces
+        }
+        _ => fault,
+    }
+}
+
+/// The packet of an enhanced packet block of so many bytes.
+fn enhanced_packet(
+    table: &[Interface],
+    count: usize,
+    block: &EnhancedBlock<'_>,
+    size: u32,
+) -> Result<Placed, Fault>
+    requires known { count ≤ length table.now }
+    requires room { 28 + length block.now.rest.now ≤ size }
+    ensures found { Judges (checks_among (first_of count table.now) (parts_of
+        (a.Enhanced block.now))) result (λ packet. PacketFound block.now.order
+        (first_of count table.now) (parts_of (a.Enhanced block.now)) 28 size block.now.rest.now
+        (held_of size packet)) }
+    ensures interface { IfOk result (IsOf (first_of count table.now)) }
+{
+    let interface = get(table, count, block.interface).ok_or(Fault::UnknownInterface)?;
+    block.data()?;
+    let time = interface.clock().time(block.ticks)?;
+    let options = block.options().rest.len() as u32;
+    Ok(Placed {
+        start: ENHANCED_DATA,
+        length: block.captured,
+        options_start: ENHANCED_DATA + block.rest.len() as u32 - options,
+        options_length: options,
+        interface: block.interface,
+        link_type: interface.link_type,
+        snap: interface.snap,
+        time,
+        orig: block.orig,
+    })
+}
+
+/// The packet of a simple packet block of so many bytes: one of interface 0, at time 0.
+fn simple_packet(
+    table: &[Interface],
+    count: usize,
+    block: &SimpleBlock<'_>,
+) -> Result<Placed, Fault>
+    requires known { count ≤ length table.now }
+    ensures found { Judges (checks_among (first_of count table.now) (parts_of (a.Simple block.now)))
+        result (λ packet. (order : Order) (size : ℕ) → PacketFound order (first_of count table.now)
+        (parts_of (a.Simple block.now)) 12 size block.now.rest.now (held_of size packet)) }
+    ensures interface { IfOk result (IsOf (first_of count table.now)) }
+{
+    let interface = get(table, count, 0).ok_or(Fault::UnknownInterface)?;
+    block.data(interface.snap)?;
+    Ok(Placed {
+        start: SIMPLE_DATA,
+        length: block.captured(interface.snap),
+        options_start: SIMPLE_DATA,
+        options_length: 0,
+        interface: 0,
+        link_type: interface.link_type,
+        snap: interface.snap,
+        time: 0,
+        orig: block.orig,
+    })
+}
