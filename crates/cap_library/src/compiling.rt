@@ -1,0 +1,137 @@
+//! Compilations into the caller's memory.
+ghost use Rattle.std.specs.Prelude.{◌≡◌, ◌≤◌, IfOk, IfErr, OnErr, length};
+ghost use Rattle.cap_tools.specs.Links.{link_of};
+ghost use Rattle.cap_library.specs.Compiling.{CompileLeaves, IsFailure, Writes, number_of};
+ghost use Rattle.cap_library.specs.Compiling.{status_of};
+
+use cap_tools::compile::compile_text;
+use flt_bpf::Insn;
+use flt_gen::Link;
+use flt_words::ExprFault;
+use std::alloc::Global;
+
+/// Why nothing was compiled.
+#[derive(Clone, Copy)]
+pub enum Failure {
+    /// The text is refused, or there was no memory.
+    Text(ExprFault),
+    /// The text isn't UTF-8 from this byte on, from 0.
+    NotUtf8(usize),
+    /// Expressions aren't read on packets of this link type.
+    LinkType,
+    /// The program has so many instructions, more than there is room for.
+    NoRoom(usize),
+}
+
+/// The link of a link type.
+#[tactic(auto, unfolding(cap_tools::specs::Links::link_types))]
+fn link_of(number: u16) -> Option<Link>
+    ensures { result ≡ link_of number }
+{
+    match number {
+        1 => Some(Link::Ether),
+        101 => Some(Link::Raw),
+        113 => Some(Link::Cooked),
+        _ => None,
+    }
+}
+
+/// Compiles a text, and writes the program.
+fn compile_into(
+    alloc: Global,
+    text: &[u8],
+    link_type: u16,
+    insns: &mut [Insn],
+) -> Result<usize, Failure>
+    ensures written { IfOk result (λ count. Writes text.now link_type insns.old insns.new count) }
+    ensures failed { IfErr result (IsFailure text.now link_type (length insns.old)) }
+    ensures kept { OnErr result (insns.new ≡ insns.old) }
+{
+    let Some(link) = link_of(link_type) else {
+        return Err(Failure::LinkType);
+    };
+    let text = match std::str::from_utf8(text) {
+        Ok(text) => text,
+        Err(fault) => return Err(Failure::NotUtf8(fault.valid_up_to())),
+    };
+    let program = match compile_text(alloc, text, link) {
+        Ok(program) => program,
+        Err(fault) => return Err(Failure::Text(fault)),
+    };
+    let compiled = program.insns();
+    let count = compiled.len();
+    if count > insns.len() {
+        return Err(Failure::NoRoom(count));
+    }
+    insns[..count].copy_from_slice(compiled);
+    Ok(count)
+}
+
+impl Failure {
+    /// The status that C sees.
+    fn status(self) -> u32
+        ensures { result ≡ status_of self }
+    {
+        match self {
+            Failure::Text(ExprFault::TooLong) => 1,
+            Failure::Text(ExprFault::UnknownCharacter(_)) => 2,
+            Failure::Text(ExprFault::UnknownWord(_)) => 3,
+            Failure::Text(ExprFault::NumberTooLarge(_)) => 4,
+            Failure::Text(ExprFault::NotAnExpression) => 5,
+            Failure::Text(ExprFault::NestedTooDeep) => 6,
+            Failure::Text(ExprFault::QualifiersDoNotFit) => 7,
+            Failure::Text(ExprFault::ValueOutOfRange) => 8,
+            Failure::Text(ExprFault::BitsPastMask) => 9,
+            Failure::Text(ExprFault::DivisionByZero) => 10,
+            Failure::Text(ExprFault::TooManyWords) => 11,
+            Failure::Text(ExprFault::ProgramTooLong) => 12,
+            Failure::Text(ExprFault::Memory) => 13,
+            Failure::NotUtf8(_) => 14,
+            Failure::LinkType => 15,
+            Failure::NoRoom(_) => 16,
+        }
+    }
+
+    /// The place, or the room that is needed, that C sees beside it; else 0.
+    fn number(self) -> usize
+        ensures { result ≡ number_of self }
+    {
+        match self {
+            Failure::Text(fault) => match fault.place() {
+                Some(place) => place as usize,
+                None => 0,
+            },
+            Failure::NotUtf8(at) => at,
+            Failure::LinkType => 0,
+            Failure::NoRoom(count) => count,
+        }
+    }
+}
+
+/// Compiles the expression that a text is, for packets of a link type, into the caller's
+/// instructions.
+///
+/// By 0 `number` is the count of instructions, which stand at the start of `insns`; what is behind
+/// them stays. By any other status `insns` is unchanged, and `number` says where the text is wrong
+/// or how many instructions there are.
+#[unsafe(no_mangle)]
+pub extern "C" fn capkit_compile(
+    alloc: Global,
+    text: &[u8],
+    link_type: u16,
+    insns: &mut [Insn],
+    number: &mut usize,
+) -> u32
+    ensures { CompileLeaves text.now link_type insns.old insns.new number.new result }
+{
+    match compile_into(alloc, text, link_type, insns) {
+        Ok(count) => {
+            *number = count;
+            0
+        }
+        Err(failure) => {
+            *number = failure.number();
+            failure.status()
+        }
+    }
+}
