@@ -10,6 +10,9 @@ use Rattle.cap_pcapng.specs.Unit.{checks_among}
 use Rattle.cap_pcapng.specs.declared.frames.Frame.{Frame}
 use Rattle.cap_io.specs.Blocks.{Enters}
 use Rattle.cap_io.specs.declared.unit.Held.{Held}
+use Rattle.cap_memory.specs.Layout.{first_of}
+use Rattle.cap_memory.specs.declared.block.Entered.{Entered}
+use Rattle.cap_memory.specs.declared.layout.Interface.{Interface}
 use Rattle.cap_memory.specs.declared.block.Placed.{Placed}
 use Rattle.cap_memory.specs.declared.block.Refusal.{Refusal}
 use Rattle.cap_memory.specs.declared.block.Refusal.TheVariants as refusal
@@ -44,3 +47,10 @@ IsRefusal frame interfaces block room (refusal.Fault fault) =
     (first_failing (block_checks frame block) ≡ Some fault)
     ⊎ ((first_failing (block_checks frame block) ≡ None) × (first_failing (checks_among interfaces (parts_in frame block)) ≡ Some fault))
 IsRefusal frame interfaces block room refusal.NoRoom = (room ≤ length interfaces) × ((i : Described) × Enters frame interfaces block None (interfaces ++ i ∷ []))
+
+-- a block passes all of its checks; behind it these are the interfaces, and this is its packet
+pub record EntersTable (frame : Frame) (interfaces : List Described) (block : List ℕ) (table' : List Interface) (entered : Entered) : Type 0 where
+  pub enters : Enters frame interfaces block (option_map (held_of frame.length) entered.packet) (first_of entered.interfaces table')
+  pub known : entered.interfaces ≤ length table'
+  pub few : entered.interfaces ≤ 256
+  pub of : IsOfIfAny interfaces entered.packet

@@ -10,7 +10,7 @@ ghost use Rattle.cap_pcapng.specs.Unit.{Section, checks_among, interfaces_before
 ghost use Rattle.cap_pcapng.specs.declared.blocks.Block.TheVariants as a;
 ghost use Rattle.cap_io.specs.Blocks.{Enters, PacketFound, told_behind};
 ghost use Rattle.cap_memory.specs.Layout.{described_of, first_of};
-ghost use Rattle.cap_memory.specs.Blocks.{IsOf, held_of, holds};
+ghost use Rattle.cap_memory.specs.Blocks.{EntersTable, IsOf, IsRefusal, held_of, holds};
 
 use crate::layout::Interface;
 use cap_octet::{Fault, Order};
@@ -81,7 +81,8 @@ fn put(table: &mut [Interface], count: usize, interface: &ReadInterface<'_>)
 
 /// The fault of a block that fails by itself, behind the interfaces of a table.
 fn fault_behind(count: usize, fault: Fault) -> Fault
-    ensures { holds count (λ interfaces. result ≡ told_behind interfaces fault) }
+    ensures told { holds count (λ interfaces. result ≡ told_behind interfaces fault) }
+    ensures never { (result ≡ Fault.NoMemory) → fault ≡ Fault.NoMemory }
 {
     match fault {
         Fault::BadOption | Fault::BadTimeResolution if count >= MOST_INTERFACES => {
@@ -148,4 +149,63 @@ fn simple_packet(
         time: 0,
         orig: block.orig,
     })
+}
+
+/// Makes the checks of a whole block of this frame, and brings the table of interfaces behind it. A
+/// refusal leaves the table unchanged.
+fn enter(
+    table: &mut [Interface],
+    count: usize,
+    frame: &Frame,
+    bytes: &[u8],
+) -> Result<Entered, Refusal>
+    requires known { count ≤ length table.old }
+    requires few { count ≤ 256 }
+    requires whole { length bytes.now ≡ frame.now.length }
+    requires shortest { 12 ≤ frame.now.length }
+    ensures ok { IfOk result (EntersTable frame.now (first_of count table.old) bytes.now
+        table.new) }
+    ensures same { length table.new ≡ length table.old }
+    ensures err { IfErr result (IsRefusal frame.now (first_of count table.old) bytes.now
+        (length table.old)) }
+    ensures kept { OnErr result (table.new ≡ table.old) }
+{
+    match block(frame, bytes) {
+        Ok(Block::Section) => Ok(Entered {
+            interfaces: 0,
+            packet: None,
+        }),
+        Ok(Block::Interface(found)) => {
+            if count == MOST_INTERFACES {
+                return Err(Refusal::Fault(Fault::TooManyInterfaces));
+            }
+            if count == table.len() {
+                return Err(Refusal::NoRoom);
+            }
+            put(table, count, &found.interface);
+            Ok(Entered {
+                interfaces: count + 1,
+                packet: None,
+            })
+        }
+        Ok(Block::Enhanced(found)) => match enhanced_packet(table, count, &found, frame.length) {
+            Ok(packet) => Ok(Entered {
+                interfaces: count,
+                packet: Some(packet),
+            }),
+            Err(fault) => Err(Refusal::Fault(fault)),
+        },
+        Ok(Block::Simple(found)) => match simple_packet(table, count, &found) {
+            Ok(packet) => Ok(Entered {
+                interfaces: count,
+                packet: Some(packet),
+            }),
+            Err(fault) => Err(Refusal::Fault(fault)),
+        },
+        Ok(Block::Skipped) => Ok(Entered {
+            interfaces: count,
+            packet: None,
+        }),
+        Err(fault) => Err(Refusal::Fault(fault_behind(count, fault))),
+    }
 }
