@@ -1,11 +1,11 @@
 -- A block in the caller's table of interfaces: the lengths of the table's first, and which faults a block has.
-use Rattle.std.proofs.Common.{◌≡◌, ℕ, ◌<◌, ◌≤◌, ◌⊎◌, inl, inr, List, [], ◌∷◌, length, refl, ap, ◌∙◌, subst, arith, Bool, Some, None, ◌++◌, sym}
-use Rattle.std.specs.Prelude.{map, take}
+use Rattle.std.proofs.Common.{◌≡◌, ℕ, ◌≤◌, ◌⊎◌, inl, inr, List, [], ◌∷◌, length, refl, ◌∙◌, subst, arith, Some, None, ◌++◌, sym}
+use Rattle.std.specs.Prelude.{take}
 use Rattle.std.specs.List.{AllByRecursion}
 use Rattle.std.proofs.lemmas.List.{length-map, length-take-le}
 use Rattle.cap_octet.specs.Checks.{first_failing}
 use Rattle.cap_octet.specs.declared.fault.Fault.{Fault}
-use Rattle.cap_octet.specs.declared.fault.Fault.TheVariants.{BadOption, NoMemory}
+use Rattle.cap_octet.specs.declared.fault.Fault.TheVariants.{NoMemory}
 use Rattle.cap_octet.specs.declared.number.Order.{Order}
 use Rattle.cap_pcapng.specs.Block.{block_checks, block_fault, body_checks, body_in, option_checks, parts_in, parts_of_interface}
 use Rattle.cap_pcapng.specs.Interface.{Described, IsDescribed, described}

@@ -1,1 +1,5 @@
 pub mod Entries
+pub mod Savefiles
+pub mod Stands
+pub mod Fronts
+pub mod Leaves

@@ -1,16 +1,19 @@
 -- A block of a pcapng capture in memory, and the caller's table of interfaces.
-use Rattle.std.specs.Prelude.{◌≡◌, ℕ, ◌≤◌, ◌⊎◌, List, [], ◌∷◌, ◌++◌, length, Option, None, Some}
+use Rattle.std.specs.Prelude.{◌≡◌, ℕ, ◌<◌, ◌≤◌, ◌⊎◌, List, [], ◌∷◌, ◌++◌, length, take, Option, None, Some}
 use Rattle.std.specs.List.{slice_get}
 use Rattle.std.specs.Option.{option_map}
 use Rattle.cap_octet.specs.Checks.{first_failing}
-use Rattle.cap_octet.specs.declared.fault.Fault.{Fault}
+use Rattle.cap_octet.specs.Packet.{Captured}
 use Rattle.cap_pcapng.specs.Block.{block_checks, parts_in}
 use Rattle.cap_pcapng.specs.Interface.{Described}
-use Rattle.cap_pcapng.specs.Unit.{checks_among}
+use Rattle.cap_octet.specs.declared.number.Order.{Order}
+use Rattle.cap_pcapng.specs.Unit.{IsBlock, Section, checks_among, interfaces_before, order_before, packets_in, section_after, unit_fault}
 use Rattle.cap_pcapng.specs.declared.frames.Frame.{Frame}
-use Rattle.cap_io.specs.Blocks.{Enters}
+use Rattle.cap_io.specs.Blocks.{Enters, FitsIfAny, packet_in, section_of}
+use Rattle.cap_io.specs.Reading.{part_of}
 use Rattle.cap_io.specs.declared.unit.Held.{Held}
 use Rattle.cap_memory.specs.Layout.{first_of}
+use Rattle.cap_memory.specs.declared.block.BlockRead.{BlockRead}
 use Rattle.cap_memory.specs.declared.block.Entered.{Entered}
 use Rattle.cap_memory.specs.declared.layout.Interface.{Interface}
 use Rattle.cap_memory.specs.declared.block.Placed.{Placed}
@@ -54,3 +57,46 @@ pub record EntersTable (frame : Frame) (interfaces : List Described) (block : Li
   pub known : entered.interfaces ≤ length table'
   pub few : entered.interfaces ≤ 256
   pub of : IsOfIfAny interfaces entered.packet
+
+-- ---- a block that a text begins with
+
+-- given the section before it, as its byte order and its interfaces
+abbrev pub Behind : Option Order → List Described → (Option Section → Type 0) → Type 0
+Behind section interfaces P = (before : Option Section) → order_before before ≡ section → interfaces_before before ≡ interfaces → P before
+
+-- its packet, as its parts lie in it
+pub record BlockPacket (order : Order) (before : Option Section) (block : List ℕ) (held : Held) : Type 0 where
+  pub packet : Captured
+  pub stands : packets_in before block ≡ packet ∷ []
+  pub lies : packet_in order (interfaces_before before) held (part_of held.bytes block) (part_of held.options block) ≡ Some packet
+
+abbrev pub BlockPacketIfAny : Order → Option Section → List ℕ → Option Held → Type 0
+BlockPacketIfAny order before block None = packets_in before block ≡ []
+BlockPacketIfAny order before block (Some held) = BlockPacket order before block held
+
+-- it passes all of its checks; behind it these are the interfaces, and this is its packet
+pub record BlockStands (before : Option Section) (text : List ℕ) (order : Order) (size : ℕ) (interfaces' : List Described) (packet : Option Placed) : Type 0 where
+  pub is_block : IsBlock before (take size text)
+  pub section : section_after before (take size text) ≡ section_of order interfaces'
+  pub carries : BlockPacketIfAny order before (take size text) (option_map (held_of size) packet)
+  pub fits : FitsIfAny (option_map (held_of size) packet) size
+  pub there : size ≤ length text
+  pub some : 0 < size
+
+pub record BlockIs (section : Option Order) (interfaces : List Described) (text : List ℕ) (table' : List Interface) (read : BlockRead) : Type 0 where
+  pub stands : Behind section interfaces (λ before. BlockStands before text read.order read.size (first_of read.entered.interfaces table') read.entered.packet)
+  pub known : read.entered.interfaces ≤ length table'
+  pub few : read.entered.interfaces ≤ 256
+  pub of : IsOfIfAny interfaces read.entered.packet
+
+-- the text begins with a block that passes all checks and declares an interface
+pub record Declares (before : Option Section) (text : List ℕ) (interfaces : List Described) : Type 0 where
+  pub order : Order
+  pub size : ℕ
+  pub interface : Described
+  pub stands : BlockStands before text order size (interfaces ++ interface ∷ []) None
+
+-- the first check that fails; or the table of so much room is full, and the block declares an interface
+abbrev pub IsNoBlock : Option Order → List Described → List ℕ → ℕ → Refusal → Type 0
+IsNoBlock section interfaces text room (refusal.Fault fault) = Behind section interfaces (λ before. unit_fault before text ≡ Some fault)
+IsNoBlock section interfaces text room refusal.NoRoom = (room ≤ length interfaces) × Behind section interfaces (λ before. Declares before text interfaces)

@@ -10,7 +10,8 @@ ghost use Rattle.cap_pcapng.specs.Unit.{Section, checks_among, interfaces_before
 ghost use Rattle.cap_pcapng.specs.declared.blocks.Block.TheVariants as a;
 ghost use Rattle.cap_io.specs.Blocks.{Enters, PacketFound, told_behind};
 ghost use Rattle.cap_memory.specs.Layout.{described_of, first_of};
-ghost use Rattle.cap_memory.specs.Blocks.{EntersTable, IsOf, IsRefusal, held_of, holds};
+ghost use Rattle.cap_memory.specs.Blocks.{BlockIs, EntersTable, IsNoBlock, IsOf, IsRefusal, held_of};
+ghost use Rattle.cap_memory.specs.Blocks.{holds};
 
 use crate::layout::Interface;
 use cap_octet::{Fault, Order};
@@ -207,5 +208,61 @@ fn enter(
             packet: None,
         }),
         Err(fault) => Err(Refusal::Fault(fault_behind(count, fault))),
+    }
+}
+
+/// A block that was read.
+#[derive(Clone, Copy)]
+pub(crate) struct BlockRead {
+    pub(crate) size: usize,
+    /// The byte order of its section.
+    pub(crate) order: Order,
+    pub(crate) entered: Entered,
+}
+
+fn first_12(text: &[u8]) -> [u8; 12]
+    requires { 12 ≤ length text.now }
+    ensures { result ≡ take 12 text.now }
+{
+    let mut first = [0; 12];
+    first.copy_from_slice(&text[..12]);
+    first
+}
+
+/// Reads the block that a text begins with, behind a section of this byte order or behind none, and
+/// brings the table of interfaces behind it. A refusal leaves the table unchanged.
+pub(crate) fn read_block(
+    section: Option<Order>,
+    table: &mut [Interface],
+    count: usize,
+    text: &[u8],
+) -> Result<BlockRead, Refusal>
+    requires known { count ≤ length table.old }
+    requires few { count ≤ 256 }
+    ensures ok { IfOk result (λ read. BlockIs section (first_of count table.old) text.now table.new
+        read) }
+    ensures same { length table.new ≡ length table.old }
+    ensures err { IfErr result (IsNoBlock section (first_of count table.old) text.now
+        (length table.old)) }
+    ensures kept { OnErr result (table.new ≡ table.old) }
+{
+    if text.len() < 12 {
+        return Err(Refusal::Fault(Fault::Truncated));
+    }
+    let found = match frame(section, &first_12(text)) {
+        Ok(found) => found,
+        Err(fault) => return Err(Refusal::Fault(fault)),
+    };
+    let size = found.length as usize;
+    if text.len() < size {
+        return Err(Refusal::Fault(Fault::Truncated));
+    }
+    match enter(table, count, &found, &text[..size]) {
+        Ok(entered) => Ok(BlockRead {
+            size,
+            order: found.order,
+            entered,
+        }),
+        Err(refusal) => Err(refusal),
     }
 }

@@ -4,5 +4,8 @@
 
 mod block;
 mod layout;
+mod pcap;
+mod reader;
 
 pub use layout::{Interface, Packet, Reader};
+pub use reader::{Found, comment_of, next_unit};

@@ -1,5 +1,5 @@
 -- The packet is that of the block, by its interface in the table.
-use Rattle.std.proofs.Common.{◌≡◌, ◌∙◌, ap, refl, sym, Ok}
+use Rattle.std.proofs.Common.{◌∙◌, ap, refl, sym}
 use Rattle.std.specs.Option.{ok_or}
 use Rattle.cap_octet.specs.declared.fault.Fault.TheVariants.{TimeOutOfRange}
 use Rattle.cap_pcapng.specs.Time.{time_in}

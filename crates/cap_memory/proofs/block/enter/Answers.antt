@@ -1,5 +1,5 @@
 -- The table behind a block is that of its interfaces, and a refusal is the first check that fails.
-use Rattle.std.proofs.Common.{◌∙◌, ◌≡◌, ap, sym, subst, arith, rules}
+use Rattle.std.proofs.Common.{◌∙◌, ap, sym, subst, arith}
 use Rattle.cap_pcapng.specs.Block.{IsDescribedIfAny, parts_of}
 use Rattle.cap_io.proofs.Entered.{enhanced_enters, enhanced_room, simple_enters}
 use Rattle.cap_memory.specs.Layout.{first_of}

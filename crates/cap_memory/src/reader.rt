@@ -1,0 +1,275 @@
+//! The units of a capture in memory, one at a time.
+ghost use Rattle.std.specs.Prelude.{◌≡◌, ℕ, ◌+◌, ◌^◌, ◌≤◌, ◌<◌, IfOk, IfErr, IsTrue, OnErr, List, false, drop, length, take};
+ghost use Rattle.cap_pcapng.specs.Interface.{Described};
+ghost use Rattle.cap_io.specs.Blocks.{section_of};
+ghost use Rattle.cap_io.specs.Capture.{first_after, is_pcapng};
+ghost use Rattle.cap_memory.specs.Layout.{declared_in, first_of};
+ghost use Rattle.cap_memory.specs.Units.{Begins, Counts, IsBare, IsNoUnit, IsOver, IsSomeFor};
+ghost use Rattle.cap_memory.specs.Units.{NextLeaves, Steps, comment_by, packet_at};
+ghost use Rattle.cap_memory.specs.declared.layout.Form.TheVariants as form;
+
+use crate::block::{Placed, Refusal, read_block};
+use crate::layout::{Form, Interface, Packet, Reader};
+use crate::pcap::{RECORD_HEADER, head_in, record_in};
+use cap_octet::{Fault, Order};
+use cap_pcap::Head;
+use cap_pcapng::{Options, begins_section};
+
+/// What a call found.
+#[derive(Clone, Copy, Debug, PartialEq, Eq)]
+pub enum Found {
+    /// A unit without a packet.
+    Unit,
+    Packet,
+    /// The clean end.
+    End,
+    /// An interface that the caller's table has no room for.
+    NoRoom,
+    /// A fault: the first check that the unit fails.
+    Fault(Fault),
+}
+
+/// A unit that was read.
+#[derive(Clone, Copy)]
+struct Step {
+    size: usize,
+    form: Form,
+    interfaces: usize,
+    packet: Option<Placed>,
+}
+
+/// The bytes from a place on; none where it is past the end.
+fn rest_of(text: &[u8], at: usize) -> &[u8]
+    ensures { result.now ≡ drop at text.now }
+{
+    match text.get(at..) {
+        Some(rest) => rest,
+        None => &[],
+    }
+}
+
+fn first_4(text: &[u8]) -> [u8; 4]
+    requires { 4 ≤ length text.now }
+    ensures { result ≡ take 4 text.now }
+{
+    let mut first = [0; 4];
+    first.copy_from_slice(&text[..4]);
+    first
+}
+
+/// Whether a file that begins so is pcapng.
+fn is_pcapng(text: &[u8]) -> bool
+    ensures { result ≡ is_pcapng text.now }
+{
+    text.len() >= 4 && begins_section(&first_4(text))
+}
+
+/// The first link type of a file behind a block, given that before it and the interfaces behind it.
+fn link_behind(first: Option<u16>, table: &[Interface], count: usize) -> Option<u16>
+    requires { count ≤ length table.now }
+    ensures { (order : Order) → result ≡ first_after first
+        (section_of order (first_of count table.now)) }
+{
+    if count == 0 {
+        return first;
+    }
+    first.or(table.first().map(|interface| interface.link_type))
+}
+
+/// The record that a text begins with.
+fn record_step(head: &Head, text: &[u8], interfaces: usize) -> Result<Step, Refusal>
+    ensures ok { IfOk result (λ step. (known : List Described) (table : List Interface)
+        → interfaces ≤ length table → interfaces ≤ 256 → Steps (form.Pcap head.now) known
+        text.now table step) }
+    ensures err { IfErr result (λ why. (known : List Described) (room : ℕ) → 0 < length text.now
+        → IsNoUnit (form.Pcap head.now) known text.now room why) }
+{
+    match record_in(head, text) {
+        Ok(record) => Ok(Step {
+            size: RECORD_HEADER as usize + record.captured as usize,
+            form: Form::Pcap(*head),
+            interfaces,
+            packet: Some(Placed {
+                start: RECORD_HEADER,
+                length: record.captured,
+                options_start: RECORD_HEADER,
+                options_length: 0,
+                interface: 0,
+                link_type: head.link,
+                snap: head.snap,
+                time: record.time,
+                orig: record.orig,
+            }),
+        }),
+        Err(fault) => Err(Refusal::Fault(fault)),
+    }
+}
+
+/// The block that a text begins with, behind what is declared.
+fn block_step(
+    form: Form,
+    section: Option<Order>,
+    first: Option<u16>,
+    table: &mut [Interface],
+    count: usize,
+    text: &[u8],
+) -> Result<Step, Refusal>
+    requires known { count ≤ length table.old }
+    requires few { count ≤ 256 }
+    requires begins { Begins form section first (first_of count table.old) text.now }
+    ensures ok { IfOk result (Steps form (first_of count table.old) text.now table.new) }
+    ensures same { length table.new ≡ length table.old }
+    ensures err { IfErr result (IsNoUnit form (first_of count table.old) text.now
+        (length table.old)) }
+    ensures kept { OnErr result (table.new ≡ table.old) }
+{
+    match read_block(section, table, count, text) {
+        Ok(read) => {
+            let link = link_behind(first, table, read.entered.interfaces);
+            Ok(Step {
+                size: read.size,
+                form: Form::Pcapng(read.order, link),
+                interfaces: read.entered.interfaces,
+                packet: read.entered.packet,
+            })
+        }
+        Err(why) => Err(why),
+    }
+}
+
+/// The unit that a text begins with, which isn't empty where units are declared.
+fn read_unit(
+    form: Form,
+    table: &mut [Interface],
+    count: usize,
+    text: &[u8],
+) -> Result<Step, Refusal>
+    requires known { count ≤ length table.old }
+    requires few { count ≤ 256 }
+    requires some { IsSomeFor form text.now }
+    requires none { IsBare form count }
+    ensures ok { IfOk result (Steps form (first_of count table.old) text.now table.new) }
+    ensures same { length table.new ≡ length table.old }
+    ensures err { IfErr result (IsNoUnit form (first_of count table.old) text.now
+        (length table.old)) }
+    ensures kept { OnErr result (table.new ≡ table.old) }
+{
+    match form {
+        Form::Unknown => {
+            if is_pcapng(text) {
+                return block_step(form, None, None, table, count, text);
+            }
+            match head_in(text) {
+                Ok(head) => Ok(Step {
+                    size: 24,
+                    form: Form::Pcap(head),
+                    interfaces: 0,
+                    packet: None,
+                }),
+                Err(fault) => Err(Refusal::Fault(fault)),
+            }
+        }
+        Form::Pcap(head) => record_step(&head, text, count),
+        Form::Pcapng(order, first) => block_step(form, Some(order), first, table, count, text),
+    }
+}
+
+/// A packet of the unit at this place of a capture.
+fn packet_at(at: usize, placed: &Placed) -> Packet
+    requires bytes { at + placed.now.start < 2 ^ 64 }
+    requires options { at + placed.now.options_start < 2 ^ 64 }
+    ensures { result ≡ packet_at at placed.now }
+{
+    Packet {
+        time: placed.time,
+        at: at + placed.start as usize,
+        options_at: at + placed.options_start as usize,
+        captured: placed.length,
+        original: placed.orig,
+        options_length: placed.options_length,
+        interface: placed.interface,
+        snap: placed.snap,
+        link_type: placed.link_type,
+    }
+}
+
+/// How many interfaces are known, in a table with so much room.
+fn known_in(reader: &Reader, form: Form, room: usize) -> usize
+    ensures counts { Counts form reader.now room result }
+    ensures bare { IsBare form result }
+    ensures fits { result ≤ room }
+    ensures few { result ≤ 256 }
+{
+    match form {
+        Form::Unknown => 0,
+        Form::Pcap(_) | Form::Pcapng(_, _) => reader.known(room),
+    }
+}
+
+/// Whether a capture of which this is declared is over where this is left.
+fn is_over(form: Form, text: &[u8]) -> bool
+    ensures over { IsTrue result → IsOver form text.now }
+    ensures some { result ≡ false → IsSomeFor form text.now }
+{
+    match form {
+        Form::Unknown => false,
+        Form::Pcap(_) | Form::Pcapng(_, _) => text.is_empty(),
+    }
+}
+
+/// Reads the unit at the reader's place. By `Unit` and `Packet` the reader is behind it, and by
+/// `Packet` the packet is where `packet` says; by the others nothing is written.
+pub fn next_unit(
+    reader: &mut Reader,
+    table: &mut [Interface],
+    capture: &[u8],
+    packet: &mut Packet,
+) -> Found
+    ensures left { NextLeaves capture.now reader.old reader.new table.old table.new packet.old
+        packet.new result }
+    ensures same { length table.new ≡ length table.old }
+{
+    let form = reader.form();
+    let count = known_in(reader, form, table.len());
+    let text = rest_of(capture, reader.offset);
+    if is_over(form, text) {
+        return Found::End;
+    }
+    let at = reader.offset;
+    match read_unit(form, table, count, text) {
+        Ok(step) => {
+            *reader = Reader::at(at + step.size, step.form, step.interfaces);
+            match step.packet {
+                Some(placed) => {
+                    *packet = packet_at(at, &placed);
+                    Found::Packet
+                }
+                None => Found::Unit,
+            }
+        }
+        Err(Refusal::Fault(fault)) => Found::Fault(fault),
+        Err(Refusal::NoRoom) => Found::NoRoom,
+    }
+}
+
+/// So many bytes from a place on, as far as they are there.
+fn part_of(text: &[u8], at: usize, length: u32) -> &[u8]
+    ensures { result.now ≡ take length (drop at text.now) }
+{
+    let rest = rest_of(text, at);
+    &rest[..rest.len().min(length as usize)]
+}
+
+/// The comment of a packet that was found last, by its reader; empty where there is none.
+pub fn comment_of<'a>(reader: &Reader, capture: &'a [u8], packet: &Packet) -> &'a [u8]
+    ensures { (table : List Interface) → result.now ≡ comment_by (declared_in reader.now table)
+        (take packet.now.options_length (drop packet.now.options_at capture.now)) }
+{
+    match reader.form() {
+        Form::Unknown | Form::Pcap(_) => &[],
+        Form::Pcapng(order, _) => {
+            let rest = part_of(capture, packet.options_at, packet.options_length);
+            Options { order, rest }.comment()
+        }
+    }
+}
