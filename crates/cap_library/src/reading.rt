@@ -1,37 +1,13 @@
-//! Packets of a pcap savefile that lies in memory.
-ghost use Rattle.std.specs.Prelude.{◌≡◌, ◌≤◌, drop, length, take};
-ghost use Rattle.cap_octet.specs.Checks.{checked};
-ghost use Rattle.cap_pcap.specs.Header.{head_fault, head_in};
-ghost use Rattle.cap_pcap.specs.Record.{record_fault, record_head_in};
-ghost use Rattle.cap_library.specs.Reading.{HeadLeaves, NextLeaves, fault_number, head_of, stored};
+//! The units of a capture that lies in memory, pcap or pcapng.
+ghost use Rattle.std.specs.Prelude.{◌≡◌, List, length, min, take, drop, ◌++◌};
+ghost use Rattle.cap_memory.specs.Layout.{declared_in};
+ghost use Rattle.cap_memory.specs.Units.{comment_by};
+ghost use Rattle.cap_memory.specs.declared.layout.Interface.{Interface};
+ghost use Rattle.cap_library.specs.Reading.{UnitLeaves, fault_number, found_number};
 
-use cap_octet::{Fault, Order};
-use cap_pcap::{Head, RecordHead, Resolution, read_head, read_magic, read_record};
-
-/// What a savefile's header says, for C.
-#[repr(C)]
-#[derive(Clone, Copy)]
-pub struct SavefileHead {
-    pub big_endian: bool,
-    pub nanoseconds: bool,
-    pub link_type: u16,
-    pub snap: u32,
-}
-
-/// A packet of a savefile, for C.
-#[repr(C)]
-#[derive(Clone, Copy)]
-pub struct PlacedPacket {
-    /// Nanoseconds since 1970-01-01 00:00:00 UTC.
-    pub time: u64,
-    /// Where its bytes begin.
-    pub at: usize,
-    pub captured: u32,
-    pub original: u32,
-}
-
-/// The status at the clean end.
-const END: u32 = 22;
+use crate::texts::put;
+use cap_memory::{Found, Interface, Packet, Reader, comment_of, next_unit};
+use cap_octet::Fault;
 
 /// The number of a fault.
 fn fault_number(fault: Fault) -> u32
@@ -62,142 +38,51 @@ fn fault_number(fault: Fault) -> u32
     }
 }
 
-fn stored(head: Head) -> SavefileHead
-    ensures { result ≡ stored head }
+/// The number of what a call found.
+fn found_number(found: Found) -> u32
+    ensures { result ≡ found_number found }
 {
-    SavefileHead {
-        big_endian: matches!(head.order, Order::Big),
-        nanoseconds: matches!(head.resolution, Resolution::Nanoseconds),
-        link_type: head.link,
-        snap: head.snap,
+    match found {
+        Found::Packet => 0,
+        Found::Fault(fault) => fault_number(fault),
+        Found::End => 22,
+        Found::Unit => 23,
+        Found::NoRoom => 24,
     }
 }
 
-fn head_of(stored: &SavefileHead) -> Head
-    ensures { result ≡ head_of stored.now }
-{
-    let order = if stored.big_endian {
-        Order::Big
-    } else {
-        Order::Little
-    };
-    let resolution = if stored.nanoseconds {
-        Resolution::Nanoseconds
-    } else {
-        Resolution::Microseconds
-    };
-    Head {
-        order,
-        resolution,
-        snap: stored.snap,
-        link: stored.link_type,
-    }
-}
-
-fn first_24(text: &[u8]) -> [u8; 24]
-    requires { 24 ≤ length text.now }
-    ensures { result ≡ take 24 text.now }
-{
-    let mut front = [0; 24];
-    front.copy_from_slice(&text[..24]);
-    front
-}
-
-fn first_16(text: &[u8]) -> [u8; 16]
-    requires { 16 ≤ length text.now }
-    ensures { result ≡ take 16 text.now }
-{
-    let mut front = [0; 16];
-    front.copy_from_slice(&text[..16]);
-    front
-}
-
-fn rest_of(text: &[u8], at: usize) -> &[u8]
-    requires { at ≤ length text.now }
-    ensures { result.now ≡ drop at text.now }
-{
-    &text[at..]
-}
-
-/// The file header that a text begins with, or the first check that fails.
-fn head_in(text: &[u8]) -> Result<Head, Fault>
-    ensures { result ≡ checked (head_fault text.now) (head_in text.now) }
-{
-    if text.len() < 4 || read_magic(text).is_none() {
-        return Err(Fault::NotACaptureFile);
-    }
-    if text.len() < 24 {
-        return Err(Fault::Truncated);
-    }
-    read_head(&first_24(text))
-}
-
-/// The record that a text begins with, or the first check that fails.
-fn record_in(head: &Head, text: &[u8]) -> Result<RecordHead, Fault>
-    ensures { result ≡ checked (record_fault head.now text.now) (record_head_in head.now text.now) }
-{
-    if text.len() < 16 {
-        return Err(Fault::Truncated);
-    }
-    match read_record(head, &first_16(text)) {
-        Ok(record) => {
-            if text.len() - 16 < record.captured as usize {
-                return Err(Fault::Truncated);
-            }
-            Ok(record)
-        }
-        Err(fault) => Err(fault),
-    }
-}
-
-/// Reads the file header of a savefile. By 0 the first record is at `offset`; any other status is
-/// the number of the first check that fails, and nothing is written.
+/// Reads the unit at the reader's place. By 0 it has a packet, by 23 none, and the reader is behind
+/// it; 22 is the clean end; by 24 the table has no room for its interface; any other number is that
+/// of the first check that it fails. By these nothing is written.
 #[unsafe(no_mangle)]
-pub extern "C" fn capkit_pcap_head(
+pub extern "C" fn capkit_next(
+    reader: &mut Reader,
+    interfaces: &mut [Interface],
     capture: &[u8],
-    head: &mut SavefileHead,
-    offset: &mut usize,
+    packet: &mut Packet,
 ) -> u32
-    ensures { HeadLeaves capture.now head.old head.new offset.old offset.new result }
+    ensures { UnitLeaves capture.now reader.old reader.new interfaces.old interfaces.new packet.old
+        packet.new result }
 {
-    match head_in(capture) {
-        Ok(found) => {
-            *head = stored(found);
-            *offset = 24;
-            0
-        }
-        Err(fault) => fault_number(fault),
-    }
+    found_number(next_unit(reader, interfaces, capture, packet))
 }
 
-/// Reads the record at `offset`. By 0 `packet` says where its bytes are, and `offset` is that of
-/// the next record; 22 is the clean end; any other status is the number of the first check that
-/// fails of the record at `offset`. By these nothing is written.
+/// Puts the comment of a packet that was found last into a buffer, and gives its length; 0 where
+/// there is none.
 #[unsafe(no_mangle)]
-pub extern "C" fn capkit_pcap_next(
-    head: &SavefileHead,
+pub extern "C" fn capkit_comment(
+    reader: &Reader,
     capture: &[u8],
-    offset: &mut usize,
-    packet: &mut PlacedPacket,
-) -> u32
-    ensures { NextLeaves (head_of head.now) capture.now offset.old offset.new packet.old packet.new
-        result }
+    packet: &Packet,
+    buffer: &mut [u8],
+) -> usize
+    ensures count { (table : List Interface) → result ≡ length (comment_by
+        (declared_in reader.now table) (take packet.now.options_length
+        (drop packet.now.options_at capture.now))) }
+    ensures put { (table : List Interface) → let comment = comment_by (declared_in reader.now table)
+        (take packet.now.options_length (drop packet.now.options_at capture.now)) in
+        let count = min (length comment) (length buffer.old) in
+        buffer.new ≡ take count comment ++ drop count buffer.old }
 {
-    let at = *offset;
-    if at >= capture.len() {
-        return END;
-    }
-    match record_in(&head_of(head), rest_of(capture, at)) {
-        Ok(record) => {
-            *packet = PlacedPacket {
-                time: record.time,
-                at: at + 16,
-                captured: record.captured,
-                original: record.orig,
-            };
-            *offset = at + 16 + record.captured as usize;
-            0
-        }
-        Err(fault) => fault_number(fault),
-    }
+    put(comment_of(reader, capture, packet), buffer)
 }

@@ -1,6 +1,8 @@
 //! What the statuses are called.
 ghost use Rattle.std.specs.Prelude.{◌≡◌, length, min, take, drop, ◌++◌};
-ghost use Rattle.cap_library.specs.Texts.{rule_text, status_text};
+ghost use Rattle.cap_library.specs.Texts.{found_text, rule_text, status_text};
+
+use cap_octet::Fault;
 
 /// What a status of a compilation is called; nothing where none has the number.
 fn status_text(status: u32) -> &'static str
@@ -44,16 +46,41 @@ fn rule_text(rule: u32) -> &'static str
     }
 }
 
-/// Puts as much of a text into a buffer as fits.
-fn put(text: &str, buffer: &mut [u8]) -> usize
-    ensures count { result ≡ length text.now }
-    ensures put { let count = min (length text.now) (length buffer.old) in
-        buffer.new ≡ take count text.now ++ drop count buffer.old }
+/// Puts as many bytes into a buffer as fit, and gives how many there are.
+pub(crate) fn put(bytes: &[u8], buffer: &mut [u8]) -> usize
+    ensures count { result ≡ length bytes.now }
+    ensures put { let count = min (length bytes.now) (length buffer.old) in
+        buffer.new ≡ take count bytes.now ++ drop count buffer.old }
 {
-    let bytes = text.as_bytes();
     let count = bytes.len().min(buffer.len());
     buffer[..count].copy_from_slice(&bytes[..count]);
     bytes.len()
+}
+
+/// What a number of a reading is called; nothing where none has it.
+fn found_text(number: u32) -> &'static str
+    ensures { result.now ≡ found_text number }
+{
+    match number {
+        1 => Fault::NotACaptureFile.text(),
+        2 => Fault::Truncated.text(),
+        3 => Fault::BadVersion.text(),
+        4 => Fault::TooLong.text(),
+        5 => Fault::BadBlockLength.text(),
+        6 => Fault::BadByteOrderMagic.text(),
+        7 => Fault::UnknownInterface.text(),
+        8 => Fault::BadOption.text(),
+        9 => Fault::BadBody.text(),
+        10 => Fault::TimeOutOfRange.text(),
+        11 => Fault::TooManyInterfaces.text(),
+        12 => Fault::BadTimeResolution.text(),
+        13 => Fault::BadLinkTypeField.text(),
+        14 => Fault::ObsoletePacketBlock.text(),
+        22 => "end",
+        23 => "no packet",
+        24 => "no room for the interface",
+        _ => "",
+    }
 }
 
 /// Puts what a status of a compilation is called into a buffer, and gives its length.
@@ -63,7 +90,7 @@ pub extern "C" fn capkit_status_text(status: u32, buffer: &mut [u8]) -> usize
     ensures put { let count = min (length (status_text status)) (length buffer.old) in
         buffer.new ≡ take count (status_text status) ++ drop count buffer.old }
 {
-    put(status_text(status), buffer)
+    put(status_text(status).as_bytes(), buffer)
 }
 
 /// Puts what a broken rule is called into a buffer, and gives its length.
@@ -73,5 +100,15 @@ pub extern "C" fn capkit_rule_text(rule: u32, buffer: &mut [u8]) -> usize
     ensures put { let count = min (length (rule_text rule)) (length buffer.old) in
         buffer.new ≡ take count (rule_text rule) ++ drop count buffer.old }
 {
-    put(rule_text(rule), buffer)
+    put(rule_text(rule).as_bytes(), buffer)
+}
+
+/// Puts what a number of a reading is called into a buffer, and gives its length.
+#[unsafe(no_mangle)]
+pub extern "C" fn capkit_found_text(number: u32, buffer: &mut [u8]) -> usize
+    ensures count { result ≡ length (found_text number) }
+    ensures put { let count = min (length (found_text number)) (length buffer.old) in
+        buffer.new ≡ take count (found_text number) ++ drop count buffer.old }
+{
+    put(found_text(number).as_bytes(), buffer)
 }
