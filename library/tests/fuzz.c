@@ -1,4 +1,5 @@
-/* Random instructions, texts and damaged savefiles, all at the end of a page with no page behind it.
+/* Random instructions, texts and damaged captures, at the end of memory with no page behind it; captures
+ * also at its start with no page before it.
  * usage: fuzz SEED ROUNDS FILE.. */
 #include <capkit.h>
 #include <pcap/pcap.h>
@@ -12,12 +13,13 @@ int bpf_validate(const struct bpf_insn *f, int len);
 static uint64_t seed;
 static uint32_t rnd(void) { seed ^= seed << 13; seed ^= seed >> 7; seed ^= seed << 17; return seed >> 16; }
 
-static uint8_t *end_of(size_t size) /* the end of so much memory, with nothing behind it */
+/* The end of so much memory, with a page behind it and one before it that can't be touched. */
+static uint8_t *end_of(size_t size)
 {
-    size_t whole = (size + 8191) & ~4095ul;
-    uint8_t *m = mmap(0, whole + 4096, PROT_READ | PROT_WRITE, MAP_PRIVATE | MAP_ANONYMOUS, -1, 0);
-    mprotect(m + whole, 4096, PROT_NONE);
-    return m + whole;
+    size_t whole = (size + 4095) & ~4095ul;
+    uint8_t *m = mmap(0, whole + 8192, PROT_NONE, MAP_PRIVATE | MAP_ANONYMOUS, -1, 0);
+    mprotect(m + 4096, whole, PROT_READ | PROT_WRITE);
+    return m + 4096 + whole;
 }
 
 static const uint16_t codes[] = {32, 40, 48, 64, 72, 80, 0, 96, 128, 1, 97, 129, 177, 2, 3, 4, 20, 36, 52, 68, 84, 100, 116, 12, 28, 44, 60, 76, 92, 108, 124, 148, 156, 164, 172, 132, 5, 21, 37, 53, 69, 29, 45, 61, 77, 6, 22, 7, 135};
@@ -27,7 +29,7 @@ int main(int argc, char **argv)
     size_t rounds = atol(argv[2]), r, valid = 0, runs = 0, wrong = 0, apart = 0, texts = 0, files = 0, packets = 0, other = 0, answered = 0, unchecked = 0;
     uint8_t *guard = end_of(1 << 20), *guard2 = end_of(1 << 20);
     static uint8_t file[1 << 20];
-    static struct capkit_insn out[CAPKIT_MOST_INSNS];
+    static char comment[4096];
     int a;
     seed = atol(argv[1]) * 0x9e3779b97f4a7c15u + 1;
     for (r = 0; r < rounds; r++) {
@@ -69,8 +71,9 @@ int main(int argc, char **argv)
     for (a = 3; a < argc; a++)
         for (r = 0; r < 1 + rounds / 20000; r++) {
             FILE *f = fopen(argv[a], "rb"), *again;
-            size_t size = fread(file, 1, sizeof file, f), offset, i;
-            struct capkit_pcap head;
+            size_t size = fread(file, 1, sizeof file, f), i;
+            struct capkit_reader reader = {0};
+            uint32_t found;
             struct capkit_packet p;
             char why[PCAP_ERRBUF_SIZE];
             pcap_t *theirs;
@@ -79,29 +82,30 @@ int main(int argc, char **argv)
                 if (rnd() % 2) size = size ? rnd() % size : 0;
                 for (i = rnd() % 4; size && i; i--) file[rnd() % (rnd() % 2 ? size : size < 60 ? size : 60)] = rnd();
             }
-            uint8_t *capture = guard - size;
+            uint8_t *capture = r % 2 ? guard - size : guard - (1 << 20);
             memcpy(capture, file, size);
             files++;
-            if (capkit_pcap_head(capture, size, &head, &offset))
-                continue;
             again = fmemopen(file, size, "rb");
             theirs = pcap_fopen_offline_with_tstamp_precision(again, PCAP_TSTAMP_PRECISION_NANO, why);
-            if (!theirs) fclose(again);
-            while (!capkit_pcap_next(&head, capture, size, &offset, &p)) {
+            if (!theirs && again) fclose(again);
+            while ((found = capkit_next(&reader, (struct capkit_interface *)guard2 - 256, 256, capture, size, &p)) == 0 || found == 23) {
+                if (reader.offset > size) wrong++;
+                if (found == 23) continue;
+                if (p.options_at + p.options_length > size || capkit_comment(&reader, capture, size, &p, comment, sizeof comment) > p.options_length) wrong++;
                 struct pcap_pkthdr *h;
                 const u_char *bytes;
                 packets++;
-                if (p.at + p.captured > size || p.at + p.captured != offset) wrong++;
+                if (p.at + p.captured > size || p.at + p.captured > reader.offset) wrong++;
                 if (theirs) {
                     if (pcap_next_ex(theirs, &h, &bytes) != 1) { pcap_close(theirs); theirs = 0; continue; }
                     if (!r && (h->len != p.original || h->caplen > p.captured || memcmp(bytes, capture + p.at, h->caplen) || (uint64_t)h->ts.tv_sec * 1000000000 + h->ts.tv_usec != p.time)) { other++; printf("%s: len %u %u cap %u %u time %lld.%lld %llu\n", argv[a], h->len, p.original, h->caplen, p.captured, (long long)h->ts.tv_sec, (long long)h->ts.tv_usec, (unsigned long long)p.time); }
                 }
             }
+            wrong += found > 24 || capkit_found_text(found, comment, 0) == 0;
             if (theirs) pcap_close(theirs);
         }
-    (void)out;
     printf("%zu runs of random instructions, %zu valid, %zu answered, of these %zu on programs that the check refuses\n", runs, valid, answered, unchecked);
-    printf("%zu texts compiled; %zu savefiles, %zu packets; other than libpcap's in undamaged files: %zu; bpf_filter other on %zu\n", texts, files, packets, other, apart);
+    printf("%zu texts compiled; %zu captures, %zu packets; other than libpcap's in undamaged files: %zu; bpf_filter other on %zu\n", texts, files, packets, other, apart);
     printf("broken promises: %zu\n", wrong);
     return wrong != 0;
 }

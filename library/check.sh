@@ -1,0 +1,47 @@
+#!/bin/sh
+# Builds libcapkit and its callers, and runs them over samples/. Where valgrind, a C++ compiler, rustc, python3
+# and libpcap's headers are there it uses them too. The last line says whether all was as it should be.
+#
+# usage: library/check.sh [ROUNDS]       ROUNDS of random programs, 100000 where none are given
+set -eu
+cd "$(dirname "$0")"
+rounds=${1:-100000}
+bad=0
+have() { command -v "$1" >/dev/null 2>&1; }
+make -s all examples
+for name in big-endian.pcap cooked.pcap damaged.pcap day.pcap four.pcap mirror.pcap nanoseconds.pcap truncated.pcap \
+    comments.pcapng two-sections.pcapng; do
+    printf '== %s\n' "$name"
+    out/filter tcp "../samples/$name" 2>&1 || true
+done >out/filter.txt
+cmp out/filter.txt tests/filter.txt || bad=1
+test "$(nm -D --defined-only out/libcapkit.so.0 | grep -vc ' T capkit_')" = 0 || { echo 'other names are visible'; bad=1; }
+if have c++; then
+    echo '#include <capkit.h>' | c++ -std=c++11 -Wall -Wextra -pedantic -Iinclude -fsyntax-only -x c++ - || bad=1
+fi
+for name in day.pcap two-sections.pcapng comments.pcapng damaged.pcap; do
+    if have valgrind; then
+        valgrind -q --error-exitcode=99 --leak-check=full --show-leak-kinds=definite out/filter 'tcp or udp' "../samples/$name" \
+            >/dev/null 2>out/valgrind.txt || test $? != 99 || { cat out/valgrind.txt; bad=1; }
+    fi
+    want=$(out/filter tcp "../samples/$name" 2>/dev/null | tail -n 1)
+    if have rustc; then
+        make -s out/rust
+        test "$(out/rust tcp "../samples/$name" | tail -n 1)" = "$want" || { echo "Rust: $name"; bad=1; }
+    fi
+    if have python3; then
+        test "$(CAPKIT_LIBRARY=out/libcapkit.so.0 python3 examples/capkit.py tcp "../samples/$name" | tail -n 1)" = "$want" ||
+            { echo "Python: $name"; bad=1; }
+    fi
+done
+if [ -e /usr/include/pcap/pcap.h ]; then
+    make -s tests
+    out/fuzz 1 "$rounds" ../samples/*.pcap ../samples/*.pcapng || bad=1
+    out/compare tests/expressions.txt ../samples/*.pcap || bad=1
+    if have python3; then
+        python3 tests/random_capture.py "$rounds" >out/random.pcap
+        out/compare tests/expressions.txt out/random.pcap || bad=1
+    fi
+fi
+[ $bad = 0 ] && echo 'all as it should be'
+exit $bad
