@@ -1,6 +1,5 @@
-/* Random instructions, texts and damaged captures, at the end of memory with no page behind it; captures
- * also at its start with no page before it.
- * usage: fuzz SEED ROUNDS FILE.. */
+/* Random instructions, texts and damaged captures, at the end of memory with no page behind it;
+ * captures also at its start with no page before it. usage: fuzz SEED ROUNDS FILE.. */
 #include <capkit.h>
 #include <pcap/pcap.h>
 #include <stdio.h>
@@ -11,7 +10,13 @@
 int bpf_validate(const struct bpf_insn *f, int len);
 
 static uint64_t seed;
-static uint32_t rnd(void) { seed ^= seed << 13; seed ^= seed >> 7; seed ^= seed << 17; return seed >> 16; }
+static uint32_t rnd(void)
+{
+    seed ^= seed << 13;
+    seed ^= seed >> 7;
+    seed ^= seed << 17;
+    return seed >> 16;
+}
 
 /* The end of so much memory, with a page behind it and one before it that can't be touched. */
 static uint8_t *end_of(size_t size)
@@ -22,16 +27,17 @@ static uint8_t *end_of(size_t size)
     return m + 4096 + whole;
 }
 
-static const uint16_t codes[] = {32, 40, 48, 64, 72, 80, 0, 96, 128, 1, 97, 129, 177, 2, 3, 4, 20, 36, 52, 68, 84, 100, 116, 12, 28, 44, 60, 76, 92, 108, 124, 148, 156, 164, 172, 132, 5, 21, 37, 53, 69, 29, 45, 61, 77, 6, 22, 7, 135};
+static const uint16_t codes[] = {32, 40, 48, 64,  72,  80,  0,   96,  128, 1,   97, 129, 177,
+                                 2,  3,  4,  20,  36,  52,  68,  84,  100, 116, 12, 28,  44,
+                                 60, 76, 92, 108, 124, 148, 156, 164, 172, 132, 5,  21,  37,
+                                 53, 69, 29, 45,  61,  77,  6,   22,  7,   135};
 
-int main(int argc, char **argv)
+static size_t valid, runs, wrong, apart, texts, files, packets, other, answered, unchecked;
+static uint8_t *guard, *guard2;
+
+static void random_programs(size_t rounds)
 {
-    size_t rounds = atol(argv[2]), r, valid = 0, runs = 0, wrong = 0, apart = 0, texts = 0, files = 0, packets = 0, other = 0, answered = 0, unchecked = 0;
-    uint8_t *guard = end_of(1 << 20), *guard2 = end_of(1 << 20);
-    static uint8_t file[1 << 20];
-    static char comment[4096];
-    int a;
-    seed = atol(argv[1]) * 0x9e3779b97f4a7c15u + 1;
+    size_t r;
     for (r = 0; r < rounds; r++) {
         size_t n = rnd() % 12, len = rnd() % 80, i, index, any;
         struct capkit_insn *p = (struct capkit_insn *)guard - n;
@@ -43,8 +49,10 @@ int main(int argc, char **argv)
             p[i].jf = rnd() % 8 ? rnd() % 4 : rnd();
             p[i].k = rnd() % 8 ? rnd() % 20 : rnd();
         }
-        if (n && rnd() % 4) p[n - 1].code = rnd() % 2 ? 6 : 22;
-        for (i = 0; i < len; i++) packet[i] = rnd();
+        if (n && rnd() % 4)
+            p[n - 1].code = rnd() % 2 ? 6 : 22;
+        for (i = 0; i < len; i++)
+            packet[i] = rnd();
         rule = capkit_check(p, n, &index);
         answer = capkit_run_any(p, n, packet, len, len, &any);
         runs++;
@@ -58,54 +66,118 @@ int main(int argc, char **argv)
                 apart += bpf_filter((struct bpf_insn *)p, packet, len, len) != again;
         }
     }
-    static const char *words[] = {"tcp", "port", "80", "and", "or", "not", "(", ")", "[", "]", "ip", "host", "10.0.0.1", "net", "/", "8", "len", ">", "0xffffffff", "ether", "::1", "&", "<<", "%", "-", "0", ":", "portrange", "1-2", "?", "\xff", "icmptype"};
+}
+
+static void random_texts(size_t rounds)
+{
+    size_t r;
+    static const char *words[] = {
+        "tcp", "port", "80",         "and",       "or",       "not", "(",    ")",
+        "[",   "]",    "ip",         "host",      "10.0.0.1", "net", "/",    "8",
+        "len", ">",    "0xffffffff", "ether",     "::1",      "&",   "<<",   "%",
+        "-",   "0",    ":",          "portrange", "1-2",      "?",   "\xff", "icmptype"};
     for (r = 0; r < rounds / 4; r++) {
         size_t n = rnd() % 12, len = 0, number, i, room = rnd() % 64;
         char text[512];
-        for (i = 0; i < n; i++) len += sprintf(text + len, "%s ", words[rnd() % 32]);
+        for (i = 0; i < n; i++)
+            len += sprintf(text + len, "%s ", words[rnd() % 32]);
         memcpy(guard - len, text, len);
-        uint32_t status = capkit_compile((char *)guard - len, len, rnd() % 3 == 0 ? 1 : rnd() % 2 ? 101 : 113, (struct capkit_insn *)guard2 - room, room, &number);
+        uint32_t status = capkit_compile((char *)guard - len, len,
+                                         rnd() % 3 == 0 ? 1
+                                         : rnd() % 2    ? 101
+                                                        : 113,
+                                         (struct capkit_insn *)guard2 - room, room, &number);
         texts += status == 0;
-        wrong += status > 16 || (status == 0 && (number > room || capkit_check((struct capkit_insn *)guard2 - room, number, &i))) || (status == 16 && number <= room);
+        wrong += status > 16 ||
+                 (status == 0 && (number > room ||
+                                  capkit_check((struct capkit_insn *)guard2 - room, number, &i))) ||
+                 (status == 16 && number <= room);
     }
-    for (a = 3; a < argc; a++)
-        for (r = 0; r < 1 + rounds / 20000; r++) {
-            FILE *f = fopen(argv[a], "rb"), *again;
-            size_t size = fread(file, 1, sizeof file, f), i;
-            struct capkit_reader reader = {0};
-            uint32_t found;
-            struct capkit_packet p;
-            char why[PCAP_ERRBUF_SIZE];
-            pcap_t *theirs;
-            fclose(f);
-            if (r) {
-                if (rnd() % 2) size = size ? rnd() % size : 0;
-                for (i = rnd() % 4; size && i; i--) file[rnd() % (rnd() % 2 ? size : size < 60 ? size : 60)] = rnd();
-            }
-            uint8_t *capture = r % 2 ? guard - size : guard - (1 << 20);
-            memcpy(capture, file, size);
-            files++;
-            again = fmemopen(file, size, "rb");
-            theirs = pcap_fopen_offline_with_tstamp_precision(again, PCAP_TSTAMP_PRECISION_NANO, why);
-            if (!theirs && again) fclose(again);
-            while ((found = capkit_next(&reader, (struct capkit_interface *)guard2 - 256, 256, capture, size, &p)) == 0 || found == 23) {
-                if (reader.offset > size) wrong++;
-                if (found == 23) continue;
-                if (p.options_at + p.options_length > size || capkit_comment(&reader, capture, size, &p, comment, sizeof comment) > p.options_length) wrong++;
-                struct pcap_pkthdr *h;
-                const u_char *bytes;
-                packets++;
-                if (p.at + p.captured > size || p.at + p.captured > reader.offset) wrong++;
-                if (theirs) {
-                    if (pcap_next_ex(theirs, &h, &bytes) != 1) { pcap_close(theirs); theirs = 0; continue; }
-                    if (!r && (h->len != p.original || h->caplen > p.captured || memcmp(bytes, capture + p.at, h->caplen) || (uint64_t)h->ts.tv_sec * 1000000000 + h->ts.tv_usec != p.time)) { other++; printf("%s: len %u %u cap %u %u time %lld.%lld %llu\n", argv[a], h->len, p.original, h->caplen, p.captured, (long long)h->ts.tv_sec, (long long)h->ts.tv_usec, (unsigned long long)p.time); }
+}
+
+/* A capture as it stands, and damaged. */
+static void captures(const char *name, size_t rounds)
+{
+    static uint8_t file[1 << 20];
+    static char comment[4096];
+    size_t r;
+    for (r = 0; r < 1 + rounds / 20000; r++) {
+        FILE *f = fopen(name, "rb"), *again;
+        size_t size = fread(file, 1, sizeof file, f), i;
+        struct capkit_reader reader = {0};
+        uint32_t found;
+        struct capkit_packet p;
+        char why[PCAP_ERRBUF_SIZE];
+        pcap_t *theirs;
+        fclose(f);
+        if (r) {
+            if (rnd() % 2)
+                size = size ? rnd() % size : 0;
+            for (i = rnd() % 4; size && i; i--)
+                file[rnd() % (rnd() % 2 ? size : size < 60 ? size : 60)] = rnd();
+        }
+        uint8_t *capture = r % 2 ? guard - size : guard - (1 << 20);
+        memcpy(capture, file, size);
+        files++;
+        again = fmemopen(file, size, "rb");
+        theirs = pcap_fopen_offline_with_tstamp_precision(again, PCAP_TSTAMP_PRECISION_NANO, why);
+        if (!theirs && again)
+            fclose(again);
+        while ((found = capkit_next(&reader, (struct capkit_interface *)guard2 - 256, 256, capture,
+                                    size, &p)) == 0 ||
+               found == 23) {
+            if (reader.offset > size)
+                wrong++;
+            if (found == 23)
+                continue;
+            if (p.options_at + p.options_length > size ||
+                capkit_comment(&reader, capture, size, &p, comment, sizeof comment) >
+                    p.options_length)
+                wrong++;
+            struct pcap_pkthdr *h;
+            const u_char *bytes;
+            packets++;
+            if (p.at + p.captured > size || p.at + p.captured > reader.offset)
+                wrong++;
+            if (theirs) {
+                if (pcap_next_ex(theirs, &h, &bytes) != 1) {
+                    pcap_close(theirs);
+                    theirs = 0;
+                    continue;
+                }
+                if (!r && (h->len != p.original || h->caplen > p.captured ||
+                           memcmp(bytes, capture + p.at, h->caplen) ||
+                           (uint64_t)h->ts.tv_sec * 1000000000 + h->ts.tv_usec != p.time)) {
+                    other++;
+                    printf("%s: len %u %u cap %u %u time %lld.%lld %llu\n", name, h->len,
+                           p.original, h->caplen, p.captured, (long long)h->ts.tv_sec,
+                           (long long)h->ts.tv_usec, (unsigned long long)p.time);
                 }
             }
-            wrong += found > 24 || capkit_found_text(found, comment, 0) == 0;
-            if (theirs) pcap_close(theirs);
         }
-    printf("%zu runs of random instructions, %zu valid, %zu answered, of these %zu on programs that the check refuses\n", runs, valid, answered, unchecked);
-    printf("%zu texts compiled; %zu captures, %zu packets; other than libpcap's in undamaged files: %zu; bpf_filter other on %zu\n", texts, files, packets, other, apart);
+        wrong += found > 24 || capkit_found_text(found, comment, 0) == 0;
+        if (theirs)
+            pcap_close(theirs);
+    }
+}
+
+int main(int argc, char **argv)
+{
+    size_t rounds = argc > 2 ? atol(argv[2]) : 0;
+    int a;
+    seed = argc > 1 ? atol(argv[1]) * 0x9e3779b97f4a7c15u + 1 : 1;
+    guard = end_of(1 << 20);
+    guard2 = end_of(1 << 20);
+    random_programs(rounds);
+    random_texts(rounds);
+    for (a = 3; a < argc; a++)
+        captures(argv[a], rounds);
+    printf("%zu runs of random instructions, %zu valid, %zu answered, of these %zu on programs "
+           "that the check refuses\n",
+           runs, valid, answered, unchecked);
+    printf("%zu texts compiled; %zu captures, %zu packets; other than libpcap's in undamaged "
+           "files: %zu; bpf_filter other on %zu\n",
+           texts, files, packets, other, apart);
     printf("broken promises: %zu\n", wrong);
     return wrong != 0;
 }
