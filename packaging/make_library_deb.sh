@@ -36,7 +36,7 @@ printf 'activate-noawait ldconfig\n' >"$shared/DEBIAN/triggers"
 
 cp -a "$work/all/usr" "$dev/"
 gzip -9n "$dev/usr/share/man/man3/capkit.3"
-for call in compile check run run_any status_text rule_text found_text next comment; do
+for call in compile check run run_any is_portable status_text rule_text found_text next comment; do
     ln -s capkit.3.gz "$dev/usr/share/man/man3/capkit_$call.3.gz"
 done
 mkdir -p "$dev/usr/share/doc/libcapkit-dev/examples"

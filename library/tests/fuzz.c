@@ -32,7 +32,8 @@ static const uint16_t codes[] = {32, 40, 48, 64,  72,  80,  0,   96,  128, 1,   
                                  60, 76, 92, 108, 124, 148, 156, 164, 172, 132, 5,  21,  37,
                                  53, 69, 29, 45,  61,  77,  6,   22,  7,   135};
 
-static size_t valid, runs, wrong, apart, texts, files, packets, other, answered, unchecked;
+static size_t valid, runs, wrong, apart, texts, files, packets, other, answered, unchecked,
+    portable;
 static uint8_t *guard, *guard2;
 
 static void random_programs(size_t rounds)
@@ -62,8 +63,12 @@ static void random_programs(size_t rounds)
             uint32_t steps, again = capkit_run(p, n, packet, len, len, &steps);
             valid++;
             wrong += again != answer || steps != any;
-            if (bpf_validate((struct bpf_insn *)p, n))
-                apart += bpf_filter((struct bpf_insn *)p, packet, len, len) != again;
+            if (bpf_validate((struct bpf_insn *)p, n)) {
+                int differs = bpf_filter((struct bpf_insn *)p, packet, len, len) != again;
+                apart += differs;
+                portable += capkit_is_portable(p, n);
+                wrong += differs && capkit_is_portable(p, n);
+            }
         }
     }
 }
@@ -178,6 +183,7 @@ int main(int argc, char **argv)
     printf("%zu texts compiled; %zu captures, %zu packets; other than libpcap's in undamaged "
            "files: %zu; bpf_filter other on %zu\n",
            texts, files, packets, other, apart);
+    printf("%zu runs of programs that capkit_is_portable takes\n", portable);
     printf("broken promises: %zu\n", wrong);
     return wrong != 0;
 }
