@@ -34,7 +34,7 @@ fn action(alloc: Global, entry: &Entry<'_>) -> Result<String, AllocError> {
     format!(in alloc; "({choices})")
 }
 
-/// Writes an option under one of its names. A value may also stand in the same word, behind `=` if
+/// Writes an option under one of its names. A value may also be part of that word, behind `=` if
 /// the name is a long one.
 fn write_option(rt: &HostRuntime, option: &Entry<'_>, name: &str) -> Result<(), Fail> {
     let text = escaped(rt.alloc(), option.text)?;
