@@ -17,7 +17,8 @@ TCP, UDP, ICMP, GRE, ICMP6 = 6, 17, 1, 47, 58
 # The shortest header of each protocol, in bytes.
 HEADER = {TCP: 20, UDP: 8, ICMP: 8, GRE: 8, ICMP6: 8}
 
-rng = random.Random(20260101)
+SEED = 20260101
+rng = random.Random(SEED)
 
 
 def address():
@@ -97,7 +98,8 @@ def packet():
 
 
 def write_capture(path, count):
-    """Writes `count` packets, up to 200 microseconds apart, into the file at `path`."""
+    """Writes `count` packets, up to 200 microseconds apart, into the file at `path`: the same at each call."""
+    rng.seed(SEED)
     micros = 1_700_000_000 * 1_000_000
     with open(path, "wb", buffering=1 << 20) as out:
         out.write(struct.pack("<IHHiIII", 0xA1B2C3D4, 2, 4, 0, 0, 262144, 1))

@@ -1,12 +1,17 @@
 #!/usr/bin/env python3
 """Measures capkit beside editcap, mergecap, capinfos and tcpdump, where these are installed, and prints a table.
 
-usage: run.py [--packets N] [--rounds N] [--capkit PROGRAM] [NAME..]
+usage: run.py [--packets N] [--rounds N] [--capkit PROGRAM] [--instructions] [NAME..]
 
-A capture is made in a temporary folder. Each job is run by both programs in turn, ROUNDS times (5), and the
+A capture is made in a temporary folder. Each job is run by all programs in turn, ROUNDS times (5), and the
 best time of each counts: processor time, the user's and the system's, in seconds. Memory is the most that was
-resident, in MiB, as GNU time tells it, where that is installed. What both programs write is compared first,
-behind the file header; a report is compared by its number of packets. NAMEs choose jobs; none means all.
+resident, in MiB, as GNU time tells it, where that is installed. What capkit and the other tool write is compared
+first, behind the file header; a report is compared by its number of packets. NAMEs choose jobs; none means all.
+
+Beside some jobs hand-written C is measured (floor.c, where there is a C compiler), which does the least that such
+a job can do. Instructions a packet are counted by valgrind's callgrind, where that is installed, as the difference
+between a capture of 30,000 packets and its first 10,000: they are the same again on a busy machine.
+--instructions counts them alone.
 """
 import argparse
 import math
@@ -31,6 +36,8 @@ HOSTS = [f"10.0.0.{k}" for k in range(1, 26)] + [
 ]
 
 EXPRESSIONS = {
+    "tcp": "tcp",
+    "web": "tcp port 80 or 443",
     "web-not-net10": "tcp dst port 80 or 443 and not src net 10.0.0.0/8",
     "mixed": "ip6 or (udp port 53 or 443) or tcp portrange 8000-9000 or arp",
     "host-port": "host 1.2.3.4 and port 5",
@@ -39,6 +46,20 @@ EXPRESSIONS = {
     "hosts-50": " or ".join(f"host {host}" for host in HOSTS),
     "ports-300": " or ".join(f"port {port}" for port in PORTS),
 }
+
+
+# What floor.c does in place of a job; IN are the job's captures.
+FLOOR = {
+    "copy-pcap": ["copy", "OUT", "IN", "0", "0"],
+    "to-pcapng": ["pcapng", "OUT", "IN", "0", "0"],
+    "delete-ranges": ["copy", "OUT", "IN", "7000", "90000"],
+    "merge-2": ["merge", "OUT", "IN"],
+    "infos": ["infos", "IN"],
+    "web": ["web", "OUT", "IN"],
+}
+
+# The packets of both captures whose instructions are counted.
+FEW, MANY = 10_000, 30_000
 
 
 def built_program():
@@ -85,6 +106,35 @@ def jobs(capkit, capture, folder):
     for name, expression in EXPRESSIONS.items():
         own = [capkit, "print", "-w", "OUT", "--format", "pcap", capture, expression]
         yield name, "tcpdump", own, ["tcpdump", "-Z", "root", "-r", capture, "-w", "OUT", expression]
+    yield "lines", "tcpdump", [capkit, "print", capture], ["tcpdump", "-nn", "-q", "-tttt", "-r", capture]
+
+
+def compiled_floor(folder):
+    """The program that floor.c is, or None where there is no C compiler."""
+    compiler = shutil.which("cc") or shutil.which("gcc") or shutil.which("clang")
+    if compiler is None:
+        return None
+    program = str(folder / "floor")
+    subprocess.run([compiler, "-O2", "-o", program, ROOT / "bench" / "floor.c"], check=True)
+    return program
+
+
+def floor_words(floor, name, own):
+    """The words by which floor.c does the job that capkit does by `own`, or None."""
+    if floor is None or name not in FLOOR:
+        return None
+    captures = [word for word in own if word.endswith(".pcap")]
+    return [floor, *(it for word in FLOOR[name] for it in (captures if word == "IN" else [word]))]
+
+
+def instructions_of(words):
+    """How many instructions a run of the words executes."""
+    words = ["/dev/null" if word == "OUT" else word for word in words]
+    callgrind = ["valgrind", "--tool=callgrind", "--callgrind-out-file=/dev/null"]
+    done = subprocess.run([*callgrind, *words], stdout=subprocess.DEVNULL, stderr=subprocess.PIPE, text=True)
+    if done.returncode:
+        sys.exit(f"{words[0]}: {done.stderr[-300:]}")
+    return int(re.search(r"Collected : (\d+)", done.stderr)[1])
 
 
 def run(words, out):
@@ -124,7 +174,7 @@ def counted(words):
 
 def compare(name, own, peer, folder):
     """Whether both write the same packets; only pcap files can be compared byte by byte."""
-    if name == "to-pcapng":
+    if name in ("to-pcapng", "lines"):
         return ""
     if name == "infos":
         count = counted(own)
@@ -135,18 +185,82 @@ def compare(name, own, peer, folder):
     return "same" if same else "DIFFERENT"
 
 
-def measure(name, own, peer, rounds, folder):
-    """Measures a job in turn by both programs; prints its line and returns the ratio."""
-    note = compare(name, own, peer, folder)
-    best = [math.inf, math.inf]
+def measure(name, programs, rounds, folder):
+    """Measures a job in turn by each of the programs: the best times, and the greatest memory of two."""
+    best = {which: math.inf for which in programs}
     for _ in range(rounds):
-        for which, words in enumerate((own, peer)):
+        for which, words in programs.items():
             best[which] = min(best[which], run(words, "/dev/null"))
-    memory = [memory_of(words, folder) for words in (own, peer)]
-    ratio = best[0] / best[1]
-    times = f"{best[0]:8.3f} {best[1]:8.3f} {ratio:6.2f}"
-    print(f"{name:14} {peer[0]:8} {times} {memory[0]:8.1f} {memory[1]:8.1f}  {note}", flush=True)
-    return ratio
+    return best, [memory_of(programs[which], folder) for which in ("own", "peer")]
+
+
+def small_jobs(capkit, folder):
+    """For both small captures, the words of each job by its name."""
+    for count in (FEW, MANY):
+        place = folder / str(count)
+        place.mkdir()
+        make_capture.write_capture(str(place / "capture.pcap"), count)
+        yield {name: own for name, _, own, _ in jobs(capkit, str(place / "capture.pcap"), place)}
+
+
+def instructions_a_packet(few, many):
+    """How many instructions a packet the job executes, by its words for either small capture."""
+    return round((instructions_of(many) - instructions_of(few)) / (MANY - FEW))
+
+
+def counts_of(name, floor, small):
+    """Instructions a packet of capkit and of floor.c, as texts."""
+    if small is None:
+        return "", ""
+    few, many = (words[name] for words in small)
+    own = str(instructions_a_packet(few, many))
+    if floor is None or name not in FLOOR:
+        return own, ""
+    return own, str(instructions_a_packet(*(floor_words(floor, name, words) for words in (few, many))))
+
+
+def print_line(name, peer, cells):
+    """Prints a line of the table; a cell is a text, or a number with its decimals."""
+    shown = [cell if isinstance(cell, str) else f"{cell[0]:.{cell[1]}f}" for cell in cells]
+    print(f"{name:14} {peer:8} " + " ".join(f"{'' if it == 'nan' else it:>8}" for it in shown), flush=True)
+
+
+def chosen_jobs(arguments, folder):
+    """The jobs of the full capture that were asked for and whose peer is installed."""
+    capture = str(folder / "capture.pcap")
+    make_capture.write_capture(capture, 1000 if arguments.instructions else arguments.packets)
+    if not arguments.instructions:
+        print(f"{arguments.packets} packets, {os.path.getsize(capture)} bytes; seconds of a processor, MiB")
+    for name, peer, own, other in jobs(arguments.capkit or built_program(), capture, folder):
+        if arguments.names and name not in arguments.names:
+            continue
+        if shutil.which(peer) is None and not arguments.instructions:
+            print(f"{name:14} {peer} is not installed")
+            continue
+        yield name, peer, own, other
+
+
+def measure_jobs(arguments, folder):
+    """Prints a line for each job, and returns the ratios to the other tools."""
+    floor = compiled_floor(folder)
+    small = list(small_jobs(arguments.capkit or built_program(), folder)) if shutil.which("valgrind") else None
+    ratios = []
+    heads = ("capkit", "peer", "ratio", "C", "capkit/C", "MiB", "peer's", "insns", "C's")
+    for name, peer, own, other in chosen_jobs(arguments, folder):
+        if not ratios:
+            print_line("job", "peer", heads)
+        programs = {"own": own, "peer": other, "floor": floor_words(floor, name, own)}
+        programs = {which: words for which, words in programs.items() if words}
+        note, best, memory = "", {}, [math.nan, math.nan]
+        if not arguments.instructions:
+            note = compare(name, own, other, folder)
+            best, memory = measure(name, programs, arguments.rounds, folder)
+        times = [best.get(which, math.nan) for which in ("own", "peer", "floor")]
+        ratios.append(times[0] / times[1])
+        cells = [(times[0], 3), (times[1], 3), (ratios[-1], 2), (times[2], 3), (times[0] / times[2], 2)]
+        cells += [(size, 1) for size in memory]
+        print_line(name, peer, [*cells, *counts_of(name, floor, small), note])
+    return ratios
 
 
 def main():
@@ -154,26 +268,14 @@ def main():
     parser.add_argument("--packets", type=int, default=1_000_000)
     parser.add_argument("--rounds", type=int, default=5)
     parser.add_argument("--capkit", default=None)
+    parser.add_argument("--instructions", action="store_true")
     parser.add_argument("names", nargs="*")
     arguments = parser.parse_args()
-    capkit = arguments.capkit or built_program()
     with tempfile.TemporaryDirectory() as temporary:
-        folder = pathlib.Path(temporary)
-        capture = str(folder / "capture.pcap")
-        make_capture.write_capture(capture, arguments.packets)
-        print(f"{arguments.packets} packets, {os.path.getsize(capture)} bytes; seconds of a processor, MiB")
-        print(f"{'job':14} {'peer':8} {'capkit':>8} {'peer':>8} {'ratio':>6} {'memory':>8} {'peer':>8}")
-        ratios = []
-        for name, program, own, peer in jobs(capkit, capture, folder):
-            if arguments.names and name not in arguments.names:
-                continue
-            if shutil.which(program) is None:
-                print(f"{name:14} {program} is not installed")
-                continue
-            ratios.append(measure(name, own, peer, arguments.rounds, folder))
-        if ratios:
-            mean = math.exp(sum(map(math.log, ratios)) / len(ratios))
-            print(f"{'geometric mean':32} {'':8} {mean:6.2f}")
+        ratios = measure_jobs(arguments, pathlib.Path(temporary))
+    if ratios and not arguments.instructions:
+        mean = math.exp(sum(map(math.log, ratios)) / len(ratios))
+        print(f"{'geometric mean':40} {mean:8.2f}")
 
 
 if __name__ == "__main__":

@@ -20,6 +20,10 @@ import tempfile
 from check_examples import ROOT, built_program
 
 SAMPLES = ROOT / "samples"
+
+# A writer that gives a capture's packets and waits, and a reader that waits a second for a line.
+WAITING = "(cat day.pcap; sleep 3)"
+FIRST = "(read -t 1 -r line && echo 1)"
 TWICE = "capkit: usage: name used twice\n"
 
 CASES = [
@@ -53,6 +57,13 @@ CASES = [
     ("capkit edit -F pcap day.pcap - > out", 0, "", {"out": "day.pcap", "day.pcap": "day.pcap"}),
     ("capkit edit -F pcap - - < day.pcap | cat > out", 0, "", {"out": "day.pcap"}),
     ("capkit print - < /dev/null > /dev/null", 1, "capkit: -: offset 0: not a capture file\n", {}),
+    # What is known of a pipe is written to a pipe before more is waited for: lines, packets, and reports of files before.
+    (f"{WAITING} | capkit print - | {FIRST} > out", 0, "", {"out": b"1\n"}),
+    (f"{WAITING} | capkit edit -F pcap - - | capkit print - | {FIRST} > out", 0, "", {"out": b"1\n"}),
+    (f"mkfifo in; {WAITING} > in & capkit merge -F pcap -w - in | capkit print - | {FIRST} > out", 0, "", {"out": b"1\n"}),
+    (f"{WAITING} | capkit infos day.pcap - | {FIRST} > out", 0, "", {"out": b"1\n"}),
+    ("(cat day.pcap; sleep 1; tail -c +25 day.pcap; sleep 1; tail -c +25 day.pcap) | capkit print - | head -n 1 | wc -l > out",
+     0, "", {"out": b"1\n"}),
     # What was asked for and can't be written is a fault.
     ("capkit --help > /dev/full", 1, "capkit: -: write failed\n", {}),
     ("capkit --version > /dev/full", 1, "capkit: -: write failed\n", {}),

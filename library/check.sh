@@ -1,13 +1,17 @@
 #!/bin/sh
-# Builds libcapkit and its callers, and runs them over samples/. Where valgrind, a C++ compiler, rustc, python3
-# and libpcap's headers are there it uses them too. The last line says whether all was as it should be.
+# Builds libcapkit and its callers, and runs them over samples/. Where valgrind, a C++ compiler, rustc, go, python3,
+# libpcap's headers and capkit itself are there it uses them too, and says which are missing. The last line says
+# whether all was as it should be.
 #
-# usage: library/check.sh [ROUNDS]       ROUNDS of random programs, 100000 where none are given
+# usage: library/check.sh [ROUNDS]       ROUNDS of random programs and packets, 100000 where none are given
 set -eu
 cd "$(dirname "$0")"
 rounds=${1:-100000}
 bad=0
 have() { command -v "$1" >/dev/null 2>&1; }
+for program in valgrind c++ rustc go python3 capkit; do
+    have $program || echo "without $program"
+done
 make -s all examples
 for name in big-endian.pcap cooked.pcap damaged.pcap day.pcap four.pcap mirror.pcap nanoseconds.pcap truncated.pcap \
     comments.pcapng two-sections.pcapng; do
@@ -17,8 +21,20 @@ done >out/filter.txt
 cmp out/filter.txt tests/filter.txt || bad=1
 test "$(nm -D --defined-only out/libcapkit.so.0 | grep -vc ' T capkit_')" = 0 || { echo 'other names are visible'; bad=1; }
 if have c++; then
-    echo '#include <capkit.h>' | c++ -std=c++11 -Wall -Wextra -pedantic -Iinclude -fsyntax-only -x c++ - || bad=1
+    echo '#include <capkit.h>' | c++ -std=c++11 -Wall -Wextra -pedantic -Werror -Iinclude -fsyntax-only -x c++ - || bad=1
 fi
+grep -q "CAPKIT_VERSION \"$(cat ../packaging/version)\"" include/capkit.h || { echo 'another version'; bad=1; }
+
+# What keep writes reads back, and is what capkit writes.
+for name in day.pcap mirror.pcap nanoseconds.pcap comments.pcapng; do
+    out/keep '' "../samples/$name" out/kept.pcapng || bad=1
+    test "$(out/filter tcp out/kept.pcapng | tail -n 1)" = "$(out/filter tcp "../samples/$name" | tail -n 1)" ||
+        { echo "keep: $name"; bad=1; }
+    if have capkit; then
+        capkit print -w out/printed.pcapng "../samples/$name" >/dev/null
+        cmp out/printed.pcapng out/kept.pcapng || bad=1
+    fi
+done
 for name in day.pcap two-sections.pcapng comments.pcapng damaged.pcap; do
     if have valgrind; then
         valgrind -q --error-exitcode=99 --leak-check=full --show-leak-kinds=definite out/filter 'tcp or udp' "../samples/$name" \
@@ -29,6 +45,10 @@ for name in day.pcap two-sections.pcapng comments.pcapng damaged.pcap; do
         make -s out/rust
         test "$(out/rust tcp "../samples/$name" | tail -n 1)" = "$want" || { echo "Rust: $name"; bad=1; }
     fi
+    if have go; then
+        make -s out/go
+        test "$(out/go tcp "../samples/$name" | tail -n 1)" = "$want" || { echo "Go: $name"; bad=1; }
+    fi
     if have python3; then
         test "$(CAPKIT_LIBRARY=out/libcapkit.so.0 python3 examples/capkit.py tcp "../samples/$name" | tail -n 1)" = "$want" ||
             { echo "Python: $name"; bad=1; }
@@ -37,11 +57,14 @@ done
 if [ -e /usr/include/pcap/pcap.h ]; then
     make -s tests
     out/fuzz 1 "$rounds" ../samples/*.pcap ../samples/*.pcapng || bad=1
+    out/writes 1 "$rounds" || bad=1
     out/compare tests/expressions.txt ../samples/*.pcap || bad=1
     if have python3; then
         python3 tests/random_capture.py "$rounds" >out/random.pcap
         out/compare tests/expressions.txt out/random.pcap || bad=1
     fi
+else
+    echo "without libpcap's headers"
 fi
 [ $bad = 0 ] && echo 'all as it should be'
 exit $bad

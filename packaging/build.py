@@ -29,7 +29,7 @@ import time
 
 ROOT = pathlib.Path(__file__).resolve().parent.parent
 OUT = ROOT / "out"
-TOP = "capkit"
+TOP = "capkit_main"
 # What a job of a check takes of memory, in bytes.
 MEMORY = 2_000_000_000
 

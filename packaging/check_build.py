@@ -19,7 +19,7 @@ CRATES = """# NAME: what it needs
 low_a: byteorder
 low_b:
 middle: low_a
-capkit: middle low_b clap
+capkit_main: middle low_b clap
 other_tests: low_a
 """
 # It notes when it begins and ends, and wants the library of each crate below to be there.
@@ -35,7 +35,7 @@ check)
     sleep "${SLEEP-0.3}"
     [ "$name" != "${FAILS-}" ] || { echo 'not proved: f'; exit 1; } ;;
 lib) mkdir -p out/rlib && : >out/rlib/stamp ;;
-run) mkdir -p out && printf '#!/bin/sh\\necho "runs $*"\\n' >out/capkit; chmod +x out/capkit ;;
+run) mkdir -p out && printf '#!/bin/sh\\necho "runs $*"\\n' >out/capkit_main; chmod +x out/capkit_main ;;
 esac
 printf 'end %s %s\\n' "$1" "$name" >>"$NOTES"
 """
@@ -50,7 +50,7 @@ class Checkout:
             (self.at / name).parent.mkdir(parents=True, exist_ok=True)
             shutil.copy(ROOT / name, self.at / name)
         (self.at / "crates.txt").write_text(CRATES)
-        for name in ("low_a", "low_b", "middle", "capkit", "other_tests"):
+        for name in ("low_a", "low_b", "middle", "capkit_main", "other_tests"):
             (self.at / "crates" / name / "src").mkdir(parents=True)
             (self.at / "crates" / name / "src" / "lib.rt").write_text(f"// {name}\n")
         (at / "bin").mkdir()
@@ -98,11 +98,11 @@ def try_first(checkout):
     yield "each crate that it needs is proved once", len(checks) == 8
     yield "no crate begins before those that it needs", (
         checks.index("end check low_a") < checks.index("begin check middle")
-        and checks[-2:] == ["begin check capkit", "end check capkit"]
+        and checks[-2:] == ["begin check capkit_main", "end check capkit_main"]
     )
     is_single = len(os.sched_getaffinity(0)) == 1
     yield "crates are proved side by side", is_single or checks[1].startswith("begin")
-    yield "it says how far it is", "proved capkit in 0 s, 4 of 4 crates" in messages
+    yield "it says how far it is", "proved capkit_main in 0 s, 4 of 4 crates" in messages
     yield "nothing is left of the build", checkout.logs() == [] and checkout.has_one_list()
     yield "but what is kept for the next one", (checkout.at / "crates/low_a/out/rlib").is_dir()
     status, out, messages = checkout.call()
@@ -118,7 +118,7 @@ def try_changed(checkout):
     first.communicate()
     yield "a second call waits and says so", "this one waits" in messages
     yield "and runs what the first one built", (status, out) == (0, "runs infos\n")
-    yield "which is built once", checkout.noted().count("begin run capkit") == 1
+    yield "which is built once", checkout.noted().count("begin run capkit_main") == 1
     yield "one program is kept", len([*(checkout.at / "out").glob("built-*")]) == 1
 
 
@@ -144,7 +144,7 @@ def try_interrupted(checkout):
     yield "a crate that isn't proved ends the build", (status, out) == (1, "")
     yield "and is named", "middle wasn't built" in messages
     yield "with the end of its output", "not proved: f\n" in messages
-    yield "and what is above it isn't tried", "begin check capkit" not in checkout.noted()
+    yield "and what is above it isn't tried", "begin check capkit_main" not in checkout.noted()
     yield "logs of earlier builds are gone", "build-12345.log" not in checkout.logs()
     yield "what a killed one kept is the crate's again", (kept / "kept").exists()
     status, out, _ = checkout.call()

@@ -27,6 +27,13 @@ shared=$work/libcapkit0 dev=$work/libcapkit-dev
 for tree in "$shared" "$dev"; do
     mkdir -p "$tree/DEBIAN" "$tree/$libraries" "$tree/usr/share/doc/$(basename "$tree")"
     install -m 644 "$root/packaging/copyright" "$tree/usr/share/doc/$(basename "$tree")/copyright"
+    gzip -9n >"$tree/usr/share/doc/$(basename "$tree")/changelog.Debian.gz" <<END
+capkit ($version) unstable; urgency=medium
+
+  * The library as of this release of capkit.
+
+ -- $name <$email>  $(LC_ALL=C date -Ru -d "@$SOURCE_DATE_EPOCH")
+END
 done
 
 mv "$work/all/$libraries/libcapkit.so.$number" "$work/all/$libraries/libcapkit.so.0" "$shared/$libraries/"
@@ -36,7 +43,8 @@ printf 'activate-noawait ldconfig\n' >"$shared/DEBIAN/triggers"
 
 cp -a "$work/all/usr" "$dev/"
 gzip -9n "$dev/usr/share/man/man3/capkit.3"
-for call in compile check run run_any is_portable status_text rule_text found_text next comment; do
+for call in compile bound check run run_any is_portable next comment write_file_header write_record write_section \
+    write_interface write_packet status_text rule_text found_text; do
     ln -s capkit.3.gz "$dev/usr/share/man/man3/capkit_$call.3.gz"
 done
 mkdir -p "$dev/usr/share/doc/libcapkit-dev/examples"
@@ -55,8 +63,8 @@ Maintainer: $name <$email>
 Installed-Size: $(du -sk "$1" | cut -f1)
 Depends: $3
 Description: $4
- Compiles filter expressions to BPF programs, runs them, and reads pcap and pcapng
- captures in memory. Its functions are proved.
+ Compiles filter expressions to BPF programs, runs them, and reads and
+ writes pcap and pcapng captures in memory. Its functions are proved.
 CONTROL
     (cd "$1" && find usr -type f -exec md5sum {} + >DEBIAN/md5sums)
     dpkg-deb --root-owner-group -Zxz -b "$1" "$root/out/$(basename "$1")_${version}_$architecture.deb"

@@ -1,31 +1,12 @@
-/* Random instructions, texts and damaged captures, at the end of memory with no page behind it;
- * captures also at its start with no page before it. usage: fuzz SEED ROUNDS FILE.. */
+/* Random instructions, texts and damaged captures, right behind a page that can't be touched or
+ * right before one. usage: fuzz SEED ROUNDS FILE.. */
 #include <capkit.h>
 #include <pcap/pcap.h>
 #include <stdio.h>
 #include <stdlib.h>
-#include <string.h>
-#include <sys/mman.h>
+#include "guard.h"
 
 int bpf_validate(const struct bpf_insn *f, int len);
-
-static uint64_t seed;
-static uint32_t rnd(void)
-{
-    seed ^= seed << 13;
-    seed ^= seed >> 7;
-    seed ^= seed << 17;
-    return seed >> 16;
-}
-
-/* The end of so much memory, with a page behind it and one before it that can't be touched. */
-static uint8_t *end_of(size_t size)
-{
-    size_t whole = (size + 4095) & ~4095ul;
-    uint8_t *m = mmap(0, whole + 8192, PROT_NONE, MAP_PRIVATE | MAP_ANONYMOUS, -1, 0);
-    mprotect(m + 4096, whole, PROT_READ | PROT_WRITE);
-    return m + 4096 + whole;
-}
 
 static const uint16_t codes[] = {32, 40, 48, 64,  72,  80,  0,   96,  128, 1,   97, 129, 177,
                                  2,  3,  4,  20,  36,  52,  68,  84,  100, 116, 12, 28,  44,
@@ -34,15 +15,15 @@ static const uint16_t codes[] = {32, 40, 48, 64,  72,  80,  0,   96,  128, 1,   
 
 static size_t valid, runs, wrong, apart, texts, files, packets, other, answered, unchecked,
     portable;
-static uint8_t *guard, *guard2;
+static uint8_t *first, *second;
 
 static void random_programs(size_t rounds)
 {
     size_t r;
     for (r = 0; r < rounds; r++) {
         size_t n = rnd() % 12, len = rnd() % 80, i, index, any;
-        struct capkit_insn *p = (struct capkit_insn *)guard - n;
-        uint8_t *packet = guard2 - len;
+        struct capkit_insn *p = place(first, n * sizeof *p);
+        uint8_t *packet = place(second, len);
         uint32_t answer, rule;
         for (i = 0; i < n; i++) {
             p[i].code = rnd() % 50 ? codes[rnd() % 49] : rnd();
@@ -82,21 +63,23 @@ static void random_texts(size_t rounds)
         "len", ">",    "0xffffffff", "ether",     "::1",      "&",   "<<",   "%",
         "-",   "0",    ":",          "portrange", "1-2",      "?",   "\xff", "icmptype"};
     for (r = 0; r < rounds / 4; r++) {
-        size_t n = rnd() % 12, len = 0, number, i, room = rnd() % 64;
-        char text[512];
+        size_t n = rnd() % 12, len = 0, number, bound, i, room = rnd() % 64;
+        static const uint16_t links[] = {CAPKIT_LINK_ETHERNET, CAPKIT_LINK_RAW, CAPKIT_LINK_COOKED};
+        char written[512], name[64];
+        struct capkit_insn *insns = place(second, room * sizeof *insns);
         for (i = 0; i < n; i++)
-            len += sprintf(text + len, "%s ", words[rnd() % 32]);
-        memcpy(guard - len, text, len);
-        uint32_t status = capkit_compile((char *)guard - len, len,
-                                         rnd() % 3 == 0 ? 1
-                                         : rnd() % 2    ? 101
-                                                        : 113,
-                                         (struct capkit_insn *)guard2 - room, room, &number);
+            len += sprintf(written + len, "%s ", words[rnd() % 32]);
+        char *text = place(first, len);
+        memcpy(text, written, len);
+        uint32_t status = capkit_compile(text, len, links[rnd() % 3], insns, room, &number);
         texts += status == 0;
-        wrong += status > 16 ||
-                 (status == 0 && (number > room ||
-                                  capkit_check((struct capkit_insn *)guard2 - room, number, &i))) ||
-                 (status == 16 && number <= room);
+        wrong += status > CAPKIT_NO_ROOM ||
+                 (status == 0 && (number > room || capkit_check(insns, number, &i))) ||
+                 (status == CAPKIT_NO_ROOM && number <= room) ||
+                 (status && !capkit_status_text(status, name, sizeof name));
+        uint32_t again = capkit_bound(text, len, &bound);
+        wrong += (again == 0) != (status == 0 || status == CAPKIT_NO_ROOM) ||
+                 (again == 0 && number > bound) || (again && (again != status || bound != number));
     }
 }
 
@@ -121,16 +104,15 @@ static void captures(const char *name, size_t rounds)
             for (i = rnd() % 4; size && i; i--)
                 file[rnd() % (rnd() % 2 ? size : size < 60 ? size : 60)] = rnd();
         }
-        uint8_t *capture = r % 2 ? guard - size : guard - (1 << 20);
+        uint8_t *capture = place(first, size);
+        struct capkit_interface *table = place(second, 256 * sizeof *table);
         memcpy(capture, file, size);
         files++;
         again = fmemopen(file, size, "rb");
         theirs = pcap_fopen_offline_with_tstamp_precision(again, PCAP_TSTAMP_PRECISION_NANO, why);
         if (!theirs && again)
             fclose(again);
-        while ((found = capkit_next(&reader, (struct capkit_interface *)guard2 - 256, 256, capture,
-                                    size, &p)) == 0 ||
-               found == 23) {
+        while ((found = capkit_next(&reader, table, 256, capture, size, &p)) == 0 || found == 23) {
             if (reader.offset > size)
                 wrong++;
             if (found == 23)
@@ -171,8 +153,8 @@ int main(int argc, char **argv)
     size_t rounds = argc > 2 ? atol(argv[2]) : 0;
     int a;
     seed = argc > 1 ? atol(argv[1]) * 0x9e3779b97f4a7c15u + 1 : 1;
-    guard = end_of(1 << 20);
-    guard2 = end_of(1 << 20);
+    first = guarded();
+    second = guarded();
     random_programs(rounds);
     random_texts(rounds);
     for (a = 3; a < argc; a++)

@@ -4,7 +4,7 @@ use crate::case::{Case, Kind};
 use crate::runs::{Outcome, WHOLE, for_listing, run_line, sound};
 use crate::shown::outcome_text;
 use crate::sweeps;
-use cap_line::{Line, Usage, command_of};
+use capkit::{Line, Usage, command_of};
 use std::alloc::{AllocError, Global};
 use std::test::Fail;
 

@@ -1,13 +1,12 @@
 //! Runs of a command line over memory.
 ghost use Rattle.std.specs.Prelude.{◌≡◌, true, vec_len};
-ghost use Rattle.cap_tools.specs.Command.{is_proper};
+ghost use Rattle.cap_filter.specs.Command.{is_proper};
 
 use crate::case::Case;
-use cap_job::{Job, Turn, run};
-use cap_line::Line;
 use cap_octet::{Input, Output, TrialInput, TrialOutput};
-use cap_tools::{Command, Compile, Edit, Print};
+use cap_tools::{Command, Compile, Edit, Job, Print, Turn, run};
 use cap_trial::Trial;
+use capkit::Line;
 use std::alloc::{AllocError, Allocator, Global};
 use std::test::Fail;
 

@@ -5,7 +5,7 @@ use crate::case::Case;
 use crate::check::Found;
 use crate::runs::{Outcome, WHOLE, run_line, sound};
 use crate::shown::outcome_text;
-use cap_line::Line;
+use capkit::Line;
 use std::alloc::{AllocError, Global};
 use std::test::Fail;
 

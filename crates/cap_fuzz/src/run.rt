@@ -1,9 +1,8 @@
 //! Runs of commands over memory, and comparisons of what comes of them.
 
 use crate::random::Random;
-use cap_job::run;
 use cap_octet::{Format, MemInput, MemOutput};
-use cap_tools::{Command, Compile, Edit, Print, Shift};
+use cap_tools::{Command, Compile, Edit, Print, Shift, run};
 use flt_gen::Link;
 use std::alloc::{AllocError, Global};
 use std::fmt::Write;

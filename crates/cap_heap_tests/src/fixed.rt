@@ -1,8 +1,7 @@
 //! Runs of commands in a heap of a fixed size.
 
-use cap_job::run;
 use cap_octet::{Format, MemInput, MemOutput};
-use cap_tools::{Command, Edit, Merge, Print, Shift};
+use cap_tools::{Command, Edit, Merge, Print, Shift, run};
 use linked_list_allocator::LocalHeap;
 use std::alloc::{AllocError, Global};
 use std::test::Fail;

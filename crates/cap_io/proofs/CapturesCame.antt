@@ -291,14 +291,14 @@ begun-front (file.Pcap head) interfaces unread unread' fault begun m = absurd (c
 begun-front (file.Pcapng order first) interfaces unread unread' fault begun m = block_front first (section_of order interfaces) unread unread' fault m
 
 -- what reading behind the first bytes of a unit did is what reading it all did
-pub ReadsUnit-behind : {I : Type 0} (device : Ghosts I) (old mid : I) (front : List ℕ) (file : Savefile) (interfaces : List Described) (r : Result Came Fault) (new : I) (buffer : List ℕ) (file' : Savefile) (interfaces' : List Described)
+pub ReadsUnit-behind : {I : Type 0} (device : Ghosts I) (old mid : I) (front : List ℕ) (file : Savefile) (interfaces : List Described) (r : Result Came Fault) (new : I) (buffer : List ℕ) (held : Held) (file' : Savefile) (interfaces' : List Described)
     → device.given mid ≡ device.given old + length front → device.failures mid ≡ device.failures old → device.never_fails mid ≡ device.never_fails old
     → (0 < length front → device.given mid < 2 ^ 63)
     → (IsTrue device.tells → device.unread old ≡ front ++ device.unread mid)
-    → ReadsUnit device mid front file interfaces r new buffer file' interfaces' → ReadsUnit device old [] file interfaces r new buffer file' interfaces'
-ReadsUnit-behind device old mid front file interfaces (Ok c) new buffer file' interfaces' given failed never small splits reads =
+    → ReadsUnit device mid front file interfaces r new buffer held file' interfaces' → ReadsUnit device old [] file interfaces r new buffer held file' interfaces'
+ReadsUnit-behind device old mid front file interfaces (Ok c) new buffer held file' interfaces' given failed never small splits reads =
     let m = reads.moves in
-    let P : List ℕ → Type 0 = λ t. UnitCame (declared_by file interfaces) t buffer c (declared_by file' interfaces') (device.unread new) in
+    let P : List ℕ → Type 0 = λ t. UnitCame (declared_by file interfaces) t buffer held c (declared_by file' interfaces') (device.unread new) in
     record {
       moves = record {
         counted = omega (arith, given, m.counted);
@@ -316,11 +316,11 @@ ReadsUnit-behind device old mid front file interfaces (Ok c) new buffer file' in
       kept = tt;
     }
   where
-    is_small : (c : Came) → IsSized c buffer (device.given new) → 0 < size_of c → device.given new < 2 ^ 63
+    is_small : (c : Came) → IsSized held c buffer (device.given new) → 0 < size_of held c → device.given new < 2 ^ 63
     is_small (came.Passed size) sized some = sized.1
-    is_small (came.Packet held) sized some = sized.1
+    is_small came.Packet sized some = sized.1
     is_small came.End sized some = absurd (omega arith)
-ReadsUnit-behind device old mid front file interfaces (Err fault) new buffer file' interfaces' given failed never small splits reads =
+ReadsUnit-behind device old mid front file interfaces (Err fault) new buffer held file' interfaces' given failed never small splits reads =
     let m = reads.moves in
     let P : List ℕ → Type 0 = λ t. Refuses (declared_by file interfaces) t (device.unread new) fault in
     record {

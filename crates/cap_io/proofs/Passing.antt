@@ -166,9 +166,9 @@ time-held (PcapngFile first section) held block known = by_interface (slice_get 
 
 -- ---- nothing is in hand
 
-pub stage_between : (now : Stage) (buffer : List ℕ) → phase_at now ≡ Reading → block_at now buffer ≡ [] → HoldsIfAny now buffer → now ≡ stage.Between
-stage_between stage.Between buffer phase none holds = refl
-stage_between (stage.InHand held) buffer phase none holds =
+pub stage_between : (now : Stage) (held : Held) (buffer : List ℕ) → phase_at now ≡ Reading → block_at now held buffer ≡ [] → HoldsIfAny now held buffer → now ≡ stage.Between
+stage_between stage.Between held buffer phase none holds = refl
+stage_between stage.InHand held buffer phase none holds =
     absurd (omega (arith, holds.some, holds.there, sym (length-take-le held.size buffer holds.there) ∙ ap length none))
-stage_between stage.Ended buffer phase none holds = (cc)
-stage_between (stage.Failed fault) buffer phase none holds = (cc)
+stage_between stage.Ended held buffer phase none holds = (cc)
+stage_between (stage.Failed fault) held buffer phase none holds = (cc)

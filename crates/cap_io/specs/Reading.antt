@@ -168,10 +168,10 @@ HasInterface Nothing held = ⊥
 HasInterface (PcapFile head) held = Unit {0}
 HasInterface (PcapngFile first section) held = is_some (slice_get section.interfaces held.interface) ≡ true
 
-abbrev pub HasInterfaceIfAny : Declared → Came → Type 0
-HasInterfaceIfAny declared (came.Passed size) = Unit {0}
-HasInterfaceIfAny declared (came.Packet held) = HasInterface declared held
-HasInterfaceIfAny declared came.End = Unit {0}
+abbrev pub HasInterfaceIfAny : Declared → Held → Came → Type 0
+HasInterfaceIfAny declared held (came.Passed size) = Unit {0}
+HasInterfaceIfAny declared held came.Packet = HasInterface declared held
+HasInterfaceIfAny declared held came.End = Unit {0}
 
 -- ---- a unit
 
@@ -197,22 +197,22 @@ pub record EndCame (declared : Declared) (unread : List ℕ) (declared' : Declar
   pub same : declared' ≡ declared
   pub rest : unread' ≡ []
 
-abbrev pub UnitCame : Declared → List ℕ → List ℕ → Came → Declared → List ℕ → Type 0
-UnitCame declared unread buffer (came.Passed size) declared' unread' = UnitPassed declared unread size declared' unread'
-UnitCame declared unread buffer (came.Packet held) declared' unread' = PacketCame declared unread buffer held declared' unread'
-UnitCame declared unread buffer came.End declared' unread' = EndCame declared unread declared' unread'
+abbrev pub UnitCame : Declared → List ℕ → List ℕ → Held → Came → Declared → List ℕ → Type 0
+UnitCame declared unread buffer held (came.Passed size) declared' unread' = UnitPassed declared unread size declared' unread'
+UnitCame declared unread buffer held came.Packet declared' unread' = PacketCame declared unread buffer held declared' unread'
+UnitCame declared unread buffer held came.End declared' unread' = EndCame declared unread declared' unread'
 
 -- how many bytes it has
-abbrev pub size_of : Came → ℕ
-size_of (came.Passed size) = size
-size_of (came.Packet held) = held.size
-size_of came.End = 0
+abbrev pub size_of : Held → Came → ℕ
+size_of held (came.Passed size) = size
+size_of held came.Packet = held.size
+size_of held came.End = 0
 
 -- what holds of it on any device
-abbrev pub IsSized : Came → List ℕ → ℕ → Type 0
-IsSized (came.Passed size) buffer given = (0 < size) × (given < 2 ^ 63)
-IsSized (came.Packet held) buffer given = IsHeld held buffer × (given < 2 ^ 63)
-IsSized came.End buffer given = Unit {0}
+abbrev pub IsSized : Held → Came → List ℕ → ℕ → Type 0
+IsSized held (came.Passed size) buffer given = (0 < size) × (given < 2 ^ 63)
+IsSized held came.Packet buffer given = IsHeld held buffer × (given < 2 ^ 63)
+IsSized held came.End buffer given = Unit {0}
 
 -- ---- what is read
 
@@ -228,13 +228,13 @@ BeginsBlock savefile.Unknown front = is_section front ≡ true
 BeginsBlock (savefile.Pcap head) front = ⊥
 BeginsBlock (savefile.Pcapng order first) front = Unit {0}
 
--- What reading a unit whose first bytes had come did: to the device, to the buffer, and to what is known of the file. A
--- fault leaves what is known.
-pub record ReadsUnit {I : Type 0} (device : Ghosts I) (old : I) (front : List ℕ) (file : Savefile) (interfaces : List Described) (r : Result Came Fault) (new : I) (buffer : List ℕ) (file' : Savefile) (interfaces' : List Described) : Type 0 where
-  pub moves : Moves device old new (length front) size_of most_in_unit r
-  pub sized : IfOk r (λ came. IsSized came buffer (device.given new))
+-- What reading a unit whose first bytes had come did: to the device, to the buffer, to where a packet lies in it, and to
+-- what is known of the file. A fault leaves what is known.
+pub record ReadsUnit {I : Type 0} (device : Ghosts I) (old : I) (front : List ℕ) (file : Savefile) (interfaces : List Described) (r : Result Came Fault) (new : I) (buffer : List ℕ) (held : Held) (file' : Savefile) (interfaces' : List Described) : Type 0 where
+  pub moves : Moves device old new (length front) (size_of held) most_in_unit r
+  pub sized : IfOk r (λ came. IsSized held came buffer (device.given new))
   pub told : OnOk r (IsTold file' interfaces')
-  pub known : IfOk r (HasInterfaceIfAny (declared_by file' interfaces'))
-  pub ok : IfOk r (λ came. IsTrue device.tells → UnitCame (declared_by file interfaces) (front ++ device.unread old) buffer came (declared_by file' interfaces') (device.unread new))
+  pub known : IfOk r (HasInterfaceIfAny (declared_by file' interfaces') held)
+  pub ok : IfOk r (λ came. IsTrue device.tells → UnitCame (declared_by file interfaces) (front ++ device.unread old) buffer held came (declared_by file' interfaces') (device.unread new))
   pub err : IfErr r (λ fault. IsTrue device.tells → Refuses (declared_by file interfaces) (front ++ device.unread old) (device.unread new) fault)
   pub kept : OnErr r ((file' ≡ file) × (interfaces' ≡ interfaces))

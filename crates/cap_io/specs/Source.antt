@@ -54,28 +54,28 @@ source_at unread given failures never_fails = record {
 
 abbrev pub phase_at : Stage → Phase
 phase_at stage.Between = Reading
-phase_at (stage.InHand held) = Reading
+phase_at stage.InHand = Reading
 phase_at stage.Ended = Ended
 phase_at (stage.Failed fault) = Failed fault
 
-abbrev pub block_at : Stage → List ℕ → List ℕ
-block_at stage.Between buffer = []
-block_at (stage.InHand held) buffer = take held.size buffer
-block_at stage.Ended buffer = []
-block_at (stage.Failed fault) buffer = []
+abbrev pub block_at : Stage → Held → List ℕ → List ℕ
+block_at stage.Between held buffer = []
+block_at stage.InHand held buffer = take held.size buffer
+block_at stage.Ended held buffer = []
+block_at (stage.Failed fault) held buffer = []
 
-abbrev pub packet_at : Stage → Declared → List ℕ → Option Captured
-packet_at stage.Between declared buffer = None
-packet_at (stage.InHand held) declared buffer = packet_held declared held (take held.size buffer)
-packet_at stage.Ended declared buffer = None
-packet_at (stage.Failed fault) declared buffer = None
+abbrev pub packet_at : Stage → Held → Declared → List ℕ → Option Captured
+packet_at stage.Between held declared buffer = None
+packet_at stage.InHand held declared buffer = packet_held declared held (take held.size buffer)
+packet_at stage.Ended held declared buffer = None
+packet_at (stage.Failed fault) held declared buffer = None
 
-abbrev pub view_of : Stage → Savefile → List Described → List ℕ → ℕ → List ℕ → ℕ → ℕ → Bool → SourceView
-view_of stage savefile interfaces buffer offset unread given failures never_fails = record {
+abbrev pub view_of : Stage → Held → Savefile → List Described → List ℕ → ℕ → List ℕ → ℕ → ℕ → Bool → SourceView
+view_of stage held savefile interfaces buffer offset unread given failures never_fails = record {
   phase = phase_at stage;
   declared = declared_by savefile interfaces;
-  packet = packet_at stage (declared_by savefile interfaces) buffer;
-  block = block_at stage buffer;
+  packet = packet_at stage held (declared_by savefile interfaces) buffer;
+  block = block_at stage held buffer;
   offset = offset;
   unread = unread;
   given = given;
@@ -83,24 +83,24 @@ view_of stage savefile interfaces buffer offset unread given failures never_fail
   never_fails = never_fails;
 }
 
-abbrev pub HoldsIfAny : Stage → List ℕ → Type 0
-HoldsIfAny stage.Between buffer = Unit {0}
-HoldsIfAny (stage.InHand held) buffer = IsHeld held buffer
-HoldsIfAny stage.Ended buffer = Unit {0}
-HoldsIfAny (stage.Failed fault) buffer = Unit {0}
+abbrev pub HoldsIfAny : Stage → Held → List ℕ → Type 0
+HoldsIfAny stage.Between held buffer = Unit {0}
+HoldsIfAny stage.InHand held buffer = IsHeld held buffer
+HoldsIfAny stage.Ended held buffer = Unit {0}
+HoldsIfAny (stage.Failed fault) held buffer = Unit {0}
 
-abbrev pub HasInterfaceIfInHand : Stage → Declared → Type 0
-HasInterfaceIfInHand stage.Between declared = Unit {0}
-HasInterfaceIfInHand (stage.InHand held) declared = HasInterface declared held
-HasInterfaceIfInHand stage.Ended declared = Unit {0}
-HasInterfaceIfInHand (stage.Failed fault) declared = Unit {0}
+abbrev pub HasInterfaceIfInHand : Stage → Held → Declared → Type 0
+HasInterfaceIfInHand stage.Between held declared = Unit {0}
+HasInterfaceIfInHand stage.InHand held declared = HasInterface declared held
+HasInterfaceIfInHand stage.Ended held declared = Unit {0}
+HasInterfaceIfInHand (stage.Failed fault) held declared = Unit {0}
 
 -- what holds of each source's fields
-pub record IsSound (stage : Stage) (savefile : Savefile) (interfaces : List Described) (offset : ℕ) (buffer : List ℕ) (given : ℕ) : Type 0 where
-  pub fits : offset + length (block_at stage buffer) < 2 ^ 63
-  pub counted : offset + length (block_at stage buffer) ≤ given
-  pub held : HoldsIfAny stage buffer
-  pub known : HasInterfaceIfInHand stage (declared_by savefile interfaces)
+pub record IsSound (stage : Stage) (held : Held) (savefile : Savefile) (interfaces : List Described) (offset : ℕ) (buffer : List ℕ) (given : ℕ) : Type 0 where
+  pub fits : offset + length (block_at stage held buffer) < 2 ^ 63
+  pub counted : offset + length (block_at stage held buffer) ≤ given
+  pub lies : HoldsIfAny stage held buffer
+  pub known : HasInterfaceIfInHand stage held (declared_by savefile interfaces)
   pub told : IsTold savefile interfaces
 
 -- ---- what an advance does
@@ -221,7 +221,7 @@ pub record IsBetween (s : SourceView) : Type 0 where
 
 -- what a source that reads one unit finds there
 abbrev pub FindsNext : SourceView → Result Came Fault → SourceView → Type 0
-FindsNext old (Ok (came.Packet held)) new = FindsPacket old new
+FindsNext old (Ok came.Packet) new = FindsPacket old new
 FindsNext old (Ok (came.Passed size)) new = Passes old new new.unread
 FindsNext old (Ok came.End) new = FindsEnd old new
 FindsNext old (Err fault) new = IsBroken old new fault
@@ -233,9 +233,9 @@ pub record NextBounds (old : SourceView) (r : Result Came Fault) (new : SourceVi
   pub never : new.never_fails ≡ old.never_fails
   pub unfailed : IsTrue old.never_fails → new.failures ≡ old.failures
   pub block : length new.block ≤ most_in_unit
-  pub packet : (held : Held) → r ≡ Ok (came.Packet held) → (old.given < new.given) × (new.given < 2 ^ 63) × (is_some new.packet ≡ true)
+  pub packet : r ≡ Ok came.Packet → (old.given < new.given) × (new.given < 2 ^ 63) × (is_some new.packet ≡ true)
   pub counted : OnOk r (new.given + behind old ≡ old.given + behind new)
   pub broken : OnErr r ((old.given + behind new ≤ new.given + behind old) × (new.given + behind old ≤ old.given + behind new + most_in_unit))
   pub ended : r ≡ Ok came.End → new.phase ≡ Ended
-  pub found : (held : Held) → r ≡ Ok (came.Packet held) → new.phase ≡ Reading
+  pub found : r ≡ Ok came.Packet → new.phase ≡ Reading
   pub passed : (size : ℕ) → r ≡ Ok (came.Passed size) → (old.given < new.given) × (new.given < 2 ^ 63) × IsBetween new

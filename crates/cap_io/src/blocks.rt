@@ -123,19 +123,23 @@ pub(crate) fn read_block<I: Input, A: Allocator>(
     front: &[u8; 12],
     buffer: &mut Vec<u8, A>,
     table: &mut Table<A>,
+    held: &mut Held,
 ) -> Result<Came, Fault>
     requires told { IsTold savefile.old table.old }
     requires begins { BeginsBlock savefile.old front.now }
     requires bounded { I.given input.old < 2 ^ 63 }
     ensures { ReadsUnit I.Input input.old front.now savefile.old table.old result input.new
-        buffer.new.items savefile.new table.new }
+        buffer.new.items held.new savefile.new table.new }
 {
     let found = frame(savefile.order(), front)?;
     let size = found.length as usize;
     make_room(buffer, size)?;
     read_rest(input, front, buffer.as_mut_slice(), size)?;
     match enter(table, &found, &buffer[..size])? {
-        Some(held) => Ok(Came::Packet(held)),
+        Some(spans) => {
+            *held = spans;
+            Ok(Came::Packet)
+        }
         None => {
             *savefile = Savefile::Pcapng(found.order, link_behind(savefile.first_link(), table));
             Ok(Came::Passed(size))

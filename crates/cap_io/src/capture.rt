@@ -6,7 +6,7 @@ ghost use Rattle.cap_io.specs.declared.unit.Savefile.TheVariants as file;
 
 use crate::blocks::read_block;
 use crate::reading::{next_record, read_front, read_header, read_rest};
-use crate::unit::{Came, Savefile};
+use crate::unit::{Came, Held, Savefile};
 use cap_octet::{Fault, Input, read_full};
 use cap_pcapng::{Table, begins_section};
 use std::alloc::Allocator;
@@ -42,17 +42,18 @@ fn first_unit<I: Input, A: Allocator>(
     savefile: &mut Savefile,
     buffer: &mut Vec<u8, A>,
     table: &mut Table<A>,
+    held: &mut Held,
 ) -> Result<Came, Fault>
     requires unknown { savefile.old ≡ file.Unknown }
     requires empty { table.old ≡ [] }
     ensures { ReadsUnit I.Input input.old [] savefile.old table.old result input.new
-        buffer.new.items savefile.new table.new }
+        buffer.new.items held.new savefile.new table.new }
 {
     let first = read_first(input)?;
     if begins_section(&first) {
         let mut front = [0; BLOCK_FRONT];
         read_rest(input, &first, &mut front, BLOCK_FRONT)?;
-        return read_block(input, savefile, &front, buffer, table);
+        return read_block(input, savefile, &front, buffer, table, held);
     }
     *savefile = Savefile::Pcap(read_header(input, &first)?);
     Ok(Came::Passed(FILE_HEADER))
@@ -64,17 +65,18 @@ fn next_block<I: Input, A: Allocator>(
     savefile: &mut Savefile,
     buffer: &mut Vec<u8, A>,
     table: &mut Table<A>,
+    held: &mut Held,
 ) -> Result<Came, Fault>
     requires section { IsTrue (is_some (order_held savefile.old)) }
     requires told { IsTold savefile.old table.old }
     ensures { ReadsUnit I.Input input.old [] savefile.old table.old result input.new
-        buffer.new.items savefile.new table.new }
+        buffer.new.items held.new savefile.new table.new }
 {
     let mut front = [0; BLOCK_FRONT];
     if !read_front(input, &mut front)? {
         return Ok(Came::End);
     }
-    read_block(input, savefile, &front, buffer, table)
+    read_block(input, savefile, &front, buffer, table, held)
 }
 
 /// Reads the next unit of a file of which this much is known, or finds the clean end. A packet
@@ -84,14 +86,15 @@ pub(crate) fn read_unit<I: Input, A: Allocator>(
     savefile: &mut Savefile,
     buffer: &mut Vec<u8, A>,
     table: &mut Table<A>,
+    held: &mut Held,
 ) -> Result<Came, Fault>
     requires { IsTold savefile.old table.old }
     ensures { ReadsUnit I.Input input.old [] savefile.old table.old result input.new
-        buffer.new.items savefile.new table.new }
+        buffer.new.items held.new savefile.new table.new }
 {
     match *savefile {
-        Savefile::Unknown => first_unit(input, savefile, buffer, table),
-        Savefile::Pcap(head) => next_record(input, &head, buffer),
-        Savefile::Pcapng(_, _) => next_block(input, savefile, buffer, table),
+        Savefile::Unknown => first_unit(input, savefile, buffer, table, held),
+        Savefile::Pcap(head) => next_record(input, &head, buffer, held),
+        Savefile::Pcapng(_, _) => next_block(input, savefile, buffer, table, held),
     }
 }

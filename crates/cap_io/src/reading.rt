@@ -106,16 +106,17 @@ pub(crate) fn read_header<I: Input>(input: &mut I, first: &[u8; 4]) -> Result<He
     read_head(&bytes)
 }
 
-/// Reads the next record to the start of the buffer. Its limits are looked at before the buffer
-/// grows.
+/// Reads the next record to the start of the buffer, and writes where its packet lies. Its limits
+/// are looked at before the buffer grows.
 #[inline(always)]
 pub(crate) fn next_record<I: Input, A: Allocator>(
     input: &mut I,
     head: &Head,
     buffer: &mut Vec<u8, A>,
+    held: &mut Held,
 ) -> Result<Came, Fault>
     ensures { (interfaces : List Described) → ReadsUnit I.Input input.old [] (file.Pcap head.now)
-        interfaces result input.new buffer.new.items (file.Pcap head.now) interfaces }
+        interfaces result input.new buffer.new.items held.new (file.Pcap head.now) interfaces }
 {
     let mut front = [0; RECORD_HEAD];
     if !read_front(input, &mut front)? {
@@ -125,12 +126,13 @@ pub(crate) fn next_record<I: Input, A: Allocator>(
     let size = RECORD_HEAD + found.captured as usize;
     make_room(buffer, size)?;
     read_rest(input, &front, buffer.as_mut_slice(), size)?;
-    Ok(Came::Packet(Held {
+    *held = Held {
         size: size as u32,
         bytes: Span::new(RECORD_HEAD as u32, found.captured),
         options: Span::new(RECORD_HEAD as u32, 0),
         interface: 0,
         time: found.time,
         orig: found.orig,
-    }))
+    };
+    Ok(Came::Packet)
 }

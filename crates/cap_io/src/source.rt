@@ -22,7 +22,8 @@ pub enum Kind {
 pub(crate) enum Stage {
     /// The next unit was not read yet.
     Between,
-    InHand(Held),
+    /// A packet is current.
+    InHand,
     /// The clean end was met.
     Ended,
     Failed(Fault),
@@ -37,6 +38,8 @@ pub struct Source<I: Input, A: Allocator> {
     table: Table<A>,
     savefile: Savefile,
     stage: Stage,
+    /// Where the current packet lies, where there is one.
+    held: Held,
     offset: u64,
 }
 
@@ -45,11 +48,11 @@ impl<I: Input, A: Allocator> Model for Source<I, A> {
 
     ghost Value = { SourceView };
 
-    ghost view = { λ s. view_of s.stage s.savefile s.table s.buffer.items s.offset
+    ghost view = { λ s. view_of s.stage s.held s.savefile s.table s.buffer.items s.offset
         (I.unread s.input) (I.given s.input) (I.failures s.input) (I.never_fails s.input) };
 
-    ghost invariant = { λ s. IsSound s.stage s.savefile s.table s.offset s.buffer.items
-        (I.given s.input) };
+    ghost invariant = { λ s. IsSound s.stage s.held s.savefile s.table s.offset
+        s.buffer.items (I.given s.input) };
 }
 
 impl<I: Input, A: Allocator> Source<I, A> {
@@ -75,6 +78,7 @@ impl<I: Input, A: Allocator> Source<I, A> {
             table: Table::new(alloc),
             savefile: Savefile::Unknown,
             stage: Stage::Between,
+            held: Held::none(),
             offset: 0,
         }
     }
@@ -93,7 +97,7 @@ impl<I: Input, A: Allocator> Source<I, A> {
         match self.stage {
             Stage::Ended => Ok(false),
             Stage::Failed(fault) => Err(fault),
-            Stage::Between | Stage::InHand(_) => {
+            Stage::Between | Stage::InHand => {
                 let answer = self.go_on();
                 self.table.bounds();
                 if let Err(fault) = answer {
@@ -109,9 +113,10 @@ impl<I: Input, A: Allocator> Source<I, A> {
         ensures packet { option_map captured result ≡ self.now.packet }
         ensures short { IfSome result (λ packet. length packet.bytes.now ≤ most_in_unit) }
     {
-        let Stage::InHand(held) = self.stage else {
+        let Stage::InHand = self.stage else {
             return None;
         };
+        let held = &self.held;
         let bytes = held.bytes.of(&self.buffer);
         match self.savefile {
             Savefile::Unknown => None,
@@ -146,7 +151,7 @@ impl<I: Input, A: Allocator> Source<I, A> {
         ensures { result ≡ option_map (λ p. p.time) self.now.packet }
     {
         match self.stage {
-            Stage::InHand(held) => Some(held.time),
+            Stage::InHand => Some(self.held.time),
             Stage::Between | Stage::Ended | Stage::Failed(_) => None,
         }
     }
@@ -204,7 +209,7 @@ impl<I: Input, A: Allocator> Source<I, A> {
         self.leave();
         loop {
             match self.next()? {
-                Came::Packet(_) => return Ok(true),
+                Came::Packet => return Ok(true),
                 Came::End => return Ok(false),
                 Came::Passed(_) => {}
             }
@@ -216,8 +221,8 @@ impl<I: Input, A: Allocator> Source<I, A> {
         requires { self.old.phase ≡ Reading }
         ensures { self.new ≡ left self.old }
     {
-        if let Stage::InHand(held) = self.stage {
-            self.offset += held.size as u64;
+        if let Stage::InHand = self.stage {
+            self.offset += u64::from(self.held.size);
         }
         self.stage = Stage::Between;
     }
@@ -234,9 +239,10 @@ impl<I: Input, A: Allocator> Source<I, A> {
             &mut self.savefile,
             &mut self.buffer,
             &mut self.table,
+            &mut self.held,
         )?;
         match came {
-            Came::Packet(held) => self.stage = Stage::InHand(held),
+            Came::Packet => self.stage = Stage::InHand,
             Came::Passed(size) => self.offset += size as u64,
             Came::End => self.stage = Stage::Ended,
         }

@@ -65,7 +65,8 @@ impl Span {
     }
 }
 
-/// The current packet, whose unit is at the start of the block buffer.
+/// Where a packet lies in its unit, which is at the start of the block buffer, and what is in front
+/// of its data.
 #[derive(Clone, Copy, Debug, PartialEq, Eq)]
 pub(crate) struct Held {
     /// The size of its unit, in bytes.
@@ -82,12 +83,27 @@ pub(crate) struct Held {
     pub(crate) orig: u32,
 }
 
+impl Held {
+    /// Of no packet.
+    pub(crate) fn none() -> Self {
+        Held {
+            size: 0,
+            bytes: Span::new(0, 0),
+            options: Span::new(0, 0),
+            interface: 0,
+            time: 0,
+            orig: 0,
+        }
+    }
+}
+
 /// What came of a read of one unit.
 #[derive(Clone, Copy, Debug, PartialEq, Eq)]
 pub(crate) enum Came {
     /// A unit of so many bytes, without a packet.
     Passed(usize),
-    Packet(Held),
+    /// A packet; where it lies was written.
+    Packet,
     /// The clean end.
     End,
 }

@@ -6,6 +6,7 @@ ghost use Rattle.cap_pcap.specs.Encoding.{IsPcap, fit_checks, resolution_of};
 ghost use Rattle.cap_pcapng.specs.Encoding.{fit_checks as block_fit_checks};
 ghost use Rattle.cap_io.specs.Text.{record_text};
 ghost use Rattle.cap_io.specs.Sink.{Appends, block_text, checks_in, heading_in};
+ghost use Rattle.cap_io.specs.declared.sink.SinkState.TheVariants as state;
 
 use crate::numbering::{OutputInterfaces, Place};
 use crate::sink::SinkState;
@@ -43,7 +44,20 @@ pub(crate) fn check<A: Allocator>(
     }
 }
 
-/// Writes what a file begins with where nothing was put: a file header, or a section header.
+/// Writes what a file begins with: a file header, or a section header.
+#[cold]
+#[inline(never)]
+fn begin<O: Output>(output: &mut O, format: Format, link: u16) -> Result<(), DeviceFault>
+    ensures { Appends O.Output output.old (heading_in format state.Empty link) result output.new }
+{
+    match format {
+        Format::Pcap | Format::NsecPcap => write_parts(output, &[&head_bytes(format, link)]),
+        Format::Pcapng => write_parts(output, &[&section_bytes()]),
+    }
+}
+
+/// Writes what a file begins with where nothing was put.
+#[inline(always)]
 pub(crate) fn write_heading<O: Output>(
     output: &mut O,
     format: Format,
@@ -54,10 +68,7 @@ pub(crate) fn write_heading<O: Output>(
 {
     match state {
         SinkState::Started(_) | SinkState::Broken(_) => Ok(()),
-        SinkState::Empty => match format {
-            Format::Pcap | Format::NsecPcap => write_parts(output, &[&head_bytes(format, link)]),
-            Format::Pcapng => write_parts(output, &[&section_bytes()]),
-        },
+        SinkState::Empty => begin(output, format, link),
     }
 }
 

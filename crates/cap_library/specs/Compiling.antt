@@ -5,9 +5,9 @@ use Rattle.flt_bpf.specs.declared.insn.Insn.{Insn}
 use Rattle.flt_words.specs.declared.fault.ExprFault.TheVariants as fault
 use Rattle.flt_words.specs.Messages as messages
 use Rattle.flt_gen.specs.declared.link.Link.{Link}
-use Rattle.cap_tools.specs.Compilation.{IsCompiled}
-use Rattle.cap_tools.specs.Expressions.{IsReasonFor}
-use Rattle.cap_tools.specs.Links.{link_of}
+use Rattle.cap_filter.specs.Compilation.{IsCompiled}
+use Rattle.cap_filter.specs.Expressions.{IsReasonFor}
+use Rattle.cap_filter.specs.Links.{link_of}
 use Rattle.cap_library.specs.declared.compiling.Failure.{Failure}
 use Rattle.cap_library.specs.declared.compiling.Failure.TheVariants.{Text, NotUtf8, LinkType, NoRoom}
 

@@ -1,10 +1,10 @@
 //! Compilations into the caller's memory.
 ghost use Rattle.std.specs.Prelude.{◌≡◌, ◌≤◌, IfOk, IfErr, OnErr, length};
-ghost use Rattle.cap_tools.specs.Links.{link_of};
+ghost use Rattle.cap_filter.specs.Links.{link_of};
 ghost use Rattle.cap_library.specs.Compiling.{CompileLeaves, IsFailure, Writes, number_of};
 ghost use Rattle.cap_library.specs.Compiling.{status_of};
 
-use cap_tools::compile::compile_text;
+use cap_filter::compile::compile_text;
 use flt_bpf::Insn;
 use flt_gen::Link;
 use flt_words::ExprFault;
@@ -24,7 +24,7 @@ pub enum Failure {
 }
 
 /// The link of a link type.
-#[tactic(auto, unfolding(cap_tools::specs::Links::link_types))]
+#[tactic(auto, unfolding(cap_filter::specs::Links::link_types))]
 fn link_of(number: u16) -> Option<Link>
     ensures { result ≡ link_of number }
 {
@@ -69,7 +69,7 @@ fn compile_into(
 
 impl Failure {
     /// The status that C sees.
-    fn status(self) -> u32
+    pub(crate) fn status(self) -> u32
         ensures { result ≡ status_of self }
     {
         match self {
@@ -93,7 +93,7 @@ impl Failure {
     }
 
     /// The place, or the room that is needed, that C sees beside it; else 0.
-    fn number(self) -> usize
+    pub(crate) fn number(self) -> usize
         ensures { result ≡ number_of self }
     {
         match self {

@@ -10,7 +10,7 @@ use cap_memory::{Found, Interface, Packet, Reader, comment_of, next_unit};
 use cap_octet::Fault;
 
 /// The number of a fault.
-fn fault_number(fault: Fault) -> u32
+pub(crate) fn fault_number(fault: Fault) -> u32
     ensures { result ≡ fault_number fault }
 {
     match fault {

@@ -57,7 +57,7 @@ pub(crate) fn put(bytes: &[u8], buffer: &mut [u8]) -> usize
     bytes.len()
 }
 
-/// What a number of a reading is called; nothing where none has it.
+/// What a number of a reading or a write is called; nothing where none has it.
 fn found_text(number: u32) -> &'static str
     ensures { result.now ≡ found_text number }
 {
@@ -76,9 +76,11 @@ fn found_text(number: u32) -> &'static str
         12 => Fault::BadTimeResolution.text(),
         13 => Fault::BadLinkTypeField.text(),
         14 => Fault::ObsoletePacketBlock.text(),
+        21 => Fault::TooManyOutputInterfaces.text(),
         22 => "end",
         23 => "no packet",
         24 => "no room for the interface",
+        25 => "no room in the buffer",
         _ => "",
     }
 }
@@ -103,7 +105,7 @@ pub extern "C" fn capkit_rule_text(rule: u32, buffer: &mut [u8]) -> usize
     put(rule_text(rule).as_bytes(), buffer)
 }
 
-/// Puts what a number of a reading is called into a buffer, and gives its length.
+/// Puts what a number of a reading or a write is called into a buffer, and gives its length.
 #[unsafe(no_mangle)]
 pub extern "C" fn capkit_found_text(number: u32, buffer: &mut [u8]) -> usize
     ensures count { result ≡ length (found_text number) }

@@ -3,3 +3,4 @@ pub mod Savefiles
 pub mod Stands
 pub mod Fronts
 pub mod Leaves
+pub mod Writes

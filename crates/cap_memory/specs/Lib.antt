@@ -1,3 +1,4 @@
 pub mod Layout
 pub mod Blocks
 pub mod Units
+pub mod Writing

@@ -1,11 +1,15 @@
-//! Captures that lie in memory, pcap and pcapng, one unit at a time. What is known of one between
-//! two units is the caller's, in C's layout, and nothing here takes memory.
+//! Captures in memory, pcap and pcapng, one unit at a time, read and written. What is known of one
+//! that is read, between two units, is the caller's, in C's layout. Nothing here takes memory.
 #![tactic(auto)]
 
 mod block;
 mod layout;
 mod pcap;
 mod reader;
+mod writing;
 
 pub use layout::{Interface, Packet, Reader};
 pub use reader::{Found, comment_of, next_unit};
+pub use writing::{
+    Written, write_file_header, write_interface, write_packet, write_record, write_section,
+};

@@ -1,4 +1,5 @@
 pub mod Checks
+pub mod Dates
 pub mod Days
 pub mod Digits
 pub mod Numbers

@@ -21,6 +21,10 @@ day_text d = digits 4 d.year ++ 45 ∷ digits 2 d.month ++ 45 ∷ digits 2 d.day
 abbrev pub clock_text : ℕ → List ℕ
 clock_text s = digits 2 (s / 3600 % 24) ++ 58 ∷ digits 2 (s / 60 % 60) ++ 58 ∷ digits 2 (s % 60)
 
+-- YYYY-MM-DD hh:mm:ss and a point, of a number of seconds since 1970-01-01 00:00:00 UTC
+unfoldable pub second_text : ℕ → List ℕ
+second_text s = day_text (day_from_epoch (s / 86_400)) ++ 32 ∷ clock_text s ++ 46 ∷ []
+
 -- YYYY-MM-DD hh:mm:ss.nnnnnnnnn
 unfoldable pub date_text : ℕ → List ℕ
 date_text t =

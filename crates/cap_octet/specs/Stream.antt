@@ -1,8 +1,11 @@
 -- What the answer of a device over a reader or a writer of std has to do with that one's.
-use Rattle.std.specs.Prelude.{◌≡◌, ℕ, ◌+◌, ◌^◌, ◌≤◌, ◌<◌, List, length, Option, Result, Ok, Err}
+use Rattle.std.specs.Prelude.{◌≡◌, ℕ, ◌+◌, ◌^◌, ◌≤◌, ◌<◌, List, length, Option, Some, Result, Ok, Err}
 use Rattle.std.specs.Io.{ReadsAtMost, WritesAtMost}
 use Rattle.std.specs.Io.KnownBytes.{ReadConsumes, WriteAppends}
+use Rattle.std.specs.IoError.{error_kind}
 use Rattle.std.specs.declared.io.Error.{Error}
+use Rattle.std.specs.declared.io.ErrorKind.{ErrorKind}
+use Rattle.std.specs.declared.io.ErrorKind.TheVariants.{WriteZero}
 use Rattle.cap_octet.specs.declared.device.DeviceFault.{DeviceFault}
 
 -- The reader's answer, where so many bytes were given before: but a read that would reach 2^63 bytes in all is a
@@ -28,9 +31,17 @@ TakesOver buf (Ok n) (Err fault) = (n ≡ 0) × (0 < length buf)
 TakesOver buf (Err e) (Ok count) = ⊥
 TakesOver buf (Err e) (Err fault) = Unit {0}
 
+-- Why the writer failed last: as its own error says, or since it took nothing of some bytes. A write that succeeds leaves
+-- what was known.
+abbrev pub cause_after : Option ErrorKind → Result ℕ Error → Result ℕ DeviceFault → Option ErrorKind
+cause_after cause answer (Ok count) = cause
+cause_after cause (Ok n) (Err fault) = Some WriteZero
+cause_after cause (Err e) (Err fault) = Some (error_kind e)
+
 -- one write of these bytes to a writer, and what the device makes of its answer
-pub record IsOneWrite (contents : Option (List ℕ)) (buf : List ℕ) (result : Result ℕ DeviceFault) (contents' : Option (List ℕ)) : Type 0 where
+pub record IsOneWrite (contents : Option (List ℕ)) (cause : Option ErrorKind) (buf : List ℕ) (result : Result ℕ DeviceFault) (contents' : Option (List ℕ)) (cause' : Option ErrorKind) : Type 0 where
   pub answer : Result ℕ Error
   pub bound : WritesAtMost answer buf
   pub bytes : WriteAppends contents contents' answer buf
   pub hands : TakesOver buf answer result
+  pub why : cause' ≡ cause_after cause answer result

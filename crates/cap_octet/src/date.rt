@@ -1,21 +1,39 @@
 //! Times as printed dates.
 ghost use Rattle.std.specs.Prelude.{◌≡◌, ◌^◌, ◌+◌, ◌%◌, ◌<◌};
 ghost use Rattle.cap_octet.specs.Calendar.{ymd};
-ghost use Rattle.cap_octet.specs.Date.{clock_text, date_text, day_text, digits};
+ghost use Rattle.cap_octet.specs.Date.{clock_text, date_text, day_text, digits, second_text};
 
 use crate::calendar::{CalendarDay, calendar_day};
 
 /// Nanoseconds in a second.
 pub const NANOS_PER_SECOND: u64 = 1_000_000_000;
 
-/// Nanoseconds in a day.
-const NANOS_PER_DAY: u64 = 86_400 * NANOS_PER_SECOND;
+/// Seconds in a day.
+const SECONDS_PER_DAY: u64 = 86_400;
+
+/// The two digits of each number below 100, in ASCII.
+static PAIRS: [u8; 200] = *b"\
+    0001020304050607080910111213141516171819\
+    2021222324252627282930313233343536373839\
+    4041424344454647484950515253545556575859\
+    6061626364656667686970717273747576777879\
+    8081828384858687888990919293949596979899";
 
 /// The last decimal digit, in ASCII.
 fn last_digit(number: u32) -> u8
     ensures { result ≡ 48 + number % 10 }
 {
     b'0' + (number % 10) as u8
+}
+
+/// The two decimal digits of a number below 100, in ASCII.
+#[inline]
+pub fn two_digits(number: u32) -> [u8; 2]
+    requires { number < 100 }
+    ensures { result ≡ digits 2 number }
+{
+    let place = 2 * number as usize;
+    [PAIRS[place], PAIRS[place + 1]]
 }
 
 /// `YYYY-MM-DD`.
@@ -57,35 +75,39 @@ fn clock_bytes(seconds: u64) -> [u8; 8]
 }
 
 /// The last nine decimal digits, in ASCII.
+#[inline]
 pub fn nine_digits(number: u32) -> [u8; 9]
     ensures { result ≡ digits 9 number }
 {
-    [
-        last_digit(number / 10 / 10 / 10 / 10 / 10 / 10 / 10 / 10),
-        last_digit(number / 10 / 10 / 10 / 10 / 10 / 10 / 10),
-        last_digit(number / 10 / 10 / 10 / 10 / 10 / 10),
-        last_digit(number / 10 / 10 / 10 / 10 / 10),
-        last_digit(number / 10 / 10 / 10 / 10),
-        last_digit(number / 10 / 10 / 10),
-        last_digit(number / 10 / 10),
-        last_digit(number / 10),
-        last_digit(number),
-    ]
+    let [b, c] = two_digits(number / 1_000_000 % 100);
+    let [d, e] = two_digits(number / 10_000 % 100);
+    let [f, g] = two_digits(number / 100 % 100);
+    let [h, i] = two_digits(number % 100);
+    [last_digit(number / 100_000_000), b, c, d, e, f, g, h, i]
+}
+
+/// The date of a second since 1970-01-01 00:00:00 UTC, and a point: `YYYY-MM-DD hh:mm:ss.`, in UTC.
+#[tactic(auto, unfolding(crate::specs::Date::second_text))]
+pub fn second_bytes(second: u64) -> [u8; 20]
+    requires { second < 2 ^ 34 }
+    ensures { result ≡ second_text second }
+{
+    let day = calendar_day(second / SECONDS_PER_DAY);
+    let mut bytes = [b' '; 20];
+    bytes[..10].copy_from_slice(&day_bytes(day));
+    bytes[11..19].copy_from_slice(&clock_bytes(second));
+    bytes[19] = b'.';
+    bytes
 }
 
 /// The date of a time in nanoseconds since 1970-01-01 00:00:00 UTC: `YYYY-MM-DD
 /// hh:mm:ss.nnnnnnnnn`, in UTC.
-#[tactic(auto, unfolding(crate::specs::Date::date_text))]
 pub fn date_bytes(time: u64) -> [u8; 29]
     requires { time < 2 ^ 63 }
     ensures { result ≡ date_text time }
 {
-    let day = calendar_day(time / NANOS_PER_DAY);
-    let nanos = (time % NANOS_PER_SECOND) as u32;
     let mut bytes = [b' '; 29];
-    bytes[..10].copy_from_slice(&day_bytes(day));
-    bytes[11..19].copy_from_slice(&clock_bytes(time / NANOS_PER_SECOND));
-    bytes[19] = b'.';
-    bytes[20..].copy_from_slice(&nine_digits(nanos));
+    bytes[..20].copy_from_slice(&second_bytes(time / NANOS_PER_SECOND));
+    bytes[20..].copy_from_slice(&nine_digits((time % NANOS_PER_SECOND) as u32));
     bytes
 }

@@ -1,6 +1,6 @@
 //! Devices: what a contract sees of bytes that come and go.
 ghost use Rattle.std.specs.Prelude.{◌≡◌, ℕ, ◌+◌, ◌^◌, ◌<◌, ◌≤◌, Bool, IsTrue, List, length, IfOk};
-ghost use Rattle.std.specs.Prelude.{IfErr};
+ghost use Rattle.std.specs.Prelude.{IfErr, false};
 ghost use Rattle.std.specs.List.{flat_map};
 ghost use Rattle.cap_octet.specs.Device.{AppendsOrStops, Reads, Fills, Writes, WritesAll};
 ghost use Rattle.cap_octet.specs.Device.{WritesParts, count_of, failures_of};
@@ -30,8 +30,9 @@ pub trait Input {
     /// How often it failed. Contracts alone see this, and it has no greatest value.
     ghost failures: { Self → ℕ };
 
-    /// Whether it never fails, whatever is read. No call changes that.
-    ghost never_fails: { Self → Bool };
+    /// Whether it never fails, whatever is read. No call changes that. Where a device doesn't give
+    /// this it may fail.
+    ghost never_fails: { Self → Bool } = { λ _. false };
 
     /// Reads into the start of the buffer and returns how many bytes came. None for a buffer that
     /// isn't empty means the end. An error is a failure of the device in this call: it gave nothing
@@ -45,7 +46,8 @@ pub trait Input {
         ensures told { IsTrue tells
             → Reads (unread self.old) buf.old result (unread self.new) buf.new };
 
-    /// A device that never fails did not fail before.
+    /// A device that never fails did not fail before. `Prim.search rules` proves it of one that may
+    /// fail.
     ghost unfailed: { (s : Self) → IsTrue (never_fails s) → failures s ≡ 0 };
 }
 
@@ -60,8 +62,9 @@ pub trait Output {
     /// How often it failed. Contracts alone see this, and it has no greatest value.
     ghost failures: { Self → ℕ };
 
-    /// How many bytes in all it takes at least before it fails. No call changes that.
-    ghost room: { Self → ℕ };
+    /// How many bytes in all it takes at least before it fails. No call changes that. Where a device
+    /// doesn't give this it is none.
+    ghost room: { Self → ℕ } = { λ _. 0 };
 
     /// Writes a prefix of the bytes, at least one if there is one, and returns how many. An error
     /// is a failure of the device in this call: it took nothing.
@@ -72,7 +75,8 @@ pub trait Output {
         ensures room { room self.new ≡ room self.old }
         ensures told { IsTrue tells → Writes (written self.old) buf.now result (written self.new) };
 
-    /// A device that failed had taken as many bytes as it has room for.
+    /// A device that failed had taken as many bytes as it has room for. `Prim.search rules` proves
+    /// it where the room is none.
     ghost filled: { (s : Self) → 0 < failures s → room s ≤ length (written s) };
 }
 

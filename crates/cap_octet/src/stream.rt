@@ -70,8 +70,6 @@ impl<R: Read> Input for StdInput<R> {
 
     ghost failures = { λ s. s.failures.count };
 
-    ghost never_fails = { λ _. false };
-
     /// One read of the reader with this buffer, whose answer it hands over.
     // Mostly the reader holds as many bytes already. They are taken here, without the errors of std,
     // which are large and would be made room for each time.
@@ -143,9 +141,8 @@ impl<W: Write + Drop> StdOutput<W> {
         ensures within { IfOk result (λ n. n ≤ length buf.now) }
         ensures some { IfOk result (λ n. 0 < length buf.now → 0 < n) }
         ensures failed { self.new.failures.count ≡ self.old.failures.count + failures_of result }
-        ensures cause { is_some self.new.cause ≡ (is_some self.old.cause || is_err result) }
-        ensures passes { IsOneWrite (writer_contents W.contents self.old.writer) buf.now result
-            (writer_contents W.contents self.new.writer) }
+        ensures passes { IsOneWrite (writer_contents W.contents self.old.writer) self.old.cause
+            buf.now result (writer_contents W.contents self.new.writer) self.new.cause }
     {
         let cause = match self.writer.write(buf) {
             Ok(count) if 0 < count || buf.is_empty() => return Ok(count),
@@ -164,9 +161,8 @@ impl<W: Write + Drop> StdOutput<W> {
         ensures within { IfOk result (λ n. n ≤ length buf.now) }
         ensures some { IfOk result (λ n. 0 < length buf.now → 0 < n) }
         ensures failed { self.new.failures.count ≡ self.old.failures.count + failures_of result }
-        ensures cause { is_some self.new.cause ≡ (is_some self.old.cause || is_err result) }
-        ensures passes { IsOneWrite (writer_contents W.contents self.old.writer) buf.now result
-            (writer_contents W.contents self.new.writer) }
+        ensures passes { IsOneWrite (writer_contents W.contents self.old.writer) self.old.cause
+            buf.now result (writer_contents W.contents self.new.writer) self.new.cause }
     {
         self.write_once(buf)
     }
@@ -179,8 +175,6 @@ impl<W: Write + Drop> Output for StdOutput<W> {
 
     ghost failures = { λ s. s.failures.count };
 
-    ghost room = { λ _. 0 };
-
     /// One write of the writer with these bytes, whose answer it hands over.
     // Both ways do the same. Where the buffer has room the compiler sees that no write of the
     // system and no error can come.
@@ -191,9 +185,8 @@ impl<W: Write + Drop> Output for StdOutput<W> {
         ensures failed { self.new.failures.count ≡ self.old.failures.count + failures_of result }
         ensures room { ◌≡◌ {A = ℕ} 0 0 }
         ensures told { IsTrue false → Writes [] buf.now result [] }
-        ensures cause { is_some self.new.cause ≡ (is_some self.old.cause || is_err result) }
-        ensures passes { IsOneWrite (writer_contents W.contents self.old.writer) buf.now result
-            (writer_contents W.contents self.new.writer) }
+        ensures passes { IsOneWrite (writer_contents W.contents self.old.writer) self.old.cause
+            buf.now result (writer_contents W.contents self.new.writer) self.new.cause }
     {
         if buf.len() < self.writer.capacity() - self.writer.buffer().len() {
             self.write_once(buf)

@@ -1,7 +1,7 @@
 //! What std's readers and writers give and take through capkit's devices, a few bytes a call and
 //! where they fail.
 use cap_octet::{DeviceFault, Input, Output, StdInput, StdOutput, read_full, write_all};
-use std::io::{BufReader, BufWriter, Cursor, ErrorKind, Read, Write};
+use std::io::{BufReader, BufWriter, Cursor, Error, ErrorKind, Read, Result, Write};
 
 /// Whether the next read, of at most two bytes, gives these.
 fn gives<I: Input>(input: &mut I, bytes: &[u8]) -> bool {
@@ -55,4 +55,41 @@ fn a_full_writer_takes_a_front(rt: HostRuntime) {
     let (writer, cause) = output.into_inner();
     assert!(rt; cause == Some(ErrorKind::WriteZero));
     assert!(rt; *writer.get_ref().get_ref() == *b"abcab");
+}
+
+/// Fails for want of room, and at every later call since its reader went away.
+#[derive(Drop)]
+struct Failing {
+    called: bool,
+}
+
+impl Write for Failing {
+    fn write(&mut self, _buf: &[u8]) -> Result<usize> {
+        let kind = if self.called {
+            ErrorKind::BrokenPipe
+        } else {
+            ErrorKind::StorageFull
+        };
+        self.called = true;
+        Err(Error::from(kind))
+    }
+
+    fn flush(&mut self) -> Result<()> {
+        Ok(())
+    }
+}
+
+/// Of several causes the last one is known.
+#[test]
+fn the_last_cause_is_kept(rt: HostRuntime) {
+    for (writes, wanted) in [(1, ErrorKind::StorageFull), (2, ErrorKind::BrokenPipe)] {
+        let writer = Failing { called: false };
+        let writer = BufWriter::with_capacity(rt.alloc(), 0, writer).expect(&rt, "memory");
+        let mut output = StdOutput::new(writer);
+        for _ in 0..writes {
+            assert!(rt; output.write(b"a") == Err(DeviceFault));
+        }
+        let (_, cause) = output.into_inner();
+        assert!(rt; cause == Some(wanted));
+    }
 }

@@ -11,7 +11,7 @@ mod manual;
 mod zsh;
 
 use crate::help::Help;
-use cap_line::{Usage, command_of};
+use capkit::{Usage, command_of};
 use std::alloc::Global;
 use std::test::Fail;
 

@@ -142,6 +142,40 @@ pub fn read_record(head: &Head, bytes: &[u8; 16]) -> Result<RecordHead, Fault>
     ensures in_range { IfOk result (λ found. found.time < 2 ^ 63) }
     ensures short { IfOk result (λ found. found.captured ≤ most_captured) }
 {
+    // Most files are of this order and resolution. Where both are known, no choice is left.
+    if let (Order::Little, Resolution::Microseconds) = (head.order, head.resolution) {
+        let usual = Head {
+            order: Order::Little,
+            resolution: Resolution::Microseconds,
+            ..*head
+        };
+        return read_fields(&usual, bytes);
+    }
+    read_unusual(head, bytes)
+}
+
+/// The same, out of the way of the usual files.
+#[cold]
+#[inline(never)]
+fn read_unusual(head: &Head, bytes: &[u8; 16]) -> Result<RecordHead, Fault>
+    ensures answer { result
+        ≡ checked (first_failing (field_checks head.now bytes.now))
+        (record_head_in head.now bytes.now) }
+    ensures in_range { IfOk result (λ found. found.time < 2 ^ 63) }
+    ensures short { IfOk result (λ found. found.captured ≤ most_captured) }
+{
+    read_fields(head, bytes)
+}
+
+/// The same, each field by itself.
+#[inline(always)]
+fn read_fields(head: &Head, bytes: &[u8; 16]) -> Result<RecordHead, Fault>
+    ensures answer { result
+        ≡ checked (first_failing (field_checks head.now bytes.now))
+        (record_head_in head.now bytes.now) }
+    ensures in_range { IfOk result (λ found. found.time < 2 ^ 63) }
+    ensures short { IfOk result (λ found. found.captured ≤ most_captured) }
+{
     let captured = u32_at(head.order, bytes, 8);
     if captured > MOST_CAPTURED {
         return Err(Fault::TooLong);

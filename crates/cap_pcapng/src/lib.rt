@@ -21,4 +21,7 @@ pub use interface::{Interface, Name};
 pub use options::{BlockOption, Options};
 pub use read::{begins_section, block, frame};
 pub use table::Table;
-pub use write::{fits, section_bytes, write_interface, write_packet};
+pub use write::{
+    fits, interface_end, interface_head, option_head, packet_end, packet_head, padding_behind,
+    section_bytes, write_interface, write_packet,
+};

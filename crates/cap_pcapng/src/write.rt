@@ -50,7 +50,7 @@ pub fn section_bytes() -> [u8; 28]
 }
 
 /// How many zeros stand behind so many bytes.
-fn padding_behind(length: usize) -> usize
+pub fn padding_behind(length: usize) -> usize
     ensures padded { length + result ≡ padded length }
     ensures few { result < 4 }
 {
@@ -58,7 +58,7 @@ fn padding_behind(length: usize) -> usize
 }
 
 /// A packet block's type, total length, interface, time, captured length and original length.
-fn packet_head(size: u32, number: u32, packet: &Packet<'_>) -> [u8; 28]
+pub fn packet_head(size: u32, number: u32, packet: &Packet<'_>) -> [u8; 28]
     requires { length packet.now.bytes.now < 2 ^ 32 }
     ensures { result ≡ packet_heading size number (captured packet.now) }
 {
@@ -74,7 +74,7 @@ fn packet_head(size: u32, number: u32, packet: &Packet<'_>) -> [u8; 28]
 }
 
 /// An option's code and length, behind three bytes of padding.
-fn option_head(code: u16, value: &[u8]) -> [u8; 7]
+pub fn option_head(code: u16, value: &[u8]) -> [u8; 7]
     requires { length value.now < 2 ^ 16 }
     ensures { result ≡ replicate 3 0 ++ (little_bytes 2 code ++ little_bytes 2 (length value.now)) }
 {
@@ -85,7 +85,7 @@ fn option_head(code: u16, value: &[u8]) -> [u8; 7]
 }
 
 /// A packet block's total length, behind seven zeros: three of padding, and the end of the options.
-fn packet_end(size: u32) -> [u8; 11]
+pub fn packet_end(size: u32) -> [u8; 11]
     ensures { result ≡ replicate 7 0 ++ little_bytes 4 size }
 {
     let mut bytes = [0; 11];
@@ -123,7 +123,7 @@ pub fn write_packet<O: Output>(
 }
 
 /// An interface block's type, total length, link type and snap length.
-fn interface_head(size: u32, packet: &Packet<'_>) -> [u8; 16]
+pub fn interface_head(size: u32, packet: &Packet<'_>) -> [u8; 16]
     ensures { result ≡ interface_heading size packet.now.link packet.now.snap }
 {
     let mut bytes = [0; 16];
@@ -136,7 +136,7 @@ fn interface_head(size: u32, packet: &Packet<'_>) -> [u8; 16]
 
 /// What is behind an interface's name: three bytes of padding, the resolution of nanoseconds, the
 /// end of the options, the total length.
-fn interface_end(size: u32) -> [u8; 19]
+pub fn interface_end(size: u32) -> [u8; 19]
     ensures { result ≡ replicate 3 0 ++ (resolution_text ++ end_text ++ little_bytes 4 size) }
 {
     let mut bytes = [0; 19];

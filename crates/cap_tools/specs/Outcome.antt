@@ -1,46 +1,186 @@
--- What a run of a command leaves: the output, the messages and the status.
-use Rattle.std.specs.Prelude.{◌≡◌, ℕ, ◌+◌, ◌<◌, Bool, IsTrue, List, [], ◌++◌, length, take, Result}
-use Rattle.cap_octet.specs.Device.{AppendsOrStops, failures_of}
-use Rattle.cap_octet.specs.declared.device.DeviceFault.{DeviceFault}
-use Rattle.cap_tools.specs.Messages.{write_failed_message}
+-- What a job makes of the packets that come: the output, the message and the status.
+use Rattle.std.specs.Prelude.{ℕ, ◌+◌, List, [], ◌∷◌, ◌++◌, map, Option, None, Some, unwrap_or}
+use Rattle.std.specs.List.{flat_map}
+use Rattle.std.specs.Option.{option_or}
+use Rattle.cap_octet.specs.Packet.{Captured}
+use Rattle.cap_octet.specs.declared.fault.Fault.{Fault}
+use Rattle.cap_octet.specs.declared.format.Format.{Format}
+use Rattle.cap_io.specs.declared.source.Kind.{Kind}
+use Rattle.cap_io.specs.Capture.{Placed, first_link_of}
+use Rattle.cap_io.specs.Text.{added, heading, text, refused}
+use Rattle.cap_print.specs.declared.print.Options.{Options}
+use Rattle.cap_print.specs.Rendering.{printed}
+use Rattle.cap_filter.specs.Messages.{fault_message}
+use Rattle.cap_tools.specs.Sequence.{Event, Packet, InputEnd, SequenceEnd, Complete, FaultIn, Sequence, InputItems, PacketOrder, sequence_of, whole_input}
+use Rattle.cap_tools.specs.Verdict.{Policy, Count, SelectorState, initial_state, Verdict, Pass, PassLast, Skip, Refuse, judge}
+use Rattle.cap_tools.specs.Reports.{Report, nothing_counted, report_text, reports_text, name_at}
 
--- ---- what is reported
+-- ---- forms
 
--- an output's bytes, where it tells them, and how often it failed
-pub record OutputView : Type 0 where
-  pub written : List ℕ
-  pub failures : ℕ
+-- in which form packets and reports are written
+pub data Form : Type 0 where
+  AsCapture : (format : Format) → Form
+  -- each report, by the names of the inputs
+  AsReports : (names : List (List ℕ)) → Form
+  -- a line for each packet, and its bytes where they are asked for
+  AsLines : (options : Options) → Form
 
-abbrev pub seen : List ℕ → ℕ → OutputView
-seen written failures = record { written = written; failures = failures }
+-- why a packet that comes behind these isn't written
+abbrev pub form_refuses : Form → List Captured → Captured → Option Fault
+form_refuses (AsCapture format) ps p = refused format ps p
+form_refuses (AsReports names) ps p = None
+form_refuses (AsLines options) ps p = None
 
--- A message is written whole; or it is lost, in whole or past a beginning, where its device failed.
-pub record IsTold (tells : Bool) (old : OutputView) (message : List ℕ) (new : OutputView) : Type 0 where
-  pub answer : Result (Unit {0}) DeviceFault
-  pub told : IsTrue tells → AppendsOrStops answer old.written message new.written
-  pub counted : new.failures ≡ old.failures + failures_of answer
+-- ---- the fold
 
--- what a run leaves that ends by some message, `tells` being whether the messages' device tells its bytes
-pub record Runs (leaves : List ℕ → Type 0) (tells : Bool) (err err' : OutputView) : Type 0 where
-  pub message : List ℕ
-  pub left : leaves message
-  pub told : IsTold tells err message err'
-  -- where there is nothing to report, the device isn't called
-  pub quiet : message ≡ [] → err' ≡ err
+-- How far a job is: how many packets are decided, what was met, the packets that passed, the reports, and how it
+-- ended, where it did.
+pub record Progress : Type 0 where
+  pub decided : ℕ
+  pub state : SelectorState
+  pub packets : List Captured
+  pub reports : List Report
+  pub end : Option SequenceEnd
 
--- ---- the ways in which a run ends
+abbrev pub no_progress : Progress
+no_progress = record { decided = 0; state = initial_state; packets = []; reports = []; end = None }
 
--- The output's device failed in this run, after a prefix of these bytes, not the whole.
-pub record OutputFails (bytes name : List ℕ) (out out' : OutputView) (message : List ℕ) (status : ℕ) : Type 0 where
-  pub failures : out'.failures ≡ out.failures + 1
-  pub count : ℕ
-  pub within : count < length bytes
-  pub written : out'.written ≡ out.written ++ take count bytes
-  pub told : message ≡ write_failed_message name
-  pub answered : status ≡ 1
+-- one packet is decided
+abbrev pub decide : Progress → SelectorState → List Captured → Option SequenceEnd → Progress
+decide w state new end = record {
+  decided = w.decided + 1;
+  state = state;
+  packets = w.packets ++ new;
+  reports = w.reports;
+  end = end;
+}
 
--- The output is as it was, and this is reported.
-pub record OnlyTells (text : List ℕ) (answer : ℕ) (out out' : OutputView) (message : List ℕ) (status : ℕ) : Type 0 where
-  pub output : out' ≡ out
-  pub told : message ≡ text
-  pub answered : status ≡ answer
+-- a packet isn't decided: the job ends at it
+abbrev pub end_with : Progress → SequenceEnd → Progress
+end_with w close = record { decided = w.decided; state = w.state; packets = w.packets; reports = w.reports; end = Some close }
+
+-- the packet that passes is written, or the form refuses it
+abbrev pub decide_unless : Option Fault → Progress → ℕ → Placed → SelectorState → Captured → Option SequenceEnd → Progress
+decide_unless None w input p state q end = decide w state (q ∷ []) end
+decide_unless (Some fault) w input p state q end = end_with w (FaultIn input fault p.offset)
+
+abbrev pub apply_verdict : Form → Progress → ℕ → Placed → Verdict → SelectorState → Progress
+apply_verdict form w input p (Pass q) state = decide_unless (form_refuses form w.packets q) w input p state q None
+apply_verdict form w input p (PassLast q) state = decide_unless (form_refuses form w.packets q) w input p state q (Some Complete)
+apply_verdict form w input p Skip state = decide w state [] None
+apply_verdict form w input p (Refuse fault) state = end_with w (FaultIn input fault p.offset)
+
+-- an input that was read to its end is reported, where reports are asked
+abbrev pub end_input : Policy → Progress → ℕ → Option Kind → ℕ → Progress
+end_input Count w input kind size = record {
+  decided = w.decided;
+  state = record { passed = w.state.passed; window = w.state.window; tally = nothing_counted };
+  packets = w.packets;
+  reports = w.reports ++ record { input = input; kind = kind; size = size; tally = w.state.tally } ∷ [];
+  end = w.end;
+}
+end_input policy w input kind size = w
+
+abbrev pub apply_event : Policy → Form → Progress → Event → Progress
+apply_event policy form w (Packet input p) =
+    apply_verdict form w input p (judge policy w.state (w.decided + 1) p.packet).verdict (judge policy w.state (w.decided + 1) p.packet).state
+apply_event policy form w (InputEnd input kind size) = end_input policy w input kind size
+
+-- what ended stays
+abbrev pub unless_ended : Option SequenceEnd → Progress → Progress → Progress
+unless_ended None w next = next
+unless_ended (Some close) w next = w
+
+-- how far a job is behind an event
+abbrev pub next_progress : Policy → Form → Progress → Event → Progress
+next_progress policy form w e = unless_ended w.end w (apply_event policy form w e)
+
+-- and behind events
+abbrev pub apply_events : Policy → Form → Progress → List Event → Progress
+apply_events policy form w [] = w
+apply_events policy form w (e ∷ es) = apply_events policy form (next_progress policy form w e) es
+
+abbrev pub end_unless_ended : Progress → SequenceEnd → Progress
+end_unless_ended w close = unless_ended w.end w (end_with w close)
+
+-- how far a job comes over a whole sequence
+abbrev pub final_progress : Policy → Form → Sequence → Progress
+final_progress policy form s = end_unless_ended (apply_events policy form no_progress s.events) s.end
+
+-- ---- what comes of it
+
+-- what is printed of packets, one behind another
+abbrev pub lines_text : Options → List Captured → List ℕ
+lines_text options ps = flat_map (printed options) ps
+
+-- the bytes for packets and reports
+abbrev pub output_text : Form → List Captured → List Report → List ℕ
+output_text (AsCapture format) ps rs = text format ps
+output_text (AsReports names) ps rs = reports_text names rs
+output_text (AsLines options) ps rs = lines_text options ps
+
+-- what a packet that passes adds behind those before it
+abbrev pub packet_bytes : Form → List Captured → Captured → List ℕ
+packet_bytes (AsCapture format) ps p = added format ps p
+packet_bytes (AsReports names) ps p = []
+packet_bytes (AsLines options) ps p = printed options p
+
+-- what a report adds
+abbrev pub report_bytes : Form → Report → List ℕ
+report_bytes (AsCapture format) r = []
+report_bytes (AsReports names) r = report_text names r
+report_bytes (AsLines options) r = []
+
+-- the first link type that the inputs declare, in their order
+abbrev pub first_link : List InputItems → Option ℕ
+first_link [] = None
+first_link (r ∷ rs) = option_or (first_link_of r.items.declared) (first_link rs)
+
+-- what a clean end adds: a capture without packets has its file header or section header
+abbrev pub closing_text : Form → Option ℕ → List Captured → List ℕ
+closing_text (AsCapture format) link [] = heading format (unwrap_or link 1)
+closing_text (AsCapture format) link (p ∷ ps) = []
+closing_text (AsReports names) link ps = []
+closing_text (AsLines options) link ps = []
+
+abbrev pub text_at_end : Option SequenceEnd → Form → Option ℕ → List Captured → List ℕ
+text_at_end (Some Complete) form link ps = closing_text form link ps
+text_at_end end form link ps = []
+
+abbrev pub final_text : Form → Option ℕ → Progress → List ℕ
+final_text form link w = output_text form w.packets w.reports ++ text_at_end w.end form link w.packets
+
+abbrev pub message : List (List ℕ) → Option SequenceEnd → List ℕ
+message names (Some (FaultIn input fault offset)) = fault_message (name_at names input) offset fault
+message names end = []
+
+abbrev pub status : Option SequenceEnd → ℕ
+status (Some (FaultIn input fault offset)) = 1
+status end = 0
+
+-- the bytes of the output and of the messages, and the status
+pub record Outcome : Type 0 where
+  pub output : List ℕ
+  pub messages : List ℕ
+  pub status : ℕ
+
+-- the work of a job whose filter isn't refused
+pub record Work : Type 0 where
+  pub order : PacketOrder
+  pub policy : Policy
+  pub form : Form
+
+abbrev pub outcome_at : Work → List (List ℕ) → List InputItems → Progress → Outcome
+outcome_at work names rs w = record {
+  output = final_text work.form (first_link rs) w;
+  messages = message names w.end;
+  status = status w.end;
+}
+
+-- what comes of inputs with these items
+abbrev pub outcome : Work → List (List ℕ) → List InputItems → Outcome
+outcome work names rs = outcome_at work names rs (final_progress work.policy work.form (sequence_of work.order rs))
+
+-- what comes of inputs with these bytes
+abbrev pub outcome_of_texts : Work → List (List ℕ) → List (List ℕ) → Outcome
+outcome_of_texts work names texts = outcome work names (map whole_input texts)

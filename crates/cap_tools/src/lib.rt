@@ -1,14 +1,18 @@
-//! Commands, what they are refused for, filters and compilations.
+//! Jobs: one machine for all commands.
 #![tactic(auto)]
 
-pub mod command;
-pub mod compile;
-mod compiled;
-mod expression;
-pub mod filter;
-pub mod message;
-pub mod refusal;
+mod edit;
+mod inputs;
+mod job;
+pub mod law;
+mod machine;
+mod output;
+mod packets;
+mod queue;
+mod report;
+mod selector;
+mod tally;
 
-pub use command::{
-    Command, Compile, Edit, MOST_INPUTS, MOST_RANGES, MOST_WINDOW, Merge, Print, Shift, is_range,
-};
+pub use cap_filter::{Command, Compile, Edit, Merge, Print, Shift};
+pub use job::{Job, run};
+pub use packets::Turn;

@@ -1,2 +1,4 @@
-pub mod Chains
+pub mod Indexes
 pub mod Marks
+pub mod Searching
+pub mod Trees

@@ -14,7 +14,7 @@ use Rattle.cap_window.specs.Marks.{is_same, has_same, last}
 abbrev with_digest : ℕ → List ℕ → Mark
 with_digest length digest = record { length = length; digest = digest }
 
-is_same-Decides : (x y : Mark) → Decides (is_same x y) (x ≡ y)
+pub is_same-Decides : (x y : Mark) → Decides (is_same x y) (x ≡ y)
 is_same-Decides x y =
     let parts : Decides (is_same x y) ((x.length ≡ y.length) × (x.digest ≡ y.digest)) =
     Decides-and (x.length == y.length) (bytes_eq x.digest y.digest) (Decides-eqb x.length y.length) (bytes_eq-Decides x.digest y.digest) in

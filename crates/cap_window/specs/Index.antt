@@ -1,33 +1,86 @@
--- How the index beside the window finds the marks with one hash, from the newest to the oldest.
-use Rattle.std.specs.Prelude.{◌≡◌, ◌≢◌, ℕ, ◌+◌, ◌-◌, ◌<◌, ◌≤◌, ◌^◌, List, length, slice_index, map, take, bit_and}
+-- How the index beside the window finds an equal mark: by a tree for each hash, with the newest mark on top.
+use Rattle.std.specs.Prelude.{◌≡◌, ℕ, ◌+◌, ◌-◌, ◌/◌, ◌%◌, ◌^◌, ◌<◌, ◌≤◌, ◌==◌, ◌&&◌, Bool, true, false, not, nat_lt, if◌then◌else◌, List, [], length, slice_index, take, bit_and, IsTrue}
 use Rattle.std.specs.Int.{w32, from_le_bytes}
+use Rattle.std.specs.List.{slice_index_or}
+use Rattle.cap_window.specs.Marks.{is_same}
+use Rattle.cap_window.specs.declared.links.Links.{Links}
 use Rattle.cap_window.specs.declared.mark.Mark.{Mark}
 
--- d places below `limit` is the nearest with the hash h, and none is nearer; there is none at all where d is above `limit`
-pub record IsNearest (hashes : List ℕ) (h limit d : ℕ) : Type 0 where
-  pub step : 1 ≤ d
-  pub none_between : (j : ℕ) → j < limit → limit < j + d → slice_index hashes j ≢ h
-  pub is_there : d ≤ limit → slice_index hashes (limit - d) ≡ h
+-- a bit of a mark: of its digest, from the last byte on, and then of its length
+unfoldable pub is_one : Mark → ℕ → Bool
+is_one m depth =
+    if nat_lt depth 128 then slice_index m.digest (15 - depth / 8) / 2 ^ (depth % 8) % 2 == 1 else m.length / 2 ^ (depth % 32) % 2 == 1
 
--- the links lead from each mark to the nearest older one with its hash, the heads to the newest with each hash
-pub record IsIndex (hashes links heads : List ℕ) (newest : ℕ) : Type 0 where
-  pub long : length links ≡ length hashes
-  pub counted : length hashes ≤ newest
-  pub small : (h : ℕ) → h < length heads → slice_index heads h ≤ newest
-  pub hashed : (i : ℕ) → i < length hashes → slice_index hashes i < length heads
-  pub linked : (i : ℕ) → i < length hashes → IsNearest hashes (slice_index hashes i) i (slice_index links i)
-  pub headed : (h : ℕ) → h < length heads → IsNearest hashes h (length hashes) (newest + 1 - slice_index heads h)
+-- the link to the marks with this bit
+abbrev pub link_at : Links → Bool → ℕ
+link_at links true = links.ones
+link_at links false = links.zeros
+
+-- the marks of a class that have this bit
+abbrev pub half : (Mark → Bool) → ℕ → Bool → Mark → Bool
+half class depth true m = class m && is_one m depth
+half class depth false m = class m && not (is_one m depth)
+
+abbrev pub but : (Mark → Bool) → Mark → Mark → Bool
+but wanted top m = wanted m && not (is_same m top)
+
+abbrev pub every : Mark → Bool
+every m = true
+
+abbrev pub mark_at : List Mark → ℕ → Mark
+mark_at marks i = slice_index_or marks i (record { length = 0; digest = [] })
+
+abbrev pub links_at : List Links → ℕ → Links
+links_at links i = slice_index_or links i (record { zeros = 0; ones = 0 })
+
+-- at no place from `low` up to `limit` is a mark of the class that is wanted
+abbrev pub HasNone : List Mark → (class wanted : Mark → Bool) → (low limit : ℕ) → Type 0
+HasNone marks class wanted low limit =
+    (j : ℕ) → low ≤ j → j < limit → IsTrue (class (mark_at marks j)) → IsTrue (wanted (mark_at marks j)) → ⊥
+
+-- A tree has the marks below `limit` that belong to a class and are wanted. Its top is d places below `limit`, is the newest of them
+-- and may be one that isn't wanted. The others hang below it by one bit of theirs; those equal to the top are left out. There are
+-- none where d is above `limit`.
+pub data IsTree (marks : List Mark) (links : List Links) : (class wanted : Mark → Bool) → (depth limit d : ℕ) → Type 0 where
+  Empty : (class wanted : Mark → Bool) (depth limit d : ℕ) → limit < d → HasNone marks class wanted 0 limit
+      → IsTree marks links class wanted depth limit d
+  Topped : (class wanted : Mark → Bool) (depth limit d : ℕ) (top : ℕ) → limit ≡ top + d → 1 ≤ d → IsTrue (class (mark_at marks top))
+      → HasNone marks class wanted (top + 1) limit
+      → ((bit : Bool) → IsTree marks links (half class depth bit) (but wanted (mark_at marks top)) (depth + 1) top (link_at (links_at links top) bit))
+      → IsTree marks links class wanted depth limit d
+
+-- below a mark hang those of the class that come before it and are wanted
+abbrev pub IsOnTop : List Mark → List Links → (class wanted : Mark → Bool) → (depth place : ℕ) → Type 0
+IsOnTop marks links class wanted depth place =
+    (bit : Bool) → IsTree marks links (half class depth bit) (but wanted (mark_at marks place)) (depth + 1) place (link_at (links_at links place) bit)
+
+-- a mark of a class, and the tree of those of its class that come before it
+pub record IsHung (marks : List Mark) (links : List Links) (class : Mark → Bool) (place d : ℕ) : Type 0 where
+  pub belongs : IsTrue (class (mark_at marks place))
+  pub tree : IsTree marks links class (but every (mark_at marks place)) 0 place d
+
+-- a mark was put on top of all others of its class, and no links of other marks changed
+pub record IsPlaced (marks : List Mark) (old new : List Links) (class : Mark → Bool) (place : ℕ) : Type 0 where
+  pub below : IsOnTop marks new class every 0 place
+  pub others : (j : ℕ) → (IsTrue (class (mark_at marks j)) → ⊥) → links_at new j ≡ links_at old j
 
 -- where the marks with this digest hang, of mask + 1 heads
 abbrev pub hash_of : ℕ → Mark → ℕ
 hash_of mask m = bit_and (from_le_bytes w32 (take 4 m.digest)) mask
 
-abbrev pub hashes_of : ℕ → List Mark → List ℕ
-hashes_of mask marks = map (hash_of mask) marks
+abbrev pub has_hash : ℕ → ℕ → Mark → Bool
+has_hash mask h m = hash_of mask m == h
+
+-- each head leads to the top of the tree of its hash
+pub record IsIndex (mask : ℕ) (marks : List Mark) (links : List Links) (heads : List ℕ) (newest : ℕ) : Type 0 where
+  pub long : length links ≡ length marks
+  pub counted : length marks ≤ newest
+  pub small : (h : ℕ) → h < length heads → slice_index heads h ≤ newest
+  pub trees : (h : ℕ) → h < length heads → IsTree marks links (has_hash mask h) every 0 (length marks) (newest + 1 - slice_index heads h)
 
 -- what holds of the fields of a window
-pub record IsSound (mask : ℕ) (marks : List Mark) (capacity : ℕ) (links : List ℕ) (link_capacity : ℕ) (heads : List ℕ) (newest : ℕ) : Type 0 where
-  pub index : IsIndex (hashes_of mask marks) links heads newest
+pub record IsSound (mask : ℕ) (marks : List Mark) (capacity : ℕ) (links : List Links) (link_capacity : ℕ) (heads : List ℕ) (newest : ℕ) : Type 0 where
+  pub index : IsIndex mask marks links heads newest
   pub same_capacity : link_capacity ≡ capacity
   pub within : capacity + 1 < 2 ^ 32
   pub fits : length marks ≤ capacity

@@ -1,6 +1,7 @@
 //! The window of a search for duplicate packets.
 #![tactic(auto)]
 
+mod links;
 mod mark;
 #[cfg(test)]
 mod tests;

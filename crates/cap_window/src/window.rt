@@ -2,25 +2,26 @@
 ghost use Rattle.std.specs.Prelude.{◌≡◌, ℕ, ◌+◌, ◌-◌, ◌^◌, ◌<◌, ◌≤◌, EachIndex, slice_index};
 ghost use Rattle.cap_window.specs.Index.{hash_of};
 
+use crate::links::{Links, is_one, place_newest};
 use crate::mark::{Mark, mark_of, same};
 use circular_buffer::HeapCircularBuffer;
 use std::alloc::{AllocError, Allocator};
 use std::marker::Model;
 
-/// At most so many chains: at 4 bytes each their heads take 4 MiB.
+/// At most so many trees: at 4 bytes each their heads take 4 MiB.
 const MOST_HEADS: u32 = 0x0010_0000;
 
 /// The marks of the last packets, as many as fit.
 ///
-/// The marks of one hash, the low bits of the digest, are chained from the newest to the oldest, as
-/// the strings of one prefix in LZ77. Marks are numbered from 1, and a link is a difference of two
-/// numbers: so a chain ends by itself where it leaves the window, and nothing is ever deleted from
-/// it.
+/// The marks of one hash, the low bits of the digest, hang together as a tree with the newest on
+/// top. Those below a mark go by one bit each, of the digest and then of the length, so that no
+/// mark is deeper than it has bits, whoever chooses the packets. Marks are numbered from 1, and a
+/// link is a difference of two numbers: since a mark is newer than those below it, a tree ends by
+/// itself where it leaves the window, and nothing is ever deleted from it.
 #[derive(Drop)]
 pub struct Window<A: Allocator> {
     marks: HeapCircularBuffer<Mark, A>,
-    /// How many places before each mark the nearest one with its hash is.
-    links: HeapCircularBuffer<u32, A>,
+    links: HeapCircularBuffer<Links, A>,
     /// For each hash the number of the newest mark that has it, or 0.
     heads: Vec<u32, A>,
     mask: u32,
@@ -47,7 +48,7 @@ impl<A: Allocator> Window<A> {
     ghost use Rattle.cap_window.specs.Marks.{last, mark_of};
     ghost use Rattle.cap_window.specs.View.{window};
 
-    /// A window for the marks of so many packets. It takes all its memory here: 24 bytes for each,
+    /// A window for the marks of so many packets. It takes all its memory here: 28 bytes for each,
     /// and 4 for each of its heads, which are as many, rounded up to a power of two, and 2^20 at
     /// most.
     pub fn new(alloc: A, capacity: u32) -> Result<Self, AllocError>
@@ -90,14 +91,15 @@ impl<A: Allocator> Window<A> {
         ensures { IsTrue result ↔ Contains self.now.marks mark.now }
     {
         let hash = hash_of(mark, self.mask);
-        let mut limit = self.marks.len();
+        let (mut limit, mut depth) = (self.marks.len(), 0);
         let mut step = self.newest + 1 - self.heads[hash];
         while step as usize <= limit {
             limit -= step as usize;
             if same(self.marks.get(limit).unwrap(), mark) {
                 return true;
             }
-            step = *self.links.get(limit).unwrap();
+            step = self.links.get(limit).unwrap().link(is_one(mark, depth));
+            depth += 1;
         }
         false
     }
@@ -110,7 +112,11 @@ impl<A: Allocator> Window<A> {
         let number = self.newest + 1;
         let step = number - self.heads[hash];
         self.marks.push_back(mark);
-        self.links.push_back(step);
+        self.links.push_back(Links {
+            zeros: step,
+            ones: step,
+        });
+        place_newest(&self.marks, &mut self.links, step);
         self.heads[hash] = number;
         self.newest = renumbered(&mut self.heads, number, self.marks.len() as u32);
     }

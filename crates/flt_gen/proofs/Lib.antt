@@ -21,3 +21,4 @@ pub mod Passing
 pub mod Whole
 pub mod Turned
 pub mod Masks
+pub mod Likeness

@@ -11,6 +11,7 @@ use Rattle.flt_bpf.specs.Valid.{IsValid}
 use Rattle.flt_lang.specs.Tree.{TruthTree, Expression, empty, truth}
 use Rattle.flt_lang.specs.Counts.{words_of, bound_of, truth_tests, truth_size}
 use Rattle.flt_lang.specs.Resolved.{is_unfilled, any_primitive, some_primitive}
+use Rattle.flt_gen.specs.Alike.{Replaces}
 use Rattle.flt_gen.specs.declared.link.Link.{Link}
 use Rattle.flt_gen.specs.declared.elementary.Elementary.TheVariants.{Known}
 use Rattle.flt_gen.specs.Elementary.{Reading, Yes, No, Rejected}
@@ -197,3 +198,17 @@ program_short link e filled l =
     let s = code_short link e filled l in
     let short = s.short in
     record { no_jump = no_jump_flow _ (program_code link e) s.no_jump; short = omega (arith, final_length link e) }
+
+-- a program that replaces one for an expression is one too
+pub replaced_decides : (new old : List Insn) (e : Expression) (link : Link) → Replaces new old → IsProgramOf old e link → IsProgramOf new e link
+replaced_decides new old e link r o =
+    record {
+      bounded = omega (arith, r.shorter, o.bounded);
+      decides = λ p n.
+          let d = o.decides p n in
+          let c = r.runs p n d.answer d.count d.answered in
+          record { answer = d.answer; count = c.count; answered = c.answered; few = c.inside; right = d.right };
+    }
+
+pub replaced_short : (new old : List Insn) (most : ℕ) → Replaces new old → IsShort old most → IsShort new most
+replaced_short new old most r s = record { no_jump = r.no_jump s.no_jump; short = omega (arith, r.shorter, s.short) }

@@ -13,3 +13,4 @@ pub mod Follow
 pub mod Puts
 pub mod Laws
 pub mod Reload
+pub mod Alike

@@ -2,6 +2,7 @@
 #![tactic(auto)]
 
 mod address;
+mod alike;
 mod among;
 mod code;
 mod context;
@@ -16,6 +17,7 @@ mod primitive;
 mod program;
 mod put;
 mod reload;
+mod shorten;
 mod table;
 mod value;
 mod waiting;
@@ -23,3 +25,4 @@ mod walk;
 
 pub use link::Link;
 pub use program::generate;
+pub use shorten::shortened;

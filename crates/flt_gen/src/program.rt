@@ -8,6 +8,7 @@ ghost use Rattle.flt_gen.specs.Walk.{walked, start, insns_of};
 
 use crate::link::Link;
 use crate::reload::pass_loads;
+use crate::shorten::shortened;
 use crate::walk::Walk;
 use flt_bpf::insn::Insn;
 use flt_bpf::program::{Program, check};
@@ -58,8 +59,9 @@ pub fn generate<A: Allocator + Clone, B: Allocator>(
     ensures fresh { IfOk result (λ program. program.spent ≡ 0) }
 {
     let insns = program_insns(alloc.clone()?, expr.expr.nodes(), link)?;
-    let turned = pass_loads(alloc, insns)?;
-    match check(turned) {
+    let turned = pass_loads(alloc.clone()?, insns)?;
+    let short = shortened(alloc, turned)?;
+    match check(short) {
         Ok(program) => Ok(program),
         Err(_) => unreachable!(),
     }

@@ -52,11 +52,11 @@ returns-in_err-read_rest g c =
       kept = (refl, refl);
     })
 
-pub returns-in_err-held : goal.returns-in_err-held
-returns-in_err-held g c =
-    let p = err_from_is_err_and c.from_residual-in_err-held.result c.from_residual-in_err-held.ensures.1 in
+pub returns-in_err-spans : goal.returns-in_err-spans
+returns-in_err-spans g c =
+    let p = err_from_is_err_and c.from_residual-in_err-spans.result c.from_residual-in_err-spans.ensures.1 in
     let moves = c.in_ok-read_rest.ensures.moves in
-    let own = entry-own _ _ _ c.in_err-held.field-0.0 c.in_err-held.ensures.err in
+    let own = entry-own _ _ _ c.in_err-spans.field-0.0 c.in_err-spans.ensures.err in
     rw (p.1, p.2) (record {
       moves = record {
         counted = tt;
@@ -77,16 +77,16 @@ returns-in_err-held g c =
           (whole_came c.order.result c.args.front.now _ _ (take c.in_ok-found.found.length c.read_rest.new.buffer) _ c.in_ok-found.found (search rules)
           (front_says c.order.result c.args.front.now _ c.in_ok-found.found c.frame.ensures.answer c.in_ok-found.was)
           (rw (take_at c.read_rest.new.buffer _ c.make_room.new.buffer.len (search rules)) refl) c.in_ok-read_rest.ensures.same (c.in_ok-read_rest.ensures.ok t))
-          (ap (take c.in_ok-found.found.length) c.deref.ensures.value) c.in_err-held.ensures.err);
-      kept = (refl, c.in_err-held.ensures.kept);
+          (ap (take c.in_ok-found.found.length) c.deref.ensures.value) c.in_err-spans.ensures.err);
+      kept = (refl, c.in_err-spans.ensures.kept);
     })
 
 pub returns-in-Some : goal.returns-in-Some
 returns-in-Some g c =
     let moves = c.in_ok-read_rest.ensures.moves in
     let frame = c.in_ok-found.found in
-    let enters = rw c.in-Some.is at c.in_ok-held.ensures.ok in
-    let stays = interfaces-kept frame c.args.table.now c.enter.new.table _ c.in-Some.held enters in
+    let enters = rw c.in-Some.is at c.in_ok-spans.ensures.ok in
+    let stays = interfaces-kept frame c.args.table.now c.enter.new.table _ c.in-Some.spans enters in
     let says = front_says c.order.result c.args.front.now _ frame c.frame.ensures.answer c.in_ok-found.was in
     let small = small-behind _ _ (length c.args.front.now) frame.length (search rules) moves.counted c.in_ok-found.ensures.shortest moves.bounded c.requires.bounded in
     record {
@@ -110,8 +110,8 @@ returns-in-Some g c =
         small,
       );
       told = rw stays c.requires.told;
-      known = has-section c.args.savefile.now c.args.front.now _ frame c.args.table.now c.enter.new.table c.in-Some.held c.requires.begins (ap (λ o. frame_in o c.args.front.now) (sym c.order.ensures) ∙ says.says) enters enters.known;
-      ok = λ t. packet-block c.args.savefile.now c.args.table.now c.enter.new.table c.args.front.now _ _ _ frame.order frame.length c.in-Some.held c.requires.begins
+      known = has-section c.args.savefile.now c.args.front.now _ frame c.args.table.now c.enter.new.table c.in-Some.spans c.requires.begins (ap (λ o. frame_in o c.args.front.now) (sym c.order.ensures) ∙ says.says) enters enters.known;
+      ok = λ t. packet-block c.args.savefile.now c.args.table.now c.enter.new.table c.args.front.now _ _ _ frame.order frame.length c.in-Some.spans c.requires.begins
           (omega (arith, c.in_ok-make_room.ensures.room, c.deref.ensures.len, ap length c.deref.ensures.value)) c.requires.told enters.fits.0 stays
           (block_came (section_before c.args.savefile.now c.args.table.now) c.order.result c.args.table.now c.enter.new.table _ _ _ _ frame _ (order-held c.args.savefile.now c.args.table.now ∙ sym c.order.ensures)
           (interfaces-held c.args.savefile.now c.args.table.now c.args.front.now c.requires.begins c.requires.told) c.in_ok-found.ensures.shortest
@@ -127,7 +127,7 @@ pub returns-in-None : goal.returns-in-None
 returns-in-None g c =
     let moves = c.in_ok-read_rest.ensures.moves in
     let frame = c.in_ok-found.found in
-    let enters = rw c.in-None.is at c.in_ok-held.ensures.ok in
+    let enters = rw c.in-None.is at c.in_ok-spans.ensures.ok in
     let says = front_says c.order.result c.args.front.now _ frame c.frame.ensures.answer c.in_ok-found.was in
     let small = small-behind _ _ (length c.args.front.now) frame.length (search rules) moves.counted c.in_ok-found.ensures.shortest moves.bounded c.requires.bounded in
     rw (c.link_behind.ensures frame.order, c.first_link.ensures) (record {

@@ -27,7 +27,7 @@ pub returns-then-begins_section : goal.returns-then-begins_section
 returns-then-begins_section g c =
     let first = c.in_ok-first.ensures.moves in
     let rest = c.in_ok-read_rest.ensures.moves in
-    ReadsUnit-behind g.I.Input _ c.read_rest.new.input c.read_rest.new.buffer _ _ _ _ _ _ _
+    ReadsUnit-behind g.I.Input _ c.read_rest.new.input c.read_rest.new.buffer _ _ _ _ _ _ _ _
     (search rules) (search rules) (rest.never ∙ first.never) (λ some. search rules)
     (λ t. joined_front _ _ _ c.in_ok-first.first c.read_rest.new.buffer 12 (search rules) (c.in_ok-first.ensures.ok t) c.in_ok-read_rest.ensures.same (c.in_ok-read_rest.ensures.ok t))
     c.read_block.ensures

@@ -11,29 +11,29 @@ returns-in_err-came-clause-told g c =
     let p = err_from_is_err_and c.from_residual.result c.from_residual.ensures.1 in
     let declared = ap (λ (v : SourceView). v.declared) c.self.view_is in
     let unread = ap (λ (v : SourceView). v.unread) c.self.view_is in
-    let new = view_of c.self.inside.stage c.read_unit.new.savefile c.read_unit.new.table c.read_unit.new.buffer.items c.self.inside.offset
+    let new = view_of c.self.inside.stage c.read_unit.new.held c.read_unit.new.savefile c.read_unit.new.table c.read_unit.new.buffer.items c.self.inside.offset
     (g.I.Input.unread c.read_unit.new.input) (g.I.Input.given c.read_unit.new.input) (g.I.Input.failures c.read_unit.new.input) (g.I.Input.never_fails c.read_unit.new.input) in
-    let between = stage_between c.self.inside.stage c.self.inside.buffer.items (ap (λ (v : SourceView). v.phase) c.self.view_is ∙ c.requires.between.phase)
-    (ap (λ (v : SourceView). v.block) c.self.view_is ∙ c.requires.between.block) c.self.invariant.held in
+    let between = stage_between c.self.inside.stage c.self.inside.held c.self.inside.buffer.items (ap (λ (v : SourceView). v.phase) c.self.view_is ∙ c.requires.between.phase)
+    (ap (λ (v : SourceView). v.block) c.self.view_is ∙ c.requires.between.block) c.self.invariant.lies in
     rw (p.1, p.2) (λ t. IsBroken-next c.args.self.now new c.in_err-came.field-0.0 c.requires.between (rw (declared, unread) at (c.in_err-came.ensures.err t))
     (ap₂ declared_by c.in_err-came.ensures.kept.0 c.in_err-came.ensures.kept.1 ∙ declared) (ap (λ (v : SourceView). v.offset) c.self.view_is)
-    (ap (λ s. block_at s c.read_unit.new.buffer.items) between)
-    (ap (λ s. packet_at s (declared_by c.read_unit.new.savefile c.read_unit.new.table) c.read_unit.new.buffer.items) between))
+    (ap (λ s. block_at s c.read_unit.new.held c.read_unit.new.buffer.items) between)
+    (ap (λ s. packet_at s c.read_unit.new.held (declared_by c.read_unit.new.savefile c.read_unit.new.table) c.read_unit.new.buffer.items) between))
 
 pub returns-in-Packet-clause-told : goal.returns-in-Packet-clause-told
 returns-in-Packet-clause-told g c = λ t.
     let declared = ap (λ (v : SourceView). v.declared) c.self.view_is in
     let unread = ap (λ (v : SourceView). v.unread) c.self.view_is in
-    let new = view_of (stage.InHand c.in-Packet.held) c.read_unit.new.savefile c.read_unit.new.table c.read_unit.new.buffer.items c.self.inside.offset
+    let new = view_of stage.InHand c.read_unit.new.held c.read_unit.new.savefile c.read_unit.new.table c.read_unit.new.buffer.items c.self.inside.offset
     (g.I.Input.unread c.read_unit.new.input) (g.I.Input.given c.read_unit.new.input) (g.I.Input.failures c.read_unit.new.input) (g.I.Input.never_fails c.read_unit.new.input) in
-    FindsPacket-next c.args.self.now new c.in-Packet.held c.read_unit.new.buffer.items c.requires.between
-    (rw (declared, unread) at (rw c.in-Packet.is at (c.in_ok-came.ensures.ok t))) refl refl (ap (λ (v : SourceView). v.offset) c.self.view_is) refl
+    rw c.in-Packet.is (FindsPacket-next c.args.self.now new c.read_unit.new.held c.read_unit.new.buffer.items c.requires.between
+    (rw (declared, unread) at (rw c.in-Packet.is at (c.in_ok-came.ensures.ok t))) refl refl (ap (λ (v : SourceView). v.offset) c.self.view_is) refl)
 
 pub returns-in-Passed-clause-told : goal.returns-in-Passed-clause-told
 returns-in-Passed-clause-told g c = λ t.
     let declared = ap (λ (v : SourceView). v.declared) c.self.view_is in
     let unread = ap (λ (v : SourceView). v.unread) c.self.view_is in
-    let new = view_of c.self.inside.stage c.read_unit.new.savefile c.read_unit.new.table c.read_unit.new.buffer.items (c.self.inside.offset + c.in-Passed.size)
+    let new = view_of c.self.inside.stage c.read_unit.new.held c.read_unit.new.savefile c.read_unit.new.table c.read_unit.new.buffer.items (c.self.inside.offset + c.in-Passed.size)
     (g.I.Input.unread c.read_unit.new.input) (g.I.Input.given c.read_unit.new.input) (g.I.Input.failures c.read_unit.new.input) (g.I.Input.never_fails c.read_unit.new.input) in
     Passes-next c.args.self.now new c.in-Passed.size c.requires.between
     (rw (declared, unread) at (rw c.in-Passed.is at (c.in_ok-came.ensures.ok t))) (ap (λ (v : SourceView). v.offset + c.in-Passed.size) c.self.view_is)
@@ -42,7 +42,7 @@ pub returns-in-End-clause-told : goal.returns-in-End-clause-told
 returns-in-End-clause-told g c = λ t.
     let declared = ap (λ (v : SourceView). v.declared) c.self.view_is in
     let unread = ap (λ (v : SourceView). v.unread) c.self.view_is in
-    let new = view_of stage.Ended c.read_unit.new.savefile c.read_unit.new.table c.read_unit.new.buffer.items c.self.inside.offset
+    let new = view_of stage.Ended c.read_unit.new.held c.read_unit.new.savefile c.read_unit.new.table c.read_unit.new.buffer.items c.self.inside.offset
     (g.I.Input.unread c.read_unit.new.input) (g.I.Input.given c.read_unit.new.input) (g.I.Input.failures c.read_unit.new.input) (g.I.Input.never_fails c.read_unit.new.input) in
     rw c.in-End.is (FindsEnd-next c.args.self.now new c.requires.between
     (rw (declared, unread) at (rw c.in-End.is at (c.in_ok-came.ensures.ok t))) (ap (λ (v : SourceView). v.offset) c.self.view_is) refl refl refl)

@@ -1,7 +1,8 @@
 use Rattle.std.proofs.Common.{arith, refl, ◌≡◌, ◌∙◌, get_or, set, ◌+◌, ◌-◌, ◌<◌, ◌≤◌, length, take, drop, ◌++◌, List, ℕ, ap}
 use Rattle.std.proofs.lemmas.List.{get_or_default, take-append-le, take_all}
-use Rattle.cap_window.specs.Index.{hash_of}
-use Rattle.cap_window.proofs.Chains.{IsLowered, sound_push}
+use Rattle.cap_window.specs.Index.{has_hash, hash_of}
+use Rattle.cap_window.specs.declared.links.Links.{Links}
+use Rattle.cap_window.proofs.Indexes.{IsLowered, sound_hung, sound_push}
 use Rattle.cap_window.proofs.window.Window.push.Goals as goal
 
 pub invariant_of-self : goal.invariant_of-self
@@ -21,6 +22,27 @@ invariant_of-self g c =
     let whole : take w.heads.len (c.renumbered-self-inside.new.heads ++ rest) ≡ c.renumbered-self-inside.new.heads =
     take-append-le w.heads.len c.renumbered-self-inside.new.heads rest (omega (arith, long)) ∙ take_all w.heads.len c.renumbered-self-inside.new.heads (omega (arith, long)) in
     let kept : length c.push_back.new.self.items ≤ c.renumbered-self-inside.result = omega (arith, c.len.ensures.len, c.renumbered-self-inside.ensures.bounds) in
-    rw (whole, c.push_back.ensures.items, c.push_back-2.ensures.items, head)
-    (sound_push w.mask w.marks.items w.marks.capacity w.links.items w.links.capacity w.heads.items c.renumbered-self-inside.new.heads w.newest c.args.mark c.renumbered-self-inside.result c.self.invariant lowered
-    (rw c.push_back.ensures.items at kept) c.renumbered-self-inside.ensures.bounds.1 c.renumbered-self-inside.ensures.room)
+    let step : ℕ = w.newest + 1 - c.index.result.now in
+    let l : Links = record { zeros = step; ones = step } in
+    let newest : ℕ = w.newest + 1 - get_or w.heads.items (hash_of w.mask c.args.mark) 0 in
+    let l' : Links = record { zeros = newest; ones = newest } in
+    rw (whole, c.place_newest.ensures.capacity, c.push_back-2.ensures.items, c.push_back.ensures.items)
+    (sound_push w.mask w.marks.items w.marks.capacity w.links.items w.links.capacity w.heads.items c.renumbered-self-inside.new.heads w.newest c.args.mark l c.place_newest.new.links.items c.renumbered-self-inside.result c.self.invariant lowered
+    (rw c.push_back.ensures.items at kept) c.renumbered-self-inside.ensures.bounds.1 c.renumbered-self-inside.ensures.room
+    (rw c.push_back.ensures.items at c.place_newest.ensures.long)
+    (λ some. let placed = rw (c.push_back.ensures.items, c.push_back-2.ensures.items) at c.place_newest.ensures.placed in
+    placed some (has_hash w.mask (hash_of w.mask c.args.mark))
+    (rw head (sound_hung w.mask w.marks.items w.marks.capacity w.links.items w.links.capacity w.heads.items w.newest c.args.mark l' c.self.invariant some))))
+
+pub place_newest-requires-clause-hung : goal.place_newest-requires-clause-hung
+place_newest-requires-clause-hung g c = λ some.
+    let w = c.self.inside in
+    let hash : c.hash_of-hash.result ≡ hash_of w.mask c.args.mark = c.hash_of-hash.ensures.value in
+    let inside : c.hash_of-hash.result < length w.heads.items = omega (arith, c.self.invariant.wide) in
+    let head : c.index.result.now ≡ get_or w.heads.items (hash_of w.mask c.args.mark) 0 = c.index.ensures ∙ get_or_default _ _ _ 0 inside ∙ rw hash refl in
+    let newest : ℕ = w.newest + 1 - get_or w.heads.items (hash_of w.mask c.args.mark) 0 in
+    let l' : Links = record { zeros = newest; ones = newest } in
+    rw (c.push_back.ensures.items, c.push_back-2.ensures.items, head) (
+      has_hash w.mask (hash_of w.mask c.args.mark),
+      sound_hung w.mask w.marks.items w.marks.capacity w.links.items w.links.capacity w.heads.items w.newest c.args.mark l' c.self.invariant (rw c.push_back.ensures.items at some),
+    )

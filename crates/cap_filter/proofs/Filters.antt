@@ -1,0 +1,163 @@
+-- What runs of programs answer and cost.
+use Rattle.std.proofs.Common.{◌≡◌, ◌≢◌, ◌↔◌, ◌<◌, All, ℕ, zero, suc, ◌+◌, ◌-◌, ◌^◌, Bool, cond, not, nat_eq, nat_lt, ◌==◌, true, false, List, [], ◌∷◌, ◌++◌, length, get_or, set, slice_get, take, drop, min, Option, None, Some, Ok, Err, refl, sym, ◌∙◌, ap, arith, subst}
+use Rattle.std.proofs.Math.Seq.{take-append_seam}
+use Rattle.std.proofs.lemmas.Bool.{ltb-true, ne_eqb}
+use Rattle.std.proofs.lemmas.List.Elements.{All-append}
+use Rattle.std.proofs.lemmas.Option.{slice_get-get_or}
+use Rattle.std.specs.List.{position, position_or_len}
+use Rattle.std.specs.Option.{option_map}
+use Rattle.cap_octet.specs.declared.fault.Fault.TheVariants.{LinkTypeNotFiltered}
+use Rattle.cap_octet.specs.Packet.{Captured}
+use Rattle.flt_bpf.specs.declared.insn.Insn.{Insn}
+use Rattle.flt_bpf.specs.Content.{Content}
+use Rattle.flt_bpf.specs.Machine.{machine, Answered}
+use Rattle.flt_lang.specs.Tree.{Expression, empty, truth}
+use Rattle.flt_gen.specs.declared.link.Link.{Link}
+use Rattle.flt_gen.specs.declared.link.Link.TheVariants.{Ether}
+use Rattle.flt_gen.specs.Correct.{IsProgramOf}
+use Rattle.flt_gen.specs.Elementary.{Reading, Yes, No, Rejected}
+use Rattle.flt_gen.specs.Reading.{holds}
+use Rattle.cap_filter.specs.Decisions.{Answers}
+use Rattle.cap_filter.specs.Programs.{AreMade, IsMade, IsSound, count_of, met_on, ran_at, ran_if, ran_on}
+use Rattle.cap_filter.specs.Links.{link_at, link_of, link_types, place_of}
+use Rattle.cap_filter.specs.FilterRules.{by_reading, expression_decides, passing, read_on}
+use Rattle.cap_filter.specs.Filters.{spent_on}
+
+-- ---- the answer
+
+nonzero : (a : ℕ) → a ≢ 0 → not (nat_eq a 0) ≡ true
+nonzero a other = rw (ne_eqb a 0 other) refl
+
+zero-unless : (a : ℕ) → (a ≢ 0 → ⊥) → not (nat_eq a 0) ≡ false
+zero-unless zero never = refl
+zero-unless (suc a) never = absurd (never (λ (same : suc a ≡ 0). absurd (omega arith)))
+
+answers-by : (r : Reading) (a : ℕ) → (a ≢ 0) ↔ (r ≡ Yes) → Answers (passing r) (Ok (not (nat_eq a 0)))
+answers-by Yes a right = nonzero a (right.1 refl)
+answers-by No a right = zero-unless a (λ other. let same : No ≡ Yes = right.0 other in absurd (cc))
+answers-by Rejected a right = zero-unless a (λ other. let same : Rejected ≡ Yes = right.0 other in absurd (cc))
+
+-- a program for an expression accepts a packet where it passes
+pub run-answers : (prog : List Insn) (e : Expression) (link : Link) (p : List ℕ) (n answer count : ℕ) → IsProgramOf prog e link → machine prog p n (length prog) ≡ Answered answer count
+    → Answers (passing (holds e link p n)) (Ok (not (nat_eq answer 0)))
+run-answers prog e link p n answer count is met =
+    let d = is.decides p n in
+    let both : Answered d.answer d.count ≡ Answered answer count = sym d.answered ∙ met in
+    let same : d.answer ≡ answer = (cc both) in
+    let P : ℕ → Type 0 = λ a. (a ≢ 0) ↔ (holds e link p n ≡ Yes) in
+    answers-by (holds e link p n) answer (subst P same d.right)
+
+-- ---- the programs of a table
+
+pub made-length : (e : Expression) (rows : List (ℕ × Link)) (programs : List Content) → AreMade e rows programs → length programs ≡ length rows
+made-length e [] [] made = refl
+made-length e [] (program ∷ programs) made = absurd made
+made-length e (row ∷ rows) [] made = absurd made
+made-length e (row ∷ rows) (program ∷ programs) made = ap (λ n. suc n) (made-length e rows programs made.1)
+
+-- one program more
+pub made-put : (e : Expression) (rows : List (ℕ × Link)) (programs : List Content) (row : ℕ × Link) (program : Content) → AreMade e rows programs → IsMade program e row.1
+    → AreMade e (rows ++ row ∷ []) (programs ++ program ∷ [])
+made-put e [] [] row program made is = (is, tt)
+made-put e [] (other ∷ programs) row program made is = absurd made
+made-put e (first ∷ rows) [] row program made is = absurd made
+made-put e (first ∷ rows) (other ∷ programs) row program made is = (made.0, made-put e rows programs row program made.1 is)
+
+fresh-one : (program : Content) → program.spent ≡ 0 → All (λ (c : Content). c.spent ≡ 0) (program ∷ [])
+fresh-one program is zero d within = is
+fresh-one program is (suc k) d within = absurd (omega (arith, within))
+
+pub fresh-put : (programs : List Content) (program : Content) → All (λ (c : Content). c.spent ≡ 0) programs → program.spent ≡ 0 → All (λ (c : Content). c.spent ≡ 0) (programs ++ program ∷ [])
+fresh-put programs program fresh is =
+    All-append (λ (c : Content). c.spent ≡ 0) programs (program ∷ []) fresh (fresh-one program is)
+
+-- the program of a row
+pub made-at : (e : Expression) (rows : List (ℕ × Link)) (programs : List Content) (i : ℕ) (row : ℕ × Link) (d : Content) → AreMade e rows programs → slice_get rows i ≡ Some row
+    → IsMade (get_or programs i d) e row.1
+made-at e [] programs i row d made is = (cc)
+made-at e (first ∷ rows) [] i row d made is = absurd made
+made-at e (first ∷ rows) (program ∷ programs) zero row d made is =
+    let same : first ≡ row = (cc is) in
+    subst (λ (r : ℕ × Link). IsMade program e r.1) same made.0
+made-at e (first ∷ rows) (program ∷ programs) (suc i) row d made is = made-at e rows programs i row d made.1 is
+
+-- programs keep their instructions when they run
+pub made-ran : (e : Expression) (rows : List (ℕ × Link)) (programs : List Content) (i : ℕ) (p : Captured) → AreMade e rows programs → AreMade e rows (ran_at i p programs)
+made-ran e [] [] i p made = tt
+made-ran e [] (program ∷ programs) i p made = absurd made
+made-ran e (row ∷ rows) [] i p made = absurd made
+made-ran e (row ∷ rows) (program ∷ programs) zero p made = (record { valid = made.0.valid; right = made.0.right }, made.1)
+made-ran e (row ∷ rows) (program ∷ programs) (suc i) p made = (made.0, made-ran e rows programs i p made.1)
+
+-- ---- the cost
+
+-- a program behind a run
+ran : (p : Captured) (before after : Content) (answer count : ℕ) → met_on p before.insns ≡ Answered answer count → after.insns ≡ before.insns
+    → after.spent ≡ min (before.spent + count) (2 ^ 128 - 1) → after ≡ ran_on p before
+ran p before after answer count met same spent =
+    let cost : count_of (met_on p before.insns) ≡ count = ap count_of met in
+    let made : List Insn → ℕ → Content = λ insns spent. record { insns = insns; spent = spent } in
+    ap (λ l. made l after.spent) same ∙ ap (λ n. made before.insns n) (spent ∙ ap (λ n. min (before.spent + n) (2 ^ 128 - 1)) (sym cost))
+
+put : (i : ℕ) (p : Captured) (programs : List Content) (d after : Content) → i < length programs → after ≡ ran_on p (get_or programs i d) → set programs i after ≡ ran_at i p programs
+put i p [] d after within is = absurd (omega (arith, within))
+put zero p (program ∷ programs) d after within is = ap (λ c. c ∷ programs) is
+put (suc i) p (program ∷ programs) d after within is = ap (λ l. program ∷ l) (put i p programs d after (omega (arith, within)) is)
+
+-- it is put back at its place
+pub set-ran : (i : ℕ) (p : Captured) (programs : List Content) (d after : Content) (answer count : ℕ) → i < length programs → met_on p (get_or programs i d).insns ≡ Answered answer count
+    → after.insns ≡ (get_or programs i d).insns → after.spent ≡ min ((get_or programs i d).spent + count) (2 ^ 128 - 1) → set programs i after ≡ ran_at i p programs
+set-ran i p programs d after answer count within met same spent = put i p programs d after within (ran p (get_or programs i d) after answer count met same spent)
+
+ran-length : (i : ℕ) (p : Captured) (programs : List Content) → length (ran_at i p programs) ≡ length programs
+ran-length i p [] = refl
+ran-length zero p (program ∷ programs) = refl
+ran-length (suc i) p (program ∷ programs) = ap (λ n. suc n) (ran-length i p programs)
+
+-- programs that ran as a slice, back in their vector
+pub put-back : (n i : ℕ) (p : Captured) (items lent new : List Content) → lent ≡ items → length lent ≡ n → new ≡ ran_at i p lent → take n (new ++ drop (length new) items) ≡ ran_at i p items
+put-back n i p items lent new same count is =
+    let long : length new ≡ n = ap (λ (l : List Content). length l) is ∙ ran-length i p lent ∙ count in
+    rw (← long, take-append_seam new (drop (length new) items)) (is ∙ ap (ran_at i p) same)
+
+-- ---- the program of a packet
+
+position-within : {X : Type 0} (test : X → Bool) (xs : List X) (i : ℕ) → position test xs ≡ Some i → i < length xs
+position-within test xs i is = by_test (nat_lt (position_or_len test xs) (length xs)) refl is
+  where
+    by_test : (b : Bool) → nat_lt (position_or_len test xs) (length xs) ≡ b → cond b (Some (position_or_len test xs)) None ≡ Some i → i < length xs
+    by_test true less is =
+        let same : position_or_len test xs ≡ i = (cc is) in
+        subst (λ n. n < length xs) same (ltb-true (position_or_len test xs) (length xs) less)
+    by_test false less is = (cc is)
+
+-- a link type's row is in the table
+pub place-within : (e : Expression) (programs : List Content) (n i : ℕ) → IsSound e programs → place_of n ≡ Some i → i < length programs
+place-within e programs n i sound is =
+    subst (λ count. i < count) (sym (made-length e link_types programs sound.made)) (position-within (λ row. row.0 == n) link_types i is)
+
+-- a link type without a row has no link
+pub answers-none : (e : Expression) (programs : List Content) (p : Captured) → IsSound e programs → place_of p.link ≡ None → Answers (expression_decides e p) (Err LinkTypeNotFiltered)
+answers-none empty programs p sound none = absurd sound.some
+answers-none (truth a) programs p sound none = rw none refl
+
+-- the program of its row accepts it where a packet passes
+pub answers-at : (e : Expression) (programs : List Content) (p : Captured) (i answer count : ℕ) → IsSound e programs → place_of p.link ≡ Some i
+    → ((d : Content) → met_on p (get_or programs i d).insns ≡ Answered answer count) → Answers (expression_decides e p) (Ok (not (nat_eq answer 0)))
+answers-at empty programs p i answer count sound is met = absurd sound.some
+answers-at (truth a) programs p i answer count sound is met =
+    let row : ℕ × Link = get_or link_types i (0, Ether) in
+    let here : slice_get link_types i ≡ Some row = slice_get-get_or link_types i (0, Ether) (position-within (λ row. row.0 == p.link) link_types i is) in
+    let linked : link_of p.link ≡ Some row.1 = ap link_at is ∙ ap (λ (o : Option (ℕ × Link)). option_map (λ (row : ℕ × Link). row.1) o) here in
+    let none : Content = record { insns = []; spent = 0 } in
+    let program : Content = get_or programs i none in
+    subst (λ (l : Option Link). Answers (read_on (truth a) l p) (Ok (not (nat_eq answer 0)))) (sym linked)
+    (run-answers program.insns (truth a) row.1 p.bytes p.orig answer count (made-at (truth a) link_types programs i row none sound.made here).right (met none))
+
+pub sound-ran : (e : Expression) (programs : List Content) (p : Captured) (i : ℕ) → IsSound e programs → IsSound e (ran_at i p programs)
+sound-ran e programs p i sound = record { some = sound.some; made = made-ran e link_types programs i p sound.made }
+
+-- which program an expression runs that isn't empty
+pub reading-spends : (e : Expression) (programs : List Content) (p : Captured) (place : Option ℕ) → IsSound e programs → place_of p.link ≡ place → spent_on (by_reading e) p programs ≡ ran_if place p programs
+reading-spends empty programs p place sound is = absurd sound.some
+reading-spends (truth a) programs p place sound is = rw is refl

@@ -1,0 +1,4 @@
+pub mod Costs
+pub mod Expressions
+pub mod Filters
+pub mod Refusals

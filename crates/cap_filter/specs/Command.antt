@@ -1,0 +1,74 @@
+-- Which commands may be run.
+use Rattle.std.specs.Prelude.{ℕ, ◌^◌, ◌&&◌, ◌||◌, Bool, true, not, List, length, nat_eq, nat_lt, nat_le, string_bytes, Option}
+use Rattle.std.specs.List.{list_all}
+use Rattle.std.specs.Option.{is_none, option_map_or}
+use Rattle.cap_filter.specs.declared.command.Command.{Command}
+use Rattle.cap_filter.specs.declared.command.Command.TheVariants as command
+use Rattle.cap_filter.specs.declared.command.Edit.{Edit}
+use Rattle.cap_filter.specs.declared.command.Print.{Print}
+use Rattle.cap_filter.specs.declared.command.Shift.{Shift}
+use Rattle.cap_filter.specs.declared.command.Shift.TheVariants as shift
+
+-- the numbers of a range: from 1 on, in order, below 2^63
+abbrev pub is_range : ℕ → ℕ → Bool
+is_range first last = nat_le 1 first && nat_le first last && nat_lt last (2 ^ 63)
+
+-- how many ranges an edit has at most
+abbrev pub most_ranges : ℕ
+most_ranges = 512
+
+abbrev pub has_proper_ranges : List (ℕ × ℕ) → Bool
+has_proper_ranges ranges = nat_le (length ranges) most_ranges && list_all (λ range. is_range range.0 range.1) ranges
+
+-- how many inputs a merge or a report has at most
+abbrev pub most_inputs : ℕ
+most_inputs = 256
+
+abbrev pub is_input_count : ℕ → Bool
+is_input_count inputs = nat_le 1 inputs && nat_le inputs most_inputs
+
+-- times since 1970-01-01 00:00:00 UTC, and spans: whole nanoseconds, below 2^63
+abbrev pub is_time : ℕ → Bool
+is_time nanos = nat_lt nanos (2 ^ 63)
+
+abbrev pub is_proper_shift : Shift → Bool
+is_proper_shift shift.None = true
+is_proper_shift (shift.Later span) = is_time span
+is_proper_shift (shift.Earlier span) = is_time span
+
+abbrev pub is_at_least_one : ℕ → Bool
+is_at_least_one n = nat_le 1 n
+
+-- how many packets a window for duplicates has at most, the one that is looked up among them
+abbrev pub most_window : ℕ
+most_window = 1_000_000
+
+abbrev pub is_window : ℕ → Bool
+is_window n = nat_le 2 n && nat_le n most_window
+
+-- ranges, times, the bytes that are kept, a shift and a window keep their bounds, where there are some
+abbrev pub is_proper_edit : {Z : Type 0} → Edit Z → Bool
+is_proper_edit edit =
+    has_proper_ranges edit.ranges.items && (option_map_or is_time edit.start true && (option_map_or is_time edit.stop true
+    && (option_map_or is_at_least_one edit.snap true && (is_proper_shift edit.shift && option_map_or is_window edit.window true))))
+
+-- words and a listing exclude each other
+abbrev pub has_one_filter : {X : Type 0} → List ℕ → Option X → Bool
+has_one_filter words code = nat_eq (length words) 0 || is_none code
+
+-- where the packets themselves are written there are no lines, to which link headers or bytes could be added
+abbrev pub has_one_output : {X : Type 0} → (link bytes : Bool) → Option X → Bool
+has_one_output link bytes write = is_none write || not (link || bytes)
+
+abbrev pub is_proper_print : {Z : Type 0} → Print Z → Bool
+is_proper_print print =
+    has_one_filter (string_bytes print.expr) print.code && (has_one_output print.link print.bytes print.write
+    && option_map_or is_at_least_one print.count true)
+
+-- what a command and the number of its inputs keep
+abbrev pub is_proper : {Z : Type 0} → Command Z → ℕ → Bool
+is_proper (command.Edit edit) inputs = nat_eq inputs 1 && is_proper_edit edit
+is_proper (command.Merge merge) inputs = is_input_count inputs
+is_proper command.Infos inputs = is_input_count inputs
+is_proper (command.Print print) inputs = nat_eq inputs 1 && is_proper_print print
+is_proper (command.Compile compile) inputs = nat_eq inputs 0

@@ -1,0 +1,73 @@
+-- Which packets a filter keeps.
+use Rattle.std.specs.Prelude.{ℕ, ◌==◌, not, List, length, Option, None, Some}
+use Rattle.std.specs.Option.{option_map}
+use Rattle.cap_octet.specs.Packet.{Captured}
+use Rattle.cap_octet.specs.declared.fault.Fault.TheVariants.{LinkTypeNotFiltered}
+use Rattle.flt_bpf.specs.declared.insn.Insn.{Insn}
+use Rattle.flt_bpf.specs.Listing.{IsListing}
+use Rattle.flt_bpf.specs.Machine.{machine, Progress, Answered}
+use Rattle.flt_bpf.specs.Refusal as listing
+use Rattle.flt_bpf.specs.Valid.{IsValid, BreaksFirst}
+use Rattle.flt_lang.specs.Tree.{Expression, empty, truth}
+use Rattle.flt_gen.specs.declared.link.Link.{Link}
+use Rattle.flt_gen.specs.Elementary.{Reading, Yes, No, Rejected}
+use Rattle.flt_gen.specs.Reading.{holds}
+use Rattle.cap_filter.specs.declared.command.Print.{Print}
+use Rattle.cap_filter.specs.declared.refusal.Refusal.{Refusal}
+use Rattle.cap_filter.specs.declared.refusal.Refusal.TheVariants as refusal
+use Rattle.cap_filter.specs.Decisions.{Decision, Keep, Skip, Refuse, keep_if}
+use Rattle.cap_filter.specs.Expressions.{IsExpression, IsReasonFor}
+use Rattle.cap_filter.specs.Links.{link_of}
+
+-- ---- which packets pass
+
+-- by what a packet is judged: what an expression reads, or what a program returns
+pub data Rule : Type 0 where
+  by_reading : (e : Expression) → Rule
+  by_answer : (prog : List Insn) → Rule
+
+-- a packet passes where an expression matches; one that is rejected doesn't
+abbrev pub passing : Reading → Decision
+passing Yes = Keep
+passing No = Skip
+passing Rejected = Skip
+
+abbrev pub read_on : Expression → Option Link → Captured → Decision
+read_on e None p = Refuse LinkTypeNotFiltered
+read_on e (Some link) p = passing (holds e link p.bytes p.orig)
+
+-- all packets pass the empty expression
+abbrev pub expression_decides : Expression → Captured → Decision
+expression_decides empty p = Keep
+expression_decides (truth a) p = read_on (truth a) (link_of p.link) p
+
+-- a packet passes where a program accepts it
+abbrev pub answering : Progress → Decision
+answering (Answered answer count) = keep_if (not (answer == 0))
+answering _ = Skip
+
+abbrev pub rule_decides : Rule → Captured → Decision
+rule_decides (by_reading e) p = expression_decides e p
+rule_decides (by_answer prog) p = answering (machine prog p.bytes p.orig (length prog))
+
+-- ---- what is asked for
+
+-- the rule that words are, or that a listing is
+abbrev pub IsRule : List ℕ → Option (List ℕ) → Rule → Type 0
+IsRule words None (by_reading e) = IsExpression words e
+IsRule words None (by_answer prog) = ⊥
+IsRule words (Some text) (by_reading e) = ⊥
+IsRule words (Some text) (by_answer prog) = IsListing text prog × IsValid prog
+
+-- why they are none
+abbrev pub IsWhy : List ℕ → Option (List ℕ) → Refusal → Type 0
+IsWhy words None (refusal.Expression fault) = IsReasonFor words fault
+IsWhy words None (refusal.Listing fault) = ⊥
+IsWhy words None (refusal.Program fault at) = ⊥
+IsWhy words (Some text) (refusal.Expression fault) = ⊥
+IsWhy words (Some text) (refusal.Listing fault) = listing.IsReasonFor text fault
+IsWhy words (Some text) (refusal.Program fault at) = (prog : List Insn) × IsListing text prog × BreaksFirst prog fault at
+
+-- the bytes of a listing, where there is one
+abbrev pub code_of : {Z : Type 0} → Print Z → Option (List ℕ)
+code_of print = option_map (λ text. text.items) print.code

@@ -1,0 +1,46 @@
+-- What a contract sees of a filter: its rule and its programs, and what their runs cost.
+use Rattle.std.specs.Prelude.{◌≡◌, ℕ, List, [], ◌∷◌, All, length, Option, None, Some}
+use Rattle.cap_octet.specs.Packet.{Captured}
+use Rattle.flt_bpf.specs.Content.{Content}
+use Rattle.flt_lang.specs.Counts.{bound_of}
+use Rattle.flt_lang.specs.Tree.{empty, truth}
+use Rattle.cap_filter.specs.declared.filter.Filter.{Filter}
+use Rattle.cap_filter.specs.declared.filter.Filter.TheVariants as filter
+use Rattle.cap_filter.specs.Programs.{AreMade, ran_if}
+use Rattle.cap_filter.specs.Links.{link_types, place_of}
+use Rattle.cap_filter.specs.FilterRules.{Rule, by_reading, by_answer}
+
+-- ---- the filter
+
+abbrev pub rule_of : {Z : Type 0} → Filter Z → Rule
+rule_of filter.All = by_reading empty
+rule_of (filter.Expression compiled) = by_reading compiled.tree
+rule_of (filter.Listing program) = by_answer program.insns
+
+-- its programs: of an expression one for each link type, in their order; or the listing's
+abbrev pub programs_of : {Z : Type 0} → Filter Z → List Content
+programs_of filter.All = []
+programs_of (filter.Expression compiled) = compiled.programs
+programs_of (filter.Listing program) = program ∷ []
+
+-- the programs of a filter that is just made: they are programs for what the rule asks, and none has run
+abbrev pub AreNew : Rule → List Content → Type 0
+AreNew (by_reading empty) programs = programs ≡ []
+AreNew (by_reading (truth a)) programs = AreMade (truth a) link_types programs × All (λ program. program.spent ≡ 0) programs
+AreNew (by_answer prog) programs = programs ≡ record { insns = prog; spent = 0 } ∷ []
+
+-- the place of the program that decides the packets of a link type, if one is needed
+abbrev pub place_by : Rule → ℕ → Option ℕ
+place_by (by_reading empty) n = None
+place_by (by_reading (truth a)) n = place_of n
+place_by (by_answer prog) n = Some 0
+
+-- how many instructions deciding a packet meets at most: what the bound of the expression says, or all of a listing's
+abbrev pub most_cost : Rule → ℕ
+most_cost (by_reading empty) = 0
+most_cost (by_reading (truth a)) = bound_of (truth a)
+most_cost (by_answer prog) = length prog
+
+-- what deciding a packet costs: one run of one program, or nothing
+abbrev pub spent_on : Rule → Captured → List Content → List Content
+spent_on rule p programs = ran_if (place_by rule p.link) p programs

@@ -1,0 +1,11 @@
+pub mod Decisions
+pub mod Command
+pub mod Compilation
+pub mod Programs
+pub mod Expressions
+pub mod Links
+pub mod Messages
+pub mod FilterRules
+pub mod Filters
+pub mod Outcome
+pub mod Selection

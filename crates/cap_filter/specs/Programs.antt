@@ -1,0 +1,80 @@
+-- What a contract sees of an expression with its programs, and what their runs cost.
+use Rattle.std.specs.Prelude.{ℕ, suc, zero, ◌+◌, ◌-◌, ◌^◌, min, List, [], ◌∷◌, length, Option, None, Some}
+use Rattle.std.specs.Coded.{Coded, code_by, coded_list}
+use Rattle.cap_octet.specs.Packet.{Captured}
+use Rattle.flt_bpf.specs.declared.insn.Insn.{Insn}
+use Rattle.flt_bpf.specs.Content.{Content}
+use Rattle.flt_bpf.specs.Machine.{machine, Progress, Answered}
+use Rattle.flt_bpf.specs.Valid.{IsValid}
+use Rattle.flt_lang.specs.Tree.{Expression, empty, truth}
+use Rattle.flt_lang.specs.declared.node.Node.{Node}
+use Rattle.flt_lang.specs.contracts.node.Node as stored
+use Rattle.flt_lang.specs.Nodes.{expr_nodes, tree_of, tree_back}
+use Rattle.flt_gen.specs.declared.link.Link.{Link}
+use Rattle.flt_gen.specs.Correct.{IsProgramOf}
+use Rattle.cap_filter.specs.Links.{link_types}
+
+-- ---- an expression with its programs
+
+-- an expression, and its programs in the order of the table of link types
+pub record CompiledView : Type 0 where
+  pub tree : Expression
+  pub programs : List Content
+
+-- an expression is stored as its nodes
+abbrev pub expression_code : Coded Expression
+expression_code = code_by (List Node) (coded_list stored.the_row.coded) expr_nodes tree_of tree_back
+
+-- the expression isn't empty
+abbrev pub IsTruth : Expression → Type 0
+IsTruth empty = ⊥
+IsTruth (truth a) = Unit {0}
+
+-- a valid program for an expression on a link: it has at most as many instructions as the expression's bound, and
+-- accepts a packet exactly where the expression matches
+pub record IsMade (program : Content) (e : Expression) (link : Link) : Type 0 where
+  pub valid : IsValid program.insns
+  pub right : IsProgramOf program.insns e link
+
+-- one such program for each row of a table of link types, in its order
+abbrev pub AreMade : Expression → List (ℕ × Link) → List Content → Type 0
+AreMade e [] [] = Unit {0}
+AreMade e [] (program ∷ programs) = ⊥
+AreMade e (row ∷ rows) [] = ⊥
+AreMade e (row ∷ rows) (program ∷ programs) = IsMade program e row.1 × AreMade e rows programs
+
+-- the expression isn't empty, and has its program for each link type
+pub record IsSound (e : Expression) (programs : List Content) : Type 0 where
+  pub some : IsTruth e
+  pub made : AreMade e link_types programs
+
+-- ---- runs
+
+-- how many instructions a run met that came to an answer
+abbrev pub count_of : Progress → ℕ
+count_of (Answered answer count) = count
+count_of _ = 0
+
+-- what a program comes to on a packet
+abbrev pub met_on : Captured → List Insn → Progress
+met_on p prog = machine prog p.bytes p.orig (length prog)
+
+-- a program behind a run on a packet: what it spent rose by the instructions that it met
+abbrev pub ran_on : Captured → Content → Content
+ran_on p program = record { insns = program.insns; spent = min (program.spent + count_of (met_on p program.insns)) (2 ^ 128 - 1) }
+
+-- programs, of which the one at this place ran on a packet
+abbrev pub ran_at : ℕ → Captured → List Content → List Content
+ran_at i p [] = []
+ran_at zero p (program ∷ programs) = ran_on p program ∷ programs
+ran_at (suc i) p (program ∷ programs) = program ∷ ran_at i p programs
+
+-- how many instructions the runs of some programs met
+abbrev pub spent_in : List Content → ℕ
+spent_in [] = 0
+spent_in (program ∷ programs) = program.spent + spent_in programs
+
+-- the same, or programs of which none ran
+abbrev pub ran_if : Option ℕ → Captured → List Content → List Content
+ran_if None p programs = programs
+ran_if (Some i) p programs = ran_at i p programs

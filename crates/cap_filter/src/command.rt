@@ -1,0 +1,261 @@
+//! What is asked for.
+ghost use Rattle.std.specs.Prelude.{◌≡◌, string_bytes, true};
+ghost use Rattle.std.specs.List.{list_all};
+ghost use Rattle.std.specs.Option.{option_map_or};
+ghost use Rattle.cap_filter.specs.Command.{is_proper, is_input_count, is_range, is_time};
+ghost use Rattle.cap_filter.specs.Command.{is_at_least_one, is_window, is_proper_shift};
+ghost use Rattle.cap_filter.specs.Command.{is_proper_edit, is_proper_print, has_one_filter};
+ghost use Rattle.cap_filter.specs.Command.{has_one_output, has_proper_ranges};
+ghost use Rattle.cap_filter.specs.Selection.{is_named, is_kept};
+
+use cap_octet::Format;
+use flt_gen::Link;
+use std::alloc::{Allocator, Global};
+
+/// How many ranges an edit has at most.
+pub const MOST_RANGES: usize = 512;
+
+/// How many inputs a merge or a report has at most.
+pub const MOST_INPUTS: usize = 256;
+
+/// How many packets a window for duplicates has at most, the one that is looked up among them.
+pub const MOST_WINDOW: u32 = 1_000_000;
+
+/// A command, over the allocator of its lists.
+#[derive(Drop)]
+pub enum Command<A: Allocator = Global> {
+    Edit(Edit<A>),
+    Merge(Merge),
+    /// Reports on captures (capinfos(1)).
+    Infos,
+    Print(Print<A>),
+    Compile(Compile<A>),
+}
+
+/// Selects packets by number and time, changes them, and leaves out duplicates (editcap(1)).
+///
+/// The steps are made in the order of the fields. Times and spans are nanoseconds below 2^63.
+#[derive(Drop)]
+pub struct Edit<A: Allocator = Global> {
+    /// The first and the last number of each range; packets are counted from 1.
+    pub ranges: Vec<(u64, u64), A>,
+    /// Whether the named packets alone are kept; else they are deleted.
+    pub keep: bool,
+    /// Where there is one, the first time that is kept, since 1970-01-01 00:00:00 UTC.
+    pub start: Option<u64>,
+    /// Where there is one, the first time that is no longer kept, since 1970-01-01 00:00:00 UTC.
+    pub stop: Option<u64>,
+    /// How many captured bytes are removed at the start of a packet.
+    pub chop_start: u32,
+    /// How many captured bytes are then removed at its end.
+    pub chop_end: u32,
+    /// How many captured bytes a packet then keeps at most, 1 or more; all where there is none.
+    pub snap: Option<u32>,
+    /// What is done to times.
+    pub shift: Shift,
+    /// Where there is one, a packet is left out that is a duplicate within so many packets in a
+    /// row, itself among them: 2 to 1,000,000.
+    pub window: Option<u32>,
+    /// The format that is written.
+    pub format: Format,
+}
+
+/// What an edit does to times.
+#[derive(Clone, Copy, Debug, PartialEq, Eq)]
+pub enum Shift {
+    None,
+    /// They are later by so many nanoseconds.
+    Later(u64),
+    /// They are earlier by so many nanoseconds.
+    Earlier(u64),
+}
+
+/// Writes the packets of captures as one (mergecap(1)).
+#[derive(Clone, Copy)]
+pub struct Merge {
+    /// Whether the captures follow one another, and their packets aren't merged by time.
+    pub append: bool,
+    /// The format that is written.
+    pub format: Format,
+}
+
+/// Prints a line for each packet that matches, or writes these packets (tcpdump(1) with `-r`).
+#[derive(Drop)]
+pub struct Print<A: Allocator = Global> {
+    /// The filter expression (pcap-filter(7)). All packets match an empty one.
+    pub expr: String<A>,
+    /// The bytes of a listing. Where there are some, the packets match that the program accepts
+    /// (returns non-zero for).
+    pub code: Option<Vec<u8, A>>,
+    /// Where there is one, the job ends after so many packets that match, 1 or more.
+    pub count: Option<u64>,
+    /// Whether a line has the link header too.
+    pub link: bool,
+    /// Whether the captured bytes behind the link header follow each line.
+    pub bytes: bool,
+    /// The format in which the packets are written, whole, in place of lines.
+    pub write: Option<Format>,
+}
+
+/// Writes a listing of a program for an expression (tcpdump(1) with `-ddd`).
+#[derive(Drop)]
+pub struct Compile<A: Allocator = Global> {
+    /// The filter expression.
+    pub expr: String<A>,
+    /// The link on which the program is to be run.
+    pub link: Link,
+}
+
+impl<A: Allocator> Command<A> {
+    /// Whether the command may be run on so many inputs.
+    ///
+    /// - An edit has one input, at most 512 ranges, each from 1 on, in order and below 2^63, times
+    ///   and spans below 2^63 nanoseconds, packets that keep at least 1 byte, and a window of 2 to
+    ///   1,000,000 packets.
+    /// - A merge and a report have 1 to 256 inputs.
+    /// - A print has one input, no listing beside words, a count of at least 1, and a format only
+    ///   where its lines have neither link headers nor bytes.
+    /// - A compilation has no input.
+    pub fn is_proper(&self, inputs: usize) -> bool
+        ensures { result ≡ is_proper self.now inputs }
+    {
+        match self {
+            Command::Edit(edit) => inputs == 1 && edit.is_proper(),
+            Command::Merge(_) | Command::Infos => is_input_count(inputs),
+            Command::Print(print) => inputs == 1 && print.is_proper(),
+            Command::Compile(_) => inputs == 0,
+        }
+    }
+}
+
+/// Whether a merge or a report may have so many inputs: 1 to 256.
+fn is_input_count(inputs: usize) -> bool
+    ensures { result ≡ is_input_count inputs }
+{
+    1 <= inputs && inputs <= MOST_INPUTS
+}
+
+/// Whether the numbers are those of a range: from 1 on, in order and below 2^63.
+pub fn is_range(first: u64, last: u64) -> bool
+    ensures { result ≡ is_range first last }
+{
+    1 <= first && first <= last && last < 1 << 63
+}
+
+fn are_ranges(ranges: &[(u64, u64)]) -> bool
+    ensures { result ≡ list_all (λ range. is_range range.0 range.1) ranges.now }
+{
+    ranges.iter().all(|range| is_range(range.0, range.1))
+}
+
+/// Whether times and spans may be so many nanoseconds: below 2^63.
+fn is_time(nanos: u64) -> bool
+    ensures { result ≡ is_time nanos }
+{
+    nanos < 1 << 63
+}
+
+/// Whether a time is allowed, if there is one.
+fn allows_time(time: Option<u64>) -> bool
+    ensures { result ≡ option_map_or is_time time true }
+{
+    match time {
+        Some(nanos) => is_time(nanos),
+        None => true,
+    }
+}
+
+impl Shift {
+    fn is_proper(self) -> bool
+        ensures { result ≡ is_proper_shift self }
+    {
+        match self {
+            Shift::None => true,
+            Shift::Later(span) | Shift::Earlier(span) => is_time(span),
+        }
+    }
+}
+
+/// Whether packets may keep so many bytes.
+fn allows_snap(snap: Option<u32>) -> bool
+    ensures { result ≡ option_map_or is_at_least_one snap true }
+{
+    match snap {
+        Some(size) => 1 <= size,
+        None => true,
+    }
+}
+
+/// Whether duplicates may be searched for within so many packets.
+fn allows_window(window: Option<u32>) -> bool
+    ensures { result ≡ option_map_or is_window window true }
+{
+    match window {
+        Some(count) => 2 <= count && count <= MOST_WINDOW,
+        None => true,
+    }
+}
+
+impl<A: Allocator> Edit<A> {
+    fn is_proper(&self) -> bool
+        ensures { result ≡ is_proper_edit self.now }
+    {
+        self.has_proper_ranges()
+            && allows_time(self.start)
+            && allows_time(self.stop)
+            && allows_snap(self.snap)
+            && self.shift.is_proper()
+            && allows_window(self.window)
+    }
+
+    fn has_proper_ranges(&self) -> bool
+        ensures { result ≡ has_proper_ranges self.now.ranges.items }
+    {
+        self.ranges.len() <= MOST_RANGES && are_ranges(&self.ranges)
+    }
+
+    fn names(&self, number: u64) -> bool
+        ensures { result ≡ is_named self.now.ranges.items number }
+    {
+        self.ranges
+            .iter()
+            .any(|range| range.0 <= number && number <= range.1)
+    }
+
+    /// Whether the packet with this number stays.
+    pub fn keeps(&self, number: u64) -> bool
+        ensures { result ≡ is_kept self.now.ranges.items self.now.keep number }
+    {
+        self.names(number) == self.keep
+    }
+}
+
+/// Whether a print may end after so many packets.
+fn allows_count(count: Option<u64>) -> bool
+    ensures { result ≡ option_map_or is_at_least_one count true }
+{
+    match count {
+        Some(packets) => 1 <= packets,
+        None => true,
+    }
+}
+
+impl<A: Allocator> Print<A> {
+    fn is_proper(&self) -> bool
+        ensures { result ≡ is_proper_print self.now }
+    {
+        self.has_one_filter() && self.has_one_output() && allows_count(self.count)
+    }
+
+    fn has_one_output(&self) -> bool
+        ensures { result ≡ has_one_output self.now.link self.now.bytes self.now.write }
+    {
+        self.write.is_none() || !(self.link || self.bytes)
+    }
+
+    fn has_one_filter(&self) -> bool
+        ensures { result ≡ has_one_filter (string_bytes self.now.expr) self.now.code }
+    {
+        self.expr.is_empty() || self.code.is_none()
+    }
+}

@@ -1,0 +1,130 @@
+//! An expression with its programs.
+ghost use Rattle.std.specs.Prelude.{◌≡◌, ◌==◌, ◌<◌, All, IfOk, length, position, slice_index_or};
+ghost use Rattle.cap_octet.specs.Packet.{captured};
+ghost use Rattle.flt_bpf.specs.Content.{Content};
+ghost use Rattle.flt_bpf.specs.Machine.{Answered};
+ghost use Rattle.cap_filter.specs.Programs.{AreMade, met_on, ran_at};
+ghost use Rattle.cap_filter.specs.Links.{place_of};
+
+use cap_octet::{Fault, Packet};
+use flt_bpf::{Program, run};
+use flt_gen::{Link, generate};
+use flt_lang::Checked;
+use std::alloc::{AllocError, Allocator};
+use std::marker::Model;
+
+/// The link types whose packets expressions are read on (tcpdump.org's list of LINKTYPE_ values),
+/// and their links.
+const LINK_TYPES: [(u16, Link); 3] = [(1, Link::Ether), (101, Link::Raw), (113, Link::Cooked)];
+
+/// An expression that isn't empty, and its program for each link type, in the order of the table
+/// above.
+#[derive(Drop)]
+pub struct Compiled<A: Allocator> {
+    tree: Checked<A>,
+    programs: Vec<Program<A>, A>,
+}
+
+impl<A: Allocator> Model for Compiled<A> {
+    ghost use Rattle.std.specs.Coded.{codes};
+    ghost use Rattle.cap_filter.specs.Programs.{CompiledView, IsSound, expression_code};
+
+    ghost Value = { CompiledView };
+
+    ghost coded = { Prim.hlevel (codes, expression_code) };
+
+    ghost view = { λ c. record { tree = c.tree.expr; programs = c.programs.items } };
+
+    ghost invariant = { λ c. IsSound c.tree.expr c.programs.items };
+}
+
+fn place_in(table: &[(u16, Link)], number: u16) -> Option<usize>
+    ensures { result ≡ position (λ row. row.0 == number) table.now }
+{
+    table.iter().position(|row| row.0 == number)
+}
+
+/// The row of a link type in the table, if expressions are read on it.
+#[tactic(auto, unfolding(crate::specs::Links::link_types))]
+fn place_of(number: u16) -> Option<usize>
+    ensures { result ≡ place_of number }
+{
+    place_in(&LINK_TYPES, number)
+}
+
+/// A program for each row of a table. An error means that memory ran out.
+fn make_programs<A: Allocator + Copy + Drop>(
+    alloc: A,
+    tree: &Checked<A>,
+    table: &[(u16, Link)],
+) -> Result<Vec<Program<A>, A>, AllocError>
+    ensures made { IfOk result (λ programs. AreMade tree.now.expr table.now programs.items) }
+    ensures fresh { IfOk result (λ programs. All (λ program. program.spent ≡ 0) programs.items) }
+{
+    let mut programs = Vec::new(alloc);
+    for (_, link) in table {
+        let program = generate(alloc, tree, *link)?;
+        // The proof learns here that the program is valid.
+        let _ = program.insns();
+        programs.push(program)?;
+    }
+    Ok(programs)
+}
+
+/// Runs the program at a place on a packet, and gives the answer and how many instructions were
+/// met.
+fn run_at<A: Allocator>(
+    programs: &mut [Program<A>],
+    place: usize,
+    packet: &Packet<'_>,
+) -> (u32, u32)
+    requires { place < length programs.old }
+    ensures answer { (d : Content) → met_on (captured packet.now)
+        (slice_index_or programs.old place d).insns ≡ Answered result.0 result.1 }
+    ensures ran { programs.new ≡ ran_at place (captured packet.now) programs.old }
+{
+    run(&mut programs[place], packet.bytes, packet.orig)
+}
+
+impl<A: Allocator> Compiled<A> {
+    ghost use Rattle.std.specs.Prelude.{◌≡◌, ◌+◌, ◌≤◌, All, IfOk};
+    ghost use Rattle.cap_octet.specs.Packet.{captured};
+    ghost use Rattle.cap_filter.specs.Decisions.{Answers};
+    ghost use Rattle.cap_filter.specs.Programs.{AreMade, IsTruth, spent_in};
+    ghost use Rattle.cap_filter.specs.Links.{link_types};
+    ghost use Rattle.cap_filter.specs.FilterRules.{by_reading, expression_decides};
+    ghost use Rattle.cap_filter.specs.Filters.{most_cost, spent_on};
+
+    /// Makes the programs of a tree. An error means that memory ran out.
+    #[tactic(auto, unfolding(crate::specs::Links::link_types))]
+    pub fn new(alloc: A, tree: Checked<A>) -> Result<Self, AllocError>
+    where
+        A: Copy + Drop,
+        requires { IsTruth tree.expr }
+        ensures tree { IfOk result (λ compiled. compiled.tree ≡ tree.expr) }
+        ensures made { IfOk result (λ compiled. AreMade tree.expr link_types compiled.programs) }
+        ensures fresh { IfOk result (λ compiled. All (λ program. program.spent ≡ 0)
+            compiled.programs) }
+    {
+        let programs = make_programs(alloc, &tree, &LINK_TYPES)?;
+        Ok(Compiled { tree, programs })
+    }
+
+    /// Whether a packet matches. It takes no memory; `LinkTypeNotFiltered` is its only error.
+    pub fn passes(&mut self, packet: &Packet<'_>) -> Result<bool, Fault>
+        ensures answers { Answers (expression_decides self.old.tree (captured packet.now)) result }
+        ensures tree { self.new.tree ≡ self.old.tree }
+        ensures spends { self.new.programs ≡ spent_on (by_reading self.old.tree)
+            (captured packet.now) self.old.programs }
+        ensures bounded { spent_in self.new.programs ≤ spent_in self.old.programs + most_cost
+            (by_reading self.old.tree) }
+    {
+        // The proof learns here that the expression isn't empty.
+        let _ = &self.tree;
+        let Some(place) = place_of(packet.link) else {
+            return Err(Fault::LinkTypeNotFiltered);
+        };
+        let (answer, _) = run_at(&mut self.programs, place, packet);
+        Ok(answer != 0)
+    }
+}

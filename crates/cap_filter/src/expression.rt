@@ -1,0 +1,45 @@
+//! Expressions, from their text to a checked tree.
+ghost use Rattle.std.specs.Prelude.{IfOk, IfErr};
+ghost use Rattle.cap_filter.specs.Expressions.{HasFault, IsExpression, IsRead, IsReasonFor};
+ghost use Rattle.cap_filter.specs.Expressions.{IsSettled};
+
+use flt_lang::{Checked, Expr, check, parse, resolve};
+use flt_words::{ExprFault, lex};
+use std::alloc::Allocator;
+
+/// The tree of a text, as it is written.
+fn read_tree<A: Allocator + Copy + Drop>(alloc: A, text: &str) -> Result<Expr<A>, ExprFault>
+    ensures read { IfOk result (λ tree. IsRead text.now tree) }
+    ensures refused { IfErr result (IsReasonFor text.now) }
+{
+    match lex(alloc, text) {
+        Ok(tokens) => parse(alloc, &tokens),
+        Err(fault) => Err(fault),
+    }
+}
+
+/// The tree with what is left out filled in, checked.
+fn settle<A: Allocator>(tree: Expr<A>) -> Result<Checked<A>, ExprFault>
+    ensures settled { IfOk result (λ checked. IsSettled tree checked.expr) }
+    ensures refused { IfErr result (HasFault tree) }
+{
+    match resolve(tree) {
+        Ok(tree) => check(tree),
+        Err(fault) => Err(fault),
+    }
+}
+
+/// The checked tree of an expression's text, with what is left out filled in. An error is the first
+/// of the text's faults, or out of memory.
+pub fn read_expression<A: Allocator + Copy + Drop>(
+    alloc: A,
+    text: &str,
+) -> Result<Checked<A>, ExprFault>
+    ensures expression { IfOk result (λ checked. IsExpression text.now checked.expr) }
+    ensures refused { IfErr result (IsReasonFor text.now) }
+{
+    match read_tree(alloc, text) {
+        Ok(tree) => settle(tree),
+        Err(fault) => Err(fault),
+    }
+}

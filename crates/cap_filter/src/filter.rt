@@ -1,0 +1,107 @@
+//! What decides which packets pass.
+ghost use Rattle.std.specs.Prelude.{◌≡◌, IfErr, IfOk, None, Some};
+ghost use Rattle.cap_filter.specs.FilterRules.{IsRule, IsWhy, by_reading};
+ghost use Rattle.cap_filter.specs.Filters.{AreNew, programs_of, rule_of};
+
+use crate::compiled::Compiled;
+use crate::expression::read_expression;
+use crate::refusal::Refusal;
+use cap_octet::{Fault, Packet};
+use flt_bpf::{Program, check, read_listing, run};
+use flt_lang::Checked;
+use flt_words::ExprFault;
+use std::alloc::{AllocError, Allocator};
+
+/// What decides which packets pass.
+#[derive(Drop)]
+pub enum Filter<A: Allocator> {
+    /// There are no words, and all packets pass.
+    All,
+    /// A packet passes where the expression matches.
+    Expression(Compiled<A>),
+    /// A packet passes where the program accepts it.
+    Listing(Program<A>),
+}
+
+impl<A: Allocator> Filter<A> {
+    ghost use Rattle.std.specs.Prelude.{◌≡◌, ◌+◌, ◌≤◌};
+    ghost use Rattle.cap_octet.specs.Packet.{captured};
+    ghost use Rattle.cap_filter.specs.Decisions.{Answers};
+    ghost use Rattle.cap_filter.specs.FilterRules.{rule_decides};
+    ghost use Rattle.cap_filter.specs.Programs.{spent_in};
+    ghost use Rattle.cap_filter.specs.Filters.{most_cost, programs_of, rule_of, spent_on};
+
+    /// Whether a packet passes. It takes no memory.
+    ///
+    /// The one error is `LinkTypeNotFiltered`: an expression isn't read on packets of this link
+    /// type.
+    pub fn passes(&mut self, packet: &Packet<'_>) -> Result<bool, Fault>
+        ensures answers { Answers (rule_decides (rule_of self.old) (captured packet.now)) result }
+        ensures rule { rule_of self.new ≡ rule_of self.old }
+        ensures spends { programs_of self.new ≡ spent_on (rule_of self.old) (captured packet.now)
+            (programs_of self.old) }
+        ensures bounded { spent_in (programs_of self.new) ≤ spent_in (programs_of self.old)
+            + most_cost (rule_of self.old) }
+    {
+        match self {
+            Filter::All => Ok(true),
+            Filter::Expression(compiled) => compiled.passes(packet),
+            Filter::Listing(program) => {
+                let (answer, _) = run(program, packet.bytes, packet.orig);
+                Ok(answer != 0)
+            }
+        }
+    }
+}
+
+/// The filter of a checked tree, with its programs. An error means that memory ran out.
+fn filter_of<A: Allocator + Copy + Drop>(
+    alloc: A,
+    tree: Checked<A>,
+) -> Result<Filter<A>, AllocError>
+    ensures rule { IfOk result (λ filter. rule_of filter ≡ by_reading tree.expr) }
+    ensures programs { IfOk result (λ filter. AreNew (by_reading tree.expr) (programs_of filter)) }
+{
+    if tree.expr.nodes().is_empty() {
+        Ok(Filter::All)
+    } else {
+        Ok(Filter::Expression(Compiled::new(alloc, tree)?))
+    }
+}
+
+/// The filter of an expression, whose programs for all link types are made here.
+///
+/// An error is the first of the text's faults, or out of memory (`ExprFault::Memory`).
+pub fn read_words<A: Allocator + Copy + Drop>(alloc: A, words: &str) -> Result<Filter<A>, Refusal>
+    ensures rule { IfOk result (λ filter. IsRule words.now None (rule_of filter)) }
+    ensures programs { IfOk result (λ filter. AreNew (rule_of filter) (programs_of filter)) }
+    ensures refused { IfErr result (IsWhy words.now None) }
+{
+    let tree = match read_expression(alloc, words) {
+        Ok(tree) => tree,
+        Err(fault) => return Err(Refusal::Expression(fault)),
+    };
+    match filter_of(alloc, tree) {
+        Ok(filter) => Ok(filter),
+        Err(_) => Err(Refusal::Expression(ExprFault::Memory)),
+    }
+}
+
+/// The filter of a listing, whatever the words.
+pub fn read_code<A: Allocator + Drop>(
+    alloc: A,
+    words: &str,
+    text: &[u8],
+) -> Result<Filter<A>, Refusal>
+    ensures rule { IfOk result (λ filter. IsRule words.now (Some text.now) (rule_of filter)) }
+    ensures programs { IfOk result (λ filter. AreNew (rule_of filter) (programs_of filter)) }
+    ensures refused { IfErr result (IsWhy words.now (Some text.now)) }
+{
+    match read_listing(alloc, text) {
+        Ok(insns) => match check(insns) {
+            Ok(program) => Ok(Filter::Listing(program)),
+            Err((fault, at)) => Err(Refusal::Program(fault, at)),
+        },
+        Err(fault) => Err(Refusal::Listing(fault)),
+    }
+}

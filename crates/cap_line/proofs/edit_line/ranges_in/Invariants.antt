@@ -1,6 +1,0 @@
-use Rattle.std.proofs.Common.{◌≡◌, Some, map, take}
-use Rattle.cap_line.specs.Range.{range_of}
-use Rattle.cap_line.proofs.edit_line.ranges_in.Given as goal
-
-abbrev pub invariant-loop-word : goal.invariant-loop-word
-invariant-loop-word l = map Some l.ranges.items ≡ map range_of (map (λ word. word.now) (take l.word-index l.words))

@@ -1,3 +1,0 @@
-mod Printing
-mod Rows
-mod Zeros

@@ -1,7 +1,0 @@
-use Rattle.std.proofs.Common.{refl}
-use Rattle.cap_lines.specs.Hexadecimal.{hex_four, hex_eight, hex_sixteen}
-use Rattle.cap_lines.proofs.hexadecimal.hex_sixteen.Goals as goal
-
-pub returns : goal.returns
-unfolding hex_sixteen hex_eight hex_four
-returns c = rw (c.hex_eight-high.ensures, c.hex_eight-low.ensures) refl

@@ -1,9 +1,0 @@
-//! Tests of cap_lines: each line that a packet may have, and its rows.
-#![tactic(auto)]
-
-#[cfg(test)]
-mod lines;
-#[cfg(test)]
-mod rows;
-#[cfg(test)]
-mod shown;

@@ -1,0 +1,5 @@
+mod Decimals
+mod Groups
+mod Printing
+mod Rows
+mod Zeros

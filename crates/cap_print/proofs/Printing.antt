@@ -1,0 +1,42 @@
+-- What is printed of a packet, part by part.
+use Rattle.std.proofs.Common.{◌≡◌, ℕ, ◌+◌, ◌<◌, true, false, List, [], ◌++◌, length, take, Result, Ok, Err, refl, ap, sym, ◌∙◌, arith, length-append, append-nil}
+use Rattle.std.proofs.Math.Seq.{take-append-add}
+use Rattle.std.proofs.lemmas.List.{append_assoc}
+use Rattle.cap_octet.specs.Device.{AppendsOrStops, Stops, WritesAll}
+use Rattle.cap_octet.specs.Packet.{Captured}
+use Rattle.cap_octet.specs.declared.device.Stopped.{Stopped}
+use Rattle.cap_octet.proofs.Writing.{stops-part}
+use Rattle.cap_print.specs.Dump.{payload, rows}
+use Rattle.cap_print.specs.Line.{line}
+use Rattle.cap_print.specs.Rendering.{printed}
+use Rattle.cap_print.specs.declared.print.Options.{Options}
+
+pub printed-alone : (options : Options) (p : Captured) → options.bytes ≡ false → printed options p ≡ line options.link p
+unfolding printed
+printed-alone options p none = rw (none, append-nil (line options.link p)) refl
+
+pub printed-with_rows : (options : Options) (p : Captured) → options.bytes ≡ true
+    → printed options p ≡ line options.link p ++ rows (payload p.link p.bytes)
+unfolding printed
+printed-with_rows options p some = rw some refl
+
+-- where the device fails in the line, a prefix of all is written
+pub stops-in_line : (options : Options) (p : Captured) (old new : List ℕ) (stopped : Stopped)
+    → stopped.written < length (line options.link p) → WritesAll old (line options.link p) (Err stopped) new → Stops old (printed options p) new
+unfolding printed
+stops-in_line options p old new stopped less writes =
+    stops-part old old new [] (line options.link p) _ stopped (sym (append-nil old)) less writes
+
+-- what follows some bytes is appended, or a prefix of it
+pub appends-behind : {E : Type 0} (r : Result (Unit {0}) E) (old done part mid new : List ℕ) → mid ≡ old ++ done
+    → AppendsOrStops r mid part new → AppendsOrStops r old (done ++ part) new
+appends-behind (Ok value) old done part mid new first appends = appends ∙ ap (λ (x : List ℕ). x ++ part) first ∙ append_assoc old done part
+appends-behind (Err fault) old done part mid new first stops =
+    let less : stops.0 < length part = stops.1 in (
+      length done + stops.0,
+      omega (arith, less, length-append done part),
+      stops.2
+          ∙ ap (λ (x : List ℕ). x ++ take stops.0 part) first
+          ∙ append_assoc old done (take stops.0 part)
+          ∙ ap (λ (x : List ℕ). old ++ x) (sym (take-append-add done part stops.0)),
+    )

@@ -1,0 +1,34 @@
+-- The bytes of a packet in hexadecimal, 16 a row.
+use Rattle.std.specs.Prelude.{ℕ, zero, suc, ◌+◌, ◌*◌, ◌/◌, ◌==◌, if◌then◌else◌, List, [], ◌∷◌, ◌++◌, length, take, drop, codes}
+use Rattle.cap_print.specs.Hexadecimal.{hex_two, hex_place}
+use Rattle.cap_print.specs.Network.{ETHERNET, LINUX_COOKED}
+
+-- how many bytes the header of a link has
+abbrev pub link_header_length : ℕ → ℕ
+link_header_length link = if link == ETHERNET then 14 else if link == LINUX_COOKED then 16 else 0
+
+-- the captured bytes after the link header
+abbrev pub payload : ℕ → List ℕ → List ℕ
+payload link p = drop (link_header_length link) p
+
+-- a blank and four digits for each two bytes; a last single byte has two digits
+abbrev pub pairs : List ℕ → List ℕ
+pairs [] = []
+pairs (a ∷ []) = 32 ∷ hex_two a
+pairs (a ∷ b ∷ more) = 32 ∷ (hex_two a ++ (hex_two b ++ pairs more))
+
+-- the row behind k others: a tab, the place of its first byte, and its bytes
+unfoldable pub row : List ℕ → ℕ → List ℕ
+row bytes k = 9 ∷ (codes "0x" ++ (hex_place (16 * k) ++ (58 ∷ (pairs (take 16 (drop (16 * k) bytes)) ++ 10 ∷ []))))
+
+-- how many rows so many bytes have
+abbrev pub row_count : ℕ → ℕ
+row_count count = (count + 15) / 16
+
+abbrev pub first_rows : List ℕ → ℕ → List ℕ
+first_rows bytes zero = []
+first_rows bytes (suc k) = first_rows bytes k ++ row bytes k
+
+-- all rows; there is none without bytes
+abbrev pub rows : List ℕ → List ℕ
+rows bytes = first_rows bytes (row_count (length bytes))

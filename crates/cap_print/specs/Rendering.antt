@@ -1,0 +1,10 @@
+-- What is printed of a packet.
+use Rattle.std.specs.Prelude.{if◌then◌else◌, ℕ, List, [], ◌++◌}
+use Rattle.cap_octet.specs.Packet.{Captured}
+use Rattle.cap_print.specs.declared.print.Options.{Options}
+use Rattle.cap_print.specs.Dump.{payload, rows}
+use Rattle.cap_print.specs.Line.{line}
+
+-- its line, and behind it the rows of its bytes where they are asked for
+unfoldable pub printed : Options → Captured → List ℕ
+printed options p = line options.link p ++ (if options.bytes then rows (payload p.link p.bytes) else [])

@@ -1,0 +1,97 @@
+//! Addresses and ports.
+ghost use Rattle.std.specs.Prelude.{◌≡◌, ◌+◌, ◌≤◌, ◌<◌, ◌++◌, length};
+ghost use Rattle.cap_print.specs.Addresses.{four_groups, ipv4_text, ipv6_text, mac_text, port_text};
+ghost use Rattle.cap_print.specs.Addresses.{u16_of};
+
+use crate::hexadecimal::{push_hex_group, push_hex_two};
+use crate::text::Text;
+use cap_octet::{Order, u16_at};
+
+/// The number in the two bytes from place `at`, the high byte first, as in network headers.
+#[inline]
+pub fn u16_of(bytes: &[u8], at: usize) -> u16
+    requires { at + 2 ≤ length bytes.now }
+    ensures { result ≡ u16_of bytes.now at }
+{
+    u16_at(Order::Big, bytes, at)
+}
+
+/// Appends the IPv4 address in the four bytes from place `at`.
+#[tactic(auto, unfolding(crate::specs::Addresses::ipv4_text))]
+pub fn push_ipv4(text: &mut Text, bytes: &[u8], at: usize)
+    requires room { length text.old + 43 ≤ 256 }
+    requires there { at + 4 ≤ length bytes.now }
+    ensures value { text.new ≡ text.old ++ ipv4_text bytes.now at }
+    ensures bound { length text.new ≤ length text.old + 43 }
+{
+    text.push_decimal(bytes[at] as u32);
+    text.push(b'.');
+    text.push_decimal(bytes[at + 1] as u32);
+    text.push(b'.');
+    text.push_decimal(bytes[at + 2] as u32);
+    text.push(b'.');
+    text.push_decimal(bytes[at + 3] as u32);
+}
+
+/// Appends four groups of an IPv6 address, in the eight bytes from place `at`.
+#[tactic(auto, unfolding(crate::specs::Addresses::four_groups))]
+fn push_four_groups(text: &mut Text, bytes: &[u8], at: usize)
+    requires room { length text.old + 19 ≤ 256 }
+    requires there { at + 8 ≤ length bytes.now }
+    ensures value { text.new ≡ text.old ++ four_groups bytes.now at }
+    ensures bound { length text.new ≤ length text.old + 19 }
+{
+    push_hex_group(text, u16_of(bytes, at));
+    text.push(b':');
+    push_hex_group(text, u16_of(bytes, at + 2));
+    text.push(b':');
+    push_hex_group(text, u16_of(bytes, at + 4));
+    text.push(b':');
+    push_hex_group(text, u16_of(bytes, at + 6));
+}
+
+/// Appends the IPv6 address in the sixteen bytes from place `at`.
+#[tactic(auto, unfolding(crate::specs::Addresses::ipv6_text))]
+pub fn push_ipv6(text: &mut Text, bytes: &[u8], at: usize)
+    requires room { length text.old + 39 ≤ 256 }
+    requires there { at + 16 ≤ length bytes.now }
+    ensures value { text.new ≡ text.old ++ ipv6_text bytes.now at }
+    ensures bound { length text.new ≤ length text.old + 39 }
+{
+    push_four_groups(text, bytes, at);
+    text.push(b':');
+    push_four_groups(text, bytes, at + 8);
+}
+
+/// Appends a point and a port, if there is one.
+pub fn push_port(text: &mut Text, port: Option<u16>)
+    requires { length text.old + 11 ≤ 256 }
+    ensures value { text.new ≡ text.old ++ port_text port }
+    ensures bound { length text.new ≤ length text.old + 11 }
+{
+    if let Some(number) = port {
+        text.push(b'.');
+        text.push_decimal(number as u32);
+    }
+}
+
+/// Appends the Ethernet address in the six bytes from place `at`.
+#[tactic(auto, unfolding(crate::specs::Addresses::mac_text))]
+pub fn push_mac(text: &mut Text, bytes: &[u8], at: usize)
+    requires room { length text.old + 17 ≤ 256 }
+    requires there { at + 6 ≤ length bytes.now }
+    ensures value { text.new ≡ text.old ++ mac_text bytes.now at }
+    ensures bound { length text.new ≡ length text.old + 17 }
+{
+    push_hex_two(text, bytes[at]);
+    text.push(b':');
+    push_hex_two(text, bytes[at + 1]);
+    text.push(b':');
+    push_hex_two(text, bytes[at + 2]);
+    text.push(b':');
+    push_hex_two(text, bytes[at + 3]);
+    text.push(b':');
+    push_hex_two(text, bytes[at + 4]);
+    text.push(b':');
+    push_hex_two(text, bytes[at + 5]);
+}

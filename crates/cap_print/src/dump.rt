@@ -1,0 +1,72 @@
+//! The bytes of a packet in hexadecimal, 16 a row.
+ghost use Rattle.std.specs.Prelude.{◌≡◌, ◌+◌, ◌*◌, ◌≤◌, ◌<◌, ◌++◌, length};
+ghost use Rattle.cap_print.specs.Dump.{link_header_length, pairs, payload, row, row_count};
+
+use crate::hexadecimal::{push_hex_place, push_hex_two};
+use crate::network::{ETHERNET, LINUX_COOKED};
+use crate::text::Text;
+
+/// How many bytes a row has.
+const ROW_BYTES: usize = 16;
+
+fn link_header_length(link: u16) -> usize
+    ensures { result ≡ link_header_length link }
+{
+    match link {
+        ETHERNET => 14,
+        LINUX_COOKED => 16,
+        _ => 0,
+    }
+}
+
+/// The captured bytes after the link header.
+pub fn payload(link: u16, bytes: &[u8]) -> &[u8]
+    ensures { result.now ≡ payload link bytes.now }
+{
+    let start = link_header_length(link).min(bytes.len());
+    &bytes[start..]
+}
+
+/// How many rows so many bytes have.
+pub fn row_count(count: usize) -> usize
+    ensures { result ≡ row_count count }
+{
+    count.div_ceil(ROW_BYTES)
+}
+
+/// Appends a blank and four digits for each two bytes, and a blank and two digits for a last single
+/// byte.
+fn push_pairs(text: &mut Text, bytes: &[u8])
+    requires { length text.old + 3 * length bytes.now ≤ 256 }
+    ensures value { text.new ≡ text.old ++ pairs bytes.now }
+    ensures bound { length text.new ≤ length text.old + 3 * length bytes.now }
+{
+    let mut at = 0;
+    while at + 1 < bytes.len() {
+        text.push(b' ');
+        push_hex_two(text, bytes[at]);
+        push_hex_two(text, bytes[at + 1]);
+        at += 2;
+    }
+    if at < bytes.len() {
+        text.push(b' ');
+        push_hex_two(text, bytes[at]);
+    }
+}
+
+/// Replaces the bytes of the buffer by the row behind `index` others, which ends with a line feed.
+#[tactic(auto, unfolding(crate::specs::Dump::row))]
+pub fn write_row(text: &mut Text, bytes: &[u8], index: usize)
+    requires { 16 * index < length bytes.now }
+    ensures { text.new ≡ row bytes.now index }
+{
+    let start = ROW_BYTES * index;
+    let rest = &bytes[start..];
+    let end = ROW_BYTES.min(rest.len());
+    text.clear();
+    text.push_all(b"\t0x");
+    push_hex_place(text, start as u64);
+    text.push(b':');
+    push_pairs(text, &rest[..end]);
+    text.push(b'\n');
+}

@@ -1,0 +1,113 @@
+//! Numbers in hexadecimal, with lower-case digits.
+ghost use Rattle.std.specs.Prelude.{◌≡◌, ◌+◌, ◌≤◌, ◌<◌, ◌++◌, length, drop};
+ghost use Rattle.cap_print.specs.Hexadecimal.{hex_digit, hex_two, hex_four, hex_eight, hex_sixteen};
+ghost use Rattle.cap_print.specs.Hexadecimal.{hex_group, hex_place, without_zeros};
+
+use crate::text::Text;
+
+static DIGITS: [u8; 16] = *b"0123456789abcdef";
+
+#[inline]
+fn hex_digit(digit: u16) -> u8
+    requires { digit < 16 }
+    ensures { result ≡ hex_digit digit }
+{
+    DIGITS[digit as usize]
+}
+
+/// The four digits.
+#[inline]
+#[tactic(auto, unfolding(crate::specs::Hexadecimal::hex_four))]
+fn hex_four(number: u16) -> [u8; 4]
+    ensures { result ≡ hex_four number }
+{
+    [
+        hex_digit(number / 4096),
+        hex_digit(number / 256 % 16),
+        hex_digit(number / 16 % 16),
+        hex_digit(number % 16),
+    ]
+}
+
+/// The eight digits.
+#[tactic(auto, unfolding(crate::specs::Hexadecimal::hex_eight, crate::specs::Hexadecimal::hex_four))]
+fn hex_eight(number: u32) -> [u8; 8]
+    ensures { result ≡ hex_eight number }
+{
+    let [a, b, c, d] = hex_four((number / 0x1_0000) as u16);
+    let [e, f, g, h] = hex_four((number % 0x1_0000) as u16);
+    [a, b, c, d, e, f, g, h]
+}
+
+/// The sixteen digits.
+fn hex_sixteen(number: u64) -> [u8; 16]
+    ensures { result ≡ hex_sixteen number }
+{
+    let high = hex_eight((number / 0x1_0000_0000) as u32);
+    let low = hex_eight((number % 0x1_0000_0000) as u32);
+    let [a, b, c, d, e, f, g, h] = high;
+    let [i, j, k, l, m, n, o, p] = low;
+    [a, b, c, d, e, f, g, h, i, j, k, l, m, n, o, p]
+}
+
+/// How many of the first `most` digits are zeros before another digit.
+fn leading_zeros(digits: &[u8], most: usize) -> usize
+    requires { most ≤ length digits.now }
+    ensures value { drop result digits.now ≡ without_zeros most digits.now }
+    ensures bound { result ≤ most }
+{
+    for i in 0..most {
+        if digits[i] != b'0' {
+            return i;
+        }
+    }
+    most
+}
+
+/// Appends the two digits of a byte.
+#[tactic(auto, unfolding(crate::specs::Hexadecimal::hex_two))]
+pub fn push_hex_two(text: &mut Text, number: u8)
+    requires { length text.old + 2 ≤ 256 }
+    ensures value { text.new ≡ text.old ++ hex_two number }
+    ensures bound { length text.new ≡ length text.old + 2 }
+{
+    let number = number as u16;
+    text.push_all(&[hex_digit(number / 16), hex_digit(number % 16)]);
+}
+
+/// Appends all four digits.
+pub fn push_hex_four(text: &mut Text, number: u16)
+    requires { length text.old + 4 ≤ 256 }
+    ensures value { text.new ≡ text.old ++ hex_four number }
+    ensures bound { length text.new ≡ length text.old + 4 }
+{
+    text.push_all(&hex_four(number));
+}
+
+/// Appends the digits without leading zeros.
+#[tactic(auto, unfolding(crate::specs::Hexadecimal::hex_group))]
+pub fn push_hex_group(text: &mut Text, number: u16)
+    requires { length text.old + 4 ≤ 256 }
+    ensures value { text.new ≡ text.old ++ hex_group number }
+    ensures bound { length text.new ≤ length text.old + 4 }
+{
+    let [a, b, c, d] = hex_four(number);
+    match number {
+        0x1000.. => text.push_all(&[a, b, c, d]),
+        0x100.. => text.push_all(&[b, c, d]),
+        0x10.. => text.push_all(&[c, d]),
+        _ => text.push(d),
+    }
+}
+
+/// Appends a place among bytes, with at least four digits.
+#[tactic(auto, unfolding(crate::specs::Hexadecimal::hex_place))]
+pub fn push_hex_place(text: &mut Text, place: u64)
+    requires { length text.old + 16 ≤ 256 }
+    ensures value { text.new ≡ text.old ++ hex_place place }
+    ensures bound { length text.new ≤ length text.old + 16 }
+{
+    let digits = hex_sixteen(place);
+    let start = leading_zeros(&digits, 12);
+    text.push_all(&digits[start..]);
+}

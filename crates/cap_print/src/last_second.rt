@@ -1,0 +1,51 @@
+//! The date of the last second.
+use cap_octet::date::second_bytes;
+use std::marker::Model;
+
+/// A second and its date, kept since most packets share their second with the one before.
+/// Contracts see it as the second.
+#[derive(Drop)]
+pub struct LastSecond {
+    second: u64,
+    date: [u8; 20],
+}
+
+impl Model for LastSecond {
+    ghost use Rattle.std.specs.Prelude.{◌≡◌, ℕ};
+    ghost use Rattle.cap_octet.specs.Date.{second_text};
+
+    ghost Value = { ℕ };
+
+    ghost view = { λ l. l.second };
+
+    ghost invariant = { λ l. l.date ≡ second_text l.second };
+}
+
+impl LastSecond {
+    ghost use Rattle.std.specs.Prelude.{◌≡◌, ◌^◌, ◌<◌};
+    ghost use Rattle.cap_octet.specs.Date.{second_text};
+
+    pub fn new(second: u64) -> Self
+        requires { second < 2 ^ 34 }
+        ensures { result ≡ second }
+    {
+        LastSecond {
+            second,
+            date: second_bytes(second),
+        }
+    }
+
+    /// The date of a second since 1970-01-01 00:00:00 UTC, and a point.
+    #[inline]
+    pub fn date_of(&mut self, second: u64) -> [u8; 20]
+        requires { second < 2 ^ 34 }
+        ensures date { result ≡ second_text second }
+        ensures last { self.new ≡ second }
+    {
+        if second != self.second {
+            self.second = second;
+            self.date = second_bytes(second);
+        }
+        self.date
+    }
+}

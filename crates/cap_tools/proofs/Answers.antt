@@ -1,0 +1,563 @@
+-- The steps that decide the current packet.
+use Rattle.std.proofs.Common.{◌≡◌, ◌⊎◌, inl, inr, ℕ, ◌+◌, ◌<◌, ◌≤◌, Bool, true, false, List, [], ◌∷◌, ◌++◌, length, map, Option, None, Some, Result, Ok, Err, refl, sym, ◌∙◌, ap, arith, subst, not, nat_eq, if◌then◌else◌, ◌-◌}
+use Rattle.std.proofs.lemmas.List.{append_assoc, append-nil, map-append}
+use Rattle.std.specs.List.{slice_set}
+use Rattle.cap_octet.specs.Device.{Stops}
+use Rattle.cap_octet.specs.Packet.{Captured}
+use Rattle.cap_octet.specs.declared.fault.Fault.{Fault}
+use Rattle.cap_octet.specs.declared.fault.Fault.TheVariants.{NoMemory, TooManyPackets, WriteFailed}
+use Rattle.cap_io.specs.Capture.{Placed}
+use Rattle.cap_io.specs.Position.{IsAt}
+use Rattle.cap_io.specs.Sink.{SinkView}
+use Rattle.cap_io.specs.Text.{text, added, packets_text, refused}
+use Rattle.cap_io.proofs.Standing.{IsAt-decided}
+use Rattle.cap_io.proofs.Texts.{text-more}
+use Rattle.cap_filter.specs.Decisions as chosen
+use Rattle.cap_filter.specs.Decisions.{Decision}
+use Rattle.cap_filter.specs.FilterRules as rule_spec
+use Rattle.cap_filter.specs.Links.{link_of}
+use Rattle.cap_filter.specs.FilterRules.{Rule, rule_decides, read_on, passing, answering}
+use Rattle.flt_bpf.specs.Machine as bpf
+use Rattle.flt_bpf.specs.Machine.{machine, Answered}
+use Rattle.flt_lang.specs.Tree.{Expression, empty, truth}
+use Rattle.flt_gen.specs.declared.link.Link.{Link}
+use Rattle.flt_gen.specs.Elementary.{Reading, Yes, No, Rejected}
+use Rattle.flt_gen.specs.Reading.{holds}
+use Rattle.cap_tools.specs.declared.selector.Verdict as code
+use Rattle.cap_tools.specs.declared.selector.Verdict.TheVariants as code_verdict
+use Rattle.cap_tools.specs.declared.machine.JobEnd.TheVariants as end
+use Rattle.cap_tools.specs.declared.inputs.Schedule.{Schedule}
+use Rattle.cap_tools.specs.declared.inputs.Next.TheVariants as next
+use Rattle.cap_tools.specs.Reports.{Tally}
+use Rattle.cap_tools.specs.Sequence.{InputItems, Event, Packet, SequenceEnd, Complete, FaultIn, Sequence, sequence_of, with_front}
+use Rattle.cap_tools.specs.Verdict.{Policy, Edit, Filter, KeepAll, Count, EditRule, SelectorState, Verdict, Pass, PassLast, Skip, Refuse, judge}
+use Rattle.cap_window.specs.Marks.{mark_of, has_same}
+use Rattle.cap_tools.specs.Verdict as judged_spec
+use Rattle.cap_tools.specs.Selector.{PolicyState, GrowsByOne, IsWithin, IsVerdict}
+use Rattle.cap_print.specs.declared.print.Options.{Options}
+use Rattle.cap_print.specs.Rendering.{printed}
+use Rattle.cap_tools.specs.Outcome.{Form, AsCapture, AsLines, Progress, lines_text, no_progress, decide_unless, apply_verdict, apply_event, apply_events, final_progress, packet_bytes, form_refuses, end_with, final_text, first_link, output_text}
+use Rattle.cap_tools.specs.Outcome as course_spec
+use Rattle.cap_tools.specs.Output.{JobOutputView, Target, Capture, Text, Lines, HasWritten, Puts, PutsTo, form_at, form_to, written_to, failures_to}
+use Rattle.cap_tools.specs.Inputs.{InputView, InputsView, Future, InputPast, AreInputsBehind, IsInput, input_behind, schedule_behind, actual_future, inputs_with, items_left, inputs_left, sequence_left, most_steps, ordering_of}
+use Rattle.cap_tools.specs.Inputs as input_spec
+use Rattle.cap_tools.specs.Machine.{MachineState, Decided, GoesOn, Comes, Decides, Offers, StopsWriting, NextPacket, PassesAs, EndLeaves, progress_at, progress_of, progress_over, form_of, wholes_of, written_by, unwritten}
+use Rattle.cap_tools.proofs.Splits.{At, stands-split, stands-join, stands-length, rests-join, finish-here, come-on}
+use Rattle.cap_tools.proofs.Coming.{carries-decided, true-wholes, true-fit, true-fits}
+use Rattle.cap_tools.proofs.Outputs.{drained-text, PutOk, put-ok, WhyUnput, lines-more, unput, closing-some}
+use Rattle.cap_tools.proofs.Growing.{Grows, course-grows}
+use Rattle.cap_tools.proofs.Laws.{DecideLaws, DecideAt, decide-at}
+use Rattle.cap_tools.proofs.Once.{once-nothing, once-packet}
+use Rattle.cap_tools.proofs.Outcomes.{progress-next, course-stop}
+use Rattle.cap_tools.proofs.Cursors.{greatest-decided, greatest-here, never-at, set-here}
+use Rattle.cap_tools.proofs.Fetches.{mk, among-same, comes-broken}
+
+-- ---- a packet that is judged
+
+abbrev pub end_if : Bool → Option SequenceEnd
+end_if true = Some Complete
+end_if false = None
+
+-- what is written and how far the job is where a packet is decided
+pub record Took (policy : Policy) (w : Progress) (before : List ℕ) (i : ℕ) (x : Placed) (state' : SelectorState) (old new : JobOutputView) (last : Bool) : Type 0 where
+  pub passed : List Captured
+  -- one at most
+  pub few : (passed ≡ []) ⊎ ((q : Captured) × (passed ≡ q ∷ []))
+  pub went : apply_event policy (form_at old) w (Packet i x) ≡ course_spec.decide w state' passed (end_if last)
+  pub output : HasWritten before new (w.packets ++ passed) w.reports
+  pub form : form_at new ≡ form_at old
+  pub failures : failures_to new.target ≡ failures_to old.target
+  pub names : new.names ≡ old.names
+
+goes-by : (policy : Policy) (form : Form) (w : Progress) (i : ℕ) (x : Placed) (v : Verdict) (state' : SelectorState) → v ≡ (judge policy w.state (w.decided + 1) x.packet).verdict → state' ≡ (judge policy w.state (w.decided + 1) x.packet).state
+    → apply_event policy form w (Packet i x) ≡ apply_verdict form w i x v state'
+goes-by policy form w i x v state' one other = rw (one, other) refl
+
+put-took : (policy : Policy) (w : Progress) (before : List ℕ) (i : ℕ) (x : Placed) (q : Captured) (state' : SelectorState) (old new : JobOutputView) (last : Bool) → HasWritten before old w.packets w.reports → Puts q old (Ok tt) new
+    → apply_event policy (form_at old) w (Packet i x) ≡ decide_unless (form_refuses (form_at old) w.packets q) w i x state' q (end_if last)
+    → Took policy w before i x state' old new last
+put-took policy w before i x q state' old new last has puts went =
+    let ok : PutOk before w.packets w.reports q old.names new.names old.target new.target = put-ok before w.packets w.reports q old.names new.names old.target new.target puts.names has puts.target in
+    record {
+      passed = q ∷ [];
+      few = inr (q, refl);
+      went = went ∙ ap (λ (f : Option Fault). decide_unless f w i x state' q (end_if last)) ok.none;
+      output = ok.output;
+      form = ok.form;
+      failures = ok.failures;
+      names = puts.names;
+    }
+
+pub took : (policy : Policy) (w : Progress) (before : List ℕ) (i : ℕ) (x : Placed) (old new : JobOutputView) (last : Bool) (state' : SelectorState) (v : code.Verdict) (q : Captured) → HasWritten before old w.packets w.reports
+    → IsVerdict (judge policy w.state (w.decided + 1) x.packet) (Ok v) q state' → Offers v q old (Ok last) new → Took policy w before i x state' old new last
+took policy w before i x old new last state' code_verdict.Pass q has told offers =
+    rw offers.0 (put-took policy w before i x q state' old new false has offers.1 (goes-by policy (form_at old) w i x (Pass q) state' told.0 told.1))
+took policy w before i x old new last state' code_verdict.PassLast q has told offers =
+    rw offers.0 (put-took policy w before i x q state' old new true has offers.1 (goes-by policy (form_at old) w i x (PassLast q) state' told.0 told.1))
+took policy w before i x old new last state' code_verdict.Skip q has told offers =
+    let b : last ≡ false = (cc (offers.0)) in
+    rw (b, offers.1) (record {
+      passed = [];
+      few = inl refl;
+      went = goes-by policy (form_at old) w i x Skip state' told.0 told.1;
+      output = rw (append-nil w.packets) has;
+      form = refl;
+      failures = refl;
+      names = refl;
+    })
+
+-- ---- the true order begins with it
+
+laters : List InputView → List Future
+laters hs = map (λ (v : InputView). actual_future v.source) hs
+
+pub record Ahead (ss : List InputPast) (cursors : List InputView) (schedule : Schedule) (es : List Event) (e : Event) : Type 0 where
+  pub more : Sequence
+  pub is : sequence_of (ordering_of schedule) (wholes_of ss) ≡ with_front es (with_front (e ∷ []) more)
+
+pub next-true : (us vs : List InputPast) (s : InputPast) (before : List ℕ) (xs ys : List InputView) (h : InputView) (schedule : Schedule) (turn : ℕ) (policy : Policy) (state : SelectorState) (output : JobOutputView) (decided : ℕ) (p : Captured)
+    → DecideLaws schedule turn xs ys h → AreInputsBehind us xs → At s h → AreInputsBehind vs ys → h.source.packet ≡ Some p
+    → (d : Decided (us ++ s ∷ vs) before (mk (xs ++ h ∷ ys) schedule policy state output decided))
+    → Ahead (us ++ s ∷ vs) (xs ++ h ∷ ys) schedule d.events (Packet turn (record { offset = h.source.offset; packet = p }))
+next-true us vs s before xs ys h schedule turn policy state output decided p laws front at back held d =
+    let fits = true-fits (us ++ s ∷ vs) (xs ++ h ∷ ys) d.behind in
+    record {
+      more = sequence_left (schedule_behind schedule turn) (inputs_left xs (map (λ (v : InputView). actual_future v.source) xs) ++ items_left (input_behind h) (actual_future h.source) ∷ inputs_left ys (map (λ (v : InputView). actual_future v.source) ys));
+      is =
+          ap (sequence_of (ordering_of schedule)) (sym (true-wholes (us ++ s ∷ vs) (xs ++ h ∷ ys) d.behind))
+          ∙ d.come (map (λ (v : InputView). actual_future v.source) (xs ++ h ∷ ys)) fits
+          ∙ ap (λ (l : List Future). with_front d.events (sequence_left schedule (inputs_left (xs ++ h ∷ ys) l))) (map-append (λ (v : InputView). actual_future v.source) xs (h ∷ ys))
+          ∙ ap (λ (l : List InputItems). with_front d.events (sequence_left schedule l)) (rests-join xs ys h (map (λ (v : InputView). actual_future v.source) xs) (map (λ (v : InputView). actual_future v.source) ys) (actual_future h.source) (true-fits us xs front))
+          ∙ ap (with_front d.events) (laws.decided_left p held (actual_future h.source) (true-fit s h at) (map (λ (v : InputView). actual_future v.source) xs) (map (λ (v : InputView). actual_future v.source) ys) (true-fits us xs front) (true-fits vs ys back));
+    }
+
+-- ---- it is decided
+
+within-more : (n m : ℕ) (t : Tally) → n ≤ m → IsWithin n t → IsWithin m t
+within-more n m t less within =
+    let a = within.0 in
+    let b = within.1 in
+    let c = within.2 in
+    (omega (arith, less, a), omega (arith, less, b), omega (arith, less, c))
+
+counted-more : (n : ℕ) (t t' : Tally) → IsWithin n t → GrowsByOne t t' → IsWithin (n + 1) t'
+counted-more n t t' within grows =
+    let a = within.0 in
+    let b = within.1 in
+    let c = within.2 in
+    let x = grows.0 in
+    let y = grows.1 in
+    let z = grows.2 in
+    (omega (arith, a, x), omega (arith, b, y), omega (arith, c, z))
+
+pub decided-goes : (us vs : List InputPast) (s : InputPast) (before : List ℕ) (xs ys : List InputView) (h : InputView) (schedule : Schedule) (turn : ℕ) (policy : Policy) (state state' : SelectorState) (output output' : JobOutputView) (decided : ℕ) (p : Captured)
+    → DecideLaws schedule turn xs ys h → AreInputsBehind us xs → At s h → AreInputsBehind vs ys → h.source.packet ≡ Some p → state'.passed ≤ decided + 1 → GrowsByOne state.tally state'.tally
+    → (d : Decided (us ++ s ∷ vs) before (mk (xs ++ h ∷ ys) schedule policy state output decided))
+    → Took policy (progress_at (mk (xs ++ h ∷ ys) schedule policy state output decided) d.packets d.reports) before turn (record { offset = h.source.offset; packet = p }) state' output output' false
+    → GoesOn d (mk (xs ++ input_behind h ∷ ys) (schedule_behind schedule turn) policy state' output' (decided + 1))
+decided-goes us vs s before xs ys h schedule turn policy state state' output output' decided p laws front at back held within grows d t =
+    let waits : h.waiting ≡ true = laws.waits in
+    let x : Placed = record { offset = h.source.offset; packet = p } in
+    let P : Bool → Type 0 = λ b. IsAt s.text s.done s.packets b h.source in
+    let was : IsAt s.text s.done s.packets true h.source = subst P waits at in
+    let same : (was.waits refl).packet ≡ p = (let e : Some (was.waits refl).packet ≡ Some p = sym (was.waits refl).held ∙ held in cc) in
+    let after : InputPast = record { text = s.text; done = s.done ++ h.source.block; packets = s.packets ++ x ∷ [] } in
+    let A : Captured → Type 0 = λ q. IsAt s.text (s.done ++ h.source.block) (s.packets ++ record { offset = h.source.offset; packet = q } ∷ []) false h.source in
+    let here : At after (input_behind h) = subst A same (IsAt-decided s.text s.done s.packets h.source was).1 in
+    let old : MachineState = mk (xs ++ h ∷ ys) schedule policy state output decided in
+    let new : MachineState = mk (xs ++ input_behind h ∷ ys) (schedule_behind schedule turn) policy state' output' (decided + 1) in
+    record {
+      input = turn;
+      finished = h.source.block;
+      packets = x ∷ [];
+      past = us ++ after ∷ vs;
+      past_is = sym (finish-here us vs s turn h.source.block (x ∷ []) (stands-length us xs front ∙ laws.here));
+      decided = record {
+        behind = stands-join us vs after xs ys (input_behind h) front here back;
+        greatest = greatest-here us vs s after xs ys h (input_behind h) front d.greatest (greatest-decided h p h.source.offset s.packets held);
+        events = d.events ++ Packet turn x ∷ [];
+        come = come-on us vs s after xs ys h (input_behind h) schedule (schedule_behind schedule turn) d.events (Packet turn x ∷ []) laws.order front d.come
+            (λ f' fit. carries-decided s xs ys h turn schedule (schedule_behind schedule turn) h.source.block p waits held (λ f fit fs gs before with_front. laws.decided_left p held f fit fs gs before with_front) f' fit);
+        packets = d.packets ++ t.passed;
+        reports = d.reports;
+        progress = ap (λ (f : Form). apply_events policy f no_progress (d.events ++ Packet turn x ∷ [])) t.form ∙ progress-next policy (form_at output) d.events (Packet turn x) (progress_at old d.packets d.reports) (progress_at new (d.packets ++ t.passed) d.reports) d.progress t.went;
+        output = t.output;
+        passed = within;
+        counted = counted-more decided state.tally state'.tally d.counted grows;
+        ended = laws.ended;
+      };
+      at_most_one = omega arith;
+      form = t.form;
+      once = elim t.few [
+        | inl none ↦ once-nothing (first_link (wholes_of (us ++ s ∷ vs))) (progress_of d) (progress_at new (d.packets ++ t.passed) d.reports) output output'
+            (ap (λ (l : List Captured). d.packets ++ l) none ∙ append-nil d.packets) refl (took-nothing none)
+        | inr one ↦ once-packet (first_link (wholes_of (us ++ s ∷ vs))) before (progress_of d) (progress_at new (d.packets ++ t.passed) d.reports) output output' one.0 d.output (took-one one.0 one.1) t.form
+            (ap (λ (l : List Captured). d.packets ++ l) one.1) refl
+      ];
+      output = t.failures;
+      names = t.names;
+      order = laws.order;
+      never = never-at xs ys h (input_behind h) refl;
+    }
+  where
+    took-one : (q : Captured) → t.passed ≡ q ∷ [] → HasWritten before output' (d.packets ++ q ∷ []) d.reports
+    took-one q is = let P : List Captured → Type 0 = λ l. HasWritten before output' (d.packets ++ l) d.reports in subst P is t.output
+
+    took-nothing : t.passed ≡ [] → written_to output'.target ≡ written_to output.target
+    took-nothing is =
+        let P : List Captured → Type 0 = λ l. HasWritten before output' l d.reports in
+        let has : HasWritten before output' d.packets d.reports = subst P (ap (λ (l : List Captured). d.packets ++ l) is ∙ append-nil d.packets) t.output in
+        drained-text before output'.names output'.target d.packets d.reports has
+        ∙ ap (λ (f : Form). before ++ output_text f d.packets d.reports) t.form
+        ∙ sym (drained-text before output.names output.target d.packets d.reports d.output)
+
+-- ---- it is the last, or it is refused
+
+-- the job ends at the current packet
+pub stops-course : (ss : List InputPast) (cursors : List InputView) (schedule : Schedule) (es : List Event) (e : Event) (policy : Policy) (form : Form) (w w' : Progress) (c : SequenceEnd) → Ahead ss cursors schedule es e → apply_events policy form no_progress es ≡ w → w.end ≡ None
+    → apply_event policy form w e ≡ w' → w'.end ≡ Some c → final_progress policy form (sequence_of (ordering_of schedule) (wholes_of ss)) ≡ w'
+stops-course ss cursors schedule es e policy form w w' c ahead far on went end =
+    course-stop policy form (sequence_of (ordering_of schedule) (wholes_of ss)) ahead.more es e w w' c ahead.is far (ap (λ (o : Option SequenceEnd). course_spec.unless_ended o w (apply_event policy form w e)) on ∙ went) end
+
+-- the last packet passed
+pub record LastTook (policy : Policy) (w : Progress) (before : List ℕ) (i : ℕ) (x : Placed) (state' : SelectorState) (old new : JobOutputView) : Type 0 where
+  pub packet : Captured
+  pub went : apply_event policy (form_at old) w (Packet i x) ≡ course_spec.decide w state' (packet ∷ []) (Some Complete)
+  pub output : HasWritten before new (w.packets ++ packet ∷ []) w.reports
+  pub form : form_at new ≡ form_at old
+  pub failures : failures_to new.target ≡ failures_to old.target
+
+pub last-took : (policy : Policy) (w : Progress) (before : List ℕ) (i : ℕ) (x : Placed) (old new : JobOutputView) (state' : SelectorState) (v : code.Verdict) (q : Captured) → IsVerdict (judge policy w.state (w.decided + 1) x.packet) (Ok v) q state' → Offers v q old (Ok true) new
+    → HasWritten before old w.packets w.reports → LastTook policy w before i x state' old new
+last-took policy w before i x old new state' code_verdict.Pass q told offers has = absurd (let b = offers.0 in cc)
+last-took policy w before i x old new state' code_verdict.PassLast q told offers has =
+    let ok : PutOk before w.packets w.reports q old.names new.names old.target new.target = put-ok before w.packets w.reports q old.names new.names old.target new.target offers.1.names has offers.1.target in
+    record {
+      packet = q;
+      went = goes-by policy (form_at old) w i x (PassLast q) state' told.0 told.1 ∙ ap (λ (f : Option Fault). decide_unless f w i x state' q (Some Complete)) ok.none;
+      output = ok.output;
+      form = ok.form;
+      failures = ok.failures;
+    }
+last-took policy w before i x old new state' code_verdict.Skip q told offers has = absurd (let b = offers.0 in cc)
+
+-- ---- it is not put
+
+-- the next packet that would be written, as a failed write has it
+abbrev AnswersNext : {ss : List InputPast} {before : List ℕ} {old : MachineState} → Decided ss before old → MachineState → Captured → Type 0
+AnswersNext {ss} {before} {old} d new q = form_refuses (form_of old) d.packets q ≡ None → (bytes : List ℕ) → bytes ≡ packet_bytes (form_of old) d.packets q → NextPacket d new bytes
+
+-- the device failed at a packet
+stops-writing : (ss : List InputPast) (before : List ℕ) (cursors : List InputView) (schedule : Schedule) (policy : Policy) (state state' : SelectorState) (names : List (List ℕ)) (sink sink' : SinkView) (decided : ℕ) (new : MachineState) (e : Event) (q : Captured) (o : Option SequenceEnd)
+    → (d : Decided ss before (mk cursors schedule policy state (record { names = names; target = Capture sink }) decided)) → Ahead ss cursors schedule d.events e
+    → apply_event policy (AsCapture sink.format) (progress_of d) e ≡ course_spec.decide (progress_of d) state' (q ∷ []) o
+    → AnswersNext d new q → WhyUnput WriteFailed sink d.packets q sink' → new.output.target ≡ Capture sink'
+    → StopsWriting d new
+stops-writing ss before cursors schedule policy state state' names sink sink' decided new e q o d ahead went answers why is =
+    let form : Form = AsCapture sink.format in
+    let packets : List Captured = d.packets in
+    let w : Progress = progress_of d in
+    let w' : Progress = course_spec.decide w state' (q ∷ []) o in
+    let all : Progress = final_progress policy form (sequence_of (ordering_of schedule) (wholes_of ss)) in
+    let grows : Grows w' all = course-grows policy form (sequence_of (ordering_of schedule) (wholes_of ss)) ahead.more (d.events ++ e ∷ []) w'
+    (ahead.is ∙ ap (λ (l : List Event). record { events = l; end = ahead.more.end }) (sym (append_assoc d.events (e ∷ []) ahead.more.events)))
+    (progress-next policy form d.events e w w' d.progress went) in
+    let closes : List ℕ = course_spec.text_at_end all.end form (first_link (wholes_of ss)) all.packets in
+    let tail : List ℕ = packets_text sink.format (packets ++ q ∷ []) grows.packets in
+    record {
+      failures = ap failures_to is ∙ why.1;
+      bytes = added sink.format packets q;
+      answer = inl (answers why.0 (added sink.format packets q) refl);
+      back = tail ++ closes;
+      whole =
+          ap (λ (l : List Captured). text sink.format l ++ closes) (grows.packets_is ∙ append_assoc packets (q ∷ []) grows.packets)
+          ∙ ap (λ (l : List ℕ). l ++ closes) (text-more sink.format packets q grows.packets)
+          ∙ append_assoc (text sink.format packets) (added sink.format packets q ++ tail) closes
+          ∙ ap (λ (l : List ℕ). text sink.format packets ++ l) (append_assoc (added sink.format packets q) tail closes);
+      so_far = d.output.written;
+      stops = (let S : Target → Type 0 = λ t. Stops sink.written (added sink.format packets q) (written_to t) in subst S (sym is) why.2);
+    }
+
+-- the device failed at the line of a packet
+stops-line : (ss : List InputPast) (before : List ℕ) (cursors : List InputView) (schedule : Schedule) (policy : Policy) (state state' : SelectorState) (names : List (List ℕ)) (options : Options) (bytes after : List ℕ) (failures room decided : ℕ) (new : MachineState) (e : Event) (q : Captured) (o : Option SequenceEnd)
+    → (d : Decided ss before (mk cursors schedule policy state (record { names = names; target = Lines options bytes failures room }) decided)) → Ahead ss cursors schedule d.events e
+    → apply_event policy (AsLines options) (progress_of d) e ≡ course_spec.decide (progress_of d) state' (q ∷ []) o
+    → AnswersNext d new q → Stops bytes (printed options q) after → new.output.target ≡ Lines options after (failures + 1) room
+    → StopsWriting d new
+stops-line ss before cursors schedule policy state state' names options bytes after failures room decided new e q o d ahead went answers stops is =
+    let form : Form = AsLines options in
+    let packets : List Captured = d.packets in
+    let w : Progress = progress_of d in
+    let w' : Progress = course_spec.decide w state' (q ∷ []) o in
+    let all : Progress = final_progress policy form (sequence_of (ordering_of schedule) (wholes_of ss)) in
+    let grows : Grows w' all = course-grows policy form (sequence_of (ordering_of schedule) (wholes_of ss)) ahead.more (d.events ++ e ∷ []) w'
+    (ahead.is ∙ ap (λ (l : List Event). record { events = l; end = ahead.more.end }) (sym (append_assoc d.events (e ∷ []) ahead.more.events)))
+    (progress-next policy form d.events e w w' d.progress went) in
+    let closes : List ℕ = course_spec.text_at_end all.end form (first_link (wholes_of ss)) all.packets in
+    let tail : List ℕ = lines_text options grows.packets in
+    let T : Target → Type 0 = λ t. Stops bytes (printed options q) (written_to t) in
+    record {
+      failures = ap failures_to is;
+      bytes = printed options q;
+      answer = inl (answers refl (printed options q) refl);
+      back = tail ++ closes;
+      whole =
+          ap (λ (l : List Captured). lines_text options l ++ closes) grows.packets_is
+          ∙ ap (λ (l : List ℕ). l ++ closes) (lines-more options packets q grows.packets)
+          ∙ append_assoc (lines_text options packets) (printed options q ++ tail) closes
+          ∙ ap (λ (l : List ℕ). lines_text options packets ++ l) (append_assoc (printed options q) tail closes);
+      so_far = d.output;
+      stops = subst T (sym is) stops;
+    }
+
+-- ---- what an answer leaves
+
+-- a packet that passes isn't put into a capture
+unput-capture : (ss : List InputPast) (before : List ℕ) (cursors : List InputView) (schedule : Schedule) (turn : ℕ) (policy : Policy) (state state' : SelectorState) (names : List (List ℕ)) (sink sink' : SinkView) (decided : ℕ) (new : MachineState) (x : Placed) (q : Captured) (o : Option SequenceEnd) (fault : Fault)
+    → (d : Decided ss before (mk cursors schedule policy state (record { names = names; target = Capture sink }) decided)) → Ahead ss cursors schedule d.events (Packet turn x)
+    → apply_event policy (AsCapture sink.format) (progress_of d) (Packet turn x) ≡ decide_unless (refused sink.format d.packets q) (progress_of d) turn x state' q o
+    → input_spec.IsNext schedule cursors (next.Decide turn) → new.inputs ≡ record { cursors = cursors; schedule = schedule } → (cursor : InputView) → IsInput new.inputs.cursors turn cursor → cursor.source.offset ≡ x.offset
+    → AnswersNext d new q → WhyUnput fault sink d.packets q sink' → new.output.target ≡ Capture sink'
+    → EndLeaves d (unwritten turn fault) new
+unput-capture ss before cursors schedule turn policy state state' names sink sink' decided new x q o WriteFailed d ahead went tells same_feed cursor among offset answers why is =
+    stops-writing ss before cursors schedule policy state state' names sink sink' decided new (Packet turn x) q o d ahead
+    (went ∙ ap (λ (f : Option Fault). decide_unless f (progress_of d) turn x state' q o) why.0) answers why is
+unput-capture ss before cursors schedule turn policy state state' names sink sink' decided new x q o NoMemory d ahead went tells same_feed cursor among offset answers why is =
+    record { cursor = cursor; among = among; why = inr (inr (record { next = tells; inputs = same_feed; why = refl; written = ap written_to is ∙ why.0; device = ap failures_to is ∙ why.1 })) }
+unput-capture ss before cursors schedule turn policy state state' names sink sink' decided new x q o fault d ahead went tells same_feed cursor among offset answers why is =
+    let m : MachineState = mk cursors schedule policy state (record { names = names; target = Capture sink }) decided in
+    let w : Progress = progress_of d in
+    let stop : final_progress policy (AsCapture sink.format) (sequence_of (ordering_of schedule) (wholes_of ss)) ≡ end_with w (FaultIn turn fault x.offset) =
+    stops-course ss cursors schedule d.events (Packet turn x) policy (AsCapture sink.format) w (end_with w (FaultIn turn fault x.offset)) (FaultIn turn fault x.offset) ahead d.progress refl
+    (went ∙ ap (λ (f : Option Fault). decide_unless f w turn x state' q o) why.0) refl in
+    record {
+      cursor = cursor;
+      among = among;
+      why = inl (rw offset (comes-broken ss before m (wholes_of ss) d new turn fault x.offset stop (ap written_to is ∙ why.1) (ap failures_to is ∙ why.2)));
+    }
+
+unput-leaves : (ss : List InputPast) (before : List ℕ) (cursors : List InputView) (schedule : Schedule) (turn : ℕ) (policy : Policy) (state state' : SelectorState) (names : List (List ℕ)) (target : Target) (decided : ℕ) (new : MachineState) (x : Placed) (q : Captured) (o : Option SequenceEnd) (fault : Fault)
+    → (d : Decided ss before (mk cursors schedule policy state (record { names = names; target = target }) decided)) → Ahead ss cursors schedule d.events (Packet turn x)
+    → apply_event policy (form_to names target) (progress_of d) (Packet turn x) ≡ decide_unless (form_refuses (form_to names target) d.packets q) (progress_of d) turn x state' q o
+    → input_spec.IsNext schedule cursors (next.Decide turn) → new.inputs ≡ record { cursors = cursors; schedule = schedule } → (cursor : InputView) → IsInput new.inputs.cursors turn cursor → cursor.source.offset ≡ x.offset
+    → AnswersNext d new q → PutsTo q target (Err fault) new.output.target
+    → EndLeaves d (unwritten turn fault) new
+unput-leaves ss before cursors schedule turn policy state state' names (Capture sink) decided new x q o fault d ahead went tells same_feed cursor among offset answers puts =
+    unput-capture ss before cursors schedule turn policy state state' names sink puts.sink decided new x q o fault d ahead went tells same_feed cursor among offset answers
+    (unput before d.packets q sink puts.sink fault d.output puts.puts puts.writes) puts.is
+unput-leaves ss before cursors schedule turn policy state state' names (Text bytes failures room) decided new x q o fault d ahead went tells same_feed cursor among offset answers puts = absurd (let e = puts.0 in cc)
+unput-leaves ss before cursors schedule turn policy state state' names (Lines options bytes failures room) decided new x q o fault d ahead went tells same_feed cursor among offset answers puts =
+    let L : Fault → Type 0 = λ f. EndLeaves d (unwritten turn f) new in
+    subst L (sym puts.fault)
+    (stops-line ss before cursors schedule policy state state' names options bytes puts.after failures room decided new (Packet turn x) q o d ahead went answers puts.appends puts.is)
+
+reject-leaves : (ss : List InputPast) (before : List ℕ) (cursors : List InputView) (schedule : Schedule) (turn : ℕ) (policy : Policy) (state state' : SelectorState) (output : JobOutputView) (decided : ℕ) (new : MachineState) (x : Placed) (fault : Fault)
+    → (d : Decided ss before (mk cursors schedule policy state output decided)) → Ahead ss cursors schedule d.events (Packet turn x)
+    → IsVerdict (judge policy state (decided + 1) x.packet) (Err fault) x.packet state'
+    → (cursor : InputView) → IsInput new.inputs.cursors turn cursor → cursor.source.offset ≡ x.offset → new.output ≡ output → (fault ≡ WriteFailed → ⊥)
+    → EndLeaves d (unwritten turn fault) new
+reject-leaves ss before cursors schedule turn policy state state' output decided new x fault d ahead told cursor among offset same device =
+    let w : Progress = progress_of d in
+    let kept : written_by new ≡ written_to output.target = ap (λ (v : JobOutputView). written_to v.target) same in
+    let B : Type 0 = EndLeaves d (end.FaultIn turn fault) new in
+    let breaks : B = record {
+      cursor = cursor;
+      among = among;
+      why = inl (rw offset (comes-broken ss before (mk cursors schedule policy state output decided) (wholes_of ss) d new turn fault x.offset
+          (stops-course ss cursors schedule d.events (Packet turn x) policy (form_at output) w (end_with w (FaultIn turn fault x.offset)) (FaultIn turn fault x.offset) ahead d.progress refl
+          (ap (λ (v : Verdict). apply_verdict (form_at output) w turn x v (judge policy state (decided + 1) x.packet).state) told) refl)
+          kept (ap (λ (v : JobOutputView). failures_to v.target) same)));
+    } in
+    other fault device breaks
+  where
+    other : (f : Fault) → (f ≡ WriteFailed → ⊥) → EndLeaves d (end.FaultIn turn f) new → EndLeaves d (unwritten turn f) new
+    other WriteFailed device breaks = absurd (device refl)
+    other f device breaks = breaks
+
+-- a selector never tells of the device
+abbrev OwnDecision : Decision → Type 0
+OwnDecision chosen.Keep = Unit {0}
+OwnDecision chosen.Skip = Unit {0}
+OwnDecision (chosen.Refuse fault) = fault ≡ WriteFailed → ⊥
+
+abbrev Own : Verdict → Type 0
+Own (Refuse fault) = fault ≡ WriteFailed → ⊥
+Own (Pass p) = Unit {0}
+Own (PassLast p) = Unit {0}
+Own Skip = Unit {0}
+
+own-link : (e : Expression) (o : Option Link) (p : Captured) → OwnDecision (read_on e o p)
+own-link e None p = λ is. (cc)
+own-link e (Some link) p = by_reading (holds e link p.bytes p.orig)
+  where
+    by_reading : (r : Reading) → OwnDecision (passing r)
+    by_reading Yes = tt
+    by_reading No = tt
+    by_reading Rejected = tt
+
+own-decision : (rule : Rule) (p : Captured) → OwnDecision (rule_decides rule p)
+own-decision (rule_spec.by_reading empty) p = tt
+own-decision (rule_spec.by_reading (truth a)) p = own-link (truth a) (link_of p.link) p
+own-decision (rule_spec.by_answer prog) p = by_progress (machine prog p.bytes p.orig (length prog))
+  where
+    by_bool : (b : Bool) → OwnDecision (chosen.keep_if b)
+    by_bool true = tt
+    by_bool false = tt
+
+    by_progress : (m : bpf.Progress) → OwnDecision (answering m)
+    by_progress (Answered answer count) = by_bool (not (nat_eq answer 0))
+    by_progress _ = tt
+
+own-filters : (d : Decision) (count : Option ℕ) (state : SelectorState) (p : Captured) → OwnDecision d → Own (judged_spec.filters d count state p).verdict
+own-filters chosen.Keep count state p own = elim (judged_spec.is_last count (state.passed + 1)) as (λ b. Own (if b then PassLast p else Pass p)) [ true ↦ tt | false ↦ tt ]
+own-filters chosen.Skip count state p own = tt
+own-filters (chosen.Refuse fault) count state p own = own
+
+own-unique : (window : Option ℕ) (state : SelectorState) (p : Captured) → Own (judged_spec.unique window state p).verdict
+own-unique None state p = tt
+own-unique (Some n) state p =
+    elim (has_same state.window (mark_of p.bytes))
+    as (λ b. Own (if b then judged_spec.skipped (judged_spec.with_mark (n - 1) (mark_of p.bytes) state) else judged_spec.passes (judged_spec.with_mark (n - 1) (mark_of p.bytes) state) p).verdict)
+    [ true ↦ tt | false ↦ tt ]
+
+own-timed : (s : EditRule) (state : SelectorState) (p : Captured) (o : Option ℕ) → Own (judged_spec.timed s state p o).verdict
+own-timed s state p None = λ is. (cc)
+own-timed s state p (Some time) = own-unique s.window state (judged_spec.changed s p time)
+
+own-judged : (policy : Policy) (state : SelectorState) (number : ℕ) (p : Captured) → Own (judged_spec.judge_by policy state number p).verdict
+own-judged (Edit s) state number p =
+    elim (judged_spec.is_selected s number p) as (λ b. Own (if b then judged_spec.timed s state p (judged_spec.moved s.shift p.time) else judged_spec.skipped state).verdict)
+    [ true ↦ own-timed s state p (judged_spec.moved s.shift p.time) | false ↦ tt ]
+own-judged (Filter rule count) state number p = own-filters (rule_decides rule p) count state p (own-decision rule p)
+own-judged KeepAll state number p = tt
+own-judged Count state number p = tt
+
+own-verdict : (policy : Policy) (state : SelectorState) (number : ℕ) (p : Captured) → Own (judge policy state number p).verdict
+own-verdict policy state number p =
+    elim (judged_spec.is_too_many policy number) as (λ b. Own (if b then judged_spec.refuses state TooManyPackets else judged_spec.judge_by policy state number p).verdict)
+    [ true ↦ (λ is. (cc)) | false ↦ own-judged policy state number p ]
+
+never-device : (policy : Policy) (state state' : SelectorState) (number : ℕ) (p : Captured) (fault : Fault) → IsVerdict (judge policy state number p) (Err fault) p state' → fault ≡ WriteFailed → ⊥
+never-device policy state state' number p fault told is = (let P : Verdict → Type 0 = λ v. Own v in subst P told (own-verdict policy state number p)) is
+
+-- what an answer leaves: `new` is the machine where the packet is decided, `failed` where it isn't
+abbrev pub AnswerLeaves : {ss : List InputPast} {before : List ℕ} {old : MachineState} → Decided ss before old → ℕ → Result Bool Fault → MachineState → MachineState → Type 0
+AnswerLeaves {ss} {before} {old} d i (Ok false) new failed = GoesOn d new
+AnswerLeaves {ss} {before} {old} d i (Ok true) new failed = Comes (wholes_of ss) d new Complete
+AnswerLeaves {ss} {before} {old} d i (Err fault) new failed = EndLeaves d (unwritten i fault) failed
+
+answer-core : (us vs : List InputPast) (s : InputPast) (before : List ℕ) (xs ys : List InputView) (h : InputView) (schedule : Schedule) (turn : ℕ) (policy : Policy) (state state' : SelectorState) (output output' : JobOutputView) (decided : ℕ) (p : Captured) (r : Result Bool Fault)
+    → DecideLaws schedule turn xs ys h → input_spec.IsNext schedule (xs ++ h ∷ ys) (next.Decide turn) → AreInputsBehind us xs → At s h → AreInputsBehind vs ys → h.source.packet ≡ Some p → state'.passed ≤ decided + 1 → GrowsByOne state.tally state'.tally
+    → (d : Decided (us ++ s ∷ vs) before (mk (xs ++ h ∷ ys) schedule policy state output decided))
+    → Decides (Some p) (record { policy = policy; state = state }) (decided + 1) output r (record { policy = policy; state = state' }) output'
+    → AnswerLeaves d turn r (mk (xs ++ input_behind h ∷ ys) (schedule_behind schedule turn) policy state' output' (decided + 1)) (mk (xs ++ h ∷ ys) schedule policy state' output' decided)
+answer-core us vs s before xs ys h schedule turn policy state state' output output' decided p (Ok false) laws tells front at back held within grows d decides =
+    elim decides [
+      | inl j ↦ decided-goes us vs s before xs ys h schedule turn policy state state' output output' decided p laws front at back held within grows d
+          (took policy (progress_at (mk (xs ++ h ∷ ys) schedule policy state output decided) d.packets d.reports) before turn (record { offset = h.source.offset; packet = p }) output output' false state' j.answer j.packet d.output j.told j.offers)
+      | inr x ↦ absurd (let e = x.answer in cc)
+    ]
+answer-core us vs s before xs ys h schedule turn policy state state' output output' decided p (Ok true) laws tells front at back held within grows d decides =
+    elim decides [
+      | inl j ↦
+          let w : Progress = progress_at (mk (xs ++ h ∷ ys) schedule policy state output decided) d.packets d.reports in
+          let x : Placed = record { offset = h.source.offset; packet = p } in
+          let l = last-took policy w before turn x output output' state' j.answer j.packet j.told j.offers d.output in
+          let stop = stops-course (us ++ s ∷ vs) (xs ++ h ∷ ys) schedule d.events (Packet turn x) policy (form_at output) w (course_spec.decide w state' (l.packet ∷ []) (Some Complete)) Complete
+          (next-true us vs s before xs ys h schedule turn policy state output decided p laws front at back held d) d.progress refl l.went refl in
+          record {
+            ends = ap (λ (v : Progress). v.end) stop;
+            written =
+                closing-some before output'.names (form_at output) output'.target (first_link (wholes_of (us ++ s ∷ vs))) (d.packets ++ l.packet ∷ []) d.reports (decided + 1) state' l.output l.form (some d.packets l.packet)
+                ∙ ap (λ (v : Progress). before ++ final_text (form_at output) (first_link (wholes_of (us ++ s ∷ vs))) v) (sym stop);
+            once = once-packet (first_link (wholes_of (us ++ s ∷ vs))) before w (progress_over (mk (xs ++ h ∷ ys) schedule policy state output decided) (wholes_of (us ++ s ∷ vs))) output output' l.packet d.output l.output l.form
+                (ap (λ (v : Progress). v.packets) stop) (ap (λ (v : Progress). v.reports) stop);
+            device = l.failures;
+          }
+      | inr x ↦ absurd (let e = x.answer in cc)
+    ]
+  where
+    some : (ps : List Captured) (q : Captured) → 0 ≡ length (ps ++ q ∷ []) → ⊥
+    some [] q e = absurd (omega (arith, e))
+    some (x ∷ ps) q e = absurd (omega (arith, e))
+answer-core us vs s before xs ys h schedule turn policy state state' output output' decided p (Err fault) laws tells front at back held within grows d decides =
+    elim decides [
+      | inl j ↦ by_verdict_of j.answer j.packet j.told j.offers
+      | inr j ↦
+          let e : fault ≡ j.fault = (let e = j.answer in cc) in
+          rw e (reject-leaves (us ++ s ∷ vs) before (xs ++ h ∷ ys) schedule turn policy state state' output decided failed x j.fault d ahead j.told h here refl j.same (never-device policy state state' (decided + 1) p j.fault j.told))
+    ]
+  where
+    x : Placed
+    x = record { offset = h.source.offset; packet = p }
+
+    failed : MachineState
+    failed = mk (xs ++ h ∷ ys) schedule policy state' output' decided
+
+    here : IsInput (xs ++ h ∷ ys) turn h
+    here = record { front = xs; back = ys; place = laws.here; splits = refl }
+
+    ahead : Ahead (us ++ s ∷ vs) (xs ++ h ∷ ys) schedule d.events (Packet turn x)
+    ahead = next-true us vs s before xs ys h schedule turn policy state output decided p laws front at back held d
+
+    w : Progress
+    w = progress_at (mk (xs ++ h ∷ ys) schedule policy state output decided) d.packets d.reports
+
+    answers : (q : Captured) → PassesAs (judge policy state (decided + 1) p).verdict q → AnswersNext d failed q
+    answers q passes = λ taken bytes is. record {
+      input = turn;
+      next = tells;
+      cursor = h;
+      among = here;
+      packet = p;
+      held = held;
+      passed = q;
+      passes = passes;
+      taken = taken;
+      bytes_are = is;
+      inputs = refl;
+    }
+
+    by_verdict_of : (v : code.Verdict) (q : Captured) → IsVerdict (judge policy state (decided + 1) p) (Ok v) q state' → Offers v q output (Err fault) output' → EndLeaves d (unwritten turn fault) failed
+    by_verdict_of code_verdict.Pass q told offers =
+        unput-leaves (us ++ s ∷ vs) before (xs ++ h ∷ ys) schedule turn policy state state' output.names output.target decided failed x q None fault d ahead
+        (goes-by policy (form_at output) w turn x (Pass q) state' told.0 told.1) tells refl h here refl (answers q (let A : Verdict → Type 0 = λ v. PassesAs v q in subst A told.0 refl)) offers.target
+    by_verdict_of code_verdict.PassLast q told offers =
+        unput-leaves (us ++ s ∷ vs) before (xs ++ h ∷ ys) schedule turn policy state state' output.names output.target decided failed x q (Some Complete) fault d ahead
+        (goes-by policy (form_at output) w turn x (PassLast q) state' told.0 told.1) tells refl h here refl (answers q (let A : Verdict → Type 0 = λ v. PassesAs v q in subst A told.0 refl)) offers.target
+    by_verdict_of code_verdict.Skip q told offers = absurd (let e = offers.0 in cc)
+
+pub answer-leaves : (ss : List InputPast) (before : List ℕ) (cursors : List InputView) (schedule : Schedule) (policy : Policy) (state : SelectorState) (output : JobOutputView) (decided i : ℕ) (r : Result Bool Fault) (h : InputView) (selector' : PolicyState) (output' : JobOutputView)
+    → input_spec.IsNext schedule cursors (next.Decide i) → IsInput cursors i h → selector'.policy ≡ policy → (state.passed ≤ decided + 1 → selector'.state.passed ≤ decided + 1) → GrowsByOne state.tally selector'.state.tally → decided ≤ most_steps
+    → (state.passed < decided + 1 → IsWithin most_steps state.tally → Decides h.source.packet (record { policy = policy; state = state }) (decided + 1) output r selector' output')
+    → (d : Decided ss before (mk cursors schedule policy state output decided))
+    → AnswerLeaves d i r (mk (slice_set cursors i (input_behind h)) (schedule_behind schedule i) policy selector'.state output' (decided + 1)) (mk cursors schedule policy selector'.state output' decided)
+answer-leaves ss before cursors schedule policy state output decided i r other selector' output' tells among_other asks passes grows few decides d =
+    let at : DecideAt schedule cursors i = decide-at schedule cursors i tells d.ended in
+    let among = at.among in
+    let h = at.cursor in
+    let same : other ≡ h = among-same cursors i other h among_other among in
+    let D : List InputView → Type 0 = λ l. Decided ss before (mk l schedule policy state output decided) in
+    let d' = subst D among.splits d in
+    let st = stands-split ss among.front among.back h d'.behind in
+    let T : List InputView → Type 0 = λ l. input_spec.IsNext schedule l (next.Decide i) in
+    let W : Bool → Type 0 = λ b. IsAt st.here.text st.here.done st.here.packets b h.source in
+    let was : IsAt st.here.text st.here.done st.here.packets true h.source = subst W at.laws.waits st.at in
+    let has = was.waits refl in
+    let within : state.passed < decided + 1 = (let l = d.passed in omega (arith, l)) in
+    let C : Option Captured → Type 0 = λ o. Decides o (record { policy = policy; state = state }) (decided + 1) output r selector' output' in
+    let C' : Policy → Type 0 = λ k. Decides (Some has.packet) (record { policy = policy; state = state }) (decided + 1) output r (record { policy = k; state = selector'.state }) output' in
+    let held : other.source.packet ≡ Some has.packet = ap (λ (v : InputView). v.source.packet) same ∙ has.held in
+    let chosen = subst C' asks (subst C held (decides within (within-more decided most_steps state.tally few d.counted))) in
+    let cursors' : slice_set cursors i (input_behind h) ≡ among.front ++ input_behind h ∷ among.back = ap (λ (l : List InputView). slice_set l i (input_behind h)) among.splits ∙ set-here among.front among.back h (input_behind h) i among.place in
+    let new : List InputView → MachineState = λ l. mk l (schedule_behind schedule i) policy selector'.state output' (decided + 1) in
+    let failed : List InputView → MachineState = λ l. mk l schedule policy selector'.state output' decided in
+    let passes_on : selector'.state.passed ≤ decided + 1 = passes (let l = d.passed in omega (arith, l)) in
+    let core : (e : Decided (st.front ++ st.here ∷ st.back) before (mk (among.front ++ h ∷ among.back) schedule policy state output decided)) → AnswerLeaves e i r (new (among.front ++ input_behind h ∷ among.back)) (failed (among.front ++ h ∷ among.back)) = λ e.
+    answer-core st.front st.back st.here before among.front among.back h schedule i policy state selector'.state output output' decided has.packet r at.laws (subst T among.splits tells) st.before st.at st.behind has.held passes_on grows e chosen in
+    let G : List InputPast → Type 0 = λ l. (e : Decided l before (mk (among.front ++ h ∷ among.back) schedule policy state output decided)) → AnswerLeaves e i r (new (among.front ++ input_behind h ∷ among.back)) (failed (among.front ++ h ∷ among.back)) in
+    let H : List InputView → Type 0 = λ l. (e : Decided ss before (mk l schedule policy state output decided)) → AnswerLeaves e i r (new (among.front ++ input_behind h ∷ among.back)) (failed l) in
+    let I : List InputView → Type 0 = λ l. AnswerLeaves d i r (new l) (failed cursors) in
+    let J : InputView → Type 0 = λ v. AnswerLeaves d i r (new (slice_set cursors i (input_behind v))) (failed cursors) in
+    let whole : H cursors = subst H (sym among.splits) (subst G (sym st.is) core) in
+    subst J (sym same) (subst I (sym cursors') (whole d))

@@ -1,0 +1,190 @@
+-- What has come when an input is read on, or its packet is decided.
+use Rattle.std.proofs.Common.{◌≡◌, ℕ, suc, ◌+◌, Bool, true, false, List, [], ◌∷◌, ◌++◌, length, drop, map, Option, None, Some, Result, Ok, refl, sym, ◌∙◌, ap, arith, subst, add-zero}
+use Rattle.std.proofs.lemmas.List.{append_assoc, append-nil, length-append}
+use Rattle.cap_octet.specs.Packet.{Captured}
+use Rattle.cap_octet.specs.declared.fault.Fault.{Fault}
+use Rattle.cap_io.specs.Capture.{Declared, Placed, Items, Ending, End, FaultAt, Stops, items, items_from, after_packets, no_items, front_of, kind_of}
+use Rattle.cap_io.specs.Source.{SourceView, Phase, Ended, FindsPacket, FindsEnd, Finds, Advances, Passes}
+use Rattle.cap_io.specs.Position.{IsAt, pending}
+use Rattle.cap_io.proofs.Items.{items_from-units, items_from-stops}
+use Rattle.cap_io.proofs.Standing.{IsAt-items, items-begin, Advances-sound}
+use Rattle.cap_tools.specs.declared.inputs.Schedule.{Schedule}
+use Rattle.cap_tools.specs.declared.inputs.Schedule.TheVariants.{Turn}
+use Rattle.cap_tools.specs.Sequence.{InputItems, Event, Packet, InputEnd, FaultIn, Sequence, sequence_in_turn, input_sequence, with_front, whole_input}
+use Rattle.cap_tools.specs.Inputs.{InputView, Future, InputPast, AreInputsBehind, AreFutures, actual_future, waiting_packets, packets_at, items_with, inputs_with, items_left, inputs_left, sequence_left, no_future, input_after, input_behind}
+use Rattle.cap_tools.specs.Machine.{wholes_of}
+use Rattle.cap_tools.proofs.Splits.{At, Fit, Carries}
+
+drop-front : (rs qs : List InputItems) (r : InputItems) (n : ℕ) → length rs ≡ n → drop n (rs ++ r ∷ qs) ≡ r ∷ qs
+drop-front [] qs r n is = rw (← is) refl
+drop-front (x ∷ xs) qs r n is = rw (← is) (drop-front xs qs r (length xs) refl)
+
+drop-over : (rs qs : List InputItems) (r : InputItems) (n : ℕ) → length rs ≡ n → drop (n + 1) (rs ++ r ∷ qs) ≡ qs
+drop-over [] qs r n is = rw (← is) refl
+drop-over (x ∷ xs) qs r n is =
+    let e : suc (length xs) + 1 ≡ suc (length xs + 1) = omega arith in
+    rw (← is, e) (drop-over xs qs r (length xs) refl)
+
+-- ---- the next packet is in hand
+
+not-ended : (s s' : SourceView) → Advances s.phase s (Ok true) s' → s.phase ≡ Ended → ⊥
+not-ended s s' advances is =
+    let P : Phase → Type 0 = λ p. Advances p s (Ok true) s' in
+    let same = subst P is advances in
+    let e : Ok true ≡ Ok false = same.0 in cc
+
+pub carries-found : (s : InputPast) (xs ys : List InputView) (h : InputView) (s' : SourceView) (schedule schedule' : Schedule) → ((rs : List InputItems) → sequence_left schedule rs ≡ sequence_left schedule' rs) → h.waiting ≡ false → Advances h.source.phase h.source (Ok true) s' → (finds : FindsPacket h.source s') (f' : Future)
+    → Carries s (record { text = s.text; done = s.done ++ finds.passes.passed; packets = s.packets ++ [] }) xs ys h (input_after h (Ok true) s') schedule schedule' [] f'
+carries-found s xs ys h s' schedule schedule' lefts waits advances finds f' = record {
+  future = record { items = after_packets (waiting_packets true s') f'.items; size = f'.size };
+  fit = λ e. absurd (not-ended h.source s' advances e);
+  same = rw (waits, append-nil s.packets) refl;
+  left_is = λ fs gs before with_front. rw waits (lefts (inputs_left xs fs ++ items_left (input_after h (Ok true) s') f' ∷ inputs_left ys gs));
+}
+
+-- ---- the current packet is decided
+
+came-next : (i : ℕ) (g : ℕ) (g' : ℕ) (x : Placed) (items : Items) (size : ℕ) (ending : Ending) (more : Sequence)
+    → input_sequence i (record { greatest = g; items = after_packets (x ∷ []) items; size = size }) ending more
+    ≡ with_front (Packet i x ∷ []) (input_sequence i (record { greatest = g'; items = after_packets [] items; size = size }) ending more)
+came-next i g g' x items size End more = refl
+came-next i g g' x items size (FaultAt fault offset) more = refl
+
+turn-next : (turn g g' : ℕ) (x : Placed) (items : Items) (size : ℕ) (rs qs : List InputItems) → length rs ≡ turn
+    → sequence_left (Turn turn) (rs ++ record { greatest = g; items = after_packets (x ∷ []) items; size = size } ∷ qs)
+    ≡ with_front (Packet turn x ∷ []) (sequence_left (Turn turn) (rs ++ record { greatest = g'; items = after_packets [] items; size = size } ∷ qs))
+turn-next turn g g' x items size rs qs is =
+    ap (sequence_in_turn turn) (drop-front rs qs (record { greatest = g; items = after_packets (x ∷ []) items; size = size }) turn is)
+    ∙ came-next turn g g' x items size items.ending (sequence_in_turn (turn + 1) qs)
+    ∙ ap (λ (l : List InputItems). with_front (Packet turn x ∷ []) (sequence_in_turn turn l)) (sym (drop-front rs qs (record { greatest = g'; items = after_packets [] items; size = size }) turn is))
+
+-- the packet that waits
+pub hand_is : (s : SourceView) (p : Captured) → s.packet ≡ Some p → waiting_packets true s ≡ record { offset = s.offset; packet = p } ∷ []
+hand_is s p is = ap (packets_at s.offset) is
+
+pub left-decided : (h : InputView) (turn : ℕ) (p : Captured) → h.waiting ≡ true → h.source.packet ≡ Some p → (f : Future) (rs qs : List InputItems) → length rs ≡ turn
+    → sequence_left (Turn turn) (rs ++ items_left h f ∷ qs) ≡ with_front (Packet turn (record { offset = h.source.offset; packet = p }) ∷ []) (sequence_left (Turn turn) (rs ++ items_left (input_behind h) f ∷ qs))
+left-decided h turn p waits held f rs qs is =
+    ap (λ (l : List Placed). sequence_left (Turn turn) (rs ++ record { greatest = h.greatest; items = after_packets l f.items; size = f.size } ∷ qs)) (ap (λ b. waiting_packets b h.source) waits ∙ hand_is h.source p held)
+    ∙ turn-next turn h.greatest (input_behind h).greatest (record { offset = h.source.offset; packet = p }) f.items f.size rs qs is
+
+pub carries-decided : (s : InputPast) (xs ys : List InputView) (h : InputView) (i : ℕ) (schedule schedule' : Schedule) (bytes : List ℕ) (p : Captured) → h.waiting ≡ true → h.source.packet ≡ Some p
+    → ((f : Future) → Fit h f → (fs gs : List Future) → AreFutures xs fs → AreFutures ys gs
+    → sequence_left schedule (inputs_left xs fs ++ items_left h f ∷ inputs_left ys gs) ≡ with_front (Packet i (record { offset = h.source.offset; packet = p }) ∷ []) (sequence_left schedule' (inputs_left xs fs ++ items_left (input_behind h) f ∷ inputs_left ys gs)))
+    → (f' : Future) → Fit (input_behind h) f'
+    → Carries s (record { text = s.text; done = s.done ++ bytes; packets = s.packets ++ record { offset = h.source.offset; packet = p } ∷ [] }) xs ys h (input_behind h) schedule schedule' (Packet i (record { offset = h.source.offset; packet = p }) ∷ []) f'
+carries-decided s xs ys h i schedule schedule' bytes p waits held lefts f' fit =
+    let x : Placed = record { offset = h.source.offset; packet = p } in
+    let hand : waiting_packets h.waiting h.source ≡ x ∷ [] = ap (λ b. waiting_packets b h.source) waits ∙ hand_is h.source p held in
+    record {
+      future = f';
+      fit = fit;
+      same =
+          ap (λ (l : List Placed). record { greatest = 0; items = after_packets s.packets (after_packets l f'.items); size = f'.size }) hand
+          ∙ ap (λ (l : List Placed). record { greatest = 0; items = record { packets = l; declared = f'.items.declared; ending = f'.items.ending }; size = f'.size }) (sym (append_assoc s.packets (x ∷ []) f'.items.packets));
+      left_is = lefts f' fit;
+    }
+
+-- ---- a clean end is met
+
+later-stops : (s s' : SourceView) (rest : List ℕ) (why : Option Fault) → (passes : Passes s s' rest) → front_of s'.declared rest ≡ Stops why
+    → (actual_future s).items ≡ no_items s'.declared why s'.offset
+later-stops s s' rest why passes stops =
+    ap (items_from s.declared (s.offset + length s.block)) passes.splits
+    ∙ items_from-units passes.units rest
+    ∙ ap (after_packets []) (items_from-stops s'.declared (s.offset + length s.block + length passes.passed) rest why stops)
+    ∙ ap (λ n. no_items s'.declared why n) (sym passes.offset)
+
+pub later-size : (s s' : SourceView) (rest : List ℕ) → (passes : Passes s s' rest) → (actual_future s).size ≡ s'.offset + length rest
+later-size s s' rest passes =
+    ap (λ (l : List ℕ). s.offset + length s.block + length l) passes.splits
+    ∙ ap (λ n. s.offset + length s.block + n) (length-append passes.passed rest)
+    ∙ omega (arith, passes.offset)
+
+pub turn-closes : (turn g g' : ℕ) (declared : Declared) (size : ℕ) (r' : InputItems) (rs qs : List InputItems) → length rs ≡ turn
+    → sequence_left (Turn turn) (rs ++ record { greatest = g; items = no_items declared None 0; size = size } ∷ qs)
+    ≡ with_front (InputEnd turn (kind_of declared) size ∷ []) (sequence_left (Turn (turn + 1)) (rs ++ r' ∷ qs))
+turn-closes turn g g' declared size r' rs qs is =
+    ap (sequence_in_turn turn) (drop-front rs qs (record { greatest = g; items = no_items declared None 0; size = size }) turn is)
+    ∙ ap (λ (l : List InputItems). with_front (InputEnd turn (kind_of declared) size ∷ []) (sequence_in_turn (turn + 1) l)) (sym (drop-over rs qs r' turn is))
+
+same-end : (s s' : SourceView) → Advances s.phase s (Ok false) s' → s.phase ≡ Ended → s' ≡ s
+same-end s s' advances is = let P : Phase → Type 0 = λ p. Advances p s (Ok false) s' in (subst P is advances).1
+
+pub carries-closed : (s : InputPast) (xs ys : List InputView) (h : InputView) (s' : SourceView) (schedule schedule' : Schedule) (new : List Event)
+    → ((fs gs : List Future) → AreFutures xs fs → AreFutures ys gs
+    → sequence_left schedule (inputs_left xs fs ++ record { greatest = h.greatest; items = no_items s'.declared None 0; size = s'.offset } ∷ inputs_left ys gs) ≡ with_front new (sequence_left schedule' (inputs_left xs fs ++ record { greatest = h.greatest; items = no_items s'.declared None 0; size = s'.offset } ∷ inputs_left ys gs)))
+    → h.waiting ≡ false → Advances h.source.phase h.source (Ok false) s' → (finds : FindsEnd h.source s') → (f' : Future) → Fit (input_after h (Ok false) s') f'
+    → Carries s (record { text = s.text; done = s.done ++ finds.passes.passed; packets = s.packets ++ [] }) xs ys h (input_after h (Ok false) s') schedule schedule' new f'
+carries-closed s xs ys h s' schedule schedule' new lefts waits advances finds f' fit =
+    let is : f' ≡ no_future s' = fit finds.phase in record {
+      future = f';
+      fit = λ e. is ∙ ap no_future (same-end h.source s' advances e);
+      same = rw (waits, append-nil s.packets) refl;
+      left_is = λ fs gs before with_front. rw (waits, is) (lefts fs gs before with_front);
+    }
+
+-- ---- an input ends by a fault
+
+pub turn-broken : (turn g : ℕ) (declared : Declared) (fault : Fault) (offset size : ℕ) (rs qs : List InputItems) → length rs ≡ turn
+    → sequence_left (Turn turn) (rs ++ record { greatest = g; items = no_items declared (Some fault) offset; size = size } ∷ qs) ≡ record { events = []; end = FaultIn turn fault offset }
+turn-broken turn g declared fault offset size rs qs is =
+    ap (sequence_in_turn turn) (drop-front rs qs (record { greatest = g; items = no_items declared (Some fault) offset; size = size }) turn is)
+
+-- ---- the true future
+
+true-items : (s : InputPast) (h : InputView) → At s h → (b : Bool) → h.waiting ≡ b → after_packets s.packets (after_packets (waiting_packets b h.source) (actual_future h.source).items) ≡ items s.text
+true-items s h at true is =
+    let P : Bool → Type 0 = λ b. IsAt s.text s.done s.packets b h.source in
+    let here : IsAt s.text s.done s.packets true h.source = subst P is at in
+    let has = here.waits refl in
+    ap (λ (l : List Placed). after_packets s.packets (after_packets l (actual_future h.source).items)) (hand_is h.source has.packet has.held)
+    ∙ ap (λ (l : List Placed). record { packets = l; declared = (actual_future h.source).items.declared; ending = (actual_future h.source).items.ending }) (sym (append_assoc s.packets (record { offset = h.source.offset; packet = has.packet } ∷ []) (actual_future h.source).items.packets))
+    ∙ ap (λ n. after_packets (s.packets ++ record { offset = h.source.offset; packet = has.packet } ∷ []) (items_from h.source.declared n h.source.unread)) here.place
+    ∙ sym (IsAt-items s.text s.done s.packets h.source here)
+true-items s h at false is =
+    let P : Bool → Type 0 = λ b. IsAt s.text s.done s.packets b h.source in
+    let here : IsAt s.text s.done s.packets false h.source = subst P is at in
+    ap (λ n. after_packets s.packets (items_from h.source.declared n h.source.unread)) (here.place ∙ ap length (append-nil s.done))
+    ∙ sym (ap items here.whole ∙ items-begin s.done h.source.unread s.packets h.source.declared here.units)
+
+true-size : (s : InputPast) (h : InputView) → At s h → (actual_future h.source).size ≡ length s.text
+true-size s h at =
+    let place : h.source.offset + length h.source.block ≡ length (s.done ++ pending_of) = at.place in
+    ap (λ n. n + length h.source.unread) at.place
+    ∙ sym (length-append (s.done ++ pending_of) h.source.unread)
+    ∙ ap length (append_assoc s.done pending_of h.source.unread)
+    ∙ sym (ap length at.whole)
+  where
+    pending_of : List ℕ
+    pending_of = pending h.waiting h.source.block
+
+pub true-whole : (s : InputPast) (h : InputView) → At s h → items_with s h (actual_future h.source) ≡ whole_input s.text
+true-whole s h at =
+    ap (λ (i : Items). record { greatest = 0; items = i; size = (actual_future h.source).size }) (true-items s h at h.waiting refl)
+    ∙ ap (λ n. record { greatest = 0; items = items s.text; size = n }) (true-size s h at)
+
+pub true-wholes : (ss : List InputPast) (hs : List InputView) → AreInputsBehind ss hs → inputs_with ss hs (map (λ (h : InputView). actual_future h.source) hs) ≡ wholes_of ss
+true-wholes [] [] st = refl
+true-wholes [] (h ∷ hs) st = absurd st
+true-wholes (s ∷ ss) [] st = absurd st
+true-wholes (s ∷ ss) (h ∷ hs) st = ap (λ (r : InputItems). r ∷ inputs_with ss hs (map (λ (h : InputView). actual_future h.source) hs)) (true-whole s h st.0) ∙ ap (λ (l : List InputItems). whole_input s.text ∷ l) (true-wholes ss hs st.1)
+
+pub true-fit : (s : InputPast) (h : InputView) → At s h → Fit h (actual_future h.source)
+true-fit s h at e =
+    let over = at.ended e in
+    let stops : front_of h.source.declared h.source.unread ≡ Stops None = rw over.unread over.ends in
+    ap (λ (i : Items). record { items = i; size = (actual_future h.source).size }) (items_from-stops h.source.declared (h.source.offset + length h.source.block) h.source.unread None stops)
+    ∙ ap (λ n. record { items = no_items h.source.declared None 0; size = n }) (rw (over.block, over.unread) (simp (add-zero)))
+
+pub true-fits : (ss : List InputPast) (hs : List InputView) → AreInputsBehind ss hs → AreFutures hs (map (λ (h : InputView). actual_future h.source) hs)
+true-fits [] [] st = tt
+true-fits [] (h ∷ hs) st = absurd st
+true-fits (s ∷ ss) [] st = absurd st
+true-fits (s ∷ ss) (h ∷ hs) st = (true-fit s h st.0, true-fits ss hs st.1)
+
+-- what an input finds that met no fault
+pub finds : (s : InputPast) (h : InputView) (s' : SourceView) (r : Result Bool Fault) → At s h → h.waiting ≡ false → Advances h.source.phase h.source r s' → Finds h.source r s'
+finds s h s' r at waits advances =
+    let P : Bool → Type 0 = λ b. IsAt s.text s.done s.packets b h.source in
+    Advances-sound s.text s.done s.packets h.source s' r (subst P waits at) advances

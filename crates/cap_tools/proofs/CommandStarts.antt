@@ -1,0 +1,116 @@
+-- The job of a command of which nothing is done.
+use Rattle.std.proofs.Common.{◌≡◌, inl, inr, ℕ, ◌+◌, ◌≤◌, Bool, true, not, List, [], ◌++◌, map, length, take, None, Ok, Err, refl, sym, ap, arith, subst, ◌∙◌, nat_eq, nat_le, ◌&&◌, add-zero}
+use Rattle.std.proofs.lemmas.List.{append-nil}
+use Rattle.cap_octet.specs.declared.device.Stopped.{Stopped}
+use Rattle.flt_bpf.specs.Listing.{listing}
+use Rattle.cap_filter.specs.Messages.{write_failed_message}
+use Rattle.cap_tools.specs.Output.{Target, Capture, Text, Lines, Lists, ListsTo, written_to, failures_to}
+use Rattle.cap_tools.specs.Reports.{name_at}
+use Rattle.cap_tools.specs.Machine.{MachineState, written_by}
+use Rattle.std.proofs.lemmas.Bool.{and_parts, eqb-true, leb-true}
+use Rattle.cap_filter.specs.Command.{is_proper, is_proper_edit, is_proper_print}
+use Rattle.cap_filter.specs.declared.command.Command.{Command}
+use Rattle.cap_filter.specs.declared.command.Command.TheVariants as command
+use Rattle.cap_filter.specs.Compilation.{IsCompiled}
+use Rattle.cap_filter.specs.Outcome.{OutputView, IsTold}
+use Rattle.flt_bpf.specs.declared.insn.Insn.{Insn}
+use Rattle.flt_gen.specs.declared.link.Link.{Link}
+use Rattle.cap_tools.specs.declared.packets.Turn.{Turn}
+use Rattle.cap_tools.specs.declared.packets.Turn.TheVariants as turn
+use Rattle.cap_tools.specs.declared.output.Writing.{Writing}
+use Rattle.cap_tools.specs.declared.output.Writing.TheVariants as writing
+use Rattle.cap_tools.specs.Sequence.{PacketOrder, InTurn}
+use Rattle.cap_tools.specs.Verdict.{Policy, Count, KeepAll}
+use Rattle.cap_tools.specs.Jobs.{JobView, Call, RunResult, fresh_job, most_inputs, order_of, nothing_done}
+use Rattle.cap_tools.specs.FirstStep.{EndsList, ListsInto, is_text}
+use Rattle.cap_tools.specs.Commands.{CommandView, IsReadyIf, CompileGives, DecidedBy, RunsBy, RunsCommand, assigned, command_first}
+use Rattle.cap_tools.proofs.Starts.{Decided-start, first-few, first-less}
+
+pub lists-some : (tells : Bool) (words : List ℕ) (link : Link) (prog : List Insn) (old new : JobView) (r : Turn) → IsCompiled words link prog → EndsList prog tells old r new → CompileGives words link tells old r new
+lists-some tells words link prog old new turn.More compiled lists = lists
+lists-some tells words link prog old new (turn.Done status) compiled lists = inl (record { prog = prog; compiled = compiled; lists = lists })
+
+one-input : (n : ℕ) (other : Bool) → (nat_eq n 1 && other) ≡ true → n ≤ most_inputs
+one-input n other is = let one = eqb-true n 1 (and_parts (nat_eq n 1) other is).0 in omega (arith, one)
+
+-- a proper command has at most so many inputs
+pub few-inputs : {Z : Type 0} (c : Command Z) (n : ℕ) → is_proper c n ≡ true → n ≤ most_inputs
+few-inputs (command.Edit edit) n is = one-input n (is_proper_edit edit) is
+few-inputs (command.Merge merge) n is = leb-true n most_inputs (and_parts (nat_le 1 n) (nat_le n most_inputs) is).1
+few-inputs command.Infos n is = leb-true n most_inputs (and_parts (nat_le 1 n) (nat_le n most_inputs) is).1
+few-inputs (command.Print print) n is = one-input n (is_proper_print print) is
+few-inputs (command.Compile compile) n is = let none = eqb-true n 0 is in omega (arith, none)
+
+-- the job that was made is that of the command
+pub first-is : {Z : Type 0} (c : Command Z) (call : Call) (order : PacketOrder) (policy : Policy) (w : Writing)
+    → order ≡ (assigned c).order → policy ≡ (assigned c).policy → w ≡ (assigned c).writing → fresh_job order policy w call ≡ (command_first c call).packets
+first-is c call order policy w same_order same_asked same_writing = rw (same_order, same_asked, same_writing) refl
+
+-- what a command reads or compiles first is not begun, and no step was made
+pub first-ready : {Z : Type 0} (c : Command Z) (call : Call) → length call.inputs ≤ most_inputs
+    → IsReadyIf (assigned c).preparing (command_first c call).packets
+first-ready (command.Edit edit) call few = tt
+first-ready (command.Merge merge) call few = tt
+first-ready command.Infos call few = tt
+first-ready (command.Print print) call few = record { turns = refl; done = refl; programs = refl; left = first-less (assigned (command.Print print)).order call.inputs few; few = first-few (assigned (command.Print print)).order call.inputs }
+first-ready (command.Compile compile) call few =
+    (record { turns = refl; done = refl; programs = refl; left = first-less (assigned (command.Compile compile)).order call.inputs few; few = first-few (assigned (command.Compile compile)).order call.inputs }, refl)
+
+-- nothing is decided of the inputs
+pub first-decided : {Z : Type 0} (c : Command Z) (call : Call)
+    → DecidedBy (assigned c).preparing (map nothing_done call.inputs) call.output.written (command_first c call).packets.machine
+first-decided (command.Edit edit) call = Decided-start (assigned (command.Edit edit)).order call.inputs call.output.written (assigned (command.Edit edit)).policy call.names (assigned (command.Edit edit)).writing call.output.failures call.room
+first-decided (command.Merge merge) call = Decided-start (order_of (not merge.append)) call.inputs call.output.written KeepAll call.names (writing.Capture merge.format) call.output.failures call.room
+first-decided command.Infos call = Decided-start InTurn call.inputs call.output.written Count call.names writing.Text call.output.failures call.room
+first-decided (command.Print print) call = λ rule is. Decided-start (assigned (command.Print print)).order call.inputs call.output.written _ call.names (assigned (command.Print print)).writing call.output.failures call.room
+first-decided (command.Compile compile) call = tt
+
+-- a command runs from its beginning
+pub command-begun : {Z : Type 0} (c : Command Z) (call : Call) (job : CommandView) (r : RunResult)
+    → job ≡ command_first c call → (job.packets.done ≡ None → RunsCommand call.tells job r)
+    → RunsBy (assigned c).preparing (map nothing_done call.inputs) call.output.written call.tells (command_first c call).packets r
+command-begun c call job r is runs =
+    let P : CommandView → Type 0 = λ v. v.packets.done ≡ None → RunsCommand call.tells v r in
+    subst P is runs refl (map nothing_done call.inputs) call.output.written (first-decided c call)
+
+-- ---- a listing is written
+
+pub lists-ok : (insns : List Insn) (tells : Bool) (old new : MachineState) (err : OutputView) → is_text old.output.target ≡ true → Lists insns old.output (Ok tt) new.output → ListsInto insns tells old err 0 new err
+lists-ok insns tells old new err text lists = by_target old.output.target refl text lists.target
+  where
+    by_target : (t : Target) → old.output.target ≡ t → is_text t ≡ true → ListsTo (listing insns) t (Ok tt) new.output.target → ListsInto insns tells old err 0 new err
+    by_target (Capture sink) is text to = absurd (let e = text in cc)
+    by_target (Lines options written failures room) is text to = absurd (let e = text in cc)
+    by_target (Text written failures room) is text to =
+        let before : written_by old ≡ written = ap written_to is in
+        let after : written_by new ≡ to.after = ap written_to to.is in
+        record {
+          message = [];
+          left = inl (record { written = after ∙ to.appends ∙ ap (λ (l : List ℕ). l ++ listing insns) (sym before); device = ap failures_to to.is ∙ add-zero failures ∙ sym (ap failures_to is); told = refl; answered = refl });
+          quiet = λ none. refl;
+          told = record { answer = Ok tt; told = λ te. sym (append-nil err.written); counted = sym (add-zero err.failures) };
+        }
+
+pub lists-err : (insns : List Insn) (tells : Bool) (old new : MachineState) (stopped : Stopped) (err err' : OutputView) → is_text old.output.target ≡ true → Lists insns old.output (Err stopped) new.output
+    → IsTold tells err (write_failed_message (name_at old.output.names (length old.inputs.cursors))) err' → ListsInto insns tells old err 1 new err'
+lists-err insns tells old new stopped err err' text lists told = by_target old.output.target refl text lists.target
+  where
+    by_target : (t : Target) → old.output.target ≡ t → is_text t ≡ true → ListsTo (listing insns) t (Err stopped) new.output.target → ListsInto insns tells old err 1 new err'
+    by_target (Capture sink) is text to = absurd (let e = text in cc)
+    by_target (Lines options written failures room) is text to = absurd (let e = text in cc)
+    by_target (Text written failures room) is text to =
+        let before : written_by old ≡ written = ap written_to is in
+        let after : written_by new ≡ to.after = ap written_to to.is in
+        record {
+          message = write_failed_message (name_at old.output.names (length old.inputs.cursors));
+          left = inr (record {
+            failures = ap failures_to to.is ∙ ap (λ (n : ℕ). n + 1) (sym (ap failures_to is));
+            count = to.appends.0;
+            within = to.appends.1;
+            written = after ∙ to.appends.2 ∙ ap (λ (l : List ℕ). l ++ take to.appends.0 (listing insns)) (sym before);
+            told = refl;
+            answered = refl;
+          });
+          told = told;
+          quiet = λ none. (cc);
+        }

@@ -1,0 +1,484 @@
+-- The steps that read an input on.
+use Rattle.std.proofs.Common.{◌≡◌, inl, inr, ℕ, suc, ◌+◌, ◌<◌, ◌≤◌, Bool, true, false, IsTrue, List, [], ◌∷◌, ◌++◌, length, map, get_or, Option, None, Some, Result, Ok, Err, refl, sym, ◌∙◌, ap, arith, subst}
+use Rattle.std.proofs.lemmas.List.{append_assoc, append-nil}
+use Rattle.std.specs.List.{slice_set}
+use Rattle.cap_octet.specs.Device.{Stops}
+use Rattle.cap_octet.specs.declared.device.DeviceFault.{DeviceFault}
+use Rattle.cap_octet.specs.declared.fault.Fault.{Fault}
+use Rattle.cap_octet.specs.declared.fault.Fault.TheVariants.{ReadFailed}
+use Rattle.cap_io.specs.declared.source.Kind.{Kind}
+use Rattle.cap_io.specs.Capture.{Placed, Items, FaultAt, no_items, kind_of, after_packets}
+use Rattle.cap_io.specs.Source.{SourceView, Phase, Reading, Ended, Failed, Steps, FindsPacket, FindsEnd, FindsFault, Advances}
+use Rattle.cap_io.specs.Position.{IsAt}
+use Rattle.cap_io.proofs.Standing.{IsAt-found, IsAt-closed, IsAt-fault}
+use Rattle.cap_tools.specs.declared.inputs.Schedule.{Schedule}
+use Rattle.cap_tools.specs.declared.inputs.Schedule.TheVariants.{Turn, Merge}
+use Rattle.cap_tools.specs.declared.inputs.Next.TheVariants as next
+use Rattle.cap_tools.specs.declared.machine.StepOutcome.{StepOutcome}
+use Rattle.cap_tools.specs.Reports.{Report, Tally}
+use Rattle.cap_tools.specs.Sequence.{InputItems, Event, FaultIn, PacketOrder, InTurn, ByTime, sequence_of, with_front, whole_input}
+use Rattle.cap_tools.specs.Verdict.{Policy, Edit, Filter, KeepAll, Count, SelectorState}
+use Rattle.cap_tools.specs.Selector as selecting
+use Rattle.cap_tools.specs.Selector.{PolicyState, IsWithin, emptied, is_count}
+use Rattle.cap_tools.specs.Outcome.{Form, AsReports, Progress, no_progress, apply_events, final_progress, end_with, final_text, output_text, text_at_end, first_link}
+use Rattle.cap_tools.specs.Output.{JobOutputView, Target, Capture, Text, Lines, HasWritten, Reports, ReportsTo, form_at, written_to, failures_to}
+use Rattle.cap_tools.specs.Inputs.{InputView, InputsView, Future, InputPast, AreInputsBehind, AreSettled, IsInput, EndedBefore, ReadsInput, IsNext, waits_from, waiting_packets, input_after, schedule_after, is_clean_end, actual_future, items_with, inputs_with, inputs_left, sequence_left, is_in_turn, ordering_of}
+use Rattle.cap_tools.specs.Reports.{report_text, reports_text}
+use Rattle.cap_tools.specs.Machine.{MachineState, AppendsOnce, Decided, GoesOn, Comes, BreaksAt, WhyBroken, StopsWriting, StepLeaves, Closes, ClosesBy, asks_report, report_at, unless_failed, progress_at, progress_of, progress_over, form_of, failures_by, written_by, cut_at, wholes_of}
+use Rattle.cap_tools.proofs.Splits.{At, Fit, stands-split, stands-join, stands-length, fits-join, wholes-join, rests-join, finish-here, come-on}
+use Rattle.cap_tools.proofs.Coming.{carries-found, carries-closed, true-wholes, true-fits, finds}
+use Rattle.cap_tools.proofs.Outputs.{drained-text, ReportOk, report-ok, reports-more}
+use Rattle.cap_tools.proofs.Growing.{Grows, course-grows}
+use Rattle.cap_tools.proofs.Laws.{ReadLaws, ReadAt, closed_in, read-at}
+use Rattle.cap_tools.proofs.Once.{once-nothing, once-report}
+use Rattle.cap_tools.proofs.Outcomes.{progress-append, course-close}
+use Rattle.cap_tools.proofs.Cursors.{greatest-here, greatest-same, never-at, never-kept, set-here}
+
+abbrev pub mk : List InputView → Schedule → Policy → SelectorState → JobOutputView → ℕ → MachineState
+mk cursors schedule policy state output decided = record { inputs = record { cursors = cursors; schedule = schedule }; policy = policy; state = state; output = output; decided = decided }
+
+at-here : (xs ys : List InputView) (v d : InputView) (n : ℕ) → length xs ≡ n → get_or (xs ++ v ∷ ys) n d ≡ v
+at-here [] ys v d n e = rw (← e) refl
+at-here (x ∷ xs) ys v d n e = rw (← e) (at-here xs ys v d (length xs) refl)
+
+pub among-same : (cursors : List InputView) (i : ℕ) (h h' : InputView) → IsInput cursors i h → IsInput cursors i h' → h ≡ h'
+among-same cursors i h h' a b =
+    sym (ap (λ (l : List InputView). get_or l i h) a.splits ∙ at-here a.front a.back h h i a.place)
+    ∙ ap (λ (l : List InputView). get_or l i h) b.splits
+    ∙ at-here b.front b.back h' h i b.place
+
+-- ---- a packet is found
+
+found-goes : (us vs : List InputPast) (s : InputPast) (before : List ℕ) (xs ys : List InputView) (h : InputView) (s' : SourceView) (schedule : Schedule) (turn : ℕ) (policy : Policy) (state : SelectorState) (output : JobOutputView) (decided : ℕ)
+    → ReadLaws schedule turn xs ys h → AreInputsBehind us xs → At s h → AreInputsBehind vs ys → Advances h.source.phase h.source (Ok true) s' → s'.never_fails ≡ h.source.never_fails
+    → (d : Decided (us ++ s ∷ vs) before (mk (xs ++ h ∷ ys) schedule policy state output decided))
+    → GoesOn d (mk (xs ++ input_after h (Ok true) s' ∷ ys) (schedule_after schedule turn false) policy state output decided)
+found-goes us vs s before xs ys h s' schedule turn policy state output decided laws front at back advances never d =
+    let waits : h.waiting ≡ false = laws.waits in
+    let found : FindsPacket h.source s' = finds s h s' (Ok true) at waits advances in
+    let P : Bool → Type 0 = λ b. IsAt s.text s.done s.packets b h.source in
+    let new : MachineState = mk (xs ++ input_after h (Ok true) s' ∷ ys) (schedule_after schedule turn false) policy state output decided in
+    let same : s.packets ++ [] ≡ s.packets = append-nil s.packets in
+    let here : At (record { text = s.text; done = s.done ++ found.passes.passed; packets = s.packets ++ [] }) (input_after h (Ok true) s') =
+    rw same (IsAt-found s.text s.done s.packets h.source s' (subst P waits at) found) in
+    record {
+      input = turn;
+      finished = found.passes.passed;
+      packets = [];
+      past = us ++ record { text = s.text; done = s.done ++ found.passes.passed; packets = s.packets ++ [] } ∷ vs;
+      past_is = sym (finish-here us vs s turn found.passes.passed [] (stands-length us xs front ∙ laws.here));
+      decided = record {
+        behind = stands-join us vs (record { text = s.text; done = s.done ++ found.passes.passed; packets = s.packets ++ [] }) xs ys (input_after h (Ok true) s') front here back;
+        greatest = greatest-here us vs s (record { text = s.text; done = s.done ++ found.passes.passed; packets = s.packets ++ [] }) xs ys h (input_after h (Ok true) s') front d.greatest (greatest-same h.greatest s.packets);
+        events = d.events ++ [];
+        come = come-on us vs s (record { text = s.text; done = s.done ++ found.passes.passed; packets = s.packets ++ [] }) xs ys h (input_after h (Ok true) s') schedule (schedule_after schedule turn false) d.events [] (laws.order false) front d.come
+            (λ f' fit. carries-found s xs ys h s' schedule (schedule_after schedule turn false) laws.found_left waits advances found f');
+        packets = d.packets;
+        reports = d.reports;
+        progress = ap (λ (l : List Event). apply_events policy (form_at output) no_progress l) (append-nil d.events) ∙ d.progress;
+        output = d.output;
+        passed = d.passed;
+        counted = d.counted;
+        ended = laws.found_ended (input_after h (Ok true) s') (let has = here.waits refl in waits_from has.packet refl has.held (omega arith));
+      };
+      at_most_one = omega arith;
+      form = refl;
+      once = once-nothing (first_link (wholes_of (us ++ s ∷ vs))) (progress_of d) (progress_at new d.packets d.reports) output output refl refl refl;
+      output = refl;
+      names = refl;
+      order = laws.order false;
+      never = never-at xs ys h (input_after h (Ok true) s') never;
+    }
+
+-- ---- a clean end is met
+
+-- the input behind its last bytes
+abbrev read-out : InputPast → List ℕ → InputPast
+read-out s bytes = record { text = s.text; done = s.done ++ bytes; packets = s.packets ++ [] }
+
+-- what holds of the inputs then
+record ReadOut (us vs : List InputPast) (s : InputPast) (xs ys : List InputView) (h' : InputView) (schedule' : Schedule) (events : List Event) (bytes : List ℕ) : Type 0 where
+  pub behind : AreInputsBehind (us ++ read-out s bytes ∷ vs) (xs ++ h' ∷ ys)
+  pub come : AreSettled (us ++ read-out s bytes ∷ vs) (record { cursors = xs ++ h' ∷ ys; schedule = schedule' }) events
+  pub ended : EndedBefore schedule' (xs ++ h' ∷ ys)
+
+closed-out : (us vs : List InputPast) (s : InputPast) (before : List ℕ) (xs ys : List InputView) (h : InputView) (s' : SourceView) (schedule : Schedule) (turn : ℕ) (policy : Policy) (state : SelectorState) (output : JobOutputView) (decided : ℕ)
+    → (laws : ReadLaws schedule turn xs ys h) → AreInputsBehind us xs → At s h → AreInputsBehind vs ys → Advances h.source.phase h.source (Ok false) s' → (found : FindsEnd h.source s')
+    → (d : Decided (us ++ s ∷ vs) before (mk (xs ++ h ∷ ys) schedule policy state output decided))
+    → ReadOut us vs s xs ys (input_after h (Ok false) s') (schedule_after schedule turn true) (d.events ++ laws.closed_events (kind_of s'.declared) s'.offset) found.passes.passed
+closed-out us vs s before xs ys h s' schedule turn policy state output decided laws front at back advances found d =
+    let waits : h.waiting ≡ false = laws.waits in
+    let P : Bool → Type 0 = λ b. IsAt s.text s.done s.packets b h.source in
+    let same : s.packets ++ [] ≡ s.packets = append-nil s.packets in
+    let es : List Event = laws.closed_events (kind_of s'.declared) s'.offset in
+    let here : At (read-out s found.passes.passed) (input_after h (Ok false) s') =
+    rw same (IsAt-closed s.text s.done s.packets h.source s' (subst P waits at) found) in
+    record {
+      behind = stands-join us vs (read-out s found.passes.passed) xs ys (input_after h (Ok false) s') front here back;
+      come = come-on us vs s (read-out s found.passes.passed) xs ys h (input_after h (Ok false) s') schedule (schedule_after schedule turn true) d.events es (laws.order true) front d.come
+          (λ f' fit. carries-closed s xs ys h s' schedule (schedule_after schedule turn true) es (λ fs gs before with_front. laws.closed_left s'.declared h.greatest s'.offset fs gs before with_front) waits advances found f' fit);
+      ended = laws.closed_ended (input_after h (Ok false) s') refl found.phase;
+    }
+
+-- it goes on, with what closing the input makes of the progress
+closed-goes : (us vs : List InputPast) (s : InputPast) (before : List ℕ) (xs ys : List InputView) (h : InputView) (s' : SourceView) (schedule : Schedule) (turn : ℕ) (policy : Policy) (state : SelectorState) (output : JobOutputView) (decided : ℕ) (state' : SelectorState) (output' : JobOutputView) (reports : List Report)
+    → (laws : ReadLaws schedule turn xs ys h) → AreInputsBehind us xs → At s h → AreInputsBehind vs ys → Advances h.source.phase h.source (Ok false) s' → s'.never_fails ≡ h.source.never_fails
+    → (d : Decided (us ++ s ∷ vs) before (mk (xs ++ h ∷ ys) schedule policy state output decided))
+    → closed_in (ordering_of schedule) policy (progress_at (mk (xs ++ h ∷ ys) schedule policy state output decided) d.packets d.reports) turn (kind_of s'.declared) s'.offset
+    ≡ record { decided = decided; state = state'; packets = d.packets; reports = reports; end = None }
+    → HasWritten before output' d.packets reports → AppendsOnce (first_link (wholes_of (us ++ s ∷ vs))) (progress_of d) (record { decided = decided; state = state'; packets = d.packets; reports = reports; end = None }) output output' → form_at output' ≡ form_at output → failures_to output'.target ≡ failures_to output.target → output'.names ≡ output.names
+    → state'.passed ≤ decided → IsWithin decided state'.tally
+    → GoesOn d (mk (xs ++ input_after h (Ok false) s' ∷ ys) (schedule_after schedule turn true) policy state' output' decided)
+closed-goes us vs s before xs ys h s' schedule turn policy state output decided state' output' reports laws front at back advances never d goes final_text once form failures names passed counted =
+    let found : FindsEnd h.source s' = finds s h s' (Ok false) at laws.waits advances in
+    let out = closed-out us vs s before xs ys h s' schedule turn policy state output decided laws front at back advances found d in
+    let w : Progress = progress_at (mk (xs ++ h ∷ ys) schedule policy state output decided) d.packets d.reports in
+    let es : List Event = laws.closed_events (kind_of s'.declared) s'.offset in
+    record {
+      input = turn;
+      finished = found.passes.passed;
+      packets = [];
+      past = us ++ read-out s found.passes.passed ∷ vs;
+      past_is = sym (finish-here us vs s turn found.passes.passed [] (stands-length us xs front ∙ laws.here));
+      decided = record {
+        behind = out.behind;
+        greatest = greatest-here us vs s (read-out s found.passes.passed) xs ys h (input_after h (Ok false) s') front d.greatest (greatest-same h.greatest s.packets);
+        events = d.events ++ es;
+        come = out.come;
+        packets = d.packets;
+        reports = reports;
+        progress = ap (λ (f : Form). apply_events policy f no_progress (d.events ++ es)) form
+            ∙ progress-append policy (form_at output) no_progress d.events es ∙ ap (λ (v : Progress). apply_events policy (form_at output) v es) d.progress
+            ∙ laws.closed_way policy (form_at output) w (kind_of s'.declared) s'.offset refl ∙ goes;
+        output = final_text;
+        passed = passed;
+        counted = counted;
+        ended = out.ended;
+      };
+      at_most_one = omega arith;
+      form = form;
+      once = once;
+      output = failures;
+      names = names;
+      order = laws.order true;
+      never = never-at xs ys h (input_after h (Ok false) s') never;
+    }
+
+-- ---- it ends by a fault
+
+pub wholes_of-join : (us vs : List InputPast) (s : InputPast) → wholes_of (us ++ s ∷ vs) ≡ wholes_of us ++ whole_input s.text ∷ wholes_of vs
+wholes_of-join [] vs s = refl
+wholes_of-join (u ∷ us) vs s = ap (λ (l : List InputItems). whole_input u.text ∷ l) (wholes_of-join us vs s)
+
+pub cut-here : (rs qs : List InputItems) (r : InputItems) (n : ℕ) (held : Items) → length rs ≡ n → cut_at (rs ++ r ∷ qs) n held ≡ rs ++ record { greatest = r.greatest; items = held; size = r.size } ∷ qs
+cut-here [] qs r n held is = rw (← is) refl
+cut-here (x ∷ xs) qs r n held is = rw (← is) (ap (λ (l : List InputItems). x ∷ l) (cut-here xs qs r (length xs) held refl))
+
+pub wholes_of-length : (us : List InputPast) → length (wholes_of us) ≡ length us
+wholes_of-length [] = refl
+wholes_of-length (u ∷ us) = ap suc (wholes_of-length us)
+
+-- what the output has where the job ends by a fault behind what is decided
+pub comes-broken : (ss : List InputPast) (before : List ℕ) (m : MachineState) (rs : List InputItems) (d : Decided ss before m) (new : MachineState) (input : ℕ) (fault : Fault) (offset : ℕ)
+    → progress_over m rs ≡ end_with (progress_of d) (FaultIn input fault offset) → written_by new ≡ written_by m → failures_by new ≡ failures_by m
+    → Comes rs d new (FaultIn input fault offset)
+comes-broken ss before m rs d new input fault offset is same device = record {
+  ends = ap (λ (w : Progress). w.end) is;
+  written =
+      same ∙ drained-text before m.output.names m.output.target d.packets d.reports d.output
+      ∙ ap (λ (l : List ℕ). before ++ l) (sym (append-nil (output_text (form_of m) d.packets d.reports)))
+      ∙ ap (λ (w : Progress). before ++ final_text (form_of m) (first_link rs) w) (sym is);
+  once = once-nothing (first_link rs) (progress_of d) (progress_over m rs) m.output new.output (ap (λ (w : Progress). w.packets) is) (ap (λ (w : Progress). w.reports) is) same;
+  device = device;
+}
+
+-- a device that failed isn't one that never does
+may-fail : (never_fails : Bool) (failures failures' : ℕ) → (IsTrue never_fails → failures' ≡ failures) → failures' ≡ failures + 1 → never_fails ≡ false
+may-fail false failures failures' unfailed counted = refl
+may-fail true failures failures' unfailed counted = absurd (omega (arith, unfailed refl, counted))
+
+-- the device failed
+risen : (s : InputPast) (h : InputView) (s' : SourceView) (fault : Fault) → At s h → Steps h.source.phase h.source (Err fault) s' → fault ≡ ReadFailed
+    → (h.source.failures < s'.failures) × (h.source.never_fails ≡ false)
+risen s h s' fault at steps is = by_phase h.source.phase refl steps
+  where
+    by_phase : (p : Phase) → h.source.phase ≡ p → Steps p h.source (Err fault) s' → (h.source.failures < s'.failures) × (h.source.never_fails ≡ false)
+    by_phase Reading e b =
+        let counted : s'.failures ≡ h.source.failures + 1 = rw is at b.failures in
+        (omega (arith, counted), may-fail h.source.never_fails h.source.failures s'.failures b.unfailed counted)
+    by_phase Ended e b = absurd (let w = b.0 in cc)
+    by_phase (Failed other) e b = absurd (at.sound other e)
+
+pub broken-ends : (us vs : List InputPast) (s : InputPast) (before : List ℕ) (xs ys : List InputView) (h : InputView) (s' : SourceView) (fault : Fault) (schedule : Schedule) (turn : ℕ) (policy : Policy) (state : SelectorState) (output : JobOutputView) (decided : ℕ)
+    → ReadLaws schedule turn xs ys h → IsNext schedule (xs ++ h ∷ ys) (next.Read turn) → AreInputsBehind us xs → At s h → AreInputsBehind vs ys → Advances h.source.phase h.source (Err fault) s'
+    → Steps h.source.phase h.source (Err fault) s'
+    → (d : Decided (us ++ s ∷ vs) before (mk (xs ++ h ∷ ys) schedule policy state output decided))
+    → WhyBroken d (mk (xs ++ input_after h (Err fault) s' ∷ ys) (schedule_after schedule turn false) policy state output decided) turn fault s'
+broken-ends us vs s before xs ys h s' fault schedule turn policy state output decided laws tells front at back advances steps d =
+    let waits : h.waiting ≡ false = laws.waits in
+    let found : FindsFault h.source s' fault = finds s h s' (Err fault) at waits advances in
+    let P : Bool → Type 0 = λ b. IsAt s.text s.done s.packets b h.source in
+    let here : IsAt s.text s.done s.packets false h.source = subst P waits at in
+    elim (IsAt-fault s.text s.done s.packets h.source s' fault here found) [
+      | inl faulty ↦ inl (comes-broken (us ++ s ∷ vs) before m (wholes_of (us ++ s ∷ vs)) d new turn fault s'.offset
+          (ap (λ (l : List InputItems). final_progress policy (form_at output) (sequence_of (ordering_of schedule) l))
+          (wholes_of-join us vs s ∙ ap (λ (r : InputItems). wholes_of us ++ r ∷ wholes_of vs) (ap (λ (i : Items). record { greatest = 0; items = i; size = length s.text }) faulty.items))
+          ∙ cut-course)
+          refl refl)
+      | inr cut ↦ inr (inl (record {
+        front = us;
+        past = s;
+        back = vs;
+        place = stands-length us xs front ∙ laws.here;
+        among = refl;
+        cursor = h;
+        cursor_is = record { front = xs; back = ys; place = laws.here; splits = refl };
+        next = tells;
+        advances = advances;
+        held = record { packets = s.packets; declared = s'.declared; ending = FaultAt fault s'.offset };
+        cut = cut.cut;
+        why = elim cut.why [ inl failed ↦ let rose = risen s h s' fault at steps failed in inl (failed, rose.0, rose.1) | inr full ↦ inr full ];
+        comes = comes-broken (us ++ s ∷ vs) before m (cut_at (wholes_of (us ++ s ∷ vs)) turn (record { packets = s.packets; declared = s'.declared; ending = FaultAt fault s'.offset })) d new turn fault s'.offset
+            (ap (λ (l : List InputItems). final_progress policy (form_at output) (sequence_of (ordering_of schedule) l))
+            (ap (λ (l : List InputItems). cut_at l turn (record { packets = s.packets; declared = s'.declared; ending = FaultAt fault s'.offset })) (wholes_of-join us vs s)
+            ∙ cut-here (wholes_of us) (wholes_of vs) (whole_input s.text) turn (record { packets = s.packets; declared = s'.declared; ending = FaultAt fault s'.offset }) (wholes_of-length us ∙ stands-length us xs front ∙ laws.here))
+            ∙ cut-course)
+            refl refl;
+      }))
+    ]
+  where
+    m : MachineState
+    m = mk (xs ++ h ∷ ys) schedule policy state output decided
+
+    new : MachineState
+    new = mk (xs ++ input_after h (Err fault) s' ∷ ys) (schedule_after schedule turn false) policy state output decided
+
+    -- the future in which the input ends so
+    f : Future
+    f = record { items = no_items s'.declared (Some fault) s'.offset; size = length s.text }
+
+    fit : Fit h f
+    fit e = let Q : Phase → Type 0 = λ p. Advances p h.source (Err fault) s' in absurd (let w = (subst Q e advances).0 in cc)
+
+    laters : List InputView → List Future
+    laters hs = map (λ (v : InputView). actual_future v.source) hs
+
+    after : List Placed → Bool → Items
+    after ps b = after_packets ps (after_packets (waiting_packets b h.source) f.items)
+
+    rest_as : Bool → InputItems
+    rest_as b = record { greatest = h.greatest; items = after_packets (waiting_packets b h.source) f.items; size = f.size }
+
+    cut-course : final_progress policy (form_at output) (sequence_of (ordering_of schedule) (wholes_of us ++ record { greatest = 0; items = record { packets = s.packets; declared = s'.declared; ending = FaultAt fault s'.offset }; size = length s.text } ∷ wholes_of vs))
+        ≡ end_with (progress_at m d.packets d.reports) (FaultIn turn fault s'.offset)
+    cut-course =
+        course-close policy (form_at output) _ d.events (progress_at m d.packets d.reports) (FaultIn turn fault s'.offset)
+        (ap (sequence_of (ordering_of schedule))
+        (ap (λ (l : List Placed). wholes_of us ++ record { greatest = 0; items = record { packets = l; declared = s'.declared; ending = FaultAt fault s'.offset }; size = length s.text } ∷ wholes_of vs) (sym (append-nil s.packets))
+        ∙ ap (λ b. wholes_of us ++ record { greatest = 0; items = after s.packets b; size = length s.text } ∷ wholes_of vs) (sym laws.waits)
+        ∙ ap (λ (l : List InputItems). l ++ items_with s h f ∷ wholes_of vs) (sym (true-wholes us xs front))
+        ∙ ap (λ (l : List InputItems). inputs_with us xs (laters xs) ++ items_with s h f ∷ l) (sym (true-wholes vs ys back))
+        ∙ sym (wholes-join us vs s xs ys h (laters xs) (laters ys) f front (true-fits us xs front)))
+        ∙ d.come (laters xs ++ f ∷ laters ys) (fits-join xs ys h (laters xs) (laters ys) f (true-fits us xs front) fit (true-fits vs ys back))
+        ∙ ap (λ (l : List InputItems). with_front d.events (sequence_left schedule l)) (rests-join xs ys h (laters xs) (laters ys) f (true-fits us xs front) ∙ ap (λ b. inputs_left xs (laters xs) ++ rest_as b ∷ inputs_left ys (laters ys)) laws.waits)
+        ∙ ap (with_front d.events) (laws.broken_left s'.declared fault s'.offset h.greatest (length s.text) (laters xs) (laters ys) (true-fits us xs front) (true-fits vs ys back)))
+        d.progress refl
+
+-- ---- an input is reported
+
+quiet-closed : (o : PacketOrder) (policy : Policy) (w : Progress) (i : ℕ) (kind : Option Kind) (size : ℕ) → asks_report o policy ≡ false → closed_in o policy w i kind size ≡ w
+quiet-closed ByTime policy w i kind size is = refl
+quiet-closed InTurn Count w i kind size is = (cc)
+quiet-closed InTurn (Edit s) w i kind size is = refl
+quiet-closed InTurn (Filter rule count) w i kind size is = refl
+quiet-closed InTurn KeepAll w i kind size is = refl
+
+abbrev pub with_report : Progress → Report → Progress
+with_report w r = record { decided = w.decided; state = emptied w.state; packets = w.packets; reports = w.reports ++ r ∷ []; end = w.end }
+
+told-closed : (o : PacketOrder) (policy : Policy) (w : Progress) (i : ℕ) (kind : Option Kind) (size : ℕ) → asks_report o policy ≡ true
+    → closed_in o policy w i kind size ≡ with_report w (record { input = i; kind = kind; size = size; tally = w.state.tally })
+told-closed ByTime policy w i kind size is = (cc)
+told-closed InTurn Count w i kind size is = refl
+told-closed InTurn (Edit s) w i kind size is = (cc)
+told-closed InTurn (Filter rule count) w i kind size is = (cc)
+told-closed InTurn KeepAll w i kind size is = (cc)
+
+-- the device failed at a report
+report-stops : (us vs : List InputPast) (s : InputPast) (before : List ℕ) (xs ys : List InputView) (h : InputView) (s' : SourceView) (schedule : Schedule) (turn : ℕ) (policy : Policy) (state : SelectorState) (names : List (List ℕ)) (target : Target) (decided : ℕ) (state' : SelectorState) (output' : JobOutputView) (fault : DeviceFault)
+    → (laws : ReadLaws schedule turn xs ys h) → IsNext schedule (xs ++ h ∷ ys) (next.Read turn) → AreInputsBehind us xs → At s h → AreInputsBehind vs ys → Advances h.source.phase h.source (Ok false) s' → Steps h.source.phase h.source (Ok false) s'
+    → (d : Decided (us ++ s ∷ vs) before (mk (xs ++ h ∷ ys) schedule policy state (record { names = names; target = target }) decided))
+    → asks_report (ordering_of schedule) policy ≡ true
+    → ReportsTo (report_text names (report_at turn (input_after h (Ok false) s') state.tally)) target (Err fault) output'.target
+    → StopsWriting d (mk (xs ++ input_after h (Ok false) s' ∷ ys) (schedule_after schedule turn true) policy state' output' decided)
+report-stops us vs s before xs ys h s' schedule turn policy state names (Capture sink) decided state' output' fault laws tells front at back advances steps d asks reports = absurd (let e = reports.0 in cc)
+report-stops us vs s before xs ys h s' schedule turn policy state names (Lines options bytes failures room) decided state' output' fault laws tells front at back advances steps d asks reports = absurd (let e = reports.0 in cc)
+report-stops us vs s before xs ys h s' schedule turn policy state names (Text bytes failures room) decided state' output' fault laws tells front at back advances steps d asks reports =
+    let form : Form = AsReports names in
+    let output : JobOutputView = record { names = names; target = Text bytes failures room } in
+    let h' : InputView = input_after h (Ok false) s' in
+    let schedule' : Schedule = schedule_after schedule turn true in
+    let report : Report = report_at turn h' state.tally in
+    let found : FindsEnd h.source s' = finds s h s' (Ok false) at laws.waits advances in
+    let out = closed-out us vs s before xs ys h s' schedule turn policy state output decided laws front at back advances found d in
+    let w : Progress = progress_at (mk (xs ++ h ∷ ys) schedule policy state output decided) d.packets d.reports in
+    let es : List Event = laws.closed_events (kind_of s'.declared) s'.offset in
+    let w' : Progress = with_report w report in
+    let ss' : List InputPast = us ++ read-out s found.passes.passed ∷ vs in
+    let hs' : List InputView = xs ++ h' ∷ ys in
+    let fs : List Future = map (λ (v : InputView). actual_future v.source) hs' in
+    let far : apply_events policy form no_progress (d.events ++ es) ≡ w' =
+    progress-append policy form no_progress d.events es ∙ ap (λ (v : Progress). apply_events policy form v es) d.progress
+    ∙ laws.closed_way policy form w (kind_of s'.declared) s'.offset refl ∙ told-closed (ordering_of schedule) policy w turn (kind_of s'.declared) s'.offset asks in
+    let is : sequence_of (ordering_of schedule) (wholes_of (us ++ s ∷ vs)) ≡ with_front (d.events ++ es) (sequence_left schedule' (inputs_left hs' fs)) =
+    ap (sequence_of (ordering_of schedule)) (wholes_of-join us vs s ∙ sym (wholes_of-join us vs (read-out s found.passes.passed)) ∙ sym (true-wholes ss' hs' out.behind))
+    ∙ ap (λ (o : PacketOrder). sequence_of o (inputs_with ss' hs' fs)) (sym (laws.order true))
+    ∙ out.come fs (true-fits ss' hs' out.behind) in
+    let all : Progress = final_progress policy form (sequence_of (ordering_of schedule) (wholes_of (us ++ s ∷ vs))) in
+    let grows : Grows w' all = course-grows policy form (sequence_of (ordering_of schedule) (wholes_of (us ++ s ∷ vs))) (sequence_left schedule' (inputs_left hs' fs)) (d.events ++ es) w' is far in
+    let ending : List ℕ = text_at_end all.end form (first_link (wholes_of (us ++ s ∷ vs))) all.packets in
+    let own : List ℕ = report_text names report in
+    let fetched : ReadsInput (record { cursors = xs ++ h ∷ ys; schedule = schedule }) turn (Ok false) (record { cursors = hs'; schedule = schedule' }) = record {
+      cursor = h;
+      among = record { front = xs; back = ys; place = laws.here; splits = refl };
+      source = s';
+      advances = advances;
+      steps = steps;
+      is = ap (λ (l : List InputView). record { cursors = l; schedule = schedule' }) (sym (set-here xs ys h h' turn laws.here));
+    } in
+    record {
+      failures = ap failures_to reports.is;
+      bytes = own;
+      answer = inr (inl (record {
+        input = turn;
+        next = tells;
+        fetches = fetched;
+        policy = asks;
+        bytes_are = refl;
+      }));
+      back = reports_text names grows.reports ++ ending;
+      whole =
+          ap (λ (l : List Report). reports_text names l ++ ending) grows.reports_is
+          ∙ ap (λ (l : List ℕ). l ++ ending) (reports-more names d.reports report grows.reports)
+          ∙ append_assoc (reports_text names d.reports) (own ++ reports_text names grows.reports) ending
+          ∙ ap (λ (l : List ℕ). reports_text names d.reports ++ l) (append_assoc own (reports_text names grows.reports) ending);
+      so_far = d.output;
+      stops = (let S : Target → Type 0 = λ t. Stops bytes own (written_to t) in subst S (sym reports.is) reports.appends);
+    }
+
+closed-core : (us vs : List InputPast) (s : InputPast) (before : List ℕ) (xs ys : List InputView) (h : InputView) (s' : SourceView) (schedule : Schedule) (turn : ℕ) (policy : Policy) (state : SelectorState) (output : JobOutputView) (decided : ℕ) (r : StepOutcome) (selector' : PolicyState) (output' : JobOutputView)
+    → (laws : ReadLaws schedule turn xs ys h) → IsNext schedule (xs ++ h ∷ ys) (next.Read turn) → AreInputsBehind us xs → At s h → AreInputsBehind vs ys → Advances h.source.phase h.source (Ok false) s' → Steps h.source.phase h.source (Ok false) s'
+    → (d : Decided (us ++ s ∷ vs) before (mk (xs ++ h ∷ ys) schedule policy state output decided))
+    → (b : Bool) → asks_report (ordering_of schedule) policy ≡ b → ClosesBy b turn (input_after h (Ok false) s') (record { policy = policy; state = state }) output r selector' output'
+    → StepLeaves d r (mk (xs ++ input_after h (Ok false) s' ∷ ys) (schedule_after schedule turn true) policy selector'.state output' decided)
+closed-core us vs s before xs ys h s' schedule turn policy state output decided r selector' output' laws tells front at back advances steps d false asks by =
+    rw (by.0, by.1, by.2)
+    (closed-goes us vs s before xs ys h s' schedule turn policy state output decided state output d.reports laws front at back advances (never-kept h.source s' (Ok false) steps) d
+    (quiet-closed (ordering_of schedule) policy (progress_at (mk (xs ++ h ∷ ys) schedule policy state output decided) d.packets d.reports) turn (kind_of s'.declared) s'.offset asks)
+    d.output (once-nothing (first_link (wholes_of (us ++ s ∷ vs))) (progress_of d) (progress_of d) output output refl refl refl) refl refl refl d.passed d.counted)
+closed-core us vs s before xs ys h s' schedule turn policy state output decided r selector' output' laws tells front at back advances steps d true asks by =
+    rw (by.is, by.selector_is) (by_answer by.answer by.reports)
+  where
+    old : MachineState
+    old = mk (xs ++ h ∷ ys) schedule policy state output decided
+
+    report : Report
+    report = report_at turn (input_after h (Ok false) s') state.tally
+
+    by_answer : (answer : Result (Unit {0}) DeviceFault) → Reports report output answer output'
+        → StepLeaves d (unless_failed answer) (mk (xs ++ input_after h (Ok false) s' ∷ ys) (schedule_after schedule turn true) policy (emptied state) output' decided)
+    by_answer (Ok done) reports =
+        let ok : ReportOk before d.packets d.reports report output.names output'.names output.target output'.target =
+        report-ok before d.packets d.reports report output.names output'.names output.target output'.target reports.names d.output reports.target in
+        closed-goes us vs s before xs ys h s' schedule turn policy state output decided (emptied state) output' (d.reports ++ report ∷ []) laws front at back advances (never-kept h.source s' (Ok false) steps) d
+        (told-closed (ordering_of schedule) policy (progress_at old d.packets d.reports) turn (kind_of s'.declared) s'.offset asks)
+        ok.output (once-report (first_link (wholes_of (us ++ s ∷ vs))) before (progress_of d) (with_report (progress_of d) report) output output' report d.output ok.output ok.form refl refl) ok.form ok.failures reports.names d.passed (omega arith, omega arith, omega arith)
+    by_answer (Err fault) reports = report-stops us vs s before xs ys h s' schedule turn policy state output.names output.target decided (emptied state) output' fault laws tells front at back advances steps d asks reports.target
+
+-- ---- all of them
+
+abbrev pub FetchLeaves : {ss : List InputPast} {before : List ℕ} {old : MachineState} → Decided ss before old → ℕ → Result Bool Fault → StepOutcome → MachineState → Type 0
+FetchLeaves {ss} {before} {old} d i (Ok true) r new = GoesOn d new
+FetchLeaves {ss} {before} {old} d i (Ok false) r new = StepLeaves d r new
+FetchLeaves {ss} {before} {old} d i (Err fault) r new = BreaksAt d new i fault
+
+-- what is made of an answer: at its end an input is closed, and else the rest stays
+abbrev pub Follows : Result Bool Fault → InputsView → ℕ → PolicyState → JobOutputView → StepOutcome → PolicyState → JobOutputView → Type 0
+Follows (Ok true) inputs i selector old r selector' new = (selector' ≡ selector) × (new ≡ old)
+Follows (Ok false) inputs i selector old r selector' new = Closes inputs i selector old r selector' new
+Follows (Err fault) inputs i selector old r selector' new = (selector' ≡ selector) × (new ≡ old)
+
+read_input-core : (us vs : List InputPast) (s : InputPast) (before : List ℕ) (xs ys : List InputView) (h : InputView) (s' : SourceView) (a : Result Bool Fault) (schedule : Schedule) (turn : ℕ) (policy : Policy) (state : SelectorState) (output : JobOutputView) (decided : ℕ) (r : StepOutcome) (selector' : PolicyState) (output' : JobOutputView)
+    → ReadLaws schedule turn xs ys h → IsNext schedule (xs ++ h ∷ ys) (next.Read turn) → AreInputsBehind us xs → At s h → AreInputsBehind vs ys → Advances h.source.phase h.source a s' → Steps h.source.phase h.source a s'
+    → (d : Decided (us ++ s ∷ vs) before (mk (xs ++ h ∷ ys) schedule policy state output decided))
+    → Follows a (record { cursors = xs ++ input_after h a s' ∷ ys; schedule = schedule_after schedule turn (is_clean_end a) }) turn (record { policy = policy; state = state }) output r selector' output'
+    → FetchLeaves d turn a r (mk (xs ++ input_after h a s' ∷ ys) (schedule_after schedule turn (is_clean_end a)) policy selector'.state output' decided)
+read_input-core us vs s before xs ys h s' (Ok true) schedule turn policy state output decided r selector' output' laws tells front at back advances steps d follows =
+    rw (follows.0, follows.1) (found-goes us vs s before xs ys h s' schedule turn policy state output decided laws front at back advances (never-kept h.source s' (Ok true) steps) d)
+read_input-core us vs s before xs ys h s' (Ok false) schedule turn policy state output decided r selector' output' laws tells front at back advances steps d follows =
+    let h' : InputView = input_after h (Ok false) s' in
+    let same : follows.cursor ≡ h' = among-same (xs ++ h' ∷ ys) turn follows.cursor h' follows.among (record { front = xs; back = ys; place = laws.here; splits = refl }) in
+    let P : InputView → Type 0 = λ v. ClosesBy (asks_report (ordering_of (schedule_after schedule turn true)) policy) turn v (record { policy = policy; state = state }) output r selector' output' in
+    let Q : PacketOrder → Type 0 = λ o. ClosesBy (asks_report o policy) turn h' (record { policy = policy; state = state }) output r selector' output' in
+    closed-core us vs s before xs ys h s' schedule turn policy state output decided r selector' output' laws tells front at back advances steps d (asks_report (ordering_of schedule) policy) refl
+    (subst Q (laws.order true) (subst P same follows.by))
+read_input-core us vs s before xs ys h s' (Err fault) schedule turn policy state output decided r selector' output' laws tells front at back advances steps d follows = rw (follows.0, follows.1) (record {
+  cursor = input_after h (Err fault) s';
+  among = record { front = xs; back = ys; place = laws.here; splits = refl };
+  why = broken-ends us vs s before xs ys h s' fault schedule turn policy state output decided laws tells front at back advances steps d;
+})
+
+-- one input taken out of a step's premises
+pub read_input-leaves : (ss : List InputPast) (before : List ℕ) (cursors : List InputView) (schedule : Schedule) (policy : Policy) (state : SelectorState) (output : JobOutputView) (decided : ℕ) (i : ℕ) (a : Result Bool Fault) (inputs' : InputsView) (r : StepOutcome) (selector' : PolicyState) (output' : JobOutputView)
+    → IsNext schedule cursors (next.Read i) → ReadsInput (record { cursors = cursors; schedule = schedule }) i a inputs' → (d : Decided ss before (mk cursors schedule policy state output decided))
+    → Follows a inputs' i (record { policy = policy; state = state }) output r selector' output'
+    → FetchLeaves d i a r (mk inputs'.cursors inputs'.schedule policy selector'.state output' decided)
+read_input-leaves ss before cursors schedule policy state output decided i a inputs' r selector' output' tells fetches d follows =
+    let at : ReadAt schedule cursors i = read-at schedule cursors i tells d.ended in
+    let m = at.among in
+    let h = at.cursor in
+    let same : fetches.cursor ≡ h = among-same cursors i fetches.cursor h fetches.among m in
+    let A : InputView → Type 0 = λ v. Advances v.source.phase v.source a fetches.source in
+    let S : InputView → Type 0 = λ v. Steps v.source.phase v.source a fetches.source in
+    let h' : InputView = input_after h a fetches.source in
+    let schedule' : Schedule = schedule_after schedule i (is_clean_end a) in
+    let cursors' : slice_set cursors i h' ≡ m.front ++ h' ∷ m.back =
+    ap (λ (l : List InputView). slice_set l i h') m.splits ∙ set-here m.front m.back h h' i m.place in
+    let feed'_is : inputs' ≡ record { cursors = m.front ++ h' ∷ m.back; schedule = schedule' } =
+    fetches.is ∙ ap (λ (v : InputView). record { cursors = slice_set cursors i (input_after v a fetches.source); schedule = schedule' }) same
+    ∙ ap (λ (l : List InputView). record { cursors = l; schedule = schedule' }) cursors' in
+    let F : InputsView → Type 0 = λ f. Follows a f i (record { policy = policy; state = state }) output r selector' output' in
+    let D : List InputView → Type 0 = λ l. Decided ss before (mk l schedule policy state output decided) in
+    let T : List InputView → Type 0 = λ l. IsNext schedule l (next.Read i) in
+    let d' = subst D m.splits d in
+    let st = stands-split ss m.front m.back h d'.behind in
+    let new : MachineState = mk (m.front ++ h' ∷ m.back) schedule' policy selector'.state output' decided in
+    let core : (e : Decided (st.front ++ st.here ∷ st.back) before (mk (m.front ++ h ∷ m.back) schedule policy state output decided)) → FetchLeaves e i a r new = λ e.
+    read_input-core st.front st.back st.here before m.front m.back h fetches.source a schedule i policy state output decided r selector' output' at.laws (subst T m.splits tells) st.before st.at st.behind (subst A same fetches.advances) (subst S same fetches.steps) e (subst F feed'_is follows) in
+    let G : List InputPast → Type 0 = λ l. (e : Decided l before (mk (m.front ++ h ∷ m.back) schedule policy state output decided)) → FetchLeaves e i a r new in
+    let H : List InputView → Type 0 = λ l. (e : Decided ss before (mk l schedule policy state output decided)) → FetchLeaves e i a r new in
+    let N : InputsView → Type 0 = λ f. FetchLeaves d i a r (mk f.cursors f.schedule policy selector'.state output' decided) in
+    let whole_input : H cursors = subst H (sym m.splits) (subst G (sym st.is) core) in
+    subst N (sym feed'_is) (whole_input d)
+
+-- ---- an input is closed
+
+pub closes-by : (schedule : Schedule) (input : ℕ) (cursor : InputView) (selector selector' : PolicyState) (output output' : JobOutputView) (r : StepOutcome) (tally : Tally) (report : Report) (answer : Result (Unit {0}) DeviceFault) → is_in_turn schedule ≡ true
+    → selecting.TakesTally (is_count selector.policy) selector (Some tally) selector' → report ≡ report_at input cursor tally → Reports report output answer output' → r ≡ unless_failed answer
+    → ClosesBy (asks_report (ordering_of schedule) selector.policy) input cursor selector output r selector' output'
+closes-by (Merge n u) input cursor selector selector' output output' r tally report answer turn taken is reports ends = (cc)
+closes-by (Turn turn) input cursor selector selector' output output' r tally report answer here taken is reports ends = by_count (is_count selector.policy) taken
+  where
+    by_count : (b : Bool) → selecting.TakesTally b selector (Some tally) selector' → ClosesBy b input cursor selector output r selector' output'
+    by_count false taken = absurd (let e = taken.0 in cc)
+    by_count true taken =
+        let same : tally ≡ selector.state.tally = (let e = taken.0 in cc) in
+        let P : Report → Type 0 = λ v. Reports v output answer output' in
+        record { answer = answer; reports = subst P (is ∙ ap (report_at input cursor) same) reports; is = ends; selector_is = taken.1 }
+
+-- what was counted is taken of an input that is reported alone
+pub counted : (schedule : Schedule) (policy : Policy) (selector selector' : PolicyState) (tally : Tally) → is_in_turn schedule ≡ true → selecting.TakesTally (is_count policy) selector (Some tally) selector' → asks_report (ordering_of schedule) policy ≡ false → ⊥
+counted (Merge n u) policy selector selector' tally turn taken none = (cc)
+counted (Turn turn) policy selector selector' tally here taken none =
+    let C : Bool → Type 0 = λ b. selecting.TakesTally b selector (Some tally) selector' in
+    let e = (subst C none taken).0 in cc

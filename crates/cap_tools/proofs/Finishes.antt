@@ -1,0 +1,156 @@
+-- The step that ends the output.
+use Rattle.std.proofs.Common.{◌≡◌, ℕ, zero, suc, ◌+◌, ◌≤◌, List, [], ◌∷◌, ◌++◌, length, map, Option, Some, Result, Ok, Err, refl, sym, ◌∙◌, ap, arith, subst, inr, add-zero}
+use Rattle.std.proofs.lemmas.List.{append-nil}
+use Rattle.std.specs.Option.{option_or}
+use Rattle.cap_octet.specs.Device.{Stops}
+use Rattle.cap_octet.specs.Packet.{Captured}
+use Rattle.cap_octet.specs.declared.fault.Fault.{Fault}
+use Rattle.cap_octet.specs.declared.fault.Fault.TheVariants.{WriteFailed}
+use Rattle.cap_io.specs.Capture.{first_link_of, items}
+use Rattle.cap_io.specs.Sink.{SinkView, FinishesEmpty, HasPackets, link_or_ethernet}
+use Rattle.cap_io.specs.Text.{heading, text}
+use Rattle.cap_io.specs.Source.{Ended}
+use Rattle.cap_io.proofs.Texts.{finish-none, finish-none-writes, finish-some}
+use Rattle.cap_tools.specs.declared.inputs.Schedule.{Schedule}
+use Rattle.cap_tools.specs.declared.inputs.Next.TheVariants as next
+use Rattle.cap_tools.specs.Reports.{Report}
+use Rattle.cap_tools.specs.Sequence.{InputItems, Complete, sequence_of, with_front}
+use Rattle.cap_tools.specs.Verdict.{Policy, SelectorState}
+use Rattle.cap_tools.specs.Outcome.{Form, AsCapture, Progress, closing_text, final_progress, lines_text, end_with, final_text, first_link}
+use Rattle.cap_tools.specs.Output.{JobOutputView, Target, Capture, Text, Lines, HasWrittenTo, FinishesTo, form_at, form_to, written_to, failures_to}
+use Rattle.cap_tools.specs.Inputs.{InputView, Future, InputPast, AreInputsBehind, EndedTo, IsNext, actual_future, ordering_of, first_declared_link}
+use Rattle.cap_tools.specs.Reports.{reports_text}
+use Rattle.cap_tools.specs.Machine.{MachineState, Decided, Comes, StopsWriting, progress_at, progress_of, progress_over, wholes_of}
+use Rattle.cap_tools.proofs.Splits.{At}
+use Rattle.cap_tools.proofs.Coming.{true-whole, true-wholes, true-fit, true-fits}
+use Rattle.cap_tools.proofs.Outcomes.{course-close}
+use Rattle.cap_tools.proofs.Laws.{OverAt, over-at}
+use Rattle.cap_tools.proofs.Fetches.{mk}
+use Rattle.cap_tools.proofs.Once.{once-closing}
+
+pub over-course : (ss : List InputPast) (before : List ℕ) (cursors : List InputView) (schedule : Schedule) (policy : Policy) (state : SelectorState) (output : JobOutputView) (decided : ℕ) → OverAt schedule cursors → (d : Decided ss before (mk cursors schedule policy state output decided))
+    → final_progress policy (form_at output) (sequence_of (ordering_of schedule) (wholes_of ss)) ≡ end_with (progress_at (mk cursors schedule policy state output decided) d.packets d.reports) Complete
+over-course ss before cursors schedule policy state output decided at d =
+    let fits = true-fits ss cursors d.behind in
+    course-close policy (form_at output) (sequence_of (ordering_of schedule) (wholes_of ss)) d.events (progress_at (mk cursors schedule policy state output decided) d.packets d.reports) Complete
+    (ap (sequence_of (ordering_of schedule)) (sym (true-wholes ss cursors d.behind))
+    ∙ d.come (map (λ (h : InputView). actual_future h.source) cursors) fits
+    ∙ ap (with_front d.events) (at.over_left (map (λ (h : InputView). actual_future h.source) cursors) fits))
+    d.progress refl
+
+declared-one : (s : InputPast) (h : InputView) → At s h → h.source.phase ≡ Ended → first_link_of (items s.text).declared ≡ first_link_of h.source.declared
+declared-one s h at e =
+    ap (λ (r : InputItems). first_link_of r.items.declared) (sym (true-whole s h at))
+    ∙ ap (λ (f : Future). first_link_of f.items.declared) (true-fit s h at e)
+
+pub links : (ss : List InputPast) (hs : List InputView) (n : ℕ) → AreInputsBehind ss hs → length hs ≤ n → EndedTo n hs → first_link (wholes_of ss) ≡ first_declared_link hs
+links [] [] n st few ended = refl
+links [] (h ∷ hs) n st few ended = absurd st
+links (s ∷ ss) [] n st few ended = absurd st
+links (s ∷ ss) (h ∷ hs) zero st few ended = absurd (omega (arith, few))
+links (s ∷ ss) (h ∷ hs) (suc n) st few ended =
+    ap (λ (o : Option ℕ). option_or o (first_link (wholes_of ss))) (declared-one s h st.0 ended.0)
+    ∙ ap (option_or (first_link_of h.source.declared)) (links ss hs n st.1 (omega (arith, few)) ended.1)
+
+abbrev over : MachineState → List Captured → List Report → Progress
+over m packets reports = end_with (progress_at m packets reports) Complete
+
+-- what is written of a job that met its clean end
+finish-text : (before : List ℕ) (names : List (List ℕ)) (ps : List Captured) (rs : List Report) (n : ℕ) (state : SelectorState) (target new : Target) (link : Option ℕ) → HasWrittenTo before names target ps rs → FinishesTo link target (Ok tt) new
+    → written_to new ≡ before ++ final_text (form_to names target) link (record { decided = n; state = state; packets = ps; reports = rs; end = Some Complete })
+finish-text before names [] rs n state (Capture sink) new link has finishes =
+    ap written_to finishes.is
+    ∙ finish-none-writes before sink link (Ok tt) finishes.sink has finishes.writes
+    ∙ ap (λ (l : List ℕ). l ++ heading sink.format (link_or_ethernet link)) (has.written ∙ append-nil before)
+finish-text before names (q ∷ qs) rs n state (Capture sink) new link has finishes =
+    let same = finish-some before q qs sink link (Ok tt) finishes.sink has finishes.finishes in
+    ap written_to finishes.is ∙ ap (λ (v : SinkView). v.written) same.1 ∙ has.written ∙ ap (λ (l : List ℕ). before ++ l) (sym (append-nil (text sink.format (q ∷ qs))))
+finish-text before names ps rs n state (Text bytes failures room) new link has finishes =
+    ap written_to finishes.1 ∙ has ∙ ap (λ (l : List ℕ). before ++ l) (sym (append-nil (reports_text names rs)))
+finish-text before names ps rs n state (Lines options bytes failures room) new link has finishes =
+    ap written_to finishes.1 ∙ has ∙ ap (λ (l : List ℕ). before ++ l) (sym (append-nil (lines_text options ps)))
+
+-- it is written without a failure
+finish-device : (before : List ℕ) (names : List (List ℕ)) (ps : List Captured) (rs : List Report) (target new : Target) (link : Option ℕ) → HasWrittenTo before names target ps rs → FinishesTo link target (Ok tt) new
+    → failures_to new ≡ failures_to target
+finish-device before names [] rs (Capture sink) new link has finishes =
+    let empty : FinishesEmpty sink (link_or_ethernet link) (Ok tt) finishes.sink = finish-none before sink link (Ok tt) finishes.sink has finishes.finishes in
+    ap failures_to finishes.is ∙ empty.failures ∙ add-zero sink.failures
+finish-device before names (q ∷ qs) rs (Capture sink) new link has finishes =
+    let same = finish-some before q qs sink link (Ok tt) finishes.sink has finishes.finishes in
+    ap failures_to finishes.is ∙ ap (λ (v : SinkView). v.failures) same.1
+finish-device before names ps rs (Text bytes failures room) new link has finishes = ap failures_to finishes.1
+finish-device before names ps rs (Lines options bytes failures room) new link has finishes = ap failures_to finishes.1
+
+abbrev pub FinishLeaves : {ss : List InputPast} {before : List ℕ} {old : MachineState} → Decided ss before old → Result (Unit {0}) Fault → MachineState → Type 0
+FinishLeaves {ss} {before} {old} d (Ok done) new = Comes (wholes_of ss) d new Complete
+FinishLeaves {ss} {before} {old} d (Err fault) new = StopsWriting d new
+
+-- the device failed at the file header of a capture, which has no packets then
+record StopsEmpty (before : List ℕ) (sink : SinkView) (packets : List Captured) (link : Option ℕ) (new : Target) : Type 0 where
+  pub none : packets ≡ []
+  pub failures : failures_to new ≡ sink.failures + 1
+  pub stops : Stops sink.written (heading sink.format (link_or_ethernet link)) (written_to new)
+
+finish-empty : (before : List ℕ) (sink : SinkView) (packets : List Captured) (link : Option ℕ) (fault : Fault) (new : Target) → HasPackets before sink packets → FinishesTo link (Capture sink) (Err fault) new
+    → StopsEmpty before sink packets link new
+finish-empty before sink (q ∷ qs) link fault new has finishes =
+    absurd (let same = finish-some before q qs sink link (Err fault) finishes.sink has finishes.finishes in let e = same.0 in cc)
+finish-empty before sink [] link fault new has finishes =
+    let empty : FinishesEmpty sink (link_or_ethernet link) (Err fault) finishes.sink = finish-none before sink link (Err fault) finishes.sink has finishes.finishes in
+    let told : fault ≡ WriteFailed = empty.answer in
+    let failed : finishes.sink.failures ≡ sink.failures + 1 = rw told at empty.failures in
+    let S : Target → Type 0 = λ t. Stops sink.written (heading sink.format (link_or_ethernet link)) (written_to t) in
+    record {
+      none = refl;
+      failures = ap failures_to finishes.is ∙ failed;
+      stops = subst S (sym finishes.is) (finish-none-writes before sink link (Err fault) finishes.sink has finishes.writes);
+    }
+
+finish-stops : (ss : List InputPast) (before : List ℕ) (names : List (List ℕ)) (target : Target) (cursors : List InputView) (schedule : Schedule) (policy : Policy) (state : SelectorState) (decided : ℕ) (fault : Fault) (new : MachineState)
+    → (d : Decided ss before (mk cursors schedule policy state (record { names = names; target = target }) decided))
+    → final_progress policy (form_to names target) (sequence_of (ordering_of schedule) (wholes_of ss)) ≡ over (mk cursors schedule policy state (record { names = names; target = target }) decided) d.packets d.reports
+    → first_link (wholes_of ss) ≡ first_declared_link cursors → IsNext schedule cursors next.Finish → new.inputs ≡ record { cursors = cursors; schedule = schedule } → FinishesTo (first_declared_link cursors) target (Err fault) new.output.target
+    → StopsWriting d new
+finish-stops ss before names (Text bytes failures room) cursors schedule policy state decided fault new d stop link tells inputs finishes = absurd (let e = finishes.0 in cc)
+finish-stops ss before names (Lines options bytes failures room) cursors schedule policy state decided fault new d stop link tells inputs finishes = absurd (let e = finishes.0 in cc)
+finish-stops ss before names (Capture sink) cursors schedule policy state decided fault new d stop link tells inputs finishes =
+    let form : Form = AsCapture sink.format in
+    let empty : StopsEmpty before sink d.packets (first_declared_link cursors) new.output.target = finish-empty before sink d.packets (first_declared_link cursors) fault new.output.target d.output finishes in
+    let bytes : List ℕ = heading sink.format (link_or_ethernet (first_declared_link cursors)) in
+    let closing_is : bytes ≡ closing_text form (first_link (wholes_of ss)) d.packets =
+    ap (λ (o : Option ℕ). heading sink.format (link_or_ethernet o)) (sym link) ∙ ap (closing_text form (first_link (wholes_of ss))) (sym empty.none) in
+    record {
+      failures = empty.failures;
+      bytes = bytes;
+      answer = inr (inr (record { next = tells; bytes_are = closing_is; inputs = inputs }));
+      back = [];
+      whole =
+          ap (λ (w : Progress). final_text form (first_link (wholes_of ss)) w) stop
+          ∙ ap (λ (l : List ℕ). text sink.format d.packets ++ l) (sym closing_is ∙ sym (append-nil bytes));
+      so_far = d.output.written;
+      stops = empty.stops;
+    }
+
+pub finish-leaves : (ss : List InputPast) (before : List ℕ) (cursors : List InputView) (schedule : Schedule) (policy : Policy) (state : SelectorState) (output : JobOutputView) (decided : ℕ) (r : Result (Unit {0}) Fault) (new : MachineState)
+    → IsNext schedule cursors next.Finish → new.inputs ≡ record { cursors = cursors; schedule = schedule } → FinishesTo (first_declared_link cursors) output.target r new.output.target → (d : Decided ss before (mk cursors schedule policy state output decided))
+    → FinishLeaves d r new
+finish-leaves ss before cursors schedule policy state output decided (Ok done) new tells inputs finishes d =
+    let at : OverAt schedule cursors = over-at schedule cursors tells d.ended in
+    let m : MachineState = mk cursors schedule policy state output decided in
+    let stop = over-course ss before cursors schedule policy state output decided at d in
+    let link = links ss cursors at.count d.behind at.few at.ended in
+    let text_is : written_to new.output.target ≡ before ++ final_text (form_at output) (first_link (wholes_of ss)) (over m d.packets d.reports) =
+    finish-text before output.names d.packets d.reports decided state output.target new.output.target (first_declared_link cursors) d.output finishes
+    ∙ ap (λ (o : Option ℕ). before ++ final_text (form_at output) o (over m d.packets d.reports)) (sym link) in
+    record {
+      ends = ap (λ (w : Progress). w.end) stop;
+      written = text_is ∙ ap (λ (w : Progress). before ++ final_text (form_at output) (first_link (wholes_of ss)) w) (sym stop);
+      once = once-closing (first_link (wholes_of ss)) before (progress_of d) (progress_over m (wholes_of ss)) output new.output d.output text_is
+          (ap (λ (w : Progress). w.packets) stop) (ap (λ (w : Progress). w.reports) stop) (ap (λ (w : Progress). w.end) stop);
+      device = finish-device before output.names d.packets d.reports output.target new.output.target (first_declared_link cursors) d.output finishes;
+    }
+finish-leaves ss before cursors schedule policy state output decided (Err fault) new tells inputs finishes d =
+    let at : OverAt schedule cursors = over-at schedule cursors tells d.ended in
+    finish-stops ss before output.names output.target cursors schedule policy state decided fault new d
+    (over-course ss before cursors schedule policy state output decided at d) (links ss cursors at.count d.behind at.few at.ended) tells inputs finishes

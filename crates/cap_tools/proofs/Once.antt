@@ -1,0 +1,72 @@
+-- What a step appends to the output is one answer, or nothing.
+use Rattle.std.proofs.Common.{◌≡◌, ℕ, List, [], ◌∷◌, ◌++◌, Option, Some, refl, sym, ◌∙◌, ap}
+use Rattle.std.proofs.lemmas.List.{append_assoc, append-nil}
+use Rattle.cap_octet.specs.Packet.{Captured}
+use Rattle.cap_io.proofs.Texts.{text-more}
+use Rattle.cap_io.specs.Text.{added, text}
+use Rattle.cap_tools.specs.Sequence.{Complete}
+use Rattle.cap_tools.specs.Reports.{Report, report_text, reports_text}
+use Rattle.cap_tools.specs.Outcome.{Form, AsCapture, AsReports, AsLines, Progress, closing_text, packet_bytes, report_bytes, output_text}
+use Rattle.cap_tools.specs.Output.{JobOutputView, HasWritten, form_at, written_to}
+use Rattle.cap_tools.specs.Machine.{AppendsOnce, nothing, packet, report, closes}
+use Rattle.cap_tools.proofs.Outputs.{drained-text, lines-one, reports-more}
+
+pub once-nothing : (link : Option ℕ) (far next : Progress) (old new : JobOutputView) → next.packets ≡ far.packets → next.reports ≡ far.reports → written_to new.target ≡ written_to old.target → AppendsOnce link far next old new
+once-nothing link far next old new packets reports same = record {
+  bytes = [];
+  appended = same ∙ sym (append-nil (written_to old.target));
+  one = nothing packets reports refl;
+}
+
+-- what is written behind the text of these packets and reports is appended
+appended : (before : List ℕ) (old new : JobOutputView) (ps : List Captured) (rs : List Report) (bytes : List ℕ) → HasWritten before old ps rs
+    → written_to new.target ≡ before ++ (output_text (form_at old) ps rs ++ bytes) → written_to new.target ≡ written_to old.target ++ bytes
+appended before old new ps rs bytes has is =
+    is ∙ sym (append_assoc before (output_text (form_at old) ps rs) bytes) ∙ ap (λ (l : List ℕ). l ++ bytes) (sym (drained-text before old.names old.target ps rs has))
+
+-- ---- a packet more, and a report more
+
+packet-more : (form : Form) (ps : List Captured) (q : Captured) (rs : List Report) → output_text form (ps ++ q ∷ []) rs ≡ output_text form ps rs ++ packet_bytes form ps q
+packet-more (AsCapture format) ps q rs = text-more format ps q [] ∙ ap (λ (l : List ℕ). text format ps ++ l) (append-nil (added format ps q))
+packet-more (AsReports names) ps q rs = sym (append-nil (reports_text names rs))
+packet-more (AsLines options) ps q rs = lines-one options ps q
+
+report-more : (form : Form) (ps : List Captured) (rs : List Report) (r : Report) → output_text form ps (rs ++ r ∷ []) ≡ output_text form ps rs ++ report_bytes form r
+report-more (AsCapture format) ps rs r = sym (append-nil (text format ps))
+report-more (AsReports names) ps rs r =
+    ap (reports_text names) (sym (append-nil (rs ++ r ∷ [])))
+    ∙ reports-more names rs r []
+    ∙ ap (λ (l : List ℕ). reports_text names rs ++ l) (append-nil (report_text names r))
+report-more (AsLines options) ps rs r = sym (append-nil (output_text (AsLines options) ps rs))
+
+pub once-packet : (link : Option ℕ) (before : List ℕ) (far next : Progress) (old new : JobOutputView) (q : Captured) → HasWritten before old far.packets far.reports → HasWritten before new (far.packets ++ q ∷ []) far.reports → form_at new ≡ form_at old
+    → next.packets ≡ far.packets ++ q ∷ [] → next.reports ≡ far.reports → AppendsOnce link far next old new
+once-packet link before far next old new q has after same packets reports = record {
+  bytes = packet_bytes (form_at old) far.packets q;
+  appended = appended before old new far.packets far.reports (packet_bytes (form_at old) far.packets q) has
+      (drained-text before new.names new.target (far.packets ++ q ∷ []) far.reports after
+      ∙ ap (λ (f : Form). before ++ output_text f (far.packets ++ q ∷ []) far.reports) same
+      ∙ ap (λ (l : List ℕ). before ++ l) (packet-more (form_at old) far.packets q far.reports));
+  one = packet q packets reports refl;
+}
+
+pub once-report : (link : Option ℕ) (before : List ℕ) (far next : Progress) (old new : JobOutputView) (r : Report) → HasWritten before old far.packets far.reports → HasWritten before new far.packets (far.reports ++ r ∷ []) → form_at new ≡ form_at old
+    → next.packets ≡ far.packets → next.reports ≡ far.reports ++ r ∷ [] → AppendsOnce link far next old new
+once-report link before far next old new r has after same packets reports = record {
+  bytes = report_bytes (form_at old) r;
+  appended = appended before old new far.packets far.reports (report_bytes (form_at old) r) has
+      (drained-text before new.names new.target far.packets (far.reports ++ r ∷ []) after
+      ∙ ap (λ (f : Form). before ++ output_text f far.packets (far.reports ++ r ∷ [])) same
+      ∙ ap (λ (l : List ℕ). before ++ l) (report-more (form_at old) far.packets far.reports r));
+  one = report r packets reports refl;
+}
+
+-- a clean end
+pub once-closing : (link : Option ℕ) (before : List ℕ) (far next : Progress) (old new : JobOutputView) → HasWritten before old far.packets far.reports
+    → written_to new.target ≡ before ++ (output_text (form_at old) far.packets far.reports ++ closing_text (form_at old) link far.packets)
+    → next.packets ≡ far.packets → next.reports ≡ far.reports → next.end ≡ Some Complete → AppendsOnce link far next old new
+once-closing link before far next old new has is packets reports ends = record {
+  bytes = closing_text (form_at old) link far.packets;
+  appended = appended before old new far.packets far.reports (closing_text (form_at old) link far.packets) has is;
+  one = closes packets reports ends refl;
+}

@@ -1,0 +1,26 @@
+-- The first step of a job.
+use Rattle.std.proofs.Common.{◌≡◌, ◌+◌, false, Option, None, Some, List, [], ◌∷◌, refl, ap₂, arith, suc}
+use Rattle.std.specs.List.{All}
+use Rattle.std.specs.Option.{is_some, option_map}
+use Rattle.flt_bpf.specs.Content.{Content}
+use Rattle.flt_lang.specs.Tree.{empty, truth}
+use Rattle.cap_filter.specs.FilterRules.{Rule, by_reading, by_answer}
+use Rattle.cap_filter.specs.Filters.{AreNew}
+use Rattle.cap_tools.specs.declared.job.Preparation.{Preparation}
+use Rattle.cap_tools.specs.Commands.{preparing_of}
+use Rattle.cap_filter.specs.Programs.{spent_in}
+
+pub none-before : {Z : Type 0} (p : Option (Preparation Z)) → is_some p ≡ false → option_map preparing_of p ≡ None
+none-before None is = refl
+none-before (Some p) is = (cc)
+
+none-spent : (programs : List Content) → All (λ program. program.spent ≡ 0) programs → spent_in programs ≡ 0
+none-spent [] all = refl
+none-spent (program ∷ programs) all =
+    let cursor : program.spent ≡ 0 = all 0 program (omega arith) in
+    ap₂ (λ a b. a + b) cursor (none-spent programs (λ k d less. all (suc k) d (omega (arith, less))))
+
+pub new-unspent : (rule : Rule) (programs : List Content) → AreNew rule programs → spent_in programs ≡ 0
+new-unspent (by_reading empty) programs new = rw new refl
+new-unspent (by_reading (truth a)) programs new = none-spent programs new.1
+new-unspent (by_answer prog) programs new = rw new refl

@@ -1,0 +1,94 @@
+-- What a job holds is bounded.
+use Rattle.std.proofs.Common.{◌≡◌, ℕ, ◌+◌, ◌*◌, ◌≤◌, List, [], ◌∷◌, ◌++◌, length, map, Bool, Result, sym, ap, arith, subst}
+use Rattle.std.specs.List.{All}
+use Rattle.std.proofs.lemmas.List.Elements.{All-nil, All-cons, All-head, All-tail, All-set}
+use Rattle.cap_octet.specs.declared.fault.Fault.{Fault}
+use Rattle.cap_io.specs.Capture.{Declared, Nothing, PcapFile, PcapngFile}
+use Rattle.cap_io.specs.Reading.{most_in_unit}
+use Rattle.cap_io.specs.Source.{SourceView, Phase, Reading, Ended, Failed, HasFew, Steps}
+use Rattle.cap_tools.specs.declared.output.Writing.{Writing}
+use Rattle.cap_tools.specs.declared.output.Writing.TheVariants as writing
+use Rattle.cap_tools.specs.Output.{Target, Capture, Text, Lines, target_at}
+use Rattle.cap_tools.specs.Inputs.{InputView, InputsView, IsInput, ReadSteps, MarksDecided, input_after, input_behind}
+use Rattle.cap_tools.specs.Selector.{HasFewMarks}
+use Rattle.cap_tools.specs.Jobs.{FreshInput, fresh_view}
+use Rattle.cap_tools.specs.Machine.{MachineState}
+use Rattle.cap_tools.specs.Bounds.{HasFewInterfaces, IsBounded, IsLight, IsSmall, declared_weight, inputs_weight, names_weight, target_weight}
+
+-- ---- one input for another
+
+small-among : (front back : List InputView) (h : InputView) → All IsSmall (front ++ h ∷ back) → IsSmall h
+small-among [] back h all = All-head IsSmall h back all
+small-among (x ∷ xs) back h all = small-among xs back h (All-tail IsSmall x (xs ++ h ∷ back) all)
+
+small-at : (cursors : List InputView) (i : ℕ) (h : InputView) → IsInput cursors i h → All IsSmall cursors → IsSmall h
+small-at cursors i h a all = small-among a.front a.back h (subst (All IsSmall) a.splits all)
+
+pub mark_decided-small : (inputs inputs' : InputsView) (i : ℕ) → MarksDecided inputs i inputs' → All IsSmall inputs.cursors → All IsSmall inputs'.cursors
+mark_decided-small inputs inputs' i s all =
+    let P : InputsView → Type 0 = λ f. All IsSmall f.cursors in
+    subst P (sym s.is) (All-set IsSmall inputs.cursors i (input_behind s.cursor) (small-at inputs.cursors i s.cursor s.among all) all)
+
+steps-small : (old new : SourceView) (r : Result Bool Fault) → Steps old.phase old r new → length old.block ≤ most_in_unit → length new.block ≤ most_in_unit
+steps-small old new r steps small = by_phase old.phase steps
+  where
+    by_phase : (p : Phase) → Steps p old r new → length new.block ≤ most_in_unit
+    by_phase Reading s = s.block
+    by_phase Ended s = let e : length new.block ≡ length old.block = ap (λ (v : SourceView). length v.block) s.1 in omega (arith, e, small)
+    by_phase (Failed fault) s = let e : length new.block ≡ length old.block = ap (λ (v : SourceView). length v.block) s.1 in omega (arith, e, small)
+
+pub read_input-small : (inputs inputs' : InputsView) (i : ℕ) (r : Result Bool Fault) → ReadSteps inputs i r inputs' → All IsSmall inputs.cursors → All IsSmall inputs'.cursors
+read_input-small inputs inputs' i r f all =
+    let P : InputsView → Type 0 = λ v. All IsSmall v.cursors in
+    subst P (sym f.is) (All-set IsSmall inputs.cursors i (input_after f.cursor r f.source) (steps-small f.cursor.source f.source r f.steps (small-at inputs.cursors i f.cursor f.among all).0, f.few) all)
+
+-- ---- at first
+
+pub small-first : (os : List FreshInput) → All IsSmall (map fresh_view os)
+small-first [] = All-nil IsSmall
+small-first (o ∷ os) = All-cons IsSmall (fresh_view o) (map fresh_view os) (omega arith, tt) (small-first os)
+
+pub few-first : (w : Writing) (written : List ℕ) (failures room : ℕ) → HasFewInterfaces (target_at w written failures room)
+few-first (writing.Capture format) written failures room = record { count = omega arith; names = All-nil _ }
+few-first writing.Text written failures room = tt
+few-first (writing.Lines options) written failures room = tt
+
+-- ---- the weight
+
+names-light : {X : Type 0} (f : X → List ℕ) (xs : List X) → All (λ x. length (f x) ≤ 255) xs → names_weight (map f xs) ≤ 274 * length xs
+names-light f [] all = omega arith
+names-light f (x ∷ xs) all =
+    let one = All-head (λ x. length (f x) ≤ 255) x xs all in
+    let others = names-light f xs (All-tail (λ x. length (f x) ≤ 255) x xs all) in
+    omega (arith, one, others)
+
+declared-light : (d : Declared) → HasFew d → declared_weight d ≤ 274 * 256
+declared-light Nothing few = omega arith
+declared-light (PcapFile head) few = omega arith
+declared-light (PcapngFile first section) few =
+    let names = names-light (λ i. i.name) section.interfaces few.names in
+    let count = few.count in
+    omega (arith, names, count)
+
+cursors-light : (cursors : List InputView) → All IsSmall cursors → inputs_weight cursors ≤ (most_in_unit + 256 * 280) * length cursors
+cursors-light [] all = omega arith
+cursors-light (h ∷ hs) all =
+    let small = All-head IsSmall h hs all in
+    let block = small.0 in
+    let names = declared-light h.source.declared small.1 in
+    let others = cursors-light hs (All-tail IsSmall h hs all) in
+    omega (arith, block, names, others)
+
+target-light : (t : Target) → HasFewInterfaces t → target_weight t ≤ 274 * 4096
+target-light (Capture sink) few =
+    let names = names-light (λ i. i.name) sink.interfaces few.names in
+    let count = few.count in
+    omega (arith, names, count)
+target-light (Text written failures room) few = omega arith
+target-light (Lines options written failures room) few = omega arith
+
+pub is-light : (m : MachineState) → IsBounded m.inputs m.output → HasFewMarks m.policy m.state → IsLight m
+is-light m bounded few =
+    let cursors = cursors-light m.inputs.cursors bounded.0 in
+    let target = target-light m.output.target bounded.1 in
+    record { each = bounded; all = omega (arith, cursors, target, few) }

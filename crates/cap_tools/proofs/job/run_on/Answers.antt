@@ -1,0 +1,22 @@
+use Rattle.std.proofs.Common.{refl}
+use Rattle.cap_tools.proofs.CommandRuns.{fresh, under-more, under-done}
+use Rattle.cap_tools.proofs.job.run_on.Goals as goal
+
+pub loop-status-init : goal.loop-status-init
+loop-status-init g c = record { undone = λ none. none; told = λ ti to none ss before d. fresh refl }
+
+pub loop-status-preserved : goal.loop-status-preserved
+loop-status-preserved g c = record {
+  undone = λ none. c.in-More.ensures.done;
+  told = λ ti to none ss before d.
+      under-more g.E.Output.tells c.args.job c.loop-status.job c.step.new.self ss before (c.in-More.ensures.told ti to (c.loop-status.invariant.undone none)) d c.in-More.ensures.prepared c.in-More.ensures.done c.in-More.ensures.names c.in-More.ensures.policy
+      (c.loop-status.invariant.told ti to none ss before d);
+}
+
+pub returns-in-Done : goal.returns-in-Done
+returns-in-Done g c = record {
+  status = c.in-Done.ensures.status;
+  told = λ ti to none ss before d.
+      under-done g.E.Output.tells c.args.job c.loop-status.job c.step.new.self.packets ss before _ (c.in-Done.ensures.told ti to (c.loop-status.invariant.undone none)) d c.close-out.ensures.written c.close-out.ensures.failures c.close-out.ensures.messages
+      (c.loop-status.invariant.told ti to none ss before d);
+}

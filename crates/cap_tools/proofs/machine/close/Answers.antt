@@ -1,0 +1,44 @@
+use Rattle.std.proofs.Common.{◌≡◌, true, Ok, Err, refl, sym, ◌∙◌, ap₂}
+use Rattle.cap_tools.specs.declared.machine.JobEnd.TheVariants as end
+use Rattle.cap_tools.specs.declared.machine.StepOutcome.TheVariants.{More, Done}
+use Rattle.cap_tools.specs.Inputs.{is_in_turn}
+use Rattle.cap_tools.specs.Selector.{is_count, policy_state}
+use Rattle.cap_tools.proofs.Fetches.{closes-by, counted}
+use Rattle.cap_tools.proofs.Selectors.{closes-policy}
+use Rattle.cap_tools.proofs.machine.close.Goals as goal
+
+pub returns-in-Ok-clause-told : goal.returns-in-Ok-clause-told
+returns-in-Ok-clause-told g c = λ to.
+    let turn : is_in_turn c.args.inputs.now.schedule ≡ true = sym c.is_in_turn.ensures ∙ c.if-not-is_in_turn.false in
+    record {
+      cursor = c.cursor-cursor.result.now;
+      among = c.cursor-cursor.ensures;
+      by = closes-by c.args.inputs.now.schedule c.args.input c.cursor-cursor.result.now (policy_state c.args.selector.now) (policy_state c.close.new.self) c.args.output.now c.report.new.self More c.in-Some.tally
+          _ (Ok tt) turn c.in-Some.ensures.closes (ap₂ (λ k n. record { input = c.args.input; kind = k; size = n; tally = c.in-Some.tally }) c.kind.ensures c.offset.ensures) (c.in-Ok.ensures.told to) refl;
+    }
+
+pub returns-in-Ok-clause-policy : goal.returns-in-Ok-clause-policy
+returns-in-Ok-clause-policy g c = closes-policy (is_count c.args.selector.now.policy) (policy_state c.args.selector.now) (policy_state c.close.new.self) _ c.in-Some.ensures.closes
+
+pub returns-in-Err-clause-told : goal.returns-in-Err-clause-told
+returns-in-Err-clause-told g c = λ to.
+    let turn : is_in_turn c.args.inputs.now.schedule ≡ true = sym c.is_in_turn.ensures ∙ c.if-not-is_in_turn.false in
+    record {
+      cursor = c.cursor-cursor.result.now;
+      among = c.cursor-cursor.ensures;
+      by = closes-by c.args.inputs.now.schedule c.args.input c.cursor-cursor.result.now (policy_state c.args.selector.now) (policy_state c.close.new.self) c.args.output.now c.report.new.self (Done end.OutputFailed) c.in-Some.tally
+          _ (Err c.in-Err.field-0) turn c.in-Some.ensures.closes (ap₂ (λ k n. record { input = c.args.input; kind = k; size = n; tally = c.in-Some.tally }) c.kind.ensures c.offset.ensures) (c.in-Err.ensures.told to) refl;
+    }
+
+pub returns-in-Err-clause-policy : goal.returns-in-Err-clause-policy
+returns-in-Err-clause-policy g c = closes-policy (is_count c.args.selector.now.policy) (policy_state c.args.selector.now) (policy_state c.close.new.self) _ c.in-Some.ensures.closes
+
+pub returns-in-Ok-clause-kept : goal.returns-in-Ok-clause-kept
+returns-in-Ok-clause-kept g c = λ none.
+    let turn : is_in_turn c.args.inputs.now.schedule ≡ true = sym c.is_in_turn.ensures ∙ c.if-not-is_in_turn.false in
+    absurd (counted c.args.inputs.now.schedule c.args.selector.now.policy (policy_state c.args.selector.now) (policy_state c.close.new.self) c.in-Some.tally turn c.in-Some.ensures.closes none)
+
+pub returns-in-Err-clause-kept : goal.returns-in-Err-clause-kept
+returns-in-Err-clause-kept g c = λ none.
+    let turn : is_in_turn c.args.inputs.now.schedule ≡ true = sym c.is_in_turn.ensures ∙ c.if-not-is_in_turn.false in
+    absurd (counted c.args.inputs.now.schedule c.args.selector.now.policy (policy_state c.args.selector.now) (policy_state c.close.new.self) c.in-Some.tally turn c.in-Some.ensures.closes none)

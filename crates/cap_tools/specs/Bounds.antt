@@ -1,0 +1,152 @@
+-- The bounds of a step, whatever the devices: what it reads, how many steps were made, and what the job holds.
+use Rattle.std.specs.Prelude.{◌≡◌, ℕ, ◌+◌, ◌*◌, ◌-◌, ◌≤◌, ◌&&◌, Bool, IsTrue, true, false, List, [], ◌∷◌, length, map, Option, None, Some, Result, Ok, Err}
+use Rattle.std.specs.List.{All}
+use Rattle.cap_octet.specs.declared.fault.Fault.{Fault}
+use Rattle.cap_io.specs.Capture.{Declared, Nothing, PcapFile, PcapngFile}
+use Rattle.cap_io.specs.Reading.{most_in_unit}
+use Rattle.cap_io.specs.Source.{HasFew, behind}
+use Rattle.cap_io.specs.Text.{AreFew, most_output_interfaces}
+use Rattle.cap_tools.specs.Output.{JobOutputView, Target, Capture, Text, Lines}
+use Rattle.cap_tools.specs.Inputs.{InputView, InputsView, IsInput, ReadsInput, ReadSteps, MarksDecided, is_clean_end, ordering_of, schedule_left, waiting_total, weight_of}
+use Rattle.cap_octet.specs.Packet.{Captured}
+use Rattle.cap_filter.specs.Programs.{spent_in}
+use Rattle.cap_tools.specs.Selector.{most_spent, places, spent_by_verdict, window_of}
+use Rattle.cap_tools.specs.declared.machine.StepOutcome.{StepOutcome}
+use Rattle.cap_tools.specs.declared.machine.StepOutcome.TheVariants.{More, Done}
+use Rattle.cap_tools.specs.Machine.{MachineState, MachineView, asks_report}
+
+-- ---- what a step reads
+
+-- One input was read on, to its next packet and no further. No packet is decided, and nothing is written unless the
+-- input was read to its end and is to be reported.
+pub record ReadsOn (tells : Bool) (old : MachineView) (input : ℕ) (answer : Result Bool Fault) (new : MachineView) : Type 0 where
+  pub fetches : ReadSteps old.inputs input answer new.inputs
+  -- where the input tells its bytes: its next packet, its clean end or its fault, and no more
+  pub told : IsTrue tells → ReadsInput old.inputs input answer new.inputs
+  pub decided : new.decided ≡ old.decided
+  pub output : (is_clean_end answer && asks_report (ordering_of old.inputs.schedule) old.policy) ≡ false → new.output ≡ old.output
+  pub programs : new.programs ≡ old.programs
+
+-- an input's current packet, which isn't decided yet
+pub record Holds (cursors : List InputView) (input : ℕ) (p : Captured) : Type 0 where
+  pub cursor : InputView
+  pub among : IsInput cursors input cursor
+  pub waits : cursor.waiting ≡ true
+  pub held : cursor.source.packet ≡ Some p
+
+-- The current packet of one input was decided, and nothing is read. It cost one run of a program at most.
+pub record DecidesOne (old : MachineView) (input : ℕ) (new : MachineView) : Type 0 where
+  pub packet : Captured
+  pub holds : Holds old.inputs.cursors input packet
+  pub settles : MarksDecided old.inputs input new.inputs
+  pub decided : new.decided ≡ old.decided + 1
+  pub programs : new.programs ≡ spent_by_verdict old.policy (old.decided + 1) packet old.programs
+  pub cost : spent_in new.programs ≤ spent_in old.programs + most_spent old.policy
+
+-- it is refused, or wasn't written
+pub record LeavesOne (old : MachineView) (input : ℕ) (new : MachineView) : Type 0 where
+  pub packet : Captured
+  pub holds : Holds old.inputs.cursors input packet
+  pub inputs : new.inputs ≡ old.inputs
+  pub decided : new.decided ≡ old.decided
+  pub programs : new.programs ≡ spent_by_verdict old.policy (old.decided + 1) packet old.programs
+  pub cost : spent_in new.programs ≤ spent_in old.programs + most_spent old.policy
+
+-- nothing is read, no packet is decided, and no program runs
+pub record ReadsNothing (old new : MachineView) : Type 0 where
+  pub inputs : new.inputs ≡ old.inputs
+  pub decided : new.decided ≡ old.decided
+  pub programs : new.programs ≡ old.programs
+
+abbrev pub is_fault : Result Bool Fault → Bool
+is_fault (Ok found) = false
+is_fault (Err fault) = true
+
+-- A step reads one input on, or decides one packet, or can't decide it, or does neither. It goes on behind an input that
+-- gave no fault, or a packet that is decided, and not otherwise.
+pub data StepReads (tells goes : Bool) (old new : MachineView) : Type 0 where
+  reads_on : (input : ℕ) → (answer : Result Bool Fault) → (goes ≡ true → is_fault answer ≡ false) → ReadsOn tells old input answer new → StepReads tells goes old new
+  decides_one : (input : ℕ) → DecidesOne old input new → StepReads tells goes old new
+  leaves_one : (input : ℕ) → goes ≡ false → LeavesOne old input new → StepReads tells goes old new
+  reads_nothing : goes ≡ false → ReadsNothing old new → StepReads tells goes old new
+
+abbrev pub goes_on : StepOutcome → Bool
+goes_on More = true
+goes_on (Done end) = false
+
+-- ---- how many steps were made
+
+-- the bytes that were read of the inputs: those that are skipped, and those of the current units
+abbrev pub reads_of : List InputView → ℕ
+reads_of [] = 0
+reads_of (h ∷ hs) = behind h.source + reads_of hs
+
+-- the steps that follow without a byte more: each current packet is decided, and each input closed; a merge reads behind
+-- each packet that it decides
+abbrev pub owed : InputsView → ℕ
+owed f = schedule_left f.schedule (length f.cursors) + (weight_of f.schedule - 1) * waiting_total f.cursors
+
+-- two steps for each byte, one for each input, and one that reads a filter
+abbrev pub most_turns : InputsView → ℕ
+most_turns f = 2 * reads_of f.cursors + length f.cursors + 1
+
+-- a step that goes on is one of those that were owed, or it read bytes that pay for it and for what is owed now
+abbrev pub IsPaid : InputsView → InputsView → Type 0
+IsPaid old new = owed new + 1 + most_turns old ≤ owed old + most_turns new
+
+-- the steps that were made, with those that are owed, are no more than what was read pays for
+abbrev pub HasFewTurns : Option ℕ → ℕ → InputsView → Type 0
+HasFewTurns None turns inputs = turns + owed inputs ≤ most_turns inputs
+HasFewTurns (Some status) turns inputs = Unit {0}
+
+-- ---- what a job holds
+
+-- the bytes of interfaces with these names, with 19 for the rest of each
+abbrev pub names_weight : List (List ℕ) → ℕ
+names_weight [] = 0
+names_weight (name ∷ names) = 19 + length name + names_weight names
+
+abbrev pub declared_weight : Declared → ℕ
+declared_weight Nothing = 0
+declared_weight (PcapFile head) = 0
+declared_weight (PcapngFile first section) = names_weight (map (λ i. i.name) section.interfaces)
+
+-- of an input: its current unit, the interfaces of its section, and 40 for the rest
+abbrev pub input_weight : InputView → ℕ
+input_weight h = length h.source.block + declared_weight h.source.declared + 40
+
+abbrev pub inputs_weight : List InputView → ℕ
+inputs_weight [] = 0
+inputs_weight (h ∷ hs) = input_weight h + inputs_weight hs
+
+-- of the output: its interfaces
+abbrev pub target_weight : Target → ℕ
+target_weight (Capture sink) = names_weight (map (λ i. i.name) sink.interfaces)
+target_weight (Text written failures room) = 0
+target_weight (Lines options written failures room) = 0
+
+-- the bytes that a job holds of its inputs and of its output, 20 for each mark in its window, and 128 for its counters
+abbrev pub weight : MachineState → ℕ
+weight m = inputs_weight m.inputs.cursors + target_weight m.output.target + 20 * length m.state.window + 128
+
+-- a unit for each input, 280 bytes for each interface that inputs and output may have, so many marks, and the counters
+abbrev pub most_weight : ℕ → ℕ → ℕ
+most_weight inputs marks = inputs * most_in_unit + (256 * inputs + most_output_interfaces) * 280 + 20 * marks + 128
+
+-- at most one unit is held of an input, and few interfaces
+abbrev pub IsSmall : InputView → Type 0
+IsSmall h = (length h.source.block ≤ most_in_unit) × HasFew h.source.declared
+
+abbrev pub HasFewInterfaces : Target → Type 0
+HasFewInterfaces (Capture sink) = AreFew sink.interfaces
+HasFewInterfaces (Text written failures room) = Unit {0}
+HasFewInterfaces (Lines options written failures room) = Unit {0}
+
+abbrev pub IsBounded : InputsView → JobOutputView → Type 0
+IsBounded inputs output = All IsSmall inputs.cursors × HasFewInterfaces output.target
+
+-- What a job holds of each input is bounded, and of all of them; a window of n packets has n - 1 marks, and there is none
+-- where no duplicates are searched for.
+pub record IsLight (m : MachineState) : Type 0 where
+  pub each : IsBounded m.inputs m.output
+  pub all : weight m ≤ most_weight (length m.inputs.cursors) (places (window_of m.policy))

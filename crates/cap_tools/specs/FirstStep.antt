@@ -1,0 +1,86 @@
+-- The first step of a job that reads a filter or compiles an expression.
+use Rattle.std.specs.Prelude.{◌≡◌, ℕ, ◌+◌, ◌<◌, Bool, true, false, List, [], length, Option, None, Some}
+use Rattle.flt_bpf.specs.declared.insn.Insn.{Insn}
+use Rattle.flt_bpf.specs.Content.{Content}
+use Rattle.cap_filter.specs.declared.refusal.Refusal.{Refusal}
+use Rattle.cap_filter.specs.Compilation.{ListingLeaves}
+use Rattle.cap_filter.specs.Messages.{refusal_message, refusal_status}
+use Rattle.cap_filter.specs.FilterRules.{Rule}
+use Rattle.cap_filter.specs.Outcome.{OutputView, IsTold, Runs, seen}
+use Rattle.cap_tools.specs.declared.packets.Turn.{Turn}
+use Rattle.cap_tools.specs.declared.packets.Turn.TheVariants as turn
+use Rattle.cap_tools.specs.Output.{Target, Capture, Text, Lines}
+use Rattle.cap_tools.specs.Verdict.{Policy, Filter}
+use Rattle.cap_tools.specs.Selector.{state_with}
+use Rattle.cap_tools.specs.Inputs.{steps_left, most_steps}
+use Rattle.cap_tools.specs.Reports.{name_at, nothing_counted}
+use Rattle.cap_tools.specs.Bounds.{most_turns, owed}
+use Rattle.cap_tools.specs.Machine.{MachineState, written_by, failures_by}
+use Rattle.cap_tools.specs.Jobs.{JobView}
+
+-- a job that made no step
+pub record IsFresh (j : JobView) : Type 0 where
+  pub turns : j.turns ≡ 0
+  pub done : j.done ≡ None
+  pub programs : j.programs ≡ []
+  pub left : steps_left j.machine.inputs < most_steps
+  pub few : owed j.machine.inputs < most_turns j.machine.inputs
+
+abbrev pub is_text : Target → Bool
+is_text (Capture sink) = false
+is_text (Text written failures room) = true
+is_text (Lines options written failures room) = false
+
+-- packets are judged by this from here on
+abbrev pub asking : Policy → MachineState → MachineState
+asking policy m = record { inputs = m.inputs; policy = policy; state = state_with 0 nothing_counted; output = m.output; decided = m.decided }
+
+-- the job whose packets go through the filter, by these programs, up to so many that pass
+abbrev pub filtering : Rule → Option ℕ → List Content → JobView → JobView
+filtering rule count programs j = record {
+  machine = asking (Filter rule count) j.machine;
+  programs = programs;
+  err = j.err;
+  turns = j.turns + 1;
+  done = None;
+}
+
+-- the job that ended by a refusal, with these messages
+abbrev pub refusing : Refusal → OutputView → JobView → JobView
+refusing refusal err j = record {
+  machine = j.machine;
+  programs = j.programs;
+  err = err;
+  turns = j.turns + 1;
+  done = Some (refusal_status refusal);
+}
+
+-- the output
+abbrev pub output_by : MachineState → OutputView
+output_by m = seen (written_by m) (failures_by m)
+
+abbrev pub output_of : JobView → OutputView
+output_of j = output_by j.machine
+
+-- the name of its output
+abbrev pub output_name : JobView → List ℕ
+output_name j = name_at j.machine.output.names (length j.machine.inputs.cursors)
+
+-- It is refused, or there was no memory for it, and nothing is read or written. A message that can't be written is lost.
+pub record Refuses (refusal : Refusal) (tells : Bool) (old : JobView) (status : ℕ) (new : JobView) : Type 0 where
+  pub status_is : status ≡ refusal_status refusal
+  pub told : IsTold tells old.err (refusal_message refusal) new.err
+  pub new_is : new ≡ refusing refusal new.err old
+
+-- a listing is written, or a prefix of it where the output's device failed
+abbrev pub ListsInto : List Insn → Bool → MachineState → OutputView → ℕ → MachineState → OutputView → Type 0
+ListsInto insns tells old err status new err' =
+    Runs (ListingLeaves insns (name_at old.output.names (length old.inputs.cursors)) (output_by old) (output_by new) status) tells err err'
+
+-- and the job ended
+pub record Lists (insns : List Insn) (tells : Bool) (old : JobView) (status : ℕ) (new : JobView) : Type 0 where
+  pub runs : ListsInto insns tells old.machine old.err status new.machine new.err
+
+abbrev pub EndsList : List Insn → Bool → JobView → Turn → JobView → Type 0
+EndsList insns tells old turn.More new = ⊥
+EndsList insns tells old (turn.Done status) new = Lists insns tells old status new

@@ -1,0 +1,242 @@
+-- What a contract sees of a whole job, with its messages, and how it ends.
+use Rattle.std.specs.Prelude.{◌≡◌, ◌⊎◌, ℕ, ◌+◌, ◌≤◌, Bool, true, false, List, [], ◌++◌, length, map, Option, None, Some}
+use Rattle.std.specs.List.{slice_get}
+use Rattle.cap_octet.specs.declared.device.Input as input
+use Rattle.cap_octet.specs.declared.device.Output as output
+use Rattle.cap_octet.specs.declared.fault.Fault.{Fault}
+use Rattle.cap_io.specs.Source.{source_at}
+use Rattle.cap_filter.specs.Messages.{fault_message, write_failed_message, no_memory_message}
+use Rattle.cap_filter.specs.Outcome.{OutputView, IsTold, seen}
+use Rattle.cap_tools.specs.declared.inputs.Schedule.{Schedule}
+use Rattle.cap_tools.specs.declared.inputs.Schedule.TheVariants as schedule
+use Rattle.cap_tools.specs.declared.machine.JobEnd.{JobEnd}
+use Rattle.cap_tools.specs.declared.machine.JobEnd.TheVariants as end
+use Rattle.cap_tools.specs.declared.packets.Turn.{Turn}
+use Rattle.cap_tools.specs.declared.packets.Turn.TheVariants as turn
+use Rattle.cap_tools.specs.Sequence.{InputItems, PacketOrder, InTurn, ByTime}
+use Rattle.cap_tools.specs.declared.output.Writing.{Writing}
+use Rattle.cap_tools.specs.Output.{target_at}
+use Rattle.cap_tools.specs.Verdict.{Policy}
+use Rattle.cap_tools.specs.Selector.{state_with}
+use Rattle.cap_tools.specs.Reports.{name_at, nothing_counted}
+use Rattle.cap_tools.specs.Outcome.{Outcome, Work, first_link, outcome, outcome_of_texts}
+use Rattle.cap_tools.specs.Inputs.{InputView, InputsView, InputPast, IsInput, most_steps, ordering_of}
+use Rattle.flt_bpf.specs.Content.{Content}
+use Rattle.cap_tools.specs.Machine.{MachineState, MachineView, machine_with, AppendsOnce, Decided, GoesOn, EndsByCut, WantsMemory, StopsWriting, IsUnderWay, form_of, written_by, failures_by, texts, progress_of, progress_over, wholes_of, cut_at}
+
+-- ---- as it is handed over
+
+-- an input of which nothing is read
+pub record FreshInput : Type 0 where
+  pub text : List ℕ
+  pub given : ℕ
+  pub failures : ℕ
+  pub never_fails : Bool
+
+abbrev pub fresh_input : {I : Type 0} → input.Ghosts I → I → FreshInput
+fresh_input device i = record { text = device.unread i; given = device.given i; failures = device.failures i; never_fails = device.never_fails i }
+
+-- a device that is written to
+abbrev pub device_view : {O : Type 0} → output.Ghosts O → O → OutputView
+device_view device o = seen (device.written o) (device.failures o)
+
+-- A call, beside its command: the names of the inputs, then of the output; the inputs; the output, with how many bytes it
+-- takes in all before it fails; and the messages' device, with whether it tells its bytes.
+pub record Call : Type 0 where
+  pub names : List (List ℕ)
+  pub inputs : List FreshInput
+  pub output : OutputView
+  pub room : ℕ
+  pub messages : OutputView
+  pub tells : Bool
+
+abbrev pub call_of : {I O E : Type 0} → input.Ghosts I → output.Ghosts O → output.Ghosts E → (names : List (List ℕ)) → List I → O → E → Call
+call_of inputs output messages names is out err = record {
+  names = names;
+  inputs = map (fresh_input inputs) is;
+  output = device_view output out;
+  room = output.room out;
+  messages = device_view messages err;
+  tells = messages.tells;
+}
+
+-- what a run hands back
+pub record RunResult : Type 0 where
+  pub status : ℕ
+  pub output : OutputView
+  pub messages : OutputView
+
+abbrev pub run_result : ℕ → OutputView → OutputView → RunResult
+run_result status output messages = record { status = status; output = output; messages = messages }
+
+abbrev pub fresh_view : FreshInput → InputView
+fresh_view o = record { source = source_at o.text o.given o.failures o.never_fails; waiting = false; greatest = 0 }
+
+abbrev pub nothing_done : FreshInput → InputPast
+nothing_done o = record { text = o.text; done = []; packets = [] }
+
+abbrev pub order_of : Bool → PacketOrder
+order_of false = InTurn
+order_of true = ByTime
+
+abbrev pub first_schedule : PacketOrder → ℕ → Schedule
+first_schedule InTurn count = schedule.Turn 0
+first_schedule ByTime count = schedule.Merge 0 count
+
+abbrev pub fresh_inputs : PacketOrder → List FreshInput → InputsView
+fresh_inputs order os = record { cursors = map fresh_view os; schedule = first_schedule order (length (map fresh_view os)) }
+
+-- ---- the view
+
+pub record JobView : Type 0 where
+  pub machine : MachineState
+  -- by which packets are judged
+  pub programs : List Content
+  -- the messages
+  pub err : OutputView
+  -- how many steps it made
+  pub turns : ℕ
+  -- the status, where it ended
+  pub done : Option ℕ
+
+abbrev pub machine_of : JobView → MachineView
+machine_of j = machine_with j.machine j.programs
+
+abbrev pub most_inputs : ℕ
+most_inputs = 256
+
+-- a job of which nothing is done
+abbrev pub fresh_job : PacketOrder → Policy → Writing → Call → JobView
+fresh_job order policy writing call = record {
+  machine = record { inputs = fresh_inputs order call.inputs; policy = policy; state = state_with 0 nothing_counted; output = record { names = call.names; target = target_at writing call.output.written call.output.failures call.room }; decided = 0 };
+  programs = [];
+  err = call.messages;
+  turns = 0;
+  done = None;
+}
+
+-- the steps that were made and those that are left, which a job that ended has none of
+abbrev pub IsCounted : Option ℕ → ℕ → ℕ → Type 0
+IsCounted None turns left = turns + left ≤ most_steps
+IsCounted (Some status) turns left = (turns ≤ most_steps + 1) × (status ≤ 2)
+
+-- ---- how it ends
+
+abbrev pub offset_of : Option InputView → ℕ
+offset_of None = 0
+offset_of (Some h) = h.source.offset
+
+abbrev pub offset_at : List InputView → ℕ → ℕ
+offset_at cursors i = offset_of (slice_get cursors i)
+
+-- what is reported of it
+abbrev pub end_text : List (List ℕ) → List InputView → JobEnd → List ℕ
+end_text names cursors end.Complete = []
+end_text names cursors (end.FaultIn input fault) = fault_message (name_at names input) (offset_at cursors input) fault
+end_text names cursors end.OutputFailed = write_failed_message (name_at names (length cursors))
+
+abbrev pub end_status : JobEnd → ℕ
+end_status end.Complete = 0
+end_status (end.FaultIn input fault) = 1
+end_status end.OutputFailed = 1
+
+abbrev pub work_of : MachineState → Work
+work_of m = record { order = ordering_of m.inputs.schedule; policy = m.policy; form = form_of m }
+
+-- output, message and status are those of inputs with these items, and the output's device didn't fail
+pub record IsOut {ss : List InputPast} {before : List ℕ} {old : MachineState} (rs : List InputItems) (d : Decided ss before old) (names : List (List ℕ)) (new : MachineState) (text : List ℕ) (status : ℕ) : Type 0 where
+  pub written : written_by new ≡ before ++ (outcome (work_of old) names rs).output
+  pub once : AppendsOnce (first_link rs) (progress_of d) (progress_over old rs) old.output new.output
+  pub device : failures_by new ≡ failures_by old
+  pub text_is : text ≡ (outcome (work_of old) names rs).messages
+  pub status_is : status ≡ (outcome (work_of old) names rs).status
+
+-- an input is cut short: its device failed in this step, or there was no memory for its next unit
+pub record IsOutCut {ss : List InputPast} {before : List ℕ} {old : MachineState} (d : Decided ss before old) (names : List (List ℕ)) (new : MachineState) (text : List ℕ) (status : ℕ) : Type 0 where
+  pub input : ℕ
+  pub fault : Fault
+  -- as this step left it
+  pub cursor : InputView
+  pub among : IsInput new.inputs.cursors input cursor
+  pub cut : EndsByCut d new input fault cursor.source
+  pub out : IsOut (cut_at (wholes_of ss) input cut.held) d names new text status
+
+-- there was no memory elsewhere: the output stays
+pub record LacksMemory (names : List (List ℕ)) (old new : MachineState) (text : List ℕ) (status : ℕ) : Type 0 where
+  pub input : ℕ
+  pub fault : Fault
+  pub wants : WantsMemory old new input fault
+  pub text_is : text ≡ fault_message (name_at names input) (offset_at new.inputs.cursors input) fault
+  pub status_is : status ≡ 1
+
+-- the output's device failed
+pub record LosesOutput {ss : List InputPast} {before : List ℕ} {old : MachineState} (d : Decided ss before old) (names : List (List ℕ)) (new : MachineState) (text : List ℕ) (status : ℕ) : Type 0 where
+  pub stops : StopsWriting d new
+  pub text_is : text ≡ write_failed_message (name_at names (length new.inputs.cursors))
+  pub status_is : status ≡ 1
+
+abbrev pub EndsElse : {ss : List InputPast} {before : List ℕ} {old : MachineState} → Decided ss before old → List (List ℕ) → MachineState → List ℕ → ℕ → Type 0
+EndsElse {ss} {before} {old} d names new text status =
+    IsOutCut d names new text status ⊎ LacksMemory names old new text status ⊎ LosesOutput d names new text status
+
+abbrev pub EndsAs : {ss : List InputPast} {before : List ℕ} {old : MachineState} → Decided ss before old → List (List ℕ) → MachineState → List ℕ → ℕ → Type 0
+EndsAs {ss} {before} {old} d names new text status = IsOut (wholes_of ss) d names new text status ⊎ EndsElse d names new text status
+
+-- ---- a step
+
+abbrev pub Ends : List (List ℕ) → MachineState → MachineState → List ℕ → ℕ → Type 0
+Ends names old new text status = (ss : List InputPast) (before : List ℕ) (d : Decided ss before old) → EndsAs d names new text status
+
+-- a message that can't be written is lost
+pub record EndsJob (tells : Bool) (old : JobView) (status : ℕ) (new : JobView) : Type 0 where
+  pub text : List ℕ
+  pub ends : Ends old.machine.output.names old.machine new.machine text status
+  pub told : IsTold tells old.err text new.err
+  -- where all went well nothing is reported
+  pub quiet : status ≡ 0 → new.err ≡ old.err
+
+-- a job that goes on reports nothing
+abbrev pub JobGives : Bool → JobView → Turn → JobView → Type 0
+JobGives tells old turn.More new = (new.err ≡ old.err) × ((ss : List InputPast) (before : List ℕ) (d : Decided ss before old.machine) → GoesOn d new.machine)
+JobGives tells old (turn.Done status) new = EndsJob tells old status new
+
+abbrev pub turn_goes_on : Turn → Bool
+turn_goes_on turn.More = true
+turn_goes_on (turn.Done status) = false
+
+-- 0 done, 1 a fault, 2 a refusal
+abbrev pub IsStatus : Turn → Type 0
+IsStatus turn.More = Unit {0}
+IsStatus (turn.Done status) = status ≤ 2
+
+abbrev pub done_by : Turn → Option ℕ
+done_by turn.More = None
+done_by (turn.Done status) = Some status
+
+-- ---- all steps
+
+-- output, message and status are those of this outcome, and the output's device didn't fail
+pub record IsOutOf (o : Outcome) (before : List ℕ) (failures : ℕ) (text : List ℕ) (r : RunResult) : Type 0 where
+  pub written_is : r.output.written ≡ before ++ o.output
+  pub device : r.output.failures ≡ failures
+  pub text_is : text ≡ o.messages
+  pub status_is : r.status ≡ o.status
+
+-- All that comes of the inputs was written and told; or something failed in the last step, behind steps that went on. The
+-- output and the messages' device are handed back as that step left them.
+pub record JobRuns (ss : List InputPast) (before : List ℕ) (tells : Bool) (first : JobView) (r : RunResult) : Type 0 where
+  pub old : MachineState
+  pub last : MachineState
+  pub progress : IsUnderWay ss before first.machine old
+  pub text : List ℕ
+  pub ends : IsOutOf (outcome_of_texts (work_of first.machine) first.machine.output.names (texts ss)) before (failures_by first.machine) text r ⊎ EndsElse progress.decided first.machine.output.names last text r.status
+  pub written : r.output.written ≡ written_by last
+  pub failures : r.output.failures ≡ failures_by last
+  pub told : IsTold tells first.err text r.messages
+  pub quiet : r.status ≡ 0 → r.messages ≡ first.err
+
+-- there was no memory to begin
+pub record NeverBegan (call : Call) (r : RunResult) : Type 0 where
+  pub status_is : r.status ≡ 1
+  pub same : r.output ≡ call.output
+  pub told : IsTold call.tells call.messages no_memory_message r.messages

@@ -1,0 +1,330 @@
+-- What a contract sees of a job under way, and what holds of it at each step.
+use Rattle.std.specs.Prelude.{◌≡◌, ◌⊎◌, ℕ, zero, suc, ◌+◌, ◌<◌, ◌≤◌, Bool, true, false, List, [], ◌∷◌, ◌++◌, length, map, Option, None, Some, Result, Ok, Err}
+use Rattle.cap_octet.specs.Device.{Stops}
+use Rattle.cap_octet.specs.Packet.{Captured}
+use Rattle.cap_octet.specs.declared.fault.Fault.{Fault}
+use Rattle.cap_octet.specs.declared.fault.Fault.TheVariants.{ReadFailed, NoMemory, WriteFailed}
+use Rattle.cap_octet.specs.declared.device.DeviceFault.{DeviceFault}
+use Rattle.cap_io.specs.Capture.{Placed, Items, kind_of}
+use Rattle.cap_io.specs.Source.{SourceView, Advances}
+use Rattle.cap_io.specs.Position.{IsCutShort}
+use Rattle.flt_bpf.specs.Content.{Content}
+use Rattle.cap_filter.specs.Programs.{spent_in}
+use Rattle.cap_tools.specs.declared.inputs.Next.TheVariants as next
+use Rattle.cap_tools.specs.declared.selector.Verdict as code
+use Rattle.cap_tools.specs.declared.selector.Verdict.TheVariants as code_verdict
+use Rattle.cap_tools.specs.declared.machine.JobEnd.{JobEnd}
+use Rattle.cap_tools.specs.declared.machine.JobEnd.TheVariants as end
+use Rattle.cap_tools.specs.declared.machine.StepOutcome.{StepOutcome}
+use Rattle.cap_tools.specs.declared.machine.StepOutcome.TheVariants.{More, Done}
+use Rattle.cap_tools.specs.Reports.{Report, Tally}
+use Rattle.cap_tools.specs.Output.{JobOutputView, HasWritten, Puts, Reports, form_at, written_to, failures_to}
+use Rattle.cap_tools.specs.Sequence.{Event, SequenceEnd, Complete, FaultIn, InputItems, PacketOrder, InTurn, ByTime, sequence_of, whole_input}
+use Rattle.cap_tools.specs.Verdict.{Policy, SelectorState, Verdict, Pass, PassLast, Skip, Refuse, judge}
+use Rattle.cap_tools.specs.Selector.{PolicyState, SelectorView, IsWithin, emptied, is_count, most_spent, spent_by_verdict}
+use Rattle.cap_tools.specs.Selector as selecting
+use Rattle.cap_tools.specs.Outcome.{Form, Progress, no_progress, apply_events, final_progress, final_text, output_text, closing_text, first_link, packet_bytes, report_bytes, form_refuses}
+use Rattle.cap_tools.specs.Inputs.{InputsView, InputView, InputPast, AreInputsBehind, KnowGreatest, AreSettled, IsInput, EndedBefore, ReadsInput, IsNext, input_after, ordering_of}
+
+-- ---- the view
+
+-- the state of a job, whatever its programs cost so far
+pub record MachineState : Type 0 where
+  pub inputs : InputsView
+  pub policy : Policy
+  pub state : SelectorState
+  pub output : JobOutputView
+  -- how many packets are decided
+  pub decided : ℕ
+
+pub record MachineView : Type 0 where
+  pub inputs : InputsView
+  pub policy : Policy
+  pub state : SelectorState
+  pub output : JobOutputView
+  pub decided : ℕ
+  -- by which packets are judged
+  pub programs : List Content
+
+abbrev pub machine_state : MachineView → MachineState
+machine_state m = record { inputs = m.inputs; policy = m.policy; state = m.state; output = m.output; decided = m.decided }
+
+abbrev pub machine_with : MachineState → List Content → MachineView
+machine_with m programs = record { inputs = m.inputs; policy = m.policy; state = m.state; output = m.output; decided = m.decided; programs = programs }
+
+abbrev pub form_of : MachineState → Form
+form_of m = form_at m.output
+
+abbrev pub written_by : MachineState → List ℕ
+written_by m = written_to m.output.target
+
+abbrev pub failures_by : MachineState → ℕ
+failures_by m = failures_to m.output.target
+
+-- ---- what holds between steps
+
+abbrev pub texts : List InputPast → List (List ℕ)
+texts ss = map (λ s. s.text) ss
+
+-- how far the job is, with these packets and reports
+abbrev pub progress_at : MachineState → List Captured → List Report → Progress
+progress_at m packets reports = record { decided = m.decided; state = m.state; packets = packets; reports = reports; end = None }
+
+-- Of each input some bytes are done: their packets are decided, in the job's order, with their greatest time known, and
+-- the output is what is written of those that passed, or of the inputs that were read to their ends.
+pub record Decided (ss : List InputPast) (before : List ℕ) (m : MachineState) : Type 0 where
+  pub behind : AreInputsBehind ss m.inputs.cursors
+  pub greatest : KnowGreatest ss m.inputs.cursors
+  pub events : List Event
+  pub come : AreSettled ss m.inputs events
+  pub packets : List Captured
+  pub reports : List Report
+  pub progress : apply_events m.policy (form_of m) no_progress events ≡ progress_at m packets reports
+  pub output : HasWritten before m.output packets reports
+  pub passed : m.state.passed ≤ m.decided
+  pub counted : IsWithin m.decided m.state.tally
+  pub ended : EndedBefore m.inputs.schedule m.inputs.cursors
+
+-- ---- the parts of a step
+
+-- what a call returns that says whether the packet is the last
+abbrev pub PutsAs : Bool → Captured → JobOutputView → Result Bool Fault → JobOutputView → Type 0
+PutsAs last p old (Ok b) new = (b ≡ last) × Puts p old (Ok tt) new
+PutsAs last p old (Err fault) new = Puts p old (Err fault) new
+
+abbrev pub Offers : code.Verdict → Captured → JobOutputView → Result Bool Fault → JobOutputView → Type 0
+Offers code_verdict.Pass p old r new = PutsAs false p old r new
+Offers code_verdict.PassLast p old r new = PutsAs true p old r new
+Offers code_verdict.Skip p old r new = (r ≡ Ok false) × (new ≡ old)
+
+-- a packet is judged, and put where it passes
+pub record Judges (p : Captured) (selector : PolicyState) (number : ℕ) (old : JobOutputView) (r : Result Bool Fault) (selector' : PolicyState) (new : JobOutputView) : Type 0 where
+  pub answer : code.Verdict
+  -- as it passes
+  pub packet : Captured
+  pub told : selecting.IsVerdict (judge selector.policy selector.state number p) (Ok answer) packet selector'.state
+  pub offers : Offers answer packet old r new
+
+-- it is refused, and nothing is written
+pub record Rejects (p : Captured) (selector : PolicyState) (number : ℕ) (old : JobOutputView) (r : Result Bool Fault) (selector' : PolicyState) (new : JobOutputView) : Type 0 where
+  pub fault : Fault
+  pub told : selecting.IsVerdict (judge selector.policy selector.state number p) (Err fault) p selector'.state
+  pub answer : r ≡ Err fault
+  pub same : new ≡ old
+
+abbrev pub Decides : Option Captured → PolicyState → ℕ → JobOutputView → Result Bool Fault → PolicyState → JobOutputView → Type 0
+Decides None selector number old r selector' new = ⊥
+Decides (Some p) selector number old r selector' new = Judges p selector number old r selector' new ⊎ Rejects p selector number old r selector' new
+
+-- what deciding the current packet cost
+abbrev pub Spends : Option Captured → SelectorView → ℕ → SelectorView → Type 0
+Spends None old number new = ⊥
+Spends (Some p) old number new = (new.programs ≡ spent_by_verdict old.policy number p old.programs) × (spent_in new.programs ≤ spent_in old.programs + most_spent old.policy)
+
+-- whether an input that was read to its end is reported: where files are counted, one behind another
+abbrev pub asks_report : PacketOrder → Policy → Bool
+asks_report InTurn policy = is_count policy
+asks_report ByTime policy = false
+
+abbrev pub report_at : ℕ → InputView → Tally → Report
+report_at input h tally = record { input = input; kind = kind_of h.source.declared; size = h.source.offset; tally = tally }
+
+abbrev pub unless_failed : Result (Unit {0}) DeviceFault → StepOutcome
+unless_failed (Ok done) = More
+unless_failed (Err fault) = Done end.OutputFailed
+
+-- an input is reported, and the count begins anew
+pub record ReportsOn (input : ℕ) (cursor : InputView) (selector : PolicyState) (old : JobOutputView) (r : StepOutcome) (selector' : PolicyState) (new : JobOutputView) : Type 0 where
+  pub answer : Result (Unit {0}) DeviceFault
+  pub reports : Reports (report_at input cursor selector.state.tally) old answer new
+  pub is : r ≡ unless_failed answer
+  pub selector_is : selector' ≡ record { policy = selector.policy; state = emptied selector.state }
+
+abbrev pub ClosesBy : Bool → ℕ → InputView → PolicyState → JobOutputView → StepOutcome → PolicyState → JobOutputView → Type 0
+ClosesBy false input cursor selector old r selector' new = (r ≡ More) × (selector' ≡ selector) × (new ≡ old)
+ClosesBy true input cursor selector old r selector' new = ReportsOn input cursor selector old r selector' new
+
+-- an input was read to its end
+pub record Closes (inputs : InputsView) (input : ℕ) (selector : PolicyState) (old : JobOutputView) (r : StepOutcome) (selector' : PolicyState) (new : JobOutputView) : Type 0 where
+  pub cursor : InputView
+  pub among : IsInput inputs.cursors input cursor
+  pub by : ClosesBy (asks_report (ordering_of inputs.schedule) selector.policy) input cursor selector old r selector' new
+
+abbrev pub unwritten : ℕ → Fault → JobEnd
+unwritten input WriteFailed = end.OutputFailed
+unwritten input fault = end.FaultIn input fault
+
+-- ---- what a step leaves
+
+-- some bytes more of an input are done, with their packets
+abbrev pub finish_at : List InputPast → ℕ → List ℕ → List Placed → List InputPast
+finish_at [] i bytes packets = []
+finish_at (s ∷ ss) zero bytes packets = record { text = s.text; done = s.done ++ bytes; packets = s.packets ++ packets } ∷ ss
+finish_at (s ∷ ss) (suc i) bytes packets = s ∷ finish_at ss i bytes packets
+
+abbrev pub wholes_of : List InputPast → List InputItems
+wholes_of ss = map whole_input (texts ss)
+
+-- What a step adds to the output, where the job is at `far` before the step and at `next` behind it: nothing, a packet
+-- that passes, the report of an input, or what a clean end adds.
+pub data OneAnswer (form : Form) (link : Option ℕ) (far next : Progress) (bytes : List ℕ) : Type 0 where
+  nothing : next.packets ≡ far.packets → next.reports ≡ far.reports → bytes ≡ [] → OneAnswer form link far next bytes
+  packet : (p : Captured) → next.packets ≡ far.packets ++ p ∷ [] → next.reports ≡ far.reports → bytes ≡ packet_bytes form far.packets p → OneAnswer form link far next bytes
+  report : (r : Report) → next.packets ≡ far.packets → next.reports ≡ far.reports ++ r ∷ [] → bytes ≡ report_bytes form r → OneAnswer form link far next bytes
+  closes : next.packets ≡ far.packets → next.reports ≡ far.reports → next.end ≡ Some Complete → bytes ≡ closing_text form link far.packets → OneAnswer form link far next bytes
+
+-- What a step appends to the output is one answer, or nothing.
+pub record AppendsOnce (link : Option ℕ) (far next : Progress) (old new : JobOutputView) : Type 0 where
+  pub bytes : List ℕ
+  pub appended : written_to new.target ≡ written_to old.target ++ bytes
+  pub one : OneAnswer (form_at old) link far next bytes
+
+-- how far the job is
+abbrev pub progress_of : {ss : List InputPast} {before : List ℕ} {m : MachineState} → Decided ss before m → Progress
+progress_of {ss} {before} {m} d = progress_at m d.packets d.reports
+
+-- of each input whether its device never fails
+abbrev pub never_failing : List InputView → List Bool
+never_failing hs = map (λ h. h.source.never_fails) hs
+
+-- it goes on, and finished some bytes of one input
+pub record GoesOn {ss : List InputPast} {before : List ℕ} {old : MachineState} (d : Decided ss before old) (new : MachineState) : Type 0 where
+  pub input : ℕ
+  pub finished : List ℕ
+  pub packets : List Placed
+  pub past : List InputPast
+  pub past_is : past ≡ finish_at ss input finished packets
+  pub decided : Decided past before new
+  pub at_most_one : new.decided ≤ old.decided + 1
+  pub form : form_of new ≡ form_of old
+  pub once : AppendsOnce (first_link (wholes_of ss)) (progress_of d) (progress_of decided) old.output new.output
+  -- the output's device didn't fail
+  pub output : failures_by new ≡ failures_by old
+  pub names : new.output.names ≡ old.output.names
+  pub order : ordering_of new.inputs.schedule ≡ ordering_of old.inputs.schedule
+  pub never : never_failing new.inputs.cursors ≡ never_failing old.inputs.cursors
+
+-- how far a job comes over inputs with these items
+abbrev pub progress_over : MachineState → List InputItems → Progress
+progress_over m rs = final_progress m.policy (form_of m) (sequence_of (ordering_of m.inputs.schedule) rs)
+
+-- the output is all that the job writes of inputs with these items, and they end so
+pub record Comes {ss : List InputPast} {before : List ℕ} {old : MachineState} (rs : List InputItems) (d : Decided ss before old) (new : MachineState) (close : SequenceEnd) : Type 0 where
+  pub ends : (progress_over old rs).end ≡ Some close
+  pub written : written_by new ≡ before ++ final_text (form_of old) (first_link rs) (progress_over old rs)
+  pub once : AppendsOnce (first_link rs) (progress_of d) (progress_over old rs) old.output new.output
+  -- the output's device didn't fail
+  pub device : failures_by new ≡ failures_by old
+
+-- these items in place of one input's
+abbrev pub cut_at : List InputItems → ℕ → Items → List InputItems
+cut_at [] i items = []
+cut_at (r ∷ rs) zero items = record { greatest = r.greatest; items = items; size = r.size } ∷ rs
+cut_at (r ∷ rs) (suc i) items = r ∷ cut_at rs i items
+
+-- This input was read on in this step, and its device failed or there was no memory for its next unit: it is cut short
+-- there, where `after` stands.
+pub record EndsByCut {ss : List InputPast} {before : List ℕ} {old : MachineState} (d : Decided ss before old) (new : MachineState) (input : ℕ) (fault : Fault) (after : SourceView) : Type 0 where
+  pub front : List InputPast
+  pub past : InputPast
+  pub back : List InputPast
+  pub place : length front ≡ input
+  pub among : ss ≡ front ++ past ∷ back
+  pub held : Items
+  pub cut : IsCutShort past.text fault held
+  pub cursor : InputView
+  pub cursor_is : IsInput old.inputs.cursors input cursor
+  pub next : IsNext old.inputs.schedule old.inputs.cursors (next.Read input)
+  pub advances : Advances cursor.source.phase cursor.source (Err fault) after
+  pub why : ((fault ≡ ReadFailed) × (cursor.source.failures < after.failures) × (cursor.source.never_fails ≡ false)) ⊎ (fault ≡ NoMemory)
+  pub comes : Comes (cut_at (wholes_of ss) input held) d new (FaultIn input fault after.offset)
+
+-- there was no memory to write the current packet of this input, which was next: the output stays
+pub record WantsMemory (old new : MachineState) (input : ℕ) (fault : Fault) : Type 0 where
+  pub next : IsNext old.inputs.schedule old.inputs.cursors (next.Decide input)
+  pub inputs : new.inputs ≡ old.inputs
+  pub why : fault ≡ NoMemory
+  pub written : written_by new ≡ written_by old
+  pub device : failures_by new ≡ failures_by old
+
+-- a packet passes, maybe changed
+abbrev pub PassesAs : Verdict → Captured → Type 0
+PassesAs (Pass p) q = p ≡ q
+PassesAs (PassLast p) q = p ≡ q
+PassesAs Skip q = ⊥
+PassesAs (Refuse fault) q = ⊥
+
+-- next is the current packet of an input, which passes; this is what it adds
+pub record NextPacket {ss : List InputPast} {before : List ℕ} {old : MachineState} (d : Decided ss before old) (new : MachineState) (bytes : List ℕ) : Type 0 where
+  pub input : ℕ
+  pub next : IsNext old.inputs.schedule old.inputs.cursors (next.Decide input)
+  pub cursor : InputView
+  pub among : IsInput old.inputs.cursors input cursor
+  pub packet : Captured
+  pub held : cursor.source.packet ≡ Some packet
+  pub passed : Captured
+  pub passes : PassesAs (judge old.policy old.state (old.decided + 1) packet).verdict passed
+  pub taken : form_refuses (form_of old) d.packets passed ≡ None
+  pub bytes_are : bytes ≡ packet_bytes (form_of old) d.packets passed
+  pub inputs : new.inputs ≡ old.inputs
+
+-- next is an input that is read to its end in this step, and reported; this is its report
+pub record NextReport (old new : MachineState) (bytes : List ℕ) : Type 0 where
+  pub input : ℕ
+  pub next : IsNext old.inputs.schedule old.inputs.cursors (next.Read input)
+  pub fetches : ReadsInput old.inputs input (Ok false) new.inputs
+  pub policy : asks_report (ordering_of old.inputs.schedule) old.policy ≡ true
+  pub bytes_are : bytes ≡ report_bytes (form_of old) (report_at input (input_after fetches.cursor (Ok false) fetches.source) old.state.tally)
+
+-- all inputs were read; this is what a clean end adds
+pub record NextClosing {ss : List InputPast} {before : List ℕ} {old : MachineState} (d : Decided ss before old) (new : MachineState) (bytes : List ℕ) : Type 0 where
+  pub next : IsNext old.inputs.schedule old.inputs.cursors next.Finish
+  pub bytes_are : bytes ≡ closing_text (form_of old) (first_link (wholes_of ss)) d.packets
+  pub inputs : new.inputs ≡ old.inputs
+
+-- The output's device failed in this step, after a prefix of what comes next in the whole output.
+pub record StopsWriting {ss : List InputPast} {before : List ℕ} {old : MachineState} (d : Decided ss before old) (new : MachineState) : Type 0 where
+  pub failures : failures_by new ≡ failures_by old + 1
+  pub bytes : List ℕ
+  pub answer : NextPacket d new bytes ⊎ NextReport old new bytes ⊎ NextClosing d new bytes
+  pub back : List ℕ
+  pub whole : final_text (form_of old) (first_link (wholes_of ss)) (progress_over old (wholes_of ss)) ≡ output_text (form_of old) d.packets d.reports ++ (bytes ++ back)
+  pub so_far : written_by old ≡ before ++ output_text (form_of old) d.packets d.reports
+  pub stops : Stops (written_by old) bytes (written_by new)
+
+-- the inputs end so, or the current packet is refused; or the input is cut short; or there was no memory
+abbrev pub WhyBroken : {ss : List InputPast} {before : List ℕ} {old : MachineState} → Decided ss before old → MachineState → ℕ → Fault → SourceView → Type 0
+WhyBroken {ss} {before} {old} d new input fault after =
+    Comes (wholes_of ss) d new (FaultIn input fault after.offset) ⊎ EndsByCut d new input fault after ⊎ WantsMemory old new input fault
+
+pub record BreaksAt {ss : List InputPast} {before : List ℕ} {old : MachineState} (d : Decided ss before old) (new : MachineState) (input : ℕ) (fault : Fault) : Type 0 where
+  pub cursor : InputView
+  pub among : IsInput new.inputs.cursors input cursor
+  pub why : WhyBroken d new input fault cursor.source
+
+abbrev pub EndLeaves : {ss : List InputPast} {before : List ℕ} {old : MachineState} → Decided ss before old → JobEnd → MachineState → Type 0
+EndLeaves {ss} {before} {old} d end.Complete new = Comes (wholes_of ss) d new Complete
+EndLeaves {ss} {before} {old} d (end.FaultIn input fault) new = BreaksAt d new input fault
+EndLeaves {ss} {before} {old} d end.OutputFailed new = StopsWriting d new
+
+abbrev pub StepLeaves : {ss : List InputPast} {before : List ℕ} {old : MachineState} → Decided ss before old → StepOutcome → MachineState → Type 0
+StepLeaves {ss} {before} {old} d More new = GoesOn d new
+StepLeaves {ss} {before} {old} d (Done e) new = EndLeaves d e new
+
+abbrev pub StepGives : MachineState → StepOutcome → MachineState → Type 0
+StepGives old r new = (ss : List InputPast) (before : List ℕ) (d : Decided ss before old) → StepLeaves d r new
+
+-- ---- many steps
+
+-- A machine that went on from its first view, without a failure of the output: of the same texts more bytes are done.
+pub record IsUnderWay (ss : List InputPast) (before : List ℕ) (first m : MachineState) : Type 0 where
+  pub past : List InputPast
+  pub texts : texts past ≡ texts ss
+  pub decided : Decided past before m
+  pub policy : m.policy ≡ first.policy
+  pub form : form_of m ≡ form_of first
+  pub output : failures_by m ≡ failures_by first
+  pub names : m.output.names ≡ first.output.names
+  pub order : ordering_of m.inputs.schedule ≡ ordering_of first.inputs.schedule
+  -- an input that never fails is cut short by no failure
+  pub never : never_failing m.inputs.cursors ≡ never_failing first.inputs.cursors

@@ -1,0 +1,285 @@
+//! Whole jobs, step by step.
+ghost use Rattle.std.specs.Prelude.{ℕ, ◌≡◌, ◌+◌, ◌<◌, ◌≤◌, [], IsTrue, None, Some, length, map};
+ghost use Rattle.std.specs.Prelude.{true};
+ghost use Rattle.std.specs.String.{string_bytes};
+ghost use Rattle.cap_octet.specs.Device.{AppendsOrStops, failures_of};
+ghost use Rattle.cap_filter.specs.Outcome.{seen};
+ghost use Rattle.cap_tools.specs.Bounds.{IsLight, ReadsNothing, StepReads, most_turns};
+ghost use Rattle.cap_tools.specs.Inputs.{steps_left};
+ghost use Rattle.cap_tools.specs.Selector.{HavePrograms, policy_of, programs_in};
+ghost use Rattle.cap_tools.specs.Machine.{machine_state};
+ghost use Rattle.cap_tools.specs.FirstStep.{ListsInto, is_text, output_by};
+ghost use Rattle.cap_tools.specs.Jobs.{end_status, end_text, call_of, most_inputs, order_of};
+
+use crate::inputs::Inputs;
+use crate::machine::{JobEnd, Machine, StepOutcome};
+use crate::output::{JobOutput, Writing};
+use crate::selector::{Policy, Selector};
+use cap_filter::filter::Filter;
+use cap_filter::message::{tell_fault, tell_refusal, tell_write_failed};
+use cap_filter::refusal::Refusal;
+use cap_octet::{DeviceFault, Input, Output};
+use flt_bpf::Program;
+use std::alloc::Allocator;
+use std::marker::Model;
+
+/// What a step leaves to do; the status where the job ended.
+#[derive(Clone, Copy, Debug, PartialEq, Eq)]
+pub enum Turn {
+    More,
+    Done(u8),
+}
+
+/// What is asked of a job whose filter isn't refused.
+#[derive(Drop)]
+pub struct Work<A: Allocator> {
+    pub policy: Policy<A>,
+    pub writing: Writing,
+    /// Whether the inputs are merged by their times, in place of one behind another.
+    pub merges: bool,
+}
+
+/// A job whose filter isn't refused.
+#[derive(Drop)]
+pub struct PacketJob<I: Input, O: Output, E: Output, A: Allocator> {
+    machine: Machine<I, O, A>,
+    err: E,
+    /// How many steps it made.
+    turns: u128,
+    /// The status, where it ended.
+    done: Option<u8>,
+}
+
+impl<I: Input, O: Output, E: Output, A: Allocator> Model for PacketJob<I, O, E, A> {
+    ghost use Rattle.std.specs.Coded.{codes};
+    ghost use Rattle.cap_filter.specs.Programs.{expression_code};
+    ghost use Rattle.cap_filter.specs.Outcome.{seen};
+    ghost use Rattle.cap_tools.specs.Bounds.{HasFewTurns, IsLight};
+    ghost use Rattle.cap_tools.specs.Inputs.{steps_left};
+    ghost use Rattle.cap_tools.specs.Jobs.{JobView, IsCounted};
+    ghost use Rattle.cap_tools.specs.Selector.{HavePrograms};
+    ghost use Rattle.cap_tools.specs.Machine.{machine_state};
+
+    ghost Value = { JobView };
+
+    ghost coded = { Prim.hlevel (codes, expression_code) };
+
+    ghost view = { λ j. record {
+      machine = machine_state j.machine;
+      programs = j.machine.programs;
+      err = seen (E.written j.err) (E.failures j.err);
+      turns = j.turns;
+      done = j.done;
+    } };
+
+    ghost invariant = { λ j. IsCounted j.done j.turns (steps_left j.machine.inputs)
+        × HasFewTurns j.done j.turns j.machine.inputs × IsLight (machine_state j.machine)
+        × HavePrograms j.machine.policy j.machine.programs };
+}
+
+/// Reports how a job ended.
+fn tell<I: Input, O: Output, E: Output, A: Allocator + Copy + Drop>(
+    err: &mut E,
+    machine: &Machine<I, O, A>,
+    end: JobEnd,
+) -> Result<(), DeviceFault>
+    ensures told { IsTrue E.tells → AppendsOrStops result (E.written err.old)
+        (end_text machine.now.output.names machine.now.inputs.cursors end) (E.written err.new) }
+    ensures failed { E.failures err.new ≡ E.failures err.old + failures_of result }
+    ensures quiet { end ≡ JobEnd.Complete → err.new ≡ err.old }
+{
+    match end {
+        JobEnd::Complete => Ok(()),
+        JobEnd::FaultIn(input, fault) => {
+            let offset = machine.inputs().offset(input);
+            tell_fault(err, machine.name(input), offset, fault)
+        }
+        JobEnd::OutputFailed => tell_write_failed(err, machine.name(machine.inputs().count())),
+    }
+}
+
+fn status_at_end(end: JobEnd) -> u8
+    ensures { result ≡ end_status end }
+{
+    match end {
+        JobEnd::Complete => 0,
+        JobEnd::FaultIn(_, _) | JobEnd::OutputFailed => 1,
+    }
+}
+
+/// Writes the listing of a program, and returns the status. A message that can't be written is
+/// lost.
+fn list<I: Input, O: Output, E: Output, A: Allocator + Copy + Drop>(
+    machine: &mut Machine<I, O, A>,
+    err: &mut E,
+    program: &Program<A>,
+) -> u8
+    requires { is_text machine.old.output.target ≡ true }
+    ensures status { result ≤ 2 }
+    ensures told { IsTrue O.tells → ListsInto program.now.insns E.tells (machine_state machine.old)
+        (seen (E.written err.old) (E.failures err.old)) result (machine_state machine.new)
+        (seen (E.written err.new) (E.failures err.new)) }
+    ensures inputs { machine.new.inputs ≡ machine.old.inputs }
+    ensures decided { machine.new.decided ≡ machine.old.decided }
+    ensures light { IsLight (machine_state machine.new) }
+    ensures sound { HavePrograms machine.new.policy machine.new.programs }
+    ensures names { machine.new.output.names ≡ machine.old.output.names }
+    ensures programs { machine.new.programs ≡ machine.old.programs }
+    ensures policy { machine.new.policy ≡ machine.old.policy }
+{
+    match machine.list(program) {
+        Ok(()) => 0,
+        Err(_) => {
+            let _ = tell_write_failed(err, machine.name(machine.inputs().count()));
+            1
+        }
+    }
+}
+
+impl<I: Input, O: Output, E: Output, A: Allocator + Copy + Drop> PacketJob<I, O, E, A> {
+    ghost use Rattle.std.specs.Result.{IfOk, IfErr};
+    ghost use Rattle.std.specs.Prelude.{true};
+    ghost use Rattle.cap_filter.specs.Messages.{refusal_status};
+    ghost use Rattle.cap_filter.specs.Filters.{AreNew, programs_of, rule_of};
+    ghost use Rattle.cap_tools.specs.Jobs.{IsStatus, JobGives, done_by, fresh_job, machine_of};
+    ghost use Rattle.cap_tools.specs.Jobs.{turn_goes_on};
+    ghost use Rattle.cap_tools.specs.FirstStep.{EndsList, IsFresh, Refuses, filtering, is_text};
+    ghost use Rattle.cap_tools.specs.Machine.{failures_by, written_by};
+
+    /// A job over inputs, one behind another or merged. `names` are those of the inputs, then of
+    /// the output. Where there is no memory nothing was read or written.
+    pub fn new(
+        alloc: A,
+        work: Work<A>,
+        names: Vec<String<A>, A>,
+        inputs: Vec<I, A>,
+        out: O,
+        err: E,
+    ) -> Result<Self, (O, E)>
+    where
+        I: Drop,
+        requires few { length inputs.items ≤ most_inputs }
+        requires programs { programs_in work.policy ≡ [] }
+        requires sound { HavePrograms (policy_of work.policy) (programs_in work.policy) }
+        ensures fresh { IfOk result (λ job. job ≡ fresh_job (order_of work.merges)
+            (policy_of work.policy) work.writing (call_of I.Input O.Output E.Output
+            (map string_bytes names.items) inputs.items out err)) }
+        ensures refused { IfErr result (λ devices. (devices.0 ≡ out) × (devices.1 ≡ err)) }
+    {
+        let Some(inputs) = Inputs::new(alloc, inputs, work.merges) else {
+            return Err((out, err));
+        };
+        let Ok(selector) = Selector::new(alloc, work.policy) else {
+            return Err((out, err));
+        };
+        let output = JobOutput::new(alloc, work.writing, names, out);
+        let machine = Machine::new(inputs, selector, output);
+        Ok(PacketJob {
+            machine,
+            err,
+            turns: 0,
+            done: None,
+        })
+    }
+
+    /// One step on: reads one input on, decides one packet or ends the output, and reports how the
+    /// job ended where it did. A message that can't be written is lost.
+    // Two calls a packet: in the loop they save about 70 instructions.
+    #[inline(always)]
+    pub fn step(&mut self) -> Turn
+        ensures after { (s : ℕ) → self.old.done ≡ Some s → (result ≡ Turn.Done s)
+            × (self.new ≡ self.old) }
+        ensures told { IsTrue I.tells → IsTrue O.tells → self.old.done ≡ None
+            → JobGives E.tells self.old result self.new }
+        ensures done { self.new.done ≡ done_by result }
+        ensures status { IsStatus result }
+        ensures turns { self.old.done ≡ None → self.new.turns ≡ self.old.turns + 1 }
+        ensures few { self.old.done ≡ None → self.new.turns
+            ≤ most_turns self.old.machine.inputs + 1 }
+        ensures reads { StepReads I.tells (turn_goes_on result) (machine_of self.old)
+            (machine_of self.new) }
+        ensures light { IsLight self.new.machine }
+        ensures sound { HavePrograms self.new.machine.policy self.new.programs }
+        ensures left { result ≡ Turn.More → (self.new.turns ≡ self.old.turns + 1)
+            × (steps_left self.new.machine.inputs < steps_left self.old.machine.inputs) }
+        ensures kept { (self.new.machine.output.names ≡ self.old.machine.output.names)
+            × (self.new.machine.policy ≡ self.old.machine.policy) }
+    {
+        if let Some(status) = self.done {
+            return Turn::Done(status);
+        }
+        self.turns += 1;
+        match self.machine.step() {
+            StepOutcome::More => Turn::More,
+            StepOutcome::Done(end) => {
+                let _ = tell(&mut self.err, &self.machine, end);
+                let status = status_at_end(end);
+                self.done = Some(status);
+                Turn::Done(status)
+            }
+        }
+    }
+
+    /// From here on packets are judged by this filter, up to so many that pass. It is one step.
+    pub(crate) fn filter(&mut self, filter: Filter<A>, count: Option<u64>) -> Turn
+        requires fresh { IsFresh self.old }
+        requires new { AreNew (rule_of filter) (programs_of filter) }
+        ensures more { result ≡ Turn.More }
+        ensures filtered { self.new ≡ filtering (rule_of filter) count (programs_of filter)
+            self.old }
+        ensures light { IsLight self.new.machine }
+        ensures sound { HavePrograms self.new.machine.policy self.new.programs }
+    {
+        self.machine.judge_by(filter, count);
+        self.turns += 1;
+        Turn::More
+    }
+
+    /// Reports why an expression or a listing is refused, and ends the job.
+    pub(crate) fn refuse(&mut self, refusal: Refusal) -> Turn
+        requires { IsFresh self.old }
+        ensures done { result ≡ Turn.Done (refusal_status refusal) }
+        ensures status { IsStatus result }
+        ensures refused { Refuses refusal E.tells self.old (refusal_status refusal) self.new }
+        ensures light { IsLight self.new.machine }
+        ensures sound { HavePrograms self.new.machine.policy self.new.programs }
+    {
+        let _ = tell_refusal(&mut self.err, refusal);
+        let status = refusal.status();
+        self.turns += 1;
+        self.done = Some(status);
+        Turn::Done(status)
+    }
+
+    /// Writes the listing of a program, and ends the job.
+    pub(crate) fn list(&mut self, program: &Program<A>) -> Turn
+        requires fresh { IsFresh self.old }
+        requires text { is_text self.old.machine.output.target ≡ true }
+        ensures told { IsTrue O.tells → EndsList program.now.insns E.tells self.old result
+            self.new }
+        ensures done { self.new.done ≡ done_by result }
+        ensures status { IsStatus result }
+        ensures turns { self.new.turns ≡ self.old.turns + 1 }
+        ensures inputs { self.new.machine.inputs ≡ self.old.machine.inputs }
+        ensures reads { ReadsNothing (machine_of self.old) (machine_of self.new) }
+        ensures light { IsLight self.new.machine }
+        ensures sound { HavePrograms self.new.machine.policy self.new.programs }
+        ensures names { self.new.machine.output.names ≡ self.old.machine.output.names }
+    {
+        let status = list(&mut self.machine, &mut self.err, program);
+        self.turns += 1;
+        self.done = Some(status);
+        Turn::Done(status)
+    }
+
+    /// The output and the messages' device, as they stand.
+    pub fn close(self) -> (O, E)
+    where
+        I: Drop,
+        ensures written { O.written result.0 ≡ written_by self.machine }
+        ensures failures { O.failures result.0 ≡ failures_by self.machine }
+        ensures messages { seen (E.written result.1) (E.failures result.1) ≡ self.err }
+    {
+        (self.machine.into_output(), self.err)
+    }
+}

@@ -1,0 +1,88 @@
+use Rattle.std.proofs.Common.{◌≡◌, ◌==◌, ◌∙◌, ℕ, zero, suc, true, false, ◌+◌, ◌-◌, ◌<◌, ◌≤◌, sym, ap, refl, arith, rules, length, get_or, not, Some, None, Option, min, set, MutBor}
+use Rattle.std.proofs.lemmas.List.{length-set}
+use Rattle.std.proofs.lemmas.Option.{get_or_from_slice_get, slice_get-get_or}
+use Rattle.std.specs.Option.{IsSome, option_copied, option_copied_mut}
+use Rattle.cap_window.specs.declared.links.Links.{Links}
+use Rattle.cap_window.specs.Index.{is_one, link_at, links_at, mark_at}
+use Rattle.cap_window.proofs.Trees.{behind_links, placing_first, placing_end, placing_equal, placing_next, step_at}
+use Rattle.cap_window.proofs.links.place_newest.Goals as goal
+
+nonzero : (n : ℕ) → (n == 0) ≡ false → 0 < n
+nonzero zero e = absurd (let never : true ≡ false = e in cc)
+nonzero (suc n) e = omega arith
+
+is_there : (o : Option (MutBor Links)) (x : Links) → option_copied_mut o ≡ Some x → IsSome o
+is_there (Some r) x e = search rules
+is_there None x e = absurd cc
+
+pub loop-step-init : goal.loop-step-init
+loop-step-init g c =
+    let some : 0 < length c.args.marks.now.items = nonzero (length c.args.marks.now.items) (sym c.is_empty.ensures ∙ c.if-is_empty.false) in
+    record {
+      long = c.requires.long;
+      capacity = refl;
+      counted = omega (arith, c.len.ensures.len);
+      placing = λ class hung. (let place : c.len.result - 1 ≡ length c.args.marks.now.items - 1 = omega (arith, c.len.ensures.len) in
+          rw place (placing_first _ _ class _ _ hung.belongs hung.tree));
+    }
+
+pub returns-then-same-clause-placed : goal.returns-then-same-clause-placed
+returns-then-same-clause-placed g c = λ some class hung.
+    let marks = c.args.marks.now.items in
+    let place = c.loop-step.place in
+    let top = place - c.loop-step.step in
+    let above : mark_at marks place ≡ c.unwrap-above.result.now =
+    get_or_from_slice_get marks place c.unwrap-above.result.now _ (sym c.get.ensures ∙ ap option_copied c.unwrap-above.ensures) in
+    let below : mark_at marks top ≡ c.unwrap-below.result.now =
+    get_or_from_slice_get marks top c.unwrap-below.result.now _ (sym c.get-in-loop-step.ensures ∙ ap option_copied c.unwrap-below.ensures) in
+    let under : links_at c.loop-step.links.items top ≡ c.unwrap.result.now =
+    get_or_from_slice_get c.loop-step.links.items top c.unwrap.result.now _ (sym c.get-in-loop-step-2.ensures ∙ ap option_copied c.unwrap.ensures) in
+    placing_equal marks c.args.links.now.items c.loop-step.links.items class (length marks - 1) c.loop-step.depth place c.loop-step.step top c.behind.result
+    (c.loop-step.invariant.placing class hung) (omega arith) (omega arith) (omega arith)
+    (above ∙ c.same.ensures.0 c.if-same.true ∙ sym below)
+    (rw under (behind_links c.unwrap.result.now c.behind.result c.loop-step.step c.behind.ensures.zeros c.behind.ensures.ones))
+
+pub unwrap-requires-in-loop-step : goal.unwrap-requires-in-loop-step
+unwrap-requires-in-loop-step g c =
+    is_there _ _ (c.get_mut-in-loop-step.follows ∙ slice_get-get_or c.loop-step.links.items c.loop-step.place (record { zeros = 0; ones = 0 }) (omega arith))
+
+pub loop-step-preserved : goal.loop-step-preserved
+loop-step-preserved g c =
+    let marks = c.args.marks.now.items in
+    let place = c.loop-step.place in
+    let top = place - c.loop-step.step in
+    let below : mark_at marks top ≡ c.unwrap-below.result.now =
+    get_or_from_slice_get marks top c.unwrap-below.result.now _ (sym c.get-in-loop-step.ensures ∙ ap option_copied c.unwrap-below.ensures) in
+    let under : links_at c.loop-step.links.items top ≡ c.unwrap.result.now =
+    get_or_from_slice_get c.loop-step.links.items top c.unwrap.result.now _ (sym c.get-in-loop-step-2.ensures ∙ ap option_copied c.unwrap.ensures) in
+    let bit = c.is_one-bit.result in
+    let step = step_at _ _ _ _ _ _ _ _ (c.loop-step.invariant.placing (c.requires.hung (omega arith)).0 (c.requires.hung (omega arith)).1) in
+    record {
+      long = length-set c.loop-step.links.items place c.with.result ∙ c.loop-step.invariant.long;
+      capacity = c.loop-step.invariant.capacity;
+      counted = omega (arith, step);
+      placing = λ class hung.
+          (let p = c.loop-step.invariant.placing class hung in
+          rw (c.link.ensures, ← under)
+          (placing_next marks c.args.links.now.items c.loop-step.links.items class (length marks - 1) c.loop-step.depth place c.loop-step.step top bit c.with.result
+          p (omega arith) (omega arith) (omega arith)
+          (c.is_one-bit.ensures ∙ ap (λ m. is_one m c.loop-step.depth) (sym below))
+          c.with.ensures.bit
+          (c.with.ensures.other ∙ rw under (behind_links c.unwrap.result.now c.behind-in-loop-step.result c.loop-step.step c.behind-in-loop-step.ensures.zeros c.behind-in-loop-step.ensures.ones (not bit)))));
+    }
+
+pub loop-step-smaller : goal.loop-step-smaller
+loop-step-smaller g c =
+    let step = step_at _ _ _ _ _ _ _ _ (c.loop-step.invariant.placing (c.requires.hung (omega arith)).0 (c.requires.hung (omega arith)).1) in
+    omega (arith, step)
+
+pub unwrap-requires-2 : goal.unwrap-requires-2
+unwrap-requires-2 g c =
+    is_there _ _ (c.get_mut-2.follows ∙ slice_get-get_or c.loop-step.links.items c.loop-step.place (record { zeros = 0; ones = 0 }) (omega arith))
+
+pub returns-clause-placed : goal.returns-clause-placed
+returns-clause-placed g c = λ some class hung.
+    let marks = c.args.marks.now.items in
+    placing_end marks c.args.links.now.items c.loop-step.links.items class (length marks - 1) c.loop-step.depth c.loop-step.place c.loop-step.step
+    (record { zeros = c.loop-step.step; ones = c.loop-step.step })
+    (c.loop-step.invariant.placing class hung) (omega arith) (omega arith) refl refl

@@ -1,0 +1,18 @@
+-- The mark at `place` takes the place of one `step` places before it.
+use Rattle.std.proofs.Common.{◌≡◌, ◌+◌, ◌-◌, ◌<◌, Bool, length}
+use Rattle.cap_window.specs.declared.mark.Mark.{Mark}
+use Rattle.cap_window.specs.Index.{IsHung}
+use Rattle.cap_window.proofs.Trees.{IsPlacing}
+use Rattle.cap_window.proofs.links.place_newest.Given as goal
+
+abbrev pub decreases-loop-step : goal.decreases-loop-step
+decreases-loop-step g l = l.place
+
+abbrev pub invariant-loop-step : goal.invariant-loop-step
+invariant-loop-step g l = record {
+  long : length l.links.items ≡ length l.marks.items;
+  capacity : l.links.capacity ≡ l.fn.links.capacity;
+  counted : l.depth + l.place < length l.marks.items;
+  placing : (class : Mark → Bool) → IsHung l.marks.items l.fn.links.items class (length l.marks.items - 1) l.fn.step
+      → IsPlacing l.marks.items l.fn.links.items l.links.items class (length l.marks.items - 1) l.depth l.place l.step;
+}

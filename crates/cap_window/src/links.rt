@@ -1,0 +1,112 @@
+//! How the marks of one hash hang together.
+ghost use Rattle.std.specs.Prelude.{◌≡◌, ◌-◌, ◌<◌, ◌^◌, Bool, length};
+ghost use Rattle.cap_window.specs.Index.{IsHung, IsPlaced, is_one};
+ghost use Rattle.cap_window.specs.declared.mark.Mark.{Mark};
+
+use crate::mark::{Mark, same};
+use circular_buffer::HeapCircularBuffer;
+use std::alloc::Allocator;
+
+/// How many places before a mark the tops of the two trees below it are, of the marks with a 0 and
+/// of those with a 1 at its depth. Where that is before the window, there is none.
+#[derive(Clone, Copy, Debug)]
+pub struct Links {
+    pub zeros: u32,
+    pub ones: u32,
+}
+
+impl Links {
+    ghost use Rattle.std.specs.Prelude.{◌≡◌, ◌+◌, ◌^◌, ◌-◌, min, not};
+    ghost use Rattle.cap_window.specs.Index.{link_at};
+
+    /// The link to the marks with this bit.
+    #[inline]
+    pub fn link(&self, bit: bool) -> u32
+        ensures { result ≡ link_at self.now bit }
+    {
+        if bit { self.ones } else { self.zeros }
+    }
+
+    /// The same links from a mark that is so many places behind.
+    #[inline]
+    fn behind(&self, step: u32) -> Links
+        ensures zeros { result.zeros ≡ min (self.now.zeros + step) (2 ^ 32 - 1) }
+        ensures ones { result.ones ≡ min (self.now.ones + step) (2 ^ 32 - 1) }
+    {
+        Links {
+            zeros: self.zeros.saturating_add(step),
+            ones: self.ones.saturating_add(step),
+        }
+    }
+
+    /// The same links but one.
+    #[inline]
+    fn with(self, bit: bool, step: u32) -> Links
+        ensures bit { link_at result bit ≡ step }
+        ensures other { link_at result (not bit) ≡ link_at self (not bit) }
+    {
+        if bit {
+            Links { ones: step, ..self }
+        } else {
+            Links {
+                zeros: step,
+                ..self
+            }
+        }
+    }
+}
+
+/// A bit of a mark: of its digest, from the last byte on, and then of its length.
+#[inline]
+#[tactic(auto, unfolding(crate::specs::Index::is_one))]
+pub fn is_one(mark: &Mark, depth: u32) -> bool
+    ensures { result ≡ is_one mark.now depth }
+{
+    if depth < 128 {
+        let byte = mark.digest[15 - depth as usize / 8];
+        (byte >> (depth % 8)) % 2 == 1
+    } else {
+        (mark.length >> (depth % 32)) % 2 == 1
+    }
+}
+
+/// Puts the newest mark on top of the tree of its hash, whose top is `step` places before it. What
+/// it takes the place of goes down by its own bits, and so on; a mark that is equal to the one that
+/// takes its place goes out.
+pub fn place_newest<A: Allocator>(
+    marks: &HeapCircularBuffer<Mark, A>,
+    links: &mut HeapCircularBuffer<Links, A>,
+    step: u32,
+)
+    requires few { length marks.now.items < 2 ^ 32 }
+    requires long { length links.old.items ≡ length marks.now.items }
+    requires hung { 0 < length marks.now.items → (class : Mark → Bool)
+        × IsHung marks.now.items links.old.items class (length marks.now.items - 1) step }
+    ensures long { length links.new.items ≡ length marks.now.items }
+    ensures capacity { links.new.capacity ≡ links.old.capacity }
+    ensures placed { 0 < length marks.now.items → (class : Mark → Bool)
+        → IsHung marks.now.items links.old.items class (length marks.now.items - 1) step
+        → IsPlaced marks.now.items links.old.items links.new.items class
+        (length marks.now.items - 1) }
+{
+    if marks.is_empty() {
+        return;
+    }
+    let (mut place, mut step, mut depth) = (marks.len() - 1, step, 0);
+    while step as usize <= place {
+        let lower = place - step as usize;
+        let (above, below) = (marks.get(place).unwrap(), marks.get(lower).unwrap());
+        let under = *links.get(lower).unwrap();
+        if same(above, below) {
+            *links.get_mut(place).unwrap() = under.behind(step);
+            return;
+        }
+        let bit = is_one(below, depth);
+        *links.get_mut(place).unwrap() = under.behind(step).with(bit, step);
+        (place, step, depth) = (lower, under.link(bit), depth + 1);
+    }
+    *links.get_mut(place).unwrap() = Links {
+        zeros: step,
+        ones: step,
+    };
+}

@@ -1,0 +1,34 @@
+-- When the names of several inputs have a fault.
+use Rattle.std.proofs.Common.{◌≡◌, ◌≤◌, ◌∙◌, ap, ap₂, sym, Bool, true, false, List, length, map, Option, Some, None}
+use Rattle.std.specs.Prelude.{nat_lt, if◌then◌else◌}
+use Rattle.std.specs.Borrow.{Bor}
+use Rattle.std.proofs.lemmas.Bool.{le-ltb}
+use Rattle.std.proofs.lemmas.List.{length-map}
+use Rattle.cap_filter.specs.Command.{most_inputs}
+use Rattle.clap.specs.Words.{Text}
+use Rattle.capkit.specs.Line.{files_fault, or_else}
+use Rattle.capkit.specs.Names.{uses_name_twice}
+use Rattle.capkit.specs.declared.usage.Usage.{Usage}
+use Rattle.capkit.specs.declared.usage.Usage.TheVariants.{NameUsedTwice, TooManyValues}
+
+abbrev pub text_of : Bor Text → Text
+text_of name = name.now
+
+abbrev first_of_two : (many twice : Bool) → Option Usage
+first_of_two many twice = or_else (if many then Some TooManyValues else None) (if twice then Some NameUsedTwice else None)
+
+-- the fault of inputs with these names, by the two tests
+fault_is : (names : List (Bor Text)) (inputs : List Text) (output : Option Text) (many twice : Bool) → map text_of names ≡ inputs
+    → nat_lt most_inputs (length names) ≡ many → uses_name_twice (map text_of names) output ≡ twice → files_fault inputs output ≡ first_of_two many twice
+fault_is names inputs output many twice same is_many is_twice =
+    let count : nat_lt most_inputs (length inputs) ≡ many =
+    ap (λ texts. nat_lt most_inputs (length texts)) (sym same) ∙ ap (nat_lt most_inputs) (length-map names text_of) ∙ is_many in
+    ap₂ first_of_two count (ap (λ texts. uses_name_twice texts output) (sym same) ∙ is_twice)
+
+pub used_twice : (names : List (Bor Text)) (inputs : List Text) (output : Option Text) → map text_of names ≡ inputs → length names ≤ most_inputs
+    → uses_name_twice (map text_of names) output ≡ true → files_fault inputs output ≡ Some NameUsedTwice
+used_twice names inputs output same few twice = fault_is names inputs output false true same (le-ltb most_inputs (length names) few) twice
+
+pub faultless : (names : List (Bor Text)) (inputs : List Text) (output : Option Text) → map text_of names ≡ inputs → length names ≤ most_inputs
+    → uses_name_twice (map text_of names) output ≡ false → files_fault inputs output ≡ None
+faultless names inputs output same few once = fault_is names inputs output false false same (le-ltb most_inputs (length names) few) once

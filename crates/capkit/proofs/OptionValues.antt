@@ -1,0 +1,99 @@
+-- What the options of an edit and of a print come to.
+use Rattle.std.proofs.Common.{◌≡◌, ◌≤◌, ◌^◌, ◌+◌, ◌-◌, ◌*◌, ◌∙◌, ◌==◌, ap, refl, ℕ, Bool, true, false, length, take, drop, Option, Some, None, Result, Ok, Err, arith}
+use Rattle.std.specs.Prelude.{◌&&◌, IfSome, nat_le, nat_lt, if◌then◌else◌}
+use Rattle.std.specs.List.{position}
+use Rattle.std.specs.Option.{option_and_then, option_map_or}
+use Rattle.std.specs.Str.Parse.{ParsesUnsigned, digits_value, without_leading_plus}
+use Rattle.std.proofs.lemmas.Bool.{and_from, and_parts, le-leb}
+use Rattle.cap_octet.specs.Date.{NANOS_PER_SECOND}
+use Rattle.cap_octet.specs.Seconds.{fraction_of, number_of, span_at, span_value, span_with, time_within}
+use Rattle.cap_octet.specs.Timestamp.{clock_with, date_time_value, day_with, number_at, optional_fraction, is_date_time, time_value, time_with}
+use Rattle.cap_filter.specs.Command.{is_at_least_one, is_time, is_window, most_window}
+use Rattle.clap.specs.Words.{ReadsOne, Text}
+use Rattle.clap.specs.ValueTests.{is_numeral, is_unsigned_in}
+use Rattle.clap.specs.declared.builder.value_parser.ValueParser.TheVariants as parser
+use Rattle.clap.proofs.ValueTestLemmas.{Accepts-accepts, accepts-Accepts}
+use Rattle.capkit.specs.Line.{number_between}
+
+-- ---- numbers
+
+abbrev pub kept : (least most : ℕ) → ℕ → Option ℕ
+kept least most n = if nat_le least n && nat_le n most then Some n else None
+
+-- a text that is read as a number has that number's digits, and one that isn't has none below 2^64
+pub number_read : (E : Type 0) (G : Text → Result ℕ E → Type 0) → ((t : Text) (r : Result ℕ E) → G t r → ParsesUnsigned 64 10 t r)
+    → (least most : ℕ) (text : Option Text) (r : Option ℕ) → (text ≡ None → r ≡ None) → ((t : Text) → text ≡ Some t → ReadsOne G t r)
+    → option_and_then (kept least most) r ≡ option_and_then (number_between least most) text
+number_read E G parses least most None r none some = ap (option_and_then (kept least most)) (none refl)
+number_read E G parses least most (Some t) r none some = go r (some t refl)
+  where
+    value : ℕ
+    value = digits_value 10 (without_leading_plus t)
+
+    refused : (b : Bool) → is_unsigned_in least most t ≡ b → ((is_unsigned_in least most t ≡ true) → ⊥) → None ≡ (if b then Some value else None)
+    refused true is none = absurd (none is)
+    refused false is none = refl
+
+    go : (o : Option ℕ) → ReadsOne G t o → option_and_then (kept least most) o ≡ number_between least most t
+    go (Some n) given =
+        let read = parses t (Ok n) given in
+        let passes : is_unsigned_in 0 value t ≡ true = Accepts-accepts false (parser.Unsigned 0 value) t (read.0.0, read.0.1, omega arith, omega arith) in
+        let numeral : is_numeral (without_leading_plus t) ≡ true = (and_parts _ _ passes).0 in
+        let fits : nat_lt value (2 ^ 64) ≡ true = (and_parts _ _ (and_parts _ _ passes).1).0 in
+        ap (kept least most) read.1 ∙ rw (numeral, fits) refl
+    go None given = refused (is_unsigned_in least most t) refl (λ is.
+        let accepted = accepts-Accepts false (parser.Unsigned least most) t is in
+        parses t (Err given.0) given.1 (accepted.0, accepted.1))
+
+pub one_or_more : (most : ℕ) (number : Option ℕ) → IfSome number (λ n. (1 ≤ n) × (n ≤ most)) → option_map_or is_at_least_one number true ≡ true
+one_or_more most None some = refl
+one_or_more most (Some n) some = le-leb 1 n some.0
+
+pub proper_window : (number : Option ℕ) → IfSome number (λ n. (2 ≤ n) × (n ≤ most_window)) → option_map_or is_window number true ≡ true
+proper_window None some = refl
+proper_window (Some n) some = and_from _ _ (le-leb 2 n some.0) (le-leb n most_window some.1)
+
+-- ---- times
+
+within : (n : ℕ) → option_map_or is_time (time_within n) true ≡ true
+within n = go (nat_lt n (2 ^ 63)) refl
+  where
+    go : (b : Bool) → nat_lt n (2 ^ 63) ≡ b → option_map_or is_time (if b then Some n else None) true ≡ true
+    go true is = is
+    go false is = refl
+
+then_within : {X : Type 0} (f : X → Option ℕ) (o : Option X) → ((x : X) → option_map_or is_time (f x) true ≡ true)
+    → option_map_or is_time (option_and_then f o) true ≡ true
+then_within f None each = refl
+then_within f (Some x) each = each x
+
+span_within : (seconds fraction : Option ℕ) → option_map_or is_time (span_with seconds fraction) true ≡ true
+span_within seconds fraction = then_within _ seconds (λ s. then_within _ fraction (λ f. within (s * NANOS_PER_SECOND + f)))
+
+at_within : (text : Text) (point : Option ℕ) → option_map_or is_time (span_at text point) true ≡ true
+at_within text None = span_within (number_of text) (Some 0)
+at_within text (Some point) = span_within (number_of (take point text)) (fraction_of (drop (point + 1) text))
+
+-- a number of seconds comes to less than 2^63 nanoseconds
+pub proper_span : (text : Text) → option_map_or is_time (span_value text) true ≡ true
+unfolding span_value
+proper_span text = at_within text (position (λ b. b == 46) text)
+
+moment_within : (day clock fraction : Option ℕ) → option_map_or is_time (time_with day clock fraction) true ≡ true
+moment_within day clock fraction = then_within _ day (λ d. then_within _ clock (λ c. then_within _ fraction (λ f. within ((d * 86400 + c) * NANOS_PER_SECOND + f))))
+
+date_within : (text : Text) → option_map_or is_time (date_time_value text) true ≡ true
+unfolding date_time_value
+date_within text =
+    moment_within (day_with (number_at text 0 4) (number_at text 5 2) (number_at text 8 2))
+    (clock_with (number_at text 11 2) (number_at text 14 2) (number_at text 17 2))
+    (optional_fraction (take (length text - 20) (drop 19 text)))
+
+-- so does a time
+pub proper_time : (text : Text) → option_map_or is_time (time_value text) true ≡ true
+unfolding time_value
+proper_time text = go (is_date_time text)
+  where
+    go : (b : Bool) → option_map_or is_time (if b then date_time_value text else span_value text) true ≡ true
+    go true = date_within text
+    go false = proper_span text

@@ -1,0 +1,87 @@
+-- When the words for ranges have a fault.
+use Rattle.std.proofs.Common.{◌≡◌, ◌≤◌, ◌<◌, ◌∙◌, ap, sym, refl, ℕ, Bool, true, false, List, [], ◌∷◌, length, map, take, Option, Some, None, slice_index_or}
+use Rattle.std.specs.Prelude.{is_none, if◌then◌else◌}
+use Rattle.std.specs.Borrow.{Bor}
+use Rattle.std.specs.List.{list_all, list_any}
+use Rattle.std.proofs.lemmas.Bool.{cond-false, and_from, cond-true, le-leb, le-ltb}
+use Rattle.std.proofs.lemmas.List.Folds.{list_any_at}
+use Rattle.std.proofs.lemmas.List.{length-map, take_all}
+use Rattle.clap.proofs.WalkLemmas.{list_any-map}
+use Rattle.cap_filter.specs.Command.{has_proper_ranges, is_range, most_ranges}
+use Rattle.clap.specs.Words.{Text}
+use Rattle.capkit.specs.Line.{range_fault}
+use Rattle.capkit.specs.Range.{number_of, range_between, range_of, sides_of}
+use Rattle.capkit.specs.declared.usage.Usage.TheVariants.{BadRange, TooManyValues}
+
+abbrev is_bad : Text → Bool
+is_bad word = is_none (range_of word)
+
+-- words that are few enough have no fault but a bad one
+few : (words : List Text) → length words ≤ most_ranges → range_fault words ≡ (if list_any is_bad words then Some BadRange else None)
+few words enough = cond-false _ (Some TooManyValues) _ (le-ltb most_ranges (length words) enough)
+
+-- words with as many ranges have none that is bad
+none_bad : (words : List Text) (ranges : List (ℕ × ℕ)) → map Some ranges ≡ map range_of words → list_any is_bad words ≡ false
+none_bad [] ranges same = refl
+none_bad (word ∷ words) [] same = cc
+none_bad (word ∷ words) (range ∷ ranges) same =
+    let here : Some range ≡ range_of word = cc in
+    let more : map Some ranges ≡ map range_of words = cc in
+    rw (← here) (none_bad words ranges more)
+
+abbrev text_of : Bor Text → Text
+text_of word = word.now
+
+still_few : (words : List (Bor Text)) → length words ≤ most_ranges → length (map text_of words) ≤ most_ranges
+still_few words enough = rw length-map enough
+
+pub no_range_fault : (words : List (Bor Text)) (ranges : List (ℕ × ℕ)) (i : ℕ) → length words ≤ most_ranges → length words ≤ i
+    → map Some ranges ≡ map range_of (map text_of (take i words)) → range_fault (map text_of words) ≡ None
+no_range_fault words ranges i enough all same =
+    let whole : take i words ≡ words = take_all i words all in
+    few (map text_of words) (still_few words enough) ∙ cond-false _ (Some BadRange) None (none_bad (map text_of words) ranges
+    (same ∙ ap (λ ws. map range_of (map text_of ws)) whole))
+
+at_word : (words : List (Bor Text)) (i : ℕ) (d : Bor Text) → i < length words → range_of (slice_index_or words i d).now ≡ None
+    → list_any is_bad (map text_of words) ≡ true
+at_word words i d lt bad =
+    sym (list_any-map is_bad text_of words) ∙ list_any_at (λ word. is_bad word.now) words i d lt (ap is_none bad)
+
+pub bad_range : (words : List (Bor Text)) (i : ℕ) (d : Bor Text) → length words ≤ most_ranges → i < length words
+    → range_of (slice_index_or words i d).now ≡ None → range_fault (map text_of words) ≡ Some BadRange
+bad_range words i d enough lt bad =
+    few (map text_of words) (still_few words enough) ∙ cond-true _ (Some BadRange) None (at_word words i d lt bad)
+
+-- ---- the ranges that the words name
+
+is_range_between : (first last : Option ℕ) (range : ℕ × ℕ) → Some range ≡ range_between first last → is_range range.0 range.1 ≡ true
+is_range_between None last range same = cc
+is_range_between (Some n) None range same = cc
+is_range_between (Some n) (Some m) range same = go (is_range n m) refl same
+  where
+    go : (b : Bool) → is_range n m ≡ b → Some range ≡ (if b then Some (n, m) else None) → is_range range.0 range.1 ≡ true
+    go true is found =
+        let pair : range ≡ (n, m) = cc in
+        ap (λ (r : ℕ × ℕ). is_range r.0 r.1) pair ∙ is
+    go false is found = cc
+
+all_ranges : (words : List Text) (ranges : List (ℕ × ℕ)) → map Some ranges ≡ map range_of words → list_all (λ range. is_range range.0 range.1) ranges ≡ true
+all_ranges words [] same = refl
+all_ranges [] (range ∷ ranges) same = cc
+all_ranges (word ∷ words) (range ∷ ranges) same =
+    let here : Some range ≡ range_of word = cc in
+    let more : map Some ranges ≡ map range_of words = cc in
+    and_from _ _ (is_range_between (number_of (sides_of word).0) (number_of (sides_of word).1) range here) (all_ranges words ranges more)
+
+-- as many as the words
+as_many : (words : List Text) (ranges : List (ℕ × ℕ)) → map Some ranges ≡ map range_of words → length ranges ≡ length words
+as_many words ranges same =
+    let some : length (map (λ (r : ℕ × ℕ). Some r) ranges) ≡ length ranges = length-map ranges (λ (r : ℕ × ℕ). Some r) in
+    sym some ∙ ap length same ∙ length-map words range_of
+
+pub proper_ranges : (words : List (Bor Text)) (ranges : List (ℕ × ℕ)) (i : ℕ) → length words ≤ most_ranges → length words ≤ i
+    → map Some ranges ≡ map range_of (map text_of (take i words)) → has_proper_ranges ranges ≡ true
+proper_ranges words ranges i enough all same =
+    let whole : map Some ranges ≡ map range_of (map text_of words) = same ∙ ap (λ ws. map range_of (map text_of ws)) (take_all i words all) in
+    let few : length ranges ≤ most_ranges = rw (as_many (map text_of words) ranges whole) (still_few words enough) in
+    and_from _ _ (le-leb (length ranges) most_ranges few) (all_ranges (map text_of words) ranges whole)

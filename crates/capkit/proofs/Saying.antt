@@ -1,0 +1,83 @@
+-- What a line says of the words.
+use Rattle.std.proofs.Common.{◌≡◌, inl, inr, refl, List, Some, None, Result, Ok, Err, IfOk, IfErr, OnOk, Bool, true, false, length, codes, [], ◌∷◌}
+use Rattle.std.specs.Prelude.{if◌then◌else◌, is_none, nat_lt}
+use Rattle.std.specs.List.{list_any}
+use Rattle.clap.specs.Words.{Row, Text, first_of}
+use Rattle.clap.specs.declared.error.Error.{Error}
+use Rattle.cap_filter.specs.Command.{most_inputs, most_ranges}
+use Rattle.capkit.specs.Line.{Asks, IsFaultOf, IsLineOf, SaysFault, SaysLine, fault_in, files_in, has_bad_time, has_exclusion, has_two_shifts, or_else, read_names, text_in, texts_in}
+use Rattle.capkit.specs.Names.{uses_name_twice}
+use Rattle.capkit.specs.Range.{range_of}
+use Rattle.capkit.specs.declared.arguments.Subcommand.{Subcommand}
+use Rattle.capkit.specs.declared.arguments.Subcommand.TheVariants as sub
+use Rattle.capkit.specs.declared.line.Line.{Line}
+use Rattle.capkit.specs.declared.usage.Usage.{Usage}
+use Rattle.capkit.specs.declared.usage.Usage.TheVariants.{BadRange, BadTime, Memory, NameUsedTwice, OptionsExclude, Refused, TooManyValues}
+
+pub says_line : (words : List Text) (asked : Subcommand) (matches : List Row) (r : Result Line Usage) → Asks words asked matches → IfOk r (IsLineOf asked matches)
+    → OnOk r (fault_in asked matches ≡ None) → IfOk r (SaysLine words)
+says_line words asked matches (Ok line) asks is none = (asked, matches, asks, none, is)
+says_line words asked matches (Err usage) asks is none = tt
+
+-- clap's refusal is no fault of the matches
+edit_or_name : (many bad time shifts twice : Bool) (e : Error)
+    → or_else (if many then Some TooManyValues else (if bad then Some BadRange else None)) (or_else (if time then Some BadTime else None)
+    (or_else (if shifts then Some OptionsExclude else None) (if twice then Some NameUsedTwice else None))) ≡ Some (Refused e) → ⊥
+edit_or_name true bad time shifts twice e same = cc
+edit_or_name false true time shifts twice e same = cc
+edit_or_name false false true shifts twice e same = cc
+edit_or_name false false false true twice e same = cc
+edit_or_name false false false false true e same = cc
+edit_or_name false false false false false e same = cc
+
+count_or_name : (many twice : Bool) (e : Error)
+    → or_else (if many then Some TooManyValues else None) (if twice then Some NameUsedTwice else None) ≡ Some (Refused e) → ⊥
+count_or_name true twice e same = cc
+count_or_name false true e same = cc
+count_or_name false false e same = cc
+
+exclusion_or_name : (both twice : Bool) (e : Error)
+    → or_else (if both then Some OptionsExclude else None) (if twice then Some NameUsedTwice else None) ≡ Some (Refused e) → ⊥
+exclusion_or_name true twice e same = cc
+exclusion_or_name false true e same = cc
+exclusion_or_name false false e same = cc
+
+not_refused : (asked : Subcommand) (matches : List Row) (e : Error) → fault_in asked matches ≡ Some (Refused e) → ⊥
+not_refused sub.Edit matches e same =
+    let words = texts_in (codes "RANGE") matches in
+    edit_or_name (nat_lt most_ranges (length words)) (list_any (λ word. is_none (range_of word)) words) (has_bad_time matches) (has_two_shifts matches)
+    (uses_name_twice (text_in (codes "IN") matches ∷ []) (Some (text_in (codes "OUT") matches))) e same
+not_refused sub.Merge matches e same =
+    count_or_name (nat_lt most_inputs (length (files_in matches))) (uses_name_twice (files_in matches) (Some (text_in (codes "OUT") matches))) e same
+not_refused sub.Infos matches e same =
+    count_or_name (nat_lt most_inputs (length (files_in matches))) (uses_name_twice (files_in matches) None) e same
+not_refused sub.Print matches e same =
+    exclusion_or_name (has_exclusion matches) (uses_name_twice (read_names matches) (first_of (codes "OUT") matches)) e same
+not_refused sub.Compile matches e same = cc
+
+says : (words : List Text) (asked : Subcommand) (matches : List Row) (usage : Usage) → Asks words asked matches → IsFaultOf (fault_in asked matches) usage
+    → SaysFault words usage
+says words asked matches (Refused e) asks fault = elim fault [
+  | inl memory ↦ cc
+  | inr same ↦ absurd (not_refused asked matches e same)
+]
+says words asked matches TooManyValues asks fault = (asked, matches, asks, fault)
+says words asked matches BadRange asks fault = (asked, matches, asks, fault)
+says words asked matches BadTime asks fault = (asked, matches, asks, fault)
+says words asked matches OptionsExclude asks fault = (asked, matches, asks, fault)
+says words asked matches NameUsedTwice asks fault = (asked, matches, asks, fault)
+says words asked matches Memory asks fault = (asked, matches, asks, fault)
+
+pub says_fault : (words : List Text) (asked : Subcommand) (matches : List Row) (r : Result Line Usage) → Asks words asked matches
+    → IfErr r (IsFaultOf (fault_in asked matches)) → IfErr r (SaysFault words)
+says_fault words asked matches (Ok line) asks fault = tt
+says_fault words asked matches (Err usage) asks fault = says words asked matches usage asks fault
+
+-- a compilation's line has no fault of its own
+pub compile_faultless : (matches : List Row) (r : Result Line Usage) → OnOk r (fault_in sub.Compile matches ≡ None)
+compile_faultless matches (Ok line) = refl
+compile_faultless matches (Err usage) = tt
+
+pub memory_alone : (matches : List Row) (r : Result Line Usage) → IfErr r (λ usage. usage ≡ Memory) → IfErr r (IsFaultOf (fault_in sub.Compile matches))
+memory_alone matches (Ok line) memory = tt
+memory_alone matches (Err usage) memory = inl memory

@@ -1,0 +1,19 @@
+use Rattle.std.proofs.Common.{◌∙◌, ap₂, refl}
+use Rattle.clap.specs.Words.{with_rule}
+use Rattle.capkit.proofs.LocalOptions.{stays}
+use Rattle.capkit.proofs.arguments.lining.Goals as goal
+
+pub returns-clause-shape : goal.returns-clause-shape
+returns-clause-shape c =
+    c.in_ok-after.ensures.shape c.bytes_arg-bytes.ensures.local
+    ∙ ap₂ with_rule (c.in_ok-arg-2.ensures.shape c.link_header_arg-link.ensures.local
+    ∙ ap₂ with_rule (c.in_ok-arg.ensures.shape c.count_arg-count.ensures.local
+    ∙ ap₂ with_rule refl c.count_arg-count.ensures.rule)
+    c.link_header_arg-link.ensures.rule)
+    c.bytes_arg-bytes.ensures.rule
+
+pub returns-clause-local : goal.returns-clause-local
+returns-clause-local c =
+    stays _ _ _ c.in_ok-after.ensures.globals c.bytes_arg-bytes.ensures.local
+    ∙ stays _ _ _ c.in_ok-arg-2.ensures.globals c.link_header_arg-link.ensures.local
+    ∙ stays _ _ _ c.in_ok-arg.ensures.globals c.count_arg-count.ensures.local

@@ -1,0 +1,17 @@
+use Rattle.std.proofs.Common.{◌∙◌, ap, refl, Some}
+use Rattle.std.proofs.lemmas.Bool.{and_from}
+use Rattle.capkit.proofs.merge_line.merge_line.Goals as goal
+
+pub returns-clause-line : goal.returns-clause-line
+returns-clause-line c = record {
+  merge = _;
+  command = refl;
+  append = c.flag.ensures;
+  format = c.format.ensures;
+  inputs = c.in_ok-inputs.ensures.names;
+  output = ap Some (c.in_ok-from_str.ensures.ok ∙ c.text-output.ensures);
+  code = refl;
+}
+
+pub returns-clause-ready : goal.returns-clause-ready
+returns-clause-ready c = and_from _ _ c.in_ok-inputs.ensures.count refl

@@ -1,0 +1,20 @@
+use Rattle.std.proofs.Common.{◌≡◌, ◌∙◌, ◌++◌, ◌∷◌, [], ap, refl, map, string_bytes}
+use Rattle.capkit.proofs.print_line.print_line.Goals as goal
+
+one_input : (c : goal.In_ok-owned-2) → c.push.new.self.items ≡ c.in_ok-from_str.field-0 ∷ []
+one_input c = c.in_ok-push.ensures.items ∙ ap (λ names. names ++ c.in_ok-from_str.field-0 ∷ []) c.new-inputs.ensures.items
+
+pub returns-clause-line : goal.returns-clause-line
+returns-clause-line c = record {
+  print = _;
+  command = refl;
+  expr = c.in_ok-expression.ensures;
+  unread = refl;
+  count = c.count.ensures.value;
+  link = c.flag.ensures;
+  bytes = c.flag-2.ensures;
+  write = c.write.ensures;
+  inputs = ap (map string_bytes) (one_input c) ∙ ap (λ name. name ∷ []) (c.in_ok-from_str.ensures.ok ∙ c.text.ensures);
+  output = c.in_ok-owned.ensures ∙ c.text_if.ensures;
+  code = c.in_ok-owned-2.ensures ∙ c.text_if-2.ensures;
+}

@@ -1,0 +1,312 @@
+-- What the words of a command line ask for.
+use Rattle.std.specs.Prelude.{◌≡◌, ◌&&◌, ◌||◌, ◌⊎◌, ℕ, Bool, false, not, List, [], ◌∷◌, length, map, nat_lt, codes, ◌-◌, ◌^◌}
+use Rattle.std.specs.Prelude.{Option, Some, None, is_none, is_some, option_map, unwrap_or, if◌then◌else◌, string_bytes, vec_len}
+use Rattle.std.specs.Global.{Global, Vec}
+use Rattle.std.specs.List.{join_by, list_any}
+use Rattle.std.specs.Option.{option_and_then, option_map_or, option_to_list}
+use Rattle.std.specs.Str.{bytes_eq}
+use Rattle.std.specs.Str.Parse.{digits_value, without_leading_plus}
+use Rattle.cap_octet.specs.Seconds.{span_value}
+use Rattle.cap_octet.specs.Timestamp.{time_value}
+use Rattle.cap_octet.specs.declared.format.Format.{Format}
+use Rattle.cap_octet.specs.declared.format.Format.TheVariants.{Pcap, NsecPcap, Pcapng}
+use Rattle.cap_filter.specs.Command.{is_proper, most_inputs, most_ranges, most_window}
+use Rattle.cap_filter.specs.declared.command.Command.{Command}
+use Rattle.cap_filter.specs.declared.command.Command.TheVariants as command
+use Rattle.cap_filter.specs.declared.command.Compile.{Compile}
+use Rattle.cap_filter.specs.declared.command.Edit.{Edit}
+use Rattle.cap_filter.specs.declared.command.Merge.{Merge}
+use Rattle.cap_filter.specs.declared.command.Print.{Print}
+use Rattle.cap_filter.specs.declared.command.Shift.{Shift}
+use Rattle.cap_filter.specs.declared.command.Shift.TheVariants as shift
+use Rattle.clap.specs.ValueTests.{is_unsigned_in}
+use Rattle.clap.specs.Words.{Row, Text, all_of, first_of, one_of}
+use Rattle.flt_gen.specs.declared.link.Link.{Link}
+use Rattle.flt_gen.specs.declared.link.Link.TheVariants.{Ether, Raw, Cooked}
+use Rattle.capkit.specs.Arguments.{Refuses, Takes, name_of}
+use Rattle.capkit.specs.Names.{uses_name_twice}
+use Rattle.capkit.specs.Range.{range_of}
+use Rattle.capkit.specs.declared.arguments.Subcommand.{Subcommand}
+use Rattle.capkit.specs.declared.arguments.Subcommand.TheVariants as sub
+use Rattle.capkit.specs.declared.line.Line.{Line}
+use Rattle.capkit.specs.declared.usage.Usage.{Usage}
+use Rattle.capkit.specs.declared.usage.Usage.TheVariants.{BadRange, BadTime, Memory, NameUsedTwice, OptionsExclude, Refused, TooManyValues}
+
+-- ---- clap's matches
+
+abbrev pub text_in : Text → List Row → Text
+text_in id matches = unwrap_or (first_of id matches) []
+
+abbrev pub texts_in : Text → List Row → List Text
+texts_in id matches = unwrap_or (all_of id matches) []
+
+abbrev pub flag_in : Text → List Row → Bool
+flag_in id matches = option_map_or (λ text. bytes_eq text (codes "true")) (one_of id matches) false
+
+abbrev pub format_named : Text → Format
+format_named text =
+    if bytes_eq text (codes "pcap") then Pcap
+    else (if bytes_eq text (codes "nsecpcap") then NsecPcap else Pcapng)
+
+-- pcapng where no format is named
+abbrev pub format_in : Text → List Row → Format
+format_in id matches = option_map_or format_named (first_of id matches) Pcapng
+
+abbrev pub link_named : Text → Link
+link_named text =
+    if bytes_eq text (codes "raw") then Raw
+    else (if bytes_eq text (codes "cooked") then Cooked else Ether)
+
+-- Ethernet where no link is named
+abbrev pub link_in : Text → List Row → Link
+link_in id matches = option_map_or link_named (first_of id matches) Ether
+
+-- the number from `least` to `most` that a text writes; a plus sign may be in front of it
+abbrev pub number_between : (least most : ℕ) → Text → Option ℕ
+number_between least most text =
+    if is_unsigned_in least most text then Some (digits_value 10 (without_leading_plus text)) else None
+
+-- the number of an argument; clap takes none that isn't between `least` and `most`
+abbrev pub number_in : (least most : ℕ) → Text → List Row → Option ℕ
+number_in least most id matches = option_and_then (number_between least most) (one_of id matches)
+
+-- the greatest numbers of 32 and of 64 bits
+abbrev pub most_32 : ℕ
+most_32 = 2 ^ 32 - 1
+
+abbrev pub most_64 : ℕ
+most_64 = 2 ^ 64 - 1
+
+-- the time that an argument names, in nanoseconds since 1970-01-01 00:00:00 UTC
+abbrev pub time_in : Text → List Row → Option ℕ
+time_in id matches = option_and_then time_value (first_of id matches)
+
+-- the nanoseconds that an argument's number of seconds comes to
+abbrev pub span_in : Text → List Row → Option ℕ
+span_in id matches = option_and_then span_value (first_of id matches)
+
+abbrev pub shift_by : (later earlier : Option ℕ) → Shift
+shift_by (Some span) earlier = shift.Later span
+shift_by None (Some span) = shift.Earlier span
+shift_by None None = shift.None
+
+-- times are shifted by `--later` or `--earlier`
+abbrev pub shift_in : List Row → Shift
+shift_in matches = shift_by (span_in (codes "later") matches) (span_in (codes "earlier") matches)
+
+-- the packets are written in the named format where `-w` names a capture, and else a line for each of them
+abbrev pub write_in : List Row → Option Format
+write_in matches = option_map (λ name. format_in (codes "FORMAT") matches) (first_of (codes "OUT") matches)
+
+-- the expression: the words, with one blank between each two
+abbrev pub expression_in : List Row → Text
+expression_in matches = join_by (λ (word : Text). word) (codes " ") (texts_in (codes "WORD") matches)
+
+-- ---- faults of usage
+
+abbrev pub or_else : Option Usage → Option Usage → Option Usage
+or_else (Some fault) next = Some fault
+or_else None next = next
+
+-- the first fault of the words for ranges
+abbrev pub range_fault : List Text → Option Usage
+range_fault words =
+    if nat_lt most_ranges (length words) then Some TooManyValues
+    else (if list_any (λ word. is_none (range_of word)) words then Some BadRange else None)
+
+abbrev pub name_fault : List Text → Option Text → Option Usage
+name_fault inputs output = if uses_name_twice inputs output then Some NameUsedTwice else None
+
+-- an argument has a text that is no time, or no number of seconds
+abbrev pub is_bad_time : Text → List Row → Bool
+is_bad_time id matches = is_some (first_of id matches) && is_none (time_in id matches)
+
+abbrev pub is_bad_span : Text → List Row → Bool
+is_bad_span id matches = is_some (first_of id matches) && is_none (span_in id matches)
+
+abbrev pub has_bad_time : List Row → Bool
+has_bad_time matches =
+    is_bad_time (codes "start") matches || (is_bad_time (codes "stop") matches
+    || (is_bad_span (codes "later") matches || is_bad_span (codes "earlier") matches))
+
+abbrev pub time_fault : List Row → Option Usage
+time_fault matches = if has_bad_time matches then Some BadTime else None
+
+-- times can't be shifted both ways
+abbrev pub has_two_shifts : List Row → Bool
+has_two_shifts matches = is_some (first_of (codes "later") matches) && is_some (first_of (codes "earlier") matches)
+
+abbrev pub shift_fault : List Row → Option Usage
+shift_fault matches = if has_two_shifts matches then Some OptionsExclude else None
+
+-- after the ranges: a bad time, then options that exclude each other, then a name used twice
+abbrev pub option_fault : List Row → Option Usage
+option_fault matches = or_else (time_fault matches) (or_else (shift_fault matches)
+    (name_fault (text_in (codes "IN") matches ∷ []) (Some (text_in (codes "OUT") matches))))
+
+-- too many ranges, then a bad one, then a fault of the options
+abbrev pub edit_fault : List Row → Option Usage
+edit_fault matches = or_else (range_fault (texts_in (codes "RANGE") matches)) (option_fault matches)
+
+-- the names of the inputs of a command that has several: there is one at least
+abbrev pub files_in : List Row → List Text
+files_in matches = text_in (codes "FILE") matches ∷ texts_in (codes "MORE") matches
+
+abbrev pub count_fault : List Text → Option Usage
+count_fault inputs = if nat_lt most_inputs (length inputs) then Some TooManyValues else None
+
+-- too many inputs, then a name used twice
+abbrev pub files_fault : List Text → Option Text → Option Usage
+files_fault inputs output = or_else (count_fault inputs) (name_fault inputs output)
+
+abbrev pub merge_fault : List Row → Option Usage
+merge_fault matches = files_fault (files_in matches) (Some (text_in (codes "OUT") matches))
+
+abbrev pub infos_fault : List Row → Option Usage
+infos_fault matches = files_fault (files_in matches) None
+
+-- the names that are read: the capture's, and the listing's where there is one
+abbrev pub read_names : List Row → List Text
+read_names matches = text_in (codes "FILE") matches ∷ option_to_list (first_of (codes "LISTING") matches)
+
+-- a listing stands in place of an expression
+abbrev pub has_two_filters : List Row → Bool
+has_two_filters matches = is_some (first_of (codes "LISTING") matches) && nat_lt 0 (length (texts_in (codes "WORD") matches))
+
+-- a capture that is written has no lines, which could have link headers or bytes
+abbrev pub has_two_outputs : List Row → Bool
+has_two_outputs matches =
+    is_some (first_of (codes "OUT") matches) && (flag_in (codes "link") matches || flag_in (codes "bytes") matches)
+
+-- lines have no format
+abbrev pub has_idle_format : List Row → Bool
+has_idle_format matches = is_some (first_of (codes "FORMAT") matches) && is_none (first_of (codes "OUT") matches)
+
+abbrev pub has_exclusion : List Row → Bool
+has_exclusion matches = has_two_filters matches || (has_two_outputs matches || has_idle_format matches)
+
+abbrev pub exclusion_fault : List Row → Option Usage
+exclusion_fault matches = if has_exclusion matches then Some OptionsExclude else None
+
+-- options that exclude each other, then a name used twice
+abbrev pub print_fault : List Row → Option Usage
+print_fault matches = or_else (exclusion_fault matches) (name_fault (read_names matches) (first_of (codes "OUT") matches))
+
+-- ---- lines
+
+-- the edit has what the options say, besides its ranges
+pub record HasOptions (matches : List Row) (edit : Edit Global) : Type 0 where
+  pub keep : edit.keep ≡ flag_in (codes "keep") matches
+  pub start : edit.start ≡ time_in (codes "start") matches
+  pub stop : edit.stop ≡ time_in (codes "stop") matches
+  pub chop_start : edit.chop_start ≡ unwrap_or (number_in 0 most_32 (codes "chop_start") matches) 0
+  pub chop_end : edit.chop_end ≡ unwrap_or (number_in 0 most_32 (codes "chop_end") matches) 0
+  pub snap : edit.snap ≡ number_in 1 most_32 (codes "snap") matches
+  pub shift : edit.shift ≡ shift_in matches
+  pub window : edit.window ≡ number_in 2 most_window (codes "window") matches
+  pub format : edit.format ≡ format_in (codes "FORMAT") matches
+
+-- the line is the edit that the matches ask for
+pub record IsEditOf (matches : List Row) (line : Line) : Type 0 where
+  pub edit : Edit Global
+  pub command : line.command ≡ command.Edit edit
+  pub ranges : map Some edit.ranges.items ≡ map range_of (texts_in (codes "RANGE") matches)
+  pub options : HasOptions matches edit
+  pub inputs : map string_bytes line.inputs.items ≡ text_in (codes "IN") matches ∷ []
+  pub output : option_map string_bytes line.output ≡ Some (text_in (codes "OUT") matches)
+  pub code : line.code ≡ None
+
+-- the line is the merge that the matches ask for
+pub record IsMergeOf (matches : List Row) (line : Line) : Type 0 where
+  pub merge : Merge
+  pub command : line.command ≡ command.Merge merge
+  pub append : merge.append ≡ flag_in (codes "append") matches
+  pub format : merge.format ≡ format_in (codes "FORMAT") matches
+  pub inputs : map string_bytes line.inputs.items ≡ files_in matches
+  pub output : option_map string_bytes line.output ≡ Some (text_in (codes "OUT") matches)
+  pub code : line.code ≡ None
+
+-- the line asks for the reports that the matches ask for
+pub record IsInfosOf (matches : List Row) (line : Line) : Type 0 where
+  pub command : line.command ≡ command.Infos
+  pub inputs : map string_bytes line.inputs.items ≡ files_in matches
+  pub output : line.output ≡ None
+  pub code : line.code ≡ None
+
+-- the line is the print that the matches ask for; the listing is named, and not yet read
+pub record IsPrintOf (matches : List Row) (line : Line) : Type 0 where
+  pub print : Print Global
+  pub command : line.command ≡ command.Print print
+  pub expr : string_bytes print.expr ≡ expression_in matches
+  pub unread : print.code ≡ None
+  pub count : print.count ≡ number_in 1 most_64 (codes "count") matches
+  pub link : print.link ≡ flag_in (codes "link") matches
+  pub bytes : print.bytes ≡ flag_in (codes "bytes") matches
+  pub write : print.write ≡ write_in matches
+  pub inputs : map string_bytes line.inputs.items ≡ text_in (codes "FILE") matches ∷ []
+  pub output : option_map string_bytes line.output ≡ first_of (codes "OUT") matches
+  pub code : option_map string_bytes line.code ≡ first_of (codes "LISTING") matches
+
+-- the line is the compilation that the matches ask for
+pub record IsCompileOf (matches : List Row) (line : Line) : Type 0 where
+  pub compile : Compile Global
+  pub command : line.command ≡ command.Compile compile
+  pub expr : string_bytes compile.expr ≡ expression_in matches
+  pub link : compile.link ≡ link_in (codes "LINK") matches
+  pub inputs : line.inputs.items ≡ []
+  pub output : line.output ≡ None
+  pub code : line.code ≡ None
+
+-- ---- the words
+
+-- the first fault of the words
+abbrev pub fault_in : Subcommand → List Row → Option Usage
+fault_in sub.Edit matches = edit_fault matches
+fault_in sub.Merge matches = merge_fault matches
+fault_in sub.Infos matches = infos_fault matches
+fault_in sub.Print matches = print_fault matches
+fault_in sub.Compile matches = None
+
+abbrev pub IsLineOf : Subcommand → List Row → Line → Type 0
+IsLineOf sub.Edit matches line = IsEditOf matches line
+IsLineOf sub.Merge matches line = IsMergeOf matches line
+IsLineOf sub.Infos matches line = IsInfosOf matches line
+IsLineOf sub.Print matches line = IsPrintOf matches line
+IsLineOf sub.Compile matches line = IsCompileOf matches line
+
+-- a line is not read: memory ran out, or this is its first fault
+abbrev pub IsFaultOf : Option Usage → Usage → Type 0
+IsFaultOf fault usage = (usage ≡ Memory) ⊎ (fault ≡ Some usage)
+
+-- clap takes the words, of which the first is the program's name, and these are its matches of the subcommand
+abbrev pub Asks : List Text → Subcommand → List Row → Type 0
+Asks words asked matches = Takes words (Some (name_of asked, matches))
+
+abbrev pub SaysLine : List Text → Line → Type 0
+SaysLine words line = (asked : Subcommand) × (matches : List Row) × Asks words asked matches × (fault_in asked matches ≡ None) × IsLineOf asked matches line
+
+abbrev pub SaysFault : List Text → Usage → Type 0
+SaysFault words (Refused error) = Refuses words error
+SaysFault words usage = (asked : Subcommand) × (matches : List Row) × Asks words asked matches × IsFaultOf (fault_in asked matches) usage
+
+-- ---- what may be run
+
+-- the command has an expression that is not empty
+abbrev pub has_expression : {Z : Type 0} → Command Z → Bool
+has_expression (command.Print print) = nat_lt 0 (length (string_bytes print.expr))
+has_expression (command.Edit edit) = false
+has_expression (command.Merge merge) = false
+has_expression command.Infos = false
+has_expression (command.Compile compile) = false
+
+-- a line may be run once its listing is read
+abbrev pub is_ready : Line → Bool
+is_ready line = is_proper line.command (vec_len line.inputs) && (is_none line.code || not (has_expression line.command))
+
+-- the command with a listing of these bytes; a print alone takes one
+abbrev pub with_code : Command Global → Vec ℕ → Command Global
+with_code (command.Print print) bytes = command.Print (record print { code = Some bytes })
+with_code (command.Edit edit) bytes = command.Edit edit
+with_code (command.Merge merge) bytes = command.Merge merge
+with_code command.Infos bytes = command.Infos
+with_code (command.Compile compile) bytes = command.Compile compile

@@ -1,0 +1,139 @@
+//! The line of an edit.
+ghost use Rattle.std.specs.Prelude.{◌≡◌, ◌⊎◌, IfOk, IfErr, OnOk, Some, None, map, true};
+ghost use Rattle.cap_filter.specs.Command.{has_proper_ranges, is_proper_edit, is_proper_shift};
+ghost use Rattle.clap.specs.Words.{found_of, rows_of};
+ghost use Rattle.capkit.specs.Line.{edit_fault, has_bad_time, has_two_shifts, is_bad_span};
+ghost use Rattle.capkit.specs.Line.{is_bad_time, is_ready, option_fault, range_fault, shift_in};
+ghost use Rattle.capkit.specs.Line.{HasOptions, IsEditOf, IsFaultOf};
+ghost use Rattle.capkit.specs.Range.{range_of};
+
+use crate::line::Line;
+use crate::names::uses_name_twice;
+use crate::range::range_in;
+use crate::usage::Usage;
+use crate::values::{flag, format, short_number, span, text, text_if, texts, time};
+use cap_filter::{Command, Edit, MOST_RANGES, MOST_WINDOW, Shift};
+use clap::ArgMatches;
+use std::alloc::Global;
+
+/// The ranges that the words name.
+fn ranges_in(alloc: Global, words: &[&str]) -> Result<Vec<(u64, u64)>, Usage>
+    ensures ranges { IfOk result (λ ranges. map Some ranges.items
+        ≡ map range_of (map (λ word. word.now) words.now)) }
+    ensures none { OnOk result (range_fault (map (λ word. word.now) words.now) ≡ None) }
+    ensures proper { IfOk result (λ ranges. has_proper_ranges ranges.items ≡ true) }
+    ensures fault { IfErr result (IsFaultOf (range_fault (map (λ word. word.now) words.now))) }
+{
+    if words.len() > MOST_RANGES {
+        return Err(Usage::TooManyValues);
+    }
+    let mut ranges = Vec::with_capacity(alloc, words.len())?;
+    for word in words {
+        match range_in(word) {
+            Some(range) => ranges.push(range)?,
+            None => return Err(Usage::BadRange),
+        }
+    }
+    Ok(ranges)
+}
+
+/// Whether the argument has a text that is no time.
+fn is_bad_time(matches: &ArgMatches<'_>, id: &str) -> bool
+    ensures { result ≡ is_bad_time id.now (rows_of (found_of matches.now)) }
+{
+    text_if(matches, id).is_some() && time(matches, id).is_none()
+}
+
+/// Whether the argument has a text that is no number of seconds.
+fn is_bad_span(matches: &ArgMatches<'_>, id: &str) -> bool
+    ensures { result ≡ is_bad_span id.now (rows_of (found_of matches.now)) }
+{
+    text_if(matches, id).is_some() && span(matches, id).is_none()
+}
+
+fn has_bad_time(matches: &ArgMatches<'_>) -> bool
+    ensures { result ≡ has_bad_time (rows_of (found_of matches.now)) }
+{
+    is_bad_time(matches, "start")
+        || is_bad_time(matches, "stop")
+        || is_bad_span(matches, "later")
+        || is_bad_span(matches, "earlier")
+}
+
+/// Whether times are to be shifted both ways.
+fn has_two_shifts(matches: &ArgMatches<'_>) -> bool
+    ensures { result ≡ has_two_shifts (rows_of (found_of matches.now)) }
+{
+    text_if(matches, "later").is_some() && text_if(matches, "earlier").is_some()
+}
+
+/// The first fault of the words of an edit, besides its ranges.
+fn check(matches: &ArgMatches<'_>) -> Result<(), Usage>
+    ensures passes { OnOk result (option_fault (rows_of (found_of matches.now)) ≡ None) }
+    ensures refused { IfErr result (λ usage. option_fault (rows_of (found_of matches.now))
+        ≡ Some usage) }
+{
+    if has_bad_time(matches) {
+        return Err(Usage::BadTime);
+    }
+    if has_two_shifts(matches) {
+        return Err(Usage::OptionsExclude);
+    }
+    if uses_name_twice(&[text(matches, "IN")], Some(text(matches, "OUT"))) {
+        return Err(Usage::NameUsedTwice);
+    }
+    Ok(())
+}
+
+/// What is done to times.
+fn shift(matches: &ArgMatches<'_>) -> Shift
+    ensures value { result ≡ shift_in (rows_of (found_of matches.now)) }
+    ensures proper { is_proper_shift result ≡ true }
+{
+    match (span(matches, "later"), span(matches, "earlier")) {
+        (Some(span), _) => Shift::Later(span),
+        (None, Some(span)) => Shift::Earlier(span),
+        (None, None) => Shift::None,
+    }
+}
+
+/// The edit of these ranges, by its options.
+fn edit_of(matches: &ArgMatches<'_>, ranges: Vec<(u64, u64)>) -> Edit
+    requires { has_proper_ranges ranges.items ≡ true }
+    ensures ranges { result.ranges ≡ ranges }
+    ensures options { HasOptions (rows_of (found_of matches.now)) result }
+    ensures proper { is_proper_edit result ≡ true }
+{
+    Edit {
+        ranges,
+        keep: flag(matches, "keep"),
+        start: time(matches, "start"),
+        stop: time(matches, "stop"),
+        chop_start: short_number(matches, "chop_start", 0, u32::MAX).unwrap_or(0),
+        chop_end: short_number(matches, "chop_end", 0, u32::MAX).unwrap_or(0),
+        snap: short_number(matches, "snap", 1, u32::MAX),
+        shift: shift(matches),
+        window: short_number(matches, "window", 2, MOST_WINDOW),
+        format: format(matches, "FORMAT"),
+    }
+}
+
+/// The line of an edit.
+pub fn edit_line(alloc: Global, matches: &ArgMatches<'_>) -> Result<Line, Usage>
+    ensures line { IfOk result (IsEditOf (rows_of (found_of matches.now))) }
+    ensures faultless { OnOk result (edit_fault (rows_of (found_of matches.now)) ≡ None) }
+    ensures ready { IfOk result (λ line. is_ready line ≡ true) }
+    ensures fault { IfErr result (IsFaultOf (edit_fault (rows_of (found_of matches.now)))) }
+{
+    let ranges = ranges_in(alloc, texts(matches, "RANGE"))?;
+    check(matches)?;
+    let edit = edit_of(matches, ranges);
+    let mut inputs = Vec::new(alloc);
+    inputs.push(String::from_str(alloc, text(matches, "IN"))?)?;
+    Ok(Line {
+        command: Command::Edit(edit),
+        inputs,
+        output: Some(String::from_str(alloc, text(matches, "OUT"))?),
+        code: None,
+    })
+}

@@ -1,0 +1,26 @@
+//! The line of reports.
+ghost use Rattle.std.specs.Prelude.{◌≡◌, IfOk, IfErr, OnOk, None, true};
+ghost use Rattle.clap.specs.Words.{found_of, rows_of};
+ghost use Rattle.capkit.specs.Line.{infos_fault, is_ready, IsFaultOf, IsInfosOf};
+
+use crate::files::input_names;
+use crate::line::Line;
+use crate::usage::Usage;
+use cap_filter::Command;
+use clap::ArgMatches;
+use std::alloc::Global;
+
+/// The line of reports.
+pub fn infos_line(alloc: Global, matches: &ArgMatches<'_>) -> Result<Line, Usage>
+    ensures line { IfOk result (IsInfosOf (rows_of (found_of matches.now))) }
+    ensures faultless { OnOk result (infos_fault (rows_of (found_of matches.now)) ≡ None) }
+    ensures ready { IfOk result (λ line. is_ready line ≡ true) }
+    ensures fault { IfErr result (IsFaultOf (infos_fault (rows_of (found_of matches.now)))) }
+{
+    Ok(Line {
+        command: Command::Infos,
+        inputs: input_names(alloc, matches, None)?,
+        output: None,
+        code: None,
+    })
+}

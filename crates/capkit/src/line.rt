@@ -1,0 +1,70 @@
+//! What the words of a command line ask for.
+ghost use Rattle.std.specs.Prelude.{◌≡◌, IfOk, IfErr, map, true, string_bytes};
+ghost use Rattle.capkit.specs.Line.{is_ready, with_code, SaysLine, SaysFault};
+
+use crate::arguments::{Subcommand, matches_of, subcommand_named};
+use crate::compile_line::compile_line;
+use crate::edit_line::edit_line;
+use crate::infos_line::infos_line;
+use crate::merge_line::merge_line;
+use crate::print_line::print_line;
+use crate::usage::Usage;
+use cap_filter::{Command, Print};
+use std::alloc::Global;
+
+/// A command line.
+#[derive(Drop)]
+pub struct Line {
+    /// What is asked for.
+    pub command: Command,
+    /// The names of the inputs, of which `-` is standard input.
+    pub inputs: Vec<String>,
+    /// The name of the output, of which `-` is standard output; standard output where there is
+    /// none.
+    pub output: Option<String>,
+    /// The name of a listing, which is to be read into the command before it runs.
+    pub code: Option<String>,
+}
+
+/// The line that the words ask for, of which the first is the program's name.
+///
+/// An error is the first of these that holds: clap refuses the words (also where it is out of
+/// memory), there are more than 512 ranges or 256 inputs, a word is no range, a word is no time or
+/// no number of seconds, options exclude each other, a name is used twice; or an allocation fails
+/// after clap's parse.
+///
+/// These exclude each other: `--later` and `--earlier` of an edit; of a print, the words of an
+/// expression and `--code`, `-w` and `-e` or `-x`, and `--format` where there is no `-w`.
+pub fn command_of(alloc: Global, words: Vec<String>) -> Result<Line, Usage>
+    ensures line { IfOk result (SaysLine (map string_bytes words.items)) }
+    ensures ready { IfOk result (λ line. is_ready line ≡ true) }
+    ensures usage { IfErr result (SaysFault (map string_bytes words.items)) }
+{
+    let matches = match matches_of(alloc, words.as_slice()) {
+        Ok(matches) => matches,
+        Err(error) => return Err(Usage::Refused(error)),
+    };
+    let Some((name, matches)) = matches.subcommand() else {
+        unreachable!()
+    };
+    match subcommand_named(name) {
+        Subcommand::Edit => edit_line(alloc, matches),
+        Subcommand::Merge => merge_line(alloc, matches),
+        Subcommand::Infos => infos_line(alloc, matches),
+        Subcommand::Print => print_line(alloc, matches),
+        Subcommand::Compile => compile_line(alloc, matches),
+    }
+}
+
+/// The command with these bytes as its listing. A command that takes no listing stays as it is.
+pub fn with_code(command: Command, bytes: Vec<u8>) -> Command
+    ensures { result ≡ with_code command bytes }
+{
+    match command {
+        Command::Print(print) => Command::Print(Print {
+            code: Some(bytes),
+            ..print
+        }),
+        command => command,
+    }
+}

@@ -1,0 +1,33 @@
+//! The line of a merge.
+ghost use Rattle.std.specs.Prelude.{◌≡◌, IfOk, IfErr, OnOk, None, true};
+ghost use Rattle.clap.specs.Words.{found_of, rows_of};
+ghost use Rattle.capkit.specs.Line.{is_ready, merge_fault, IsFaultOf, IsMergeOf};
+
+use crate::files::input_names;
+use crate::line::Line;
+use crate::usage::Usage;
+use crate::values::{flag, format, text};
+use cap_filter::{Command, Merge};
+use clap::ArgMatches;
+use std::alloc::Global;
+
+/// The line of a merge.
+pub fn merge_line(alloc: Global, matches: &ArgMatches<'_>) -> Result<Line, Usage>
+    ensures line { IfOk result (IsMergeOf (rows_of (found_of matches.now))) }
+    ensures faultless { OnOk result (merge_fault (rows_of (found_of matches.now)) ≡ None) }
+    ensures ready { IfOk result (λ line. is_ready line ≡ true) }
+    ensures fault { IfErr result (IsFaultOf (merge_fault (rows_of (found_of matches.now)))) }
+{
+    let output = text(matches, "OUT");
+    let merge = Merge {
+        append: flag(matches, "append"),
+        format: format(matches, "FORMAT"),
+    };
+    let inputs = input_names(alloc, matches, Some(output))?;
+    Ok(Line {
+        command: Command::Merge(merge),
+        inputs,
+        output: Some(String::from_str(alloc, output)?),
+        code: None,
+    })
+}

@@ -1,0 +1,34 @@
+//! Names of inputs and outputs.
+ghost use Rattle.std.specs.Prelude.{◌≡◌, option_map, map, count_by};
+ghost use Rattle.std.specs.List.{list_any};
+ghost use Rattle.std.specs.Str.{bytes_eq};
+ghost use Rattle.capkit.specs.Names.{is_standard, uses_name_twice};
+
+/// The name of a standard stream: input where it is read, output where it is written.
+pub const STANDARD: &str = "-";
+
+fn is_among(names: &[&str], wanted: &str) -> bool
+    ensures { result ≡ list_any (λ name. bytes_eq name wanted.now)
+        (map (λ name. name.now) names.now) }
+{
+    names.iter().any(|name| *name == wanted)
+}
+
+/// How many of the names are those of a standard stream.
+fn standard_streams(names: &[&str]) -> usize
+    ensures { result ≡ count_by is_standard (map (λ name. name.now) names.now) }
+{
+    names.iter().filter(|name| **name == STANDARD).count()
+}
+
+/// Whether the output, unless it is standard output, is an input too, or standard input is two
+/// inputs.
+pub fn uses_name_twice(inputs: &[&str], output: Option<&str>) -> bool
+    ensures { result ≡ uses_name_twice (map (λ name. name.now) inputs.now)
+        (option_map (λ name. name.now) output.entry) }
+{
+    match output {
+        Some(name) if name != STANDARD && is_among(inputs, name) => true,
+        _ => standard_streams(inputs) > 1,
+    }
+}

@@ -1,0 +1,137 @@
+//! The line of a print.
+ghost use Rattle.std.specs.Prelude.{◌≡◌, ◌∷◌, ◌≤◌, IfOk, IfErr, IfSome, OnOk, Some, None};
+ghost use Rattle.std.specs.Prelude.{option_map, codes, string_bytes, true};
+ghost use Rattle.std.specs.Option.{option_to_list};
+ghost use Rattle.clap.specs.Words.{found_of, rows_of};
+ghost use Rattle.capkit.specs.Line.{expression_in, has_exclusion, has_idle_format};
+ghost use Rattle.capkit.specs.Line.{has_two_filters, has_two_outputs, is_ready, most_64};
+ghost use Rattle.capkit.specs.Line.{number_in, print_fault, write_in, IsFaultOf, IsPrintOf};
+ghost use Rattle.capkit.specs.Names.{uses_name_twice};
+
+use crate::line::Line;
+use crate::names::uses_name_twice;
+use crate::usage::Usage;
+use crate::values::{flag, format, number, text, text_if, texts};
+use cap_filter::{Command, Print};
+use cap_octet::Format;
+use clap::ArgMatches;
+use std::alloc::{AllocError, Global};
+
+/// The expression that the words are.
+pub fn expression(alloc: Global, matches: &ArgMatches<'_>) -> Result<String, AllocError>
+    ensures { IfOk result (λ expr. string_bytes expr
+        ≡ expression_in (rows_of (found_of matches.now))) }
+{
+    let joined = texts(matches, "WORD").join(alloc, " ")?;
+    Ok(joined)
+}
+
+/// A text of its own, where there is one.
+fn owned(alloc: Global, text: Option<&str>) -> Result<Option<String>, AllocError>
+    ensures { IfOk result (λ owned. option_map string_bytes owned
+        ≡ option_map (λ text. text.now) text.entry) }
+{
+    match text {
+        Some(text) => Ok(Some(String::from_str(alloc, text)?)),
+        None => Ok(None),
+    }
+}
+
+/// Whether the output is an input too, or standard input is two of them; a listing is an input.
+fn names_clash(input: &str, listing: Option<&str>, output: Option<&str>) -> bool
+    ensures { result ≡ uses_name_twice
+        (input.now ∷ option_to_list (option_map (λ name. name.now) listing.entry))
+        (option_map (λ name. name.now) output.entry) }
+{
+    match listing {
+        Some(listing) => uses_name_twice(&[input, listing], output),
+        None => uses_name_twice(&[input], output),
+    }
+}
+
+/// Whether there are words beside a listing.
+fn has_two_filters(matches: &ArgMatches<'_>) -> bool
+    ensures { result ≡ has_two_filters (rows_of (found_of matches.now)) }
+{
+    text_if(matches, "LISTING").is_some() && !texts(matches, "WORD").is_empty()
+}
+
+/// Whether lines are to have link headers or bytes, where packets are written in place of lines.
+fn has_two_outputs(matches: &ArgMatches<'_>) -> bool
+    ensures { result ≡ has_two_outputs (rows_of (found_of matches.now)) }
+{
+    text_if(matches, "OUT").is_some() && (flag(matches, "link") || flag(matches, "bytes"))
+}
+
+/// Whether there is a format, and no capture that is written.
+fn has_idle_format(matches: &ArgMatches<'_>) -> bool
+    ensures { result ≡ has_idle_format (rows_of (found_of matches.now)) }
+{
+    text_if(matches, "FORMAT").is_some() && text_if(matches, "OUT").is_none()
+}
+
+fn has_exclusion(matches: &ArgMatches<'_>) -> bool
+    ensures { result ≡ has_exclusion (rows_of (found_of matches.now)) }
+{
+    has_two_filters(matches) || has_two_outputs(matches) || has_idle_format(matches)
+}
+
+/// The first fault of the words of a print.
+fn check(matches: &ArgMatches<'_>) -> Result<(), Usage>
+    ensures passes { OnOk result (print_fault (rows_of (found_of matches.now)) ≡ None) }
+    ensures refused { IfErr result (λ usage. print_fault (rows_of (found_of matches.now))
+        ≡ Some usage) }
+{
+    if has_exclusion(matches) {
+        return Err(Usage::OptionsExclude);
+    }
+    let listing = text_if(matches, "LISTING");
+    if names_clash(text(matches, "FILE"), listing, text_if(matches, "OUT")) {
+        return Err(Usage::NameUsedTwice);
+    }
+    Ok(())
+}
+
+/// The format in which packets are written, where they are.
+fn write(matches: &ArgMatches<'_>) -> Option<Format>
+    ensures { result ≡ write_in (rows_of (found_of matches.now)) }
+{
+    match text_if(matches, "OUT") {
+        Some(_) => Some(format(matches, "FORMAT")),
+        None => None,
+    }
+}
+
+/// After how many packets the print ends.
+fn count(matches: &ArgMatches<'_>) -> Option<u64>
+    ensures value { result ≡ number_in 1 most_64 (codes "count") (rows_of (found_of matches.now)) }
+    ensures bounds { IfSome result (λ n. (1 ≤ n) × (n ≤ most_64)) }
+{
+    number(matches, "count", 1, u64::MAX)
+}
+
+/// The line of a print.
+pub fn print_line(alloc: Global, matches: &ArgMatches<'_>) -> Result<Line, Usage>
+    ensures line { IfOk result (IsPrintOf (rows_of (found_of matches.now))) }
+    ensures faultless { OnOk result (print_fault (rows_of (found_of matches.now)) ≡ None) }
+    ensures ready { IfOk result (λ line. is_ready line ≡ true) }
+    ensures fault { IfErr result (IsFaultOf (print_fault (rows_of (found_of matches.now)))) }
+{
+    check(matches)?;
+    let print = Print {
+        expr: expression(alloc, matches)?,
+        code: None,
+        count: count(matches),
+        link: flag(matches, "link"),
+        bytes: flag(matches, "bytes"),
+        write: write(matches),
+    };
+    let mut inputs = Vec::new(alloc);
+    inputs.push(String::from_str(alloc, text(matches, "FILE"))?)?;
+    Ok(Line {
+        command: Command::Print(print),
+        inputs,
+        output: owned(alloc, text_if(matches, "OUT"))?,
+        code: owned(alloc, text_if(matches, "LISTING"))?,
+    })
+}

@@ -1,0 +1,55 @@
+//! The ranges of packets that words name.
+ghost use Rattle.std.specs.Prelude.{◌≡◌, ◌≤◌, ◌^◌, ℕ, IfSome, IfNone, Some};
+ghost use Rattle.std.specs.Char.{is_ascii_digit};
+ghost use Rattle.std.specs.List.{list_all};
+ghost use Rattle.capkit.specs.Range.{WritesRange, number_of, range_of, sides_of};
+
+use cap_filter::is_range;
+
+fn has_digits_alone(text: &str) -> bool
+    ensures { result ≡ list_all is_ascii_digit text.now }
+{
+    text.bytes().all(|byte| byte.is_ascii_digit())
+}
+
+/// The number that a text of decimal digits alone writes, where `u64` holds it.
+fn number_in(text: &str) -> Option<u64>
+    ensures number { IfSome result (λ n. number_of text.now ≡ Some n) }
+    ensures none { IfNone result (IfSome (number_of text.now) (λ n. 2 ^ 64 ≤ n)) }
+{
+    if !has_digits_alone(text) {
+        return None;
+    }
+    match text.parse::<u64>() {
+        Ok(number) => Some(number),
+        Err(_) => None,
+    }
+}
+
+/// The texts of the first and of the last number, which are one without a hyphen.
+fn sides<'a>(word: &'a str) -> (&'a str, &'a str)
+    ensures first { result.0.now ≡ (sides_of word.entry.now).0 }
+    ensures last { result.1.now ≡ (sides_of word.entry.now).1 }
+{
+    match word.split_once('-') {
+        Some((first, last)) => (first, last),
+        None => (word, word),
+    }
+}
+
+/// The range that a word names: `N`, or `N-M` from N to M, in decimal digits alone, with 1 <= N <=
+/// M < 2^63.
+pub fn range_in(word: &str) -> Option<(u64, u64)>
+    ensures value { result ≡ range_of word.now }
+    ensures written { IfSome result (WritesRange word.now) }
+    ensures none { IfNone result ((range : ℕ × ℕ) → ¬ WritesRange word.now range) }
+{
+    let (first, last) = sides(word);
+    let first = number_in(first)?;
+    let last = number_in(last)?;
+    if is_range(first, last) {
+        Some((first, last))
+    } else {
+        None
+    }
+}

@@ -1,0 +1,48 @@
+//! Why words are no command line.
+ghost use Rattle.std.specs.Prelude.{◌≡◌};
+ghost use Rattle.capkit.specs.declared.usage.Usage.TheVariants.{Memory};
+
+use std::alloc::{AllocError, AllocFailed};
+use thiserror::Error;
+
+/// Why words are no command line. Its text is what a message calls it.
+#[derive(Debug, Drop, Error)]
+pub enum Usage {
+    /// clap refuses the words, or handles a request for help.
+    #[error(transparent)]
+    Refused(clap::Error),
+    /// There are more than 512 ranges, or more than 256 inputs.
+    #[error("too many values")]
+    TooManyValues,
+    /// A word names no range of packets.
+    #[error("bad range")]
+    BadRange,
+    /// A word names no time, or no number of seconds.
+    #[error("bad time")]
+    BadTime,
+    /// Options exclude each other, or a listing excludes the words of an expression.
+    #[error("options exclude each other")]
+    OptionsExclude,
+    /// The output is an input too, or standard input is two of them.
+    #[error("name used twice")]
+    NameUsedTwice,
+    /// No memory was left for the line.
+    #[error("no memory")]
+    Memory,
+}
+
+impl From<AllocError> for Usage {
+    ghost from_gives = { λ _ usage. usage ≡ Memory };
+
+    fn from(_error: AllocError) -> Usage {
+        Usage::Memory
+    }
+}
+
+impl<T: Drop> From<AllocFailed<T>> for Usage {
+    ghost from_gives = { λ _ usage. usage ≡ Memory };
+
+    fn from(_error: AllocFailed<T>) -> Usage {
+        Usage::Memory
+    }
+}

@@ -1,0 +1,4 @@
+pub mod Ending
+pub mod Status
+pub mod Streams
+pub mod Words

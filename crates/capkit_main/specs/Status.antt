@@ -1,0 +1,19 @@
+-- The status that words which are no command line end with.
+use Rattle.std.specs.Prelude.{ℕ, Bool, true, false, if◌then◌else◌}
+use Rattle.clap.specs.Words.{kind_of}
+use Rattle.clap.specs.declared.error.kind.ErrorKind.{ErrorKind}
+use Rattle.clap.specs.declared.error.kind.ErrorKind.TheVariants.{DisplayHelp, DisplayVersion}
+use Rattle.capkit.specs.declared.usage.Usage.{Usage}
+use Rattle.capkit.specs.declared.usage.Usage.TheVariants.{Memory, Refused}
+
+-- the words ask to be told something
+abbrev pub is_request : ErrorKind → Bool
+is_request DisplayHelp = true
+is_request DisplayVersion = true
+is_request _ = false
+
+-- of a request 0 if the answer could be written, else 1; 1 if memory ran out, else 2
+abbrev pub status_of : Usage → (is_written : Bool) → ℕ
+status_of (Refused error) is_written = if is_request (kind_of error) then (if is_written then 0 else 1) else 2
+status_of Memory is_written = 1
+status_of _ is_written = 2

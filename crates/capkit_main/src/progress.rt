@@ -1,0 +1,159 @@
+//! How far long work is: shown on a terminal, where the output is a file, from two seconds on, and
+//! erased at the end.
+
+use crate::held::Held;
+use capkit::STANDARD;
+use std::cell::Cell;
+use std::io::{self, IsTerminal, Read};
+use std::time::Instant;
+use std::{env, fs};
+
+/// The second since the start at which progress is shown first.
+const FIRST: u64 = 2;
+
+/// The bytes of a MiB.
+const MIB: u64 = 1_048_576;
+
+/// The size of all files of these names. 0 where one is no plain file, so that its size isn't
+/// known.
+fn total_size(rt: &HostRuntime, names: &[String]) -> u64 {
+    let mut total: u64 = 0;
+    for name in names {
+        match fs::metadata(rt, name) {
+            Ok(file) if file.is_file() && name.as_str() != STANDARD => {
+                total = total.saturating_add(file.len());
+            }
+            _ => return 0,
+        }
+    }
+    total
+}
+
+/// Whether the output of this name is a file, be it a new one. What goes to standard output may
+/// come to the terminal, by a pipe too.
+fn is_file(rt: &HostRuntime, output: &str) -> bool {
+    if output == STANDARD {
+        return false;
+    }
+    match fs::metadata(rt, output) {
+        Ok(file) => file.is_file(),
+        Err(_) => true,
+    }
+}
+
+/// Whether standard error is a terminal on which a line can be written over.
+fn is_drawable(rt: &HostRuntime) -> bool {
+    if !rt.stderr().is_terminal() {
+        return false;
+    }
+    match env::var(rt, "TERM") {
+        Ok(terminal) => terminal.as_str() != "dumb",
+        Err(_) => true,
+    }
+}
+
+/// Counts the bytes that the inputs of a job read.
+#[derive(Drop)]
+pub struct Progress<'a> {
+    rt: &'a HostRuntime,
+    /// When the job began. None where nothing is to be shown.
+    start: Option<Instant>,
+    /// The size of all inputs; 0 where it isn't known.
+    total: u64,
+    read: Cell<u64>,
+    /// The second at which it is shown next.
+    next: Cell<u64>,
+}
+
+impl<'a> Progress<'a> {
+    /// Nothing is read yet of the inputs of these names. Nothing is shown where that could meet
+    /// lines, or another program's progress, on the terminal.
+    pub fn new(rt: &'a HostRuntime, names: &[String], output: &str) -> Progress<'a> {
+        let start = if is_file(rt, output) && is_drawable(rt) {
+            Instant::now(rt).ok()
+        } else {
+            None
+        };
+        Progress {
+            rt,
+            start,
+            total: total_size(rt, names),
+            read: Cell::new(0),
+            next: Cell::new(FIRST),
+        }
+    }
+
+    /// Counts bytes that were read, and shows progress once a second.
+    fn count(&self, bytes: usize) {
+        let Some(start) = self.start else {
+            return;
+        };
+        let read = self.read.get().saturating_add(bytes as u64);
+        self.read.set(read);
+        let Ok(elapsed) = start.elapsed(self.rt) else {
+            return;
+        };
+        let seconds = elapsed.as_secs();
+        if seconds >= self.next.get() {
+            self.next.set(seconds.saturating_add(1));
+            self.show(read, seconds);
+        }
+    }
+
+    /// Writes the line, over the one that stands there.
+    fn show(&self, read: u64, seconds: u64) {
+        let mib = read / MIB;
+        let rate = mib / seconds.max(1);
+        let _ = match self.share(read) {
+            Some(share) => self
+                .rt
+                .eprint(format_args!("\r\x1b[K{share}% read, {rate} MiB/s")),
+            None => self
+                .rt
+                .eprint(format_args!("\r\x1b[K{mib} MiB read, {rate} MiB/s")),
+        };
+    }
+
+    /// How much of the inputs is read, in hundredths. None where their size isn't known.
+    fn share(&self, read: u64) -> Option<u128> {
+        if self.total == 0 {
+            return None;
+        }
+        let share = u128::from(read) * 100 / u128::from(self.total);
+        Some(share.min(100))
+    }
+
+    /// Erases the line, if one stands there.
+    pub fn erase(&self) {
+        if self.next.get() > FIRST {
+            let _ = self.rt.eprint(format_args!("\r\x1b[K"));
+        }
+    }
+}
+
+/// A reader whose bytes are counted, and before whose reads goes out what is held back.
+#[derive(Drop)]
+pub struct Counted<'a, R> {
+    reader: R,
+    progress: &'a Progress<'a>,
+    held: &'a Held,
+}
+
+impl<'a, R: Read> Counted<'a, R> {
+    pub fn new(reader: R, progress: &'a Progress<'a>, held: &'a Held) -> Self {
+        Counted {
+            reader,
+            progress,
+            held,
+        }
+    }
+}
+
+impl<R: Read> Read for Counted<'_, R> {
+    fn read(&mut self, buf: &mut [u8]) -> io::Result<usize> {
+        self.held.release();
+        let count = self.reader.read(buf)?;
+        self.progress.count(count);
+        Ok(count)
+    }
+}

@@ -1,0 +1,500 @@
+-- Code that is alike has the answers of the old code, and a run of it meets no more instructions.
+use Rattle.std.proofs.Common.{◌≡◌, ℕ, zero, suc, ◌+◌, ◌-◌, ◌%◌, ◌^◌, ◌<◌, ◌≤◌, List, [], ◌∷◌, length, drop, Bool, true, false, Option, Some, None, refl, sym, ap, ◌∙◌, subst, arith}
+use Rattle.std.specs.Prelude.{◌≢◌, All, ◌==◌, nat_lt, nat_le, ◌&&◌, ◌||◌, not, if◌then◌else◌, slice_get, slice_set, bit_and}
+use Rattle.std.specs.Option.{option_map}
+use Rattle.std.proofs.lemmas.Bool.Decides.{nat_tests}
+use Rattle.std.proofs.lemmas.Option.{slice_get_within, get_or_from_slice_get}
+use Rattle.flt_bpf.specs.declared.insn.Insn.{Insn}
+use Rattle.flt_bpf.specs.declared.machine.State.{State}
+use Rattle.flt_bpf.specs.declared.operation.Operation.{Operation}
+use Rattle.flt_bpf.specs.declared.operation.Operation.TheVariants.{LoadAbsolute, LoadIndirect, Load, LoadHeaderLength, Store, Compute, Negate, Jump, JumpIf, ReturnConstant, ReturnAccumulator, CopyToIndex, CopyToAccumulator}
+use Rattle.flt_bpf.specs.declared.operation.Register.TheVariants.{Accumulator, Index}
+use Rattle.flt_bpf.specs.declared.operation.Source.TheVariants.{Immediate, Memory, Length}
+use Rattle.flt_bpf.specs.declared.operation.Operand.TheVariants.{Constant, IndexRegister}
+use Rattle.flt_bpf.specs.declared.operation.Test.TheVariants as test
+use Rattle.flt_bpf.specs.declared.operation.AluOperation.TheVariants as arithmetic
+use Rattle.flt_bpf.specs.declared.operation.Width.{Width}
+use Rattle.flt_bpf.specs.declared.operation.Width.TheVariants.{Word, HalfWord, Byte}
+use Rattle.flt_bpf.specs.Instructions.{code_of, operation_of}
+use Rattle.flt_bpf.specs.Machine.{Next, Goes, Ends, Lost, step, does, does_if_known, into, word_into, into_word, holds, field, computed, header_length, Answered, run_from, follow, step_if_there, machine, start}
+use Rattle.flt_gen.specs.declared.alike.Landing.{Landing}
+use Rattle.flt_bpf.specs.Valid.{IsValid}
+use Rattle.flt_gen.specs.Layout.{JUMP}
+use Rattle.flt_gen.specs.Alike.{Replaces, reads_accumulator, reads_index, implied, fits_at, fits, goes_on, same_step, one_test, ANY_BIT, direct_code, is_number, direct_load, insn_from, stands_at, stands, are_alike, begins}
+use Rattle.flt_gen.specs.Follow.{MASK, EQUAL}
+use Rattle.flt_bpf.proofs.Suffix.{answer_of, answer_after, answer_drop, machine_answers}
+use Rattle.flt_gen.proofs.Onward.{both_true}
+use Rattle.flt_gen.proofs.Tails.{tail}
+
+-- how many instructions a run meets behind an instruction, and from a place on
+abbrev pub steps_after : (ℕ → State → ℕ) → Next → ℕ
+steps_after rest (Goes k s) = rest k s
+steps_after rest (Ends a) = 0
+steps_after rest Lost = 0
+
+abbrev pub steps_of : List Insn → List ℕ → ℕ → ℕ → State → ℕ
+steps_of [] p n k s = 0
+steps_of (i ∷ is) p n (suc k) s = steps_of is p n k s
+steps_of (i ∷ is) p n zero s = suc (steps_after (steps_of is p n) (step i p n s))
+
+steps_drop : (c : List Insn) (p : List ℕ) (n k : ℕ) (s : State) → steps_of (drop k c) p n 0 s ≡ steps_of c p n k s
+steps_drop [] p n zero s = refl
+steps_drop [] p n (suc k) s = refl
+steps_drop (i ∷ is) p n zero s = refl
+steps_drop (i ∷ is) p n (suc k) s = steps_drop is p n k s
+
+drop_none : (k : ℕ) → drop {A = Insn} k [] ≡ []
+drop_none zero = refl
+drop_none (suc k) = refl
+
+drop_drop : (j k : ℕ) (c : List Insn) → drop j (drop k c) ≡ drop (k + j) c
+drop_drop j zero c = let e : 0 + j ≡ j = omega arith in ap (λ m. drop m c) (sym e)
+drop_drop j (suc k) [] = drop_none j ∙ sym (drop_none (suc k + j))
+drop_drop j (suc k) (i ∷ c) = let e : suc k + j ≡ suc (k + j) = omega arith in drop_drop j k c ∙ ap (λ m. drop m (i ∷ c)) (sym e)
+
+drop_at : (c : List Insn) (k : ℕ) (j : Insn) → slice_get c k ≡ Some j → drop k c ≡ j ∷ drop (suc k) c
+drop_at [] k j e = cc
+drop_at (i ∷ c) zero j e = let same : i ≡ j = cc in ap (λ z. z ∷ c) same
+drop_at (i ∷ c) (suc k) j e = drop_at c k j e
+
+-- from a place on, code is as good as the old code: it has the same answer in no more instructions
+pub record AsGood (d is : List Insn) (p : List ℕ) (n far k : ℕ) (t s : State) : Type 0 where
+  pub same : answer_of d p n far t ≡ answer_of is p n k s
+  pub few : steps_of d p n far t ≤ steps_of is p n k s
+
+-- the same behind an instruction
+record Follows (d is : List Insn) (p : List ℕ) (n : ℕ) (u v : Next) : Type 0 where
+  same : answer_after (answer_of d p n) u ≡ answer_after (answer_of is p n) v
+  few : steps_after (steps_of d p n) u ≤ steps_after (steps_of is p n) v
+
+-- A and X may differ
+abbrev other : State → ℕ → ℕ → State
+other s a x = record s { accumulator = a; index = x }
+
+-- but not where they are read
+abbrev Same : Bool → ℕ → ℕ → Type 0
+Same b u v = b ≡ true → u ≡ v
+
+implied_same : (b a : Bool) (u v : ℕ) → implied b a ≡ true → Same a u v → Same b u v
+implied_same true a u v e h = λ z. h e
+implied_same false a u v e h = λ z. cc
+
+if_some : (b : Bool) (o : Option Insn) (j : Insn) → (if b then o else None) ≡ Some j → (b ≡ true) × (o ≡ Some j)
+if_some true o j e = (refl, e)
+if_some false o j e = cc
+
+-- the code at a place
+record Stood (c : List Insn) (place : ℕ) (j : Insn) : Type 0 where
+  low : place ≤ length c
+  first : tail c place ≡ j ∷ tail c (place - 1)
+
+stood : (c : List Insn) (place : ℕ) (j : Insn) → 0 < place → insn_from c place ≡ Some j → Stood c place j
+stood c place j some e =
+    let q = if_some (nat_le place (length c)) (slice_get c (length c - place)) j e in
+    let fits = q.0 in
+    let low : place ≤ length c = grind (arith, nat_tests) in
+    let next : suc (length c - place) ≡ length c - (place - 1) = omega arith in
+    record { low = low; first = drop_at c (length c - place) j q.1 ∙ ap (λ k. j ∷ drop k c) next }
+
+module _ (p : List ℕ) (n : ℕ) where
+  -- the code does at a landing what the old code does so far on
+  abbrev pub Lands : List Insn → List Insn → Landing → ℕ → Type 0
+  Lands c is l k = (s : State) (a x : ℕ) → Same l.accumulator a s.accumulator → Same l.index x s.index → AsGood (tail c l.place) is p n 0 k (other s a x) s
+
+  abbrev pub AllLand : List Insn → List Insn → List Landing → Type 0
+  AllLand c is ls = (k : ℕ) (l : Landing) → slice_get ls k ≡ Some l → 0 < l.place → Lands c is l k
+
+  knows_step : (j : Insn) (op : Option Operation) (s : State) → operation_of j.code ≡ op → step j p n s ≡ does_if_known op j p n s
+  unfolding step
+  knows_step j op s e = ap (λ o. does_if_known o j p n s) e
+
+  -- behind the instruction at a place
+  module _ (c is : List Insn) (ls : List Landing) (l : Landing) (all : AllLand c is ls) (low : l.place ≤ length c) where
+    abbrev behind : List Insn
+    behind = tail c (l.place - 1)
+
+    fit_one : (k far : ℕ) (a x : Bool) (o : Option Landing) → slice_get ls k ≡ o → fits_at o far l.place a x ≡ true → (s : State) (u v : ℕ) → Same a u s.accumulator → Same x v s.index → AsGood behind is p n far k (other s u v) s
+    fit_one k far a x None e f s u v h g = cc
+    fit_one k far a x (Some m) e f s u v h g =
+        let q = both_true ((nat_lt 0 m.place && nat_lt m.place l.place) && l.place - m.place - 1 == far) (implied m.accumulator a && implied m.index x) f in
+        let r = both_true (nat_lt 0 m.place && nat_lt m.place l.place) (l.place - m.place - 1 == far) q.0 in
+        let t = both_true (nat_lt 0 m.place) (nat_lt m.place l.place) r.0 in
+        let i = both_true (implied m.accumulator a) (implied m.index x) q.1 in
+        let t0 = t.0 in
+        let t1 = t.1 in
+        let r1 = r.1 in
+        let some : 0 < m.place = grind (arith, nat_tests) in
+        let below : m.place < l.place = grind (arith, nat_tests) in
+        let away : l.place - m.place - 1 ≡ far = grind (arith, nat_tests) in
+        let good = all k m e some s u v (implied_same m.accumulator a u s.accumulator i.0 h) (implied_same m.index x v s.index i.1 g) in
+        let there : length c - m.place ≡ (length c - (l.place - 1)) + far = omega arith in
+        let same_code : drop far behind ≡ tail c m.place = drop_drop far (length c - (l.place - 1)) c ∙ ap (λ z. drop z c) (sym there) in
+        let few = good.few in
+        let steps : steps_of behind p n far (other s u v) ≡ steps_of (tail c m.place) p n 0 (other s u v) = sym (steps_drop behind p n far (other s u v)) ∙ ap (λ z. steps_of z p n 0 (other s u v)) same_code in
+        record {
+          same = sym (answer_drop behind p n far (other s u v)) ∙ ap (λ z. answer_of z p n 0 (other s u v)) same_code ∙ good.same;
+          few = omega arith;
+        }
+
+    fit : (k far : ℕ) (a x : Bool) → fits ls k far l.place a x ≡ true → (s : State) (u v : ℕ) → Same a u s.accumulator → Same x v s.index → AsGood behind is p n far k (other s u v) s
+    fit k far a x f s u v h g = fit_one k far a x (slice_get ls k) refl f s u v h g
+
+    -- one instruction, with the same A and X where they are read
+    module _ (s : State) (a x : ℕ) (ha : Same l.accumulator a s.accumulator) (hx : Same l.index x s.index) where
+      abbrev t : State
+      t = other s a x
+
+      goes : (u v : State) → AsGood behind is p n 0 0 u v → Follows behind is p n (Goes 0 u) (Goes 0 v)
+      goes u v g = record { same = g.same; few = g.few }
+
+      ends : (u v : ℕ) → u ≡ v → Follows behind is p n (Ends u) (Ends v)
+      ends u v e = record { same = ap Some e; few = omega arith }
+
+      lost : Follows behind is p n Lost Lost
+      lost = record { same = refl; few = omega arith }
+
+      to_a : (o : Option ℕ) → fits ls 0 0 l.place true l.index ≡ true → Follows behind is p n (into Accumulator o t) (into Accumulator o s)
+      to_a None f = ends 0 0 refl
+      to_a (Some v) f = goes _ _ (fit 0 0 true l.index f (record s { accumulator = v }) v x (λ z. refl) hx)
+
+      to_x : (o : Option ℕ) → fits ls 0 0 l.place l.accumulator true ≡ true → Follows behind is p n (into Index o t) (into Index o s)
+      to_x None f = ends 0 0 refl
+      to_x (Some v) f = goes _ _ (fit 0 0 l.accumulator true f (record s { index = v }) a v ha (λ z. refl))
+
+      word_to_a : (o : Option ℕ) → fits ls 0 0 l.place true l.index ≡ true → Follows behind is p n (word_into Accumulator o t) (word_into Accumulator o s)
+      word_to_a None f = lost
+      word_to_a (Some v) f = to_a (Some v) f
+
+      word_to_x : (o : Option ℕ) → fits ls 0 0 l.place l.accumulator true ≡ true → Follows behind is p n (word_into Index o t) (word_into Index o s)
+      word_to_x None f = lost
+      word_to_x (Some v) f = to_x (Some v) f
+
+      stored : (b : Bool) (m : List ℕ) → fits ls 0 0 l.place l.accumulator l.index ≡ true → Follows behind is p n (if b then Goes 0 (record t { memory = m }) else Lost) (if b then Goes 0 (record s { memory = m }) else Lost)
+      stored true m f = goes _ _ (fit 0 0 l.accumulator l.index f (record s { memory = m }) a x ha hx)
+      stored false m f = lost
+
+      way : (b : Bool) (hit miss near next : ℕ) → fits ls hit near l.place l.accumulator l.index ≡ true → fits ls miss next l.place l.accumulator l.index ≡ true → Follows behind is p n (Goes (if b then near else next) t) (Goes (if b then hit else miss) s)
+      way true hit miss near next f g = let w = fit hit near l.accumulator l.index f s a x ha hx in record { same = w.same; few = w.few }
+      way false hit miss near next f g = let w = fit miss next l.accumulator l.index g s a x ha hx in record { same = w.same; few = w.few }
+
+      -- what the operation does
+      op_good : (op : Operation) (j i : Insn) → i.k ≡ j.k → implied (reads_accumulator op) l.accumulator ≡ true → implied (reads_index op) l.index ≡ true → goes_on op j l i ls ≡ true → Follows behind is p n (does op j p n t) (does op i p n s)
+      op_good (LoadAbsolute w) j i k ra rx f = subst (λ m. Follows behind is p n (into Accumulator (field p m w) t) (into Accumulator (field p i.k w) s)) k (to_a (field p i.k w) f)
+      op_good (LoadIndirect w) j i k ra rx f =
+          let same : (s.index + i.k) % 2 ^ 32 ≡ (x + j.k) % 2 ^ 32 = ap (λ m. (s.index + m) % 2 ^ 32) k ∙ ap (λ m. (m + j.k) % 2 ^ 32) (sym (hx rx)) in
+          subst (λ m. Follows behind is p n (into Accumulator (field p m w) t) (into Accumulator (field p ((s.index + i.k) % 2 ^ 32) w) s)) same (to_a (field p ((s.index + i.k) % 2 ^ 32) w) f)
+      op_good (Load Accumulator Immediate) j i k ra rx f = subst (λ m. Follows behind is p n (into Accumulator (Some m) t) (into Accumulator (Some i.k) s)) k (to_a (Some i.k) f)
+      op_good (Load Accumulator Length) j i k ra rx f = to_a (Some n) f
+      op_good (Load Accumulator Memory) j i k ra rx f = subst (λ m. Follows behind is p n (word_into Accumulator (slice_get s.memory m) t) (word_into Accumulator (slice_get s.memory i.k) s)) k (word_to_a (slice_get s.memory i.k) f)
+      op_good (Load Index Immediate) j i k ra rx f = subst (λ m. Follows behind is p n (into Index (Some m) t) (into Index (Some i.k) s)) k (to_x (Some i.k) f)
+      op_good (Load Index Length) j i k ra rx f = to_x (Some n) f
+      op_good (Load Index Memory) j i k ra rx f = subst (λ m. Follows behind is p n (word_into Index (slice_get s.memory m) t) (word_into Index (slice_get s.memory i.k) s)) k (word_to_x (slice_get s.memory i.k) f)
+      op_good LoadHeaderLength j i k ra rx f = subst (λ m. Follows behind is p n (into Index (option_map header_length (field p m Byte)) t) (into Index (option_map header_length (field p i.k Byte)) s)) k (to_x (option_map header_length (field p i.k Byte)) f)
+      op_good (Store Accumulator) j i k ra rx f =
+          subst (λ m. Follows behind is p n (into_word m a t) (into_word i.k s.accumulator s)) k (subst (λ v. Follows behind is p n (into_word i.k v t) (into_word i.k s.accumulator s)) (sym (ha ra)) (stored (nat_lt i.k (length s.memory)) (slice_set s.memory i.k s.accumulator) f))
+      op_good (Store Index) j i k ra rx f =
+          subst (λ m. Follows behind is p n (into_word m x t) (into_word i.k s.index s)) k (subst (λ v. Follows behind is p n (into_word i.k v t) (into_word i.k s.index s)) (sym (hx rx)) (stored (nat_lt i.k (length s.memory)) (slice_set s.memory i.k s.index) f))
+      op_good (Compute o Constant) j i k ra rx f =
+          subst (λ m. Follows behind is p n (into Accumulator (computed o a m) t) (into Accumulator (computed o s.accumulator i.k) s)) k (subst (λ v. Follows behind is p n (into Accumulator (computed o v i.k) t) (into Accumulator (computed o s.accumulator i.k) s)) (sym (ha ra)) (to_a (computed o s.accumulator i.k) f))
+      op_good (Compute o IndexRegister) j i k ra rx f =
+          subst (λ m. Follows behind is p n (into Accumulator (computed o a m) t) (into Accumulator (computed o s.accumulator s.index) s)) (sym (hx rx)) (subst (λ v. Follows behind is p n (into Accumulator (computed o v s.index) t) (into Accumulator (computed o s.accumulator s.index) s)) (sym (ha ra)) (to_a (computed o s.accumulator s.index) f))
+      op_good Negate j i k ra rx f =
+          subst (λ v. Follows behind is p n (into Accumulator (Some ((2 ^ 32 - v) % 2 ^ 32)) t) (into Accumulator (Some ((2 ^ 32 - s.accumulator) % 2 ^ 32)) s)) (sym (ha ra)) (to_a (Some ((2 ^ 32 - s.accumulator) % 2 ^ 32)) f)
+      op_good Jump j i k ra rx f = cc
+      op_good (JumpIf o Constant) j i k ra rx f =
+          let q = both_true (fits ls i.jt j.jt l.place l.accumulator l.index) (fits ls i.jf j.jf l.place l.accumulator l.index) f in
+          subst (λ m. Follows behind is p n (Goes (if holds o a m then j.jt else j.jf) t) (Goes (if holds o s.accumulator i.k then i.jt else i.jf) s)) k (subst (λ v. Follows behind is p n (Goes (if holds o v i.k then j.jt else j.jf) t) (Goes (if holds o s.accumulator i.k then i.jt else i.jf) s)) (sym (ha ra)) (way (holds o s.accumulator i.k) i.jt i.jf j.jt j.jf q.0 q.1))
+      op_good (JumpIf o IndexRegister) j i k ra rx f =
+          let q = both_true (fits ls i.jt j.jt l.place l.accumulator l.index) (fits ls i.jf j.jf l.place l.accumulator l.index) f in
+          subst (λ m. Follows behind is p n (Goes (if holds o a m then j.jt else j.jf) t) (Goes (if holds o s.accumulator s.index then i.jt else i.jf) s)) (sym (hx rx)) (subst (λ v. Follows behind is p n (Goes (if holds o v s.index then j.jt else j.jf) t) (Goes (if holds o s.accumulator s.index then i.jt else i.jf) s)) (sym (ha ra)) (way (holds o s.accumulator s.index) i.jt i.jf j.jt j.jf q.0 q.1))
+      op_good ReturnConstant j i k ra rx f = ends j.k i.k (sym k)
+      op_good ReturnAccumulator j i k ra rx f = ends a s.accumulator (ha ra)
+      op_good CopyToIndex j i k ra rx f =
+          subst (λ v. Follows behind is p n (into Index (Some v) t) (into Index (Some s.accumulator) s)) (sym (ha ra)) (to_x (Some s.accumulator) f)
+      op_good CopyToAccumulator j i k ra rx f =
+          subst (λ v. Follows behind is p n (into Accumulator (Some v) t) (into Accumulator (Some s.index) s)) (sym (hx rx)) (to_a (Some s.index) f)
+
+  -- the same instruction
+  same_good : (c is : List Insn) (ls : List Landing) (l : Landing) (all : AllLand c is ls) (low : l.place ≤ length c) (j i : Insn) (op : Option Operation) → operation_of i.code ≡ op → same_step op j l i ls ≡ true → (s : State) (a x : ℕ) → Same l.accumulator a s.accumulator → Same l.index x s.index → AsGood (j ∷ tail c (l.place - 1)) (i ∷ is) p n 0 0 (other s a x) s
+  unfolding same_step
+  same_good c is ls l all low j i None e f s a x ha hx = cc
+  same_good c is ls l all low j i (Some op) e f s a x ha hx =
+      let q = both_true (i.code == j.code && i.k == j.k) ((implied (reads_accumulator op) l.accumulator && implied (reads_index op) l.index) && goes_on op j l i ls) f in
+      let r = both_true (i.code == j.code) (i.k == j.k) q.0 in
+      let r0 = r.0 in
+      let r1 = r.1 in
+      let code : i.code ≡ j.code = grind (arith, nat_tests) in
+      let k : i.k ≡ j.k = grind (arith, nat_tests) in
+      let u = both_true (implied (reads_accumulator op) l.accumulator && implied (reads_index op) l.index) (goes_on op j l i ls) q.1 in
+      let v = both_true (implied (reads_accumulator op) l.accumulator) (implied (reads_index op) l.index) u.0 in
+      let g = op_good c is ls l all low s a x ha hx op j i k v.0 v.1 u.1 in
+      let d = tail c (l.place - 1) in
+      let new = knows_step j (Some op) (other s a x) (ap operation_of (sym code) ∙ e) in
+      let old = knows_step i (Some op) s e in
+      let steps_new = ap (steps_after (steps_of d p n)) new in
+      let steps_old = ap (steps_after (steps_of is p n)) old in
+      let few = g.few in
+      record {
+        same = ap (answer_after (answer_of d p n)) new ∙ g.same ∙ sym (ap (answer_after (answer_of is p n)) old);
+        few = omega arith;
+      }
+
+  mask_is : operation_of 84 ≡ Some (Compute arithmetic.And Constant)
+  unfolding operation_of
+  mask_is = refl
+
+  equal_is : operation_of 21 ≡ Some (JumpIf test.Equal Constant)
+  unfolding operation_of
+  equal_is = refl
+
+  any_bit_is : operation_of 69 ≡ Some (JumpIf test.AnyBit Constant)
+  unfolding operation_of
+  any_bit_is = refl
+
+  number_is : operation_of 0 ≡ Some (Load Accumulator Immediate)
+  unfolding operation_of
+  number_is = refl
+
+  copy_is : operation_of 7 ≡ Some CopyToIndex
+  unfolding operation_of
+  copy_is = refl
+
+  absolute_is : (w : Width) → operation_of (code_of (LoadAbsolute w)) ≡ Some (LoadAbsolute w)
+  unfolding operation_of
+  absolute_is Word = refl
+  absolute_is HalfWord = refl
+  absolute_is Byte = refl
+
+  -- one test for a mask and a test of 0
+  one_good : (c is : List Insn) (ls : List Landing) (l : Landing) (u : Insn) (all : AllLand c (u ∷ is) ls) (low : l.place ≤ length c) (j i : Insn) → one_test j l i (u ∷ is) ls ≡ true → (s : State) (a x : ℕ) → Same l.accumulator a s.accumulator → Same l.index x s.index → AsGood (j ∷ tail c (l.place - 1)) (i ∷ u ∷ is) p n 0 0 (other s a x) s
+  unfolding one_test
+  one_good c is ls l u all low j i f s a x ha hx =
+      let q = both_true ((i.code == MASK && u.code == EQUAL) && (u.k == 0 && (j.code == ANY_BIT && i.k == j.k))) (l.accumulator && (fits ls (1 + u.jt) j.jf l.place false l.index && fits ls (1 + u.jf) j.jt l.place false l.index)) f in
+      let r = both_true (i.code == MASK && u.code == EQUAL) (u.k == 0 && (j.code == ANY_BIT && i.k == j.k)) q.0 in
+      let ra = both_true (i.code == MASK) (u.code == EQUAL) r.0 in
+      let rb = both_true (u.k == 0) (j.code == ANY_BIT && i.k == j.k) r.1 in
+      let rc = both_true (j.code == ANY_BIT) (i.k == j.k) rb.1 in
+      let x0 = ra.0 in
+      let x1 = ra.1 in
+      let x2 = rb.0 in
+      let x3 = rc.0 in
+      let x4 = rc.1 in
+      let masks : i.code ≡ 84 = grind (arith, nat_tests) in
+      let tests : u.code ≡ 21 = grind (arith, nat_tests) in
+      let zero_k : u.k ≡ 0 = grind (arith, nat_tests) in
+      let any : j.code ≡ 69 = grind (arith, nat_tests) in
+      let k : i.k ≡ j.k = grind (arith, nat_tests) in
+      let b = both_true l.accumulator (fits ls (1 + u.jt) j.jf l.place false l.index && fits ls (1 + u.jf) j.jt l.place false l.index) q.1 in
+      let w = both_true (fits ls (1 + u.jt) j.jf l.place false l.index) (fits ls (1 + u.jf) j.jt l.place false l.index) b.1 in
+      let d = tail c (l.place - 1) in
+      let s' : State = record s { accumulator = bit_and s.accumulator i.k } in
+      let z = bit_and s.accumulator i.k == 0 in
+      let first = knows_step i (Some (Compute arithmetic.And Constant)) s (ap operation_of masks ∙ mask_is) in
+      let second = knows_step u (Some (JumpIf test.Equal Constant)) s' (ap operation_of tests ∙ equal_is) ∙ ap (λ m. Goes (if bit_and s.accumulator i.k == m then u.jt else u.jf) s') zero_k in
+      let new = knows_step j (Some (JumpIf test.AnyBit Constant)) (other s a x) (ap operation_of any ∙ any_bit_is)
+      ∙ ap (λ m. Goes (if not (bit_and m j.k == 0) then j.jt else j.jf) (other s a x)) (ha b.0)
+      ∙ ap (λ m. Goes (if not (bit_and s.accumulator m == 0) then j.jt else j.jf) (other s a x)) (sym k) in
+      let g = ways c is ls l u all low j s' a x hx w.0 w.1 z in
+      let few = g.few in
+      let steps_new = ap (steps_after (steps_of d p n)) new in
+      let steps_first = ap (steps_after (steps_of (u ∷ is) p n)) first in
+      let steps_second = ap (steps_after (steps_of is p n)) second in
+      record {
+        same = ap (answer_after (answer_of d p n)) new ∙ g.same ∙ sym (ap (answer_after (answer_of (u ∷ is) p n)) first ∙ ap (answer_after (answer_of is p n)) second);
+        few = omega arith;
+      }
+    where
+      ways : (c is : List Insn) (ls : List Landing) (l : Landing) (u : Insn) (all : AllLand c (u ∷ is) ls) (low : l.place ≤ length c) (j : Insn) (s : State) (a x : ℕ) → Same l.index x s.index → fits ls (1 + u.jt) j.jf l.place false l.index ≡ true → fits ls (1 + u.jf) j.jt l.place false l.index ≡ true → (z : Bool) → Follows (tail c (l.place - 1)) is p n (Goes (if not z then j.jt else j.jf) (other s a x)) (Goes (if z then u.jt else u.jf) s)
+      ways c is ls l u all low j s a x hx f g true =
+          let one : 1 + u.jt ≡ suc u.jt = omega arith in
+          let w = subst (λ m. AsGood (tail c (l.place - 1)) (u ∷ is) p n j.jf m (other s a x) s) one (fit c (u ∷ is) ls l all low (1 + u.jt) j.jf false l.index f s a x (λ q. cc) hx) in
+          record { same = w.same; few = w.few }
+      ways c is ls l u all low j s a x hx f g false =
+          let one : 1 + u.jf ≡ suc u.jf = omega arith in
+          let w = subst (λ m. AsGood (tail c (l.place - 1)) (u ∷ is) p n j.jt m (other s a x) s) one (fit c (u ∷ is) ls l all low (1 + u.jf) j.jt false l.index g s a x (λ q. cc) hx) in
+          record { same = w.same; few = w.few }
+
+  -- one load for a number that goes to X by A, and a load behind X
+  record Direct (old new : ℕ) : Type 0 where
+    width : Width
+    indirect : operation_of old ≡ Some (LoadIndirect width)
+    absolute : operation_of new ≡ Some (LoadAbsolute width)
+
+  direct_is : (old new : ℕ) (o : Option Operation) → operation_of old ≡ o → is_number (direct_code o) new ≡ true → Direct old new
+  direct_is old new (Some (LoadIndirect w)) e f =
+      let same : code_of (LoadAbsolute w) ≡ new = grind (arith, nat_tests) in
+      record { width = w; indirect = e; absolute = ap operation_of (sym same) ∙ absolute_is w }
+  direct_is old new _ e f = cc
+
+  direct_good : (c is : List Insn) (ls : List Landing) (l : Landing) (u v : Insn) (all : AllLand c (u ∷ v ∷ is) ls) (low : l.place ≤ length c) (j i : Insn) → direct_load j l i (u ∷ v ∷ is) ls ≡ true → (s : State) (a x : ℕ) → AsGood (j ∷ tail c (l.place - 1)) (i ∷ u ∷ v ∷ is) p n 0 0 (other s a x) s
+  unfolding direct_load
+  direct_good c is ls l u v all low j i f s a x =
+      let q = both_true ((i.code == 0 && u.code == 7) && (is_number (direct_code (operation_of v.code)) j.code && (i.k + v.k) % 2 ^ 32 == j.k)) (fits ls 2 0 l.place true false) f in
+      let r = both_true (i.code == 0 && u.code == 7) (is_number (direct_code (operation_of v.code)) j.code && (i.k + v.k) % 2 ^ 32 == j.k) q.0 in
+      let ra = both_true (i.code == 0) (u.code == 7) r.0 in
+      let rb = both_true (is_number (direct_code (operation_of v.code)) j.code) ((i.k + v.k) % 2 ^ 32 == j.k) r.1 in
+      let x0 = ra.0 in
+      let x1 = ra.1 in
+      let x2 = rb.1 in
+      let number : i.code ≡ 0 = grind (arith, nat_tests) in
+      let copies : u.code ≡ 7 = grind (arith, nat_tests) in
+      let k : (i.k + v.k) % 2 ^ 32 ≡ j.k = grind (arith, nat_tests) in
+      let w = direct_is v.code j.code (operation_of v.code) refl rb.0 in
+      let d = tail c (l.place - 1) in
+      let s' : State = record s { accumulator = i.k } in
+      let s'' : State = record s { accumulator = i.k; index = i.k } in
+      let first = knows_step i (Some (Load Accumulator Immediate)) s (ap operation_of number ∙ number_is) in
+      let second = knows_step u (Some CopyToIndex) s' (ap operation_of copies ∙ copy_is) in
+      let third = knows_step v (Some (LoadIndirect w.width)) s'' w.indirect ∙ ap (λ m. into Accumulator (field p m w.width) s'') k in
+      let new = knows_step j (Some (LoadAbsolute w.width)) (other s a x) w.absolute in
+      let g = loads c is ls l u v all low s'' a x q.1 (field p j.k w.width) in
+      let few = g.few in
+      let steps_new = ap (steps_after (steps_of d p n)) new in
+      let steps_first = ap (steps_after (steps_of (u ∷ v ∷ is) p n)) first in
+      let steps_second = ap (steps_after (steps_of (v ∷ is) p n)) second in
+      let steps_third = ap (steps_after (steps_of is p n)) third in
+      record {
+        same = ap (answer_after (answer_of d p n)) new ∙ g.same ∙ sym (ap (answer_after (answer_of (u ∷ v ∷ is) p n)) first ∙ ap (answer_after (answer_of (v ∷ is) p n)) second ∙ ap (answer_after (answer_of is p n)) third);
+        few = omega arith;
+      }
+    where
+      loads : (c is : List Insn) (ls : List Landing) (l : Landing) (u v : Insn) (all : AllLand c (u ∷ v ∷ is) ls) (low : l.place ≤ length c) (s : State) (a x : ℕ) → fits ls 2 0 l.place true false ≡ true → (o : Option ℕ) → Follows (tail c (l.place - 1)) is p n (into Accumulator o (other s a x)) (into Accumulator o s)
+      loads c is ls l u v all low s a x f None = record { same = refl; few = omega arith }
+      loads c is ls l u v all low s a x f (Some y) =
+          let w = fit c (u ∷ v ∷ is) ls l all low 2 0 true false f (record s { accumulator = y }) y x (λ q. refl) (λ q. cc) in
+          record { same = w.same; few = w.few }
+
+  or_right : (a b : Bool) → a ≡ false → (a || b) ≡ true → b ≡ true
+  or_right true b e f = cc
+  or_right false b e f = f
+
+  -- by one of three ways
+  one_of : (c is : List Insn) (ls : List Landing) (l : Landing) (all : AllLand c is ls) (low : l.place ≤ length c) (j i : Insn) (same : Bool) → same_step (operation_of i.code) j l i ls ≡ same → (same || (one_test j l i is ls || direct_load j l i is ls)) ≡ true → (s : State) (a x : ℕ) → Same l.accumulator a s.accumulator → Same l.index x s.index → AsGood (j ∷ tail c (l.place - 1)) (i ∷ is) p n 0 0 (other s a x) s
+  unfolding one_test direct_load
+  one_of c is ls l all low j i true e f s a x ha hx = same_good c is ls l all low j i (operation_of i.code) refl e s a x ha hx
+  one_of c is ls l all low j i false e f s a x ha hx = others is all (one_test j l i is ls) refl f
+    where
+      direct : (is : List Insn) → AllLand c is ls → direct_load j l i is ls ≡ true → AsGood (j ∷ tail c (l.place - 1)) (i ∷ is) p n 0 0 (other s a x) s
+      direct [] all g = cc
+      direct (u ∷ []) all g = cc
+      direct (u ∷ v ∷ is) all g = direct_good c is ls l u v all low j i g s a x
+
+      test_of : (is : List Insn) → AllLand c is ls → one_test j l i is ls ≡ true → AsGood (j ∷ tail c (l.place - 1)) (i ∷ is) p n 0 0 (other s a x) s
+      test_of [] all g = cc
+      test_of (u ∷ is) all g = one_good c is ls l u all low j i g s a x ha hx
+
+      others : (is : List Insn) → AllLand c is ls → (one : Bool) → one_test j l i is ls ≡ one → (one || direct_load j l i is ls) ≡ true → AsGood (j ∷ tail c (l.place - 1)) (i ∷ is) p n 0 0 (other s a x) s
+      others is all true g h = test_of is all g
+      others is all false g h = direct is all h
+
+  here : (c is : List Insn) (ls : List Landing) (l : Landing) (i : Insn) → AllLand c is ls → 0 < l.place → (o : Option Insn) → insn_from c l.place ≡ o → stands_at o l i is ls ≡ true → Lands c (i ∷ is) l 0
+  here c is ls l i all some None e f s a x ha hx = cc
+  here c is ls l i all some (Some j) e f s a x ha hx =
+      let st = stood c l.place j some e in
+      subst (λ d. AsGood d (i ∷ is) p n 0 0 (other s a x) s) (sym st.first) (one_of c is ls l all st.low j i (same_step (operation_of i.code) j l i ls) refl f s a x ha hx)
+
+  -- at each landing
+  pub all_land : (c is : List Insn) (ls : List Landing) → length ls ≡ length is → are_alike c is ls ≡ true → AllLand c is ls
+  all_land c [] [] same e k l g some = cc
+  all_land c [] (m ∷ ls) same e k l g some = absurd (omega arith)
+  all_land c (i ∷ is) [] same e k l g some = cc
+  all_land c (i ∷ is) (m ∷ ls) same e (suc k) l g some = λ s a x ha hx.
+      let r = all_land c is ls (omega arith) (both_true (stands c m i is ls) (are_alike c is ls) e).1 k l g some s a x ha hx in
+      record { same = r.same; few = r.few }
+  all_land c (i ∷ is) (m ∷ ls) same e zero l g some =
+      let q = both_true (stands c m i is ls) (are_alike c is ls) e in
+      let is_l : m ≡ l = cc in
+      let here_q : stands c l i is ls ≡ true = subst (λ z. stands c z i is ls ≡ true) is_l q.0 in
+      let none : (l.place == 0) ≡ false = grind (arith, nat_tests) in
+      here c is ls l i (all_land c is ls (omega arith) q.1) some (insn_from c l.place) refl (or_right (l.place == 0) (stands_at (insn_from c l.place) l i is ls) none here_q)
+
+  -- a run's answer and count are those of the code
+  record Met (prog : List Insn) (s : State) (place count a m : ℕ) : Type 0 where
+    answer : answer_of (drop place prog) p n 0 s ≡ Some a
+    steps : m ≡ count + steps_of (drop place prog) p n 0 s
+
+  met_next : (prog : List Insn) (left place count : ℕ) (s : State) (a m : ℕ) → ((k : ℕ) (u : State) → run_from prog p n left (place + 1 + k) u (count + 1) ≡ Answered a m → Met prog u (place + 1 + k) (count + 1) a m) → (i : Insn) (o : Next) → slice_get prog place ≡ Some i → step i p n s ≡ o → follow (run_from prog p n left) place count o ≡ Answered a m → Met prog s place count a m
+  met_next prog left place count s a m later i (Goes k u) g st f =
+      let r = later k u f in
+      let first = drop_at prog place i g in
+      let one : place + 1 + k ≡ suc place + k = omega arith in
+      let rest = ap (λ z. drop z prog) one ∙ sym (drop_drop k (suc place) prog) in
+      let q = r.steps in
+      let steps_first = ap (λ z. steps_of z p n 0 s) first in
+      let steps_step = ap (steps_after (steps_of (drop (suc place) prog) p n)) st in
+      let steps_rest = ap (λ z. steps_of z p n 0 u) rest ∙ steps_drop (drop (suc place) prog) p n k u in
+      record {
+        answer = ap (λ z. answer_of z p n 0 s) first ∙ ap (answer_after (answer_of (drop (suc place) prog) p n)) st ∙ sym (answer_drop (drop (suc place) prog) p n k u) ∙ ap (λ z. answer_of z p n 0 u) (sym rest) ∙ r.answer;
+        steps = omega arith;
+      }
+  met_next prog left place count s a m later i (Ends b) g st f =
+      let first = drop_at prog place i g in
+      let same : b ≡ a = cc in
+      let more : count + 1 ≡ m = cc in
+      let steps_first = ap (λ z. steps_of z p n 0 s) first in
+      let steps_step = ap (steps_after (steps_of (drop (suc place) prog) p n)) st in
+      record {
+        answer = ap (λ z. answer_of z p n 0 s) first ∙ ap (answer_after (answer_of (drop (suc place) prog) p n)) st ∙ ap Some same;
+        steps = omega arith;
+      }
+  met_next prog left place count s a m later i Lost g st f = cc
+
+  met_there : (prog : List Insn) (left place count : ℕ) (s : State) (a m : ℕ) → ((k : ℕ) (u : State) → run_from prog p n left (place + 1 + k) u (count + 1) ≡ Answered a m → Met prog u (place + 1 + k) (count + 1) a m) → (o : Option Insn) → slice_get prog place ≡ o → follow (run_from prog p n left) place count (step_if_there o p n s) ≡ Answered a m → Met prog s place count a m
+  met_there prog left place count s a m later None g f = cc
+  met_there prog left place count s a m later (Some i) g f = met_next prog left place count s a m later i (step i p n s) g refl f
+
+  met_of : (prog : List Insn) (left place count : ℕ) (s : State) (a m : ℕ) → run_from prog p n left place s count ≡ Answered a m → Met prog s place count a m
+  met_of prog zero place count s a m e = cc
+  met_of prog (suc left) place count s a m e =
+      met_there prog left place count s a m (λ k u f. met_of prog left (place + 1 + k) (count + 1) u a m f) (slice_get prog place) refl e
+
+  pub record Shortened (new : List Insn) (answer most : ℕ) : Type 0 where
+    pub met : ℕ
+    pub answered : machine new p n (length new) ≡ Answered answer met
+    pub few : met ≤ most
+    pub inside : met ≤ length new
+
+  -- the new code gives the old one's answer in no more instructions
+  pub shortened : (new old : List Insn) (ls : List Landing) (answer count : ℕ) → length ls ≡ length old → begins ls (length new) ≡ true → are_alike new old ls ≡ true → machine old p n (length old) ≡ Answered answer count → Shortened new answer count
+  shortened new old [] answer count same b e m = cc
+  shortened new old (l ∷ ls) answer count same b e m =
+      let q = both_true (nat_lt 0 l.place) (l.place == length new) b in
+      let q0 = q.0 in
+      let q1 = q.1 in
+      let some : 0 < l.place = grind (arith, nat_tests) in
+      let top : l.place ≡ length new = grind (arith, nat_tests) in
+      let all = all_land new old (l ∷ ls) same e in
+      let good = all 0 l refl some start 0 0 (λ z. refl) (λ z. refl) in
+      let none : length new - l.place ≡ 0 = omega arith in
+      let whole : tail new l.place ≡ new = ap (λ k. drop k new) none in
+      let was = met_of old (length old) 0 0 start answer count m in
+      let a = ap (λ c. answer_of c p n 0 start) (sym whole) ∙ good.same ∙ was.answer in
+      let c = machine_answers new p n answer a in
+      let now = met_of new (length new) 0 0 start answer c.met c.answered in
+      let steps_new = ap (λ z. steps_of z p n 0 start) whole in
+      let few = good.few in
+      let old_steps = was.steps in
+      let new_steps = now.steps in
+      let inside = c.few in
+      record { met = c.met; answered = c.answered; few = omega arith; inside = omega arith }
+
+pub replaced : (new old : List Insn) (ls : List Landing) → length new ≤ length old → length ls ≡ length old → begins ls (length new) ≡ true → are_alike new old ls ≡ true → All (λ i. i.code ≢ JUMP) new → IsValid new → Replaces new old
+replaced new old ls short same b e free valid =
+    record {
+      shorter = short;
+      valid = λ v. valid;
+      runs = λ p n answer count m. let r = shortened p n new old ls answer count same b e m in record { count = r.met; answered = r.answered; few = r.few; inside = r.inside };
+      needed = λ h. record { each = λ place jump g j. absurd (free place jump (slice_get_within new place jump g) (ap (λ i. i.code) (get_or_from_slice_get new place jump jump g) ∙ j)) };
+      no_jump = λ h. free;
+    }
+
+-- each program replaces itself
+pub itself : (old : List Insn) → Replaces old old
+itself old =
+    record {
+      shorter = omega arith;
+      valid = λ v. v;
+      runs = λ p n answer count m. let k = met_of p n old (length old) 0 0 start answer count m in let steps = k.steps in let c = machine_answers old p n answer k.answer in let r = met_of p n old (length old) 0 0 start answer c.met c.answered in let again = r.steps in let few = c.few in record { count = c.met; answered = c.answered; few = omega arith; inside = omega arith };
+      needed = λ h. h;
+      no_jump = λ h. h;
+    }

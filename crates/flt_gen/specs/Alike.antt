@@ -1,0 +1,145 @@
+-- How the instructions of a program replace those of another one that does the same with more of them.
+use Rattle.std.specs.Prelude.{◌≡◌, ◌≢◌, ℕ, ◌+◌, ◌-◌, ◌%◌, ◌^◌, ◌≤◌, ◌==◌, nat_lt, nat_le, Bool, true, false, if◌then◌else◌, ◌&&◌, ◌||◌, List, [], ◌∷◌, length, Option, Some, None, slice_get, All}
+use Rattle.flt_bpf.specs.declared.insn.Insn.{Insn}
+use Rattle.flt_bpf.specs.declared.operation.Operation.{Operation}
+use Rattle.flt_bpf.specs.declared.operation.Operation.TheVariants.{LoadAbsolute, LoadIndirect, Load, LoadHeaderLength, Store, Compute, Negate, Jump, JumpIf, ReturnConstant, ReturnAccumulator, CopyToIndex, CopyToAccumulator}
+use Rattle.flt_bpf.specs.declared.operation.Register.TheVariants.{Accumulator, Index}
+use Rattle.flt_bpf.specs.declared.operation.Source.TheVariants.{Immediate}
+use Rattle.flt_bpf.specs.declared.operation.Operand.TheVariants.{Constant, IndexRegister}
+use Rattle.flt_bpf.specs.declared.operation.Test.TheVariants as test
+use Rattle.flt_bpf.specs.Instructions.{code_of, operation_of}
+use Rattle.flt_bpf.specs.Machine.{machine, Answered}
+use Rattle.flt_bpf.specs.Valid.{IsValid}
+use Rattle.flt_gen.specs.declared.alike.Landing.{Landing}
+use Rattle.flt_gen.specs.Follow.{MASK, EQUAL}
+use Rattle.flt_gen.specs.Layout.{JUMP, JumpsAreNeeded}
+
+-- a run comes to this answer in at most so many instructions
+pub record Comes (prog : List Insn) (p : List ℕ) (n answer most : ℕ) : Type 0 where
+  pub count : ℕ
+  pub answered : machine prog p n (length prog) ≡ Answered answer count
+  pub few : count ≤ most
+  pub inside : count ≤ length prog
+
+-- a program in place of an old one: it is no longer, and on each packet it gives the same answer in no more instructions
+pub record Replaces (new old : List Insn) : Type 0 where
+  pub shorter : length new ≤ length old
+  pub valid : IsValid old → IsValid new
+  pub runs : (p : List ℕ) (n answer count : ℕ) → machine old p n (length old) ≡ Answered answer count → Comes new p n answer count
+  pub needed : JumpsAreNeeded old → JumpsAreNeeded new
+  pub no_jump : All (λ i. i.code ≢ JUMP) old → All (λ i. i.code ≢ JUMP) new
+
+-- an operation reads A, or X
+abbrev pub reads_accumulator : Operation → Bool
+reads_accumulator (Store Accumulator) = true
+reads_accumulator (Compute operator operand) = true
+reads_accumulator Negate = true
+reads_accumulator (JumpIf test operand) = true
+reads_accumulator ReturnAccumulator = true
+reads_accumulator CopyToIndex = true
+reads_accumulator _ = false
+
+abbrev pub reads_index : Operation → Bool
+reads_index (LoadIndirect width) = true
+reads_index (Store Index) = true
+reads_index (Compute operator IndexRegister) = true
+reads_index (JumpIf test IndexRegister) = true
+reads_index CopyToAccumulator = true
+reads_index _ = false
+
+-- it puts something into A, or into X
+abbrev pub sets_accumulator : Operation → Bool
+sets_accumulator (LoadAbsolute width) = true
+sets_accumulator (LoadIndirect width) = true
+sets_accumulator (Load Accumulator source) = true
+sets_accumulator (Compute operator operand) = true
+sets_accumulator Negate = true
+sets_accumulator CopyToAccumulator = true
+sets_accumulator _ = false
+
+abbrev pub sets_index : Operation → Bool
+sets_index (Load Index source) = true
+sets_index LoadHeaderLength = true
+sets_index CopyToIndex = true
+sets_index _ = false
+
+abbrev pub implied : Bool → Bool → Bool
+implied true b = b
+implied false b = true
+
+-- a landing stands so far behind the instruction at a place, and what is read there is the same in both programs: A and X
+-- are, as the two tests say
+abbrev pub fits_at : Option Landing → ℕ → ℕ → Bool → Bool → Bool
+fits_at None far place a x = false
+fits_at (Some l) far place a x =
+    ((nat_lt 0 l.place && nat_lt l.place place) && place - l.place - 1 == far) && (implied l.accumulator a && implied l.index x)
+
+abbrev pub fits : List Landing → ℕ → ℕ → ℕ → Bool → Bool → Bool
+fits ls k far place a x = fits_at (slice_get ls k) far place a x
+
+-- both programs go on alike behind an instruction that both have
+abbrev pub goes_on : Operation → Insn → Landing → Insn → List Landing → Bool
+goes_on Jump j l i ls = false
+goes_on (JumpIf test operand) j l i ls =
+    fits ls i.jt j.jt l.place l.accumulator l.index && fits ls i.jf j.jf l.place l.accumulator l.index
+goes_on ReturnConstant j l i ls = true
+goes_on ReturnAccumulator j l i ls = true
+goes_on op j l i ls = fits ls 0 0 l.place (sets_accumulator op || l.accumulator) (sets_index op || l.index)
+
+-- the instruction j of the new program is the instruction i of the old one
+unfoldable pub same_step : Option Operation → Insn → Landing → Insn → List Landing → Bool
+same_step None j l i ls = false
+same_step (Some op) j l i ls =
+    (i.code == j.code && i.k == j.k) && ((implied (reads_accumulator op) l.accumulator && implied (reads_index op) l.index) && goes_on op j l i ls)
+
+-- the code of a test whether A has a bit of k
+abbrev pub ANY_BIT : ℕ
+ANY_BIT = code_of (JumpIf test.AnyBit Constant)
+
+-- it is one test for a mask and a test of what is left for 0; A isn't read behind it
+unfoldable pub one_test : Insn → Landing → Insn → List Insn → List Landing → Bool
+one_test j l i [] ls = false
+one_test j l i (t ∷ is) ls =
+    ((i.code == MASK && t.code == EQUAL) && (t.k == 0 && (j.code == ANY_BIT && i.k == j.k)))
+    && (l.accumulator && (fits ls (1 + t.jt) j.jf l.place false l.index && fits ls (1 + t.jf) j.jt l.place false l.index))
+
+-- the code of a load at a fixed place that is as wide as one behind X
+abbrev pub direct_code : Option Operation → Option ℕ
+direct_code (Some (LoadIndirect width)) = Some (code_of (LoadAbsolute width))
+direct_code _ = None
+
+abbrev pub is_number : Option ℕ → ℕ → Bool
+is_number None n = false
+is_number (Some m) n = m == n
+
+-- it is one load for a number that goes to X by A, and a load behind X; X isn't read behind it
+unfoldable pub direct_load : Insn → Landing → Insn → List Insn → List Landing → Bool
+direct_load j l i [] ls = false
+direct_load j l i (t ∷ []) ls = false
+direct_load j l i (t ∷ u ∷ is) ls =
+    ((i.code == code_of (Load Accumulator Immediate) && t.code == code_of CopyToIndex)
+    && (is_number (direct_code (operation_of u.code)) j.code && (i.k + u.k) % 2 ^ 32 == j.k))
+    && fits ls 2 0 l.place true false
+
+-- the instruction at a place, which is named by the number of instructions from there to the end
+abbrev pub insn_from : List Insn → ℕ → Option Insn
+insn_from c place = if nat_le place (length c) then slice_get c (length c - place) else None
+
+abbrev pub stands_at : Option Insn → Landing → Insn → List Insn → List Landing → Bool
+stands_at None l i is ls = false
+stands_at (Some j) l i is ls = same_step (operation_of i.code) j l i ls || (one_test j l i is ls || direct_load j l i is ls)
+
+-- the code does at a landing, if it is one, what the instruction i and those behind it do
+abbrev pub stands : List Insn → Landing → Insn → List Insn → List Landing → Bool
+stands c l i is ls = l.place == 0 || stands_at (insn_from c l.place) l i is ls
+
+-- it does at each landing what the old code does there
+abbrev pub are_alike : List Insn → List Insn → List Landing → Bool
+are_alike c [] ls = true
+are_alike c (i ∷ is) [] = false
+are_alike c (i ∷ is) (l ∷ ls) = stands c l i is ls && are_alike c is ls
+
+-- and the first landing is where it begins
+abbrev pub begins : List Landing → ℕ → Bool
+begins [] len = false
+begins (l ∷ ls) len = nat_lt 0 l.place && l.place == len

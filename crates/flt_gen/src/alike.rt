@@ -1,0 +1,294 @@
+//! Whether a program does what an old one does: instruction by instruction, with what is read.
+
+ghost use Rattle.std.specs.Prelude.{◌≡◌, ◌≢◌, ◌↔◌, length, IsTrue, All};
+ghost use Rattle.flt_bpf.specs.Instructions.{operation_of};
+ghost use Rattle.flt_gen.specs.Alike.{Replaces, reads_accumulator, reads_index};
+ghost use Rattle.flt_gen.specs.Alike.{sets_accumulator, sets_index, implied, fits, goes_on};
+ghost use Rattle.flt_gen.specs.Alike.{same_step, one_test, direct_code, is_number, direct_load};
+ghost use Rattle.flt_gen.specs.Alike.{stands, are_alike, begins};
+ghost use Rattle.flt_gen.specs.Layout.{JUMP};
+
+use flt_bpf::insn::Insn;
+use flt_bpf::operation::{AluOperation, Operand, Operation, Register, Source, Test, decode};
+use flt_bpf::program::check_insns;
+
+/// Where a new program does what the old one does from an instruction on, and what is read there
+/// before something else is put into it: so much is the same in both.
+#[derive(Clone, Copy)]
+pub struct Landing {
+    /// The number of instructions of the new program from there to its end, or 0 for nowhere.
+    pub place: usize,
+    pub accumulator: bool,
+    pub index: bool,
+}
+
+/// An operation reads A.
+pub fn reads_accumulator(operation: Operation) -> bool
+    ensures { result ≡ reads_accumulator operation }
+{
+    matches!(
+        operation,
+        Operation::Store(Register::Accumulator)
+            | Operation::Compute(_, _)
+            | Operation::Negate
+            | Operation::JumpIf(_, _)
+            | Operation::ReturnAccumulator
+            | Operation::CopyToIndex
+    )
+}
+
+/// It reads X.
+pub fn reads_index(operation: Operation) -> bool
+    ensures { result ≡ reads_index operation }
+{
+    matches!(
+        operation,
+        Operation::LoadIndirect(_)
+            | Operation::Store(Register::Index)
+            | Operation::Compute(_, Operand::IndexRegister)
+            | Operation::JumpIf(_, Operand::IndexRegister)
+            | Operation::CopyToAccumulator
+    )
+}
+
+/// It puts something into A.
+pub fn sets_accumulator(operation: Operation) -> bool
+    ensures { result ≡ sets_accumulator operation }
+{
+    matches!(
+        operation,
+        Operation::LoadAbsolute(_)
+            | Operation::LoadIndirect(_)
+            | Operation::Load(Register::Accumulator, _)
+            | Operation::Compute(_, _)
+            | Operation::Negate
+            | Operation::CopyToAccumulator
+    )
+}
+
+/// It puts something into X.
+pub fn sets_index(operation: Operation) -> bool
+    ensures { result ≡ sets_index operation }
+{
+    matches!(
+        operation,
+        Operation::Load(Register::Index, _) | Operation::LoadHeaderLength | Operation::CopyToIndex
+    )
+}
+
+fn implied(one: bool, other: bool) -> bool
+    ensures { result ≡ implied one other }
+{
+    if one { other } else { true }
+}
+
+/// How far a way leads: in the old program, of which the landings behind an instruction are given,
+/// and in the new one, behind the instruction at a place.
+#[derive(Clone, Copy)]
+struct Way {
+    pub old: usize,
+    pub new: usize,
+    pub place: usize,
+}
+
+/// Both ways lead to one landing, and what is read there is the same in both programs.
+fn fits(behind: &[Landing], way: Way, accumulator: bool, index: bool) -> bool
+    ensures { result ≡ fits behind.now way.old way.new way.place accumulator index }
+{
+    match behind.get(way.old) {
+        None => false,
+        Some(landing) => {
+            0 < landing.place
+                && landing.place < way.place
+                && way.place - landing.place - 1 == way.new
+                && implied(landing.accumulator, accumulator)
+                && implied(landing.index, index)
+        }
+    }
+}
+
+/// Both programs go on alike behind an instruction that both have.
+fn goes_on(operation: Operation, new: Insn, landing: Landing, old: Insn, behind: &[Landing]) -> bool
+    ensures { result ≡ goes_on operation new landing old behind.now }
+{
+    let Landing {
+        place,
+        accumulator,
+        index,
+    } = landing;
+    match operation {
+        Operation::Jump => false,
+        Operation::JumpIf(_, _) => {
+            let yes = Way {
+                old: usize::from(old.jt),
+                new: usize::from(new.jt),
+                place,
+            };
+            let no = Way {
+                old: usize::from(old.jf),
+                new: usize::from(new.jf),
+                place,
+            };
+            fits(behind, yes, accumulator, index) && fits(behind, no, accumulator, index)
+        }
+        Operation::ReturnConstant | Operation::ReturnAccumulator => true,
+        _ => fits(
+            behind,
+            Way {
+                old: 0,
+                new: 0,
+                place,
+            },
+            sets_accumulator(operation) || accumulator,
+            sets_index(operation) || index,
+        ),
+    }
+}
+
+/// The instruction of the new program is that of the old one.
+#[tactic(auto, unfolding(crate::specs::Alike::same_step))]
+fn same_step(new: Insn, landing: Landing, old: Insn, behind: &[Landing]) -> bool
+    ensures { result ≡ same_step (operation_of old.code) new landing old behind.now }
+{
+    match decode(old.code) {
+        None => false,
+        Some(operation) => {
+            old.code == new.code
+                && old.k == new.k
+                && implied(reads_accumulator(operation), landing.accumulator)
+                && implied(reads_index(operation), landing.index)
+                && goes_on(operation, new, landing, old, behind)
+        }
+    }
+}
+
+/// It is one test of bits for a mask and a test of what is left for 0.
+#[tactic(auto, unfolding(crate::specs::Alike::one_test))]
+fn one_test(new: Insn, landing: Landing, old: Insn, after: &[Insn], behind: &[Landing]) -> bool
+    ensures { result ≡ one_test new landing old after.now behind.now }
+{
+    let mask = Operation::Compute(AluOperation::And, Operand::Constant).code();
+    let equal = Operation::JumpIf(Test::Equal, Operand::Constant).code();
+    let any_bit = Operation::JumpIf(Test::AnyBit, Operand::Constant).code();
+    match after {
+        [] => false,
+        [test, ..] => {
+            let place = landing.place;
+            let zero = Way {
+                old: 1 + usize::from(test.jt),
+                new: usize::from(new.jf),
+                place,
+            };
+            let other = Way {
+                old: 1 + usize::from(test.jf),
+                new: usize::from(new.jt),
+                place,
+            };
+            (old.code == mask && test.code == equal)
+                && (test.k == 0 && (new.code == any_bit && old.k == new.k))
+                && landing.accumulator
+                && fits(behind, zero, false, landing.index)
+                && fits(behind, other, false, landing.index)
+        }
+    }
+}
+
+/// The code of a load at a fixed place is as wide as the one behind X.
+fn is_direct(indirect: u16, code: u16) -> bool
+    ensures { result ≡ is_number (direct_code (operation_of indirect)) code }
+{
+    match decode(indirect) {
+        Some(Operation::LoadIndirect(width)) => Operation::LoadAbsolute(width).code() == code,
+        _ => false,
+    }
+}
+
+/// It is one load for a number that goes to X by A, and a load behind X.
+#[tactic(auto, unfolding(crate::specs::Alike::direct_load))]
+fn direct_load(new: Insn, landing: Landing, old: Insn, after: &[Insn], behind: &[Landing]) -> bool
+    ensures { result ≡ direct_load new landing old after.now behind.now }
+{
+    let number = Operation::Load(Register::Accumulator, Source::Immediate).code();
+    let copy = Operation::CopyToIndex.code();
+    match after {
+        [to_index, load, ..] => {
+            let way = Way {
+                old: 2,
+                new: 0,
+                place: landing.place,
+            };
+            (old.code == number && to_index.code == copy)
+                && (is_direct(load.code, new.code) && old.k.wrapping_add(load.k) == new.k)
+                && fits(behind, way, true, false)
+        }
+        _ => false,
+    }
+}
+
+/// The code does at a landing, if it is one, what an instruction and those behind it do.
+fn stands(code: &[Insn], landing: Landing, old: Insn, after: &[Insn], behind: &[Landing]) -> bool
+    ensures { result ≡ stands code.now landing old after.now behind.now }
+{
+    if landing.place == 0 {
+        return true;
+    }
+    if landing.place > code.len() {
+        return false;
+    }
+    match code.get(code.len() - landing.place) {
+        None => false,
+        Some(new) => {
+            let new = *new;
+            same_step(new, landing, old, behind)
+                || (one_test(new, landing, old, after, behind)
+                    || direct_load(new, landing, old, after, behind))
+        }
+    }
+}
+
+/// The code does at each landing what the old code does there.
+fn are_alike(code: &[Insn], old: &[Insn], landings: &[Landing]) -> bool
+    requires { length landings.now ≡ length old.now }
+    ensures { result ≡ are_alike code.now old.now landings.now }
+{
+    let mut at = 0;
+    // The label names the loop in its proof.
+    'insns: while at < old.len() {
+        let (landing, insn) = (landings[at], old[at]);
+        at += 1;
+        if !stands(code, landing, insn, &old[at..], &landings[at..]) {
+            return false;
+        }
+    }
+    true
+}
+
+/// The first landing is where the code begins.
+fn begins(landings: &[Landing], len: usize) -> bool
+    ensures { result ≡ begins landings.now len }
+{
+    match landings {
+        [] => false,
+        [first, ..] => 0 < first.place && first.place == len,
+    }
+}
+
+fn has_no_jump(code: &[Insn]) -> bool
+    ensures { IsTrue result ↔ All (λ i. i.code ≢ JUMP) code.now }
+{
+    code.iter().all(|insn| insn.code != 5)
+}
+
+/// A program may replace an old one: it does the same by its landings, is valid and no longer,
+/// and has no jump.
+pub fn replaces(code: &[Insn], old: &[Insn], landings: &[Landing]) -> bool
+    ensures { IsTrue result → Replaces code.now old.now }
+{
+    if code.len() > old.len() || landings.len() != old.len() {
+        return false;
+    }
+    if !begins(landings, code.len()) || !are_alike(code, old, landings) {
+        return false;
+    }
+    has_no_jump(code) && check_insns(code).is_ok()
+}

@@ -1,0 +1,375 @@
+//! The same program with fewer instructions: those that no run reaches are left out, a block that
+//! is there already isn't put again, and one instruction replaces several where it does the same.
+
+ghost use Rattle.std.specs.Prelude.{IfOk};
+ghost use Rattle.std.specs.Option.{IfSome};
+ghost use Rattle.flt_gen.specs.Alike.{Replaces};
+
+use crate::alike::{
+    Landing, reads_accumulator, reads_index, replaces, sets_accumulator, sets_index,
+};
+use flt_bpf::insn::Insn;
+use flt_bpf::operation::{AluOperation, Operand, Operation, Register, Source, Test, decode};
+use std::alloc::{AllocError, Allocator};
+
+/// The greatest offset of a conditional jump.
+const NEAR: usize = 255;
+
+const NOWHERE: Landing = Landing {
+    place: 0,
+    accumulator: false,
+    index: false,
+};
+
+/// A landing at a place in front of another one, by what the instruction there reads and sets.
+fn landing_before(operation: Operation, place: usize, next: Landing) -> Landing {
+    Landing {
+        place,
+        accumulator: reads_accumulator(operation)
+            || next.accumulator && !sets_accumulator(operation),
+        index: reads_index(operation) || next.index && !sets_index(operation),
+    }
+}
+
+/// So many instructions behind the next one.
+fn behind(at: usize, offset: usize) -> usize {
+    at.saturating_add(offset).saturating_add(1)
+}
+
+/// The run doesn't just go on at the next instruction.
+fn ends_block(insn: Insn) -> bool {
+    matches!(
+        decode(insn.code),
+        Some(Operation::JumpIf(_, _) | Operation::ReturnConstant | Operation::ReturnAccumulator)
+    )
+}
+
+/// A conditional jump with these offsets, if it reaches so far.
+fn reaching(insn: Insn, yes: usize, no: usize) -> Option<Insn> {
+    if yes <= NEAR && no <= NEAR {
+        let (jt, jf) = (yes as u8, no as u8);
+        Some(Insn { jt, jf, ..insn })
+    } else {
+        None
+    }
+}
+
+/// An instruction put so many instructions farther in front, if its offsets reach so far.
+fn in_front(insn: Insn, farther: usize) -> Option<Insn> {
+    match decode(insn.code) {
+        Some(Operation::JumpIf(_, _)) => reaching(
+            insn,
+            farther.saturating_add(usize::from(insn.jt)),
+            farther.saturating_add(usize::from(insn.jf)),
+        ),
+        _ => Some(insn),
+    }
+}
+
+/// Code that grows from its end to its beginning, while the old code is read so. Where something is
+/// too far, an instruction lands nowhere, and then neither do those that go on there.
+#[derive(Drop)]
+struct Shortening<'a, A: Allocator> {
+    insns: &'a [Insn],
+    landings: Vec<Landing, A>,
+    backwards: Vec<Insn, A>,
+    merges: bool,
+}
+
+impl<A: Allocator> Shortening<'_, A> {
+    fn insn_at(&self, at: usize) -> Option<Insn> {
+        self.insns.get(at).copied()
+    }
+
+    fn landing_at(&self, at: usize) -> Landing {
+        self.landings.get(at).copied().unwrap_or(NOWHERE)
+    }
+
+    fn land(&mut self, at: usize, landing: Landing) {
+        if let Some(here) = self.landings.get_mut(at) {
+            *here = landing;
+        }
+    }
+
+    /// A run comes to an instruction. Until it has its landing, the place says so.
+    fn reach(&mut self, at: usize) {
+        self.land(
+            at,
+            Landing {
+                place: 1,
+                ..NOWHERE
+            },
+        );
+    }
+
+    /// Which instructions a run comes to.
+    fn reach_all(&mut self) {
+        self.reach(0);
+        for (at, insn) in self.insns.iter().enumerate() {
+            if self.landing_at(at).place > 0 {
+                match decode(insn.code) {
+                    Some(Operation::JumpIf(_, _)) => {
+                        self.reach(behind(at, usize::from(insn.jt)));
+                        self.reach(behind(at, usize::from(insn.jf)));
+                    }
+                    Some(Operation::ReturnConstant | Operation::ReturnAccumulator) => {}
+                    _ => self.reach(behind(at, 0)),
+                }
+            }
+        }
+    }
+
+    /// One test of bits for the mask at a place, if a test for 0 is next and A isn't read behind it.
+    fn bits_at(&self, at: usize) -> Option<Insn> {
+        let (mask, test) = (self.insn_at(at)?, self.insn_at(behind(at, 0))?);
+        let equal = Operation::JumpIf(Test::Equal, Operand::Constant).code();
+        let zero = self.landing_at(behind(at, 1 + usize::from(test.jt)));
+        let other = self.landing_at(behind(at, 1 + usize::from(test.jf)));
+        let and = Operation::Compute(AluOperation::And, Operand::Constant).code();
+        if mask.code != and || test.code != equal || test.k != 0 {
+            return None;
+        }
+        if zero.accumulator || other.accumulator {
+            return None;
+        }
+        let code = Operation::JumpIf(Test::AnyBit, Operand::Constant).code();
+        Some(Insn {
+            code,
+            jt: test.jf,
+            jf: test.jt,
+            k: mask.k,
+        })
+    }
+
+    /// One load for the number at a place, if it is only added to the place of a load.
+    fn load_at(&self, at: usize) -> Option<Insn> {
+        let (number, copy) = (self.insn_at(at)?, self.insn_at(behind(at, 0))?);
+        let load = self.insn_at(behind(at, 1))?;
+        let immediate = Operation::Load(Register::Accumulator, Source::Immediate).code();
+        let is_index = number.code == immediate && copy.code == Operation::CopyToIndex.code();
+        match decode(load.code) {
+            Some(Operation::LoadIndirect(width)) => {
+                if is_index && !self.landing_at(behind(at, 2)).index {
+                    let code = Operation::LoadAbsolute(width).code();
+                    let k = number.k.wrapping_add(load.k);
+                    Some(Insn {
+                        code,
+                        jt: 0,
+                        jf: 0,
+                        k,
+                    })
+                } else {
+                    None
+                }
+            }
+            _ => None,
+        }
+    }
+
+    /// An instruction in front replaces this one too.
+    fn is_joined(&self, at: usize) -> bool {
+        at >= 1 && (self.bits_at(at - 1).is_some() || self.load_at(at - 1).is_some())
+            || at >= 2 && self.load_at(at - 2).is_some()
+    }
+
+    /// The place of such a test with such targets, if there is one.
+    fn same_test(&self, insn: Insn, yes: usize, no: usize) -> Option<usize> {
+        let high = self
+            .backwards
+            .len()
+            .min(yes.min(no).saturating_add(NEAR + 1));
+        for at in (yes.max(no)..high).rev() {
+            if let Some(other) = self.backwards.get(at) {
+                let leads_there = usize::from(other.jt) == at.saturating_sub(yes)
+                    && usize::from(other.jf) == at.saturating_sub(no);
+                if leads_there && other.code == insn.code && other.k == insn.k {
+                    return Some(behind(at, 0));
+                }
+            }
+        }
+        None
+    }
+
+    /// A test that goes on where two instructions of the old code land.
+    fn put_test(&mut self, at: usize, insn: Insn, yes: usize, no: usize) -> Result<(), AllocError> {
+        let (yes, no) = (self.landing_at(yes), self.landing_at(no));
+        self.land(at, NOWHERE);
+        let Some(operation) = decode(insn.code) else {
+            return Ok(());
+        };
+        if yes.place == 0 || no.place == 0 {
+            return Ok(());
+        }
+        let next = Landing {
+            place: 0,
+            accumulator: yes.accumulator || no.accumulator,
+            index: yes.index || no.index,
+        };
+        if self.merges {
+            if let Some(place) = self.same_test(insn, yes.place, no.place) {
+                self.land(at, landing_before(operation, place, next));
+                return Ok(());
+            }
+        }
+        let top = self.backwards.len();
+        let offsets = (top.saturating_sub(yes.place), top.saturating_sub(no.place));
+        if let Some(test) = reaching(insn, offsets.0, offsets.1) {
+            self.backwards.push(test)?;
+            self.land(at, landing_before(operation, behind(top, 0), next));
+        }
+        Ok(())
+    }
+
+    /// The block that an instruction lands in, from there to its end, is put again in front.
+    fn put_again(&mut self, from: usize) -> Result<(), AllocError> {
+        let (place, top) = (self.landing_at(from).place, self.backwards.len());
+        let mut low = place;
+        for at in (0..place).rev() {
+            low = at;
+            if self.backwards.get(at).is_none_or(|insn| ends_block(*insn)) {
+                break;
+            }
+        }
+        let farther = top.saturating_sub(low);
+        for at in low..place {
+            let Some(insn) = self.backwards.get(at).copied() else {
+                return Ok(());
+            };
+            let Some(insn) = in_front(insn, farther) else {
+                return Ok(());
+            };
+            self.backwards.push(insn)?;
+        }
+        self.move_block(from, farther);
+        Ok(())
+    }
+
+    /// The instructions of a block of the old code, from one to the last, land farther in front.
+    fn move_block(&mut self, from: usize, farther: usize) {
+        for at in from..self.insns.len() {
+            let landing = self.landing_at(at);
+            if landing.place > 0 {
+                let place = landing.place.saturating_add(farther);
+                self.land(at, Landing { place, ..landing });
+            }
+            if self.insns.get(at).is_none_or(|insn| ends_block(*insn)) {
+                return;
+            }
+        }
+    }
+
+    /// The code has an instruction right in front of a place.
+    fn is_at(&self, place: usize, insn: Insn) -> bool {
+        self.backwards
+            .get(place)
+            .is_some_and(|other| *other == insn)
+    }
+
+    /// Another instruction, behind which the run goes on where one of the old code lands.
+    fn put_plain(&mut self, at: usize, insn: Insn, next: usize) -> Result<(), AllocError> {
+        self.land(at, NOWHERE);
+        let Some(operation) = decode(insn.code) else {
+            return Ok(());
+        };
+        let landing = self.landing_at(next);
+        if landing.place == 0 {
+            return Ok(());
+        }
+        if landing.place < self.backwards.len() {
+            if self.is_at(landing.place, insn) {
+                let place = behind(landing.place, 0);
+                self.land(at, landing_before(operation, place, landing));
+                return Ok(());
+            }
+            self.put_again(next)?;
+        }
+        self.backwards.push(insn)?;
+        let place = self.backwards.len();
+        self.land(at, landing_before(operation, place, landing));
+        Ok(())
+    }
+
+    /// One more instruction of the old code is read.
+    fn read(&mut self, at: usize) -> Result<(), AllocError> {
+        let Some(insn) = self.insn_at(at) else {
+            return Ok(());
+        };
+        if self.landing_at(at).place == 0 || self.is_joined(at) {
+            self.land(at, NOWHERE);
+            return Ok(());
+        }
+        if let Some(test) = self.bits_at(at) {
+            let (yes, no) = (1 + usize::from(test.jt), 1 + usize::from(test.jf));
+            return self.put_test(at, test, behind(at, yes), behind(at, no));
+        }
+        if let Some(load) = self.load_at(at) {
+            return self.put_plain(at, load, behind(at, 2));
+        }
+        match decode(insn.code) {
+            Some(Operation::JumpIf(_, _)) => {
+                let (yes, no) = (usize::from(insn.jt), usize::from(insn.jf));
+                self.put_test(at, insn, behind(at, yes), behind(at, no))
+            }
+            Some(operation @ (Operation::ReturnConstant | Operation::ReturnAccumulator)) => {
+                self.backwards.push(insn)?;
+                let place = self.backwards.len();
+                self.land(at, landing_before(operation, place, NOWHERE));
+                Ok(())
+            }
+            _ => self.put_plain(at, insn, behind(at, 0)),
+        }
+    }
+}
+
+/// The shorter program, if what was made replaces the old one.
+fn attempt<A: Allocator + Clone>(
+    alloc: A,
+    insns: &[Insn],
+    merges: bool,
+) -> Result<Option<Vec<Insn, A>>, AllocError>
+    ensures { IfOk result
+        (λ outcome. IfSome outcome (λ short. Replaces short.items insns.now)) }
+{
+    let landings = vec![in alloc.clone()?; NOWHERE; insns.len()]?;
+    let backwards = Vec::with_capacity(alloc, insns.len())?;
+    let mut shortening = Shortening {
+        insns,
+        landings,
+        backwards,
+        merges,
+    };
+    shortening.reach_all();
+    for at in (0..insns.len()).rev() {
+        shortening.read(at)?;
+    }
+    let Shortening {
+        insns: _,
+        landings,
+        mut backwards,
+        merges: _,
+    } = shortening;
+    backwards.reverse();
+    if replaces(&backwards, insns, &landings) {
+        Ok(Some(backwards))
+    } else {
+        Ok(None)
+    }
+}
+
+/// A program that replaces an old one: it gives the same answers, in no more instructions. Where
+/// blocks that are put once are too far for some jump, they are put where they were, and where that
+/// fails, as it does for a program with a jump (`ja`), it is the old program.
+pub fn shortened<A: Allocator + Clone>(
+    alloc: A,
+    insns: Vec<Insn, A>,
+) -> Result<Vec<Insn, A>, AllocError>
+    ensures { IfOk result (λ short. Replaces short.items insns.items) }
+{
+    if let Some(short) = attempt(alloc.clone()?, &insns, true)? {
+        return Ok(short);
+    }
+    if let Some(short) = attempt(alloc, &insns, false)? {
+        return Ok(short);
+    }
+    Ok(insns)
+}

@@ -1,0 +1,355 @@
+/* Writes units between pages that can't be touched, holds their bytes against a second encoder, and
+ * reads files of them back, by capkit_next and by libpcap. usage: writes SEED ROUNDS */
+#include <capkit.h>
+#include <pcap/pcap.h>
+#include <stdio.h>
+#include <stdlib.h>
+#include "guard.h"
+
+enum kind { HEADER, RECORD, SECTION, INTERFACE, PACKET, KINDS };
+
+struct unit {
+    enum kind kind;
+    uint32_t nanoseconds, snap, original, interface;
+    uint16_t link_type;
+    uint64_t time;
+    const uint8_t *bytes; /* a packet's, or a name */
+    size_t captured;
+    const char *comment;
+    size_t comment_length;
+};
+
+static uint8_t *first, *second, want[GUARDED];
+static size_t size, wrong, whole, no_room, refused, files, packets;
+
+/* ---- the second encoder */
+
+static void put(uint64_t number, int bytes)
+{
+    for (; bytes; bytes--, number >>= 8)
+        want[size++] = number;
+}
+
+static void put_padded(const void *bytes, size_t length)
+{
+    if (length)
+        memcpy(want + size, bytes, length);
+    for (size += length; size % 4;)
+        put(0, 1);
+}
+
+static void put_option(int code, const void *bytes, size_t length)
+{
+    put(code, 2);
+    put(length, 2);
+    put_padded(bytes, length);
+}
+
+static void put_block(uint32_t type, const struct unit *u)
+{
+    put(type, 4);
+    put(0, 4);
+    if (u->kind == SECTION) {
+        put(0x1a2b3c4d, 4);
+        put(1, 4);
+        put(UINT64_MAX, 8);
+    } else if (u->kind == INTERFACE) {
+        put(u->link_type, 4);
+        put(u->snap, 4);
+        if (u->captured)
+            put_option(2, u->bytes, u->captured);
+        put_option(9, "\x09", 1);
+        put(0, 4);
+    } else {
+        put(u->interface, 4);
+        put(u->time >> 32, 4);
+        put(u->time, 4);
+        put(u->captured, 4);
+        put(u->original, 4);
+        put_padded(u->bytes, u->captured);
+        if (u->comment_length) {
+            put_option(1, u->comment, u->comment_length);
+            put(0, 4);
+        }
+    }
+    size_t end = size;
+    size = 4;
+    put(end + 4, 4);
+    size = end;
+    put(end + 4, 4);
+}
+
+static void encode(const struct unit *u)
+{
+    size = 0;
+    switch (u->kind) {
+    case HEADER:
+        put(u->nanoseconds ? 0xa1b23c4d : 0xa1b2c3d4, 4);
+        put(2, 2);
+        put(4, 2);
+        put(0, 8);
+        put(262144, 4);
+        put(u->link_type, 4);
+        break;
+    case RECORD:
+        put(u->time / 1000000000, 4);
+        put(u->time % 1000000000 / (u->nanoseconds ? 1 : 1000), 4);
+        put(u->captured, 4);
+        put(u->original, 4);
+        memcpy(want + size, u->bytes, u->captured);
+        size += u->captured;
+        break;
+    case SECTION:
+        put_block(0x0a0d0d0a, u);
+        break;
+    case INTERFACE:
+        put_block(1, u);
+        break;
+    default:
+        put_block(6, u);
+    }
+}
+
+/* The first check that a unit fails, or 0. */
+static uint32_t refusal(const struct unit *u)
+{
+    size_t comment = u->comment_length ? 8 + (u->comment_length + 3) / 4 * 4 : 0;
+    if (u->kind == INTERFACE)
+        return u->captured > 255 ? CAPKIT_BAD_OPTION : 0;
+    if (u->kind == RECORD)
+        return u->time >> 63                        ? CAPKIT_TIME_OUT_OF_RANGE
+               : u->captured > 262144               ? CAPKIT_UNIT_TOO_LONG
+               : u->time / 1000000000 > 0xffffffffu ? CAPKIT_TIME_OUT_OF_RANGE
+                                                    : 0;
+    if (u->kind == PACKET)
+        return u->time >> 63               ? CAPKIT_TIME_OUT_OF_RANGE
+               : u->comment_length > 65535 ? CAPKIT_BAD_OPTION
+               : 32 + (u->captured + 3) / 4 * 4 + comment > CAPKIT_MOST_UNIT ? CAPKIT_UNIT_TOO_LONG
+               : u->interface >= 4096 ? CAPKIT_TOO_MANY_OUTPUT_INTERFACES
+                                      : 0;
+    return 0;
+}
+
+static uint32_t call(const struct unit *u, uint8_t *buffer, size_t room, size_t *length)
+{
+    switch (u->kind) {
+    case HEADER:
+        return capkit_write_file_header(u->nanoseconds, u->link_type, buffer, room, length);
+    case RECORD:
+        return capkit_write_record(u->nanoseconds, u->time, u->original, u->bytes, u->captured,
+                                   buffer, room, length);
+    case SECTION:
+        return capkit_write_section(buffer, room, length);
+    case INTERFACE:
+        return capkit_write_interface(u->link_type, u->snap, (const char *)u->bytes, u->captured,
+                                      buffer, room, length);
+    default:
+        return capkit_write_packet(u->interface, u->time, u->original, u->bytes, u->captured,
+                                   u->comment, u->comment_length, buffer, room, length);
+    }
+}
+
+/* ---- one unit in buffers of several sizes */
+
+static int is_filled(const uint8_t *bytes, size_t length)
+{
+    size_t i;
+    for (i = 0; i < length; i++)
+        if (bytes[i] != 0xa5)
+            return 0;
+    return 1;
+}
+
+static void in_room(const struct unit *u, uint32_t refuses, size_t room)
+{
+    size_t length = 77;
+    char name[64];
+    uint8_t *buffer = room ? place(second, room) : NULL;
+    if (room)
+        memset(buffer, 0xa5, room);
+    uint32_t status = call(u, buffer, room, &length);
+    if (refuses) {
+        wrong += status != refuses || length != 0 || !is_filled(buffer, room);
+        refused++;
+    } else if (room < size) {
+        wrong += status != CAPKIT_NO_ROOM_IN_BUFFER || length != size || !is_filled(buffer, room);
+        no_room++;
+    } else {
+        wrong += status != CAPKIT_WRITTEN || length != size || memcmp(buffer, want, size) ||
+                 !is_filled(buffer + size, room - size);
+        whole++;
+    }
+    wrong += status && !capkit_found_text(status, name, sizeof name);
+}
+
+/* Mostly small, at times at a limit. */
+static size_t some_length(size_t small, size_t limit)
+{
+    return rnd() % 200 ? rnd() % small : limit - 4 + rnd() % 8;
+}
+
+static struct unit some_unit(void)
+{
+    struct unit u = {.kind = rnd() % KINDS,
+                     .nanoseconds = rnd() % 2,
+                     .snap = rnd(),
+                     .original = rnd(),
+                     .interface = rnd() % 50 ? rnd() % 4096 : rnd()};
+    u.link_type = rnd();
+    u.time = ((uint64_t)rnd() << 32 | rnd()) >> rnd() % 4;
+    u.captured = u.kind == INTERFACE ? some_length(20, 256)
+                 : u.kind == RECORD  ? some_length(200, 262144)
+                 : u.kind == PACKET  ? some_length(200, CAPKIT_MOST_UNIT - 32)
+                                     : 0;
+    u.comment_length = u.kind == PACKET && rnd() % 2 ? some_length(60, 65536) : 0;
+    uint8_t *bytes = place(first, u.captured + u.comment_length);
+    size_t i;
+    for (i = 0; i < u.captured + u.comment_length && i < 300; i++)
+        bytes[i] = rnd();
+    u.bytes = bytes;
+    u.comment = (const char *)bytes + u.captured;
+    return u;
+}
+
+static void random_units(size_t rounds)
+{
+    for (; rounds; rounds--) {
+        struct unit u = some_unit();
+        uint32_t refuses = refusal(&u);
+        if (refuses)
+            size = rnd() % 100;
+        else
+            encode(&u);
+        in_room(&u, refuses, 0);
+        in_room(&u, refuses, size ? size - 1 : 0);
+        in_room(&u, refuses, size);
+        in_room(&u, refuses, size + rnd() % 20);
+    }
+}
+
+/* ---- files, read back */
+
+static uint8_t file[1 << 20];
+
+static size_t append(const struct unit *u, size_t at)
+{
+    size_t length;
+    wrong += call(u, file + at, sizeof file - at, &length) != CAPKIT_WRITTEN;
+    return at + length;
+}
+
+static struct unit packet_for(int form, uint32_t nanoseconds, uint32_t interfaces)
+{
+    struct unit u;
+    do {
+        u = some_unit();
+        u.kind = form;
+        u.nanoseconds = nanoseconds;
+        u.interface = rnd() % interfaces;
+        if (form == RECORD)
+            u.comment_length = 0;
+    } while (u.captured > 1000 || u.comment_length > 1000 || refusal(&u));
+    if (form == RECORD && !nanoseconds)
+        u.time -= u.time % 1000;
+    return u;
+}
+
+static void read_packet(const struct unit *u, const struct unit *described, size_t end,
+                        struct capkit_reader *reader, pcap_t *theirs)
+{
+    static struct capkit_interface interfaces[CAPKIT_MOST_INTERFACES];
+    struct capkit_packet p;
+    char comment[1000];
+    uint32_t found;
+    while ((found = capkit_next(reader, interfaces, CAPKIT_MOST_INTERFACES, file, end, &p)) ==
+           CAPKIT_NO_PACKET)
+        ;
+    packets++;
+    wrong += found != CAPKIT_PACKET || p.time != u->time || p.original != u->original ||
+             p.captured != u->captured || p.link_type != described->link_type ||
+             memcmp(file + p.at, u->bytes, u->captured) ||
+             p.snap != (u->kind == RECORD ? 262144 : described->snap) ||
+             capkit_comment(reader, file, end, &p, comment, sizeof comment) != u->comment_length ||
+             memcmp(comment, u->comment, u->comment_length);
+    if (theirs) {
+        struct pcap_pkthdr *h;
+        const u_char *bytes;
+        wrong += pcap_next_ex(theirs, &h, &bytes) != 1 || h->caplen != u->captured ||
+                 h->len != u->original || memcmp(bytes, u->bytes, u->captured) ||
+                 (uint64_t)h->ts.tv_sec != u->time / 1000000000 ||
+                 (uint64_t)h->ts.tv_usec != u->time % 1000000000;
+    }
+}
+
+static void random_file(void)
+{
+    struct unit units[40], described[8];
+    int form = rnd() % 2 ? RECORD : PACKET, nanoseconds = rnd() % 2;
+    uint32_t interfaces = form == RECORD ? 1 : 1 + rnd() % 8, i, count = rnd() % 40;
+    static uint8_t kept[40][2000];
+    static char names[8][300];
+    size_t end = 0;
+    char why[PCAP_ERRBUF_SIZE];
+    struct unit start = {.kind = form == RECORD ? HEADER : SECTION,
+                         .nanoseconds = nanoseconds,
+                         .link_type = rnd() % 200};
+    end = append(&start, end);
+    described[0] = start;
+    for (i = 0; form == PACKET && i < interfaces; i++) {
+        described[i] = some_unit();
+        described[i].kind = INTERFACE;
+        described[i].captured %= 256;
+        if (interfaces == 1)
+            described[i].link_type = 1, described[i].snap = 262144;
+        memcpy(names[i], described[i].bytes, described[i].captured);
+        described[i].bytes = (uint8_t *)names[i];
+        end = append(&described[i], end);
+    }
+    for (i = 0; i < count; i++) {
+        units[i] = packet_for(form, nanoseconds, interfaces);
+        memcpy(kept[i], units[i].bytes, units[i].captured + units[i].comment_length);
+        units[i].bytes = kept[i];
+        units[i].comment = (char *)kept[i] + units[i].captured;
+        /* libpcap reads seconds of pcap as signed numbers */
+        units[i].time %= form == RECORD ? 2000000000000000000u : UINT64_MAX;
+        if (form == RECORD && !nanoseconds)
+            units[i].time -= units[i].time % 1000;
+        end = append(&units[i], end);
+    }
+    FILE *again = fmemopen(file, end, "rb");
+    pcap_t *theirs =
+        interfaces == 1
+            ? pcap_fopen_offline_with_tstamp_precision(again, PCAP_TSTAMP_PRECISION_NANO, why)
+            : NULL;
+    struct capkit_reader reader = {0};
+    struct capkit_packet p;
+    struct capkit_interface interface[8];
+    files++;
+    wrong += interfaces == 1 && !theirs;
+    for (i = 0; i < count; i++)
+        read_packet(&units[i], &described[form == RECORD ? 0 : units[i].interface], end, &reader,
+                    theirs);
+    while (capkit_next(&reader, interface, 8, file, end, &p) == CAPKIT_NO_PACKET)
+        ;
+    wrong +=
+        capkit_next(&reader, interface, 8, file, end, &p) != CAPKIT_END || reader.offset != end;
+    if (theirs)
+        pcap_close(theirs);
+    else
+        fclose(again);
+}
+
+int main(int argc, char **argv)
+{
+    size_t rounds = argc > 2 ? atol(argv[2]) : 1000, i;
+    seed = (argc > 1 ? atol(argv[1]) : 1) * 0x9e3779b97f4a7c15u + 1;
+    first = guarded();
+    second = guarded();
+    random_units(rounds);
+    for (i = 0; i < rounds / 20; i++)
+        random_file();
+    printf("%zu units written, %zu without room, %zu refused; %zu files with %zu packets read "
+           "back; broken promises: %zu\n",
+           whole, no_room, refused, files, packets, wrong);
+    return wrong != 0;
+}
