@@ -36,8 +36,8 @@ fn small_heaps_are_enough(rt: HostRuntime) -> Result<(), Fail> {
         (1_536usize, Work::Infos, 10_000u32, 1usize, 211usize),
         // 1,888: 976, and the tokens, the tree and the code of the expression.
         (3_072, Work::Print("tcp"), 10_000, 1, 10_000 * 77),
-        // 29,056: 976, and 999 marks of 20 bytes with a link of 4 each, and 1,024 heads of 4.
-        (32_768, Work::Edit(1_000), 100_000, 1, 24 + 50_000 * 76),
+        // 33,044: 976, and 999 marks of 20 bytes with links of 8 each, and 1,024 heads of 4.
+        (36_864, Work::Edit(1_000), 100_000, 1, 24 + 50_000 * 76),
         // 116,016: names 12,336, inputs 6,144, states 49,152 and the lists before them 48,384, in
         // whose place the records and the order of the merge come.
         (131_072, Work::Merge, 10, 256, 28 + 32 + 2_560 * 92),
