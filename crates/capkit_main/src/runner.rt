@@ -15,7 +15,7 @@ use crate::progress::{Counted, Progress};
 use crate::streams::{Created, Opened};
 use crate::{FAULT, USAGE, tell};
 use cap_filter::Command;
-use cap_octet::{StdInput, StdOutput};
+use cap_octet::{Input, Output, StdInput, StdOutput};
 use capkit::{Line, STANDARD, with_code};
 use std::alloc::{AllocError, AllocFailed};
 use std::io::{BufReader, BufWriter, ErrorKind, Read, Write};
@@ -176,15 +176,38 @@ fn run_over<'a>(
     let target = target(rt, created, is_waited_for, held)?;
     names.push(String::from_str(rt.alloc(), output)?)?;
     let messages = buffered(BufWriter::new(rt.alloc(), rt.stderr()))?;
-    let (status, target, messages) = cap_tools::run(
-        rt.alloc(),
-        command,
-        names,
-        inputs,
-        StdOutput::new(target),
-        StdOutput::new(messages),
-    );
+    let (out, err) = (StdOutput::new(target), StdOutput::new(messages));
+    let (status, target, messages) = run_job(rt, command, names, inputs, out, err);
     progress.erase();
+    finish(status, target, messages, output)
+}
+
+/// Runs the command over its devices: a function of its own, since what a run promises is dear to
+/// check over types as long as those of files and standard streams.
+fn run_job<I: Input + Drop, O: Output, E: Output>(
+    rt: &HostRuntime,
+    command: Command,
+    names: Vec<String>,
+    inputs: Vec<I>,
+    out: O,
+    err: E,
+) -> (u8, O, E)
+    requires proper { is_proper command (vec_len inputs) ≡ true }
+    ensures { result.0 ≤ 2 }
+{
+    cap_tools::run(rt.alloc(), command, names, inputs, out, err)
+}
+
+/// Writes what is buffered, and tells the run's message and how its output ended.
+fn finish<'a, W: Write + Drop>(
+    status: u8,
+    target: StdOutput<Outlet<'_>>,
+    messages: StdOutput<W>,
+    output: &'a str,
+) -> Result<u8, Stop<'a>>
+    requires { status ≤ 2 }
+    ensures { IfOk result (λ status. status ≤ 2) }
+{
     let (mut target, cause) = target.into_inner();
     let flushed = settle(status, &mut target).err().map(|error| error.kind());
     let (messages, _) = messages.into_inner();
