@@ -85,7 +85,8 @@ gzip -9n "$tree"/usr/share/man/man1/*
 install -m 644 "$root"/samples/* "$documents/samples/"
 install -m 644 "$root/bench/draw_listing.py" "$root/bench/make_capture.py" "$documents/bench/"
 # A link to a page that isn't in the package becomes its text.
-for page in README.md docs/*.md docs/inside/FORMATS.md docs/inside/MACHINE.md; do
+# shellcheck disable=SC2046  # the pages have names without spaces
+for page in README.md $(cd "$root" && echo docs/*.md) docs/inside/FORMATS.md docs/inside/MACHINE.md; do
     install -D -m 644 "$root/$page" "$documents/$page"
 done
 for page in "$documents"/*.md "$documents"/docs/*.md "$documents"/docs/inside/*.md; do

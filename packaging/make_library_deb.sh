@@ -11,7 +11,8 @@ umask 022
 
 root=$(CDPATH='' cd -- "$(dirname -- "$0")/.." && pwd -P)
 number=$(cat "$root/packaging/version")
-version=$number-1
+# This revision sorts before -1, that of the first package that a distribution makes.
+version=$number-0local1
 architecture=$(dpkg --print-architecture)
 triplet=$(dpkg-architecture -qDEB_HOST_MULTIARCH 2>/dev/null || gcc -print-multiarch)
 name=${DEBFULLNAME:-$(git -C "$root" config user.name)}
