@@ -51,6 +51,12 @@ pub fn subcommand_named(name: &str) -> Subcommand
 /// What an input is.
 const FILE_HELP: &str = "The capture that is read, or - for standard input";
 
+/// What the output is.
+const OUTPUT_HELP: &str = "The capture that is written, or - for standard output";
+
+/// What the ranges are.
+const RANGE_HELP: &str = "Packets by their numbers from 1 on: N, or N-M from N to M";
+
 /// What the other inputs are.
 const MORE_HELP: &str = "More captures";
 
@@ -63,10 +69,10 @@ fn selecting<'a>(alloc: Global, command: Command<'a>) -> Result<Command<'a>, All
     ensures local { IfOk result (λ after. (fields_of after).has_globals
         ≡ (fields_of command.entry).has_globals) }
 {
-    let keep = keep_arg(alloc);
-    let start = start_arg(alloc);
-    let stop = stop_arg(alloc);
-    let after = command.arg(keep)?.arg(start)?.arg(stop)?;
+    let after = command
+        .arg(keep_arg(alloc))?
+        .arg(start_arg(alloc))?
+        .arg(stop_arg(alloc))?;
     Ok(after)
 }
 
@@ -76,10 +82,10 @@ fn shortening<'a>(alloc: Global, command: Command<'a>) -> Result<Command<'a>, Al
     ensures local { IfOk result (λ after. (fields_of after).has_globals
         ≡ (fields_of command.entry).has_globals) }
 {
-    let start = chop_start_arg(alloc);
-    let end = chop_end_arg(alloc);
-    let snap = snap_arg(alloc);
-    let after = command.arg(start)?.arg(end)?.arg(snap)?;
+    let after = command
+        .arg(chop_start_arg(alloc))?
+        .arg(chop_end_arg(alloc))?
+        .arg(snap_arg(alloc))?;
     Ok(after)
 }
 
@@ -89,10 +95,10 @@ fn shifting<'a>(alloc: Global, command: Command<'a>) -> Result<Command<'a>, Allo
     ensures local { IfOk result (λ after. (fields_of after).has_globals
         ≡ (fields_of command.entry).has_globals) }
 {
-    let later = later_arg(alloc);
-    let earlier = earlier_arg(alloc);
-    let window = window_arg(alloc);
-    let after = command.arg(later)?.arg(earlier)?.arg(window)?;
+    let after = command
+        .arg(later_arg(alloc))?
+        .arg(earlier_arg(alloc))?
+        .arg(window_arg(alloc))?;
     Ok(after)
 }
 
@@ -102,10 +108,10 @@ fn lining<'a>(alloc: Global, command: Command<'a>) -> Result<Command<'a>, AllocE
     ensures local { IfOk result (λ after. (fields_of after).has_globals
         ≡ (fields_of command.entry).has_globals) }
 {
-    let count = count_arg(alloc);
-    let link = link_header_arg(alloc);
-    let bytes = bytes_arg(alloc);
-    let after = command.arg(count)?.arg(link)?.arg(bytes)?;
+    let after = command
+        .arg(count_arg(alloc))?
+        .arg(link_header_arg(alloc))?
+        .arg(bytes_arg(alloc))?;
     Ok(after)
 }
 
@@ -113,25 +119,17 @@ fn edit_command<'a>(alloc: Global, formats: &'a [&'a str]) -> Result<Command<'a>
     ensures shape { IfOk result (λ command. app_of command ≡ edit_app (Names formats.entry)) }
     ensures local { IfOk result (λ command. (fields_of command).has_globals ≡ false) }
 {
-    let format = format_arg(alloc, formats);
-    let input = file_arg(alloc, "IN", FILE_HELP);
-    let output = file_arg(
-        alloc,
-        "OUT",
-        "The capture that is written, or - for standard output",
-    );
-    let ranges = many_arg(
-        alloc,
-        "RANGE",
-        "Packets by their numbers from 1 on: N, or N-M from N to M",
-    );
     let bare = Command::new(alloc, "edit")
         .about("Select packets of a capture, change them, and leave out duplicates")
         .after_help(EDIT_HELP);
     let selected = selecting(alloc, bare)?;
     let shortened = shortening(alloc, selected)?;
     let shifted = shifting(alloc, shortened)?;
-    let command = shifted.arg(format)?.arg(input)?.arg(output)?.arg(ranges)?;
+    let command = shifted
+        .arg(format_arg(alloc, formats))?
+        .arg(file_arg(alloc, "IN", FILE_HELP))?
+        .arg(file_arg(alloc, "OUT", OUTPUT_HELP))?
+        .arg(many_arg(alloc, "RANGE", RANGE_HELP))?;
     Ok(command)
 }
 
@@ -139,19 +137,14 @@ fn merge_command<'a>(alloc: Global, formats: &'a [&'a str]) -> Result<Command<'a
     ensures shape { IfOk result (λ command. app_of command ≡ merge_app (Names formats.entry)) }
     ensures local { IfOk result (λ command. (fields_of command).has_globals ≡ false) }
 {
-    let append = append_arg(alloc);
-    let format = format_arg(alloc, formats);
-    let output = output_arg(alloc);
-    let input = file_arg(alloc, "FILE", FILE_HELP);
-    let more = many_arg(alloc, "MORE", MORE_HELP);
     let command = Command::new(alloc, "merge")
         .about("Write the packets of captures as one capture, by time")
         .after_help(MERGE_HELP)
-        .arg(append)?
-        .arg(format)?
-        .arg(output)?
-        .arg(input)?
-        .arg(more)?;
+        .arg(append_arg(alloc))?
+        .arg(format_arg(alloc, formats))?
+        .arg(output_arg(alloc))?
+        .arg(file_arg(alloc, "FILE", FILE_HELP))?
+        .arg(many_arg(alloc, "MORE", MORE_HELP))?;
     Ok(command)
 }
 
@@ -159,13 +152,11 @@ fn infos_command<'a>(alloc: Global) -> Result<Command<'a>, AllocError>
     ensures shape { IfOk result (λ command. app_of command ≡ infos_app) }
     ensures local { IfOk result (λ command. (fields_of command).has_globals ≡ false) }
 {
-    let input = file_arg(alloc, "FILE", FILE_HELP);
-    let more = many_arg(alloc, "MORE", MORE_HELP);
     let command = Command::new(alloc, "infos")
         .about("Write a report on each capture")
         .after_help(INFOS_HELP)
-        .arg(input)?
-        .arg(more)?;
+        .arg(file_arg(alloc, "FILE", FILE_HELP))?
+        .arg(many_arg(alloc, "MORE", MORE_HELP))?;
     Ok(command)
 }
 
@@ -173,21 +164,16 @@ fn print_command<'a>(alloc: Global, formats: &'a [&'a str]) -> Result<Command<'a
     ensures shape { IfOk result (λ command. app_of command ≡ print_app (Names formats.entry)) }
     ensures local { IfOk result (λ command. (fields_of command).has_globals ≡ false) }
 {
-    let output = capture_arg(alloc);
-    let format = long_format_arg(alloc, formats);
-    let listing = listing_arg(alloc);
-    let input = file_arg(alloc, "FILE", FILE_HELP);
-    let words = many_arg(alloc, "WORD", WORD_HELP);
     let bare = Command::new(alloc, "print")
         .about("Print or write the packets that match an expression or a listing")
         .after_help(PRINT_HELP);
     let lined = lining(alloc, bare)?;
     let command = lined
-        .arg(output)?
-        .arg(format)?
-        .arg(listing)?
-        .arg(input)?
-        .arg(words)?;
+        .arg(capture_arg(alloc))?
+        .arg(long_format_arg(alloc, formats))?
+        .arg(listing_arg(alloc))?
+        .arg(file_arg(alloc, "FILE", FILE_HELP))?
+        .arg(many_arg(alloc, "WORD", WORD_HELP))?;
     Ok(command)
 }
 
@@ -195,13 +181,11 @@ fn compile_command<'a>(alloc: Global, links: &'a [&'a str]) -> Result<Command<'a
     ensures shape { IfOk result (λ command. app_of command ≡ compile_app (Names links.entry)) }
     ensures local { IfOk result (λ command. (fields_of command).has_globals ≡ false) }
 {
-    let link = link_arg(alloc, links);
-    let words = many_arg(alloc, "WORD", WORD_HELP);
     let command = Command::new(alloc, "compile")
         .about("Write the listing of a program that an expression compiles to")
         .after_help(COMPILE_HELP)
-        .arg(link)?
-        .arg(words)?;
+        .arg(link_arg(alloc, links))?
+        .arg(many_arg(alloc, "WORD", WORD_HELP))?;
     Ok(command)
 }
 
@@ -213,21 +197,21 @@ fn line_command<'a>(alloc: Global) -> Result<Command<'a>, AllocError>
     let formats = FORMATS.as_slice();
     let links = LINKS.as_slice();
     let edit = edit_command(alloc, formats)?;
-    let merge = merge_command(alloc, formats)?;
-    let infos = infos_command(alloc)?;
-    let print = print_command(alloc, formats)?;
-    let compile = compile_command(alloc, links)?;
-    let command = Command::new(alloc, "capkit")
+    let with_edit = Command::new(alloc, "capkit")
         .about("A workbench for saved packet captures")
         .after_help(LINE_HELP)
         .version(VERSION)
         .subcommand_required(true)
         .disable_help_subcommand(true)
-        .subcommand(edit)?
-        .subcommand(merge)?
-        .subcommand(infos)?
-        .subcommand(print)?
-        .subcommand(compile)?;
+        .subcommand(edit)?;
+    let merge = merge_command(alloc, formats)?;
+    let with_merge = with_edit.subcommand(merge)?;
+    let infos = infos_command(alloc)?;
+    let with_infos = with_merge.subcommand(infos)?;
+    let print = print_command(alloc, formats)?;
+    let with_print = with_infos.subcommand(print)?;
+    let compile = compile_command(alloc, links)?;
+    let command = with_print.subcommand(compile)?;
     Ok(command)
 }
 

@@ -5,7 +5,7 @@ use Rattle.capkit.proofs.arguments.compile_command.Goals as goal
 
 pub returns-clause-shape : goal.returns-clause-shape
 returns-clause-shape c =
-    c.in_ok-command.ensures.shape c.many_arg-words.ensures.local
-    ∙ ap₂ with_rule (c.in_ok-arg.ensures.shape c.link_arg-link.ensures.local
-    ∙ ap₂ with_rule (ap app_of_fields c.after_help.ensures ∙ ap app_of_fields c.about.ensures ∙ c.new.ensures.app) c.link_arg-link.ensures.rule)
-    c.many_arg-words.ensures.rule
+    c.in_ok-command.ensures.shape c.many_arg.ensures.local
+    ∙ ap₂ with_rule (c.in_ok-arg.ensures.shape c.link_arg.ensures.local
+    ∙ ap₂ with_rule (ap app_of_fields c.after_help.ensures ∙ ap app_of_fields c.about.ensures ∙ c.new.ensures.app) c.link_arg.ensures.rule)
+    c.many_arg.ensures.rule

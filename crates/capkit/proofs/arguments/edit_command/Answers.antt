@@ -6,14 +6,14 @@ use Rattle.capkit.proofs.arguments.edit_command.Goals as goal
 
 pub returns-clause-shape : goal.returns-clause-shape
 returns-clause-shape c =
-    c.in_ok-command.ensures.shape c.many_arg-ranges.ensures.local
-    ∙ ap₂ with_rule (c.in_ok-arg-3.ensures.shape c.file_arg-output.ensures.local
-    ∙ ap₂ with_rule (c.in_ok-arg-2.ensures.shape c.file_arg-input.ensures.local
-    ∙ ap₂ with_rule (c.in_ok-arg.ensures.shape c.format_arg-format.ensures.local
+    c.in_ok-command.ensures.shape c.many_arg.ensures.local
+    ∙ ap₂ with_rule (c.in_ok-arg-3.ensures.shape c.file_arg-2.ensures.local
+    ∙ ap₂ with_rule (c.in_ok-arg-2.ensures.shape c.file_arg.ensures.local
+    ∙ ap₂ with_rule (c.in_ok-arg.ensures.shape c.format_arg.ensures.local
     ∙ ap₂ with_rule (c.in_ok-shifted.ensures.shape ∙ ap shifting (c.in_ok-shortened.ensures.shape
     ∙ ap shortening (c.in_ok-selected.ensures.shape
     ∙ ap selecting (ap app_of_fields c.after_help-bare.ensures ∙ ap app_of_fields c.about.ensures ∙ c.new.ensures.app))))
-    c.format_arg-format.ensures.rule)
-    c.file_arg-input.ensures.rule)
-    c.file_arg-output.ensures.rule)
-    c.many_arg-ranges.ensures.rule
+    c.format_arg.ensures.rule)
+    c.file_arg.ensures.rule)
+    c.file_arg-2.ensures.rule)
+    c.many_arg.ensures.rule

@@ -5,7 +5,7 @@ use Rattle.capkit.proofs.arguments.infos_command.Goals as goal
 
 pub returns-clause-shape : goal.returns-clause-shape
 returns-clause-shape c =
-    c.in_ok-command.ensures.shape c.many_arg-more.ensures.local
-    ∙ ap₂ with_rule (c.in_ok-arg.ensures.shape c.file_arg-input.ensures.local
-    ∙ ap₂ with_rule (ap app_of_fields c.after_help.ensures ∙ ap app_of_fields c.about.ensures ∙ c.new.ensures.app) c.file_arg-input.ensures.rule)
-    c.many_arg-more.ensures.rule
+    c.in_ok-command.ensures.shape c.many_arg.ensures.local
+    ∙ ap₂ with_rule (c.in_ok-arg.ensures.shape c.file_arg.ensures.local
+    ∙ ap₂ with_rule (ap app_of_fields c.after_help.ensures ∙ ap app_of_fields c.about.ensures ∙ c.new.ensures.app) c.file_arg.ensures.rule)
+    c.many_arg.ensures.rule

@@ -31,10 +31,10 @@ returns c =
       ap (map (λ name. name.now)) c.as_slice-formats.ensures,
       ap (map (λ name. name.now)) c.as_slice-links.ensures,
       c.in_ok-command.ensures.shape c.in_ok-compile.ensures.local
-          ∙ ap₂ with_subcommand (c.in_ok-subcommand-4.ensures.shape c.in_ok-print.ensures.local
-          ∙ ap₂ with_subcommand (c.in_ok-subcommand-3.ensures.shape c.in_ok-infos.ensures.local
-          ∙ ap₂ with_subcommand (c.in_ok-subcommand-2.ensures.shape c.in_ok-merge.ensures.local
-          ∙ ap₂ with_subcommand (c.in_ok-subcommand.ensures.shape c.in_ok-edit.ensures.local
+          ∙ ap₂ with_subcommand (c.in_ok-with_print.ensures.shape c.in_ok-print.ensures.local
+          ∙ ap₂ with_subcommand (c.in_ok-with_infos.ensures.shape c.in_ok-infos.ensures.local
+          ∙ ap₂ with_subcommand (c.in_ok-with_merge.ensures.shape c.in_ok-merge.ensures.local
+          ∙ ap₂ with_subcommand (c.in_ok-with_edit.ensures.shape c.in_ok-edit.ensures.local
           ∙ ap₂ with_subcommand alone (ap (λ (a : App). a.top) c.in_ok-edit.ensures.shape))
           (ap (λ (a : App). a.top) c.in_ok-merge.ensures.shape))
           (ap (λ (a : App). a.top) c.in_ok-infos.ensures.shape))

@@ -5,15 +5,15 @@ use Rattle.capkit.proofs.arguments.lining.Goals as goal
 
 pub returns-clause-shape : goal.returns-clause-shape
 returns-clause-shape c =
-    c.in_ok-after.ensures.shape c.bytes_arg-bytes.ensures.local
-    ∙ ap₂ with_rule (c.in_ok-arg-2.ensures.shape c.link_header_arg-link.ensures.local
-    ∙ ap₂ with_rule (c.in_ok-arg.ensures.shape c.count_arg-count.ensures.local
-    ∙ ap₂ with_rule refl c.count_arg-count.ensures.rule)
-    c.link_header_arg-link.ensures.rule)
-    c.bytes_arg-bytes.ensures.rule
+    c.in_ok-after.ensures.shape c.bytes_arg.ensures.local
+    ∙ ap₂ with_rule (c.in_ok-arg-2.ensures.shape c.link_header_arg.ensures.local
+    ∙ ap₂ with_rule (c.in_ok-arg.ensures.shape c.count_arg.ensures.local
+    ∙ ap₂ with_rule refl c.count_arg.ensures.rule)
+    c.link_header_arg.ensures.rule)
+    c.bytes_arg.ensures.rule
 
 pub returns-clause-local : goal.returns-clause-local
 returns-clause-local c =
-    stays _ _ _ c.in_ok-after.ensures.globals c.bytes_arg-bytes.ensures.local
-    ∙ stays _ _ _ c.in_ok-arg-2.ensures.globals c.link_header_arg-link.ensures.local
-    ∙ stays _ _ _ c.in_ok-arg.ensures.globals c.count_arg-count.ensures.local
+    stays _ _ _ c.in_ok-after.ensures.globals c.bytes_arg.ensures.local
+    ∙ stays _ _ _ c.in_ok-arg-2.ensures.globals c.link_header_arg.ensures.local
+    ∙ stays _ _ _ c.in_ok-arg.ensures.globals c.count_arg.ensures.local

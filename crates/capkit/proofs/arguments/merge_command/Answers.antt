@@ -5,12 +5,12 @@ use Rattle.capkit.proofs.arguments.merge_command.Goals as goal
 
 pub returns-clause-shape : goal.returns-clause-shape
 returns-clause-shape c =
-    c.in_ok-command.ensures.shape c.many_arg-more.ensures.local
-    ∙ ap₂ with_rule (c.in_ok-arg-4.ensures.shape c.file_arg-input.ensures.local
-    ∙ ap₂ with_rule (c.in_ok-arg-3.ensures.shape c.output_arg-output.ensures.local
-    ∙ ap₂ with_rule (c.in_ok-arg-2.ensures.shape c.format_arg-format.ensures.local
-    ∙ ap₂ with_rule (c.in_ok-arg.ensures.shape c.append_arg-append.ensures.local
-    ∙ ap₂ with_rule (ap app_of_fields c.after_help.ensures ∙ ap app_of_fields c.about.ensures ∙ c.new.ensures.app) c.append_arg-append.ensures.rule) c.format_arg-format.ensures.rule)
-    c.output_arg-output.ensures.rule)
-    c.file_arg-input.ensures.rule)
-    c.many_arg-more.ensures.rule
+    c.in_ok-command.ensures.shape c.many_arg.ensures.local
+    ∙ ap₂ with_rule (c.in_ok-arg-4.ensures.shape c.file_arg.ensures.local
+    ∙ ap₂ with_rule (c.in_ok-arg-3.ensures.shape c.output_arg.ensures.local
+    ∙ ap₂ with_rule (c.in_ok-arg-2.ensures.shape c.format_arg.ensures.local
+    ∙ ap₂ with_rule (c.in_ok-arg.ensures.shape c.append_arg.ensures.local
+    ∙ ap₂ with_rule (ap app_of_fields c.after_help.ensures ∙ ap app_of_fields c.about.ensures ∙ c.new.ensures.app) c.append_arg.ensures.rule) c.format_arg.ensures.rule)
+    c.output_arg.ensures.rule)
+    c.file_arg.ensures.rule)
+    c.many_arg.ensures.rule

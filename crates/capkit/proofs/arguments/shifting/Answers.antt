@@ -5,15 +5,15 @@ use Rattle.capkit.proofs.arguments.shifting.Goals as goal
 
 pub returns-clause-shape : goal.returns-clause-shape
 returns-clause-shape c =
-    c.in_ok-after.ensures.shape c.window_arg-window.ensures.local
-    ∙ ap₂ with_rule (c.in_ok-arg-2.ensures.shape c.earlier_arg-earlier.ensures.local
-    ∙ ap₂ with_rule (c.in_ok-arg.ensures.shape c.later_arg-later.ensures.local
-    ∙ ap₂ with_rule refl c.later_arg-later.ensures.rule)
-    c.earlier_arg-earlier.ensures.rule)
-    c.window_arg-window.ensures.rule
+    c.in_ok-after.ensures.shape c.window_arg.ensures.local
+    ∙ ap₂ with_rule (c.in_ok-arg-2.ensures.shape c.earlier_arg.ensures.local
+    ∙ ap₂ with_rule (c.in_ok-arg.ensures.shape c.later_arg.ensures.local
+    ∙ ap₂ with_rule refl c.later_arg.ensures.rule)
+    c.earlier_arg.ensures.rule)
+    c.window_arg.ensures.rule
 
 pub returns-clause-local : goal.returns-clause-local
 returns-clause-local c =
-    stays _ _ _ c.in_ok-after.ensures.globals c.window_arg-window.ensures.local
-    ∙ stays _ _ _ c.in_ok-arg-2.ensures.globals c.earlier_arg-earlier.ensures.local
-    ∙ stays _ _ _ c.in_ok-arg.ensures.globals c.later_arg-later.ensures.local
+    stays _ _ _ c.in_ok-after.ensures.globals c.window_arg.ensures.local
+    ∙ stays _ _ _ c.in_ok-arg-2.ensures.globals c.earlier_arg.ensures.local
+    ∙ stays _ _ _ c.in_ok-arg.ensures.globals c.later_arg.ensures.local

@@ -5,15 +5,15 @@ use Rattle.capkit.proofs.arguments.shortening.Goals as goal
 
 pub returns-clause-shape : goal.returns-clause-shape
 returns-clause-shape c =
-    c.in_ok-after.ensures.shape c.snap_arg-snap.ensures.local
-    ∙ ap₂ with_rule (c.in_ok-arg-2.ensures.shape c.chop_end_arg-end.ensures.local
-    ∙ ap₂ with_rule (c.in_ok-arg.ensures.shape c.chop_start_arg-start.ensures.local
-    ∙ ap₂ with_rule refl c.chop_start_arg-start.ensures.rule)
-    c.chop_end_arg-end.ensures.rule)
-    c.snap_arg-snap.ensures.rule
+    c.in_ok-after.ensures.shape c.snap_arg.ensures.local
+    ∙ ap₂ with_rule (c.in_ok-arg-2.ensures.shape c.chop_end_arg.ensures.local
+    ∙ ap₂ with_rule (c.in_ok-arg.ensures.shape c.chop_start_arg.ensures.local
+    ∙ ap₂ with_rule refl c.chop_start_arg.ensures.rule)
+    c.chop_end_arg.ensures.rule)
+    c.snap_arg.ensures.rule
 
 pub returns-clause-local : goal.returns-clause-local
 returns-clause-local c =
-    stays _ _ _ c.in_ok-after.ensures.globals c.snap_arg-snap.ensures.local
-    ∙ stays _ _ _ c.in_ok-arg-2.ensures.globals c.chop_end_arg-end.ensures.local
-    ∙ stays _ _ _ c.in_ok-arg.ensures.globals c.chop_start_arg-start.ensures.local
+    stays _ _ _ c.in_ok-after.ensures.globals c.snap_arg.ensures.local
+    ∙ stays _ _ _ c.in_ok-arg-2.ensures.globals c.chop_end_arg.ensures.local
+    ∙ stays _ _ _ c.in_ok-arg.ensures.globals c.chop_start_arg.ensures.local
