@@ -1,5 +1,5 @@
 //! Each row of the tables of lines, with `-e`.
-use crate::shown::{Case, check};
+use crate::printing::shown::{Case, check};
 use cap_octet::Packet;
 use cap_print::{Options, Text, write_line};
 use std::test::Fail;

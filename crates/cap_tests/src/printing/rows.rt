@@ -1,5 +1,5 @@
 //! The rows of `-x`.
-use crate::shown::{Case, check};
+use crate::printing::shown::{Case, check};
 use cap_octet::{Packet, TrialOutput};
 use cap_print::{Options, Text, print_packet};
 use std::test::Fail;

@@ -1,6 +1,6 @@
 //! Reads of the device over std's readers, each beside what the reader did in that call.
-use crate::courses::{CAPACITIES, Course, FAILING, LARGEST, LONG, PIECES};
-use crate::marked::{Counts, MarkedReader, are_marks};
+use crate::devices::courses::{CAPACITIES, Course, FAILING, LARGEST, LONG, PIECES};
+use crate::devices::marked::{Counts, MarkedReader, are_marks};
 use cap_octet::{DeviceFault, Input, StdInput, read_full};
 use std::alloc::AllocGlobal;
 use std::cell::Cell;

@@ -1,7 +1,7 @@
 //! What a source returns and reads after its end or its error.
 ghost use Rattle.std.specs.Prelude.{refl, true};
 
-use crate::captures::{PACKET, SECTION, capture, joined, read_on};
+use crate::streams::captures::{PACKET, SECTION, capture, joined, read_on};
 use cap_io::Source;
 use cap_octet::{DeviceFault, Fault, Input, MemInput};
 use std::alloc::Global;

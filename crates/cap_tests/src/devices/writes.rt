@@ -1,6 +1,6 @@
 //! Writes of the device over std's writers, each beside what the writer did in that call.
-use crate::courses::{CAPACITIES, Course, FAILING, LARGEST, LONG, PIECES};
-use crate::marked::{Counts, MarkedWriter, write_marks};
+use crate::devices::courses::{CAPACITIES, Course, FAILING, LARGEST, LONG, PIECES};
+use crate::devices::marked::{Counts, MarkedWriter, write_marks};
 use cap_octet::{DeviceFault, Output, StdOutput, write_all};
 use std::alloc::AllocGlobal;
 use std::cell::Cell;

@@ -1,5 +1,5 @@
 //! How often a source and a sink take memory.
-use crate::captures::{HEADER, capture, joined, packet, read_on, returns};
+use crate::streams::captures::{HEADER, capture, joined, packet, read_on, returns};
 use cap_io::{Sink, Source};
 use cap_octet::{Fault, Format, MemInput, MemOutput};
 use cap_trial::Trial;

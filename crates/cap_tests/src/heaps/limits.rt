@@ -5,8 +5,8 @@
 //! that begins with room for 4 and doubles, and the longest unit of each input. The sums below were
 //! also found by looking for the least heap; the heaps of the tests leave room for a few fields.
 
-use crate::captures::{capture, longest_blocks};
-use crate::fixed::{Work, run_in};
+use crate::heaps::captures::{capture, longest_blocks};
+use crate::heaps::fixed::{Work, run_in};
 use std::test::Fail;
 
 /// The bytes that a merge of twice 16 of the longest blocks writes: a section, an interface with

@@ -5,7 +5,7 @@ mod memory;
 mod packets;
 mod readings;
 
-use crate::tests::packets::Packet;
+use crate::compiler::packets::Packet;
 use flt_bpf::{Program, run};
 use flt_gen::{Link, generate};
 use flt_lang::{Checked, check, parse, resolve};

@@ -1,5 +1,5 @@
 //! What a sink refuses, in which order, and that it stays refused.
-use crate::captures::packet;
+use crate::streams::captures::packet;
 use cap_io::Sink;
 use cap_octet::{Fault, Format, MemOutput, Packet};
 use std::alloc::Global;

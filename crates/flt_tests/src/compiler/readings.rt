@@ -1,7 +1,7 @@
 //! Which packets match.
 
 use super::{compiled, expect};
-use crate::tests::packets::{Packet, SYN, SYN_OF_IP6, fragment, tcp};
+use crate::compiler::packets::{Packet, SYN, SYN_OF_IP6, fragment, tcp};
 use flt_bpf::{Program, run};
 use flt_gen::Link;
 use std::alloc::{AllocError, Global};

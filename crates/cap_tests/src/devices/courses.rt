@@ -1,7 +1,7 @@
 //! How many bytes go through a device in a test, and how.
 ghost use Rattle.std.specs.Prelude.{◌≤◌};
 
-use crate::marked::Manner;
+use crate::devices::marked::Manner;
 use std::io::ErrorKind;
 
 /// So many bytes go through a buffer of this capacity, in calls of these sizes by turns.

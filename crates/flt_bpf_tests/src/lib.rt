@@ -1,5 +1,0 @@
-//! Tests of flt_bpf.
-#![tactic(auto)]
-
-#[cfg(test)]
-mod tests;

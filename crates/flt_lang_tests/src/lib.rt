@@ -1,5 +1,0 @@
-//! Tests of flt_lang.
-#![tactic(auto)]
-
-#[cfg(test)]
-mod tests;

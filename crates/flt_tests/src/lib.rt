@@ -1,0 +1,11 @@
+//! Tests of the filter language, its machine and the compiler.
+#![tactic(auto)]
+
+#[cfg(test)]
+mod compiler;
+#[cfg(test)]
+mod expressions;
+#[cfg(test)]
+mod machine;
+#[cfg(test)]
+mod tokens;

@@ -1,5 +1,0 @@
-//! Tests of flt_words.
-#![tactic(auto)]
-
-#[cfg(test)]
-mod tests;
