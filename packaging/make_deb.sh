@@ -11,26 +11,8 @@ set -eu
 umask 022
 
 root=$(CDPATH='' cd -- "$(dirname -- "$0")/.." && pwd -P)
-release=$(cat "$root/packaging/version")
-# This revision sorts before -1, that of the first package that a distribution makes.
-version=$release-0local1
-architecture=$(dpkg --print-architecture)
-name=${DEBFULLNAME:-$(git -C "$root" config user.name 2>/dev/null || :)}
-email=${DEBEMAIL:-$(git -C "$root" config user.email 2>/dev/null || :)}
-if [ -z "$name" ] || [ -z "$email" ]; then
-    printf '%s: the package needs a maintainer: set DEBFULLNAME and DEBEMAIL (git has no user.name or user.email)\n' "$0" >&2
-    exit 1
-fi
-# A tarball may be unpacked in another repository.
-if [ -e "$root/.git" ]; then
-    made=$(git -C "$root" log -1 --format=%ct)
-    built="As built from the sources at $(git -C "$root" rev-parse --short=12 HEAD)."
-else
-    made=$(date -r "$root/CHANGELOG.md" +%s)
-    built="As built from the sources of release $release."
-fi
-SOURCE_DATE_EPOCH=${SOURCE_DATE_EPOCH:-$made}
-export SOURCE_DATE_EPOCH
+# shellcheck source=packaging/common.sh
+. "$root/packaging/common.sh"
 
 if [ $# -gt 0 ]; then
     program=$1
@@ -49,8 +31,6 @@ case $("$program" --version) in
     ;;
 esac
 
-work=$(mktemp -d)
-trap 'rm -rf "$work"' EXIT
 tree=$work/tree
 documents=$tree/usr/share/doc/capkit
 mkdir -p "$tree/DEBIAN" "$documents/bench" "$documents/samples"
@@ -84,46 +64,20 @@ gzip -9n "$tree"/usr/share/man/man1/*
 # The documents that a user reads, the samples, and what the recipes call beside them.
 install -m 644 "$root"/samples/* "$documents/samples/"
 install -m 644 "$root/bench/draw_listing.py" "$root/bench/make_capture.py" "$documents/bench/"
-# A link to a page that isn't in the package becomes its text.
 # shellcheck disable=SC2046  # the pages have names without spaces
 for page in README.md $(cd "$root" && echo docs/*.md) docs/inside/FORMATS.md docs/inside/MACHINE.md; do
     install -D -m 644 "$root/$page" "$documents/$page"
 done
 for page in "$documents"/*.md "$documents"/docs/*.md "$documents"/docs/inside/*.md; do
-    awk -v folder="${page%/*}/" '
-        {
-            shown = ""
-            while (match($0, /\]\([^)]*\)/)) {
-                target = substr($0, RSTART + 2, RLENGTH - 3)
-                text = substr($0, 1, RSTART - 1)
-                path = target
-                sub(/#.*/, "", path)
-                is_dead = path != "" && path !~ /^[a-z]+:/ && (getline line < (folder path)) < 0
-                close(folder path)
-                if (is_dead && match(text, /.*\[/))
-                    shown = shown substr(text, 1, RLENGTH - 1) substr(text, RLENGTH + 1)
-                else
-                    shown = shown text "](" target ")"
-                $0 = substr($0, length(text) + length(target) + 4)
-            }
-            print shown $0
-        }' "$page" >"$work/page"
-    install -m 644 "$work/page" "$page"
+    drop_dead_links "$page"
 done
 ln -s samples "$documents/examples"
 install -m 644 "$root/packaging/copyright" "$documents/"
-cat >"$documents/changelog.Debian" <<END
-capkit ($version) unstable; urgency=medium
-
-  * $built
-
- -- $name <$email>  $(LC_ALL=C date -Ru -d "@$SOURCE_DATE_EPOCH")
-END
-gzip -9n "$documents/changelog.Debian"
+write_changelog "$documents/changelog.Debian.gz"
 gzip -9nc "$root/CHANGELOG.md" >"$documents/changelog.gz"
 
 # What dpkg reads.
-(cd "$tree" && find usr -type f -exec md5sum {} +) | LC_ALL=C sort -k 2 >"$tree/DEBIAN/md5sums"
+write_sums "$tree"
 cat >"$tree/DEBIAN/control" <<END
 Package: capkit
 Version: $version
