@@ -334,7 +334,7 @@ def build(program):
     with lock() as held:
         if program.exists():
             return
-        say("proving and building the program: once, about an hour of processor time")
+        say("proving and building the program: once, over an hour of processor time")
         crates = crates_of((ROOT / "crates.txt").read_text())
         tidy()
         measure(crates)
