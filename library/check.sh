@@ -21,7 +21,8 @@ done >out/filter.txt
 cmp out/filter.txt tests/filter.txt || bad=1
 test "$(nm -D --defined-only out/libcapkit.so.0 | grep -vc ' T capkit_')" = 0 || { echo 'other names are visible'; bad=1; }
 if have c++; then
-    echo '#include <capkit.h>' | c++ -std=c++11 -Wall -Wextra -pedantic -Werror -Iinclude -fsyntax-only -x c++ - || bad=1
+    printf '#include <capkit.h>\nint main() { size_t most; return capkit_bound("tcp", 3, &most) != CAPKIT_OK; }\n' >out/plus.cc
+    c++ -std=c++11 -Wall -Wextra -pedantic -Werror -Iinclude -o out/plus out/plus.cc out/libcapkit.a && out/plus || bad=1
 fi
 grep -q "CAPKIT_VERSION \"$(cat ../packaging/version)\"" include/capkit.h || { echo 'another version'; bad=1; }
 

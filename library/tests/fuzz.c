@@ -1,5 +1,5 @@
-/* Random instructions, texts and damaged captures, right behind a page that can't be touched or
- * right before one. usage: fuzz SEED ROUNDS FILE.. */
+/* Random instructions, texts, and captures that are damaged or cut, right behind a page that can't
+ * be touched or right before one. usage: fuzz SEED ROUNDS FILE.. */
 #include <capkit.h>
 #include <pcap/pcap.h>
 #include <stdio.h>
@@ -14,7 +14,7 @@ static const uint16_t codes[] = {32, 40, 48, 64,  72,  80,  0,   96,  128, 1,   
                                  53, 69, 29, 45,  61,  77,  6,   22,  7,   135};
 
 static size_t valid, runs, wrong, apart, texts, files, packets, other, answered, unchecked,
-    portable;
+    portable, cut_captures;
 static uint8_t *first, *second;
 
 static void random_programs(size_t rounds)
@@ -83,6 +83,14 @@ static void random_texts(size_t rounds)
     }
 }
 
+/* A copy of so many bytes, next to a page that can't be touched. */
+static uint8_t *memory_of(const uint8_t *file, size_t size)
+{
+    uint8_t *capture = place(first, size);
+    memcpy(capture, file, size);
+    return capture;
+}
+
 /* A capture as it stands, and damaged. */
 static void captures(const char *name, size_t rounds)
 {
@@ -104,9 +112,8 @@ static void captures(const char *name, size_t rounds)
             for (i = rnd() % 4; size && i; i--)
                 file[rnd() % (rnd() % 2 ? size : size < 60 ? size : 60)] = rnd();
         }
-        uint8_t *capture = place(first, size);
+        uint8_t *capture = memory_of(file, size);
         struct capkit_interface *table = place(second, 256 * sizeof *table);
-        memcpy(capture, file, size);
         files++;
         again = fmemopen(file, size, "rb");
         theirs = pcap_fopen_offline_with_tstamp_precision(again, PCAP_TSTAMP_PRECISION_NANO, why);
@@ -148,6 +155,49 @@ static void captures(const char *name, size_t rounds)
     }
 }
 
+/* A capture cut behind each of its bytes: its packets lie before the cut, and none is lost. */
+static void cuts(const char *name)
+{
+    static uint8_t file[1 << 20];
+    FILE *f = fopen(name, "rb");
+    size_t size = fread(file, 1, sizeof file, f), cut, most = 0;
+    fclose(f);
+    for (cut = 0; cut <= size; cut++) {
+        uint8_t *capture = memory_of(file, cut);
+        struct capkit_interface *table = place(second, 256 * sizeof *table);
+        struct capkit_reader reader = {0};
+        struct capkit_packet p;
+        size_t seen = 0;
+        uint32_t found;
+        while ((found = capkit_next(&reader, table, 256, capture, cut, &p)) == 0 || found == 23) {
+            seen += found == 0;
+            wrong += reader.offset > cut || (found == 0 && p.at + p.captured > reader.offset);
+        }
+        wrong += found > CAPKIT_END || seen < most;
+        most = seen;
+        cut_captures++;
+    }
+}
+
+/* Null with length 0 is empty. */
+static void nothing(void)
+{
+    struct capkit_insn accept = {6, 0, 0, 7};
+    struct capkit_reader reader = {0};
+    struct capkit_packet p = {0};
+    size_t number, index, any;
+    uint32_t steps;
+    wrong += capkit_compile(NULL, 0, CAPKIT_LINK_RAW, NULL, 0, &number) != CAPKIT_NO_ROOM;
+    wrong += capkit_bound(NULL, 0, &index) != CAPKIT_OK || number > index;
+    wrong += capkit_check(NULL, 0, &index) != CAPKIT_EMPTY;
+    wrong += capkit_run(&accept, 1, NULL, 0, 0, &steps) != 7 || steps != 1;
+    wrong += capkit_run_any(NULL, 0, NULL, 0, 0, &any) != 0 || any != 0;
+    wrong += capkit_next(&reader, NULL, 0, NULL, 0, &p) != CAPKIT_NOT_A_CAPTURE_FILE;
+    wrong += capkit_comment(&reader, NULL, 0, &p, NULL, 0) != 0;
+    wrong += capkit_write_section(NULL, 0, &number) != CAPKIT_NO_ROOM_IN_BUFFER;
+    wrong += capkit_status_text(CAPKIT_NO_ROOM, NULL, 0) == 0;
+}
+
 int main(int argc, char **argv)
 {
     size_t rounds = argc > 2 ? atol(argv[2]) : 0;
@@ -157,8 +207,11 @@ int main(int argc, char **argv)
     second = guarded();
     random_programs(rounds);
     random_texts(rounds);
-    for (a = 3; a < argc; a++)
+    nothing();
+    for (a = 3; a < argc; a++) {
         captures(argv[a], rounds);
+        cuts(argv[a]);
+    }
     printf("%zu runs of random instructions, %zu valid, %zu answered, of these %zu on programs "
            "that the check refuses\n",
            runs, valid, answered, unchecked);
@@ -166,6 +219,7 @@ int main(int argc, char **argv)
            "files: %zu; bpf_filter other on %zu\n",
            texts, files, packets, other, apart);
     printf("%zu runs of programs that capkit_is_portable takes\n", portable);
+    printf("%zu captures that were cut behind each of their bytes\n", cut_captures);
     printf("broken promises: %zu\n", wrong);
     return wrong != 0;
 }
