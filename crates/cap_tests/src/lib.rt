@@ -1,4 +1,4 @@
-//! Tests of files, from devices to whole runs, that no contract and no command line can stand for.
+//! Tests of files, from devices to whole runs: what no contract and no command line can show.
 #![tactic(auto)]
 
 #[cfg(test)]
