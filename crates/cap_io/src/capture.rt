@@ -92,9 +92,9 @@ pub(crate) fn read_unit<I: Input, A: Allocator>(
     ensures { ReadsUnit I.Input input.old [] savefile.old table.old result input.new
         buffer.new.items held.new savefile.new table.new }
 {
-    match *savefile {
+    match &*savefile {
         Savefile::Unknown => first_unit(input, savefile, buffer, table, held),
-        Savefile::Pcap(head) => next_record(input, &head, buffer, held),
+        Savefile::Pcap(head) => next_record(input, head, buffer, held),
         Savefile::Pcapng(_, _) => next_block(input, savefile, buffer, table, held),
     }
 }

@@ -85,14 +85,19 @@ impl<R: Read> Input for StdInput<R> {
             result (reader_remaining R.remaining self.new.reader) buf.new }
     {
         let room = buf.len();
+        let given = self.given + room as u64;
         let held = self.reader.buffer();
-        if room <= held.len() && (room as u64) < MOST_GIVEN - self.given {
+        if room <= held.len() && given < MOST_GIVEN {
             buf.copy_from_slice(&held[..room]);
             self.reader.consume(room);
-            self.given += room as u64;
+            self.given = given;
             return Ok(room);
         }
-        self.read_through(buf)
+        // Taken apart, since LLVM follows no branch behind a result that two ways hand over whole.
+        match self.read_through(buf) {
+            Ok(count) => Ok(count),
+            Err(fault) => Err(fault),
+        }
     }
 
     ghost unfailed = { Prim.search rules };
@@ -189,9 +194,12 @@ impl<W: Write + Drop> Output for StdOutput<W> {
             buf.now result (writer_contents W.contents self.new.writer) self.new.cause }
     {
         if buf.len() < self.writer.capacity() - self.writer.buffer().len() {
-            self.write_once(buf)
-        } else {
-            self.write_through(buf)
+            return self.write_once(buf);
+        }
+        // Taken apart as in a read.
+        match self.write_through(buf) {
+            Ok(count) => Ok(count),
+            Err(fault) => Err(fault),
         }
     }
 

@@ -4,8 +4,8 @@ use Rattle.std.specs.Io.Buffered.{reader_buffer, reader_capacity, reader_inner}
 use Rattle.cap_octet.proofs.Reading.{held-consumed}
 use Rattle.cap_octet.proofs.stream.StdInputInput.read.Goals as goal
 
-pub returns-then-room-self-clause-passes : goal.returns-then-room-self-clause-passes
-returns-then-room-self-clause-passes g c =
+pub returns-then-given-lt-MOST_GIVEN-clause-passes : goal.returns-then-given-lt-MOST_GIVEN-clause-passes
+returns-then-given-lt-MOST_GIVEN-clause-passes g c =
     record {
       answer = Ok (length c.args.buf.now);
       bound = search rules;
