@@ -94,7 +94,11 @@ pub(crate) fn read_unit<I: Input, A: Allocator>(
 {
     match &*savefile {
         Savefile::Unknown => first_unit(input, savefile, buffer, table, held),
-        Savefile::Pcap(head) => next_record(input, head, buffer, held),
+        // Taken apart, as in `StdInput::read`.
+        Savefile::Pcap(head) => match next_record(input, head, buffer, held) {
+            Ok(came) => Ok(came),
+            Err(fault) => Err(fault),
+        },
         Savefile::Pcapng(_, _) => next_block(input, savefile, buffer, table, held),
     }
 }
