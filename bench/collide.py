@@ -1,0 +1,74 @@
+#!/usr/bin/env python3
+"""Measures `edit -D 1000` over packets that were chosen so that their digests collide, beside others.
+
+usage: collide.py [--packets N] [--capkit PROGRAM]
+
+The window finds a packet by the low ten bits of its MD5 where it has 1,000 packets. Of N packets (10,000) all digests
+agree in these bits; of as many others they don't. Printed are the instructions a packet of both, counted by valgrind's
+callgrind, or the processor time where that isn't installed. Choosing takes some 25 seconds.
+"""
+import argparse
+import hashlib
+import pathlib
+import random
+import shutil
+import struct
+import tempfile
+
+import run
+
+WINDOW = 1000
+# The bits of a digest, from its first byte on, little-endian, that choose a place among 1,024.
+MASK = 0x3FF
+# Packets of 60 bytes that differ in the last eight.
+START = bytes(52)
+
+
+def chosen(count):
+    """Packets whose digests agree in the bits of the mask."""
+    packets, number, begun = [], 0, hashlib.md5(START)
+    while len(packets) < count:
+        number += 1
+        end = struct.pack("<Q", number)
+        digest = begun.copy()
+        digest.update(end)
+        if int.from_bytes(digest.digest()[:2], "little") & MASK == 0x107:
+            packets.append(START + end)
+    return packets
+
+
+def others(count):
+    """As many packets that nobody chose."""
+    rng = random.Random(1)
+    return [START + struct.pack("<Q", rng.getrandbits(64)) for _ in range(count)]
+
+
+def write_capture(path, packets):
+    """Writes a pcap file, one packet a microsecond."""
+    with open(path, "wb") as file:
+        file.write(struct.pack("<IHHiIII", 0xA1B2C3D4, 2, 4, 0, 0, 262_144, 1))
+        for at, packet in enumerate(packets):
+            seconds, part = divmod(at, 1_000_000)
+            file.write(struct.pack("<IIII", seconds, part, len(packet), len(packet)) + packet)
+
+
+def main():
+    parser = argparse.ArgumentParser(description=__doc__.split("\n")[0])
+    parser.add_argument("--packets", type=int, default=10_000)
+    parser.add_argument("--capkit", default=None)
+    arguments = parser.parse_args()
+    capkit = arguments.capkit or run.built_program()
+    with tempfile.TemporaryDirectory() as temporary:
+        for name, choose in (("others", others), ("chosen", chosen)):
+            capture = str(pathlib.Path(temporary) / f"{name}.pcap")
+            write_capture(capture, choose(arguments.packets))
+            words = [capkit, "edit", "-F", "pcap", "-D", str(WINDOW), capture, "OUT"]
+            if shutil.which("valgrind"):
+                cost = f"{run.instructions_of(words) / arguments.packets:.0f} instructions a packet"
+            else:
+                cost = f"{run.run(words, '/dev/null'):.3f} seconds"
+            print(f"{name:8} {cost}")
+
+
+if __name__ == "__main__":
+    main()
