@@ -25,7 +25,7 @@ use Rattle.flt_gen.specs.Elementary.{Reading, Yes, No, Rejected}
 use Rattle.flt_gen.specs.Reading.{holds}
 use Rattle.cap_tools.specs.declared.selector.Verdict as code
 use Rattle.cap_tools.specs.declared.selector.Verdict.TheVariants as code_verdict
-use Rattle.cap_tools.specs.declared.machine.JobEnd.TheVariants as end
+use Rattle.cap_tools.specs.declared.step.JobEnd.TheVariants as end
 use Rattle.cap_tools.specs.declared.inputs.Schedule.{Schedule}
 use Rattle.cap_tools.specs.declared.inputs.Next.TheVariants as next
 use Rattle.cap_tools.specs.Reports.{Tally}

@@ -21,8 +21,11 @@ use Rattle.cap_tools.specs.declared.output.Writing.{Writing}
 use Rattle.cap_tools.specs.declared.output.Writing.TheVariants as writing
 use Rattle.cap_tools.specs.Sequence.{PacketOrder, InTurn}
 use Rattle.cap_tools.specs.Verdict.{Policy, Count, KeepAll}
-use Rattle.cap_tools.specs.Jobs.{JobView, Call, RunResult, fresh_job, most_inputs, order_of, nothing_done}
+use Rattle.cap_tools.specs.Jobs.{JobView, Call, RunResult, fresh_job, most_inputs, order_of, nothing_done, end_text}
+use Rattle.cap_tools.specs.declared.step.JobEnd.TheVariants as end
+use Rattle.cap_tools.specs.Inputs.{InputsView}
 use Rattle.cap_tools.specs.FirstStep.{EndsList, ListsInto, is_text}
+use Rattle.cap_tools.specs.Step.{ending}
 use Rattle.cap_tools.specs.Commands.{CommandView, IsReadyIf, CompileGives, DecidedBy, RunsBy, RunsCommand, assigned, command_first}
 use Rattle.cap_tools.proofs.Starts.{Decided-start, first-few, first-less}
 
@@ -114,3 +117,19 @@ lists-err insns tells old new stopped err err' text lists told = by_target old.o
           told = told;
           quiet = λ none. (cc);
         }
+
+pub listed-ok : (insns : List Insn) (tells : Bool) (old mid new : JobView) → is_text old.machine.output.target ≡ true → Lists insns old.machine.output (Ok tt) mid.machine.output → mid.err ≡ old.err
+    → new ≡ ending end.Complete new.err mid → new.err ≡ mid.err → EndsList insns tells old (turn.Done 0) new
+listed-ok insns tells old mid new text lists same is quiet =
+    let M : MachineState → Type 0 = λ m. ListsInto insns tells old.machine old.err 0 m old.err in
+    let E : OutputView → Type 0 = λ v. ListsInto insns tells old.machine old.err 0 new.machine v in
+    record { runs = subst E (sym (quiet ∙ same)) (subst M (sym (ap (λ (j : JobView). j.machine) is)) (lists-ok insns tells old.machine mid.machine old.err text lists)) }
+
+pub listed-err : (insns : List Insn) (tells : Bool) (old mid new : JobView) (stopped : Stopped) → is_text old.machine.output.target ≡ true → Lists insns old.machine.output (Err stopped) mid.machine.output → mid.err ≡ old.err → mid.machine.inputs ≡ old.machine.inputs
+    → new ≡ ending end.OutputFailed new.err mid → IsTold tells mid.err (end_text mid.machine.output.names mid.machine.inputs.cursors end.OutputFailed) new.err → EndsList insns tells old (turn.Done 1) new
+listed-err insns tells old mid new stopped text lists same inputs is told =
+    let M : MachineState → Type 0 = λ m. ListsInto insns tells old.machine old.err 1 m new.err in
+    let N : List (List ℕ) → Type 0 = λ l. IsTold tells mid.err (write_failed_message (name_at l (length mid.machine.inputs.cursors))) new.err in
+    let C : InputsView → Type 0 = λ f. IsTold tells mid.err (write_failed_message (name_at old.machine.output.names (length f.cursors))) new.err in
+    let F : OutputView → Type 0 = λ v. IsTold tells v (write_failed_message (name_at old.machine.output.names (length old.machine.inputs.cursors))) new.err in
+    record { runs = subst M (sym (ap (λ (j : JobView). j.machine) is)) (lists-err insns tells old.machine mid.machine stopped old.err new.err text lists (subst F same (subst C inputs (subst N lists.names told)))) }

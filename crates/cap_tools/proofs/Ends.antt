@@ -1,16 +1,19 @@
 -- How a job ends, in the words of its outcome.
-use Rattle.std.proofs.Common.{◌≡◌, ◌⊎◌, inl, inr, ℕ, List, [], ◌∷◌, ◌++◌, length, Some, refl, sym, ◌∙◌, ap}
+use Rattle.std.proofs.Common.{◌≡◌, ◌⊎◌, inl, inr, ℕ, List, [], ◌∷◌, ◌++◌, length, Some, Bool, IsTrue, refl, sym, ◌∙◌, ap, subst}
 use Rattle.std.specs.List.{slice_get}
 use Rattle.cap_filter.specs.Messages.{fault_message}
-use Rattle.cap_tools.specs.declared.machine.JobEnd.{JobEnd}
-use Rattle.cap_tools.specs.declared.machine.JobEnd.TheVariants as end
+use Rattle.cap_filter.specs.Outcome.{OutputView, IsTold}
+use Rattle.cap_tools.specs.declared.step.JobEnd.{JobEnd}
+use Rattle.cap_tools.specs.declared.step.JobEnd.TheVariants as end
+use Rattle.cap_tools.specs.declared.step.StepOutcome.TheVariants.{Done}
 use Rattle.cap_tools.specs.Sequence.{InputItems, SequenceEnd, Complete, FaultIn, PacketOrder}
 use Rattle.cap_tools.specs.Reports.{name_at}
 use Rattle.cap_tools.specs.Verdict.{Policy}
 use Rattle.cap_tools.specs.Outcome.{Form, Work, Outcome, outcome, outcome_of_texts, message, status}
 use Rattle.cap_tools.specs.Inputs.{InputView, InputPast, IsInput, ordering_of}
 use Rattle.cap_tools.specs.Machine.{MachineState, Decided, Comes, EndLeaves, IsUnderWay, failures_by, form_of, written_by, texts, wholes_of, cut_at}
-use Rattle.cap_tools.specs.Jobs.{IsOut, EndsAs, EndsElse, IsOutOf, RunResult, work_of, end_text, end_status, offset_at, offset_of}
+use Rattle.cap_tools.specs.Jobs.{JobView, IsOut, Ends, EndsAs, EndsElse, EndsJob, IsOutOf, RunResult, work_of, end_text, end_status, offset_at, offset_of}
+use Rattle.cap_tools.specs.Step.{IsStep, ending}
 
 comes-out : (ss : List InputPast) (before : List ℕ) (old : MachineState) (rs : List InputItems) (d : Decided ss before old) (names : List (List ℕ)) (new : MachineState) (close : SequenceEnd) (text : List ℕ) (s : ℕ) → Comes rs d new close → text ≡ message names (Some close) → s ≡ status (Some close)
     → IsOut rs d names new text s
@@ -77,3 +80,18 @@ pub clean-status : (e : JobEnd) → end_status e ≡ 0 → e ≡ end.Complete
 clean-status end.Complete is = refl
 clean-status (end.FaultIn input fault) is = (cc)
 clean-status end.OutputFailed is = (cc)
+
+-- a step that ended the job, and its report
+pub step-ends : (inputs_tell output_tells tells : Bool) (old mid new : JobView) (e : JobEnd) → IsTrue inputs_tell → IsTrue output_tells → IsStep inputs_tell output_tells old (Done e) mid → new ≡ ending e new.err mid
+    → IsTold tells mid.err (end_text mid.machine.output.names mid.machine.inputs.cursors e) new.err → (e ≡ end.Complete → new.err ≡ mid.err) → EndsJob tells old (end_status e) new
+step-ends inputs_tell output_tells tells old mid new e ti to step is told quiet =
+    let text : List ℕ = end_text old.machine.output.names mid.machine.inputs.cursors e in
+    let M : MachineState → Type 0 = λ m. Ends old.machine.output.names old.machine m text (end_status e) in
+    let N : List (List ℕ) → Type 0 = λ l. IsTold tells mid.err (end_text l mid.machine.inputs.cursors e) new.err in
+    let F : OutputView → Type 0 = λ v. IsTold tells v text new.err in
+    record {
+      text = text;
+      ends = subst M (sym (ap (λ (j : JobView). j.machine) is)) (λ ss before d. ends-as ss before old.machine d old.machine.output.names mid.machine e (step.told ti to ss before d));
+      told = subst F step.err (subst N step.names told);
+      quiet = λ zero. quiet (clean-status e zero) ∙ step.err;
+    }

@@ -14,7 +14,7 @@ use Rattle.cap_io.proofs.Standing.{IsAt-found, IsAt-closed, IsAt-fault}
 use Rattle.cap_tools.specs.declared.inputs.Schedule.{Schedule}
 use Rattle.cap_tools.specs.declared.inputs.Schedule.TheVariants.{Turn, Merge}
 use Rattle.cap_tools.specs.declared.inputs.Next.TheVariants as next
-use Rattle.cap_tools.specs.declared.machine.StepOutcome.{StepOutcome}
+use Rattle.cap_tools.specs.declared.step.StepOutcome.{StepOutcome}
 use Rattle.cap_tools.specs.Reports.{Report, Tally}
 use Rattle.cap_tools.specs.Sequence.{InputItems, Event, FaultIn, PacketOrder, InTurn, ByTime, sequence_of, with_front, whole_input}
 use Rattle.cap_tools.specs.Verdict.{Policy, Edit, Filter, KeepAll, Count, SelectorState}

@@ -11,8 +11,8 @@ use Rattle.cap_tools.specs.Inputs.{InputView, InputsView, IsInput, ReadsInput, R
 use Rattle.cap_octet.specs.Packet.{Captured}
 use Rattle.cap_filter.specs.Programs.{spent_in}
 use Rattle.cap_tools.specs.Selector.{most_spent, places, spent_by_verdict, window_of}
-use Rattle.cap_tools.specs.declared.machine.StepOutcome.{StepOutcome}
-use Rattle.cap_tools.specs.declared.machine.StepOutcome.TheVariants.{More, Done}
+use Rattle.cap_tools.specs.declared.step.StepOutcome.{StepOutcome}
+use Rattle.cap_tools.specs.declared.step.StepOutcome.TheVariants.{More, Done}
 use Rattle.cap_tools.specs.Machine.{MachineState, MachineView, asks_report}
 
 -- ---- what a step reads

@@ -9,8 +9,8 @@ use Rattle.cap_filter.specs.Messages.{fault_message, write_failed_message, no_me
 use Rattle.cap_filter.specs.Outcome.{OutputView, IsTold, seen}
 use Rattle.cap_tools.specs.declared.inputs.Schedule.{Schedule}
 use Rattle.cap_tools.specs.declared.inputs.Schedule.TheVariants as schedule
-use Rattle.cap_tools.specs.declared.machine.JobEnd.{JobEnd}
-use Rattle.cap_tools.specs.declared.machine.JobEnd.TheVariants as end
+use Rattle.cap_tools.specs.declared.step.JobEnd.{JobEnd}
+use Rattle.cap_tools.specs.declared.step.JobEnd.TheVariants as end
 use Rattle.cap_tools.specs.declared.packets.Turn.{Turn}
 use Rattle.cap_tools.specs.declared.packets.Turn.TheVariants as turn
 use Rattle.cap_tools.specs.Sequence.{InputItems, PacketOrder, InTurn, ByTime}

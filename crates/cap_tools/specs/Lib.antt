@@ -13,3 +13,4 @@ pub mod Machine
 pub mod Queue
 pub mod Reports
 pub mod Verdict
+pub mod Step

@@ -13,10 +13,10 @@ use Rattle.cap_filter.specs.Programs.{spent_in}
 use Rattle.cap_tools.specs.declared.inputs.Next.TheVariants as next
 use Rattle.cap_tools.specs.declared.selector.Verdict as code
 use Rattle.cap_tools.specs.declared.selector.Verdict.TheVariants as code_verdict
-use Rattle.cap_tools.specs.declared.machine.JobEnd.{JobEnd}
-use Rattle.cap_tools.specs.declared.machine.JobEnd.TheVariants as end
-use Rattle.cap_tools.specs.declared.machine.StepOutcome.{StepOutcome}
-use Rattle.cap_tools.specs.declared.machine.StepOutcome.TheVariants.{More, Done}
+use Rattle.cap_tools.specs.declared.step.JobEnd.{JobEnd}
+use Rattle.cap_tools.specs.declared.step.JobEnd.TheVariants as end
+use Rattle.cap_tools.specs.declared.step.StepOutcome.{StepOutcome}
+use Rattle.cap_tools.specs.declared.step.StepOutcome.TheVariants.{More, Done}
 use Rattle.cap_tools.specs.Reports.{Report, Tally}
 use Rattle.cap_tools.specs.Output.{JobOutputView, HasWritten, Puts, Reports, form_at, written_to, failures_to}
 use Rattle.cap_tools.specs.Sequence.{Event, SequenceEnd, Complete, FaultIn, InputItems, PacketOrder, InTurn, ByTime, sequence_of, whole_input}

@@ -5,12 +5,12 @@ mod edit;
 mod inputs;
 mod job;
 pub mod law;
-mod machine;
 mod output;
 mod packets;
 mod queue;
 mod report;
 mod selector;
+mod step;
 mod tally;
 
 pub use cap_filter::{Command, Compile, Edit, Merge, Print, Shift};

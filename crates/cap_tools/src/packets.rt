@@ -3,18 +3,18 @@ ghost use Rattle.std.specs.Prelude.{ℕ, ◌≡◌, ◌+◌, ◌<◌, ◌≤◌,
 ghost use Rattle.std.specs.Prelude.{true};
 ghost use Rattle.std.specs.String.{string_bytes};
 ghost use Rattle.cap_octet.specs.Device.{AppendsOrStops, failures_of};
-ghost use Rattle.cap_filter.specs.Outcome.{seen};
+ghost use Rattle.cap_filter.specs.Outcome.{IsTold, seen};
 ghost use Rattle.cap_tools.specs.Bounds.{IsLight, ReadsNothing, StepReads, most_turns};
-ghost use Rattle.cap_tools.specs.Inputs.{steps_left};
+ghost use Rattle.cap_tools.specs.Inputs.{most_steps, steps_left};
+ghost use Rattle.cap_tools.specs.Inputs as input_spec;
 ghost use Rattle.cap_tools.specs.Selector.{HavePrograms, policy_of, programs_in};
-ghost use Rattle.cap_tools.specs.Machine.{machine_state};
-ghost use Rattle.cap_tools.specs.FirstStep.{ListsInto, is_text, output_by};
-ghost use Rattle.cap_tools.specs.Jobs.{end_status, end_text, call_of, most_inputs, order_of};
+ghost use Rattle.cap_tools.specs.FirstStep.{is_text};
+ghost use Rattle.cap_tools.specs.Jobs.{call_of, end_status, end_text, most_inputs, order_of};
 
-use crate::inputs::Inputs;
-use crate::machine::{JobEnd, Machine, StepOutcome};
+use crate::inputs::{Inputs, Next};
 use crate::output::{JobOutput, Writing};
 use crate::selector::{Policy, Selector};
+use crate::step::{JobEnd, StepOutcome, close, decide, unwritten};
 use cap_filter::filter::Filter;
 use cap_filter::message::{tell_fault, tell_refusal, tell_write_failed};
 use cap_filter::refusal::Refusal;
@@ -42,8 +42,12 @@ pub struct Work<A: Allocator> {
 /// A job whose filter isn't refused.
 #[derive(Drop)]
 pub struct PacketJob<I: Input, O: Output, E: Output, A: Allocator> {
-    machine: Machine<I, O, A>,
+    inputs: Inputs<I, A>,
+    selector: Selector<A>,
+    output: JobOutput<O, A>,
     err: E,
+    /// How many packets are decided.
+    decided: u128,
     /// How many steps it made.
     turns: u128,
     /// The status, where it ended.
@@ -51,50 +55,59 @@ pub struct PacketJob<I: Input, O: Output, E: Output, A: Allocator> {
 }
 
 impl<I: Input, O: Output, E: Output, A: Allocator> Model for PacketJob<I, O, E, A> {
+    ghost use Rattle.std.specs.Prelude.{◌+◌, ◌≤◌};
     ghost use Rattle.std.specs.Coded.{codes};
     ghost use Rattle.cap_filter.specs.Programs.{expression_code};
     ghost use Rattle.cap_filter.specs.Outcome.{seen};
-    ghost use Rattle.cap_tools.specs.Bounds.{HasFewTurns, IsLight};
-    ghost use Rattle.cap_tools.specs.Inputs.{steps_left};
+    ghost use Rattle.cap_tools.specs.Bounds.{HasFewTurns, IsBounded};
+    ghost use Rattle.cap_tools.specs.Inputs.{most_steps, steps_left};
     ghost use Rattle.cap_tools.specs.Jobs.{JobView, IsCounted};
-    ghost use Rattle.cap_tools.specs.Selector.{HavePrograms};
-    ghost use Rattle.cap_tools.specs.Machine.{machine_state};
+    ghost use Rattle.cap_tools.specs.Selector.{HasFewMarks, HavePrograms};
 
     ghost Value = { JobView };
 
     ghost coded = { Prim.hlevel (codes, expression_code) };
 
     ghost view = { λ j. record {
-      machine = machine_state j.machine;
-      programs = j.machine.programs;
+      machine = record {
+        inputs = j.inputs;
+        policy = j.selector.policy;
+        state = j.selector.state;
+        output = j.output;
+        decided = j.decided;
+      };
+      programs = j.selector.programs;
       err = seen (E.written j.err) (E.failures j.err);
       turns = j.turns;
       done = j.done;
     } };
 
-    ghost invariant = { λ j. IsCounted j.done j.turns (steps_left j.machine.inputs)
-        × HasFewTurns j.done j.turns j.machine.inputs × IsLight (machine_state j.machine)
-        × HavePrograms j.machine.policy j.machine.programs };
+    ghost invariant = { λ j. (j.decided + steps_left j.inputs ≤ most_steps)
+        × IsBounded j.inputs j.output
+        × HasFewMarks j.selector.policy j.selector.state
+        × HavePrograms j.selector.policy j.selector.programs
+        × IsCounted j.done j.turns (steps_left j.inputs)
+        × HasFewTurns j.done j.turns j.inputs };
 }
 
 /// Reports how a job ended.
 fn tell<I: Input, O: Output, E: Output, A: Allocator + Copy + Drop>(
     err: &mut E,
-    machine: &Machine<I, O, A>,
+    inputs: &Inputs<I, A>,
+    output: &JobOutput<O, A>,
     end: JobEnd,
 ) -> Result<(), DeviceFault>
     ensures told { IsTrue E.tells → AppendsOrStops result (E.written err.old)
-        (end_text machine.now.output.names machine.now.inputs.cursors end) (E.written err.new) }
+        (end_text output.now.names inputs.now.cursors end) (E.written err.new) }
     ensures failed { E.failures err.new ≡ E.failures err.old + failures_of result }
     ensures quiet { end ≡ JobEnd.Complete → err.new ≡ err.old }
 {
     match end {
         JobEnd::Complete => Ok(()),
         JobEnd::FaultIn(input, fault) => {
-            let offset = machine.inputs().offset(input);
-            tell_fault(err, machine.name(input), offset, fault)
+            tell_fault(err, output.name(input), inputs.offset(input), fault)
         }
-        JobEnd::OutputFailed => tell_write_failed(err, machine.name(machine.inputs().count())),
+        JobEnd::OutputFailed => tell_write_failed(err, output.name(inputs.count())),
     }
 }
 
@@ -107,35 +120,6 @@ fn status_at_end(end: JobEnd) -> u8
     }
 }
 
-/// Writes the listing of a program, and returns the status. A message that can't be written is
-/// lost.
-fn list<I: Input, O: Output, E: Output, A: Allocator + Copy + Drop>(
-    machine: &mut Machine<I, O, A>,
-    err: &mut E,
-    program: &Program<A>,
-) -> u8
-    requires { is_text machine.old.output.target ≡ true }
-    ensures status { result ≤ 2 }
-    ensures told { IsTrue O.tells → ListsInto program.now.insns E.tells (machine_state machine.old)
-        (seen (E.written err.old) (E.failures err.old)) result (machine_state machine.new)
-        (seen (E.written err.new) (E.failures err.new)) }
-    ensures inputs { machine.new.inputs ≡ machine.old.inputs }
-    ensures decided { machine.new.decided ≡ machine.old.decided }
-    ensures light { IsLight (machine_state machine.new) }
-    ensures sound { HavePrograms machine.new.policy machine.new.programs }
-    ensures names { machine.new.output.names ≡ machine.old.output.names }
-    ensures programs { machine.new.programs ≡ machine.old.programs }
-    ensures policy { machine.new.policy ≡ machine.old.policy }
-{
-    match machine.list(program) {
-        Ok(()) => 0,
-        Err(_) => {
-            let _ = tell_write_failed(err, machine.name(machine.inputs().count()));
-            1
-        }
-    }
-}
-
 impl<I: Input, O: Output, E: Output, A: Allocator + Copy + Drop> PacketJob<I, O, E, A> {
     ghost use Rattle.std.specs.Result.{IfOk, IfErr};
     ghost use Rattle.std.specs.Prelude.{true};
@@ -145,6 +129,7 @@ impl<I: Input, O: Output, E: Output, A: Allocator + Copy + Drop> PacketJob<I, O,
     ghost use Rattle.cap_tools.specs.Jobs.{turn_goes_on};
     ghost use Rattle.cap_tools.specs.FirstStep.{EndsList, IsFresh, Refuses, filtering, is_text};
     ghost use Rattle.cap_tools.specs.Machine.{failures_by, written_by};
+    ghost use Rattle.cap_tools.specs.Step.{IsStep, ending};
 
     /// A job over inputs, one behind another or merged. `names` are those of the inputs, then of
     /// the output. Where there is no memory nothing was read or written.
@@ -173,10 +158,12 @@ impl<I: Input, O: Output, E: Output, A: Allocator + Copy + Drop> PacketJob<I, O,
             return Err((out, err));
         };
         let output = JobOutput::new(alloc, work.writing, names, out);
-        let machine = Machine::new(inputs, selector, output);
         Ok(PacketJob {
-            machine,
+            inputs,
+            selector,
+            output,
             err,
+            decided: 0,
             turns: 0,
             done: None,
         })
@@ -208,16 +195,99 @@ impl<I: Input, O: Output, E: Output, A: Allocator + Copy + Drop> PacketJob<I, O,
         if let Some(status) = self.done {
             return Turn::Done(status);
         }
-        self.turns += 1;
-        match self.machine.step() {
-            StepOutcome::More => Turn::More,
-            StepOutcome::Done(end) => {
-                let _ = tell(&mut self.err, &self.machine, end);
-                let status = status_at_end(end);
-                self.done = Some(status);
-                Turn::Done(status)
+        match self.do_next() {
+            StepOutcome::More => {
+                self.turns += 1;
+                Turn::More
+            }
+            StepOutcome::Done(end) => self.end(end),
+        }
+    }
+
+    /// Does what is next: reads one input on, decides one packet, or ends the output.
+    #[inline(always)]
+    fn do_next(&mut self) -> StepOutcome
+        ensures { IsStep I.tells O.tells self.old result self.new }
+    {
+        match self.inputs.next() {
+            Next::Decide(input) => self.decide_next(input),
+            Next::Read(input) => self.read_input(input),
+            Next::Finish => self.finish(),
+        }
+    }
+
+    /// Decides the current packet of an input.
+    fn decide_next(&mut self, input: usize) -> StepOutcome
+        requires next { input_spec.IsNext self.old.machine.inputs.schedule
+            self.old.machine.inputs.cursors (Next.Decide input) }
+        requires within { input < length self.old.machine.inputs.cursors }
+        ensures { IsStep I.tells O.tells self.old result self.new }
+    {
+        let number = self.decided + 1;
+        match decide(
+            self.inputs.cursor(input),
+            &mut self.selector,
+            &mut self.output,
+            number,
+        ) {
+            Ok(last) => {
+                self.inputs.mark_decided(input);
+                self.decided = number;
+                if last {
+                    StepOutcome::Done(JobEnd::Complete)
+                } else {
+                    StepOutcome::More
+                }
+            }
+            Err(fault) => StepOutcome::Done(unwritten(input, fault)),
+        }
+    }
+
+    /// Reads an input on.
+    fn read_input(&mut self, input: usize) -> StepOutcome
+        requires next { input_spec.IsNext self.old.machine.inputs.schedule
+            self.old.machine.inputs.cursors (Next.Read input) }
+        requires within { input < length self.old.machine.inputs.cursors }
+        ensures { IsStep I.tells O.tells self.old result self.new }
+    {
+        match self.inputs.read_input(input) {
+            Ok(true) => StepOutcome::More,
+            Ok(false) => close(&self.inputs, input, &mut self.selector, &mut self.output),
+            Err(fault) => {
+                // The bytes of a broken unit pay for no step: none is counted from here on.
+                self.done = Some(1);
+                StepOutcome::Done(JobEnd::FaultIn(input, fault))
             }
         }
+    }
+
+    /// Ends the output.
+    fn finish(&mut self) -> StepOutcome
+        requires next { input_spec.IsNext self.old.machine.inputs.schedule
+            self.old.machine.inputs.cursors Next.Finish }
+        ensures { IsStep I.tells O.tells self.old result self.new }
+    {
+        let first = self.inputs.first_link();
+        match self.output.finish(first) {
+            Ok(()) => StepOutcome::Done(JobEnd::Complete),
+            Err(_) => StepOutcome::Done(JobEnd::OutputFailed),
+        }
+    }
+
+    /// Reports how the job ended. A message that can't be written is lost.
+    fn end(&mut self, end: JobEnd) -> Turn
+        requires { self.old.turns ≤ most_steps }
+        ensures done { result ≡ Turn.Done (end_status end) }
+        ensures ended { self.new ≡ ending end self.new.err self.old }
+        ensures told { IsTold E.tells self.old.err (end_text self.old.machine.output.names
+            self.old.machine.inputs.cursors end) self.new.err }
+        ensures quiet { end ≡ JobEnd.Complete → self.new.err ≡ self.old.err }
+    {
+        let _ = tell(&mut self.err, &self.inputs, &self.output, end);
+        let status = status_at_end(end);
+        self.turns += 1;
+        self.done = Some(status);
+        Turn::Done(status)
     }
 
     /// From here on packets are judged by this filter, up to so many that pass. It is one step.
@@ -230,7 +300,7 @@ impl<I: Input, O: Output, E: Output, A: Allocator + Copy + Drop> PacketJob<I, O,
         ensures light { IsLight self.new.machine }
         ensures sound { HavePrograms self.new.machine.policy self.new.programs }
     {
-        self.machine.judge_by(filter, count);
+        self.selector = Selector::filtering(filter, count);
         self.turns += 1;
         Turn::More
     }
@@ -266,10 +336,10 @@ impl<I: Input, O: Output, E: Output, A: Allocator + Copy + Drop> PacketJob<I, O,
         ensures sound { HavePrograms self.new.machine.policy self.new.programs }
         ensures names { self.new.machine.output.names ≡ self.old.machine.output.names }
     {
-        let status = list(&mut self.machine, &mut self.err, program);
-        self.turns += 1;
-        self.done = Some(status);
-        Turn::Done(status)
+        match self.output.list(program) {
+            Ok(()) => self.end(JobEnd::Complete),
+            Err(_) => self.end(JobEnd::OutputFailed),
+        }
     }
 
     /// The output and the messages' device, as they stand.
@@ -280,6 +350,6 @@ impl<I: Input, O: Output, E: Output, A: Allocator + Copy + Drop> PacketJob<I, O,
         ensures failures { O.failures result.0 ≡ failures_by self.machine }
         ensures messages { seen (E.written result.1) (E.failures result.1) ≡ self.err }
     {
-        (self.machine.into_output(), self.err)
+        (self.output.into_output(), self.err)
     }
 }

@@ -1,11 +1,11 @@
 use Rattle.std.proofs.Common.{◌≡◌, true, Ok, Err, refl, sym, ◌∙◌, ap₂}
-use Rattle.cap_tools.specs.declared.machine.JobEnd.TheVariants as end
-use Rattle.cap_tools.specs.declared.machine.StepOutcome.TheVariants.{More, Done}
+use Rattle.cap_tools.specs.declared.step.JobEnd.TheVariants as end
+use Rattle.cap_tools.specs.declared.step.StepOutcome.TheVariants.{More, Done}
 use Rattle.cap_tools.specs.Inputs.{is_in_turn}
 use Rattle.cap_tools.specs.Selector.{is_count, policy_state}
 use Rattle.cap_tools.proofs.Fetches.{closes-by, counted}
 use Rattle.cap_tools.proofs.Selectors.{closes-policy}
-use Rattle.cap_tools.proofs.machine.close.Goals as goal
+use Rattle.cap_tools.proofs.step.close.Goals as goal
 
 pub returns-in-Ok-clause-told : goal.returns-in-Ok-clause-told
 returns-in-Ok-clause-told g c = λ to.

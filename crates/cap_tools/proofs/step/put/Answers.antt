@@ -1,6 +1,6 @@
 use Rattle.std.proofs.Common.{refl}
-use Rattle.cap_tools.proofs.machine.put.Goals as goal
-use Rattle.cap_tools.proofs.machine.put.Goals.{in-Pass, in-PassLast}
+use Rattle.cap_tools.proofs.step.put.Goals as goal
+use Rattle.cap_tools.proofs.step.put.Goals.{in-Pass, in-PassLast}
 
 pub returns-in-Ok-clause-told : goal.returns-in-Ok-clause-told
 returns-in-Ok-clause-told g c = λ to.

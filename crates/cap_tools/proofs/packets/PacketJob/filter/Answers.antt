@@ -1,16 +1,10 @@
 use Rattle.std.proofs.Common.{arith, subst, sym}
-use Rattle.cap_tools.specs.Selector.{HasFewMarks, HavePrograms, SelectorView}
-use Rattle.cap_tools.proofs.Programs.{new-for}
+use Rattle.cap_tools.specs.Selector.{HasFewMarks, SelectorView}
 use Rattle.cap_tools.proofs.Weights.{is-light}
-use Rattle.cap_tools.proofs.machine.Machine.judge_by.Goals as goal
+use Rattle.cap_tools.proofs.packets.PacketJob.filter.Goals as goal
 
 pub returns-clause-light : goal.returns-clause-light
 returns-clause-light g c =
     let few : HasFewMarks c.filtering.result.policy c.filtering.result.state = (let P : SelectorView → Type 0 = λ v. HasFewMarks v.policy v.state in subst P (sym c.filtering.ensures) (omega arith)) in
     is-light (record { inputs = c.self.inside.inputs; policy = c.filtering.result.policy; state = c.filtering.result.state; output = c.self.inside.output; decided = c.self.inside.decided })
     c.self.invariant.1 few
-
-pub returns-clause-sound : goal.returns-clause-sound
-returns-clause-sound g c =
-    let P : SelectorView → Type 0 = λ v. HavePrograms v.policy v.programs in
-    subst P (sym c.filtering.ensures) (new-for _ _ c.requires)

@@ -1,0 +1,127 @@
+//! The parts of a step: a packet is decided, or an input that was read to its end is reported.
+ghost use Rattle.std.specs.Prelude.{◌≡◌, ◌<◌, ◌≤◌, IsTrue, false, length, true};
+ghost use Rattle.cap_octet.specs.Packet.{captured};
+ghost use Rattle.cap_tools.specs.Bounds.{HasFewInterfaces};
+ghost use Rattle.cap_tools.specs.Inputs.{most_steps, ordering_of};
+ghost use Rattle.cap_tools.specs.Selector.{GrowsByOne, HasFewMarks, IsWithin, policy_state};
+ghost use Rattle.cap_tools.specs.Machine.{Closes, Decides, Offers, Spends, asks_report};
+ghost use Rattle.cap_tools.specs.Machine.{unwritten};
+
+use crate::inputs::{InputCursor, Inputs};
+use crate::output::JobOutput;
+use crate::report::Report;
+use crate::selector::{Selector, Verdict};
+use cap_octet::{Fault, Input, Output, Packet};
+use std::alloc::Allocator;
+
+/// How a job ended.
+#[derive(Clone, Copy, Debug, PartialEq, Eq)]
+pub enum JobEnd {
+    /// All is written.
+    Complete,
+    /// An input ends by this fault at its offset, or its current packet is refused.
+    FaultIn(usize, Fault),
+    /// The output's device failed.
+    OutputFailed,
+}
+
+/// What a step leaves to do.
+#[derive(Clone, Copy, Debug, PartialEq, Eq)]
+pub enum StepOutcome {
+    More,
+    Done(JobEnd),
+}
+
+/// Writes a packet that passes, and returns whether it is the last.
+fn put<O: Output, A: Allocator>(
+    verdict: Verdict,
+    packet: &Packet<'_>,
+    output: &mut JobOutput<O, A>,
+) -> Result<bool, Fault>
+    ensures told { IsTrue O.tells → Offers verdict (captured packet.now) output.old result
+        output.new }
+    ensures few { HasFewInterfaces output.old.target → HasFewInterfaces output.new.target }
+    ensures names { output.new.names ≡ output.old.names }
+{
+    let last = match verdict {
+        Verdict::Pass => false,
+        Verdict::PassLast => true,
+        Verdict::Skip => return Ok(false),
+    };
+    match output.put(packet) {
+        Ok(()) => Ok(last),
+        Err(fault) => Err(fault),
+    }
+}
+
+/// Decides the current packet of an input, and returns whether it is the last.
+pub(crate) fn decide<I: Input, O: Output, A: Allocator + Copy + Drop>(
+    cursor: &InputCursor<I, A>,
+    selector: &mut Selector<A>,
+    output: &mut JobOutput<O, A>,
+    number: u128,
+) -> Result<bool, Fault>
+    requires { cursor.now.waiting ≡ true }
+    ensures told { IsTrue O.tells → selector.old.state.passed < number
+        → IsWithin most_steps selector.old.state.tally
+        → Decides cursor.now.source.packet (policy_state selector.old) number output.old result
+        (policy_state selector.new) output.new }
+    ensures policy { selector.new.policy ≡ selector.old.policy }
+    ensures spends { Spends cursor.now.source.packet selector.old number selector.new }
+    ensures passed { selector.old.state.passed ≤ number → selector.new.state.passed ≤ number }
+    ensures counted { GrowsByOne selector.old.state.tally selector.new.state.tally }
+    ensures marks { HasFewMarks selector.new.policy selector.new.state }
+    ensures few { HasFewInterfaces output.old.target → HasFewInterfaces output.new.target }
+    ensures names { output.new.names ≡ output.old.names }
+{
+    let mut packet = cursor.packet().unwrap();
+    let verdict = selector.judge(number, &mut packet)?;
+    put(verdict, &packet, output)
+}
+
+/// Reports an input that was read to its end, where files are counted, one behind another.
+pub(crate) fn close<I: Input, O: Output, A: Allocator>(
+    inputs: &Inputs<I, A>,
+    input: usize,
+    selector: &mut Selector<A>,
+    output: &mut JobOutput<O, A>,
+) -> StepOutcome
+    requires { input < length inputs.now.cursors }
+    ensures told { IsTrue O.tells → Closes inputs.now input (policy_state selector.old) output.old
+        result (policy_state selector.new) output.new }
+    ensures programs { selector.new.programs ≡ selector.old.programs }
+    ensures policy { selector.new.policy ≡ selector.old.policy }
+    ensures marks { HasFewMarks selector.old.policy selector.old.state
+        → HasFewMarks selector.new.policy selector.new.state }
+    ensures few { HasFewInterfaces output.old.target → HasFewInterfaces output.new.target }
+    ensures names { output.new.names ≡ output.old.names }
+    ensures kept { asks_report (ordering_of inputs.now.schedule) selector.old.policy ≡ false
+        → output.new ≡ output.old }
+{
+    let cursor = inputs.cursor(input);
+    if !inputs.is_in_turn() {
+        return StepOutcome::More;
+    }
+    let Some(tally) = selector.close() else {
+        return StepOutcome::More;
+    };
+    let report = Report {
+        kind: cursor.kind(),
+        size: cursor.offset(),
+        tally,
+    };
+    match output.report(input, &report) {
+        Ok(()) => StepOutcome::More,
+        Err(_) => StepOutcome::Done(JobEnd::OutputFailed),
+    }
+}
+
+/// Where a packet was not decided: the output's device failed, or the packet is refused.
+pub(crate) fn unwritten(input: usize, fault: Fault) -> JobEnd
+    ensures { result ≡ unwritten input fault }
+{
+    match fault {
+        Fault::WriteFailed => JobEnd::OutputFailed,
+        _ => JobEnd::FaultIn(input, fault),
+    }
+}
