@@ -1,5 +1,5 @@
 -- The steps that decide the current packet.
-use Rattle.std.proofs.Common.{◌≡◌, ◌⊎◌, inl, inr, ℕ, ◌+◌, ◌<◌, ◌≤◌, Bool, true, false, List, [], ◌∷◌, ◌++◌, length, map, Option, None, Some, Result, Ok, Err, refl, sym, ◌∙◌, ap, arith, subst, not, nat_eq, if◌then◌else◌, ◌-◌}
+use Rattle.std.proofs.Common.{◌≡◌, ◌⊎◌, inl, inr, ℕ, ◌+◌, ◌<◌, ◌≤◌, Bool, true, false, List, [], ◌∷◌, ◌++◌, length, map, Option, None, Some, Result, Ok, Err, refl, sym, ◌∙◌, ap, ap₂, arith, subst, not, nat_eq, if◌then◌else◌, ◌-◌}
 use Rattle.std.proofs.lemmas.List.{append_assoc, append-nil, map-append}
 use Rattle.std.specs.List.{slice_set}
 use Rattle.cap_octet.specs.Device.{Stops}
@@ -38,7 +38,7 @@ use Rattle.cap_print.specs.declared.print.Options.{Options}
 use Rattle.cap_print.specs.Rendering.{printed}
 use Rattle.cap_tools.specs.Outcome.{Form, AsCapture, AsLines, Progress, lines_text, no_progress, decide_unless, apply_verdict, apply_event, apply_events, final_progress, packet_bytes, form_refuses, end_with, final_text, first_link, output_text}
 use Rattle.cap_tools.specs.Outcome as course_spec
-use Rattle.cap_tools.specs.Output.{JobOutputView, Target, Capture, Text, Lines, HasWritten, Puts, PutsTo, form_at, form_to, written_to, failures_to}
+use Rattle.cap_tools.specs.Output.{JobOutputView, Target, Capture, Text, Lines, HasWritten, Puts, form_at, form_to, output_at, written_to, failures_to}
 use Rattle.cap_tools.specs.Inputs.{InputView, InputsView, Future, InputPast, AreInputsBehind, IsInput, input_behind, schedule_behind, actual_future, inputs_with, items_left, inputs_left, sequence_left, most_steps, ordering_of}
 use Rattle.cap_tools.specs.Inputs as input_spec
 use Rattle.cap_tools.specs.Machine.{MachineState, Decided, GoesOn, Comes, Decides, Offers, StopsWriting, NextPacket, PassesAs, EndLeaves, progress_at, progress_of, progress_over, form_of, wholes_of, written_by, unwritten}
@@ -73,11 +73,11 @@ goes-by : (policy : Policy) (form : Form) (w : Progress) (i : ℕ) (x : Placed) 
     → apply_event policy form w (Packet i x) ≡ apply_verdict form w i x v state'
 goes-by policy form w i x v state' one other = rw (one, other) refl
 
-put-took : (policy : Policy) (w : Progress) (before : List ℕ) (i : ℕ) (x : Placed) (q : Captured) (state' : SelectorState) (old new : JobOutputView) (last : Bool) → HasWritten before old w.packets w.reports → Puts q old (Ok tt) new
+put-took : (policy : Policy) (w : Progress) (before : List ℕ) (i : ℕ) (x : Placed) (q : Captured) (state' : SelectorState) (old new : JobOutputView) (last : Bool) → HasWritten before old w.packets w.reports → new.names ≡ old.names → Puts q old.target (Ok tt) new.target
     → apply_event policy (form_at old) w (Packet i x) ≡ decide_unless (form_refuses (form_at old) w.packets q) w i x state' q (end_if last)
     → Took policy w before i x state' old new last
-put-took policy w before i x q state' old new last has puts went =
-    let ok : PutOk before w.packets w.reports q old.names new.names old.target new.target = put-ok before w.packets w.reports q old.names new.names old.target new.target puts.names has puts.target in
+put-took policy w before i x q state' old new last has names puts went =
+    let ok : PutOk before w.packets w.reports q old.names new.names old.target new.target = put-ok before w.packets w.reports q old.names new.names old.target new.target names has puts in
     record {
       passed = q ∷ [];
       few = inr (q, refl);
@@ -85,18 +85,19 @@ put-took policy w before i x q state' old new last has puts went =
       output = ok.output;
       form = ok.form;
       failures = ok.failures;
-      names = puts.names;
+      names = names;
     }
 
 pub took : (policy : Policy) (w : Progress) (before : List ℕ) (i : ℕ) (x : Placed) (old new : JobOutputView) (last : Bool) (state' : SelectorState) (v : code.Verdict) (q : Captured) → HasWritten before old w.packets w.reports
-    → IsVerdict (judge policy w.state (w.decided + 1) x.packet) (Ok v) q state' → Offers v q old (Ok last) new → Took policy w before i x state' old new last
-took policy w before i x old new last state' code_verdict.Pass q has told offers =
-    rw offers.0 (put-took policy w before i x q state' old new false has offers.1 (goes-by policy (form_at old) w i x (Pass q) state' told.0 told.1))
-took policy w before i x old new last state' code_verdict.PassLast q has told offers =
-    rw offers.0 (put-took policy w before i x q state' old new true has offers.1 (goes-by policy (form_at old) w i x (PassLast q) state' told.0 told.1))
-took policy w before i x old new last state' code_verdict.Skip q has told offers =
+    → IsVerdict (judge policy w.state (w.decided + 1) x.packet) (Ok v) q state' → new.names ≡ old.names → Offers v q old.target (Ok last) new.target → Took policy w before i x state' old new last
+took policy w before i x old new last state' code_verdict.Pass q has told names offers =
+    rw offers.0 (put-took policy w before i x q state' old new false has names offers.1 (goes-by policy (form_at old) w i x (Pass q) state' told.0 told.1))
+took policy w before i x old new last state' code_verdict.PassLast q has told names offers =
+    rw offers.0 (put-took policy w before i x q state' old new true has names offers.1 (goes-by policy (form_at old) w i x (PassLast q) state' told.0 told.1))
+took policy w before i x old new last state' code_verdict.Skip q has told names offers =
     let b : last ≡ false = (cc (offers.0)) in
-    rw (b, offers.1) (record {
+    let same : new ≡ old = ap₂ output_at names offers.1 in
+    rw (b, same) (record {
       passed = [];
       few = inl refl;
       went = goes-by policy (form_at old) w i x Skip state' told.0 told.1;
@@ -227,11 +228,11 @@ pub record LastTook (policy : Policy) (w : Progress) (before : List ℕ) (i : �
   pub form : form_at new ≡ form_at old
   pub failures : failures_to new.target ≡ failures_to old.target
 
-pub last-took : (policy : Policy) (w : Progress) (before : List ℕ) (i : ℕ) (x : Placed) (old new : JobOutputView) (state' : SelectorState) (v : code.Verdict) (q : Captured) → IsVerdict (judge policy w.state (w.decided + 1) x.packet) (Ok v) q state' → Offers v q old (Ok true) new
+pub last-took : (policy : Policy) (w : Progress) (before : List ℕ) (i : ℕ) (x : Placed) (old new : JobOutputView) (state' : SelectorState) (v : code.Verdict) (q : Captured) → IsVerdict (judge policy w.state (w.decided + 1) x.packet) (Ok v) q state' → new.names ≡ old.names → Offers v q old.target (Ok true) new.target
     → HasWritten before old w.packets w.reports → LastTook policy w before i x state' old new
-last-took policy w before i x old new state' code_verdict.Pass q told offers has = absurd (let b = offers.0 in cc)
-last-took policy w before i x old new state' code_verdict.PassLast q told offers has =
-    let ok : PutOk before w.packets w.reports q old.names new.names old.target new.target = put-ok before w.packets w.reports q old.names new.names old.target new.target offers.1.names has offers.1.target in
+last-took policy w before i x old new state' code_verdict.Pass q told names offers has = absurd (let b = offers.0 in cc)
+last-took policy w before i x old new state' code_verdict.PassLast q told names offers has =
+    let ok : PutOk before w.packets w.reports q old.names new.names old.target new.target = put-ok before w.packets w.reports q old.names new.names old.target new.target names has offers.1 in
     record {
       packet = q;
       went = goes-by policy (form_at old) w i x (PassLast q) state' told.0 told.1 ∙ ap (λ (f : Option Fault). decide_unless f w i x state' q (Some Complete)) ok.none;
@@ -239,7 +240,7 @@ last-took policy w before i x old new state' code_verdict.PassLast q told offers
       form = ok.form;
       failures = ok.failures;
     }
-last-took policy w before i x old new state' code_verdict.Skip q told offers has = absurd (let b = offers.0 in cc)
+last-took policy w before i x old new state' code_verdict.Skip q told names offers has = absurd (let b = offers.0 in cc)
 
 -- ---- it is not put
 
@@ -340,7 +341,7 @@ unput-leaves : (ss : List InputPast) (before : List ℕ) (cursors : List InputVi
     → (d : Decided ss before (mk cursors schedule policy state (record { names = names; target = target }) decided)) → Ahead ss cursors schedule d.events (Packet turn x)
     → apply_event policy (form_to names target) (progress_of d) (Packet turn x) ≡ decide_unless (form_refuses (form_to names target) d.packets q) (progress_of d) turn x state' q o
     → input_spec.IsNext schedule cursors (next.Decide turn) → new.inputs ≡ record { cursors = cursors; schedule = schedule } → (cursor : InputView) → IsInput new.inputs.cursors turn cursor → cursor.source.offset ≡ x.offset
-    → AnswersNext d new q → PutsTo q target (Err fault) new.output.target
+    → AnswersNext d new q → Puts q target (Err fault) new.output.target
     → EndLeaves d (unwritten turn fault) new
 unput-leaves ss before cursors schedule turn policy state state' names (Capture sink) decided new x q o fault d ahead went tells same_feed cursor among offset answers puts =
     unput-capture ss before cursors schedule turn policy state state' names sink puts.sink decided new x q o fault d ahead went tells same_feed cursor among offset answers
@@ -449,20 +450,20 @@ AnswerLeaves {ss} {before} {old} d i (Err fault) new failed = EndLeaves d (unwri
 answer-core : (us vs : List InputPast) (s : InputPast) (before : List ℕ) (xs ys : List InputView) (h : InputView) (schedule : Schedule) (turn : ℕ) (policy : Policy) (state state' : SelectorState) (output output' : JobOutputView) (decided : ℕ) (p : Captured) (r : Result Bool Fault)
     → DecideLaws schedule turn xs ys h → input_spec.IsNext schedule (xs ++ h ∷ ys) (next.Decide turn) → AreInputsBehind us xs → At s h → AreInputsBehind vs ys → h.source.packet ≡ Some p → state'.passed ≤ decided + 1 → GrowsByOne state.tally state'.tally
     → (d : Decided (us ++ s ∷ vs) before (mk (xs ++ h ∷ ys) schedule policy state output decided))
-    → Decides (Some p) (record { policy = policy; state = state }) (decided + 1) output r (record { policy = policy; state = state' }) output'
+    → output'.names ≡ output.names → Decides (Some p) (record { policy = policy; state = state }) (decided + 1) output.target r (record { policy = policy; state = state' }) output'.target
     → AnswerLeaves d turn r (mk (xs ++ input_behind h ∷ ys) (schedule_behind schedule turn) policy state' output' (decided + 1)) (mk (xs ++ h ∷ ys) schedule policy state' output' decided)
-answer-core us vs s before xs ys h schedule turn policy state state' output output' decided p (Ok false) laws tells front at back held within grows d decides =
+answer-core us vs s before xs ys h schedule turn policy state state' output output' decided p (Ok false) laws tells front at back held within grows d names decides =
     elim decides [
       | inl j ↦ decided-goes us vs s before xs ys h schedule turn policy state state' output output' decided p laws front at back held within grows d
-          (took policy (progress_at (mk (xs ++ h ∷ ys) schedule policy state output decided) d.packets d.reports) before turn (record { offset = h.source.offset; packet = p }) output output' false state' j.answer j.packet d.output j.told j.offers)
+          (took policy (progress_at (mk (xs ++ h ∷ ys) schedule policy state output decided) d.packets d.reports) before turn (record { offset = h.source.offset; packet = p }) output output' false state' j.answer j.packet d.output j.told names j.offers)
       | inr x ↦ absurd (let e = x.answer in cc)
     ]
-answer-core us vs s before xs ys h schedule turn policy state state' output output' decided p (Ok true) laws tells front at back held within grows d decides =
+answer-core us vs s before xs ys h schedule turn policy state state' output output' decided p (Ok true) laws tells front at back held within grows d names decides =
     elim decides [
       | inl j ↦
           let w : Progress = progress_at (mk (xs ++ h ∷ ys) schedule policy state output decided) d.packets d.reports in
           let x : Placed = record { offset = h.source.offset; packet = p } in
-          let l = last-took policy w before turn x output output' state' j.answer j.packet j.told j.offers d.output in
+          let l = last-took policy w before turn x output output' state' j.answer j.packet j.told names j.offers d.output in
           let stop = stops-course (us ++ s ∷ vs) (xs ++ h ∷ ys) schedule d.events (Packet turn x) policy (form_at output) w (course_spec.decide w state' (l.packet ∷ []) (Some Complete)) Complete
           (next-true us vs s before xs ys h schedule turn policy state output decided p laws front at back held d) d.progress refl l.went refl in
           record {
@@ -480,12 +481,12 @@ answer-core us vs s before xs ys h schedule turn policy state state' output outp
     some : (ps : List Captured) (q : Captured) → 0 ≡ length (ps ++ q ∷ []) → ⊥
     some [] q e = absurd (omega (arith, e))
     some (x ∷ ps) q e = absurd (omega (arith, e))
-answer-core us vs s before xs ys h schedule turn policy state state' output output' decided p (Err fault) laws tells front at back held within grows d decides =
+answer-core us vs s before xs ys h schedule turn policy state state' output output' decided p (Err fault) laws tells front at back held within grows d names decides =
     elim decides [
       | inl j ↦ by_verdict_of j.answer j.packet j.told j.offers
       | inr j ↦
           let e : fault ≡ j.fault = (let e = j.answer in cc) in
-          rw e (reject-leaves (us ++ s ∷ vs) before (xs ++ h ∷ ys) schedule turn policy state state' output decided failed x j.fault d ahead j.told h here refl j.same (never-device policy state state' (decided + 1) p j.fault j.told))
+          rw e (reject-leaves (us ++ s ∷ vs) before (xs ++ h ∷ ys) schedule turn policy state state' output decided failed x j.fault d ahead j.told h here refl (ap₂ output_at names j.same) (never-device policy state state' (decided + 1) p j.fault j.told))
     ]
   where
     x : Placed
@@ -518,21 +519,21 @@ answer-core us vs s before xs ys h schedule turn policy state state' output outp
       inputs = refl;
     }
 
-    by_verdict_of : (v : code.Verdict) (q : Captured) → IsVerdict (judge policy state (decided + 1) p) (Ok v) q state' → Offers v q output (Err fault) output' → EndLeaves d (unwritten turn fault) failed
+    by_verdict_of : (v : code.Verdict) (q : Captured) → IsVerdict (judge policy state (decided + 1) p) (Ok v) q state' → Offers v q output.target (Err fault) output'.target → EndLeaves d (unwritten turn fault) failed
     by_verdict_of code_verdict.Pass q told offers =
         unput-leaves (us ++ s ∷ vs) before (xs ++ h ∷ ys) schedule turn policy state state' output.names output.target decided failed x q None fault d ahead
-        (goes-by policy (form_at output) w turn x (Pass q) state' told.0 told.1) tells refl h here refl (answers q (let A : Verdict → Type 0 = λ v. PassesAs v q in subst A told.0 refl)) offers.target
+        (goes-by policy (form_at output) w turn x (Pass q) state' told.0 told.1) tells refl h here refl (answers q (let A : Verdict → Type 0 = λ v. PassesAs v q in subst A told.0 refl)) offers
     by_verdict_of code_verdict.PassLast q told offers =
         unput-leaves (us ++ s ∷ vs) before (xs ++ h ∷ ys) schedule turn policy state state' output.names output.target decided failed x q (Some Complete) fault d ahead
-        (goes-by policy (form_at output) w turn x (PassLast q) state' told.0 told.1) tells refl h here refl (answers q (let A : Verdict → Type 0 = λ v. PassesAs v q in subst A told.0 refl)) offers.target
+        (goes-by policy (form_at output) w turn x (PassLast q) state' told.0 told.1) tells refl h here refl (answers q (let A : Verdict → Type 0 = λ v. PassesAs v q in subst A told.0 refl)) offers
     by_verdict_of code_verdict.Skip q told offers = absurd (let e = offers.0 in cc)
 
 pub answer-leaves : (ss : List InputPast) (before : List ℕ) (cursors : List InputView) (schedule : Schedule) (policy : Policy) (state : SelectorState) (output : JobOutputView) (decided i : ℕ) (r : Result Bool Fault) (h : InputView) (selector' : PolicyState) (output' : JobOutputView)
-    → input_spec.IsNext schedule cursors (next.Decide i) → IsInput cursors i h → selector'.policy ≡ policy → (state.passed ≤ decided + 1 → selector'.state.passed ≤ decided + 1) → GrowsByOne state.tally selector'.state.tally → decided ≤ most_steps
-    → (state.passed < decided + 1 → IsWithin most_steps state.tally → Decides h.source.packet (record { policy = policy; state = state }) (decided + 1) output r selector' output')
+    → output'.names ≡ output.names → input_spec.IsNext schedule cursors (next.Decide i) → IsInput cursors i h → selector'.policy ≡ policy → (state.passed ≤ decided + 1 → selector'.state.passed ≤ decided + 1) → GrowsByOne state.tally selector'.state.tally → decided ≤ most_steps
+    → (state.passed < decided + 1 → IsWithin most_steps state.tally → Decides h.source.packet (record { policy = policy; state = state }) (decided + 1) output.target r selector' output'.target)
     → (d : Decided ss before (mk cursors schedule policy state output decided))
     → AnswerLeaves d i r (mk (slice_set cursors i (input_behind h)) (schedule_behind schedule i) policy selector'.state output' (decided + 1)) (mk cursors schedule policy selector'.state output' decided)
-answer-leaves ss before cursors schedule policy state output decided i r other selector' output' tells among_other asks passes grows few decides d =
+answer-leaves ss before cursors schedule policy state output decided i r other selector' output' names tells among_other asks passes grows few decides d =
     let at : DecideAt schedule cursors i = decide-at schedule cursors i tells d.ended in
     let among = at.among in
     let h = at.cursor in
@@ -545,8 +546,8 @@ answer-leaves ss before cursors schedule policy state output decided i r other s
     let was : IsAt st.here.text st.here.done st.here.packets true h.source = subst W at.laws.waits st.at in
     let has = was.waits refl in
     let within : state.passed < decided + 1 = (let l = d.passed in omega (arith, l)) in
-    let C : Option Captured → Type 0 = λ o. Decides o (record { policy = policy; state = state }) (decided + 1) output r selector' output' in
-    let C' : Policy → Type 0 = λ k. Decides (Some has.packet) (record { policy = policy; state = state }) (decided + 1) output r (record { policy = k; state = selector'.state }) output' in
+    let C : Option Captured → Type 0 = λ o. Decides o (record { policy = policy; state = state }) (decided + 1) output.target r selector' output'.target in
+    let C' : Policy → Type 0 = λ k. Decides (Some has.packet) (record { policy = policy; state = state }) (decided + 1) output.target r (record { policy = k; state = selector'.state }) output'.target in
     let held : other.source.packet ≡ Some has.packet = ap (λ (v : InputView). v.source.packet) same ∙ has.held in
     let chosen = subst C' asks (subst C held (decides within (within-more decided most_steps state.tally few d.counted))) in
     let cursors' : slice_set cursors i (input_behind h) ≡ among.front ++ input_behind h ∷ among.back = ap (λ (l : List InputView). slice_set l i (input_behind h)) among.splits ∙ set-here among.front among.back h (input_behind h) i among.place in
@@ -554,7 +555,7 @@ answer-leaves ss before cursors schedule policy state output decided i r other s
     let failed : List InputView → MachineState = λ l. mk l schedule policy selector'.state output' decided in
     let passes_on : selector'.state.passed ≤ decided + 1 = passes (let l = d.passed in omega (arith, l)) in
     let core : (e : Decided (st.front ++ st.here ∷ st.back) before (mk (among.front ++ h ∷ among.back) schedule policy state output decided)) → AnswerLeaves e i r (new (among.front ++ input_behind h ∷ among.back)) (failed (among.front ++ h ∷ among.back)) = λ e.
-    answer-core st.front st.back st.here before among.front among.back h schedule i policy state selector'.state output output' decided has.packet r at.laws (subst T among.splits tells) st.before st.at st.behind has.held passes_on grows e chosen in
+    answer-core st.front st.back st.here before among.front among.back h schedule i policy state selector'.state output output' decided has.packet r at.laws (subst T among.splits tells) st.before st.at st.behind has.held passes_on grows e names chosen in
     let G : List InputPast → Type 0 = λ l. (e : Decided l before (mk (among.front ++ h ∷ among.back) schedule policy state output decided)) → AnswerLeaves e i r (new (among.front ++ input_behind h ∷ among.back)) (failed (among.front ++ h ∷ among.back)) in
     let H : List InputView → Type 0 = λ l. (e : Decided ss before (mk l schedule policy state output decided)) → AnswerLeaves e i r (new (among.front ++ input_behind h ∷ among.back)) (failed l) in
     let I : List InputView → Type 0 = λ l. AnswerLeaves d i r (new l) (failed cursors) in

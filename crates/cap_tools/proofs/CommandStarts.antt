@@ -4,7 +4,7 @@ use Rattle.std.proofs.lemmas.List.{append-nil}
 use Rattle.cap_octet.specs.declared.device.Stopped.{Stopped}
 use Rattle.flt_bpf.specs.Listing.{listing}
 use Rattle.cap_filter.specs.Messages.{write_failed_message}
-use Rattle.cap_tools.specs.Output.{Target, Capture, Text, Lines, Lists, ListsTo, written_to, failures_to}
+use Rattle.cap_tools.specs.Output.{Target, Capture, Text, Lines, Lists, written_to, failures_to}
 use Rattle.cap_tools.specs.Reports.{name_at}
 use Rattle.cap_tools.specs.Machine.{MachineState, written_by}
 use Rattle.std.proofs.lemmas.Bool.{and_parts, eqb-true, leb-true}
@@ -78,10 +78,10 @@ command-begun c call job r is runs =
 
 -- ---- a listing is written
 
-pub lists-ok : (insns : List Insn) (tells : Bool) (old new : MachineState) (err : OutputView) → is_text old.output.target ≡ true → Lists insns old.output (Ok tt) new.output → ListsInto insns tells old err 0 new err
-lists-ok insns tells old new err text lists = by_target old.output.target refl text lists.target
+pub lists-ok : (insns : List Insn) (tells : Bool) (old new : MachineState) (err : OutputView) → is_text old.output.target ≡ true → Lists (listing insns) old.output.target (Ok tt) new.output.target → ListsInto insns tells old err 0 new err
+lists-ok insns tells old new err text lists = by_target old.output.target refl text lists
   where
-    by_target : (t : Target) → old.output.target ≡ t → is_text t ≡ true → ListsTo (listing insns) t (Ok tt) new.output.target → ListsInto insns tells old err 0 new err
+    by_target : (t : Target) → old.output.target ≡ t → is_text t ≡ true → Lists (listing insns) t (Ok tt) new.output.target → ListsInto insns tells old err 0 new err
     by_target (Capture sink) is text to = absurd (let e = text in cc)
     by_target (Lines options written failures room) is text to = absurd (let e = text in cc)
     by_target (Text written failures room) is text to =
@@ -94,11 +94,11 @@ lists-ok insns tells old new err text lists = by_target old.output.target refl t
           told = record { answer = Ok tt; told = λ te. sym (append-nil err.written); counted = sym (add-zero err.failures) };
         }
 
-pub lists-err : (insns : List Insn) (tells : Bool) (old new : MachineState) (stopped : Stopped) (err err' : OutputView) → is_text old.output.target ≡ true → Lists insns old.output (Err stopped) new.output
+pub lists-err : (insns : List Insn) (tells : Bool) (old new : MachineState) (stopped : Stopped) (err err' : OutputView) → is_text old.output.target ≡ true → Lists (listing insns) old.output.target (Err stopped) new.output.target
     → IsTold tells err (write_failed_message (name_at old.output.names (length old.inputs.cursors))) err' → ListsInto insns tells old err 1 new err'
-lists-err insns tells old new stopped err err' text lists told = by_target old.output.target refl text lists.target
+lists-err insns tells old new stopped err err' text lists told = by_target old.output.target refl text lists
   where
-    by_target : (t : Target) → old.output.target ≡ t → is_text t ≡ true → ListsTo (listing insns) t (Err stopped) new.output.target → ListsInto insns tells old err 1 new err'
+    by_target : (t : Target) → old.output.target ≡ t → is_text t ≡ true → Lists (listing insns) t (Err stopped) new.output.target → ListsInto insns tells old err 1 new err'
     by_target (Capture sink) is text to = absurd (let e = text in cc)
     by_target (Lines options written failures room) is text to = absurd (let e = text in cc)
     by_target (Text written failures room) is text to =
@@ -118,18 +118,18 @@ lists-err insns tells old new stopped err err' text lists told = by_target old.o
           quiet = λ none. (cc);
         }
 
-pub listed-ok : (insns : List Insn) (tells : Bool) (old mid new : JobView) → is_text old.machine.output.target ≡ true → Lists insns old.machine.output (Ok tt) mid.machine.output → mid.err ≡ old.err
+pub listed-ok : (insns : List Insn) (tells : Bool) (old mid new : JobView) → is_text old.machine.output.target ≡ true → Lists (listing insns) old.machine.output.target (Ok tt) mid.machine.output.target → mid.err ≡ old.err
     → new ≡ ending end.Complete new.err mid → new.err ≡ mid.err → EndsList insns tells old (turn.Done 0) new
 listed-ok insns tells old mid new text lists same is quiet =
     let M : MachineState → Type 0 = λ m. ListsInto insns tells old.machine old.err 0 m old.err in
     let E : OutputView → Type 0 = λ v. ListsInto insns tells old.machine old.err 0 new.machine v in
     record { runs = subst E (sym (quiet ∙ same)) (subst M (sym (ap (λ (j : JobView). j.machine) is)) (lists-ok insns tells old.machine mid.machine old.err text lists)) }
 
-pub listed-err : (insns : List Insn) (tells : Bool) (old mid new : JobView) (stopped : Stopped) → is_text old.machine.output.target ≡ true → Lists insns old.machine.output (Err stopped) mid.machine.output → mid.err ≡ old.err → mid.machine.inputs ≡ old.machine.inputs
+pub listed-err : (insns : List Insn) (tells : Bool) (old mid new : JobView) (stopped : Stopped) → is_text old.machine.output.target ≡ true → Lists (listing insns) old.machine.output.target (Err stopped) mid.machine.output.target → mid.machine.output.names ≡ old.machine.output.names → mid.err ≡ old.err → mid.machine.inputs ≡ old.machine.inputs
     → new ≡ ending end.OutputFailed new.err mid → IsTold tells mid.err (end_text mid.machine.output.names mid.machine.inputs.cursors end.OutputFailed) new.err → EndsList insns tells old (turn.Done 1) new
-listed-err insns tells old mid new stopped text lists same inputs is told =
+listed-err insns tells old mid new stopped text lists names same inputs is told =
     let M : MachineState → Type 0 = λ m. ListsInto insns tells old.machine old.err 1 m new.err in
     let N : List (List ℕ) → Type 0 = λ l. IsTold tells mid.err (write_failed_message (name_at l (length mid.machine.inputs.cursors))) new.err in
     let C : InputsView → Type 0 = λ f. IsTold tells mid.err (write_failed_message (name_at old.machine.output.names (length f.cursors))) new.err in
     let F : OutputView → Type 0 = λ v. IsTold tells v (write_failed_message (name_at old.machine.output.names (length old.machine.inputs.cursors))) new.err in
-    record { runs = subst M (sym (ap (λ (j : JobView). j.machine) is)) (lists-err insns tells old.machine mid.machine stopped old.err new.err text lists (subst F same (subst C inputs (subst N lists.names told)))) }
+    record { runs = subst M (sym (ap (λ (j : JobView). j.machine) is)) (lists-err insns tells old.machine mid.machine stopped old.err new.err text lists (subst F same (subst C inputs (subst N names told)))) }

@@ -21,7 +21,7 @@ use Rattle.cap_tools.specs.Verdict.{Policy, Edit, Filter, KeepAll, Count, Select
 use Rattle.cap_tools.specs.Selector as selecting
 use Rattle.cap_tools.specs.Selector.{PolicyState, IsWithin, emptied, is_count}
 use Rattle.cap_tools.specs.Outcome.{Form, AsReports, Progress, no_progress, apply_events, final_progress, end_with, final_text, output_text, text_at_end, first_link}
-use Rattle.cap_tools.specs.Output.{JobOutputView, Target, Capture, Text, Lines, HasWritten, Reports, ReportsTo, form_at, written_to, failures_to}
+use Rattle.cap_tools.specs.Output.{JobOutputView, Target, Capture, Text, Lines, HasWritten, Reports, form_at, written_to, failures_to}
 use Rattle.cap_tools.specs.Inputs.{InputView, InputsView, Future, InputPast, AreInputsBehind, AreSettled, IsInput, EndedBefore, ReadsInput, IsNext, waits_from, waiting_packets, input_after, schedule_after, is_clean_end, actual_future, items_with, inputs_with, inputs_left, sequence_left, is_in_turn, ordering_of}
 use Rattle.cap_tools.specs.Reports.{report_text, reports_text}
 use Rattle.cap_tools.specs.Machine.{MachineState, AppendsOnce, Decided, GoesOn, Comes, BreaksAt, WhyBroken, StopsWriting, StepLeaves, Closes, ClosesBy, asks_report, report_at, unless_failed, progress_at, progress_of, progress_over, form_of, failures_by, written_by, cut_at, wholes_of}
@@ -309,7 +309,7 @@ report-stops : (us vs : List InputPast) (s : InputPast) (before : List ℕ) (xs 
     → (laws : ReadLaws schedule turn xs ys h) → IsNext schedule (xs ++ h ∷ ys) (next.Read turn) → AreInputsBehind us xs → At s h → AreInputsBehind vs ys → Advances h.source.phase h.source (Ok false) s' → Steps h.source.phase h.source (Ok false) s'
     → (d : Decided (us ++ s ∷ vs) before (mk (xs ++ h ∷ ys) schedule policy state (record { names = names; target = target }) decided))
     → asks_report (ordering_of schedule) policy ≡ true
-    → ReportsTo (report_text names (report_at turn (input_after h (Ok false) s') state.tally)) target (Err fault) output'.target
+    → Reports (report_text names (report_at turn (input_after h (Ok false) s') state.tally)) target (Err fault) output'.target
     → StopsWriting d (mk (xs ++ input_after h (Ok false) s' ∷ ys) (schedule_after schedule turn true) policy state' output' decided)
 report-stops us vs s before xs ys h s' schedule turn policy state names (Capture sink) decided state' output' fault laws tells front at back advances steps d asks reports = absurd (let e = reports.0 in cc)
 report-stops us vs s before xs ys h s' schedule turn policy state names (Lines options bytes failures room) decided state' output' fault laws tells front at back advances steps d asks reports = absurd (let e = reports.0 in cc)
@@ -377,7 +377,7 @@ closed-core us vs s before xs ys h s' schedule turn policy state output decided 
     (quiet-closed (ordering_of schedule) policy (progress_at (mk (xs ++ h ∷ ys) schedule policy state output decided) d.packets d.reports) turn (kind_of s'.declared) s'.offset asks)
     d.output (once-nothing (first_link (wholes_of (us ++ s ∷ vs))) (progress_of d) (progress_of d) output output refl refl refl) refl refl refl d.passed d.counted)
 closed-core us vs s before xs ys h s' schedule turn policy state output decided r selector' output' laws tells front at back advances steps d true asks by =
-    rw (by.is, by.selector_is) (by_answer by.answer by.reports)
+    rw (by.is, by.selector_is) (by_answer by.answer by.names by.reports)
   where
     old : MachineState
     old = mk (xs ++ h ∷ ys) schedule policy state output decided
@@ -385,15 +385,15 @@ closed-core us vs s before xs ys h s' schedule turn policy state output decided 
     report : Report
     report = report_at turn (input_after h (Ok false) s') state.tally
 
-    by_answer : (answer : Result (Unit {0}) DeviceFault) → Reports report output answer output'
+    by_answer : (answer : Result (Unit {0}) DeviceFault) → output'.names ≡ output.names → Reports (report_text output.names report) output.target answer output'.target
         → StepLeaves d (unless_failed answer) (mk (xs ++ input_after h (Ok false) s' ∷ ys) (schedule_after schedule turn true) policy (emptied state) output' decided)
-    by_answer (Ok done) reports =
+    by_answer (Ok done) names reports =
         let ok : ReportOk before d.packets d.reports report output.names output'.names output.target output'.target =
-        report-ok before d.packets d.reports report output.names output'.names output.target output'.target reports.names d.output reports.target in
+        report-ok before d.packets d.reports report output.names output'.names output.target output'.target names d.output reports in
         closed-goes us vs s before xs ys h s' schedule turn policy state output decided (emptied state) output' (d.reports ++ report ∷ []) laws front at back advances (never-kept h.source s' (Ok false) steps) d
         (told-closed (ordering_of schedule) policy (progress_at old d.packets d.reports) turn (kind_of s'.declared) s'.offset asks)
-        ok.output (once-report (first_link (wholes_of (us ++ s ∷ vs))) before (progress_of d) (with_report (progress_of d) report) output output' report d.output ok.output ok.form refl refl) ok.form ok.failures reports.names d.passed (omega arith, omega arith, omega arith)
-    by_answer (Err fault) reports = report-stops us vs s before xs ys h s' schedule turn policy state output.names output.target decided (emptied state) output' fault laws tells front at back advances steps d asks reports.target
+        ok.output (once-report (first_link (wholes_of (us ++ s ∷ vs))) before (progress_of d) (with_report (progress_of d) report) output output' report d.output ok.output ok.form refl refl) ok.form ok.failures names d.passed (omega arith, omega arith, omega arith)
+    by_answer (Err fault) names reports = report-stops us vs s before xs ys h s' schedule turn policy state output.names output.target decided (emptied state) output' fault laws tells front at back advances steps d asks reports
 
 -- ---- all of them
 
@@ -464,17 +464,17 @@ read_input-leaves ss before cursors schedule policy state output decided i a inp
 -- ---- an input is closed
 
 pub closes-by : (schedule : Schedule) (input : ℕ) (cursor : InputView) (selector selector' : PolicyState) (output output' : JobOutputView) (r : StepOutcome) (tally : Tally) (report : Report) (answer : Result (Unit {0}) DeviceFault) → is_in_turn schedule ≡ true
-    → selecting.TakesTally (is_count selector.policy) selector (Some tally) selector' → report ≡ report_at input cursor tally → Reports report output answer output' → r ≡ unless_failed answer
+    → selecting.TakesTally (is_count selector.policy) selector (Some tally) selector' → report ≡ report_at input cursor tally → Reports (report_text output.names report) output.target answer output'.target → output'.names ≡ output.names → r ≡ unless_failed answer
     → ClosesBy (asks_report (ordering_of schedule) selector.policy) input cursor selector output r selector' output'
-closes-by (Merge n u) input cursor selector selector' output output' r tally report answer turn taken is reports ends = (cc)
-closes-by (Turn turn) input cursor selector selector' output output' r tally report answer here taken is reports ends = by_count (is_count selector.policy) taken
+closes-by (Merge n u) input cursor selector selector' output output' r tally report answer turn taken is reports names ends = (cc)
+closes-by (Turn turn) input cursor selector selector' output output' r tally report answer here taken is reports names ends = by_count (is_count selector.policy) taken
   where
     by_count : (b : Bool) → selecting.TakesTally b selector (Some tally) selector' → ClosesBy b input cursor selector output r selector' output'
     by_count false taken = absurd (let e = taken.0 in cc)
     by_count true taken =
         let same : tally ≡ selector.state.tally = (let e = taken.0 in cc) in
-        let P : Report → Type 0 = λ v. Reports v output answer output' in
-        record { answer = answer; reports = subst P (is ∙ ap (report_at input cursor) same) reports; is = ends; selector_is = taken.1 }
+        let P : Report → Type 0 = λ v. Reports (report_text output.names v) output.target answer output'.target in
+        record { answer = answer; reports = subst P (is ∙ ap (report_at input cursor) same) reports; names = names; is = ends; selector_is = taken.1 }
 
 -- what was counted is taken of an input that is reported alone
 pub counted : (schedule : Schedule) (policy : Policy) (selector selector' : PolicyState) (tally : Tally) → is_in_turn schedule ≡ true → selecting.TakesTally (is_count policy) selector (Some tally) selector' → asks_report (ordering_of schedule) policy ≡ false → ⊥

@@ -17,7 +17,7 @@ use Rattle.cap_tools.specs.Reports.{Report}
 use Rattle.cap_tools.specs.Sequence.{InputItems, Complete, sequence_of, with_front}
 use Rattle.cap_tools.specs.Verdict.{Policy, SelectorState}
 use Rattle.cap_tools.specs.Outcome.{Form, AsCapture, Progress, closing_text, final_progress, lines_text, end_with, final_text, first_link}
-use Rattle.cap_tools.specs.Output.{JobOutputView, Target, Capture, Text, Lines, HasWrittenTo, FinishesTo, form_at, form_to, written_to, failures_to}
+use Rattle.cap_tools.specs.Output.{JobOutputView, Target, Capture, Text, Lines, HasWrittenTo, Finishes, form_at, form_to, written_to, failures_to}
 use Rattle.cap_tools.specs.Inputs.{InputView, Future, InputPast, AreInputsBehind, EndedTo, IsNext, actual_future, ordering_of, first_declared_link}
 use Rattle.cap_tools.specs.Reports.{reports_text}
 use Rattle.cap_tools.specs.Machine.{MachineState, Decided, Comes, StopsWriting, progress_at, progress_of, progress_over, wholes_of}
@@ -56,7 +56,7 @@ abbrev over : MachineState → List Captured → List Report → Progress
 over m packets reports = end_with (progress_at m packets reports) Complete
 
 -- what is written of a job that met its clean end
-finish-text : (before : List ℕ) (names : List (List ℕ)) (ps : List Captured) (rs : List Report) (n : ℕ) (state : SelectorState) (target new : Target) (link : Option ℕ) → HasWrittenTo before names target ps rs → FinishesTo link target (Ok tt) new
+finish-text : (before : List ℕ) (names : List (List ℕ)) (ps : List Captured) (rs : List Report) (n : ℕ) (state : SelectorState) (target new : Target) (link : Option ℕ) → HasWrittenTo before names target ps rs → Finishes link target (Ok tt) new
     → written_to new ≡ before ++ final_text (form_to names target) link (record { decided = n; state = state; packets = ps; reports = rs; end = Some Complete })
 finish-text before names [] rs n state (Capture sink) new link has finishes =
     ap written_to finishes.is
@@ -71,7 +71,7 @@ finish-text before names ps rs n state (Lines options bytes failures room) new l
     ap written_to finishes.1 ∙ has ∙ ap (λ (l : List ℕ). before ++ l) (sym (append-nil (lines_text options ps)))
 
 -- it is written without a failure
-finish-device : (before : List ℕ) (names : List (List ℕ)) (ps : List Captured) (rs : List Report) (target new : Target) (link : Option ℕ) → HasWrittenTo before names target ps rs → FinishesTo link target (Ok tt) new
+finish-device : (before : List ℕ) (names : List (List ℕ)) (ps : List Captured) (rs : List Report) (target new : Target) (link : Option ℕ) → HasWrittenTo before names target ps rs → Finishes link target (Ok tt) new
     → failures_to new ≡ failures_to target
 finish-device before names [] rs (Capture sink) new link has finishes =
     let empty : FinishesEmpty sink (link_or_ethernet link) (Ok tt) finishes.sink = finish-none before sink link (Ok tt) finishes.sink has finishes.finishes in
@@ -92,7 +92,7 @@ record StopsEmpty (before : List ℕ) (sink : SinkView) (packets : List Captured
   pub failures : failures_to new ≡ sink.failures + 1
   pub stops : Stops sink.written (heading sink.format (link_or_ethernet link)) (written_to new)
 
-finish-empty : (before : List ℕ) (sink : SinkView) (packets : List Captured) (link : Option ℕ) (fault : Fault) (new : Target) → HasPackets before sink packets → FinishesTo link (Capture sink) (Err fault) new
+finish-empty : (before : List ℕ) (sink : SinkView) (packets : List Captured) (link : Option ℕ) (fault : Fault) (new : Target) → HasPackets before sink packets → Finishes link (Capture sink) (Err fault) new
     → StopsEmpty before sink packets link new
 finish-empty before sink (q ∷ qs) link fault new has finishes =
     absurd (let same = finish-some before q qs sink link (Err fault) finishes.sink has finishes.finishes in let e = same.0 in cc)
@@ -110,7 +110,7 @@ finish-empty before sink [] link fault new has finishes =
 finish-stops : (ss : List InputPast) (before : List ℕ) (names : List (List ℕ)) (target : Target) (cursors : List InputView) (schedule : Schedule) (policy : Policy) (state : SelectorState) (decided : ℕ) (fault : Fault) (new : MachineState)
     → (d : Decided ss before (mk cursors schedule policy state (record { names = names; target = target }) decided))
     → final_progress policy (form_to names target) (sequence_of (ordering_of schedule) (wholes_of ss)) ≡ over (mk cursors schedule policy state (record { names = names; target = target }) decided) d.packets d.reports
-    → first_link (wholes_of ss) ≡ first_declared_link cursors → IsNext schedule cursors next.Finish → new.inputs ≡ record { cursors = cursors; schedule = schedule } → FinishesTo (first_declared_link cursors) target (Err fault) new.output.target
+    → first_link (wholes_of ss) ≡ first_declared_link cursors → IsNext schedule cursors next.Finish → new.inputs ≡ record { cursors = cursors; schedule = schedule } → Finishes (first_declared_link cursors) target (Err fault) new.output.target
     → StopsWriting d new
 finish-stops ss before names (Text bytes failures room) cursors schedule policy state decided fault new d stop link tells inputs finishes = absurd (let e = finishes.0 in cc)
 finish-stops ss before names (Lines options bytes failures room) cursors schedule policy state decided fault new d stop link tells inputs finishes = absurd (let e = finishes.0 in cc)
@@ -133,7 +133,7 @@ finish-stops ss before names (Capture sink) cursors schedule policy state decide
     }
 
 pub finish-leaves : (ss : List InputPast) (before : List ℕ) (cursors : List InputView) (schedule : Schedule) (policy : Policy) (state : SelectorState) (output : JobOutputView) (decided : ℕ) (r : Result (Unit {0}) Fault) (new : MachineState)
-    → IsNext schedule cursors next.Finish → new.inputs ≡ record { cursors = cursors; schedule = schedule } → FinishesTo (first_declared_link cursors) output.target r new.output.target → (d : Decided ss before (mk cursors schedule policy state output decided))
+    → IsNext schedule cursors next.Finish → new.inputs ≡ record { cursors = cursors; schedule = schedule } → Finishes (first_declared_link cursors) output.target r new.output.target → (d : Decided ss before (mk cursors schedule policy state output decided))
     → FinishLeaves d r new
 finish-leaves ss before cursors schedule policy state output decided (Ok done) new tells inputs finishes d =
     let at : OverAt schedule cursors = over-at schedule cursors tells d.ended in

@@ -87,7 +87,7 @@ target-light (Capture sink) few =
 target-light (Text written failures room) few = omega arith
 target-light (Lines options written failures room) few = omega arith
 
-pub is-light : (m : MachineState) → IsBounded m.inputs m.output → HasFewMarks m.policy m.state → IsLight m
+pub is-light : (m : MachineState) → IsBounded m.inputs m.output.target → HasFewMarks m.policy m.state → IsLight m
 is-light m bounded few =
     let cursors = cursors-light m.inputs.cursors bounded.0 in
     let target = target-light m.output.target bounded.1 in

@@ -6,7 +6,7 @@ use Rattle.cap_io.specs.Capture.{Declared, Nothing, PcapFile, PcapngFile}
 use Rattle.cap_io.specs.Reading.{most_in_unit}
 use Rattle.cap_io.specs.Source.{HasFew, behind}
 use Rattle.cap_io.specs.Text.{AreFew, most_output_interfaces}
-use Rattle.cap_tools.specs.Output.{JobOutputView, Target, Capture, Text, Lines}
+use Rattle.cap_tools.specs.Output.{Target, Capture, Text, Lines}
 use Rattle.cap_tools.specs.Inputs.{InputView, InputsView, IsInput, ReadsInput, ReadSteps, MarksDecided, is_clean_end, ordering_of, schedule_left, waiting_total, weight_of}
 use Rattle.cap_octet.specs.Packet.{Captured}
 use Rattle.cap_filter.specs.Programs.{spent_in}
@@ -142,11 +142,11 @@ HasFewInterfaces (Capture sink) = AreFew sink.interfaces
 HasFewInterfaces (Text written failures room) = Unit {0}
 HasFewInterfaces (Lines options written failures room) = Unit {0}
 
-abbrev pub IsBounded : InputsView → JobOutputView → Type 0
-IsBounded inputs output = All IsSmall inputs.cursors × HasFewInterfaces output.target
+abbrev pub IsBounded : InputsView → Target → Type 0
+IsBounded inputs target = All IsSmall inputs.cursors × HasFewInterfaces target
 
 -- What a job holds of each input is bounded, and of all of them; a window of n packets has n - 1 marks, and there is none
 -- where no duplicates are searched for.
 pub record IsLight (m : MachineState) : Type 0 where
-  pub each : IsBounded m.inputs m.output
+  pub each : IsBounded m.inputs m.output.target
   pub all : weight m ≤ most_weight (length m.inputs.cursors) (places (window_of m.policy))

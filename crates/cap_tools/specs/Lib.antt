@@ -10,6 +10,7 @@ pub mod Jobs
 pub mod Selector
 pub mod Lists
 pub mod Machine
+pub mod Messages
 pub mod Queue
 pub mod Reports
 pub mod Verdict

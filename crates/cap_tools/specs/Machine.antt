@@ -17,8 +17,8 @@ use Rattle.cap_tools.specs.declared.step.JobEnd.{JobEnd}
 use Rattle.cap_tools.specs.declared.step.JobEnd.TheVariants as end
 use Rattle.cap_tools.specs.declared.step.StepOutcome.{StepOutcome}
 use Rattle.cap_tools.specs.declared.step.StepOutcome.TheVariants.{More, Done}
-use Rattle.cap_tools.specs.Reports.{Report, Tally}
-use Rattle.cap_tools.specs.Output.{JobOutputView, HasWritten, Puts, Reports, form_at, written_to, failures_to}
+use Rattle.cap_tools.specs.Reports.{Report, Tally, report_text}
+use Rattle.cap_tools.specs.Output.{JobOutputView, Target, HasWritten, Puts, Reports, form_at, written_to, failures_to}
 use Rattle.cap_tools.specs.Sequence.{Event, SequenceEnd, Complete, FaultIn, InputItems, PacketOrder, InTurn, ByTime, sequence_of, whole_input}
 use Rattle.cap_tools.specs.Verdict.{Policy, SelectorState, Verdict, Pass, PassLast, Skip, Refuse, judge}
 use Rattle.cap_tools.specs.Selector.{PolicyState, SelectorView, IsWithin, emptied, is_count, most_spent, spent_by_verdict}
@@ -88,17 +88,17 @@ pub record Decided (ss : List InputPast) (before : List ℕ) (m : MachineState) 
 -- ---- the parts of a step
 
 -- what a call returns that says whether the packet is the last
-abbrev pub PutsAs : Bool → Captured → JobOutputView → Result Bool Fault → JobOutputView → Type 0
+abbrev pub PutsAs : Bool → Captured → Target → Result Bool Fault → Target → Type 0
 PutsAs last p old (Ok b) new = (b ≡ last) × Puts p old (Ok tt) new
 PutsAs last p old (Err fault) new = Puts p old (Err fault) new
 
-abbrev pub Offers : code.Verdict → Captured → JobOutputView → Result Bool Fault → JobOutputView → Type 0
+abbrev pub Offers : code.Verdict → Captured → Target → Result Bool Fault → Target → Type 0
 Offers code_verdict.Pass p old r new = PutsAs false p old r new
 Offers code_verdict.PassLast p old r new = PutsAs true p old r new
 Offers code_verdict.Skip p old r new = (r ≡ Ok false) × (new ≡ old)
 
 -- a packet is judged, and put where it passes
-pub record Judges (p : Captured) (selector : PolicyState) (number : ℕ) (old : JobOutputView) (r : Result Bool Fault) (selector' : PolicyState) (new : JobOutputView) : Type 0 where
+pub record Judges (p : Captured) (selector : PolicyState) (number : ℕ) (old : Target) (r : Result Bool Fault) (selector' : PolicyState) (new : Target) : Type 0 where
   pub answer : code.Verdict
   -- as it passes
   pub packet : Captured
@@ -106,13 +106,13 @@ pub record Judges (p : Captured) (selector : PolicyState) (number : ℕ) (old : 
   pub offers : Offers answer packet old r new
 
 -- it is refused, and nothing is written
-pub record Rejects (p : Captured) (selector : PolicyState) (number : ℕ) (old : JobOutputView) (r : Result Bool Fault) (selector' : PolicyState) (new : JobOutputView) : Type 0 where
+pub record Rejects (p : Captured) (selector : PolicyState) (number : ℕ) (old : Target) (r : Result Bool Fault) (selector' : PolicyState) (new : Target) : Type 0 where
   pub fault : Fault
   pub told : selecting.IsVerdict (judge selector.policy selector.state number p) (Err fault) p selector'.state
   pub answer : r ≡ Err fault
   pub same : new ≡ old
 
-abbrev pub Decides : Option Captured → PolicyState → ℕ → JobOutputView → Result Bool Fault → PolicyState → JobOutputView → Type 0
+abbrev pub Decides : Option Captured → PolicyState → ℕ → Target → Result Bool Fault → PolicyState → Target → Type 0
 Decides None selector number old r selector' new = ⊥
 Decides (Some p) selector number old r selector' new = Judges p selector number old r selector' new ⊎ Rejects p selector number old r selector' new
 
@@ -136,7 +136,8 @@ unless_failed (Err fault) = Done end.OutputFailed
 -- an input is reported, and the count begins anew
 pub record ReportsOn (input : ℕ) (cursor : InputView) (selector : PolicyState) (old : JobOutputView) (r : StepOutcome) (selector' : PolicyState) (new : JobOutputView) : Type 0 where
   pub answer : Result (Unit {0}) DeviceFault
-  pub reports : Reports (report_at input cursor selector.state.tally) old answer new
+  pub reports : Reports (report_text old.names (report_at input cursor selector.state.tally)) old.target answer new.target
+  pub names : new.names ≡ old.names
   pub is : r ≡ unless_failed answer
   pub selector_is : selector' ≡ record { policy = selector.policy; state = emptied selector.state }
 

@@ -4,8 +4,6 @@ use Rattle.cap_octet.specs.Device.{AppendsOrStops, failures_of}
 use Rattle.cap_octet.specs.Packet.{Captured}
 use Rattle.cap_octet.specs.declared.device.DeviceFault.{DeviceFault}
 use Rattle.cap_octet.specs.declared.device.Stopped.{Stopped}
-use Rattle.flt_bpf.specs.declared.insn.Insn.{Insn}
-use Rattle.flt_bpf.specs.Listing.{listing}
 use Rattle.cap_octet.specs.declared.fault.Fault.{Fault}
 use Rattle.cap_octet.specs.declared.fault.Fault.TheVariants.{WriteFailed}
 use Rattle.cap_print.specs.declared.print.Options.{Options}
@@ -16,9 +14,8 @@ use Rattle.cap_tools.specs.declared.output.Device.{Device}
 use Rattle.cap_tools.specs.declared.output.Device.TheVariants as device
 use Rattle.cap_tools.specs.declared.output.Writing.{Writing}
 use Rattle.cap_tools.specs.declared.output.Writing.TheVariants as writing
-use Rattle.cap_tools.specs.declared.report.Report as code
 use Rattle.cap_tools.specs.Outcome.{Form, AsCapture, AsReports, AsLines, lines_text}
-use Rattle.cap_tools.specs.Reports.{Report, report_text, reports_text}
+use Rattle.cap_tools.specs.Reports.{Report, reports_text}
 
 -- ---- the view
 
@@ -29,10 +26,13 @@ pub data Target : Type 0 where
   Text : (written : List ℕ) → (failures room : ℕ) → Target
   Lines : (options : Options) → (written : List ℕ) → (failures room : ℕ) → Target
 
+-- where a job writes, and the names of its files: of the inputs, then of the output
 pub record JobOutputView : Type 0 where
-  -- of the inputs, then of the output
   pub names : List (List ℕ)
   pub target : Target
+
+abbrev pub output_at : List (List ℕ) → Target → JobOutputView
+output_at names target = record { names = names; target = target }
 
 abbrev pub target_of : {O Z : Type 0} → (O → List ℕ) → (O → ℕ) → (O → ℕ) → Device O Z → Target
 target_of written failures room (device.Capture sink) = Capture sink
@@ -91,15 +91,11 @@ pub record Prints (options : Options) (p : Captured) (written : List ℕ) (failu
   pub fault : IfErr r (λ fault. fault ≡ WriteFailed)
   pub is : new ≡ Lines options after (failures + failures_of r) room
 
-abbrev pub PutsTo : Captured → Target → Result (Unit {0}) Fault → Target → Type 0
-PutsTo p (Capture sink) r new = PutsInto p sink r new
-PutsTo p (Text written failures room) r new = (r ≡ Ok tt) × (new ≡ Text written failures room)
-PutsTo p (Lines options written failures room) r new = Prints options p written failures room r new
-
 -- a packet is written, where packets are
-pub record Puts (p : Captured) (old : JobOutputView) (r : Result (Unit {0}) Fault) (new : JobOutputView) : Type 0 where
-  pub names : new.names ≡ old.names
-  pub target : PutsTo p old.target r new.target
+abbrev pub Puts : Captured → Target → Result (Unit {0}) Fault → Target → Type 0
+Puts p (Capture sink) r new = PutsInto p sink r new
+Puts p (Text written failures room) r new = (r ≡ Ok tt) × (new ≡ Text written failures room)
+Puts p (Lines options written failures room) r new = Prints options p written failures room r new
 
 -- a text is appended, or the device failed
 pub record Appends {E : Type 0} (bytes written : List ℕ) (failures room : ℕ) (r : Result (Unit {0}) E) (new : Target) : Type 0 where
@@ -107,28 +103,17 @@ pub record Appends {E : Type 0} (bytes written : List ℕ) (failures room : ℕ)
   pub appends : AppendsOrStops r written bytes after
   pub is : new ≡ Text after (failures + failures_of r) room
 
-abbrev pub ReportsTo : List ℕ → Target → Result (Unit {0}) DeviceFault → Target → Type 0
-ReportsTo bytes (Capture sink) r new = (r ≡ Ok tt) × (new ≡ Capture sink)
-ReportsTo bytes (Text written failures room) r new = Appends bytes written failures room r new
-ReportsTo bytes (Lines options written failures room) r new = (r ≡ Ok tt) × (new ≡ Lines options written failures room)
-
-abbrev pub reported : ℕ → code.Report → Report
-reported input r = record { input = input; kind = r.kind; size = r.size; tally = r.tally }
-
 -- a report is written, where reports are
-pub record Reports (report : Report) (old : JobOutputView) (r : Result (Unit {0}) DeviceFault) (new : JobOutputView) : Type 0 where
-  pub names : new.names ≡ old.names
-  pub target : ReportsTo (report_text old.names report) old.target r new.target
+abbrev pub Reports : List ℕ → Target → Result (Unit {0}) DeviceFault → Target → Type 0
+Reports bytes (Capture sink) r new = (r ≡ Ok tt) × (new ≡ Capture sink)
+Reports bytes (Text written failures room) r new = Appends bytes written failures room r new
+Reports bytes (Lines options written failures room) r new = (r ≡ Ok tt) × (new ≡ Lines options written failures room)
 
-abbrev pub ListsTo : List ℕ → Target → Result (Unit {0}) Stopped → Target → Type 0
-ListsTo bytes (Capture sink) r new = (r ≡ Ok tt) × (new ≡ Capture sink)
-ListsTo bytes (Text written failures room) r new = Appends bytes written failures room r new
-ListsTo bytes (Lines options written failures room) r new = (r ≡ Ok tt) × (new ≡ Lines options written failures room)
-
--- the listing of a program is written, where text is
-pub record Lists (insns : List Insn) (old : JobOutputView) (r : Result (Unit {0}) Stopped) (new : JobOutputView) : Type 0 where
-  pub names : new.names ≡ old.names
-  pub target : ListsTo (listing insns) old.target r new.target
+-- a listing is written, where text is
+abbrev pub Lists : List ℕ → Target → Result (Unit {0}) Stopped → Target → Type 0
+Lists bytes (Capture sink) r new = (r ≡ Ok tt) × (new ≡ Capture sink)
+Lists bytes (Text written failures room) r new = Appends bytes written failures room r new
+Lists bytes (Lines options written failures room) r new = (r ≡ Ok tt) × (new ≡ Lines options written failures room)
 
 -- a capture is finished
 pub record FinishesInto (first : Option ℕ) (old : SinkView) (r : Result (Unit {0}) Fault) (new : Target) : Type 0 where
@@ -137,12 +122,8 @@ pub record FinishesInto (first : Option ℕ) (old : SinkView) (r : Result (Unit 
   pub finishes : sinks.Finishes old.state old first r sink
   pub writes : FinishWrites old.state old first r sink
 
-abbrev pub FinishesTo : Option ℕ → Target → Result (Unit {0}) Fault → Target → Type 0
-FinishesTo first (Capture sink) r new = FinishesInto first sink r new
-FinishesTo first (Text written failures room) r new = (r ≡ Ok tt) × (new ≡ Text written failures room)
-FinishesTo first (Lines options written failures room) r new = (r ≡ Ok tt) × (new ≡ Lines options written failures room)
-
 -- what is written is ended
-pub record Finishes (first : Option ℕ) (old : JobOutputView) (r : Result (Unit {0}) Fault) (new : JobOutputView) : Type 0 where
-  pub names : new.names ≡ old.names
-  pub target : FinishesTo first old.target r new.target
+abbrev pub Finishes : Option ℕ → Target → Result (Unit {0}) Fault → Target → Type 0
+Finishes first (Capture sink) r new = FinishesInto first sink r new
+Finishes first (Text written failures room) r new = (r ≡ Ok tt) × (new ≡ Text written failures room)
+Finishes first (Lines options written failures room) r new = (r ≡ Ok tt) × (new ≡ Lines options written failures room)

@@ -5,6 +5,7 @@ mod edit;
 mod inputs;
 mod job;
 pub mod law;
+mod messages;
 mod output;
 mod packets;
 mod queue;

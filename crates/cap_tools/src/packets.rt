@@ -2,7 +2,6 @@
 ghost use Rattle.std.specs.Prelude.{ℕ, ◌≡◌, ◌+◌, ◌<◌, ◌≤◌, [], IsTrue, None, Some, length, map};
 ghost use Rattle.std.specs.Prelude.{true};
 ghost use Rattle.std.specs.String.{string_bytes};
-ghost use Rattle.cap_octet.specs.Device.{AppendsOrStops, failures_of};
 ghost use Rattle.cap_filter.specs.Outcome.{IsTold, seen};
 ghost use Rattle.cap_tools.specs.Bounds.{IsLight, ReadsNothing, StepReads, most_turns};
 ghost use Rattle.cap_tools.specs.Inputs.{most_steps, steps_left};
@@ -12,13 +11,13 @@ ghost use Rattle.cap_tools.specs.FirstStep.{is_text};
 ghost use Rattle.cap_tools.specs.Jobs.{call_of, end_status, end_text, most_inputs, order_of};
 
 use crate::inputs::{Inputs, Next};
+use crate::messages::Messages;
 use crate::output::{JobOutput, Writing};
 use crate::selector::{Policy, Selector};
 use crate::step::{JobEnd, StepOutcome, close, decide, unwritten};
 use cap_filter::filter::Filter;
-use cap_filter::message::{tell_fault, tell_refusal, tell_write_failed};
 use cap_filter::refusal::Refusal;
-use cap_octet::{DeviceFault, Input, Output};
+use cap_octet::{Input, Output};
 use flt_bpf::Program;
 use std::alloc::Allocator;
 use std::marker::Model;
@@ -45,7 +44,7 @@ pub struct PacketJob<I: Input, O: Output, E: Output, A: Allocator> {
     inputs: Inputs<I, A>,
     selector: Selector<A>,
     output: JobOutput<O, A>,
-    err: E,
+    messages: Messages<E, A>,
     /// How many packets are decided.
     decided: u128,
     /// How many steps it made.
@@ -58,7 +57,7 @@ impl<I: Input, O: Output, E: Output, A: Allocator> Model for PacketJob<I, O, E, 
     ghost use Rattle.std.specs.Prelude.{◌+◌, ◌≤◌};
     ghost use Rattle.std.specs.Coded.{codes};
     ghost use Rattle.cap_filter.specs.Programs.{expression_code};
-    ghost use Rattle.cap_filter.specs.Outcome.{seen};
+    ghost use Rattle.cap_tools.specs.Output.{output_at};
     ghost use Rattle.cap_tools.specs.Bounds.{HasFewTurns, IsBounded};
     ghost use Rattle.cap_tools.specs.Inputs.{most_steps, steps_left};
     ghost use Rattle.cap_tools.specs.Jobs.{JobView, IsCounted};
@@ -73,11 +72,11 @@ impl<I: Input, O: Output, E: Output, A: Allocator> Model for PacketJob<I, O, E, 
         inputs = j.inputs;
         policy = j.selector.policy;
         state = j.selector.state;
-        output = j.output;
+        output = output_at j.messages.names j.output;
         decided = j.decided;
       };
       programs = j.selector.programs;
-      err = seen (E.written j.err) (E.failures j.err);
+      err = j.messages.device;
       turns = j.turns;
       done = j.done;
     } };
@@ -88,27 +87,6 @@ impl<I: Input, O: Output, E: Output, A: Allocator> Model for PacketJob<I, O, E, 
         × HavePrograms j.selector.policy j.selector.programs
         × IsCounted j.done j.turns (steps_left j.inputs)
         × HasFewTurns j.done j.turns j.inputs };
-}
-
-/// Reports how a job ended.
-fn tell<I: Input, O: Output, E: Output, A: Allocator + Copy + Drop>(
-    err: &mut E,
-    inputs: &Inputs<I, A>,
-    output: &JobOutput<O, A>,
-    end: JobEnd,
-) -> Result<(), DeviceFault>
-    ensures told { IsTrue E.tells → AppendsOrStops result (E.written err.old)
-        (end_text output.now.names inputs.now.cursors end) (E.written err.new) }
-    ensures failed { E.failures err.new ≡ E.failures err.old + failures_of result }
-    ensures quiet { end ≡ JobEnd.Complete → err.new ≡ err.old }
-{
-    match end {
-        JobEnd::Complete => Ok(()),
-        JobEnd::FaultIn(input, fault) => {
-            tell_fault(err, output.name(input), inputs.offset(input), fault)
-        }
-        JobEnd::OutputFailed => tell_write_failed(err, output.name(inputs.count())),
-    }
 }
 
 fn status_at_end(end: JobEnd) -> u8
@@ -157,12 +135,12 @@ impl<I: Input, O: Output, E: Output, A: Allocator + Copy + Drop> PacketJob<I, O,
         let Ok(selector) = Selector::new(alloc, work.policy) else {
             return Err((out, err));
         };
-        let output = JobOutput::new(alloc, work.writing, names, out);
+        let output = JobOutput::new(alloc, work.writing, out);
         Ok(PacketJob {
             inputs,
             selector,
             output,
-            err,
+            messages: Messages::new(err, names),
             decided: 0,
             turns: 0,
             done: None,
@@ -252,7 +230,13 @@ impl<I: Input, O: Output, E: Output, A: Allocator + Copy + Drop> PacketJob<I, O,
     {
         match self.inputs.read_input(input) {
             Ok(true) => StepOutcome::More,
-            Ok(false) => close(&self.inputs, input, &mut self.selector, &mut self.output),
+            Ok(false) => close(
+                &self.inputs,
+                input,
+                &mut self.selector,
+                &mut self.output,
+                &self.messages,
+            ),
             Err(fault) => {
                 // The bytes of a broken unit pay for no step: none is counted from here on.
                 self.done = Some(1);
@@ -283,7 +267,7 @@ impl<I: Input, O: Output, E: Output, A: Allocator + Copy + Drop> PacketJob<I, O,
             self.old.machine.inputs.cursors end) self.new.err }
         ensures quiet { end ≡ JobEnd.Complete → self.new.err ≡ self.old.err }
     {
-        let _ = tell(&mut self.err, &self.inputs, &self.output, end);
+        self.messages.end(&self.inputs, end);
         let status = status_at_end(end);
         self.turns += 1;
         self.done = Some(status);
@@ -314,7 +298,7 @@ impl<I: Input, O: Output, E: Output, A: Allocator + Copy + Drop> PacketJob<I, O,
         ensures light { IsLight self.new.machine }
         ensures sound { HavePrograms self.new.machine.policy self.new.programs }
     {
-        let _ = tell_refusal(&mut self.err, refusal);
+        self.messages.refuse(refusal);
         let status = refusal.status();
         self.turns += 1;
         self.done = Some(status);
@@ -350,6 +334,6 @@ impl<I: Input, O: Output, E: Output, A: Allocator + Copy + Drop> PacketJob<I, O,
         ensures failures { O.failures result.0 ≡ failures_by self.machine }
         ensures messages { seen (E.written result.1) (E.failures result.1) ≡ self.err }
     {
-        (self.output.into_output(), self.err)
+        (self.output.into_output(), self.messages.into_device())
     }
 }

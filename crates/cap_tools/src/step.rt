@@ -3,11 +3,13 @@ ghost use Rattle.std.specs.Prelude.{◌≡◌, ◌<◌, ◌≤◌, IsTrue, false
 ghost use Rattle.cap_octet.specs.Packet.{captured};
 ghost use Rattle.cap_tools.specs.Bounds.{HasFewInterfaces};
 ghost use Rattle.cap_tools.specs.Inputs.{most_steps, ordering_of};
+ghost use Rattle.cap_tools.specs.Output.{output_at};
 ghost use Rattle.cap_tools.specs.Selector.{GrowsByOne, HasFewMarks, IsWithin, policy_state};
 ghost use Rattle.cap_tools.specs.Machine.{Closes, Decides, Offers, Spends, asks_report};
 ghost use Rattle.cap_tools.specs.Machine.{unwritten};
 
 use crate::inputs::{InputCursor, Inputs};
+use crate::messages::Messages;
 use crate::output::JobOutput;
 use crate::report::Report;
 use crate::selector::{Selector, Verdict};
@@ -40,8 +42,7 @@ fn put<O: Output, A: Allocator>(
 ) -> Result<bool, Fault>
     ensures told { IsTrue O.tells → Offers verdict (captured packet.now) output.old result
         output.new }
-    ensures few { HasFewInterfaces output.old.target → HasFewInterfaces output.new.target }
-    ensures names { output.new.names ≡ output.old.names }
+    ensures few { HasFewInterfaces output.old → HasFewInterfaces output.new }
 {
     let last = match verdict {
         Verdict::Pass => false,
@@ -71,8 +72,7 @@ pub(crate) fn decide<I: Input, O: Output, A: Allocator + Copy + Drop>(
     ensures passed { selector.old.state.passed ≤ number → selector.new.state.passed ≤ number }
     ensures counted { GrowsByOne selector.old.state.tally selector.new.state.tally }
     ensures marks { HasFewMarks selector.new.policy selector.new.state }
-    ensures few { HasFewInterfaces output.old.target → HasFewInterfaces output.new.target }
-    ensures names { output.new.names ≡ output.old.names }
+    ensures few { HasFewInterfaces output.old → HasFewInterfaces output.new }
 {
     let mut packet = cursor.packet().unwrap();
     let verdict = selector.judge(number, &mut packet)?;
@@ -80,21 +80,22 @@ pub(crate) fn decide<I: Input, O: Output, A: Allocator + Copy + Drop>(
 }
 
 /// Reports an input that was read to its end, where files are counted, one behind another.
-pub(crate) fn close<I: Input, O: Output, A: Allocator>(
+pub(crate) fn close<I: Input, O: Output, E: Output, A: Allocator>(
     inputs: &Inputs<I, A>,
     input: usize,
     selector: &mut Selector<A>,
     output: &mut JobOutput<O, A>,
+    messages: &Messages<E, A>,
 ) -> StepOutcome
     requires { input < length inputs.now.cursors }
-    ensures told { IsTrue O.tells → Closes inputs.now input (policy_state selector.old) output.old
-        result (policy_state selector.new) output.new }
+    ensures told { IsTrue O.tells → Closes inputs.now input (policy_state selector.old)
+        (output_at messages.now.names output.old) result (policy_state selector.new)
+        (output_at messages.now.names output.new) }
     ensures programs { selector.new.programs ≡ selector.old.programs }
     ensures policy { selector.new.policy ≡ selector.old.policy }
     ensures marks { HasFewMarks selector.old.policy selector.old.state
         → HasFewMarks selector.new.policy selector.new.state }
-    ensures few { HasFewInterfaces output.old.target → HasFewInterfaces output.new.target }
-    ensures names { output.new.names ≡ output.old.names }
+    ensures few { HasFewInterfaces output.old → HasFewInterfaces output.new }
     ensures kept { asks_report (ordering_of inputs.now.schedule) selector.old.policy ≡ false
         → output.new ≡ output.old }
 {
@@ -110,7 +111,7 @@ pub(crate) fn close<I: Input, O: Output, A: Allocator>(
         size: cursor.offset(),
         tally,
     };
-    match output.report(input, &report) {
+    match output.report(messages.name(input), &report) {
         Ok(()) => StepOutcome::More,
         Err(_) => StepOutcome::Done(JobEnd::OutputFailed),
     }

@@ -1,7 +1,9 @@
-use Rattle.std.proofs.Common.{◌≡◌, true, Ok, Err, refl, sym, ◌∙◌, ap₂}
+use Rattle.std.proofs.Common.{◌≡◌, ℕ, List, true, Ok, Err, refl, sym, ◌∙◌, ap₂, subst}
 use Rattle.cap_tools.specs.declared.step.JobEnd.TheVariants as end
 use Rattle.cap_tools.specs.declared.step.StepOutcome.TheVariants.{More, Done}
 use Rattle.cap_tools.specs.Inputs.{is_in_turn}
+use Rattle.cap_tools.specs.Output.{Reports, output_at}
+use Rattle.cap_tools.specs.Reports.{file_report}
 use Rattle.cap_tools.specs.Selector.{is_count, policy_state}
 use Rattle.cap_tools.proofs.Fetches.{closes-by, counted}
 use Rattle.cap_tools.proofs.Selectors.{closes-policy}
@@ -13,8 +15,8 @@ returns-in-Ok-clause-told g c = λ to.
     record {
       cursor = c.cursor-cursor.result.now;
       among = c.cursor-cursor.ensures;
-      by = closes-by c.args.inputs.now.schedule c.args.input c.cursor-cursor.result.now (policy_state c.args.selector.now) (policy_state c.close.new.self) c.args.output.now c.report.new.self More c.in-Some.tally
-          _ (Ok tt) turn c.in-Some.ensures.closes (ap₂ (λ k n. record { input = c.args.input; kind = k; size = n; tally = c.in-Some.tally }) c.kind.ensures c.offset.ensures) (c.in-Ok.ensures.told to) refl;
+      by = closes-by c.args.inputs.now.schedule c.args.input c.cursor-cursor.result.now (policy_state c.args.selector.now) (policy_state c.close.new.self) (output_at c.args.messages.now.names c.args.output.now) (output_at c.args.messages.now.names c.report.new.self) More c.in-Some.tally
+          _ (Ok tt) turn c.in-Some.ensures.closes (ap₂ (λ k n. record { input = c.args.input; kind = k; size = n; tally = c.in-Some.tally }) c.kind.ensures c.offset.ensures) (let F : List ℕ → Type 0 = λ n. Reports (file_report n c.kind.result c.offset.result c.in-Some.tally) c.args.output.now (Ok tt) c.report.new.self in subst F c.name.ensures (c.in-Ok.ensures.told to)) refl refl;
     }
 
 pub returns-in-Ok-clause-policy : goal.returns-in-Ok-clause-policy
@@ -26,8 +28,8 @@ returns-in-Err-clause-told g c = λ to.
     record {
       cursor = c.cursor-cursor.result.now;
       among = c.cursor-cursor.ensures;
-      by = closes-by c.args.inputs.now.schedule c.args.input c.cursor-cursor.result.now (policy_state c.args.selector.now) (policy_state c.close.new.self) c.args.output.now c.report.new.self (Done end.OutputFailed) c.in-Some.tally
-          _ (Err c.in-Err.field-0) turn c.in-Some.ensures.closes (ap₂ (λ k n. record { input = c.args.input; kind = k; size = n; tally = c.in-Some.tally }) c.kind.ensures c.offset.ensures) (c.in-Err.ensures.told to) refl;
+      by = closes-by c.args.inputs.now.schedule c.args.input c.cursor-cursor.result.now (policy_state c.args.selector.now) (policy_state c.close.new.self) (output_at c.args.messages.now.names c.args.output.now) (output_at c.args.messages.now.names c.report.new.self) (Done end.OutputFailed) c.in-Some.tally
+          _ (Err c.in-Err.field-0) turn c.in-Some.ensures.closes (ap₂ (λ k n. record { input = c.args.input; kind = k; size = n; tally = c.in-Some.tally }) c.kind.ensures c.offset.ensures) (let F : List ℕ → Type 0 = λ n. Reports (file_report n c.kind.result c.offset.result c.in-Some.tally) c.args.output.now (Err c.in-Err.field-0) c.report.new.self in subst F c.name.ensures (c.in-Err.ensures.told to)) refl refl;
     }
 
 pub returns-in-Err-clause-policy : goal.returns-in-Err-clause-policy

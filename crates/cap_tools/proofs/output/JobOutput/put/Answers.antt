@@ -7,16 +7,13 @@ pub returns-clause-told : goal.returns-clause-told
 returns-clause-told g c = λ to.
     elim c.match-self.branch [
       | in-Capture w ↦ rw (w.result-is, w.self-inside-is, ← c.self.view_is, w.in-Capture.is) (search rules)
-      | in-Text w ↦ rw (w.result-is, w.self-inside-is, ← c.self.view_is, w.in-Text.is) (record { names = refl; target = (refl, refl) })
+      | in-Text w ↦ rw (w.result-is, w.self-inside-is, ← c.self.view_is, w.in-Text.is) (refl, refl)
       | in-Lines w ↦
           let written : List ℕ = g.O.Output.written w.put_line.new.output in
           rw (w.result-is, w.self-inside-is, ← c.self.view_is, w.in-Lines.is) (record {
-            names = refl;
-            target = record {
-              after = written;
-              appends = w.put_line.ensures.told to;
-              fault = w.put_line.ensures.fault;
-              is = ap₂ (λ f room. Lines w.in-Lines.options written f room) w.put_line.ensures.failed w.put_line.ensures.room;
-            };
+            after = written;
+            appends = w.put_line.ensures.told to;
+            fault = w.put_line.ensures.fault;
+            is = ap₂ (λ f room. Lines w.in-Lines.options written f room) w.put_line.ensures.failed w.put_line.ensures.room;
           })
     ]

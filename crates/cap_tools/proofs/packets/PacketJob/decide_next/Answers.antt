@@ -1,6 +1,7 @@
 use Rattle.std.proofs.Common.{◌≡◌, ◌+◌, Ok, Err, IsTrue, List, ℕ, subst, sym, ◌∙◌, ap, arith, Bool, refl}
 use Rattle.std.specs.List.{slice_set}
-use Rattle.cap_filter.specs.Outcome.{OutputView, seen}
+use Rattle.cap_filter.specs.Outcome.{OutputView}
+use Rattle.cap_tools.specs.Output.{output_at}
 use Rattle.cap_tools.specs.declared.inputs.Next.TheVariants as next
 use Rattle.cap_tools.specs.declared.step.JobEnd.TheVariants as end
 use Rattle.cap_tools.specs.declared.step.StepOutcome.{StepOutcome}
@@ -57,9 +58,9 @@ invariant_of-self-in-Err g c = (
 pub returns-in-Err : goal.returns-in-Err
 returns-in-Err g c =
     let j : SelectorView = c.decide.new.selector in
-    let m : MachineState = record { inputs = c.self.inside.inputs; policy = c.self.inside.selector.policy; state = c.self.inside.selector.state; output = c.self.inside.output; decided = c.self.inside.decided } in
-    let err : OutputView = seen (g.E.Output.written c.self.inside.err) (g.E.Output.failures c.self.inside.err) in
-    let left : Policy → MachineState = λ k. record { inputs = c.self.inside.inputs; policy = k; state = j.state; output = c.decide.new.output; decided = c.self.inside.decided } in
+    let m : MachineState = record { inputs = c.self.inside.inputs; policy = c.self.inside.selector.policy; state = c.self.inside.selector.state; output = output_at c.self.inside.messages.names c.self.inside.output; decided = c.self.inside.decided } in
+    let err : OutputView = c.self.inside.messages.device in
+    let left : Policy → MachineState = λ k. record { inputs = c.self.inside.inputs; policy = k; state = j.state; output = output_at c.self.inside.messages.names c.decide.new.output; decided = c.self.inside.decided } in
     let new : JobView = record { machine = left j.policy; programs = j.programs; err = err; turns = c.self.inside.turns; done = c.self.inside.done } in
     let N : JobView → Type 0 = λ v. input_spec.IsNext v.machine.inputs.schedule v.machine.inputs.cursors (next.Decide c.args.input) in
     let tells = subst N (sym c.self.view_is) c.requires.next in
@@ -69,7 +70,7 @@ returns-in-Err g c =
       told = λ ti to ss before d.
           let K : Policy → Type 0 = λ k. EndLeaves d (unwritten c.args.input c.in-Err.fault) (left k) in
           subst K (sym c.in-Err.ensures.policy)
-          (answer-leaves ss before m.inputs.cursors m.inputs.schedule m.policy m.state m.output m.decided c.args.input (Err c.in-Err.fault) c.cursor.result.now (policy_state j) c.decide.new.output tells c.cursor.ensures c.in-Err.ensures.policy c.in-Err.ensures.passed c.in-Err.ensures.counted (let i = c.self.invariant.0 in omega (arith, i)) (c.in-Err.ensures.told to) d);
+          (answer-leaves ss before m.inputs.cursors m.inputs.schedule m.policy m.state m.output m.decided c.args.input (Err c.in-Err.fault) c.cursor.result.now (policy_state j) (output_at c.self.inside.messages.names c.decide.new.output) refl tells c.cursor.ensures c.in-Err.ensures.policy c.in-Err.ensures.passed c.in-Err.ensures.counted (let i = c.self.invariant.0 in omega (arith, i)) (c.in-Err.ensures.told to) d);
       reads = leaves_one c.args.input refl (record {
         packet = h.packet;
         holds = record { cursor = c.cursor.result.now; among = c.cursor.ensures; waits = answer-waits m.inputs.schedule m.inputs.cursors c.args.input c.cursor.result.now tells c.cursor.ensures; held = h.is };
@@ -83,7 +84,7 @@ returns-in-Err g c =
       light = is-light (left j.policy) (c.self.invariant.1.0, c.decide.ensures.few c.self.invariant.1.1) c.decide.ensures.marks;
       sound = have-decided c.cursor.result.now.source.packet c.self.inside.selector (c.self.inside.decided + 1) j c.decide.ensures.spends c.decide.ensures.policy c.self.invariant.3;
       policy = c.in-Err.ensures.policy;
-      names = c.in-Err.ensures.names;
+      names = refl;
       err = refl;
       turns = refl;
       done = λ more. refl;
@@ -92,9 +93,9 @@ returns-in-Err g c =
 pub returns-after-last : goal.returns-after-last
 returns-after-last g c =
     let j : SelectorView = c.decide.new.selector in
-    let m : MachineState = record { inputs = c.self.inside.inputs; policy = c.self.inside.selector.policy; state = c.self.inside.selector.state; output = c.self.inside.output; decided = c.self.inside.decided } in
-    let err : OutputView = seen (g.E.Output.written c.self.inside.err) (g.E.Output.failures c.self.inside.err) in
-    let left : InputsView → Policy → MachineState = λ f k. record { inputs = f; policy = k; state = j.state; output = c.decide.new.output; decided = c.self.inside.decided + 1 } in
+    let m : MachineState = record { inputs = c.self.inside.inputs; policy = c.self.inside.selector.policy; state = c.self.inside.selector.state; output = output_at c.self.inside.messages.names c.self.inside.output; decided = c.self.inside.decided } in
+    let err : OutputView = c.self.inside.messages.device in
+    let left : InputsView → Policy → MachineState = λ f k. record { inputs = f; policy = k; state = j.state; output = output_at c.self.inside.messages.names c.decide.new.output; decided = c.self.inside.decided + 1 } in
     let was : JobView = record { machine = m; programs = c.self.inside.selector.programs; err = err; turns = c.self.inside.turns; done = c.self.inside.done } in
     let new : JobView = record { machine = left c.mark_decided.new.self j.policy; programs = j.programs; err = err; turns = c.self.inside.turns; done = c.self.inside.done } in
     let N : JobView → Type 0 = λ v. input_spec.IsNext v.machine.inputs.schedule v.machine.inputs.cursors (next.Decide c.args.input) in
@@ -102,12 +103,12 @@ returns-after-last g c =
     let behind : InputView → InputsView = λ v. record { cursors = slice_set m.inputs.cursors c.args.input (input_behind v); schedule = schedule_behind m.inputs.schedule c.args.input } in
     let same = among-same m.inputs.cursors c.args.input c.cursor.result.now c.mark_decided.ensures.cursor c.cursor.ensures c.mark_decided.ensures.among in
     let inputs : c.mark_decided.new.self ≡ behind c.cursor.result.now = c.mark_decided.ensures.is ∙ ap behind (sym same) in
-    let failed : MachineState = mk m.inputs.cursors m.inputs.schedule m.policy j.state c.decide.new.output m.decided in
+    let failed : MachineState = mk m.inputs.cursors m.inputs.schedule m.policy j.state (output_at c.self.inside.messages.names c.decide.new.output) m.decided in
     let all : (ss : List InputPast) (before : List ℕ) (d : Decided ss before m) → IsTrue g.O.Output.tells → AnswerLeaves d c.args.input (Ok c.in-Ok.last) (left c.mark_decided.new.self j.policy) failed = λ ss before d to.
     let NF : InputsView → Type 0 = λ f. AnswerLeaves d c.args.input (Ok c.in-Ok.last) (left f m.policy) failed in
     let NK : Policy → Type 0 = λ k. AnswerLeaves d c.args.input (Ok c.in-Ok.last) (left c.mark_decided.new.self k) failed in
     subst NK (sym c.in-Ok.ensures.policy) (subst NF (sym inputs)
-    (answer-leaves ss before m.inputs.cursors m.inputs.schedule m.policy m.state m.output m.decided c.args.input (Ok c.in-Ok.last) c.cursor.result.now (policy_state j) c.decide.new.output tells c.cursor.ensures c.in-Ok.ensures.policy c.in-Ok.ensures.passed c.in-Ok.ensures.counted (let i = c.self.invariant.0 in omega (arith, i)) (c.in-Ok.ensures.told to) d)) in
+    (answer-leaves ss before m.inputs.cursors m.inputs.schedule m.policy m.state m.output m.decided c.args.input (Ok c.in-Ok.last) c.cursor.result.now (policy_state j) (output_at c.self.inside.messages.names c.decide.new.output) refl tells c.cursor.ensures c.in-Ok.ensures.policy c.in-Ok.ensures.passed c.in-Ok.ensures.counted (let i = c.self.invariant.0 in omega (arith, i)) (c.in-Ok.ensures.told to) d)) in
     let h = held c.cursor.result.now.source.packet c.self.inside.selector (c.self.inside.decided + 1) c.decide.new.selector c.decide.ensures.spends in
     let S : StepOutcome → JobView → Type 0 = λ r v. IsStep g.I.Input.tells g.O.Output.tells v r new in
     let step : (r : StepOutcome) → (IsTrue g.O.Output.tells → StepGives m r new.machine) → S r was = λ r told. record {
@@ -125,7 +126,7 @@ returns-after-last g c =
       light = is-light (left c.mark_decided.new.self j.policy) (mark_decided-small c.self.inside.inputs c.mark_decided.new.self c.args.input c.mark_decided.ensures c.self.invariant.1.0, c.decide.ensures.few c.self.invariant.1.1) c.decide.ensures.marks;
       sound = have-decided c.cursor.result.now.source.packet c.self.inside.selector (c.self.inside.decided + 1) j c.decide.ensures.spends c.decide.ensures.policy c.self.invariant.3;
       policy = c.in-Ok.ensures.policy;
-      names = c.in-Ok.ensures.names;
+      names = refl;
       err = refl;
       turns = refl;
       done = λ more. refl;

@@ -1,11 +1,11 @@
 use Rattle.std.proofs.Common.{Result, Option, IsTrue, List, ℕ, refl, subst, sym}
 use Rattle.cap_octet.specs.declared.fault.Fault.{Fault}
-use Rattle.cap_filter.specs.Outcome.{OutputView, seen}
+use Rattle.cap_filter.specs.Outcome.{OutputView}
 use Rattle.cap_tools.specs.declared.inputs.Next.TheVariants as next
 use Rattle.cap_tools.specs.declared.step.JobEnd.{JobEnd}
 use Rattle.cap_tools.specs.declared.step.JobEnd.TheVariants as end
 use Rattle.cap_tools.specs.declared.step.StepOutcome.TheVariants.{Done}
-use Rattle.cap_tools.specs.Output.{FinishesTo}
+use Rattle.cap_tools.specs.Output.{output_at, Finishes}
 use Rattle.cap_tools.specs.Inputs.{InputPast}
 use Rattle.cap_tools.specs.Inputs as input_spec
 use Rattle.cap_tools.specs.Machine.{MachineState, Decided, EndLeaves}
@@ -19,15 +19,15 @@ use Rattle.cap_tools.proofs.packets.PacketJob.finish.Goals.{in-Ok, in-Err}
 
 pub returns : goal.returns
 returns g c =
-    let m : MachineState = record { inputs = c.self.inside.inputs; policy = c.self.inside.selector.policy; state = c.self.inside.selector.state; output = c.self.inside.output; decided = c.self.inside.decided } in
-    let err : OutputView = seen (g.E.Output.written c.self.inside.err) (g.E.Output.failures c.self.inside.err) in
-    let left : MachineState = record { inputs = c.self.inside.inputs; policy = c.self.inside.selector.policy; state = c.self.inside.selector.state; output = c.finish.new.self; decided = c.self.inside.decided } in
+    let m : MachineState = record { inputs = c.self.inside.inputs; policy = c.self.inside.selector.policy; state = c.self.inside.selector.state; output = output_at c.self.inside.messages.names c.self.inside.output; decided = c.self.inside.decided } in
+    let err : OutputView = c.self.inside.messages.device in
+    let left : MachineState = record { inputs = c.self.inside.inputs; policy = c.self.inside.selector.policy; state = c.self.inside.selector.state; output = output_at c.self.inside.messages.names c.finish.new.self; decided = c.self.inside.decided } in
     let new : JobView = record { machine = left; programs = c.self.inside.selector.programs; err = err; turns = c.self.inside.turns; done = c.self.inside.done } in
     let N : JobView → Type 0 = λ v. input_spec.IsNext v.machine.inputs.schedule v.machine.inputs.cursors next.Finish in
     let tells = subst N (sym c.self.view_is) c.requires.next in
-    let F : Option ℕ → Type 0 = λ o. FinishesTo o m.output.target c.finish.result left.output.target in
+    let F : Option ℕ → Type 0 = λ o. Finishes o m.output.target c.finish.result left.output.target in
     let all : (ss : List InputPast) (before : List ℕ) (d : Decided ss before m) → IsTrue g.O.Output.tells → FinishLeaves d c.finish.result left = λ ss before d to.
-    finish-leaves ss before m.inputs.cursors m.inputs.schedule m.policy m.state m.output m.decided c.finish.result left tells refl (subst F c.first_link-first.ensures (c.finish.ensures.told to).target) d in
+    finish-leaves ss before m.inputs.cursors m.inputs.schedule m.policy m.state m.output m.decided c.finish.result left tells refl (subst F c.first_link-first.ensures (c.finish.ensures.told to)) d in
     let S : JobEnd → JobView → Type 0 = λ e v. IsStep g.I.Input.tells g.O.Output.tells v (Done e) new in
     let step : (e : JobEnd) → ((ss : List InputPast) (before : List ℕ) (d : Decided ss before m) → IsTrue g.O.Output.tells → EndLeaves d e left) → S e c.args.self.now = λ e told.
     let Q : JobView → Type 0 = λ v. S e v in
@@ -39,7 +39,7 @@ returns g c =
       light = is-light left (c.self.invariant.1.0, c.finish.ensures.few c.self.invariant.1.1) c.self.invariant.2;
       sound = c.self.invariant.3;
       policy = refl;
-      names = c.finish.ensures.names;
+      names = refl;
       err = refl;
       turns = refl;
       done = λ more. refl;

@@ -1,6 +1,7 @@
 use Rattle.std.proofs.Common.{◌≡◌, ◌<◌, ◌∙◌, ◌&&◌, length, Bool, true, false, Result, Ok, Some, refl, sym, ap, arith, subst}
 use Rattle.cap_octet.specs.declared.fault.Fault.{Fault}
-use Rattle.cap_filter.specs.Outcome.{OutputView, seen}
+use Rattle.cap_filter.specs.Outcome.{OutputView}
+use Rattle.cap_tools.specs.Output.{output_at}
 use Rattle.cap_tools.specs.declared.inputs.Next.TheVariants as next
 use Rattle.cap_tools.specs.declared.step.JobEnd.TheVariants as end
 use Rattle.cap_tools.specs.declared.step.StepOutcome.TheVariants.{More, Done}
@@ -75,9 +76,9 @@ invariant_of-self-in-Err g c =
 pub returns-in-Ok-true : goal.returns-in-Ok-true
 returns-in-Ok-true g c =
     let j : SelectorView = c.self.inside.selector in
-    let m : MachineState = record { inputs = c.self.inside.inputs; policy = c.self.inside.selector.policy; state = c.self.inside.selector.state; output = c.self.inside.output; decided = c.self.inside.decided } in
-    let err : OutputView = seen (g.E.Output.written c.self.inside.err) (g.E.Output.failures c.self.inside.err) in
-    let left : MachineState = record { inputs = c.read_input.new.self; policy = j.policy; state = j.state; output = c.self.inside.output; decided = c.self.inside.decided } in
+    let m : MachineState = record { inputs = c.self.inside.inputs; policy = c.self.inside.selector.policy; state = c.self.inside.selector.state; output = output_at c.self.inside.messages.names c.self.inside.output; decided = c.self.inside.decided } in
+    let err : OutputView = c.self.inside.messages.device in
+    let left : MachineState = record { inputs = c.read_input.new.self; policy = j.policy; state = j.state; output = output_at c.self.inside.messages.names c.self.inside.output; decided = c.self.inside.decided } in
     let new : JobView = record { machine = left; programs = j.programs; err = err; turns = c.self.inside.turns; done = c.self.inside.done } in
     let N : JobView → Type 0 = λ v. input_spec.IsNext v.machine.inputs.schedule v.machine.inputs.cursors (next.Read c.args.input) in
     let W : JobView → Type 0 = λ v. c.args.input < length v.machine.inputs.cursors in
@@ -107,23 +108,23 @@ pub returns-in-Ok-false : goal.returns-in-Ok-false
 returns-in-Ok-false g c =
     let j : SelectorView = c.self.inside.selector in
     let j' : SelectorView = c.close.new.selector in
-    let m : MachineState = record { inputs = c.self.inside.inputs; policy = c.self.inside.selector.policy; state = c.self.inside.selector.state; output = c.self.inside.output; decided = c.self.inside.decided } in
-    let err : OutputView = seen (g.E.Output.written c.self.inside.err) (g.E.Output.failures c.self.inside.err) in
-    let left : Policy → MachineState = λ k. record { inputs = c.read_input.new.self; policy = k; state = j'.state; output = c.close.new.output; decided = c.self.inside.decided } in
+    let m : MachineState = record { inputs = c.self.inside.inputs; policy = c.self.inside.selector.policy; state = c.self.inside.selector.state; output = output_at c.self.inside.messages.names c.self.inside.output; decided = c.self.inside.decided } in
+    let err : OutputView = c.self.inside.messages.device in
+    let left : Policy → MachineState = λ k. record { inputs = c.read_input.new.self; policy = k; state = j'.state; output = output_at c.self.inside.messages.names c.close.new.output; decided = c.self.inside.decided } in
     let new : JobView = record { machine = left j'.policy; programs = j'.programs; err = err; turns = c.self.inside.turns; done = c.self.inside.done } in
     let N : JobView → Type 0 = λ v. input_spec.IsNext v.machine.inputs.schedule v.machine.inputs.cursors (next.Read c.args.input) in
     let W : JobView → Type 0 = λ v. c.args.input < length v.machine.inputs.cursors in
     let tells = subst N (sym c.self.view_is) c.requires.next in
     let within = subst W (sym c.self.view_is) c.requires.within in
     let found : c.read_input.result ≡ Ok false = c.in-Ok-false.is ∙ ap Ok c.in-Ok-false.field-0-test in
-    let F : Result Bool Fault → Type 0 = λ a. Follows a c.read_input.new.self c.args.input (policy_state j) m.output c.close.result (policy_state j') c.close.new.output in
+    let F : Result Bool Fault → Type 0 = λ a. Follows a c.read_input.new.self c.args.input (policy_state j) m.output c.close.result (policy_state j') (output_at c.self.inside.messages.names c.close.new.output) in
     let P : JobView → Type 0 = λ v. IsStep g.I.Input.tells g.O.Output.tells v c.close.result new in
     subst P c.self.view_is (record {
       told = λ ti to ss before d.
           let L : Result Bool Fault → Type 0 = λ a. FetchLeaves d c.args.input a c.close.result (left m.policy) in
           let K : Policy → Type 0 = λ k. StepLeaves d c.close.result (left k) in
           subst K (sym c.close.ensures.policy) (subst L found
-          (read_input-leaves ss before m.inputs.cursors m.inputs.schedule m.policy m.state m.output m.decided c.args.input c.read_input.result c.read_input.new.self c.close.result (policy_state j') c.close.new.output tells (c.read_input.ensures.told ti) d (subst F (sym found) (c.close.ensures.told to))));
+          (read_input-leaves ss before m.inputs.cursors m.inputs.schedule m.policy m.state m.output m.decided c.args.input c.read_input.result c.read_input.new.self c.close.result (policy_state j') (output_at c.self.inside.messages.names c.close.new.output) tells (c.read_input.ensures.told ti) d (subst F (sym found) (c.close.ensures.told to))));
       reads = reads_on c.args.input c.read_input.result (λ on. ap is_fault c.in-Ok-false.is) (record {
         fetches = c.read_input.ensures.steps;
         told = c.read_input.ensures.told;
@@ -132,16 +133,16 @@ returns-in-Ok-false g c =
         output = λ none.
             let closed : is_clean_end c.read_input.result ≡ true = ap is_clean_end found in
             let K : Bool → Type 0 = λ b. (b && asks_report (ordering_of c.self.inside.inputs.schedule) c.self.inside.selector.policy) ≡ false in
-            c.close.ensures.kept (ap (λ (f : InputsView). asks_report (ordering_of f.schedule) c.self.inside.selector.policy) c.read_input.ensures.steps.is
+            ap (output_at c.self.inside.messages.names) (c.close.ensures.kept (ap (λ (f : InputsView). asks_report (ordering_of f.schedule) c.self.inside.selector.policy) c.read_input.ensures.steps.is
             ∙ ap (λ (o : PacketOrder). asks_report o c.self.inside.selector.policy) (after-order c.self.inside.inputs.schedule c.args.input (is_clean_end c.read_input.result))
-            ∙ subst K closed none);
+            ∙ subst K closed none));
       });
       progress = λ more. read_input-less c.self.inside.inputs c.read_input.new.self c.args.input c.read_input.result tells within c.read_input.ensures.steps (subst Goes (sym c.in-Ok-false.is) tt);
       paid = λ more. read_input-paid c.self.inside.inputs c.read_input.new.self c.args.input c.read_input.result tells within c.read_input.ensures.steps (subst Goes (sym c.in-Ok-false.is) tt);
       light = is-light (left j'.policy) (read_input-small c.self.inside.inputs c.read_input.new.self c.args.input c.read_input.result c.read_input.ensures.steps c.self.invariant.1.0, c.close.ensures.few c.self.invariant.1.1) (c.close.ensures.marks c.self.invariant.2);
       sound = have-kept j j' c.close.ensures.programs c.close.ensures.policy c.self.invariant.3;
       policy = c.close.ensures.policy;
-      names = c.close.ensures.names;
+      names = refl;
       err = refl;
       turns = refl;
       done = λ more. refl;
@@ -150,9 +151,9 @@ returns-in-Ok-false g c =
 pub returns-in-Err : goal.returns-in-Err
 returns-in-Err g c =
     let j : SelectorView = c.self.inside.selector in
-    let m : MachineState = record { inputs = c.self.inside.inputs; policy = c.self.inside.selector.policy; state = c.self.inside.selector.state; output = c.self.inside.output; decided = c.self.inside.decided } in
-    let err : OutputView = seen (g.E.Output.written c.self.inside.err) (g.E.Output.failures c.self.inside.err) in
-    let left : MachineState = record { inputs = c.read_input.new.self; policy = j.policy; state = j.state; output = c.self.inside.output; decided = c.self.inside.decided } in
+    let m : MachineState = record { inputs = c.self.inside.inputs; policy = c.self.inside.selector.policy; state = c.self.inside.selector.state; output = output_at c.self.inside.messages.names c.self.inside.output; decided = c.self.inside.decided } in
+    let err : OutputView = c.self.inside.messages.device in
+    let left : MachineState = record { inputs = c.read_input.new.self; policy = j.policy; state = j.state; output = output_at c.self.inside.messages.names c.self.inside.output; decided = c.self.inside.decided } in
     let new : JobView = record { machine = left; programs = j.programs; err = err; turns = c.self.inside.turns; done = Some 1 } in
     let N : JobView → Type 0 = λ v. input_spec.IsNext v.machine.inputs.schedule v.machine.inputs.cursors (next.Read c.args.input) in
     let W : JobView → Type 0 = λ v. c.args.input < length v.machine.inputs.cursors in

@@ -1,4 +1,5 @@
 use Rattle.std.proofs.Common.{true, false, subst, sym}
+use Rattle.cap_tools.specs.Output.{output_at}
 use Rattle.cap_tools.specs.Bounds.{IsLight, StepReads}
 use Rattle.cap_tools.specs.Jobs.{JobView, machine_of}
 use Rattle.cap_tools.proofs.Ends.{step-ends}
@@ -8,7 +9,7 @@ use Rattle.cap_tools.proofs.packets.PacketJob.step.Goals as goal
 pub returns-in-Some-clause-light : goal.returns-in-Some-clause-light
 returns-in-Some-clause-light g c =
     let L : JobView → Type 0 = λ v. IsLight v.machine in
-    subst L c.self.view_is (is-light (record { inputs = c.self.inside.inputs; policy = c.self.inside.selector.policy; state = c.self.inside.selector.state; output = c.self.inside.output; decided = c.self.inside.decided }) c.self.invariant.1 c.self.invariant.2)
+    subst L c.self.view_is (is-light (record { inputs = c.self.inside.inputs; policy = c.self.inside.selector.policy; state = c.self.inside.selector.state; output = output_at c.self.inside.messages.names c.self.inside.output; decided = c.self.inside.decided }) c.self.invariant.1 c.self.invariant.2)
 
 pub returns-in-More-clause-reads : goal.returns-in-More-clause-reads
 returns-in-More-clause-reads g c =

@@ -1,0 +1,8 @@
+-- What a contract sees of the messages of a job.
+use Rattle.std.specs.Prelude.{ℕ, List}
+use Rattle.cap_filter.specs.Outcome.{OutputView}
+
+-- the names of the inputs, then of the output; and the device
+pub record MessagesView : Type 0 where
+  pub names : List (List ℕ)
+  pub device : OutputView

@@ -1,0 +1,123 @@
+//! The messages of a job, and the names of files in them.
+ghost use Rattle.std.specs.Prelude.{◌≡◌, ◌+◌, IsTrue, map};
+ghost use Rattle.std.specs.String.{string_bytes};
+ghost use Rattle.cap_octet.specs.Device.{AppendsOrStops, failures_of};
+ghost use Rattle.cap_tools.specs.Jobs.{end_text};
+ghost use Rattle.cap_tools.specs.Reports.{name_at};
+
+use crate::inputs::Inputs;
+use crate::step::JobEnd;
+use cap_filter::message::{tell_fault, tell_refusal, tell_write_failed};
+use cap_filter::refusal::Refusal;
+use cap_octet::{DeviceFault, Input, Output};
+use std::alloc::Allocator;
+use std::marker::Model;
+
+/// Reports by name, to a device. A message that can't be written is lost.
+#[derive(Drop)]
+pub struct Messages<E: Output, A: Allocator> {
+    device: E,
+    /// Of the inputs, then of the output.
+    names: Vec<String<A>, A>,
+}
+
+impl<E: Output, A: Allocator> Model for Messages<E, A> {
+    ghost use Rattle.std.specs.Prelude.{map};
+    ghost use Rattle.std.specs.String.{string_bytes};
+    ghost use Rattle.cap_filter.specs.Outcome.{seen};
+    ghost use Rattle.cap_tools.specs.Messages.{MessagesView};
+
+    ghost Value = { MessagesView };
+
+    ghost view = { λ m. record {
+      names = map string_bytes m.names.items;
+      device = seen (E.written m.device) (E.failures m.device);
+    } };
+}
+
+impl<E: Output, A: Allocator> Messages<E, A> {
+    ghost use Rattle.std.specs.Prelude.{◌≡◌, map};
+    ghost use Rattle.std.specs.String.{string_bytes};
+    ghost use Rattle.cap_filter.specs.Messages.{refusal_message};
+    ghost use Rattle.cap_filter.specs.Outcome.{IsTold, seen};
+    ghost use Rattle.cap_tools.specs.Jobs.{end_text};
+    ghost use Rattle.cap_tools.specs.Reports.{name_at};
+
+    /// Messages of a job over files of these names: of the inputs, then of the output.
+    pub fn new(device: E, names: Vec<String<A>, A>) -> Self
+        ensures { result ≡ record {
+          names = map string_bytes names.items;
+          device = seen (E.written device) (E.failures device);
+        } }
+    {
+        Messages { device, names }
+    }
+
+    /// The name of an input, or of the output behind them; empty where there is none.
+    pub fn name(&self, index: usize) -> &str
+        ensures { result.now ≡ name_at self.now.names index }
+    {
+        name_of(&self.names, index)
+    }
+
+    /// Reports how a job ended.
+    pub fn end<I: Input>(&mut self, inputs: &Inputs<I, A>, end: JobEnd)
+    where
+        A: Copy + Drop,
+        ensures told { IsTold E.tells self.old.device
+            (end_text self.old.names inputs.now.cursors end) self.new.device }
+        ensures quiet { end ≡ JobEnd.Complete → self.new ≡ self.old }
+        ensures names { self.new.names ≡ self.old.names }
+    {
+        let _ = tell(&mut self.device, &self.names, inputs, end);
+    }
+
+    /// Reports why an expression or a listing is refused.
+    pub fn refuse(&mut self, refusal: Refusal)
+        ensures told { IsTold E.tells self.old.device (refusal_message refusal)
+            self.new.device }
+        ensures names { self.new.names ≡ self.old.names }
+    {
+        let _ = tell_refusal(&mut self.device, refusal);
+    }
+
+    /// The device, as it stands.
+    pub fn into_device(self) -> E
+    where
+        A: Drop,
+        ensures { seen (E.written result) (E.failures result) ≡ self.device }
+    {
+        self.device
+    }
+}
+
+/// Reports how a job ended.
+fn tell<I: Input, E: Output, A: Allocator + Copy + Drop>(
+    device: &mut E,
+    names: &Vec<String<A>, A>,
+    inputs: &Inputs<I, A>,
+    end: JobEnd,
+) -> Result<(), DeviceFault>
+    ensures told { IsTrue E.tells → AppendsOrStops result (E.written device.old)
+        (end_text (map string_bytes names.now.items) inputs.now.cursors end)
+        (E.written device.new) }
+    ensures failed { E.failures device.new ≡ E.failures device.old + failures_of result }
+    ensures quiet { end ≡ JobEnd.Complete → device.new ≡ device.old }
+{
+    match end {
+        JobEnd::Complete => Ok(()),
+        JobEnd::FaultIn(input, fault) => {
+            tell_fault(device, name_of(names, input), inputs.offset(input), fault)
+        }
+        JobEnd::OutputFailed => tell_write_failed(device, name_of(names, inputs.count())),
+    }
+}
+
+fn name_of<A: Allocator>(names: &Vec<String<A>, A>, index: usize) -> &str
+    ensures { result.now ≡ name_at (map string_bytes names.now.items) index }
+{
+    match names.get(index) {
+        Some(name) => name.as_str(),
+        None => "",
+    }
+}
