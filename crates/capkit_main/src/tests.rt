@@ -228,6 +228,12 @@ fn refusals_keep_the_output(rt: HostRuntime) -> Result<(), Fail> {
     Ok(())
 }
 
+/// Whether the program refuses the words since a name is used twice.
+fn is_used_twice(rt: &HostRuntime, folder: &str, words: &[&str]) -> Result<bool, Fail> {
+    let words = line(rt.alloc(), folder, words)?;
+    Ok(matches!(crate::line_of(rt, words), Err(Usage::NameUsedTwice)))
+}
+
 /// A file is known again through a path that goes round, a link and a second name; others and new
 /// ones are no inputs.
 #[test]
@@ -246,6 +252,7 @@ fn one_file_under_two_names_is_known(rt: HostRuntime) -> Result<(), Fail> {
     ] {
         let edit = line_of(&rt, &folder, &["capkit", "edit", "@in", output])?;
         assert!(rt; overwrites_input(&rt, &edit) == wanted, "{output}");
+        assert!(rt; is_used_twice(&rt, &folder, &["capkit", "edit", "@in", output])? == wanted);
         let merge = ["capkit", "merge", "-w", output, "@code", "@in"];
         let merge = line_of(&rt, &folder, &merge)?;
         assert!(rt; overwrites_input(&rt, &merge) == wanted, "{output}");
