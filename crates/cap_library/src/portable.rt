@@ -1,12 +1,16 @@
 //! Whether a program gives the same answers on libpcap's machine and on Linux's.
-ghost use Rattle.std.specs.Prelude.{◌≡◌};
+ghost use Rattle.std.specs.Prelude.{◌≡◌, ◌≤◌, length};
 ghost use Rattle.std.specs.List.{list_all};
-ghost use Rattle.cap_library.specs.Portable.{is_portable, keeps_x_small, runs_alike};
+ghost use Rattle.cap_library.specs.Portable.{is_portable, keeps_x_small, runs_alike, wanted};
+ghost use Rattle.cap_library.specs.Portable.{wanted_at, wants, writes_first};
 
 use flt_bpf::Insn;
 
 /// The most instructions that Linux attaches to a socket.
 const MOST_ATTACHED: usize = 4096;
+
+/// How many words of memory a program has.
+const WORDS: u32 = 16;
 
 /// From this offset on loads mean something else on Linux, and an index of up to as much less one
 /// can't wrap below it.
@@ -48,13 +52,76 @@ fn run_alike(insns: &[Insn], small: bool) -> bool
     insns.iter().all(|insn| runs_alike(insn, small))
 }
 
+/// Whether the place that comes after so many others is one of which something is said.
+fn wanted_at(behind: &[bool], place: usize) -> bool
+    ensures { result ≡ wanted_at behind.now place }
+{
+    match behind.get(place) {
+        Some(is_wanted) => *is_wanted,
+        None => false,
+    }
+}
+
+/// Whether a run may read a word of memory before it writes it, from an instruction on, by what
+/// holds of the places behind it.
+fn wants(insn: &Insn, word: u32, behind: &[bool]) -> bool
+    ensures { result ≡ wants word insn.now behind.now }
+{
+    match insn.code {
+        0x60 | 0x61 => insn.k == word || wanted_at(behind, 0),
+        0x02 | 0x03 => insn.k != word && wanted_at(behind, 0),
+        0x05 => wanted_at(behind, insn.k as usize),
+        code if code % 8 == 5 => {
+            wanted_at(behind, insn.jt as usize) || wanted_at(behind, insn.jf as usize)
+        }
+        code if code % 8 == 6 => false,
+        _ => wanted_at(behind, 0),
+    }
+}
+
+/// Notes of each place whether a run from there on may read a word of memory before it writes it.
+fn mark_wanted(insns: &[Insn], word: u32, marks: &mut [bool])
+    requires { length marks.old ≡ length insns.now }
+    ensures { marks.new ≡ wanted word insns.now }
+{
+    let mut place = insns.len();
+    while place > 0 {
+        place -= 1;
+        let is_wanted = wants(&insns[place], word, &marks[place + 1..]);
+        marks[place] = is_wanted;
+    }
+}
+
+/// Whether a run may read a word of memory before it writes it. libpcap finds there what lay in its
+/// memory, and Linux refuses the program.
+fn reads_first(insns: &[Insn], word: u32) -> bool
+    requires { length insns.now ≤ 4096 }
+    ensures { result ≡ wanted_at (wanted word insns.now) 0 }
+{
+    let mut marks = [false; MOST_ATTACHED];
+    let marks = &mut marks[..insns.len()];
+    mark_wanted(insns, word, marks);
+    wanted_at(marks, 0)
+}
+
+fn write_first(insns: &[Insn]) -> bool
+    requires { length insns.now ≤ 4096 }
+    ensures { result ≡ writes_first 16 insns.now }
+{
+    let mut all = true;
+    for word in 0..WORDS {
+        all = all && !reads_first(insns, word);
+    }
+    all
+}
+
 /// 1 where a valid program runs alike on libpcap's and Linux's machines, as far as its instructions
 /// tell; 0 where it may not.
 #[unsafe(no_mangle)]
 pub extern "C" fn capkit_is_portable(insns: &[Insn]) -> u32
     ensures { result ≡ is_portable insns.now }
 {
-    if insns.len() <= MOST_ATTACHED && run_alike(insns, keep_x_small(insns)) {
+    if insns.len() <= MOST_ATTACHED && run_alike(insns, keep_x_small(insns)) && write_first(insns) {
         1
     } else {
         0
