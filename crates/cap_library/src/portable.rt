@@ -52,7 +52,7 @@ fn run_alike(insns: &[Insn], small: bool) -> bool
     insns.iter().all(|insn| runs_alike(insn, small))
 }
 
-/// Whether the place that comes after so many others is one of which something is said.
+/// What is noted of the place behind so many others; `false` past the last one.
 fn wanted_at(behind: &[bool], place: usize) -> bool
     ensures { result ≡ wanted_at behind.now place }
 {
