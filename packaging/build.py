@@ -3,12 +3,13 @@
 
 usage: build.py PROGRAM
 
-A crate is proved as soon as those that it needs are, many side by side on all processors, first
-the one with the longest chain of crates above it. A run of rt keeps other runs out of the folders
-of its crate and of those that this one needs. So each crate is proved in a workspace of its own,
-out/crates/NAME: copies of the sources, links to the libraries that are built, and the crate's own
-out/, which is moved there and back. rt knows one crates.txt in a repository, so no workspace is
-left behind, and `rt ci` and `rt all` are refused while crates are proved here.
+A crate is proved as soon as those that it needs are, many side by side on all processors. The one
+with the longest chain of crates above it goes first: it has as many jobs as there are processors,
+and the others run beside it by `nice`, on what it leaves idle. A run of rt keeps other runs out of
+the folders of its crate and of those that this one needs. So each crate is proved in a workspace of
+its own, out/crates/NAME: copies of the sources, links to the libraries that are built, and the
+crate's own out/, which is moved there and back. rt knows one crates.txt in a repository, so no
+workspace is left behind, and `rt ci` and `rt all` are refused while crates are proved here.
 
 The program is copied to PROGRAM in one step, so that no launch finds a part of it. The status is 1
 where a crate isn't proved or something can't be written.
@@ -32,6 +33,7 @@ OUT = ROOT / "out"
 TOP = "capkit_main"
 # What a job of a check takes of memory, in bytes.
 MEMORY = 2_000_000_000
+PROCESSORS = len(os.sched_getaffinity(0))
 
 
 class Refused(Exception):
@@ -49,7 +51,8 @@ class Crate:
     # The bytes of its sources, and of the longest chain from it to the program.
     size: int = 0
     chain: int = 0
-    # While it is proved: how far it is, and the process that works on it.
+    # While it is proved: whether all wait for it, how far it is, and the process that works on it.
+    is_urgent: bool = False
     state: str = ""
     process: subprocess.Popen = None
     worker: threading.Thread = None
@@ -169,8 +172,12 @@ class Build:
         """Begins crates that wait for no other, and gives them the jobs that are free."""
         is_ready = lambda crate: all(self.crates[it] in self.proved for it in crate.needs)
         ready = [it for it in self.waiting if is_ready(it)]
+        longest = max((it.chain for it in self.crates.values() if it not in self.proved), default=0)
         while ready and self.spare:
             crate, jobs = ready[0], -(-self.spare // len(ready))
+            crate.is_urgent = crate.chain == longest
+            if crate.is_urgent:
+                jobs = min(PROCESSORS, self.spare)
             ready.remove(crate)
             self.waiting.remove(crate)
             self.spare -= jobs
@@ -217,7 +224,8 @@ class Build:
         with self.turn:
             if self.is_ending:
                 return 1
-            crate.process = subprocess.Popen(["rt", *words], **how)
+            nice = [] if crate.is_urgent else ["nice"]
+            crate.process = subprocess.Popen([*nice, "rt", *words], **how)
         with crate.process:
             for line in crate.process.stdout:
                 log.write(line)
@@ -258,9 +266,9 @@ class Build:
 
 
 def most_jobs():
-    """Returns how many jobs the checks may have: half as many again as there are processors, since
-    a check doesn't keep all of its jobs busy from first to last, as far as there is memory."""
-    jobs = len(os.sched_getaffinity(0)) * 3 // 2
+    """Returns how many jobs the checks may have: more than there are processors, since a check
+    doesn't keep all of its jobs busy from first to last, as far as there is memory."""
+    jobs = PROCESSORS * 5 // 2
     try:
         free = re.search(r"MemAvailable:\s+(\d+) kB", pathlib.Path("/proc/meminfo").read_text())
         jobs = min(jobs, 1024 * int(free[1]) // MEMORY)
@@ -334,7 +342,7 @@ def build(program):
     with lock() as held:
         if program.exists():
             return
-        say("proving and building the program: once, over an hour of processor time")
+        say("proving and building the program: once, most of an hour of processor time")
         crates = crates_of((ROOT / "crates.txt").read_text())
         tidy()
         measure(crates)
