@@ -41,7 +41,7 @@ use Rattle.cap_tools.specs.Outcome as course_spec
 use Rattle.cap_tools.specs.Output.{JobOutputView, Target, Capture, Text, Lines, HasWritten, Puts, form_at, form_to, output_at, written_to, failures_to}
 use Rattle.cap_tools.specs.Inputs.{InputView, InputsView, Future, InputPast, AreInputsBehind, IsInput, input_behind, schedule_behind, actual_future, inputs_with, items_left, inputs_left, sequence_left, most_steps, ordering_of}
 use Rattle.cap_tools.specs.Inputs as input_spec
-use Rattle.cap_tools.specs.Machine.{MachineState, Decided, GoesOn, Comes, Decides, Offers, StopsWriting, NextPacket, PassesAs, EndLeaves, progress_at, progress_of, progress_over, form_of, wholes_of, written_by, unwritten}
+use Rattle.cap_tools.specs.Machine.{MachineState, PacketsDecided, GoesOn, Comes, Decides, Offers, StopsWriting, NextPacket, PassesAs, EndLeaves, progress_at, progress_of, progress_over, form_of, wholes_of, written_by, unwritten}
 use Rattle.cap_tools.proofs.Splits.{At, stands-split, stands-join, stands-length, rests-join, finish-here, come-on}
 use Rattle.cap_tools.proofs.Coming.{carries-decided, true-wholes, true-fit, true-fits}
 use Rattle.cap_tools.proofs.Outputs.{drained-text, PutOk, put-ok, WhyUnput, lines-more, unput, closing-some}
@@ -118,7 +118,7 @@ pub record Ahead (ss : List InputPast) (cursors : List InputView) (schedule : Sc
 
 pub next-true : (us vs : List InputPast) (s : InputPast) (before : List ℕ) (xs ys : List InputView) (h : InputView) (schedule : Schedule) (turn : ℕ) (policy : Policy) (state : SelectorState) (output : JobOutputView) (decided : ℕ) (p : Captured)
     → DecideLaws schedule turn xs ys h → AreInputsBehind us xs → At s h → AreInputsBehind vs ys → h.source.packet ≡ Some p
-    → (d : Decided (us ++ s ∷ vs) before (mk (xs ++ h ∷ ys) schedule policy state output decided))
+    → (d : PacketsDecided (us ++ s ∷ vs) before (mk (xs ++ h ∷ ys) schedule policy state output decided))
     → Ahead (us ++ s ∷ vs) (xs ++ h ∷ ys) schedule d.events (Packet turn (record { offset = h.source.offset; packet = p }))
 next-true us vs s before xs ys h schedule turn policy state output decided p laws front at back held d =
     let fits = true-fits (us ++ s ∷ vs) (xs ++ h ∷ ys) d.behind in
@@ -153,7 +153,7 @@ counted-more n t t' within grows =
 
 pub decided-goes : (us vs : List InputPast) (s : InputPast) (before : List ℕ) (xs ys : List InputView) (h : InputView) (schedule : Schedule) (turn : ℕ) (policy : Policy) (state state' : SelectorState) (output output' : JobOutputView) (decided : ℕ) (p : Captured)
     → DecideLaws schedule turn xs ys h → AreInputsBehind us xs → At s h → AreInputsBehind vs ys → h.source.packet ≡ Some p → state'.passed ≤ decided + 1 → GrowsByOne state.tally state'.tally
-    → (d : Decided (us ++ s ∷ vs) before (mk (xs ++ h ∷ ys) schedule policy state output decided))
+    → (d : PacketsDecided (us ++ s ∷ vs) before (mk (xs ++ h ∷ ys) schedule policy state output decided))
     → Took policy (progress_at (mk (xs ++ h ∷ ys) schedule policy state output decided) d.packets d.reports) before turn (record { offset = h.source.offset; packet = p }) state' output output' false
     → GoesOn d (mk (xs ++ input_behind h ∷ ys) (schedule_behind schedule turn) policy state' output' (decided + 1))
 decided-goes us vs s before xs ys h schedule turn policy state state' output output' decided p laws front at back held within grows d t =
@@ -245,12 +245,12 @@ last-took policy w before i x old new state' code_verdict.Skip q told names offe
 -- ---- it is not put
 
 -- the next packet that would be written, as a failed write has it
-abbrev AnswersNext : {ss : List InputPast} {before : List ℕ} {old : MachineState} → Decided ss before old → MachineState → Captured → Type 0
+abbrev AnswersNext : {ss : List InputPast} {before : List ℕ} {old : MachineState} → PacketsDecided ss before old → MachineState → Captured → Type 0
 AnswersNext {ss} {before} {old} d new q = form_refuses (form_of old) d.packets q ≡ None → (bytes : List ℕ) → bytes ≡ packet_bytes (form_of old) d.packets q → NextPacket d new bytes
 
 -- the device failed at a packet
 stops-writing : (ss : List InputPast) (before : List ℕ) (cursors : List InputView) (schedule : Schedule) (policy : Policy) (state state' : SelectorState) (names : List (List ℕ)) (sink sink' : SinkView) (decided : ℕ) (new : MachineState) (e : Event) (q : Captured) (o : Option SequenceEnd)
-    → (d : Decided ss before (mk cursors schedule policy state (record { names = names; target = Capture sink }) decided)) → Ahead ss cursors schedule d.events e
+    → (d : PacketsDecided ss before (mk cursors schedule policy state (record { names = names; target = Capture sink }) decided)) → Ahead ss cursors schedule d.events e
     → apply_event policy (AsCapture sink.format) (progress_of d) e ≡ course_spec.decide (progress_of d) state' (q ∷ []) o
     → AnswersNext d new q → WhyUnput WriteFailed sink d.packets q sink' → new.output.target ≡ Capture sink'
     → StopsWriting d new
@@ -281,7 +281,7 @@ stops-writing ss before cursors schedule policy state state' names sink sink' de
 
 -- the device failed at the line of a packet
 stops-line : (ss : List InputPast) (before : List ℕ) (cursors : List InputView) (schedule : Schedule) (policy : Policy) (state state' : SelectorState) (names : List (List ℕ)) (options : Options) (bytes after : List ℕ) (failures room decided : ℕ) (new : MachineState) (e : Event) (q : Captured) (o : Option SequenceEnd)
-    → (d : Decided ss before (mk cursors schedule policy state (record { names = names; target = Lines options bytes failures room }) decided)) → Ahead ss cursors schedule d.events e
+    → (d : PacketsDecided ss before (mk cursors schedule policy state (record { names = names; target = Lines options bytes failures room }) decided)) → Ahead ss cursors schedule d.events e
     → apply_event policy (AsLines options) (progress_of d) e ≡ course_spec.decide (progress_of d) state' (q ∷ []) o
     → AnswersNext d new q → Stops bytes (printed options q) after → new.output.target ≡ Lines options after (failures + 1) room
     → StopsWriting d new
@@ -315,7 +315,7 @@ stops-line ss before cursors schedule policy state state' names options bytes af
 
 -- a packet that passes isn't put into a capture
 unput-capture : (ss : List InputPast) (before : List ℕ) (cursors : List InputView) (schedule : Schedule) (turn : ℕ) (policy : Policy) (state state' : SelectorState) (names : List (List ℕ)) (sink sink' : SinkView) (decided : ℕ) (new : MachineState) (x : Placed) (q : Captured) (o : Option SequenceEnd) (fault : Fault)
-    → (d : Decided ss before (mk cursors schedule policy state (record { names = names; target = Capture sink }) decided)) → Ahead ss cursors schedule d.events (Packet turn x)
+    → (d : PacketsDecided ss before (mk cursors schedule policy state (record { names = names; target = Capture sink }) decided)) → Ahead ss cursors schedule d.events (Packet turn x)
     → apply_event policy (AsCapture sink.format) (progress_of d) (Packet turn x) ≡ decide_unless (refused sink.format d.packets q) (progress_of d) turn x state' q o
     → input_spec.IsNext schedule cursors (next.Decide turn) → new.inputs ≡ record { cursors = cursors; schedule = schedule } → (cursor : InputView) → IsInput new.inputs.cursors turn cursor → cursor.source.offset ≡ x.offset
     → AnswersNext d new q → WhyUnput fault sink d.packets q sink' → new.output.target ≡ Capture sink'
@@ -338,7 +338,7 @@ unput-capture ss before cursors schedule turn policy state state' names sink sin
     }
 
 unput-leaves : (ss : List InputPast) (before : List ℕ) (cursors : List InputView) (schedule : Schedule) (turn : ℕ) (policy : Policy) (state state' : SelectorState) (names : List (List ℕ)) (target : Target) (decided : ℕ) (new : MachineState) (x : Placed) (q : Captured) (o : Option SequenceEnd) (fault : Fault)
-    → (d : Decided ss before (mk cursors schedule policy state (record { names = names; target = target }) decided)) → Ahead ss cursors schedule d.events (Packet turn x)
+    → (d : PacketsDecided ss before (mk cursors schedule policy state (record { names = names; target = target }) decided)) → Ahead ss cursors schedule d.events (Packet turn x)
     → apply_event policy (form_to names target) (progress_of d) (Packet turn x) ≡ decide_unless (form_refuses (form_to names target) d.packets q) (progress_of d) turn x state' q o
     → input_spec.IsNext schedule cursors (next.Decide turn) → new.inputs ≡ record { cursors = cursors; schedule = schedule } → (cursor : InputView) → IsInput new.inputs.cursors turn cursor → cursor.source.offset ≡ x.offset
     → AnswersNext d new q → Puts q target (Err fault) new.output.target
@@ -353,7 +353,7 @@ unput-leaves ss before cursors schedule turn policy state state' names (Lines op
     (stops-line ss before cursors schedule policy state state' names options bytes puts.after failures room decided new (Packet turn x) q o d ahead went answers puts.appends puts.is)
 
 reject-leaves : (ss : List InputPast) (before : List ℕ) (cursors : List InputView) (schedule : Schedule) (turn : ℕ) (policy : Policy) (state state' : SelectorState) (output : JobOutputView) (decided : ℕ) (new : MachineState) (x : Placed) (fault : Fault)
-    → (d : Decided ss before (mk cursors schedule policy state output decided)) → Ahead ss cursors schedule d.events (Packet turn x)
+    → (d : PacketsDecided ss before (mk cursors schedule policy state output decided)) → Ahead ss cursors schedule d.events (Packet turn x)
     → IsVerdict (judge policy state (decided + 1) x.packet) (Err fault) x.packet state'
     → (cursor : InputView) → IsInput new.inputs.cursors turn cursor → cursor.source.offset ≡ x.offset → new.output ≡ output → (fault ≡ WriteFailed → ⊥)
     → EndLeaves d (unwritten turn fault) new
@@ -442,14 +442,14 @@ never-device : (policy : Policy) (state state' : SelectorState) (number : ℕ) (
 never-device policy state state' number p fault told is = (let P : Verdict → Type 0 = λ v. Own v in subst P told (own-verdict policy state number p)) is
 
 -- what an answer leaves: `new` is the machine where the packet is decided, `failed` where it isn't
-abbrev pub AnswerLeaves : {ss : List InputPast} {before : List ℕ} {old : MachineState} → Decided ss before old → ℕ → Result Bool Fault → MachineState → MachineState → Type 0
+abbrev pub AnswerLeaves : {ss : List InputPast} {before : List ℕ} {old : MachineState} → PacketsDecided ss before old → ℕ → Result Bool Fault → MachineState → MachineState → Type 0
 AnswerLeaves {ss} {before} {old} d i (Ok false) new failed = GoesOn d new
 AnswerLeaves {ss} {before} {old} d i (Ok true) new failed = Comes (wholes_of ss) d new Complete
 AnswerLeaves {ss} {before} {old} d i (Err fault) new failed = EndLeaves d (unwritten i fault) failed
 
 answer-core : (us vs : List InputPast) (s : InputPast) (before : List ℕ) (xs ys : List InputView) (h : InputView) (schedule : Schedule) (turn : ℕ) (policy : Policy) (state state' : SelectorState) (output output' : JobOutputView) (decided : ℕ) (p : Captured) (r : Result Bool Fault)
     → DecideLaws schedule turn xs ys h → input_spec.IsNext schedule (xs ++ h ∷ ys) (next.Decide turn) → AreInputsBehind us xs → At s h → AreInputsBehind vs ys → h.source.packet ≡ Some p → state'.passed ≤ decided + 1 → GrowsByOne state.tally state'.tally
-    → (d : Decided (us ++ s ∷ vs) before (mk (xs ++ h ∷ ys) schedule policy state output decided))
+    → (d : PacketsDecided (us ++ s ∷ vs) before (mk (xs ++ h ∷ ys) schedule policy state output decided))
     → output'.names ≡ output.names → Decides (Some p) (record { policy = policy; state = state }) (decided + 1) output.target r (record { policy = policy; state = state' }) output'.target
     → AnswerLeaves d turn r (mk (xs ++ input_behind h ∷ ys) (schedule_behind schedule turn) policy state' output' (decided + 1)) (mk (xs ++ h ∷ ys) schedule policy state' output' decided)
 answer-core us vs s before xs ys h schedule turn policy state state' output output' decided p (Ok false) laws tells front at back held within grows d names decides =
@@ -531,14 +531,14 @@ answer-core us vs s before xs ys h schedule turn policy state state' output outp
 pub answer-leaves : (ss : List InputPast) (before : List ℕ) (cursors : List InputView) (schedule : Schedule) (policy : Policy) (state : SelectorState) (output : JobOutputView) (decided i : ℕ) (r : Result Bool Fault) (h : InputView) (selector' : PolicyState) (output' : JobOutputView)
     → output'.names ≡ output.names → input_spec.IsNext schedule cursors (next.Decide i) → IsInput cursors i h → selector'.policy ≡ policy → (state.passed ≤ decided + 1 → selector'.state.passed ≤ decided + 1) → GrowsByOne state.tally selector'.state.tally → decided ≤ most_steps
     → (state.passed < decided + 1 → IsWithin most_steps state.tally → Decides h.source.packet (record { policy = policy; state = state }) (decided + 1) output.target r selector' output'.target)
-    → (d : Decided ss before (mk cursors schedule policy state output decided))
+    → (d : PacketsDecided ss before (mk cursors schedule policy state output decided))
     → AnswerLeaves d i r (mk (slice_set cursors i (input_behind h)) (schedule_behind schedule i) policy selector'.state output' (decided + 1)) (mk cursors schedule policy selector'.state output' decided)
 answer-leaves ss before cursors schedule policy state output decided i r other selector' output' names tells among_other asks passes grows few decides d =
     let at : DecideAt schedule cursors i = decide-at schedule cursors i tells d.ended in
     let among = at.among in
     let h = at.cursor in
     let same : other ≡ h = among-same cursors i other h among_other among in
-    let D : List InputView → Type 0 = λ l. Decided ss before (mk l schedule policy state output decided) in
+    let D : List InputView → Type 0 = λ l. PacketsDecided ss before (mk l schedule policy state output decided) in
     let d' = subst D among.splits d in
     let st = stands-split ss among.front among.back h d'.behind in
     let T : List InputView → Type 0 = λ l. input_spec.IsNext schedule l (next.Decide i) in
@@ -554,10 +554,10 @@ answer-leaves ss before cursors schedule policy state output decided i r other s
     let new : List InputView → MachineState = λ l. mk l (schedule_behind schedule i) policy selector'.state output' (decided + 1) in
     let failed : List InputView → MachineState = λ l. mk l schedule policy selector'.state output' decided in
     let passes_on : selector'.state.passed ≤ decided + 1 = passes (let l = d.passed in omega (arith, l)) in
-    let core : (e : Decided (st.front ++ st.here ∷ st.back) before (mk (among.front ++ h ∷ among.back) schedule policy state output decided)) → AnswerLeaves e i r (new (among.front ++ input_behind h ∷ among.back)) (failed (among.front ++ h ∷ among.back)) = λ e.
+    let core : (e : PacketsDecided (st.front ++ st.here ∷ st.back) before (mk (among.front ++ h ∷ among.back) schedule policy state output decided)) → AnswerLeaves e i r (new (among.front ++ input_behind h ∷ among.back)) (failed (among.front ++ h ∷ among.back)) = λ e.
     answer-core st.front st.back st.here before among.front among.back h schedule i policy state selector'.state output output' decided has.packet r at.laws (subst T among.splits tells) st.before st.at st.behind has.held passes_on grows e names chosen in
-    let G : List InputPast → Type 0 = λ l. (e : Decided l before (mk (among.front ++ h ∷ among.back) schedule policy state output decided)) → AnswerLeaves e i r (new (among.front ++ input_behind h ∷ among.back)) (failed (among.front ++ h ∷ among.back)) in
-    let H : List InputView → Type 0 = λ l. (e : Decided ss before (mk l schedule policy state output decided)) → AnswerLeaves e i r (new (among.front ++ input_behind h ∷ among.back)) (failed l) in
+    let G : List InputPast → Type 0 = λ l. (e : PacketsDecided l before (mk (among.front ++ h ∷ among.back) schedule policy state output decided)) → AnswerLeaves e i r (new (among.front ++ input_behind h ∷ among.back)) (failed (among.front ++ h ∷ among.back)) in
+    let H : List InputView → Type 0 = λ l. (e : PacketsDecided ss before (mk l schedule policy state output decided)) → AnswerLeaves e i r (new (among.front ++ input_behind h ∷ among.back)) (failed l) in
     let I : List InputView → Type 0 = λ l. AnswerLeaves d i r (new l) (failed cursors) in
     let J : InputView → Type 0 = λ v. AnswerLeaves d i r (new (slice_set cursors i (input_behind v))) (failed cursors) in
     let whole : H cursors = subst H (sym among.splits) (subst G (sym st.is) core) in

@@ -11,11 +11,10 @@ use Rattle.flt_words.specs.declared.fault.ExprFault.{ExprFault}
 use Rattle.flt_words.specs.declared.fault.ExprFault.TheVariants.{Memory}
 use Rattle.flt_gen.specs.declared.link.Link.{Link}
 use Rattle.cap_tools.specs.declared.packets.Turn.TheVariants as turn
-use Rattle.cap_tools.specs.Verdict.{Filter}
 use Rattle.cap_tools.specs.Inputs.{InputPast}
-use Rattle.cap_tools.specs.Machine.{MachineState, Decided, IsUnderWay, written_by, failures_by}
-use Rattle.cap_tools.specs.Jobs.{JobView, RunResult, JobGives, JobRuns, EndsAs, EndsJob}
-use Rattle.cap_tools.specs.FirstStep.{asking, filtering, output_of, output_name}
+use Rattle.cap_tools.specs.Machine.{written_by, failures_by}
+use Rattle.cap_tools.specs.Jobs.{JobView, RunResult, Decided, IsUnderWay, JobGives, JobRuns, EndsAs, EndsJob}
+use Rattle.cap_tools.specs.FirstStep.{filtering, output_of, output_name}
 use Rattle.cap_tools.specs.Commands.{Preparing, ReadsFilter, Compiles, CommandView, GivesBy, DecidedBy, RunsBy, ListsSome, RefusesExpression}
 use Rattle.cap_tools.proofs.Ends.{ends-whole}
 use Rattle.cap_tools.proofs.Runs.{goes-on}
@@ -41,17 +40,17 @@ pub record IsOn (preparing : Option Preparing) (first : JobView) (ss : List Inpu
   pub done : job.done ≡ None
   pub err : job.err ≡ from.err
   pub names : job.machine.output.names ≡ from.machine.output.names
-  pub progress : IsUnderWay ss before from.machine job.machine
+  pub progress : IsUnderWay ss before from job
 
 -- no step was made yet, or some
 pub data Under (first : CommandView) (ss : List InputPast) (before : List ℕ) (job : CommandView) : Type 0 where
   fresh : job ≡ first → Under first ss before job
   goes : job.preparing ≡ None → IsOn first.preparing first.packets ss before job.packets → Under first ss before job
 
-abbrev start-progress : (ss : List InputPast) (before : List ℕ) (m : MachineState) → Decided ss before m → IsUnderWay ss before m m
-start-progress ss before m d = record { past = ss; texts = refl; decided = d; policy = refl; form = refl; output = refl; names = refl; order = refl; never = refl }
+abbrev start-progress : (ss : List InputPast) (before : List ℕ) (j : JobView) → Decided ss before j → IsUnderWay ss before j j
+start-progress ss before j d = record { past = ss; texts = refl; decided = d; policy = refl; form = refl; output = refl; names = refl; order = refl; never = refl }
 
-first-more : (tells : Bool) (p : Option Preparing) (old new : JobView) (ss : List InputPast) (before : List ℕ) → GivesBy p tells old turn.More new → DecidedBy p ss before old.machine → new.done ≡ None → new.machine.output.names ≡ old.machine.output.names
+first-more : (tells : Bool) (p : Option Preparing) (old new : JobView) (ss : List InputPast) (before : List ℕ) → GivesBy p tells old turn.More new → DecidedBy p ss before old → new.done ≡ None → new.machine.output.names ≡ old.machine.output.names
     → (p ≡ None → new.machine.policy ≡ old.machine.policy) → IsOn p old ss before new
 first-more tells None old new ss before gives d done names policy = record {
   from = old;
@@ -59,18 +58,18 @@ first-more tells None old new ss before gives d done names policy = record {
   done = done;
   err = gives.0;
   names = names;
-  progress = goes-on ss before old.machine old.machine new.machine (start-progress ss before old.machine d) (gives.1 ss before d) (policy refl);
+  progress = goes-on ss before old old new (start-progress ss before old d) (gives.1 ss before d) (policy refl);
 }
 first-more tells (Some (ReadsFilter words code count)) old new ss before gives d done names policy =
-    let from : MachineState = asking (Filter gives.rule count) old.machine in
-    let P : MachineState → Type 0 = λ m. IsUnderWay ss before from m in
+    let from : JobView = filtering gives.rule count gives.programs old in
+    let P : JobView → Type 0 = λ j. IsUnderWay ss before from j in
     record {
-      from = filtering gives.rule count gives.programs old;
+      from = from;
       leads = record { rule = gives.rule; is = gives.is; programs = gives.programs; made = gives.made; from_is = refl };
       done = done;
       err = ap (λ (j : JobView). j.err) gives.new_is;
       names = names;
-      progress = subst P (sym (ap (λ (j : JobView). j.machine) gives.new_is)) (start-progress ss before from (d gives.rule gives.is));
+      progress = subst P (sym gives.new_is) (start-progress ss before from (d gives.rule gives.is gives.programs gives.made));
     }
 first-more tells (Some (Compiles words link)) old new ss before gives d done names policy = absurd gives
 
@@ -82,10 +81,10 @@ on-more tells p first job new ss before gives done names policy on = record {
   done = done;
   err = gives.0 ∙ on.err;
   names = names ∙ on.names;
-  progress = goes-on ss before on.from.machine job.machine new.machine on.progress (gives.1 on.progress.past before on.progress.decided) policy;
+  progress = goes-on ss before on.from job new on.progress (gives.1 on.progress.past before on.progress.decided) policy;
 }
 
-pub under-more : (tells : Bool) (first job new : CommandView) (ss : List InputPast) (before : List ℕ) → GivesBy job.preparing tells job.packets turn.More new.packets → DecidedBy first.preparing ss before first.packets.machine
+pub under-more : (tells : Bool) (first job new : CommandView) (ss : List InputPast) (before : List ℕ) → GivesBy job.preparing tells job.packets turn.More new.packets → DecidedBy first.preparing ss before first.packets
     → new.preparing ≡ None → new.packets.done ≡ None → new.packets.machine.output.names ≡ job.packets.machine.output.names → (job.preparing ≡ None → new.packets.machine.policy ≡ job.packets.machine.policy)
     → Under first ss before job → Under first ss before new
 under-more tells first job new ss before gives d prepared done names policy (fresh is) =
@@ -97,18 +96,18 @@ under-more tells first job new ss before gives d prepared done names policy (goe
     let P : Option Preparing → Type 0 = λ p. GivesBy p tells job.packets turn.More new.packets in
     goes prepared (on-more tells first.preparing first.packets job.packets new.packets ss before (subst P none gives) done names (policy none) is)
 
-ended : (tells : Bool) (from job new : JobView) (ss : List InputPast) (before : List ℕ) (r : RunResult) (progress : IsUnderWay ss before from.machine job.machine) → job.err ≡ from.err → job.machine.output.names ≡ from.machine.output.names
+ended : (tells : Bool) (from job new : JobView) (ss : List InputPast) (before : List ℕ) (r : RunResult) (progress : IsUnderWay ss before from job) → job.err ≡ from.err → job.machine.output.names ≡ from.machine.output.names
     → EndsJob tells job r.status new → r.output.written ≡ written_by new.machine → r.output.failures ≡ failures_by new.machine → r.messages ≡ new.err → JobRuns ss before tells from r
 ended tells from job new ss before r progress same names ends written failures is =
-    let N : List (List ℕ) → Type 0 = λ l. EndsAs progress.decided l new.machine ends.text r.status in
+    let N : List (List ℕ) → Type 0 = λ l. EndsAs progress.decided.packets l new.machine ends.text r.status in
     let F : OutputView → Type 0 = λ v. IsTold tells v ends.text new.err in
     let T : OutputView → Type 0 = λ v. IsTold tells from.err ends.text v in
     record {
-      old = job.machine;
+      old = job;
       last = new.machine;
       progress = progress;
       text = ends.text;
-      ends = ends-whole ss before from.machine.output.names from.machine job.machine new.machine ends.text r progress written failures (subst N names (ends.ends progress.past before progress.decided));
+      ends = ends-whole ss before from.machine.output.names from job new.machine ends.text r progress written failures (subst N names (ends.ends progress.past before progress.decided.packets));
       written = written;
       failures = failures;
       told = subst T (sym is) (subst F same ends.told);
@@ -151,9 +150,9 @@ unlisted tells words link old new r same is refuses =
       quiet = λ none. absurd (never-silent refuses.fault none);
     }
 
-first-done : (tells : Bool) (p : Option Preparing) (old new : JobView) (ss : List InputPast) (before : List ℕ) (r : RunResult) → GivesBy p tells old (turn.Done r.status) new → DecidedBy p ss before old.machine
+first-done : (tells : Bool) (p : Option Preparing) (old new : JobView) (ss : List InputPast) (before : List ℕ) (r : RunResult) → GivesBy p tells old (turn.Done r.status) new → DecidedBy p ss before old
     → r.output.written ≡ written_by new.machine → r.output.failures ≡ failures_by new.machine → r.messages ≡ new.err → RunsBy p ss before tells old r
-first-done tells None old new ss before r gives d written failures is = ended tells old old new ss before r (start-progress ss before old.machine d) refl refl gives written failures is
+first-done tells None old new ss before r gives d written failures is = ended tells old old new ss before r (start-progress ss before old d) refl refl gives written failures is
 first-done tells (Some (ReadsFilter words code count)) old new ss before r gives d written failures is =
     let T : OutputView → Type 0 = λ v. IsTold tells old.err (refusal_message gives.refusal) v in
     inr (record {
@@ -180,7 +179,7 @@ on-done tells (Some (ReadsFilter words code count)) first job new ss before r gi
 on-done tells (Some (Compiles words link)) first job new ss before r gives written failures is o = absurd o.leads
 
 pub under-done : (tells : Bool) (first job : CommandView) (new : JobView) (ss : List InputPast) (before : List ℕ) (r : RunResult) → GivesBy job.preparing tells job.packets (turn.Done r.status) new
-    → DecidedBy first.preparing ss before first.packets.machine → r.output.written ≡ written_by new.machine → r.output.failures ≡ failures_by new.machine → r.messages ≡ new.err → Under first ss before job
+    → DecidedBy first.preparing ss before first.packets → r.output.written ≡ written_by new.machine → r.output.failures ≡ failures_by new.machine → r.messages ≡ new.err → Under first ss before job
     → RunsBy first.preparing ss before tells first.packets r
 under-done tells first job new ss before r gives d written failures same (fresh is) =
     let P : CommandView → Type 0 = λ c. GivesBy c.preparing tells c.packets (turn.Done r.status) new in

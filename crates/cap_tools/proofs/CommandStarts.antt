@@ -27,7 +27,8 @@ use Rattle.cap_tools.specs.Inputs.{InputsView}
 use Rattle.cap_tools.specs.FirstStep.{EndsList, ListsInto, is_text}
 use Rattle.cap_tools.specs.Step.{ending}
 use Rattle.cap_tools.specs.Commands.{CommandView, IsReadyIf, CompileGives, DecidedBy, RunsBy, RunsCommand, assigned, command_first}
-use Rattle.cap_tools.proofs.Starts.{Decided-start, first-few, first-less}
+use Rattle.cap_tools.proofs.Programs.{new-for}
+use Rattle.cap_tools.proofs.Starts.{nothing-decided, first-few, first-less}
 
 pub lists-some : (tells : Bool) (words : List ℕ) (link : Link) (prog : List Insn) (old new : JobView) (r : Turn) → IsCompiled words link prog → EndsList prog tells old r new → CompileGives words link tells old r new
 lists-some tells words link prog old new turn.More compiled lists = lists
@@ -61,11 +62,11 @@ first-ready (command.Compile compile) call few =
 
 -- nothing is decided of the inputs
 pub first-decided : {Z : Type 0} (c : Command Z) (call : Call)
-    → DecidedBy (assigned c).preparing (map nothing_done call.inputs) call.output.written (command_first c call).packets.machine
-first-decided (command.Edit edit) call = Decided-start (assigned (command.Edit edit)).order call.inputs call.output.written (assigned (command.Edit edit)).policy call.names (assigned (command.Edit edit)).writing call.output.failures call.room
-first-decided (command.Merge merge) call = Decided-start (order_of (not merge.append)) call.inputs call.output.written KeepAll call.names (writing.Capture merge.format) call.output.failures call.room
-first-decided command.Infos call = Decided-start InTurn call.inputs call.output.written Count call.names writing.Text call.output.failures call.room
-first-decided (command.Print print) call = λ rule is. Decided-start (assigned (command.Print print)).order call.inputs call.output.written _ call.names (assigned (command.Print print)).writing call.output.failures call.room
+    → DecidedBy (assigned c).preparing (map nothing_done call.inputs) call.output.written (command_first c call).packets
+first-decided (command.Edit edit) call = record { packets = nothing-decided (assigned (command.Edit edit)).order call.inputs call.output.written (assigned (command.Edit edit)).policy call.names (assigned (command.Edit edit)).writing call.output.failures call.room; programs = refl }
+first-decided (command.Merge merge) call = record { packets = nothing-decided (order_of (not merge.append)) call.inputs call.output.written KeepAll call.names (writing.Capture merge.format) call.output.failures call.room; programs = refl }
+first-decided command.Infos call = record { packets = nothing-decided InTurn call.inputs call.output.written Count call.names writing.Text call.output.failures call.room; programs = refl }
+first-decided (command.Print print) call = λ rule is programs made. record { packets = nothing-decided (assigned (command.Print print)).order call.inputs call.output.written _ call.names (assigned (command.Print print)).writing call.output.failures call.room; programs = new-for rule programs made }
 first-decided (command.Compile compile) call = tt
 
 -- a command runs from its beginning

@@ -11,11 +11,11 @@ use Rattle.cap_tools.specs.Reports.{name_at}
 use Rattle.cap_tools.specs.Verdict.{Policy}
 use Rattle.cap_tools.specs.Outcome.{Form, Work, Outcome, outcome, outcome_of_texts, message, status}
 use Rattle.cap_tools.specs.Inputs.{InputView, InputPast, IsInput, ordering_of}
-use Rattle.cap_tools.specs.Machine.{MachineState, Decided, Comes, EndLeaves, IsUnderWay, failures_by, form_of, written_by, texts, wholes_of, cut_at}
-use Rattle.cap_tools.specs.Jobs.{JobView, IsOut, Ends, EndsAs, EndsElse, EndsJob, IsOutOf, RunResult, work_of, end_text, end_status, offset_at, offset_of}
+use Rattle.cap_tools.specs.Machine.{MachineState, PacketsDecided, Comes, EndLeaves, failures_by, form_of, written_by, texts, wholes_of, cut_at}
+use Rattle.cap_tools.specs.Jobs.{IsUnderWay, JobView, IsOut, Ends, EndsAs, EndsElse, EndsJob, IsOutOf, RunResult, work_of, end_text, end_status, offset_at, offset_of}
 use Rattle.cap_tools.specs.Step.{IsStep, ending}
 
-comes-out : (ss : List InputPast) (before : List ℕ) (old : MachineState) (rs : List InputItems) (d : Decided ss before old) (names : List (List ℕ)) (new : MachineState) (close : SequenceEnd) (text : List ℕ) (s : ℕ) → Comes rs d new close → text ≡ message names (Some close) → s ≡ status (Some close)
+comes-out : (ss : List InputPast) (before : List ℕ) (old : MachineState) (rs : List InputItems) (d : PacketsDecided ss before old) (names : List (List ℕ)) (new : MachineState) (close : SequenceEnd) (text : List ℕ) (s : ℕ) → Comes rs d new close → text ≡ message names (Some close) → s ≡ status (Some close)
     → IsOut rs d names new text s
 comes-out ss before old rs d names new close text s comes text_is status_is = record {
   written = comes.written;
@@ -32,7 +32,7 @@ get-here (x ∷ xs) ys h i is = rw (← is) (get-here xs ys h (length xs) refl)
 offset-here : (cursors : List InputView) (i : ℕ) (h : InputView) → IsInput cursors i h → offset_at cursors i ≡ h.source.offset
 offset-here cursors i h a = ap (λ (l : List InputView). offset_at l i) a.splits ∙ ap offset_of (get-here a.front a.back h i a.place)
 
-pub ends-as : (ss : List InputPast) (before : List ℕ) (old : MachineState) (d : Decided ss before old) (names : List (List ℕ)) (new : MachineState) (e : JobEnd) → EndLeaves d e new → EndsAs d names new (end_text names new.inputs.cursors e) (end_status e)
+pub ends-as : (ss : List InputPast) (before : List ℕ) (old : MachineState) (d : PacketsDecided ss before old) (names : List (List ℕ)) (new : MachineState) (e : JobEnd) → EndLeaves d e new → EndsAs d names new (end_text names new.inputs.cursors e) (end_status e)
 ends-as ss before old d names new end.Complete leaves = inl (comes-out ss before old (wholes_of ss) d names new Complete [] 0 leaves refl refl)
 ends-as ss before old d names new (end.FaultIn input fault) leaves =
     let place = offset-here new.inputs.cursors input leaves.cursor leaves.among in
@@ -53,15 +53,17 @@ ends-as ss before old d names new (end.FaultIn input fault) leaves =
     ]
 ends-as ss before old d names new end.OutputFailed leaves = inr (inr (inr (record { stops = leaves; text_is = refl; status_is = refl })))
 
-same-work : (ss : List InputPast) (before : List ℕ) (first old : MachineState) → IsUnderWay ss before first old → work_of old ≡ work_of first
+same-work : (ss : List InputPast) (before : List ℕ) (first old : JobView) → IsUnderWay ss before first old → work_of old.machine ≡ work_of first.machine
 same-work ss before first old progress =
-    ap (λ (o : PacketOrder). record { order = o; policy = old.policy; form = form_of old }) progress.order
-    ∙ ap (λ (a : Policy). record { order = ordering_of first.inputs.schedule; policy = a; form = form_of old }) progress.policy
-    ∙ ap (λ (f : Form). record { order = ordering_of first.inputs.schedule; policy = first.policy; form = f }) progress.form
+    let m = old.machine in
+    let o = first.machine in
+    ap (λ (order : PacketOrder). record { order = order; policy = m.policy; form = form_of m }) progress.order
+    ∙ ap (λ (a : Policy). record { order = ordering_of o.inputs.schedule; policy = a; form = form_of m }) progress.policy
+    ∙ ap (λ (f : Form). record { order = ordering_of o.inputs.schedule; policy = o.policy; form = f }) progress.form
 
 -- the last step's inputs have the bytes that the first step's have
-pub ends-whole : (ss : List InputPast) (before : List ℕ) (names : List (List ℕ)) (first old last : MachineState) (text : List ℕ) (r : RunResult) (progress : IsUnderWay ss before first old) → r.output.written ≡ written_by last → r.output.failures ≡ failures_by last
-    → EndsAs progress.decided names last text r.status → IsOutOf (outcome_of_texts (work_of first) names (texts ss)) before (failures_by first) text r ⊎ EndsElse progress.decided names last text r.status
+pub ends-whole : (ss : List InputPast) (before : List ℕ) (names : List (List ℕ)) (first old : JobView) (last : MachineState) (text : List ℕ) (r : RunResult) (progress : IsUnderWay ss before first old) → r.output.written ≡ written_by last → r.output.failures ≡ failures_by last
+    → EndsAs progress.decided.packets names last text r.status → IsOutOf (outcome_of_texts (work_of first.machine) names (texts ss)) before (failures_by first.machine) text r ⊎ EndsElse progress.decided.packets names last text r.status
 ends-whole ss before names first old last text r progress is device ends =
     elim ends [
       | inl whole ↦ inl (record {
@@ -73,8 +75,8 @@ ends-whole ss before names first old last text r progress is device ends =
       | inr other ↦ inr other
     ]
   where
-    same : outcome (work_of old) names (wholes_of progress.past) ≡ outcome_of_texts (work_of first) names (texts ss)
-    same = ap (λ (w : Work). outcome w names (wholes_of progress.past)) (same-work ss before first old progress) ∙ ap (λ (l : List (List ℕ)). outcome_of_texts (work_of first) names l) progress.texts
+    same : outcome (work_of old.machine) names (wholes_of progress.past) ≡ outcome_of_texts (work_of first.machine) names (texts ss)
+    same = ap (λ (w : Work). outcome w names (wholes_of progress.past)) (same-work ss before first old progress) ∙ ap (λ (l : List (List ℕ)). outcome_of_texts (work_of first.machine) names l) progress.texts
 
 pub clean-status : (e : JobEnd) → end_status e ≡ 0 → e ≡ end.Complete
 clean-status end.Complete is = refl

@@ -24,7 +24,7 @@ use Rattle.cap_tools.specs.Outcome.{Form, AsReports, Progress, no_progress, appl
 use Rattle.cap_tools.specs.Output.{JobOutputView, Target, Capture, Text, Lines, HasWritten, Reports, form_at, written_to, failures_to}
 use Rattle.cap_tools.specs.Inputs.{InputView, InputsView, Future, InputPast, AreInputsBehind, AreSettled, IsInput, EndedBefore, ReadsInput, IsNext, waits_from, waiting_packets, input_after, schedule_after, is_clean_end, actual_future, items_with, inputs_with, inputs_left, sequence_left, is_in_turn, ordering_of}
 use Rattle.cap_tools.specs.Reports.{report_text, reports_text}
-use Rattle.cap_tools.specs.Machine.{MachineState, AppendsOnce, Decided, GoesOn, Comes, BreaksAt, WhyBroken, StopsWriting, StepLeaves, Closes, ClosesBy, asks_report, report_at, unless_failed, progress_at, progress_of, progress_over, form_of, failures_by, written_by, cut_at, wholes_of}
+use Rattle.cap_tools.specs.Machine.{MachineState, AppendsOnce, PacketsDecided, GoesOn, Comes, BreaksAt, WhyBroken, StopsWriting, StepLeaves, Closes, ClosesBy, asks_report, report_at, unless_failed, progress_at, progress_of, progress_over, form_of, failures_by, written_by, cut_at, wholes_of}
 use Rattle.cap_tools.proofs.Splits.{At, Fit, stands-split, stands-join, stands-length, fits-join, wholes-join, rests-join, finish-here, come-on}
 use Rattle.cap_tools.proofs.Coming.{carries-found, carries-closed, true-wholes, true-fits, finds}
 use Rattle.cap_tools.proofs.Outputs.{drained-text, ReportOk, report-ok, reports-more}
@@ -51,7 +51,7 @@ among-same cursors i h h' a b =
 
 found-goes : (us vs : List InputPast) (s : InputPast) (before : List ℕ) (xs ys : List InputView) (h : InputView) (s' : SourceView) (schedule : Schedule) (turn : ℕ) (policy : Policy) (state : SelectorState) (output : JobOutputView) (decided : ℕ)
     → ReadLaws schedule turn xs ys h → AreInputsBehind us xs → At s h → AreInputsBehind vs ys → Advances h.source.phase h.source (Ok true) s' → s'.never_fails ≡ h.source.never_fails
-    → (d : Decided (us ++ s ∷ vs) before (mk (xs ++ h ∷ ys) schedule policy state output decided))
+    → (d : PacketsDecided (us ++ s ∷ vs) before (mk (xs ++ h ∷ ys) schedule policy state output decided))
     → GoesOn d (mk (xs ++ input_after h (Ok true) s' ∷ ys) (schedule_after schedule turn false) policy state output decided)
 found-goes us vs s before xs ys h s' schedule turn policy state output decided laws front at back advances never d =
     let waits : h.waiting ≡ false = laws.waits in
@@ -104,7 +104,7 @@ record ReadOut (us vs : List InputPast) (s : InputPast) (xs ys : List InputView)
 
 closed-out : (us vs : List InputPast) (s : InputPast) (before : List ℕ) (xs ys : List InputView) (h : InputView) (s' : SourceView) (schedule : Schedule) (turn : ℕ) (policy : Policy) (state : SelectorState) (output : JobOutputView) (decided : ℕ)
     → (laws : ReadLaws schedule turn xs ys h) → AreInputsBehind us xs → At s h → AreInputsBehind vs ys → Advances h.source.phase h.source (Ok false) s' → (found : FindsEnd h.source s')
-    → (d : Decided (us ++ s ∷ vs) before (mk (xs ++ h ∷ ys) schedule policy state output decided))
+    → (d : PacketsDecided (us ++ s ∷ vs) before (mk (xs ++ h ∷ ys) schedule policy state output decided))
     → ReadOut us vs s xs ys (input_after h (Ok false) s') (schedule_after schedule turn true) (d.events ++ laws.closed_events (kind_of s'.declared) s'.offset) found.passes.passed
 closed-out us vs s before xs ys h s' schedule turn policy state output decided laws front at back advances found d =
     let waits : h.waiting ≡ false = laws.waits in
@@ -123,7 +123,7 @@ closed-out us vs s before xs ys h s' schedule turn policy state output decided l
 -- it goes on, with what closing the input makes of the progress
 closed-goes : (us vs : List InputPast) (s : InputPast) (before : List ℕ) (xs ys : List InputView) (h : InputView) (s' : SourceView) (schedule : Schedule) (turn : ℕ) (policy : Policy) (state : SelectorState) (output : JobOutputView) (decided : ℕ) (state' : SelectorState) (output' : JobOutputView) (reports : List Report)
     → (laws : ReadLaws schedule turn xs ys h) → AreInputsBehind us xs → At s h → AreInputsBehind vs ys → Advances h.source.phase h.source (Ok false) s' → s'.never_fails ≡ h.source.never_fails
-    → (d : Decided (us ++ s ∷ vs) before (mk (xs ++ h ∷ ys) schedule policy state output decided))
+    → (d : PacketsDecided (us ++ s ∷ vs) before (mk (xs ++ h ∷ ys) schedule policy state output decided))
     → closed_in (ordering_of schedule) policy (progress_at (mk (xs ++ h ∷ ys) schedule policy state output decided) d.packets d.reports) turn (kind_of s'.declared) s'.offset
     ≡ record { decided = decided; state = state'; packets = d.packets; reports = reports; end = None }
     → HasWritten before output' d.packets reports → AppendsOnce (first_link (wholes_of (us ++ s ∷ vs))) (progress_of d) (record { decided = decided; state = state'; packets = d.packets; reports = reports; end = None }) output output' → form_at output' ≡ form_at output → failures_to output'.target ≡ failures_to output.target → output'.names ≡ output.names
@@ -179,7 +179,7 @@ wholes_of-length [] = refl
 wholes_of-length (u ∷ us) = ap suc (wholes_of-length us)
 
 -- what the output has where the job ends by a fault behind what is decided
-pub comes-broken : (ss : List InputPast) (before : List ℕ) (m : MachineState) (rs : List InputItems) (d : Decided ss before m) (new : MachineState) (input : ℕ) (fault : Fault) (offset : ℕ)
+pub comes-broken : (ss : List InputPast) (before : List ℕ) (m : MachineState) (rs : List InputItems) (d : PacketsDecided ss before m) (new : MachineState) (input : ℕ) (fault : Fault) (offset : ℕ)
     → progress_over m rs ≡ end_with (progress_of d) (FaultIn input fault offset) → written_by new ≡ written_by m → failures_by new ≡ failures_by m
     → Comes rs d new (FaultIn input fault offset)
 comes-broken ss before m rs d new input fault offset is same device = record {
@@ -212,7 +212,7 @@ risen s h s' fault at steps is = by_phase h.source.phase refl steps
 pub broken-ends : (us vs : List InputPast) (s : InputPast) (before : List ℕ) (xs ys : List InputView) (h : InputView) (s' : SourceView) (fault : Fault) (schedule : Schedule) (turn : ℕ) (policy : Policy) (state : SelectorState) (output : JobOutputView) (decided : ℕ)
     → ReadLaws schedule turn xs ys h → IsNext schedule (xs ++ h ∷ ys) (next.Read turn) → AreInputsBehind us xs → At s h → AreInputsBehind vs ys → Advances h.source.phase h.source (Err fault) s'
     → Steps h.source.phase h.source (Err fault) s'
-    → (d : Decided (us ++ s ∷ vs) before (mk (xs ++ h ∷ ys) schedule policy state output decided))
+    → (d : PacketsDecided (us ++ s ∷ vs) before (mk (xs ++ h ∷ ys) schedule policy state output decided))
     → WhyBroken d (mk (xs ++ input_after h (Err fault) s' ∷ ys) (schedule_after schedule turn false) policy state output decided) turn fault s'
 broken-ends us vs s before xs ys h s' fault schedule turn policy state output decided laws tells front at back advances steps d =
     let waits : h.waiting ≡ false = laws.waits in
@@ -307,7 +307,7 @@ told-closed InTurn KeepAll w i kind size is = (cc)
 -- the device failed at a report
 report-stops : (us vs : List InputPast) (s : InputPast) (before : List ℕ) (xs ys : List InputView) (h : InputView) (s' : SourceView) (schedule : Schedule) (turn : ℕ) (policy : Policy) (state : SelectorState) (names : List (List ℕ)) (target : Target) (decided : ℕ) (state' : SelectorState) (output' : JobOutputView) (fault : DeviceFault)
     → (laws : ReadLaws schedule turn xs ys h) → IsNext schedule (xs ++ h ∷ ys) (next.Read turn) → AreInputsBehind us xs → At s h → AreInputsBehind vs ys → Advances h.source.phase h.source (Ok false) s' → Steps h.source.phase h.source (Ok false) s'
-    → (d : Decided (us ++ s ∷ vs) before (mk (xs ++ h ∷ ys) schedule policy state (record { names = names; target = target }) decided))
+    → (d : PacketsDecided (us ++ s ∷ vs) before (mk (xs ++ h ∷ ys) schedule policy state (record { names = names; target = target }) decided))
     → asks_report (ordering_of schedule) policy ≡ true
     → Reports (report_text names (report_at turn (input_after h (Ok false) s') state.tally)) target (Err fault) output'.target
     → StopsWriting d (mk (xs ++ input_after h (Ok false) s' ∷ ys) (schedule_after schedule turn true) policy state' output' decided)
@@ -368,7 +368,7 @@ report-stops us vs s before xs ys h s' schedule turn policy state names (Text by
 
 closed-core : (us vs : List InputPast) (s : InputPast) (before : List ℕ) (xs ys : List InputView) (h : InputView) (s' : SourceView) (schedule : Schedule) (turn : ℕ) (policy : Policy) (state : SelectorState) (output : JobOutputView) (decided : ℕ) (r : StepOutcome) (selector' : PolicyState) (output' : JobOutputView)
     → (laws : ReadLaws schedule turn xs ys h) → IsNext schedule (xs ++ h ∷ ys) (next.Read turn) → AreInputsBehind us xs → At s h → AreInputsBehind vs ys → Advances h.source.phase h.source (Ok false) s' → Steps h.source.phase h.source (Ok false) s'
-    → (d : Decided (us ++ s ∷ vs) before (mk (xs ++ h ∷ ys) schedule policy state output decided))
+    → (d : PacketsDecided (us ++ s ∷ vs) before (mk (xs ++ h ∷ ys) schedule policy state output decided))
     → (b : Bool) → asks_report (ordering_of schedule) policy ≡ b → ClosesBy b turn (input_after h (Ok false) s') (record { policy = policy; state = state }) output r selector' output'
     → StepLeaves d r (mk (xs ++ input_after h (Ok false) s' ∷ ys) (schedule_after schedule turn true) policy selector'.state output' decided)
 closed-core us vs s before xs ys h s' schedule turn policy state output decided r selector' output' laws tells front at back advances steps d false asks by =
@@ -397,7 +397,7 @@ closed-core us vs s before xs ys h s' schedule turn policy state output decided 
 
 -- ---- all of them
 
-abbrev pub FetchLeaves : {ss : List InputPast} {before : List ℕ} {old : MachineState} → Decided ss before old → ℕ → Result Bool Fault → StepOutcome → MachineState → Type 0
+abbrev pub FetchLeaves : {ss : List InputPast} {before : List ℕ} {old : MachineState} → PacketsDecided ss before old → ℕ → Result Bool Fault → StepOutcome → MachineState → Type 0
 FetchLeaves {ss} {before} {old} d i (Ok true) r new = GoesOn d new
 FetchLeaves {ss} {before} {old} d i (Ok false) r new = StepLeaves d r new
 FetchLeaves {ss} {before} {old} d i (Err fault) r new = BreaksAt d new i fault
@@ -410,7 +410,7 @@ Follows (Err fault) inputs i selector old r selector' new = (selector' ≡ selec
 
 read_input-core : (us vs : List InputPast) (s : InputPast) (before : List ℕ) (xs ys : List InputView) (h : InputView) (s' : SourceView) (a : Result Bool Fault) (schedule : Schedule) (turn : ℕ) (policy : Policy) (state : SelectorState) (output : JobOutputView) (decided : ℕ) (r : StepOutcome) (selector' : PolicyState) (output' : JobOutputView)
     → ReadLaws schedule turn xs ys h → IsNext schedule (xs ++ h ∷ ys) (next.Read turn) → AreInputsBehind us xs → At s h → AreInputsBehind vs ys → Advances h.source.phase h.source a s' → Steps h.source.phase h.source a s'
-    → (d : Decided (us ++ s ∷ vs) before (mk (xs ++ h ∷ ys) schedule policy state output decided))
+    → (d : PacketsDecided (us ++ s ∷ vs) before (mk (xs ++ h ∷ ys) schedule policy state output decided))
     → Follows a (record { cursors = xs ++ input_after h a s' ∷ ys; schedule = schedule_after schedule turn (is_clean_end a) }) turn (record { policy = policy; state = state }) output r selector' output'
     → FetchLeaves d turn a r (mk (xs ++ input_after h a s' ∷ ys) (schedule_after schedule turn (is_clean_end a)) policy selector'.state output' decided)
 read_input-core us vs s before xs ys h s' (Ok true) schedule turn policy state output decided r selector' output' laws tells front at back advances steps d follows =
@@ -430,7 +430,7 @@ read_input-core us vs s before xs ys h s' (Err fault) schedule turn policy state
 
 -- one input taken out of a step's premises
 pub read_input-leaves : (ss : List InputPast) (before : List ℕ) (cursors : List InputView) (schedule : Schedule) (policy : Policy) (state : SelectorState) (output : JobOutputView) (decided : ℕ) (i : ℕ) (a : Result Bool Fault) (inputs' : InputsView) (r : StepOutcome) (selector' : PolicyState) (output' : JobOutputView)
-    → IsNext schedule cursors (next.Read i) → ReadsInput (record { cursors = cursors; schedule = schedule }) i a inputs' → (d : Decided ss before (mk cursors schedule policy state output decided))
+    → IsNext schedule cursors (next.Read i) → ReadsInput (record { cursors = cursors; schedule = schedule }) i a inputs' → (d : PacketsDecided ss before (mk cursors schedule policy state output decided))
     → Follows a inputs' i (record { policy = policy; state = state }) output r selector' output'
     → FetchLeaves d i a r (mk inputs'.cursors inputs'.schedule policy selector'.state output' decided)
 read_input-leaves ss before cursors schedule policy state output decided i a inputs' r selector' output' tells fetches d follows =
@@ -448,15 +448,15 @@ read_input-leaves ss before cursors schedule policy state output decided i a inp
     fetches.is ∙ ap (λ (v : InputView). record { cursors = slice_set cursors i (input_after v a fetches.source); schedule = schedule' }) same
     ∙ ap (λ (l : List InputView). record { cursors = l; schedule = schedule' }) cursors' in
     let F : InputsView → Type 0 = λ f. Follows a f i (record { policy = policy; state = state }) output r selector' output' in
-    let D : List InputView → Type 0 = λ l. Decided ss before (mk l schedule policy state output decided) in
+    let D : List InputView → Type 0 = λ l. PacketsDecided ss before (mk l schedule policy state output decided) in
     let T : List InputView → Type 0 = λ l. IsNext schedule l (next.Read i) in
     let d' = subst D m.splits d in
     let st = stands-split ss m.front m.back h d'.behind in
     let new : MachineState = mk (m.front ++ h' ∷ m.back) schedule' policy selector'.state output' decided in
-    let core : (e : Decided (st.front ++ st.here ∷ st.back) before (mk (m.front ++ h ∷ m.back) schedule policy state output decided)) → FetchLeaves e i a r new = λ e.
+    let core : (e : PacketsDecided (st.front ++ st.here ∷ st.back) before (mk (m.front ++ h ∷ m.back) schedule policy state output decided)) → FetchLeaves e i a r new = λ e.
     read_input-core st.front st.back st.here before m.front m.back h fetches.source a schedule i policy state output decided r selector' output' at.laws (subst T m.splits tells) st.before st.at st.behind (subst A same fetches.advances) (subst S same fetches.steps) e (subst F feed'_is follows) in
-    let G : List InputPast → Type 0 = λ l. (e : Decided l before (mk (m.front ++ h ∷ m.back) schedule policy state output decided)) → FetchLeaves e i a r new in
-    let H : List InputView → Type 0 = λ l. (e : Decided ss before (mk l schedule policy state output decided)) → FetchLeaves e i a r new in
+    let G : List InputPast → Type 0 = λ l. (e : PacketsDecided l before (mk (m.front ++ h ∷ m.back) schedule policy state output decided)) → FetchLeaves e i a r new in
+    let H : List InputView → Type 0 = λ l. (e : PacketsDecided ss before (mk l schedule policy state output decided)) → FetchLeaves e i a r new in
     let N : InputsView → Type 0 = λ f. FetchLeaves d i a r (mk f.cursors f.schedule policy selector'.state output' decided) in
     let whole_input : H cursors = subst H (sym m.splits) (subst G (sym st.is) core) in
     subst N (sym feed'_is) (whole_input d)

@@ -20,7 +20,7 @@ use Rattle.cap_tools.specs.Outcome.{Form, AsCapture, Progress, closing_text, fin
 use Rattle.cap_tools.specs.Output.{JobOutputView, Target, Capture, Text, Lines, HasWrittenTo, Finishes, form_at, form_to, written_to, failures_to}
 use Rattle.cap_tools.specs.Inputs.{InputView, Future, InputPast, AreInputsBehind, EndedTo, IsNext, actual_future, ordering_of, first_declared_link}
 use Rattle.cap_tools.specs.Reports.{reports_text}
-use Rattle.cap_tools.specs.Machine.{MachineState, Decided, Comes, StopsWriting, progress_at, progress_of, progress_over, wholes_of}
+use Rattle.cap_tools.specs.Machine.{MachineState, PacketsDecided, Comes, StopsWriting, progress_at, progress_of, progress_over, wholes_of}
 use Rattle.cap_tools.proofs.Splits.{At}
 use Rattle.cap_tools.proofs.Coming.{true-whole, true-wholes, true-fit, true-fits}
 use Rattle.cap_tools.proofs.Outcomes.{course-close}
@@ -28,7 +28,7 @@ use Rattle.cap_tools.proofs.Laws.{OverAt, over-at}
 use Rattle.cap_tools.proofs.Fetches.{mk}
 use Rattle.cap_tools.proofs.Once.{once-closing}
 
-pub over-course : (ss : List InputPast) (before : List ℕ) (cursors : List InputView) (schedule : Schedule) (policy : Policy) (state : SelectorState) (output : JobOutputView) (decided : ℕ) → OverAt schedule cursors → (d : Decided ss before (mk cursors schedule policy state output decided))
+pub over-course : (ss : List InputPast) (before : List ℕ) (cursors : List InputView) (schedule : Schedule) (policy : Policy) (state : SelectorState) (output : JobOutputView) (decided : ℕ) → OverAt schedule cursors → (d : PacketsDecided ss before (mk cursors schedule policy state output decided))
     → final_progress policy (form_at output) (sequence_of (ordering_of schedule) (wholes_of ss)) ≡ end_with (progress_at (mk cursors schedule policy state output decided) d.packets d.reports) Complete
 over-course ss before cursors schedule policy state output decided at d =
     let fits = true-fits ss cursors d.behind in
@@ -82,7 +82,7 @@ finish-device before names (q ∷ qs) rs (Capture sink) new link has finishes =
 finish-device before names ps rs (Text bytes failures room) new link has finishes = ap failures_to finishes.1
 finish-device before names ps rs (Lines options bytes failures room) new link has finishes = ap failures_to finishes.1
 
-abbrev pub FinishLeaves : {ss : List InputPast} {before : List ℕ} {old : MachineState} → Decided ss before old → Result (Unit {0}) Fault → MachineState → Type 0
+abbrev pub FinishLeaves : {ss : List InputPast} {before : List ℕ} {old : MachineState} → PacketsDecided ss before old → Result (Unit {0}) Fault → MachineState → Type 0
 FinishLeaves {ss} {before} {old} d (Ok done) new = Comes (wholes_of ss) d new Complete
 FinishLeaves {ss} {before} {old} d (Err fault) new = StopsWriting d new
 
@@ -108,7 +108,7 @@ finish-empty before sink [] link fault new has finishes =
     }
 
 finish-stops : (ss : List InputPast) (before : List ℕ) (names : List (List ℕ)) (target : Target) (cursors : List InputView) (schedule : Schedule) (policy : Policy) (state : SelectorState) (decided : ℕ) (fault : Fault) (new : MachineState)
-    → (d : Decided ss before (mk cursors schedule policy state (record { names = names; target = target }) decided))
+    → (d : PacketsDecided ss before (mk cursors schedule policy state (record { names = names; target = target }) decided))
     → final_progress policy (form_to names target) (sequence_of (ordering_of schedule) (wholes_of ss)) ≡ over (mk cursors schedule policy state (record { names = names; target = target }) decided) d.packets d.reports
     → first_link (wholes_of ss) ≡ first_declared_link cursors → IsNext schedule cursors next.Finish → new.inputs ≡ record { cursors = cursors; schedule = schedule } → Finishes (first_declared_link cursors) target (Err fault) new.output.target
     → StopsWriting d new
@@ -133,7 +133,7 @@ finish-stops ss before names (Capture sink) cursors schedule policy state decide
     }
 
 pub finish-leaves : (ss : List InputPast) (before : List ℕ) (cursors : List InputView) (schedule : Schedule) (policy : Policy) (state : SelectorState) (output : JobOutputView) (decided : ℕ) (r : Result (Unit {0}) Fault) (new : MachineState)
-    → IsNext schedule cursors next.Finish → new.inputs ≡ record { cursors = cursors; schedule = schedule } → Finishes (first_declared_link cursors) output.target r new.output.target → (d : Decided ss before (mk cursors schedule policy state output decided))
+    → IsNext schedule cursors next.Finish → new.inputs ≡ record { cursors = cursors; schedule = schedule } → Finishes (first_declared_link cursors) output.target r new.output.target → (d : PacketsDecided ss before (mk cursors schedule policy state output decided))
     → FinishLeaves d r new
 finish-leaves ss before cursors schedule policy state output decided (Ok done) new tells inputs finishes d =
     let at : OverAt schedule cursors = over-at schedule cursors tells d.ended in

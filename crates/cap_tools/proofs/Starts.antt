@@ -15,7 +15,7 @@ use Rattle.cap_tools.specs.Jobs.{FreshInput, fresh_view, nothing_done, first_sch
 use Rattle.cap_tools.specs.Selector.{state_with}
 use Rattle.cap_tools.specs.Inputs.{InputView, Future, AreInputsBehind, KnowGreatest, AreFutures, AreSettled, NoneWaits, EndedBefore, inputs_with, inputs_left, items_with, steps_left_in, steps_left, most_steps, waiting_total}
 use Rattle.cap_tools.specs.Bounds.{reads_of, owed, most_turns}
-use Rattle.cap_tools.specs.Machine.{Decided}
+use Rattle.cap_tools.specs.Machine.{PacketsDecided}
 use Rattle.cap_tools.proofs.Fetches.{mk}
 
 start-behind : (os : List FreshInput) → AreInputsBehind (map nothing_done os) (map fresh_view os)
@@ -50,9 +50,9 @@ start-greatest : (os : List FreshInput) → KnowGreatest (map nothing_done os) (
 start-greatest [] = tt
 start-greatest (o ∷ os) = (refl, start-greatest os)
 
-pub Decided-start : (order : PacketOrder) (os : List FreshInput) (before : List ℕ) (policy : Policy) (names : List (List ℕ)) (w : Writing) (failures room : ℕ)
-    → Decided (map nothing_done os) before (mk (map fresh_view os) (first_schedule order (length (map fresh_view os))) policy (state_with 0 nothing_counted) (record { names = names; target = target_at w before failures room }) 0)
-Decided-start order os before policy names w failures room = record {
+pub nothing-decided : (order : PacketOrder) (os : List FreshInput) (before : List ℕ) (policy : Policy) (names : List (List ℕ)) (w : Writing) (failures room : ℕ)
+    → PacketsDecided (map nothing_done os) before (mk (map fresh_view os) (first_schedule order (length (map fresh_view os))) policy (state_with 0 nothing_counted) (record { names = names; target = target_at w before failures room }) 0)
+nothing-decided order os before policy names w failures room = record {
   behind = start-behind os;
   greatest = start-greatest os;
   events = [];

@@ -23,14 +23,14 @@ use Rattle.cap_tools.specs.declared.output.Writing.TheVariants as writing
 use Rattle.cap_tools.specs.declared.packets.Turn.{Turn}
 use Rattle.cap_tools.specs.declared.packets.Turn.TheVariants as turn
 use Rattle.cap_tools.specs.Sequence.{PacketOrder, InTurn}
-use Rattle.cap_tools.specs.Verdict.{Policy, Edit, Filter, KeepAll, Count}
+use Rattle.cap_tools.specs.Verdict.{Policy, Edit, KeepAll, Count}
 use Rattle.cap_tools.specs.Selector.{edit_rule_of}
 use Rattle.cap_tools.specs.Inputs.{InputPast, steps_left}
 use Rattle.cap_tools.specs.Bounds.{StepReads}
 use Rattle.cap_filter.specs.Programs.{spent_in}
-use Rattle.cap_tools.specs.Machine.{MachineState, MachineView, Decided}
-use Rattle.cap_tools.specs.Jobs.{JobView, JobGives, JobRuns, NeverBegan, Call, RunResult, fresh_job, order_of, nothing_done}
-use Rattle.cap_tools.specs.FirstStep.{IsFresh, Lists, Refuses, asking, filtering, is_text, output_of, output_name}
+use Rattle.cap_tools.specs.Machine.{MachineView}
+use Rattle.cap_tools.specs.Jobs.{JobView, Decided, JobGives, JobRuns, NeverBegan, Call, RunResult, fresh_job, order_of, nothing_done}
+use Rattle.cap_tools.specs.FirstStep.{IsFresh, Lists, Refuses, filtering, is_text, output_of, output_name}
 
 -- ---- before the first packet
 
@@ -159,11 +159,11 @@ StepReadsBy (Some preparing) tells goes old new = PreparesOnly old new
 
 -- ---- all steps
 
--- what is decided of the inputs, whatever the filter will be
-abbrev pub DecidedBy : Option Preparing → List InputPast → List ℕ → MachineState → Type 0
-DecidedBy None ss before m = Decided ss before m
-DecidedBy (Some (ReadsFilter words code count)) ss before m = (rule : Rule) → IsRule words code rule → Decided ss before (asking (Filter rule count) m)
-DecidedBy (Some (Compiles words link)) ss before m = Unit {0}
+-- what is decided of the inputs, whatever the filter will be and its programs
+abbrev pub DecidedBy : Option Preparing → List InputPast → List ℕ → JobView → Type 0
+DecidedBy None ss before j = Decided ss before j
+DecidedBy (Some (ReadsFilter words code count)) ss before j = (rule : Rule) → IsRule words code rule → (programs : List Content) → AreNew rule programs → Decided ss before (filtering rule count programs j)
+DecidedBy (Some (Compiles words link)) ss before j = Unit {0}
 
 -- the job goes through the filter that it reads
 pub record RunsFiltered (words : List ℕ) (code : Option (List ℕ)) (count : Option ℕ) (ss : List InputPast) (before : List ℕ) (tells : Bool) (first : JobView) (r : RunResult) : Type 0 where
@@ -189,7 +189,7 @@ RunsBy (Some (Compiles words link)) ss before tells first r =
     Runs (λ message. CompileLeaves words link (output_name first) (output_of first) r.output message r.status) tells first.err r.messages
 
 abbrev pub RunsCommand : Bool → CommandView → RunResult → Type 0
-RunsCommand tells first r = (ss : List InputPast) (before : List ℕ) → DecidedBy first.preparing ss before first.packets.machine → RunsBy first.preparing ss before tells first.packets r
+RunsCommand tells first r = (ss : List InputPast) (before : List ℕ) → DecidedBy first.preparing ss before first.packets → RunsBy first.preparing ss before tells first.packets r
 
 -- what a run of a command leaves; or there was no memory to begin it
 abbrev pub CommandRuns : {Z : Type 0} → Command Z → Call → RunResult → Type 0

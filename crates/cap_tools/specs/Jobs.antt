@@ -17,12 +17,12 @@ use Rattle.cap_tools.specs.Sequence.{InputItems, PacketOrder, InTurn, ByTime}
 use Rattle.cap_tools.specs.declared.output.Writing.{Writing}
 use Rattle.cap_tools.specs.Output.{target_at}
 use Rattle.cap_tools.specs.Verdict.{Policy}
-use Rattle.cap_tools.specs.Selector.{state_with}
+use Rattle.cap_tools.specs.Selector.{HavePrograms, state_with}
 use Rattle.cap_tools.specs.Reports.{name_at, nothing_counted}
 use Rattle.cap_tools.specs.Outcome.{Outcome, Work, first_link, outcome, outcome_of_texts}
 use Rattle.cap_tools.specs.Inputs.{InputView, InputsView, InputPast, IsInput, most_steps, ordering_of}
 use Rattle.flt_bpf.specs.Content.{Content}
-use Rattle.cap_tools.specs.Machine.{MachineState, MachineView, machine_with, AppendsOnce, Decided, GoesOn, EndsByCut, WantsMemory, StopsWriting, IsUnderWay, form_of, written_by, failures_by, texts, progress_of, progress_over, wholes_of, cut_at}
+use Rattle.cap_tools.specs.Machine.{MachineState, MachineView, machine_with, AppendsOnce, PacketsDecided, GoesOn, EndsByCut, WantsMemory, StopsWriting, never_failing, form_of, written_by, failures_by, texts, progress_of, progress_over, wholes_of, cut_at}
 
 -- ---- as it is handed over
 
@@ -115,6 +115,12 @@ fresh_job order policy writing call = record {
   done = None;
 }
 
+-- What holds of a job between its steps: of each input some bytes are done, and their packets are decided and written; and
+-- each program that judges is one for its expression and its link, or the listing's.
+pub record Decided (ss : List InputPast) (before : List ℕ) (j : JobView) : Type 0 where
+  pub packets : PacketsDecided ss before j.machine
+  pub programs : HavePrograms j.machine.policy j.programs
+
 -- the steps that were made and those that are left, which a job that ended has none of
 abbrev pub IsCounted : Option ℕ → ℕ → ℕ → Type 0
 IsCounted None turns left = turns + left ≤ most_steps
@@ -144,7 +150,7 @@ abbrev pub work_of : MachineState → Work
 work_of m = record { order = ordering_of m.inputs.schedule; policy = m.policy; form = form_of m }
 
 -- output, message and status are those of inputs with these items, and the output's device didn't fail
-pub record IsOut {ss : List InputPast} {before : List ℕ} {old : MachineState} (rs : List InputItems) (d : Decided ss before old) (names : List (List ℕ)) (new : MachineState) (text : List ℕ) (status : ℕ) : Type 0 where
+pub record IsOut {ss : List InputPast} {before : List ℕ} {old : MachineState} (rs : List InputItems) (d : PacketsDecided ss before old) (names : List (List ℕ)) (new : MachineState) (text : List ℕ) (status : ℕ) : Type 0 where
   pub written : written_by new ≡ before ++ (outcome (work_of old) names rs).output
   pub once : AppendsOnce (first_link rs) (progress_of d) (progress_over old rs) old.output new.output
   pub device : failures_by new ≡ failures_by old
@@ -152,7 +158,7 @@ pub record IsOut {ss : List InputPast} {before : List ℕ} {old : MachineState} 
   pub status_is : status ≡ (outcome (work_of old) names rs).status
 
 -- an input is cut short: its device failed in this step, or there was no memory for its next unit
-pub record IsOutCut {ss : List InputPast} {before : List ℕ} {old : MachineState} (d : Decided ss before old) (names : List (List ℕ)) (new : MachineState) (text : List ℕ) (status : ℕ) : Type 0 where
+pub record IsOutCut {ss : List InputPast} {before : List ℕ} {old : MachineState} (d : PacketsDecided ss before old) (names : List (List ℕ)) (new : MachineState) (text : List ℕ) (status : ℕ) : Type 0 where
   pub input : ℕ
   pub fault : Fault
   -- as this step left it
@@ -170,22 +176,22 @@ pub record LacksMemory (names : List (List ℕ)) (old new : MachineState) (text 
   pub status_is : status ≡ 1
 
 -- the output's device failed
-pub record LosesOutput {ss : List InputPast} {before : List ℕ} {old : MachineState} (d : Decided ss before old) (names : List (List ℕ)) (new : MachineState) (text : List ℕ) (status : ℕ) : Type 0 where
+pub record LosesOutput {ss : List InputPast} {before : List ℕ} {old : MachineState} (d : PacketsDecided ss before old) (names : List (List ℕ)) (new : MachineState) (text : List ℕ) (status : ℕ) : Type 0 where
   pub stops : StopsWriting d new
   pub text_is : text ≡ write_failed_message (name_at names (length new.inputs.cursors))
   pub status_is : status ≡ 1
 
-abbrev pub EndsElse : {ss : List InputPast} {before : List ℕ} {old : MachineState} → Decided ss before old → List (List ℕ) → MachineState → List ℕ → ℕ → Type 0
+abbrev pub EndsElse : {ss : List InputPast} {before : List ℕ} {old : MachineState} → PacketsDecided ss before old → List (List ℕ) → MachineState → List ℕ → ℕ → Type 0
 EndsElse {ss} {before} {old} d names new text status =
     IsOutCut d names new text status ⊎ LacksMemory names old new text status ⊎ LosesOutput d names new text status
 
-abbrev pub EndsAs : {ss : List InputPast} {before : List ℕ} {old : MachineState} → Decided ss before old → List (List ℕ) → MachineState → List ℕ → ℕ → Type 0
+abbrev pub EndsAs : {ss : List InputPast} {before : List ℕ} {old : MachineState} → PacketsDecided ss before old → List (List ℕ) → MachineState → List ℕ → ℕ → Type 0
 EndsAs {ss} {before} {old} d names new text status = IsOut (wholes_of ss) d names new text status ⊎ EndsElse d names new text status
 
 -- ---- a step
 
 abbrev pub Ends : List (List ℕ) → MachineState → MachineState → List ℕ → ℕ → Type 0
-Ends names old new text status = (ss : List InputPast) (before : List ℕ) (d : Decided ss before old) → EndsAs d names new text status
+Ends names old new text status = (ss : List InputPast) (before : List ℕ) (d : PacketsDecided ss before old) → EndsAs d names new text status
 
 -- a message that can't be written is lost
 pub record EndsJob (tells : Bool) (old : JobView) (status : ℕ) (new : JobView) : Type 0 where
@@ -195,9 +201,14 @@ pub record EndsJob (tells : Bool) (old : JobView) (status : ℕ) (new : JobView)
   -- where all went well nothing is reported
   pub quiet : status ≡ 0 → new.err ≡ old.err
 
+-- it goes on, and what held of it holds again, its programs included
+pub record StaysDecided {ss : List InputPast} {before : List ℕ} {old : JobView} (d : Decided ss before old) (new : JobView) : Type 0 where
+  pub goes : GoesOn d.packets new.machine
+  pub programs : HavePrograms new.machine.policy new.programs
+
 -- a job that goes on reports nothing
 abbrev pub JobGives : Bool → JobView → Turn → JobView → Type 0
-JobGives tells old turn.More new = (new.err ≡ old.err) × ((ss : List InputPast) (before : List ℕ) (d : Decided ss before old.machine) → GoesOn d new.machine)
+JobGives tells old turn.More new = (new.err ≡ old.err) × ((ss : List InputPast) (before : List ℕ) (d : Decided ss before old) → StaysDecided d new)
 JobGives tells old (turn.Done status) new = EndsJob tells old status new
 
 abbrev pub turn_goes_on : Turn → Bool
@@ -215,6 +226,19 @@ done_by (turn.Done status) = Some status
 
 -- ---- all steps
 
+-- A job that went on from its first view, without a failure of the output: of the same texts more bytes are done.
+pub record IsUnderWay (ss : List InputPast) (before : List ℕ) (first j : JobView) : Type 0 where
+  pub past : List InputPast
+  pub texts : texts past ≡ texts ss
+  pub decided : Decided past before j
+  pub policy : j.machine.policy ≡ first.machine.policy
+  pub form : form_of j.machine ≡ form_of first.machine
+  pub output : failures_by j.machine ≡ failures_by first.machine
+  pub names : j.machine.output.names ≡ first.machine.output.names
+  pub order : ordering_of j.machine.inputs.schedule ≡ ordering_of first.machine.inputs.schedule
+  -- an input that never fails is cut short by no failure
+  pub never : never_failing j.machine.inputs.cursors ≡ never_failing first.machine.inputs.cursors
+
 -- output, message and status are those of this outcome, and the output's device didn't fail
 pub record IsOutOf (o : Outcome) (before : List ℕ) (failures : ℕ) (text : List ℕ) (r : RunResult) : Type 0 where
   pub written_is : r.output.written ≡ before ++ o.output
@@ -225,11 +249,11 @@ pub record IsOutOf (o : Outcome) (before : List ℕ) (failures : ℕ) (text : Li
 -- All that comes of the inputs was written and told; or something failed in the last step, behind steps that went on. The
 -- output and the messages' device are handed back as that step left them.
 pub record JobRuns (ss : List InputPast) (before : List ℕ) (tells : Bool) (first : JobView) (r : RunResult) : Type 0 where
-  pub old : MachineState
+  pub old : JobView
   pub last : MachineState
-  pub progress : IsUnderWay ss before first.machine old
+  pub progress : IsUnderWay ss before first old
   pub text : List ℕ
-  pub ends : IsOutOf (outcome_of_texts (work_of first.machine) first.machine.output.names (texts ss)) before (failures_by first.machine) text r ⊎ EndsElse progress.decided first.machine.output.names last text r.status
+  pub ends : IsOutOf (outcome_of_texts (work_of first.machine) first.machine.output.names (texts ss)) before (failures_by first.machine) text r ⊎ EndsElse progress.decided.packets first.machine.output.names last text r.status
   pub written : r.output.written ≡ written_by last
   pub failures : r.output.failures ≡ failures_by last
   pub told : IsTold tells first.err text r.messages

@@ -71,8 +71,9 @@ abbrev pub progress_at : MachineState → List Captured → List Report → Prog
 progress_at m packets reports = record { decided = m.decided; state = m.state; packets = packets; reports = reports; end = None }
 
 -- Of each input some bytes are done: their packets are decided, in the job's order, with their greatest time known, and
--- the output is what is written of those that passed, or of the inputs that were read to their ends.
-pub record Decided (ss : List InputPast) (before : List ℕ) (m : MachineState) : Type 0 where
+-- the output is what is written of those that passed, or of the inputs that were read to their ends. By which programs they
+-- are judged is said of the whole job (`Decided`).
+pub record PacketsDecided (ss : List InputPast) (before : List ℕ) (m : MachineState) : Type 0 where
   pub behind : AreInputsBehind ss m.inputs.cursors
   pub greatest : KnowGreatest ss m.inputs.cursors
   pub events : List Event
@@ -181,7 +182,7 @@ pub record AppendsOnce (link : Option ℕ) (far next : Progress) (old new : JobO
   pub one : OneAnswer (form_at old) link far next bytes
 
 -- how far the job is
-abbrev pub progress_of : {ss : List InputPast} {before : List ℕ} {m : MachineState} → Decided ss before m → Progress
+abbrev pub progress_of : {ss : List InputPast} {before : List ℕ} {m : MachineState} → PacketsDecided ss before m → Progress
 progress_of {ss} {before} {m} d = progress_at m d.packets d.reports
 
 -- of each input whether its device never fails
@@ -189,13 +190,13 @@ abbrev pub never_failing : List InputView → List Bool
 never_failing hs = map (λ h. h.source.never_fails) hs
 
 -- it goes on, and finished some bytes of one input
-pub record GoesOn {ss : List InputPast} {before : List ℕ} {old : MachineState} (d : Decided ss before old) (new : MachineState) : Type 0 where
+pub record GoesOn {ss : List InputPast} {before : List ℕ} {old : MachineState} (d : PacketsDecided ss before old) (new : MachineState) : Type 0 where
   pub input : ℕ
   pub finished : List ℕ
   pub packets : List Placed
   pub past : List InputPast
   pub past_is : past ≡ finish_at ss input finished packets
-  pub decided : Decided past before new
+  pub decided : PacketsDecided past before new
   pub at_most_one : new.decided ≤ old.decided + 1
   pub form : form_of new ≡ form_of old
   pub once : AppendsOnce (first_link (wholes_of ss)) (progress_of d) (progress_of decided) old.output new.output
@@ -210,7 +211,7 @@ abbrev pub progress_over : MachineState → List InputItems → Progress
 progress_over m rs = final_progress m.policy (form_of m) (sequence_of (ordering_of m.inputs.schedule) rs)
 
 -- the output is all that the job writes of inputs with these items, and they end so
-pub record Comes {ss : List InputPast} {before : List ℕ} {old : MachineState} (rs : List InputItems) (d : Decided ss before old) (new : MachineState) (close : SequenceEnd) : Type 0 where
+pub record Comes {ss : List InputPast} {before : List ℕ} {old : MachineState} (rs : List InputItems) (d : PacketsDecided ss before old) (new : MachineState) (close : SequenceEnd) : Type 0 where
   pub ends : (progress_over old rs).end ≡ Some close
   pub written : written_by new ≡ before ++ final_text (form_of old) (first_link rs) (progress_over old rs)
   pub once : AppendsOnce (first_link rs) (progress_of d) (progress_over old rs) old.output new.output
@@ -225,7 +226,7 @@ cut_at (r ∷ rs) (suc i) items = r ∷ cut_at rs i items
 
 -- This input was read on in this step, and its device failed or there was no memory for its next unit: it is cut short
 -- there, where `after` stands.
-pub record EndsByCut {ss : List InputPast} {before : List ℕ} {old : MachineState} (d : Decided ss before old) (new : MachineState) (input : ℕ) (fault : Fault) (after : SourceView) : Type 0 where
+pub record EndsByCut {ss : List InputPast} {before : List ℕ} {old : MachineState} (d : PacketsDecided ss before old) (new : MachineState) (input : ℕ) (fault : Fault) (after : SourceView) : Type 0 where
   pub front : List InputPast
   pub past : InputPast
   pub back : List InputPast
@@ -256,7 +257,7 @@ PassesAs Skip q = ⊥
 PassesAs (Refuse fault) q = ⊥
 
 -- next is the current packet of an input, which passes; this is what it adds
-pub record NextPacket {ss : List InputPast} {before : List ℕ} {old : MachineState} (d : Decided ss before old) (new : MachineState) (bytes : List ℕ) : Type 0 where
+pub record NextPacket {ss : List InputPast} {before : List ℕ} {old : MachineState} (d : PacketsDecided ss before old) (new : MachineState) (bytes : List ℕ) : Type 0 where
   pub input : ℕ
   pub next : IsNext old.inputs.schedule old.inputs.cursors (next.Decide input)
   pub cursor : InputView
@@ -278,13 +279,13 @@ pub record NextReport (old new : MachineState) (bytes : List ℕ) : Type 0 where
   pub bytes_are : bytes ≡ report_bytes (form_of old) (report_at input (input_after fetches.cursor (Ok false) fetches.source) old.state.tally)
 
 -- all inputs were read; this is what a clean end adds
-pub record NextClosing {ss : List InputPast} {before : List ℕ} {old : MachineState} (d : Decided ss before old) (new : MachineState) (bytes : List ℕ) : Type 0 where
+pub record NextClosing {ss : List InputPast} {before : List ℕ} {old : MachineState} (d : PacketsDecided ss before old) (new : MachineState) (bytes : List ℕ) : Type 0 where
   pub next : IsNext old.inputs.schedule old.inputs.cursors next.Finish
   pub bytes_are : bytes ≡ closing_text (form_of old) (first_link (wholes_of ss)) d.packets
   pub inputs : new.inputs ≡ old.inputs
 
 -- The output's device failed in this step, after a prefix of what comes next in the whole output.
-pub record StopsWriting {ss : List InputPast} {before : List ℕ} {old : MachineState} (d : Decided ss before old) (new : MachineState) : Type 0 where
+pub record StopsWriting {ss : List InputPast} {before : List ℕ} {old : MachineState} (d : PacketsDecided ss before old) (new : MachineState) : Type 0 where
   pub failures : failures_by new ≡ failures_by old + 1
   pub bytes : List ℕ
   pub answer : NextPacket d new bytes ⊎ NextReport old new bytes ⊎ NextClosing d new bytes
@@ -294,38 +295,23 @@ pub record StopsWriting {ss : List InputPast} {before : List ℕ} {old : Machine
   pub stops : Stops (written_by old) bytes (written_by new)
 
 -- the inputs end so, or the current packet is refused; or the input is cut short; or there was no memory
-abbrev pub WhyBroken : {ss : List InputPast} {before : List ℕ} {old : MachineState} → Decided ss before old → MachineState → ℕ → Fault → SourceView → Type 0
+abbrev pub WhyBroken : {ss : List InputPast} {before : List ℕ} {old : MachineState} → PacketsDecided ss before old → MachineState → ℕ → Fault → SourceView → Type 0
 WhyBroken {ss} {before} {old} d new input fault after =
     Comes (wholes_of ss) d new (FaultIn input fault after.offset) ⊎ EndsByCut d new input fault after ⊎ WantsMemory old new input fault
 
-pub record BreaksAt {ss : List InputPast} {before : List ℕ} {old : MachineState} (d : Decided ss before old) (new : MachineState) (input : ℕ) (fault : Fault) : Type 0 where
+pub record BreaksAt {ss : List InputPast} {before : List ℕ} {old : MachineState} (d : PacketsDecided ss before old) (new : MachineState) (input : ℕ) (fault : Fault) : Type 0 where
   pub cursor : InputView
   pub among : IsInput new.inputs.cursors input cursor
   pub why : WhyBroken d new input fault cursor.source
 
-abbrev pub EndLeaves : {ss : List InputPast} {before : List ℕ} {old : MachineState} → Decided ss before old → JobEnd → MachineState → Type 0
+abbrev pub EndLeaves : {ss : List InputPast} {before : List ℕ} {old : MachineState} → PacketsDecided ss before old → JobEnd → MachineState → Type 0
 EndLeaves {ss} {before} {old} d end.Complete new = Comes (wholes_of ss) d new Complete
 EndLeaves {ss} {before} {old} d (end.FaultIn input fault) new = BreaksAt d new input fault
 EndLeaves {ss} {before} {old} d end.OutputFailed new = StopsWriting d new
 
-abbrev pub StepLeaves : {ss : List InputPast} {before : List ℕ} {old : MachineState} → Decided ss before old → StepOutcome → MachineState → Type 0
+abbrev pub StepLeaves : {ss : List InputPast} {before : List ℕ} {old : MachineState} → PacketsDecided ss before old → StepOutcome → MachineState → Type 0
 StepLeaves {ss} {before} {old} d More new = GoesOn d new
 StepLeaves {ss} {before} {old} d (Done e) new = EndLeaves d e new
 
 abbrev pub StepGives : MachineState → StepOutcome → MachineState → Type 0
-StepGives old r new = (ss : List InputPast) (before : List ℕ) (d : Decided ss before old) → StepLeaves d r new
-
--- ---- many steps
-
--- A machine that went on from its first view, without a failure of the output: of the same texts more bytes are done.
-pub record IsUnderWay (ss : List InputPast) (before : List ℕ) (first m : MachineState) : Type 0 where
-  pub past : List InputPast
-  pub texts : texts past ≡ texts ss
-  pub decided : Decided past before m
-  pub policy : m.policy ≡ first.policy
-  pub form : form_of m ≡ form_of first
-  pub output : failures_by m ≡ failures_by first
-  pub names : m.output.names ≡ first.output.names
-  pub order : ordering_of m.inputs.schedule ≡ ordering_of first.inputs.schedule
-  -- an input that never fails is cut short by no failure
-  pub never : never_failing m.inputs.cursors ≡ never_failing first.inputs.cursors
+StepGives old r new = (ss : List InputPast) (before : List ℕ) (d : PacketsDecided ss before old) → StepLeaves d r new

@@ -180,7 +180,7 @@ impl<I: Input, O: Output, E: Output, A: Allocator + Copy + Drop> Job<I, O, E, A>
             err)) }
         ensures decided { IfOk result (λ job. DecidedBy job.preparing
             (map nothing_done (map (fresh_input I.Input) inputs.items)) (O.written out)
-            job.packets.machine) }
+            job.packets) }
         ensures refused { IfErr result (λ devices. (devices.0 ≡ out) × (devices.1 ≡ err)) }
     {
         let Assignment { preparation, work } = assignment_of(command);

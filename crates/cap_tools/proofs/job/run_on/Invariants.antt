@@ -7,7 +7,7 @@ use Rattle.cap_tools.proofs.job.run_on.Given as goal
 abbrev pub invariant-loop-status : goal.invariant-loop-status
 invariant-loop-status g l = record {
   undone : l.initial.job.packets.done ≡ None → l.job.packets.done ≡ None;
-  told : IsTrue g.I.Input.tells → IsTrue g.O.Output.tells → l.initial.job.packets.done ≡ None → (ss : List InputPast) (before : List ℕ) → DecidedBy l.initial.job.preparing ss before l.initial.job.packets.machine → Under l.initial.job ss before l.job;
+  told : IsTrue g.I.Input.tells → IsTrue g.O.Output.tells → l.initial.job.packets.done ≡ None → (ss : List InputPast) (before : List ℕ) → DecidedBy l.initial.job.preparing ss before l.initial.job.packets → Under l.initial.job ss before l.job;
 }
 
 abbrev pub decreases-loop-status : goal.decreases-loop-status

@@ -23,6 +23,6 @@ returns-clause-decided g c =
     let made : c.in_ok-packets.packets ≡ (command_first c.args.command call).packets =
     c.in_ok-packets.ensures.fresh
     ∙ first-is c.args.command call _ _ _ c.assignment_of-preparation.ensures.order c.assignment_of-preparation.ensures.policy c.assignment_of-preparation.ensures.writing in
-    let J : JobView → Type 0 = λ j. DecidedBy (command_first c.args.command call).preparing (map nothing_done call.inputs) call.output.written j.machine in
-    let P : Option Preparing → Type 0 = λ p. DecidedBy p (map nothing_done call.inputs) call.output.written c.in_ok-packets.packets.machine in
+    let J : JobView → Type 0 = λ j. DecidedBy (command_first c.args.command call).preparing (map nothing_done call.inputs) call.output.written j in
+    let P : Option Preparing → Type 0 = λ p. DecidedBy p (map nothing_done call.inputs) call.output.written c.in_ok-packets.packets in
     subst P (sym c.assignment_of-preparation.ensures.preparing) (subst J (sym made) (first-decided c.args.command call))

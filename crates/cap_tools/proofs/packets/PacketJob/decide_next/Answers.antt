@@ -10,7 +10,7 @@ use Rattle.cap_tools.specs.Inputs.{InputsView, InputView, InputPast, input_behin
 use Rattle.cap_tools.specs.Inputs as input_spec
 use Rattle.cap_tools.specs.Verdict.{Policy}
 use Rattle.cap_tools.specs.Selector.{SelectorView, policy_state}
-use Rattle.cap_tools.specs.Machine.{MachineState, Decided, EndLeaves, StepGives, unwritten}
+use Rattle.cap_tools.specs.Machine.{MachineState, PacketsDecided, EndLeaves, StepGives, unwritten}
 use Rattle.cap_tools.specs.Jobs.{JobView}
 use Rattle.cap_tools.specs.Bounds.{decides_one, leaves_one}
 use Rattle.cap_tools.specs.Step.{IsStep}
@@ -104,7 +104,7 @@ returns-after-last g c =
     let same = among-same m.inputs.cursors c.args.input c.cursor.result.now c.mark_decided.ensures.cursor c.cursor.ensures c.mark_decided.ensures.among in
     let inputs : c.mark_decided.new.self ≡ behind c.cursor.result.now = c.mark_decided.ensures.is ∙ ap behind (sym same) in
     let failed : MachineState = mk m.inputs.cursors m.inputs.schedule m.policy j.state (output_at c.self.inside.messages.names c.decide.new.output) m.decided in
-    let all : (ss : List InputPast) (before : List ℕ) (d : Decided ss before m) → IsTrue g.O.Output.tells → AnswerLeaves d c.args.input (Ok c.in-Ok.last) (left c.mark_decided.new.self j.policy) failed = λ ss before d to.
+    let all : (ss : List InputPast) (before : List ℕ) (d : PacketsDecided ss before m) → IsTrue g.O.Output.tells → AnswerLeaves d c.args.input (Ok c.in-Ok.last) (left c.mark_decided.new.self j.policy) failed = λ ss before d to.
     let NF : InputsView → Type 0 = λ f. AnswerLeaves d c.args.input (Ok c.in-Ok.last) (left f m.policy) failed in
     let NK : Policy → Type 0 = λ k. AnswerLeaves d c.args.input (Ok c.in-Ok.last) (left c.mark_decided.new.self k) failed in
     subst NK (sym c.in-Ok.ensures.policy) (subst NF (sym inputs)
@@ -132,7 +132,7 @@ returns-after-last g c =
       done = λ more. refl;
     } in
     let goes : (r : StepOutcome) → S r was → S r c.args.self.now = λ r s. (let Q : JobView → Type 0 = λ v. S r v in subst Q c.self.view_is s) in
-    let R : (ss : List InputPast) (before : List ℕ) → Decided ss before m → Bool → Type 0 = λ ss before d b. AnswerLeaves d c.args.input (Ok b) new.machine failed in
+    let R : (ss : List InputPast) (before : List ℕ) → PacketsDecided ss before m → Bool → Type 0 = λ ss before d b. AnswerLeaves d c.args.input (Ok b) new.machine failed in
     elim c.if-last.branch [
       | then-last w ↦ rw w.result-is (goes (Done end.Complete) (step (Done end.Complete) (λ to ss before d. (let B : Bool → Type 0 = λ b. R ss before d b in subst B w.if-last.true (all ss before d to)))))
       | else-last w ↦ rw w.result-is (goes More (step More (λ to ss before d. (let B : Bool → Type 0 = λ b. R ss before d b in subst B w.if-last.false (all ss before d to)))))

@@ -8,7 +8,7 @@ use Rattle.cap_tools.specs.declared.step.StepOutcome.TheVariants.{Done}
 use Rattle.cap_tools.specs.Output.{output_at, Finishes}
 use Rattle.cap_tools.specs.Inputs.{InputPast}
 use Rattle.cap_tools.specs.Inputs as input_spec
-use Rattle.cap_tools.specs.Machine.{MachineState, Decided, EndLeaves}
+use Rattle.cap_tools.specs.Machine.{MachineState, PacketsDecided, EndLeaves}
 use Rattle.cap_tools.specs.Jobs.{JobView}
 use Rattle.cap_tools.specs.Bounds.{reads_nothing}
 use Rattle.cap_tools.specs.Step.{IsStep}
@@ -26,10 +26,10 @@ returns g c =
     let N : JobView → Type 0 = λ v. input_spec.IsNext v.machine.inputs.schedule v.machine.inputs.cursors next.Finish in
     let tells = subst N (sym c.self.view_is) c.requires.next in
     let F : Option ℕ → Type 0 = λ o. Finishes o m.output.target c.finish.result left.output.target in
-    let all : (ss : List InputPast) (before : List ℕ) (d : Decided ss before m) → IsTrue g.O.Output.tells → FinishLeaves d c.finish.result left = λ ss before d to.
+    let all : (ss : List InputPast) (before : List ℕ) (d : PacketsDecided ss before m) → IsTrue g.O.Output.tells → FinishLeaves d c.finish.result left = λ ss before d to.
     finish-leaves ss before m.inputs.cursors m.inputs.schedule m.policy m.state m.output m.decided c.finish.result left tells refl (subst F c.first_link-first.ensures (c.finish.ensures.told to)) d in
     let S : JobEnd → JobView → Type 0 = λ e v. IsStep g.I.Input.tells g.O.Output.tells v (Done e) new in
-    let step : (e : JobEnd) → ((ss : List InputPast) (before : List ℕ) (d : Decided ss before m) → IsTrue g.O.Output.tells → EndLeaves d e left) → S e c.args.self.now = λ e told.
+    let step : (e : JobEnd) → ((ss : List InputPast) (before : List ℕ) (d : PacketsDecided ss before m) → IsTrue g.O.Output.tells → EndLeaves d e left) → S e c.args.self.now = λ e told.
     let Q : JobView → Type 0 = λ v. S e v in
     subst Q c.self.view_is (record {
       told = λ ti to ss before d. told ss before d to;
