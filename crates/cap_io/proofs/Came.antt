@@ -209,20 +209,9 @@ data_missing head unread unread1 unread2 front found fault size is splits few fi
           (most_taken-record head unread (length front + missing.count) (omega (arith, missing.within)) (omega (arith, missing.within))) (λ failed. rw reads (omega (arith, missing.within)));
     }
 
--- what is held of a record
-abbrev pub record_held : RecordHead → ℕ → Held
-record_held found size = record {
-  size = size;
-  bytes = record { start = 16; length = found.captured };
-  options = record { start = 16; length = 0 };
-  interface = 0;
-  time = found.time;
-  orig = found.orig;
-}
-
 pub record_came : (head : Head) (unread unread1 unread2 front unit buffer : List ℕ) (found : RecordHead) (size : ℕ) → unread ≡ front ++ unread1 → length front ≡ 16 → FieldsCame head front found
     → size ≡ 16 + found.captured → length unit ≡ size → take (length front) unit ≡ front → unread1 ≡ drop (length front) unit ++ unread2 → take size buffer ≡ unit
-    → PacketCame (PcapFile head) unread buffer (record_held found size) (PcapFile head) unread2
+    → PacketCame (PcapFile head) unread buffer (record { size = size; bytes = record { start = 16; length = found.captured }; options = record { start = 16; length = 0 }; interface = 0; time = found.time; orig = found.orig }) (PcapFile head) unread2
 record_came head unread unread1 unread2 front unit buffer found size splits few fields e whole came behind there =
     let same : take 16 unit ≡ front = ap (λ (n : ℕ). take n unit) (sym few) ∙ came in
     let rest : unread1 ≡ drop 16 unit ++ unread2 = behind ∙ ap (λ (n : ℕ). drop n unit ++ unread2) few in

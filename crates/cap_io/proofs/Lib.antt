@@ -1,5 +1,6 @@
 pub mod Fronts
 pub mod Came
+pub mod Hands
 pub mod Entered
 pub mod OwnFaults
 pub mod BlocksCame

@@ -5,16 +5,17 @@ use Rattle.std.specs.Option.{option_map}
 use Rattle.cap_octet.specs.Packet.{Captured}
 use Rattle.cap_octet.specs.declared.fault.Fault.{Fault}
 use Rattle.cap_octet.specs.declared.fault.Fault.TheVariants.{NoMemory, ReadFailed, Truncated}
-use Rattle.cap_octet.specs.Checks.{first_failing}
+use Rattle.cap_octet.specs.Checks.{checked, first_failing}
 use Rattle.cap_octet.specs.declared.number.Order.{Order}
 use Rattle.cap_octet.specs.declared.device.Input.{Ghosts}
 use Rattle.cap_pcap.specs.Header.{IsHeader, form_in}
-use Rattle.cap_pcap.specs.Record.{field_checks, record_size}
+use Rattle.cap_pcap.specs.Record.{field_checks, most_captured, record_head_in, record_size}
 use Rattle.cap_pcapng.specs.Comment.{comment_in}
 use Rattle.cap_pcapng.specs.Frame.{frame_checks, is_section, most_block}
 use Rattle.cap_pcapng.specs.Interface.{Described}
 use Rattle.cap_pcapng.specs.Unit.{Section, block_size, order_before, packet_of}
 use Rattle.cap_pcap.specs.declared.head.Head.{Head}
+use Rattle.cap_pcap.specs.declared.head.RecordHead.{RecordHead}
 use Rattle.cap_io.specs.declared.unit.Came.{Came}
 use Rattle.cap_io.specs.declared.unit.Came.TheVariants as came
 use Rattle.cap_io.specs.declared.unit.Held.{Held}
@@ -172,6 +173,36 @@ abbrev pub HasInterfaceIfAny : Declared → Held → Came → Type 0
 HasInterfaceIfAny declared held (came.Passed size) = Unit {0}
 HasInterfaceIfAny declared held came.Packet = HasInterface declared held
 HasInterfaceIfAny declared held came.End = Unit {0}
+
+-- where the packet of a record lies
+abbrev pub held_of_record : RecordHead → Held
+held_of_record found = record {
+  size = 16 + found.captured;
+  bytes = record { start = 16; length = found.captured };
+  options = record { start = 16; length = 0 };
+  interface = 0;
+  time = found.time;
+  orig = found.orig;
+}
+
+-- A record that fails no check was taken from what the device had at hand, to the start of the buffer.
+pub record RecordTaken {I : Type 0} (device : Ghosts I) (head : Head) (old : I) (buffer : List ℕ) (found : RecordHead) (new : I) : Type 0 where
+  pub says : checked (first_failing (field_checks head (take 16 buffer))) (record_head_in head (take 16 buffer)) ≡ Ok found
+  pub short : found.captured ≤ most_captured
+  pub in_range : found.time < 2 ^ 63
+  pub there : 16 + found.captured ≤ length buffer
+  pub counted : device.given new ≡ device.given old + (16 + found.captured)
+  pub bounded : device.given new < 2 ^ 63
+  pub failed : device.failures new ≡ device.failures old
+  pub never : device.never_fails new ≡ device.never_fails old
+  pub splits : IsTrue device.tells → device.unread old ≡ take (16 + found.captured) buffer ++ device.unread new
+
+-- the device gave nothing
+pub record NothingTaken {I : Type 0} (device : Ghosts I) (old new : I) : Type 0 where
+  pub counted : device.given new ≡ device.given old
+  pub failed : device.failures new ≡ device.failures old
+  pub never : device.never_fails new ≡ device.never_fails old
+  pub rest : IsTrue device.tells → device.unread new ≡ device.unread old
 
 -- ---- a unit
 

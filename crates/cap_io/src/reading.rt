@@ -1,17 +1,19 @@
 //! The bytes of a unit, and the units of a pcap file, read from a device.
 ghost use Rattle.std.specs.Prelude.{◌≡◌, ℕ, ◌+◌, ◌^◌, ◌<◌, ◌≤◌, ◌++◌, true, false, IsTrue, IfOk};
 ghost use Rattle.std.specs.Prelude.{IfErr, List, OnOk, [], if◌then◌else◌, length, take};
-ghost use Rattle.std.specs.Prelude.{drop, vec_len};
+ghost use Rattle.std.specs.Prelude.{drop, vec_len, IfSome, IsNone};
 ghost use Rattle.cap_pcapng.specs.Frame.{is_section};
 ghost use Rattle.cap_pcapng.specs.Interface.{Described};
 ghost use Rattle.cap_io.specs.Capture.{Nothing};
 ghost use Rattle.cap_io.specs.Reading.{FrontCame, FrontMissing, HeaderCame, Moves, ReadsUnit};
-ghost use Rattle.cap_io.specs.Reading.{Refuses, RestMissing};
+ghost use Rattle.cap_io.specs.Reading.{NothingTaken, RecordTaken, Refuses, RestMissing};
+ghost use Rattle.cap_io.specs.Reading.{held_of_record};
+ghost use Rattle.cap_pcap.specs.Record.{most_captured};
 ghost use Rattle.cap_io.specs.declared.unit.Savefile.TheVariants as file;
 
 use crate::unit::{Came, Held, Span};
 use cap_octet::{Fault, Input, read_full};
-use cap_pcap::{Head, read_head, read_magic, read_record};
+use cap_pcap::{Head, RecordHead, read_head, read_magic, read_record};
 use std::alloc::Allocator;
 
 /// The bytes of a record in front of its data.
@@ -106,10 +108,55 @@ pub(crate) fn read_header<I: Input>(input: &mut I, first: &[u8; 4]) -> Result<He
     read_head(&bytes)
 }
 
+/// Takes the next record to the start of the buffer, where the device has all of it at hand, the
+/// buffer has room for it, and it fails no check.
+#[inline(always)]
+fn take_record<I: Input>(input: &mut I, head: &Head, buffer: &mut [u8]) -> Option<RecordHead>
+    ensures taken { IfSome result (λ found. RecordTaken I.Input head.now input.old buffer.new found
+        input.new) }
+    ensures nothing { IsNone result → NothingTaken I.Input input.old input.new }
+    ensures room { length buffer.new ≡ length buffer.old }
+{
+    let hand = input.at_hand();
+    let front = hand.first_chunk::<RECORD_HEAD>()?;
+    let Ok(found) = read_record(head, front) else {
+        return None;
+    };
+    let size = RECORD_HEAD + found.captured as usize;
+    if size > hand.len() || size > buffer.len() {
+        return None;
+    }
+    buffer[..size].copy_from_slice(&hand[..size]);
+    if input.pass(size) { Some(found) } else { None }
+}
+
 /// Reads the next record to the start of the buffer, and writes where its packet lies. Its limits
 /// are looked at before the buffer grows.
 #[inline(always)]
 pub(crate) fn next_record<I: Input, A: Allocator>(
+    input: &mut I,
+    head: &Head,
+    buffer: &mut Vec<u8, A>,
+    held: &mut Held,
+) -> Result<Came, Fault>
+    ensures { (interfaces : List Described) → ReadsUnit I.Input input.old [] (file.Pcap head.now)
+        interfaces result input.new buffer.new.items held.new (file.Pcap head.now) interfaces }
+{
+    if let Some(found) = take_record(input, head, buffer.as_mut_slice()) {
+        *held = record_held(&found);
+        return Ok(Came::Packet);
+    }
+    // Taken apart, as in `StdInput::read`.
+    match read_next_record(input, head, buffer, held) {
+        Ok(came) => Ok(came),
+        Err(fault) => Err(fault),
+    }
+}
+
+/// The same, read by read.
+#[cold]
+#[inline(never)]
+fn read_next_record<I: Input, A: Allocator>(
     input: &mut I,
     head: &Head,
     buffer: &mut Vec<u8, A>,
@@ -126,13 +173,21 @@ pub(crate) fn next_record<I: Input, A: Allocator>(
     let size = RECORD_HEAD + found.captured as usize;
     make_room(buffer, size)?;
     read_rest(input, &front, buffer.as_mut_slice(), size)?;
-    *held = Held {
-        size: size as u32,
+    *held = record_held(&found);
+    Ok(Came::Packet)
+}
+
+/// Where the packet of a record lies.
+fn record_held(found: &RecordHead) -> Held
+    requires { found.now.captured ≤ most_captured }
+    ensures { result ≡ held_of_record found.now }
+{
+    Held {
+        size: RECORD_HEAD as u32 + found.captured,
         bytes: Span::new(RECORD_HEAD as u32, found.captured),
         options: Span::new(RECORD_HEAD as u32, 0),
         interface: 0,
         time: found.time,
         orig: found.orig,
-    };
-    Ok(Came::Packet)
+    }
 }

@@ -1,7 +1,7 @@
 -- What the answer of a device over a reader or a writer of std has to do with that one's.
-use Rattle.std.specs.Prelude.{◌≡◌, ℕ, ◌+◌, ◌^◌, ◌≤◌, ◌<◌, List, length, Option, Some, Result, Ok, Err}
+use Rattle.std.specs.Prelude.{◌≡◌, ℕ, ◌+◌, ◌^◌, ◌≤◌, ◌<◌, Bool, true, false, List, length, take, Option, Some, Result, Ok, Err}
 use Rattle.std.specs.Io.{ReadsAtMost, WritesAtMost}
-use Rattle.std.specs.Io.KnownBytes.{ReadConsumes, WriteAppends}
+use Rattle.std.specs.Io.KnownBytes.{Consumes, ReadConsumes, WriteAppends}
 use Rattle.std.specs.IoError.{error_kind}
 use Rattle.std.specs.declared.io.Error.{Error}
 use Rattle.std.specs.declared.io.ErrorKind.{ErrorKind}
@@ -23,6 +23,11 @@ pub record IsOneRead (remaining : Option (List ℕ)) (given : ℕ) (result : Res
   pub bound : ReadsAtMost answer buf'
   pub bytes : ReadConsumes remaining remaining' answer buf'
   pub hands : HandsOver given answer result
+
+-- So many bytes that a reader's buffer holds are consumed, as of a read that gave them; or the reader gives what it gave.
+abbrev pub IsPassed : (held : List ℕ) (remaining : Option (List ℕ)) (count : ℕ) → Bool → (remaining' : Option (List ℕ)) → Type 0
+IsPassed held remaining count true remaining' = (count ≤ length held) × Consumes remaining remaining' (take count held)
+IsPassed held remaining count false remaining' = remaining' ≡ remaining
 
 -- The writer's answer: but a write that takes nothing of some bytes is a failure.
 abbrev pub TakesOver : List ℕ → Result ℕ Error → Result ℕ DeviceFault → Type 0

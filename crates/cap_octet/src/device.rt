@@ -1,8 +1,9 @@
 //! Devices: what a contract sees of bytes that come and go.
 ghost use Rattle.std.specs.Prelude.{◌≡◌, ℕ, ◌+◌, ◌^◌, ◌<◌, ◌≤◌, Bool, IsTrue, List, length, IfOk};
-ghost use Rattle.std.specs.Prelude.{IfErr, false};
+ghost use Rattle.std.specs.Prelude.{IfErr, false, if◌then◌else◌};
 ghost use Rattle.std.specs.List.{flat_map};
-ghost use Rattle.cap_octet.specs.Device.{AppendsOrStops, Reads, Fills, Writes, WritesAll};
+ghost use Rattle.std.specs.Io.{StartsWith};
+ghost use Rattle.cap_octet.specs.Device.{AppendsOrStops, Passes, Reads, Fills, Writes, WritesAll};
 ghost use Rattle.cap_octet.specs.Device.{WritesParts, count_of, failures_of};
 
 /// The device failed in this call.
@@ -45,6 +46,27 @@ pub trait Input {
         ensures never { never_fails self.new ≡ never_fails self.old }
         ensures told { IsTrue tells
             → Reads (unread self.old) buf.old result (unread self.new) buf.new };
+
+    /// Bytes that it has already, which the next reads give. Where a device doesn't give this it
+    /// shows none.
+    fn at_hand(&self) -> &[u8]
+        ensures told { IsTrue tells → StartsWith (unread self.now) result.now }
+    {
+        &[]
+    }
+
+    /// Takes so many bytes as a read of them would; or none, and returns `false`. Where a device
+    /// doesn't give this it takes none.
+    fn pass(&mut self, count: usize) -> bool
+        ensures counted { given self.new ≡ given self.old + (if result then count else 0) }
+        ensures bounded { IsTrue result → given self.new < 2 ^ 63 }
+        ensures failed { failures self.new ≡ failures self.old }
+        ensures never { never_fails self.new ≡ never_fails self.old }
+        ensures told { IsTrue tells
+            → Passes (unread self.old) count result (unread self.new) }
+    {
+        false
+    }
 
     /// A device that never fails did not fail before. `Prim.search rules` proves it of one that may
     /// fail.

@@ -1,7 +1,9 @@
 //! Devices over memory, which tell their bytes.
 ghost use Rattle.std.specs.Prelude.{◌≡◌, ℕ, ◌+◌, ◌≤◌, ◌<◌, ◌^◌, IsTrue, List, [], length, take};
+ghost use Rattle.std.specs.Prelude.{if◌then◌else◌};
 ghost use Rattle.std.specs.Prelude.{drop, true, IfOk, OnErr, IsOk, refl};
-ghost use Rattle.cap_octet.specs.Device.{Reads, Writes, count_of, failures_of};
+ghost use Rattle.std.specs.Io.{StartsWith};
+ghost use Rattle.cap_octet.specs.Device.{Passes, Reads, Writes, count_of, failures_of};
 
 use crate::device::{DeviceFault, Input, Output};
 use crate::failures::FailureCount;
@@ -62,6 +64,31 @@ impl Input for MemInput<'_> {
         self.rest = rest;
         self.given += count;
         Ok(count)
+    }
+
+    /// All that is left.
+    fn at_hand(&self) -> &[u8]
+        ensures told { IsTrue true → StartsWith self.now.rest.now result.now }
+        ensures all { result.now ≡ self.now.rest.now }
+    {
+        self.rest
+    }
+
+    /// Takes them where there are as many.
+    fn pass(&mut self, count: usize) -> bool
+        ensures counted { self.new.given ≡ self.old.given + (if result then count else 0) }
+        ensures bounded { IsTrue result → self.new.given < 2 ^ 63 }
+        ensures failed { ◌≡◌ {A = ℕ} 0 0 }
+        ensures never { true ≡ true }
+        ensures told { IsTrue true → Passes self.old.rest.now count result self.new.rest.now }
+        ensures passes { count ≤ length self.old.rest.now → result ≡ true }
+    {
+        if count > self.rest.len() {
+            return false;
+        }
+        self.rest = &self.rest[count..];
+        self.given += count;
+        true
     }
 
     ghost unfailed = { λ _ _. refl };

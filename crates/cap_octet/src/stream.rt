@@ -1,10 +1,11 @@
 //! Devices over std's buffered readers and writers.
 ghost use Rattle.std.specs.Prelude.{◌≡◌, ℕ, ◌+◌, ◌≤◌, ◌<◌, ◌^◌, ◌||◌, IsTrue, IfOk, None, false, []};
-ghost use Rattle.std.specs.Prelude.{is_err, is_some, length};
+ghost use Rattle.std.specs.Prelude.{if◌then◌else◌, is_err, is_some, length};
 ghost use Rattle.std.proofs.Common.{rules};
-ghost use Rattle.std.specs.Io.Buffered.{reader_remaining, writer_contents};
-ghost use Rattle.cap_octet.specs.Device.{Reads, Writes, count_of, failures_of};
-ghost use Rattle.cap_octet.specs.Stream.{HandsOver, IsOneRead, IsOneWrite, TakesOver};
+ghost use Rattle.std.specs.Io.Buffered.{reader_buffer, reader_remaining, writer_contents};
+ghost use Rattle.std.specs.Io.{StartsWith};
+ghost use Rattle.cap_octet.specs.Device.{Passes, Reads, Writes, count_of, failures_of};
+ghost use Rattle.cap_octet.specs.Stream.{HandsOver, IsOneRead, IsOneWrite, IsPassed, TakesOver};
 
 use crate::device::{DeviceFault, Input, Output};
 use crate::failures::FailureCount;
@@ -98,6 +99,35 @@ impl<R: Read> Input for StdInput<R> {
             Ok(count) => Ok(count),
             Err(fault) => Err(fault),
         }
+    }
+
+    /// What the reader's buffer holds.
+    #[inline(always)]
+    fn at_hand(&self) -> &[u8]
+        ensures told { IsTrue false → StartsWith [] result.now }
+        ensures shows { result.now ≡ reader_buffer self.now.reader }
+    {
+        self.reader.buffer()
+    }
+
+    /// Consumes them of what the reader's buffer holds, if it holds as many.
+    #[inline(always)]
+    fn pass(&mut self, count: usize) -> bool
+        ensures counted { self.new.given ≡ self.old.given + (if result then count else 0) }
+        ensures bounded { IsTrue result → self.new.given < 2 ^ 63 }
+        ensures failed { self.new.failures.count ≡ self.old.failures.count }
+        ensures never { false ≡ false }
+        ensures told { IsTrue false → Passes [] count result [] }
+        ensures passes { IsPassed (reader_buffer self.old.reader)
+            (reader_remaining R.remaining self.old.reader) count result
+            (reader_remaining R.remaining self.new.reader) }
+    {
+        if count > self.reader.buffer().len() || self.given + count as u64 >= MOST_GIVEN {
+            return false;
+        }
+        self.reader.consume(count);
+        self.given += count as u64;
+        true
     }
 
     ghost unfailed = { Prim.search rules };

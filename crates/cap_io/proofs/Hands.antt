@@ -1,0 +1,90 @@
+-- A record that a device had at hand.
+use Rattle.std.proofs.Common.{◌≡◌, ℕ, Bool, true, Option, Some, ◌+◌, ◌≤◌, List, [], ◌++◌, length, take, drop, Result, Ok, Err, refl, sym, subst, ap, ap₂, ◌∙◌, arith}
+use Rattle.std.proofs.lemmas.List.{length-take-le, length-append, take-take, take_at, take-append-le, take-append-drop, append_assoc}
+use Rattle.cap_octet.specs.Device.{Passes}
+use Rattle.cap_octet.specs.Checks.{checked, first_failing}
+use Rattle.cap_pcap.specs.declared.head.Head.{Head}
+use Rattle.cap_pcap.specs.declared.head.RecordHead.{RecordHead}
+use Rattle.cap_pcap.specs.Record.{field_checks, record_head_in}
+use Rattle.cap_octet.specs.declared.fault.Fault.{Fault}
+use Rattle.cap_octet.specs.declared.device.Input.{Ghosts}
+use Rattle.cap_pcapng.specs.Interface.{Described}
+use Rattle.cap_io.specs.declared.unit.Came.{Came}
+use Rattle.cap_io.specs.declared.unit.Held.{Held}
+use Rattle.cap_io.specs.declared.unit.Savefile.{Savefile}
+use Rattle.cap_io.specs.Reading.{NothingTaken, PacketCame, ReadsUnit, Refuses, UnitCame, declared_by, failures_told, held_of_record}
+use Rattle.cap_io.specs.Capture.{PcapFile}
+use Rattle.cap_io.proofs.Came.{FieldsCame, fields_came, record_came}
+
+-- what was copied of it stands first in the buffer
+pub copied-front : (hand unit rest : List ℕ) (size few : ℕ) → unit ≡ take size hand → size ≤ length hand → few ≤ size → take few (unit ++ rest) ≡ take few hand
+copied-front hand unit rest size few is within le =
+    let long : length unit ≡ size = ap length is ∙ length-take-le size hand within in
+    take-append-le few unit rest (omega (arith, long, le)) ∙ ap (take few) is ∙ take-take few size hand le
+
+-- it was the first of what comes
+pub taken-first : (unread unread' hand : List ℕ) (size : ℕ) → take (length hand) unread ≡ hand → size ≤ length hand → Passes unread size true unread' → unread ≡ take size hand ++ unread'
+taken-first unread unread' hand size starts within passes =
+    let same : take size unread ≡ take size hand = sym (take-take size (length hand) unread within) ∙ ap (take size) starts in
+    sym (take-append-drop size unread) ∙ ap₂ (λ (x y : List ℕ). x ++ y) same (sym passes.1)
+
+-- the record that was taken is a unit with a packet
+pub record-taken : (head : Head) (unread unread' buffer : List ℕ) (found : RecordHead) → checked (first_failing (field_checks head (take 16 buffer))) (record_head_in head (take 16 buffer)) ≡ Ok found
+    → 16 + found.captured ≤ length buffer → unread ≡ take (16 + found.captured) buffer ++ unread' → PacketCame (PcapFile head) unread buffer (held_of_record found) (PcapFile head) unread'
+record-taken head unread unread' buffer found says there splits =
+    let size : ℕ = 16 + found.captured in
+    let unit : List ℕ = take size buffer in
+    let front : List ℕ = take 16 buffer in
+    let few : length front ≡ 16 = length-take-le 16 buffer (omega (arith, there)) in
+    let whole : length unit ≡ size = length-take-le size buffer there in
+    let first : take 16 unit ≡ front = take-take 16 size buffer (omega arith) in
+    let joined : unit ≡ front ++ drop 16 unit = sym (take-append-drop 16 unit) ∙ ap (λ (l : List ℕ). l ++ drop 16 unit) first in
+    let parts : unread ≡ front ++ (drop 16 unit ++ unread') = splits ∙ ap (λ (l : List ℕ). l ++ unread') joined ∙ append_assoc front (drop 16 unit) unread' in
+    record_came head unread (drop 16 unit ++ unread') unread' front unit buffer found size parts few (fields_came head front (Ok found) found (sym says) refl) refl whole
+    (ap (λ (n : ℕ). take n unit) few ∙ first) (ap (λ (n : ℕ). drop n unit ++ unread') (sym few)) refl
+
+-- a device that gave nothing is read as it was
+pub reads-behind : {I : Type 0} (device : Ghosts I) (old mid new : I) (file : Savefile) (interfaces : List Described) (r : Result Came Fault) (buffer : List ℕ) (held : Held) → NothingTaken device old mid
+    → ReadsUnit device mid [] file interfaces r new buffer held file interfaces → ReadsUnit device old [] file interfaces r new buffer held file interfaces
+reads-behind device old mid new file interfaces (Ok came) buffer held nothing reads =
+    let U : List ℕ → Type 0 = λ l. UnitCame (declared_by file interfaces) l buffer held came (declared_by file interfaces) (device.unread new) in
+    let same = nothing.counted in
+    let counted = reads.moves.counted in
+    let grown = reads.moves.grown in
+    record {
+      moves = record {
+        counted = omega (arith, same, counted);
+        grown = omega (arith, same, grown);
+        bounded = reads.moves.bounded;
+        few = tt;
+        failed = reads.moves.failed ∙ ap (λ (n : ℕ). n + 0) nothing.failed;
+        never = reads.moves.never ∙ nothing.never;
+      };
+      sized = reads.sized;
+      told = reads.told;
+      known = reads.known;
+      ok = λ t. subst U (nothing.rest t) (reads.ok t);
+      err = tt;
+      kept = tt;
+    }
+reads-behind device old mid new file interfaces (Err fault) buffer held nothing reads =
+    let R : List ℕ → Type 0 = λ l. Refuses (declared_by file interfaces) l (device.unread new) fault in
+    let same = nothing.counted in
+    let few = reads.moves.few in
+    let grown = reads.moves.grown in
+    record {
+      moves = record {
+        counted = tt;
+        grown = omega (arith, same, grown);
+        bounded = tt;
+        few = omega (arith, same, few);
+        failed = reads.moves.failed ∙ ap (λ (n : ℕ). n + failures_told {X = Came} (Err fault)) nothing.failed;
+        never = reads.moves.never ∙ nothing.never;
+      };
+      sized = tt;
+      told = tt;
+      known = tt;
+      ok = tt;
+      err = λ t. subst R (nothing.rest t) (reads.err t);
+      kept = reads.kept;
+    }
