@@ -15,7 +15,6 @@ use Rattle.cap_pcap.proofs.Headers.{head_fault-few, form_in-append, head_fault-a
 use Rattle.cap_pcap.proofs.Records.{field_checks-append, record_head_in-append, captured_len-append, record_fault-few, record_fault-fields, record_fault-short, IsRecord-came}
 use Rattle.cap_pcapng.specs.Frame.{is_section}
 use Rattle.cap_pcapng.proofs.Units as block
-use Rattle.cap_io.specs.declared.unit.Held.{Held}
 use Rattle.cap_io.specs.Capture.{Declared, Nothing, PcapFile, Front, a_pcap_record, front_of, is_pcapng}
 use Rattle.cap_io.specs.Reading.{most_in_unit, most_taken, length_by_front, decisive_length, IsTaken, Refuses, RestMissing, FrontMissing, HeaderCame, PacketCame}
 use Rattle.cap_io.proofs.Fronts.{front_of-no_header, front_of-no_record, front_of-pcapng, is_section-append, is_pcapng-append, is_pcapng-few, most_taken-block, most_taken-header, most_taken-record, most_taken-front, decisive_length-file, decisive_length-front, decisive_length-header}

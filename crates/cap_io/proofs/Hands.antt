@@ -1,20 +1,22 @@
 -- A record that a device had at hand.
-use Rattle.std.proofs.Common.{◌≡◌, ℕ, Bool, true, Option, Some, ◌+◌, ◌≤◌, List, [], ◌++◌, length, take, drop, Result, Ok, Err, refl, sym, subst, ap, ap₂, ◌∙◌, arith}
-use Rattle.std.proofs.lemmas.List.{length-take-le, length-append, take-take, take_at, take-append-le, take-append-drop, append_assoc}
+use Rattle.std.proofs.Common.{◌≡◌, ℕ, Bool, true, IsTrue, is_some, ◌+◌, ◌^◌, ◌<◌, ◌≤◌, List, [], ◌++◌, length, take, drop, Result, Ok, Err, refl, sym, subst, ap, ap₂, ◌∙◌, arith, add-zero}
+use Rattle.std.proofs.lemmas.List.{length-take-le, take-take, take-append-le, take-append-drop, append_assoc}
 use Rattle.cap_octet.specs.Device.{Passes}
 use Rattle.cap_octet.specs.Checks.{checked, first_failing}
 use Rattle.cap_pcap.specs.declared.head.Head.{Head}
 use Rattle.cap_pcap.specs.declared.head.RecordHead.{RecordHead}
-use Rattle.cap_pcap.specs.Record.{field_checks, record_head_in}
+use Rattle.cap_pcap.specs.Record.{field_checks, most_captured, record_head_in}
 use Rattle.cap_octet.specs.declared.fault.Fault.{Fault}
 use Rattle.cap_octet.specs.declared.device.Input.{Ghosts}
 use Rattle.cap_pcapng.specs.Interface.{Described}
 use Rattle.cap_io.specs.declared.unit.Came.{Came}
 use Rattle.cap_io.specs.declared.unit.Held.{Held}
 use Rattle.cap_io.specs.declared.unit.Savefile.{Savefile}
-use Rattle.cap_io.specs.Reading.{NothingTaken, PacketCame, ReadsUnit, Refuses, UnitCame, declared_by, failures_told, held_of_record}
-use Rattle.cap_io.specs.Capture.{PcapFile}
-use Rattle.cap_io.proofs.Came.{FieldsCame, fields_came, record_came}
+use Rattle.cap_io.specs.Reading.{NothingTaken, PacketCame, ReadsUnit, Refuses, UnitCame, declared_by, failures_told, held_of_record, packet_held}
+use Rattle.cap_io.specs.Capture.{Declared, PcapFile}
+use Rattle.cap_io.specs.Source.{SourceView, Reading, IsBetween, TakesNext}
+use Rattle.cap_io.proofs.Passing.{FindsPacket-next}
+use Rattle.cap_io.proofs.Came.{fields_came, record_came}
 
 -- what was copied of it stands first in the buffer
 pub copied-front : (hand unit rest : List ℕ) (size few : ℕ) → unit ≡ take size hand → size ≤ length hand → few ≤ size → take few (unit ++ rest) ≡ take few hand
@@ -87,4 +89,35 @@ reads-behind device old mid new file interfaces (Err fault) buffer held nothing 
       ok = tt;
       err = λ t. subst R (nothing.rest t) (reads.err t);
       kept = reads.kept;
+    }
+
+-- a source that stood between units took the next one, which has a packet
+pub takes-next : (tells : Bool) (head : Head) (found : RecordHead) (buffer : List ℕ) (old new : SourceView) → IsBetween old
+    → checked (first_failing (field_checks head (take 16 buffer))) (record_head_in head (take 16 buffer)) ≡ Ok found → found.captured ≤ most_captured → 16 + found.captured ≤ length buffer
+    → new.given ≡ old.given + (16 + found.captured) → new.given < 2 ^ 63 → new.failures ≡ old.failures → new.never_fails ≡ old.never_fails → (IsTrue tells → old.unread ≡ take (16 + found.captured) buffer ++ new.unread)
+    → old.declared ≡ PcapFile head → new.declared ≡ PcapFile head → new.block ≡ take (16 + found.captured) buffer → new.packet ≡ packet_held (PcapFile head) (held_of_record found) (take (16 + found.captured) buffer)
+    → new.offset ≡ old.offset → new.phase ≡ Reading → TakesNext tells old new
+takes-next tells head found buffer old new between says short there given bounded failures never splits was declared block packet offset phase =
+    let held : Held = held_of_record found in
+    let size : ℕ = 16 + found.captured in
+    let whole : length new.block ≡ size = ap length block ∙ length-take-le size buffer there in
+    let none : length old.block ≡ 0 = ap length between.block in
+    let some : is_some new.packet ≡ true = ap is_some packet in
+    record {
+      told = λ t.
+          let came = record-taken head old.unread new.unread buffer found says there (splits t) in
+          FindsPacket-next old new held buffer between (rw (was, declared) came) block (packet ∙ ap (λ (d : Declared). packet_held d held (take size buffer)) (sym declared)) offset phase;
+      bounds = record {
+        given = omega (arith, given);
+        failures = failures ∙ sym (add-zero old.failures);
+        never = never;
+        unfailed = λ f. failures;
+        block = omega (arith, whole, short);
+        packet = λ is. (omega (arith, given), bounded, some);
+        counted = omega (arith, given, whole, none, offset);
+        broken = tt;
+        ended = λ is. (cc);
+        found = λ is. phase;
+        passed = λ n is. (cc);
+      };
     }

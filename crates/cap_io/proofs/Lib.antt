@@ -1,10 +1,10 @@
 pub mod Fronts
 pub mod Came
-pub mod Hands
 pub mod Entered
 pub mod OwnFaults
 pub mod BlocksCame
 pub mod Passing
+pub mod Hands
 pub mod Units
 pub mod Items
 pub mod Standing

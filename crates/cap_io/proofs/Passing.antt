@@ -1,5 +1,5 @@
 -- From one place in a file to a later one.
-use Rattle.std.proofs.Common.{◌≡◌, ℕ, ◌+◌, ◌-◌, ◌≤◌, List, [], ◌++◌, length, take, drop, Option, Some, None, is_some, true, refl, sym, ap, ap₂, ◌∙◌, subst, arith}
+use Rattle.std.proofs.Common.{◌≡◌, ℕ, ◌+◌, ◌-◌, ◌≤◌, List, [], ◌++◌, length, take, drop, Bool, Option, Some, None, Result, Ok, Err, is_some, true, false, refl, sym, ap, ap₂, ◌∙◌, subst, arith}
 use Rattle.std.specs.List.{slice_get}
 use Rattle.std.specs.Option.{option_map}
 use Rattle.std.proofs.lemmas.List.{append_assoc, drop-take, take-take, length-append, length-take-le}
@@ -17,11 +17,11 @@ use Rattle.cap_io.specs.Capture.{Declared, Nothing, PcapFile, PcapngFile, AreUni
 use Rattle.cap_io.proofs.Items.{AreUnits-append}
 use Rattle.cap_io.proofs.Units.{one_unit}
 use Rattle.cap_io.specs.Reading.{EndCame, HasInterface, PacketCame, Refuses, UnitPassed, packet_held, part_of}
-use Rattle.cap_io.specs.Source.{SourceView, Reading, Ended, Passes, IsBetween, IsBroken, FindsPacket, FindsEnd, HoldsIfAny, behind, block_at, left, phase_at}
+use Rattle.cap_io.specs.Source.{SourceView, Continues, Reading, Ended, Passes, IsBetween, IsBroken, FindsPacket, FindsEnd, HoldsIfAny, behind, block_at, left, phase_at}
 
 -- ---- no unit is gone over
 
-stays : (old new : SourceView) → IsBetween old → new.declared ≡ old.declared → new.offset ≡ old.offset → Passes old new old.unread
+pub stays : (old new : SourceView) → IsBetween old → new.declared ≡ old.declared → new.offset ≡ old.offset → Passes old new old.unread
 stays old new between declared place = record { passed = []; splits = refl; units = rw declared no_unit; offset = rw between.block (omega (arith, place)) }
 
 pub IsBroken-next : (old new : SourceView) (fault : Fault) → IsBetween old → Refuses old.declared old.unread new.unread fault → new.declared ≡ old.declared → new.offset ≡ old.offset
@@ -172,3 +172,18 @@ stage_between stage.InHand held buffer phase none holds =
     absurd (omega (arith, holds.some, holds.there, sym (length-take-le held.size buffer holds.there) ∙ ap length none))
 stage_between stage.Ended held buffer phase none holds = (cc)
 stage_between (stage.Failed fault) held buffer phase none holds = (cc)
+
+-- ---- nothing is taken
+
+pub Passes-same : (old mid new : SourceView) → Passes old mid mid.unread → new.declared ≡ mid.declared → new.offset ≡ mid.offset → new.unread ≡ mid.unread → Passes old new new.unread
+Passes-same old mid new passes declared offset unread = record {
+  passed = passes.passed;
+  splits = rw unread passes.splits;
+  units = rw declared passes.units;
+  offset = offset ∙ passes.offset;
+}
+
+pub Continues-then : (old mid new : SourceView) (r : Result Bool Fault) → Passes old mid mid.unread → mid.block ≡ [] → Continues mid r new → Continues old r new
+Continues-then old mid new (Ok true) passes block goes = FindsPacket-then old mid new passes block goes
+Continues-then old mid new (Ok false) passes block goes = FindsEnd-then old mid new passes block goes
+Continues-then old mid new (Err fault) passes block goes = IsBroken-then old mid new fault passes block goes

@@ -239,3 +239,18 @@ pub record NextBounds (old : SourceView) (r : Result Came Fault) (new : SourceVi
   pub ended : r ≡ Ok came.End → new.phase ≡ Ended
   pub found : r ≡ Ok came.Packet → new.phase ≡ Reading
   pub passed : (size : ℕ) → r ≡ Ok (came.Passed size) → (old.given < new.given) × (new.given < 2 ^ 63) × IsBetween new
+
+-- the next unit, which the device had at hand, is taken: it has a packet
+pub record TakesNext (tells : Bool) (old new : SourceView) : Type 0 where
+  pub told : IsTrue tells → FindsPacket old new
+  pub bounds : NextBounds old (Ok came.Packet) new
+
+-- the source stays where it is
+pub record TakesNothing (tells : Bool) (old new : SourceView) : Type 0 where
+  pub between : IsBetween new
+  pub declared : new.declared ≡ old.declared
+  pub offset : new.offset ≡ old.offset
+  pub given : new.given ≡ old.given
+  pub failures : new.failures ≡ old.failures
+  pub never : new.never_fails ≡ old.never_fails
+  pub unread : IsTrue tells → new.unread ≡ old.unread

@@ -94,11 +94,7 @@ pub(crate) fn read_unit<I: Input, A: Allocator>(
 {
     match &*savefile {
         Savefile::Unknown => first_unit(input, savefile, buffer, table, held),
-        // Taken apart, as in `StdInput::read`.
-        Savefile::Pcap(head) => match next_record(input, head, buffer, held) {
-            Ok(came) => Ok(came),
-            Err(fault) => Err(fault),
-        },
+        Savefile::Pcap(head) => next_record(input, head, buffer, held),
         Savefile::Pcapng(_, _) => next_block(input, savefile, buffer, table, held),
     }
 }

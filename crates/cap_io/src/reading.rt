@@ -19,6 +19,10 @@ use std::alloc::Allocator;
 /// The bytes of a record in front of its data.
 const RECORD_HEAD: usize = 16;
 
+/// The bytes of a unit that is copied in one piece with what follows it. A buffer has room for as
+/// many.
+const SHORT_UNIT: usize = 256;
+
 // ---- bytes
 
 /// Reads the first bytes of a unit that is behind others; `false` is the end of the
@@ -51,7 +55,7 @@ pub(crate) fn make_room<A: Allocator>(buffer: &mut Vec<u8, A>, size: usize) -> R
     ensures room { OnOk result (size ≤ vec_len buffer.new) }
     ensures memory { IfErr result (λ fault. fault ≡ Fault.NoMemory) }
 {
-    if buffer.len() < size && buffer.resize(size, 0).is_err() {
+    if buffer.len() < size && buffer.resize(size.max(SHORT_UNIT), 0).is_err() {
         return Err(Fault::NoMemory);
     }
     Ok(())
@@ -111,7 +115,11 @@ pub(crate) fn read_header<I: Input>(input: &mut I, first: &[u8; 4]) -> Result<He
 /// Takes the next record to the start of the buffer, where the device has all of it at hand, the
 /// buffer has room for it, and it fails no check.
 #[inline(always)]
-fn take_record<I: Input>(input: &mut I, head: &Head, buffer: &mut [u8]) -> Option<RecordHead>
+pub(crate) fn take_record<I: Input>(
+    input: &mut I,
+    head: &Head,
+    buffer: &mut [u8],
+) -> Option<RecordHead>
     ensures taken { IfSome result (λ found. RecordTaken I.Input head.now input.old buffer.new found
         input.new) }
     ensures nothing { IsNone result → NothingTaken I.Input input.old input.new }
@@ -126,37 +134,29 @@ fn take_record<I: Input>(input: &mut I, head: &Head, buffer: &mut [u8]) -> Optio
     if size > hand.len() || size > buffer.len() {
         return None;
     }
-    buffer[..size].copy_from_slice(&hand[..size]);
+    copy_unit(hand, buffer, size);
     if input.pass(size) { Some(found) } else { None }
+}
+
+/// Copies the first `size` bytes, and maybe more.
+// Most units are short. A copy of a fixed size has no branch that hangs on a packet's.
+#[inline(always)]
+fn copy_unit(from: &[u8], buffer: &mut [u8], size: usize)
+    requires there { size ≤ length from.now }
+    requires room { size ≤ length buffer.old }
+    ensures copied { take size buffer.new ≡ take size from.now }
+    ensures room { length buffer.new ≡ length buffer.old }
+{
+    if size <= SHORT_UNIT && SHORT_UNIT <= from.len() && SHORT_UNIT <= buffer.len() {
+        buffer[..SHORT_UNIT].copy_from_slice(&from[..SHORT_UNIT]);
+    } else {
+        buffer[..size].copy_from_slice(&from[..size]);
+    }
 }
 
 /// Reads the next record to the start of the buffer, and writes where its packet lies. Its limits
 /// are looked at before the buffer grows.
-#[inline(always)]
 pub(crate) fn next_record<I: Input, A: Allocator>(
-    input: &mut I,
-    head: &Head,
-    buffer: &mut Vec<u8, A>,
-    held: &mut Held,
-) -> Result<Came, Fault>
-    ensures { (interfaces : List Described) → ReadsUnit I.Input input.old [] (file.Pcap head.now)
-        interfaces result input.new buffer.new.items held.new (file.Pcap head.now) interfaces }
-{
-    if let Some(found) = take_record(input, head, buffer.as_mut_slice()) {
-        *held = record_held(&found);
-        return Ok(Came::Packet);
-    }
-    // Taken apart, as in `StdInput::read`.
-    match read_next_record(input, head, buffer, held) {
-        Ok(came) => Ok(came),
-        Err(fault) => Err(fault),
-    }
-}
-
-/// The same, read by read.
-#[cold]
-#[inline(never)]
-fn read_next_record<I: Input, A: Allocator>(
     input: &mut I,
     head: &Head,
     buffer: &mut Vec<u8, A>,
@@ -178,7 +178,8 @@ fn read_next_record<I: Input, A: Allocator>(
 }
 
 /// Where the packet of a record lies.
-fn record_held(found: &RecordHead) -> Held
+#[inline(always)]
+pub(crate) fn record_held(found: &RecordHead) -> Held
     requires { found.now.captured ≤ most_captured }
     ensures { result ≡ held_of_record found.now }
 {

@@ -1,5 +1,6 @@
 //! Packets of a capture, one at a time.
 use crate::capture::read_unit;
+use crate::reading::{record_held, take_record};
 use crate::unit::{Came, Held, Savefile};
 use cap_octet::{Fault, Input, Packet};
 use cap_pcap::Resolution;
@@ -56,14 +57,14 @@ impl<I: Input, A: Allocator> Model for Source<I, A> {
 }
 
 impl<I: Input, A: Allocator> Source<I, A> {
-    ghost use Rattle.std.specs.Prelude.{◌≡◌, ◌+◌, ◌≤◌, IsTrue, OnOk, OnErr, IfErr, [], length};
+    ghost use Rattle.std.specs.Prelude.{◌≡◌, ◌+◌, ◌≤◌, IsTrue, OnOk, OnErr, IfErr, [], false, length};
     ghost use Rattle.std.specs.Option.{IfSome, option_map};
     ghost use Rattle.cap_octet.specs.Packet.{captured};
     ghost use Rattle.cap_io.specs.Capture.{kind_of, first_link_of};
     ghost use Rattle.cap_io.specs.Reading.{most_in_unit};
     ghost use Rattle.cap_io.specs.Source.{Reading, Advances, Continues, FindsNext, IsBetween};
     ghost use Rattle.cap_io.specs.Source.{KeepsBounds, HasFew, NextBounds, Steps, left, phase_told};
-    ghost use Rattle.cap_io.specs.Source.{source_at};
+    ghost use Rattle.cap_io.specs.Source.{TakesNext, TakesNothing, source_at};
 
     /// A source of which nothing is read yet. It takes no memory.
     pub fn new(alloc: A, input: I) -> Self
@@ -199,6 +200,7 @@ impl<I: Input, A: Allocator> Source<I, A> {
     }
 
     /// Leaves the current unit and reads the next one with a packet.
+    #[inline(always)]
     fn go_on(&mut self) -> Result<bool, Fault>
         requires { self.old.phase ≡ Reading }
         ensures told { IsTrue I.tells → Continues self.old result self.new }
@@ -207,6 +209,40 @@ impl<I: Input, A: Allocator> Source<I, A> {
         ensures err { IfErr result (λ _. self.new.block ≡ []) }
     {
         self.leave();
+        if self.take_next() {
+            return Ok(true);
+        }
+        self.read_on()
+    }
+
+    /// Takes the next record of a pcap file, if the device has it at hand.
+    #[inline(always)]
+    fn take_next(&mut self) -> bool
+        requires between { IsBetween self.old }
+        ensures found { IsTrue result → TakesNext I.tells self.old self.new }
+        ensures nothing { result ≡ false → TakesNothing I.tells self.old self.new }
+    {
+        let Savefile::Pcap(head) = &self.savefile else {
+            return false;
+        };
+        let buffer = self.buffer.as_mut_slice();
+        let Some(found) = take_record(&mut self.input, head, buffer) else {
+            return false;
+        };
+        self.held = record_held(&found);
+        self.stage = Stage::InHand;
+        true
+    }
+
+    /// Goes over units to the next one with a packet.
+    #[inline(never)]
+    fn read_on(&mut self) -> Result<bool, Fault>
+        requires between { IsBetween self.old }
+        ensures told { IsTrue I.tells → Continues self.old result self.new }
+        ensures bounds { KeepsBounds self.old result self.new }
+        ensures phase { OnOk result (self.new.phase ≡ phase_told result) }
+        ensures err { IfErr result (λ _. self.new.block ≡ []) }
+    {
         loop {
             match self.next()? {
                 Came::Packet => return Ok(true),

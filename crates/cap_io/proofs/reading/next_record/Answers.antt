@@ -1,52 +1,68 @@
-use Rattle.std.proofs.Common.{◌≡◌, ◌+◌, ◌≤◌, ℕ, Option, None, Some, IfSome, IsNone, List, ◌++◌, length, take, drop, Result, Ok, Err, refl, sym, ap, ◌∙◌, arith, subst, add-zero}
+use Rattle.std.proofs.Common.{rules, ◌+◌, take, refl, arith}
 use Rattle.std.proofs.lemmas.List.{take_at}
-use Rattle.cap_pcap.specs.declared.head.RecordHead.{RecordHead}
-use Rattle.cap_io.specs.Reading.{IsHeld, NothingTaken, PacketCame, held_of_record}
-use Rattle.cap_io.specs.Capture.{PcapFile}
-use Rattle.cap_io.proofs.Hands.{record-taken, reads-behind}
+use Rattle.std.proofs.lemmas.Result.{err_from_is_err_and}
+use Rattle.cap_io.proofs.Came.{fields_came, fields_refused, no_room, data_missing, record_came}
 use Rattle.cap_io.proofs.reading.next_record.Goals as goal
 
-pub returns-in-Some : goal.returns-in-Some
-returns-in-Some g c =
-    let taken = c.in-Some.ensures.taken in
-    let grown = taken.counted in
-    let there = taken.there in
-    let short = taken.short in
-    let whole : take c.args.buffer.now.len (c.take_record.new.buffer ++ drop (length c.take_record.new.buffer) c.args.buffer.now.items) ≡ c.take_record.new.buffer =
-    take_at c.take_record.new.buffer _ c.args.buffer.now.len (c.in-Some.ensures.room ∙ c.as_mut_slice.ensures.len) in
-    let B : List ℕ → Type 0 = λ l. IsHeld (held_of_record c.in-Some.found) l in
-    let P : List ℕ → Type 0 = λ l. PacketCame (PcapFile c.args.head.now) (g.I.Input.unread c.args.input.now) l (held_of_record c.in-Some.found) (PcapFile c.args.head.now) (g.I.Input.unread c.take_record.new.input) in
-    rw c.record_held.ensures (λ interfaces. record {
-      moves = record {
-        counted = omega (arith, grown);
-        grown = omega (arith, grown);
-        bounded = λ some. taken.bounded;
-        few = tt;
-        failed = taken.failed ∙ sym (add-zero (g.I.Input.failures c.args.input.now));
-        never = taken.never;
-      };
-      sized = (
-        subst B (sym whole) (record {
-          bytes = omega arith;
-          options = omega arith;
-          there = there;
-          some = omega arith;
-          small = omega (arith, short);
-          time = taken.in_range;
-        }),
-        taken.bounded,
-      );
+pub returns-in_err-found : goal.returns-in_err-found
+returns-in_err-found g c =
+    let p = err_from_is_err_and c.from_residual-in_err-found.result c.from_residual-in_err-found.ensures.1 in
+    rw (p.1, p.2) (λ interfaces. record {
+      moves = search rules;
+      sized = tt;
       told = tt;
       known = tt;
-      ok = λ t. subst P (sym whole) (record-taken c.args.head.now (g.I.Input.unread c.args.input.now) (g.I.Input.unread c.take_record.new.input) c.take_record.new.buffer c.in-Some.found taken.says there (taken.splits t));
-      err = tt;
-      kept = tt;
+      ok = tt;
+      err = λ t. fields_refused _ _ _ c.read_front.new.front _ _ (rw c.if-not-branch.false at (c.in_ok-read_front.ensures.ok t)) (search rules) c.read_record.ensures.answer c.in_err-found.was;
+      kept = (refl, refl);
     })
 
-pub returns-in-Ok : goal.returns-in-Ok
-returns-in-Ok g c = λ interfaces.
-    reads-behind g.I.Input c.args.input.now c.take_record.new.input c.read_next_record.new.input _ interfaces (Ok c.in-Ok.came) _ _ (c.in_default.ensures.nothing refl) (c.in-Ok.ensures interfaces)
+pub returns-in_err-make_room : goal.returns-in_err-make_room
+returns-in_err-make_room g c =
+    let p = err_from_is_err_and c.from_residual-in_err-make_room.result c.from_residual-in_err-make_room.ensures.1 in
+    rw (p.1, p.2, c.in_err-make_room.ensures.memory) (λ interfaces. record {
+      moves = search rules;
+      sized = tt;
+      told = tt;
+      known = tt;
+      ok = tt;
+      err = λ t. no_room _ _ _ c.read_front.new.front (rw c.if-not-branch.false at (c.in_ok-read_front.ensures.ok t)) (search rules);
+      kept = (refl, refl);
+    })
 
-pub returns-in-Err : goal.returns-in-Err
-returns-in-Err g c = λ interfaces.
-    reads-behind g.I.Input c.args.input.now c.take_record.new.input c.read_next_record.new.input _ interfaces (Err c.in-Err.fault) _ _ (c.in_default.ensures.nothing refl) (c.in-Err.ensures interfaces)
+pub returns-in_err-read_rest : goal.returns-in_err-read_rest
+returns-in_err-read_rest g c =
+    let p = err_from_is_err_and c.from_residual-in_err-read_rest.result c.from_residual-in_err-read_rest.ensures.1 in
+    rw (p.1, p.2) (λ interfaces. record {
+      moves = search rules;
+      sized = tt;
+      told = tt;
+      known = tt;
+      ok = tt;
+      err = λ t. data_missing _ _ _ _ c.read_front.new.front c.in_ok-found.found _ _ (search rules) (rw c.if-not-branch.false at (c.in_ok-read_front.ensures.ok t)) (search rules)
+          (fields_came _ _ _ _ c.read_record.ensures.answer c.in_ok-found.was) (omega (arith, c.in_ok-found.ensures.short)) (c.in_err-read_rest.ensures.err t);
+      kept = (refl, refl);
+    })
+
+pub returns : goal.returns
+returns g c = rw c.record_held.ensures (λ interfaces. record {
+  moves = search rules;
+  sized = (
+    record {
+      bytes = omega arith;
+      options = omega arith;
+      there = rw (take_at c.read_rest.new.buffer _ c.make_room.new.buffer.len (search rules)) (search rules);
+      some = omega arith;
+      small = omega (arith, c.in_ok-found.ensures.short);
+      time = c.in_ok-found.ensures.in_range;
+    },
+    search rules,
+  );
+  told = tt;
+  known = tt;
+  ok = λ t.
+      record_came _ _ _ _ c.read_front.new.front (take (16 + c.in_ok-found.found.captured) c.read_rest.new.buffer) _ c.in_ok-found.found _ (rw c.if-not-branch.false at (c.in_ok-read_front.ensures.ok t)) (search rules)
+      (fields_came _ _ _ _ c.read_record.ensures.answer c.in_ok-found.was) refl (search rules) c.in_ok-read_rest.ensures.same (c.in_ok-read_rest.ensures.ok t) (rw (take_at c.read_rest.new.buffer _ c.make_room.new.buffer.len (search rules)) refl);
+  err = tt;
+  kept = tt;
+})

@@ -1,17 +1,16 @@
-use Rattle.std.proofs.Common.{◌∙◌, ap, arith, Ok}
+use Rattle.std.proofs.Common.{◌∙◌, ap, arith, Ok, refl}
 use Rattle.std.proofs.lemmas.Result.{err_from_is_err_and}
-use Rattle.cap_io.specs.Source.{SourceView}
-use Rattle.cap_io.proofs.Passing.{FindsEnd-then, FindsPacket-then, IsBetween-left, IsBroken-then, Passes-left, Passes-then, leaves-counted}
-use Rattle.cap_io.proofs.source.Source.go_on.Goals as goal
+use Rattle.cap_io.proofs.Passing.{FindsEnd-then, FindsPacket-then, IsBroken-then, Passes-then, stays}
+use Rattle.cap_io.proofs.source.Source.read_on.Goals as goal
 
 pub loop-init : goal.loop-init
 loop-init g c = record {
-  told = λ t. Passes-left c.args.self.now c.leave.new.self c.leave.ensures;
-  between = IsBetween-left c.args.self.now c.leave.new.self c.requires c.leave.ensures;
-  given = omega (arith, ap (λ (s : SourceView). s.given) c.leave.ensures);
-  failures = ap (λ (s : SourceView). s.failures) c.leave.ensures;
-  never = ap (λ (s : SourceView). s.never_fails) c.leave.ensures;
-  counted = leaves-counted c.args.self.now c.leave.new.self c.leave.ensures;
+  told = λ t. stays c.args.self.now c.args.self.now c.requires.between refl refl;
+  between = c.requires.between;
+  given = omega arith;
+  failures = refl;
+  never = refl;
+  counted = refl;
 }
 
 pub returns-in_err-next-clause-told : goal.returns-in_err-next-clause-told

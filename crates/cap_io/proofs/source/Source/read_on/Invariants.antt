@@ -1,6 +1,6 @@
 use Rattle.std.proofs.Common.{◌≡◌, ◌+◌, ◌-◌, ◌^◌, ◌≤◌, IsTrue}
 use Rattle.cap_io.specs.Source.{Passes, IsBetween, behind}
-use Rattle.cap_io.proofs.source.Source.go_on.Given as goal
+use Rattle.cap_io.proofs.source.Source.read_on.Given as goal
 
 abbrev pub invariant-loop : goal.invariant-loop
 invariant-loop g l = record {
