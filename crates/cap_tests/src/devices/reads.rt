@@ -111,6 +111,44 @@ fn check_full_reads(
     Ok(())
 }
 
+/// Takes half of what is at hand between reads, and now and then more than that: all bytes come
+/// once and in their order, and no reader is called for those at hand.
+fn check_bytes_at_hand(
+    rt: &(impl Abort + AllocGlobal),
+    course: &Course,
+    room: &mut [u8],
+) -> Result<(), Fail> {
+    let counts = Cell::new(Counts::new());
+    let mut input = input_of(rt, course, &counts)?;
+    let mut given = 0usize;
+    for turn in 0..usize::MAX {
+        let hand = input.at_hand();
+        assert!(rt; are_marks(given, hand), "{course:?} at {given}");
+        let there = hand.len();
+        let count = if turn % 5 == 4 { there + 1 } else { there / 2 };
+        let old = counts.get();
+        let passed = input.pass(count);
+        assert!(rt;
+            passed == (count <= there) && counts.get().calls == old.calls,
+            "{course:?} at {given}"
+        );
+        given = given.wrapping_add(if passed { count } else { 0 });
+        let size = course.size(turn, room.len());
+        let returned = input.read(&mut room[..size]);
+        let came = returned.unwrap_or(0);
+        assert!(rt;
+            came <= size && are_marks(given, &room[..came]),
+            "{course:?} at {given}"
+        );
+        given = given.wrapping_add(came);
+        if returned == Ok(0) {
+            break;
+        }
+    }
+    assert!(rt; given == course.len, "{course:?}");
+    Ok(())
+}
+
 #[test]
 fn reads_past_4_mib_are_the_readers(rt: HostRuntime) -> Result<(), Fail> {
     let mut room = vec![in rt.alloc(); 0; LARGEST]?;
@@ -130,6 +168,7 @@ fn reads_over_small_buffers_are_the_readers(rt: HostRuntime) -> Result<(), Fail>
                 let course = Course::small(capacity, piece, failing);
                 check_reads(&rt, &course, &mut room)?;
                 check_full_reads(&rt, &course, &mut room)?;
+                check_bytes_at_hand(&rt, &course, &mut room)?;
             }
         }
     }

@@ -2,8 +2,9 @@
 //!
 //! A heap gives memory in pieces of 16 bytes. A job takes, from the heap, its names (32 bytes and
 //! the name each), its inputs (24 bytes each), some 200 bytes of state for each input, in a list
-//! that begins with room for 4 and doubles, and the longest unit of each input. The sums below were
-//! also found by looking for the least heap; the heaps of the tests leave room for a few fields.
+//! that begins with room for 4 and doubles, and the longest unit of each input, or 256 bytes. The
+//! sums below were also found by looking for the least heap; the heaps of the tests leave room for
+//! a few fields.
 
 use crate::heaps::captures::{capture, longest_blocks};
 use crate::heaps::fixed::{Work, run_in};
@@ -32,15 +33,15 @@ fn a_merge_holds_one_block_of_each_input(rt: HostRuntime) -> Result<(), Fail> {
 fn small_heaps_are_enough(rt: HostRuntime) -> Result<(), Fail> {
     let mut out = vec![in rt.alloc(); 0u8; 4_000_000]?;
     for (size, work, packets, inputs, written) in [
-        // 976: names 96, an input 32, states 768, a record of 76.
+        // 1,152: names 96, an input 32, states 768, a block of 256.
         (1_536usize, Work::Infos, 10_000u32, 1usize, 211usize),
-        // 1,888: 976, and the tokens, the tree and the code of the expression.
+        // 2,064: 1,152, and the tokens, the tree and the code of the expression.
         (3_072, Work::Print("tcp"), 10_000, 1, 10_000 * 77),
-        // 33,044: 976, and 999 marks of 20 bytes with links of 8 each, and 1,024 heads of 4.
+        // 33,220: 1,152, and 999 marks of 20 bytes with links of 8 each, and 1,024 heads of 4.
         (36_864, Work::Edit(1_000), 100_000, 1, 24 + 50_000 * 76),
-        // 116,016: names 12,336, inputs 6,144, states 49,152 and the lists before them 48,384, in
-        // whose place the records and the order of the merge come.
-        (131_072, Work::Merge, 10, 256, 28 + 32 + 2_560 * 92),
+        // 131,120: names 12,336, states 49,152, blocks 65,536, the order of the merge 4,096. The
+        // inputs and the states' earlier lists are gone by then.
+        (147_456, Work::Merge, 10, 256, 28 + 32 + 2_560 * 92),
     ] {
         let bytes = capture(rt.alloc(), packets)?;
         let done = run_in(rt.alloc(), (size, work), (&bytes, inputs), &mut out)?;
