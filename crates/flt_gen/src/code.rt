@@ -155,22 +155,35 @@ impl<A: Allocator> Code<A> {
         onward(&self.backwards[..within], facts, place)
     }
 
+    // Most places lead nowhere, and one look shows it.
     fn two_on(&self, facts: &[Fact], place: usize) -> usize
         ensures { result ≡ two_on self.now facts.now place }
     {
-        self.one_on(facts, self.one_on(facts, place))
+        let next = self.one_on(facts, place);
+        if next == place {
+            return place;
+        }
+        self.one_on(facts, next)
     }
 
     fn four_on(&self, facts: &[Fact], place: usize) -> usize
         ensures { result ≡ four_on self.now facts.now place }
     {
-        self.two_on(facts, self.two_on(facts, place))
+        let next = self.two_on(facts, place);
+        if next == place {
+            return place;
+        }
+        self.two_on(facts, next)
     }
 
     fn eight_on(&self, facts: &[Fact], place: usize) -> usize
         ensures { result ≡ eight_on self.now facts.now place }
     {
-        self.four_on(facts, self.four_on(facts, place))
+        let next = self.four_on(facts, place);
+        if next == place {
+            return place;
+        }
+        self.four_on(facts, next)
     }
 
     /// The target of a jump that is taken where a fact holds, followed as far as what is known
