@@ -1,6 +1,7 @@
 //! What the codes of instructions mean.
 
-ghost use Rattle.std.specs.Prelude.{◌≡◌, Some};
+ghost use Rattle.std.specs.Prelude.{◌≡◌, Some, true};
+ghost use Rattle.std.specs.Option.{is_some};
 ghost use Rattle.flt_bpf.specs.Instructions.{code_of, operation_of};
 
 /// A register of 32 bits.
@@ -167,6 +168,76 @@ pub fn decode(code: u16) -> Option<Operation>
         135 => CopyToAccumulator,
         _ => return None,
     })
+}
+
+/// The operation with a code that some operation has.
+// Each byte has an arm of its own or one in between, so that the compiler needs no test whether the
+// code is in its table of jumps, and can jump from the end of each arm to the next.
+#[inline(always)]
+#[tactic(auto, unfolding(crate::specs::Instructions::operation_of))]
+pub(crate) fn known_operation(code: u16) -> Operation
+    requires { is_some (operation_of code) ≡ true }
+    ensures { operation_of code ≡ Some result }
+{
+    use Operand::{Constant, IndexRegister};
+    use Operation::*;
+    use AluOperation::*;
+    use Register::{Accumulator, Index};
+    use Source::{Immediate, Length, Memory};
+    use Test::{AnyBit, AtLeast, Equal, Greater};
+    use Width::{Byte, HalfWord, Word};
+    match code as u8 {
+        32 => LoadAbsolute(Word),
+        40 => LoadAbsolute(HalfWord),
+        48 => LoadAbsolute(Byte),
+        64 => LoadIndirect(Word),
+        72 => LoadIndirect(HalfWord),
+        80 => LoadIndirect(Byte),
+        0 => Load(Accumulator, Immediate),
+        96 => Load(Accumulator, Memory),
+        128 => Load(Accumulator, Length),
+        1 => Load(Index, Immediate),
+        97 => Load(Index, Memory),
+        129 => Load(Index, Length),
+        177 => LoadHeaderLength,
+        2 => Store(Accumulator),
+        3 => Store(Index),
+        4 => Compute(Add, Constant),
+        20 => Compute(Subtract, Constant),
+        36 => Compute(Multiply, Constant),
+        52 => Compute(Divide, Constant),
+        68 => Compute(Or, Constant),
+        84 => Compute(And, Constant),
+        100 => Compute(ShiftLeft, Constant),
+        116 => Compute(ShiftRight, Constant),
+        12 => Compute(Add, IndexRegister),
+        28 => Compute(Subtract, IndexRegister),
+        44 => Compute(Multiply, IndexRegister),
+        60 => Compute(Divide, IndexRegister),
+        76 => Compute(Or, IndexRegister),
+        92 => Compute(And, IndexRegister),
+        108 => Compute(ShiftLeft, IndexRegister),
+        124 => Compute(ShiftRight, IndexRegister),
+        148 => Compute(Remainder, Constant),
+        156 => Compute(Remainder, IndexRegister),
+        164 => Compute(ExclusiveOr, Constant),
+        172 => Compute(ExclusiveOr, IndexRegister),
+        132 => Negate,
+        5 => Jump,
+        21 => JumpIf(Equal, Constant),
+        37 => JumpIf(Greater, Constant),
+        53 => JumpIf(AtLeast, Constant),
+        69 => JumpIf(AnyBit, Constant),
+        29 => JumpIf(Equal, IndexRegister),
+        45 => JumpIf(Greater, IndexRegister),
+        61 => JumpIf(AtLeast, IndexRegister),
+        77 => JumpIf(AnyBit, IndexRegister),
+        6 => ReturnConstant,
+        22 => ReturnAccumulator,
+        7 => CopyToIndex,
+        135 | 255 => CopyToAccumulator,
+        _ => unreachable!(),
+    }
 }
 
 impl Operation {
