@@ -1,10 +1,11 @@
 //! capkit: a workbench for saved packet captures.
 #![tactic(auto)]
 
-ghost use Rattle.std.specs.Prelude.{◌≡◌, ◌≤◌, Bool, IfErr, IfOk, true};
+ghost use Rattle.std.specs.Prelude.{◌≡◌, ◌≤◌, map, string_bytes, Bool, IfErr, IfOk, true};
 ghost use Rattle.std.specs.Result.{ForOk};
-ghost use Rattle.capkit.specs.Line.{is_ready};
+ghost use Rattle.capkit.specs.Line.{is_ready, SaysLine};
 ghost use Rattle.capkit_main.specs.Status.{status_of};
+ghost use Rattle.capkit_main.specs.Words.{with_help_option};
 
 mod held;
 mod message;
@@ -52,9 +53,6 @@ fn status(rt: &HostRuntime) -> u8
     let Ok(words) = words else {
         return refuse(rt, Usage::Memory);
     };
-    let Ok(words) = with_help_option(rt.alloc(), words) else {
-        return refuse(rt, Usage::Memory);
-    };
     let parsed = line_of(rt, words);
     carry_out(
         rt,
@@ -66,10 +64,12 @@ fn status(rt: &HostRuntime) -> u8
     )
 }
 
-/// What the words ask for, unless its output is a file that it reads.
+/// What the words ask for, of which `help` is an option, unless its output is a file that it reads.
 fn line_of(rt: &HostRuntime, words: Vec<String>) -> Result<Line, Usage>
-    ensures { IfOk result (λ line. is_ready line ≡ true) }
+    ensures ready { IfOk result (λ line. is_ready line ≡ true) }
+    ensures line { IfOk result (SaysLine (with_help_option (map string_bytes words.items))) }
 {
+    let words = with_help_option(rt.alloc(), words)?;
     let line = command_of(rt.alloc(), words)?;
     if overwrites_input(rt, &line) {
         return Err(Usage::NameUsedTwice);
@@ -97,7 +97,7 @@ fn carry_out<R: FnOnce(Line) -> u8 + Drop>(
 /// Prints what the user asked to know of the command line, and returns whether it could be written.
 ///
 /// Where the reader of a pipe went away nobody hears that it can't.
-fn print_answer(rt: &HostRuntime, answer: &clap::Error) -> bool {
+fn print_answer(rt: &(impl Print + Eprint), answer: &clap::Error) -> bool {
     match answer.print(rt) {
         Ok(()) => true,
         Err(error) => {
@@ -110,7 +110,7 @@ fn print_answer(rt: &HostRuntime, answer: &clap::Error) -> bool {
 }
 
 /// Reports why clap refuses the words.
-fn tell_refusal(rt: &HostRuntime, error: &clap::Error) {
+fn tell_refusal(rt: &(impl AllocGlobal + Print + Eprint), error: &clap::Error) {
     let _ = match refusal_text(rt.alloc(), error) {
         Ok(text) => rt.eprint(text.as_str()),
         Err(_) => error.print(rt),
@@ -119,7 +119,7 @@ fn tell_refusal(rt: &HostRuntime, error: &clap::Error) {
 
 /// Reports why words are no command line, or prints what the user asked to know of it, and returns
 /// whether such an answer could be written.
-fn tell_usage(rt: &HostRuntime, usage: &Usage) -> bool {
+fn tell_usage(rt: &(impl AllocGlobal + Print + Eprint), usage: &Usage) -> bool {
     match usage {
         Usage::Refused(error) if error.use_stderr() => tell_refusal(rt, error),
         Usage::Refused(answer) => return print_answer(rt, answer),
@@ -143,7 +143,7 @@ fn status_of(usage: &Usage, is_written: bool) -> u8
 
 /// Reports why words are no command line, or what the user asked to know of it, and returns the
 /// status.
-fn refuse(rt: &HostRuntime, usage: Usage) -> u8
+fn refuse(rt: &(impl AllocGlobal + Print + Eprint), usage: Usage) -> u8
     ensures { (is_written : Bool) × (result ≡ status_of usage is_written) }
 {
     let is_written = tell_usage(rt, &usage);
@@ -151,6 +151,6 @@ fn refuse(rt: &HostRuntime, usage: Usage) -> u8
 }
 
 /// Writes a message to standard error. One that can't be written is lost.
-fn tell(rt: &HostRuntime, message: impl Display + Drop) {
+fn tell(rt: &impl Eprint, message: impl Display + Drop) {
     let _ = rt.eprintln(format_args!("capkit: {message}"));
 }

@@ -1,9 +1,10 @@
 //! A command over files and standard streams.
 ghost use Rattle.std.specs.Prelude.{◌≡◌, ◌≢◌, ◌<◌, ◌≤◌, ◌&&◌, ◌||◌, ℕ, not, is_none, IfErr, IfOk};
-ghost use Rattle.std.specs.Prelude.{List, [], ◌∷◌, ◌++◌, IfSome, IsSome, IsUtf8, OnOk, true, false};
+ghost use Rattle.std.specs.Prelude.{codes, is_some, option_map, string_bytes, unwrap_or, IsOkAnd, List, [], ◌∷◌, ◌++◌, IfSome, IsSome, IsUtf8, OnOk, true, false};
 ghost use Rattle.std.specs.Prelude.{Some, Ok, length, vec_len};
 ghost use Rattle.std.specs.Global.{Vec};
 ghost use Rattle.std.specs.IoError.{error_kind};
+ghost use Rattle.std.specs.Result.{result_ok};
 ghost use Rattle.cap_filter.specs.Command.{is_proper};
 ghost use Rattle.capkit.specs.Line.{has_expression, is_ready, with_code};
 ghost use Rattle.capkit_main.specs.Ending.{has_failed, is_unread, status_by};
@@ -206,7 +207,10 @@ fn finish<'a, W: Write + Drop>(
     output: &'a str,
 ) -> Result<u8, Stop<'a>>
     requires { status ≤ 2 }
-    ensures { IfOk result (λ status. status ≤ 2) }
+    ensures within { IfOk result (λ ended. ended ≤ 2) }
+
+    // The job told why, so that it isn't told again; and a failed write is no success.
+    ensures told { is_some target.entry.cause ≡ true → IsOkAnd result (λ ended. 0 < ended) }
 {
     let (mut target, cause) = target.into_inner();
     let flushed = settle(status, &mut target).err().map(|error| error.kind());
@@ -288,7 +292,7 @@ pub(crate) fn end<'a, W: Write>(
     message: &[u8],
     output: &'a str,
 ) -> Result<u8, Stop<'a>>
-    ensures status { IfOk result (λ ended. status_by status causes.0 causes.1 ≡ Some ended) }
+    ensures status { result_ok result ≡ status_by status causes.0 causes.1 }
     ensures failed { has_failed causes.0 causes.1 ≡ true → IfOk result (λ ended. 0 < ended) }
     ensures within { status ≤ 2 → IfOk result (λ ended. ended ≤ 2) }
 {
@@ -300,11 +304,21 @@ pub(crate) fn end<'a, W: Write>(
 }
 
 /// Reports the stop, and returns its status.
-fn stopped(rt: &HostRuntime, stop: Stop<'_>) -> u8
+pub(crate) fn stopped(rt: &impl Eprint, stop: Stop<'_>) -> u8
     ensures { result ≡ 1 }
 {
     tell(rt, stop);
     FAULT
+}
+
+/// The name of the output. Without one the output is standard output.
+fn output_name(output: &Option<String>) -> &str
+    ensures { result.now ≡ unwrap_or (option_map string_bytes output.now) (codes "-") }
+{
+    match output {
+        Some(name) => name,
+        None => STANDARD,
+    }
 }
 
 /// Runs the command of the line over the files and streams that its names mean, and returns
@@ -322,7 +336,7 @@ pub fn run(rt: &HostRuntime, line: Line) -> u8
         output,
         code,
     } = line;
-    let output = output.as_ref().map_or(STANDARD, |name| name.as_str());
+    let output = output_name(&output);
     let listing = code.as_ref().map(|name| name.as_str());
     let command = match with_listing(rt, command, listing) {
         Ok(command) => command,
