@@ -1,14 +1,17 @@
 //! Files that are opened, read, created and left alone.
 
-use crate::held::Held;
+use crate::held::{Held, Outlet};
 use crate::message::{Shown, refusal_text};
 use crate::overwrites::{overwrites_input, reads_file_at};
 use crate::progress::Progress;
-use crate::runner::{Stop, create, end, open, read_listing, run};
+use crate::runner::{Stop, create, end, open, read_listing, run, stopped};
 use crate::words::with_help_option;
+use crate::{refuse, tell_refusal};
 use capkit::{Line, Usage, command_of};
 use std::alloc::{AllocError, Global};
-use std::io::ErrorKind;
+use std::cell::RefCell;
+use std::fmt::Display;
+use std::io::{self, BufWriter, Error, ErrorKind, Write};
 use std::os::unix::fs::symlink;
 use std::test::Fail;
 use std::{env, fs, process};
@@ -87,6 +90,11 @@ fn files_are_read_and_written(rt: HostRuntime) -> Result<(), Fail> {
     ];
     assert!(rt; status_after(&rt, &folder, &print)? == 0);
     assert!(rt; has_written(&rt, &folder, 54)?);
+    let merge = [
+        "capkit", "merge", "-a", "-F", "pcap", "-w", "@out", "@in", "@code",
+    ];
+    assert!(rt; status_after(&rt, &folder, &merge)? == 1);
+    assert!(rt; has_written(&rt, &folder, 84)?);
     fs::remove_dir_all(&rt, &folder)?;
     Ok(())
 }
@@ -186,6 +194,8 @@ fn outputs_are_created_before_the_run(rt: HostRuntime) -> Result<(), Fail> {
     let refused = ["capkit", "print", "-w", "@out", "@in", "port"];
     assert!(rt; status_after(&rt, &folder, &refused)? == 2);
     assert!(rt; has_written(&rt, &folder, 0)?);
+    let null = ["capkit", "edit", "@in", "/dev/null"];
+    assert!(rt; status_after(&rt, &folder, &null)? == 0);
     let full = ["capkit", "edit", "@in", "/dev/full"];
     assert!(rt; status_after(&rt, &folder, &full)? == 1);
     fs::remove_dir_all(&rt, &folder)?;
@@ -206,6 +216,20 @@ fn refusals_keep_the_output(rt: HostRuntime) -> Result<(), Fail> {
         ),
         (
             ["capkit", "print", "--code", "@in", "-w", "@out", "@in"].as_slice(),
+            2,
+            84,
+        ),
+        (
+            [
+                "capkit",
+                "print",
+                "--code",
+                "/dev/null",
+                "-w",
+                "@out",
+                "@in",
+            ]
+            .as_slice(),
             2,
             84,
         ),
@@ -260,6 +284,11 @@ fn one_file_under_two_names_is_known(rt: HostRuntime) -> Result<(), Fail> {
         let print = line_of(&rt, &folder, &print)?;
         assert!(rt; overwrites_input(&rt, &print) == wanted, "{output}");
     }
+    // Standard input isn't the file of that name.
+    env::set_current_dir(&rt, folder.as_str())?;
+    fs::write(&rt, "-", &capture())?;
+    let edit = line_of(&rt, &folder, &["capkit", "edit", "-", "@-"])?;
+    assert!(rt; !overwrites_input(&rt, &edit));
     fs::remove_dir_all(&rt, &folder)?;
     Ok(())
 }
@@ -316,6 +345,22 @@ fn messages_of_runs_are_told(rt: HostRuntime) {
     }
 }
 
+/// A failure to write out what is held back, before a read, is told to the next write.
+#[test]
+fn failures_before_reads_are_told(rt: HostRuntime) -> Result<(), Fail> {
+    let held = Held::new();
+    let full = create(&rt, "/dev/full").ok();
+    let Some(full) = full else {
+        return Err(Fail::new("not created"));
+    };
+    held.hold(BufWriter::new(rt.alloc(), full)?);
+    let mut outlet = Outlet::Held(&held);
+    assert!(rt; outlet.write(b"a")? == 1);
+    held.release();
+    assert!(rt; outlet.write(b"b").err().map(|error| error.kind()) == Some(ErrorKind::StorageFull));
+    Ok(())
+}
+
 /// Whether this is how a text is shown.
 fn is_shown_as(alloc: Global, text: &str, wanted: &str) -> Result<bool, AllocError> {
     Ok(format!(in alloc; "{}", Shown { text })?.as_str() == wanted)
@@ -344,8 +389,108 @@ fn advice_that_fails_is_left_out(rt: HostRuntime) -> Result<(), Fail> {
             return Err(Fail::new("taken"));
         };
         let text = refusal_text(alloc, &error)?;
+        assert!(rt; text.starts_with("error: "), "{words:?}");
         assert!(rt; text.contains("tip: ") == has_tip, "{words:?}");
+        let streams = (Streams::new(alloc, None), alloc);
+        tell_refusal(&streams, &error);
+        assert!(rt; streams.0.have("", &text), "{words:?}");
     }
+    Ok(())
+}
+
+/// Standard streams that keep what is written to them. Standard output fails so, if at all.
+#[derive(Drop)]
+struct Streams {
+    failure: Option<ErrorKind>,
+    output: RefCell<Vec<u8>>,
+    errors: RefCell<Vec<u8>>,
+}
+
+impl Streams {
+    fn new(alloc: Global, failure: Option<ErrorKind>) -> Streams {
+        Streams {
+            failure,
+            output: RefCell::new(Vec::new(alloc)),
+            errors: RefCell::new(Vec::new(alloc)),
+        }
+    }
+
+    /// Whether all that was written is these texts.
+    fn have(&self, output: &str, errors: &str) -> bool {
+        holds(&self.output, output) && holds(&self.errors, errors)
+    }
+}
+
+/// Whether this is all that was written to the stream.
+fn holds(stream: &RefCell<Vec<u8>>, text: &str) -> bool {
+    match stream.try_borrow() {
+        Ok(written) => written.as_slice() == text.as_bytes(),
+        Err(_) => false,
+    }
+}
+
+/// Writes the value to the stream, and then `end`.
+fn append(stream: &RefCell<Vec<u8>>, value: impl Display + Drop, end: &str) -> io::Result<()> {
+    match stream.try_borrow_mut() {
+        Ok(mut written) => write!(*written, "{value}{end}"),
+        Err(_) => Err(Error::from(ErrorKind::Other)),
+    }
+}
+
+impl Print for Streams {
+    fn print<D: Display + Drop>(&self, value: D) -> io::Result<()> {
+        match self.failure {
+            Some(kind) => Err(Error::from(kind)),
+            None => append(&self.output, value, ""),
+        }
+    }
+
+    fn println<D: Display + Drop>(&self, value: D) -> io::Result<()> {
+        self.print(format_args!("{value}\n"))
+    }
+
+    fn write_all(&self, _bytes: &[u8]) -> io::Result<()> {
+        Err(Error::from(ErrorKind::Unsupported))
+    }
+}
+
+impl Eprint for Streams {
+    fn eprint<D: Display + Drop>(&self, value: D) -> io::Result<()> {
+        append(&self.errors, value, "")
+    }
+
+    fn eprintln<D: Display + Drop>(&self, value: D) -> io::Result<()> {
+        append(&self.errors, value, "\n")
+    }
+}
+
+/// What a user asks for goes to standard output, and all else to standard error. An answer that
+/// can't be written is a fault, which is told but where its reader went away.
+#[test]
+fn faults_and_answers_are_told(rt: HostRuntime) -> Result<(), Fail> {
+    let alloc = rt.alloc();
+    let unwritten = "capkit: -: write failed\n";
+    for (failure, status, errors) in [
+        (None, 0, ""),
+        (Some(ErrorKind::StorageFull), 1, unwritten),
+        (Some(ErrorKind::BrokenPipe), 1, ""),
+    ] {
+        let words = line(alloc, "", &["capkit", "--version"])?;
+        let Err(usage) = command_of(alloc, words) else {
+            return Err(Fail::new("taken"));
+        };
+        let text = format!(in alloc; "{usage}")?;
+        let output = if failure.is_none() { text.as_str() } else { "" };
+        let streams = (Streams::new(alloc, failure), alloc);
+        assert!(rt; refuse(&streams, usage) == status);
+        assert!(rt; streams.0.have(output, errors));
+    }
+    let streams = (Streams::new(alloc, None), alloc);
+    assert!(rt; refuse(&streams, Usage::BadRange) == 2);
+    assert!(rt; refuse(&streams, Usage::Memory) == 1);
+    assert!(rt; stopped(&streams, Stop::CannotOpen("in")) == 1);
+    let errors = "capkit: usage: bad range\ncapkit: no memory\ncapkit: in: cannot open\n";
+    assert!(rt; streams.0.have("", errors));
     Ok(())
 }
 
