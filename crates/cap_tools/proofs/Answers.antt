@@ -26,10 +26,10 @@ use Rattle.flt_gen.specs.Reading.{holds}
 use Rattle.cap_tools.specs.declared.selector.Verdict as code
 use Rattle.cap_tools.specs.declared.selector.Verdict.TheVariants as code_verdict
 use Rattle.cap_tools.specs.declared.step.JobEnd.TheVariants as end
-use Rattle.cap_tools.specs.declared.inputs.Schedule.{Schedule}
-use Rattle.cap_tools.specs.declared.inputs.Next.TheVariants as next
+use Rattle.cap_inputs.specs.declared.inputs.Schedule.{Schedule}
+use Rattle.cap_inputs.specs.declared.inputs.Next.TheVariants as next
 use Rattle.cap_tools.specs.Reports.{Tally}
-use Rattle.cap_tools.specs.Sequence.{InputItems, Event, Packet, SequenceEnd, Complete, FaultIn, Sequence, sequence_of, with_front}
+use Rattle.cap_inputs.specs.Sequence.{InputItems, Event, Packet, SequenceEnd, Complete, FaultIn, Sequence, sequence_of, with_front}
 use Rattle.cap_tools.specs.Verdict.{Policy, Edit, Filter, KeepAll, Count, EditRule, SelectorState, Verdict, Pass, PassLast, Skip, Refuse, judge}
 use Rattle.cap_window.specs.Marks.{mark_of, has_same}
 use Rattle.cap_tools.specs.Verdict as judged_spec
@@ -39,9 +39,9 @@ use Rattle.cap_print.specs.Rendering.{printed}
 use Rattle.cap_tools.specs.Outcome.{Form, AsCapture, AsLines, Progress, lines_text, no_progress, decide_unless, apply_verdict, apply_event, apply_events, final_progress, packet_bytes, form_refuses, end_with, final_text, first_link, output_text}
 use Rattle.cap_tools.specs.Outcome as course_spec
 use Rattle.cap_tools.specs.Output.{JobOutputView, Target, Capture, Text, Lines, HasWritten, Puts, form_at, form_to, output_at, written_to, failures_to}
-use Rattle.cap_tools.specs.Inputs.{InputView, InputsView, Future, InputPast, AreInputsBehind, IsInput, input_behind, schedule_behind, actual_future, inputs_with, items_left, inputs_left, sequence_left, most_steps, ordering_of}
-use Rattle.cap_tools.specs.Inputs as input_spec
-use Rattle.cap_tools.specs.Machine.{MachineState, PacketsDecided, GoesOn, Comes, Decides, Offers, StopsWriting, NextPacket, PassesAs, EndLeaves, progress_at, progress_of, progress_over, form_of, wholes_of, written_by, unwritten}
+use Rattle.cap_inputs.specs.Inputs.{InputView, InputsView, Future, InputPast, AreInputsBehind, IsInput, input_behind, schedule_behind, actual_future, inputs_with, items_left, inputs_left, sequence_left, most_steps, ordering_of}
+use Rattle.cap_inputs.specs.Inputs as input_spec
+use Rattle.cap_tools.specs.Machine.{MachineState, PacketsDecided, GoesOn, Comes, Decides, Offers, StopsWriting, NextPacket, PassesAs, EndLeaves, progress_at, progress_of, progress_over, form_of, wholes_of, written_by, unwritten, sieve}
 use Rattle.cap_tools.proofs.Splits.{At, stands-split, stands-join, stands-length, rests-join, finish-here, come-on}
 use Rattle.cap_tools.proofs.Coming.{carries-decided, true-wholes, true-fit, true-fits}
 use Rattle.cap_tools.proofs.Outputs.{drained-text, PutOk, put-ok, WhyUnput, lines-more, unput, closing-some}
@@ -49,7 +49,7 @@ use Rattle.cap_tools.proofs.Growing.{Grows, course-grows}
 use Rattle.cap_tools.proofs.Laws.{DecideLaws, DecideAt, decide-at}
 use Rattle.cap_tools.proofs.Once.{once-nothing, once-packet}
 use Rattle.cap_tools.proofs.Outcomes.{progress-next, course-stop}
-use Rattle.cap_tools.proofs.Cursors.{greatest-decided, greatest-here, never-at, set-here}
+use Rattle.cap_inputs.proofs.Cursors.{greatest-decided, greatest-here, never-at, set-here}
 use Rattle.cap_tools.proofs.Fetches.{mk, among-same, comes-broken}
 
 -- ---- a packet that is judged
@@ -450,7 +450,7 @@ AnswerLeaves {ss} {before} {old} d i (Err fault) new failed = EndLeaves d (unwri
 answer-core : (us vs : List InputPast) (s : InputPast) (before : List ℕ) (xs ys : List InputView) (h : InputView) (schedule : Schedule) (turn : ℕ) (policy : Policy) (state state' : SelectorState) (output output' : JobOutputView) (decided : ℕ) (p : Captured) (r : Result Bool Fault)
     → DecideLaws schedule turn xs ys h → input_spec.IsNext schedule (xs ++ h ∷ ys) (next.Decide turn) → AreInputsBehind us xs → At s h → AreInputsBehind vs ys → h.source.packet ≡ Some p → state'.passed ≤ decided + 1 → GrowsByOne state.tally state'.tally
     → (d : PacketsDecided (us ++ s ∷ vs) before (mk (xs ++ h ∷ ys) schedule policy state output decided))
-    → output'.names ≡ output.names → Decides (Some p) (record { policy = policy; state = state }) (decided + 1) output.target r (record { policy = policy; state = state' }) output'.target
+    → output'.names ≡ output.names → Decides (Some p) (decided + 1) (sieve (record { policy = policy; state = state }) output.target) r (sieve (record { policy = policy; state = state' }) output'.target)
     → AnswerLeaves d turn r (mk (xs ++ input_behind h ∷ ys) (schedule_behind schedule turn) policy state' output' (decided + 1)) (mk (xs ++ h ∷ ys) schedule policy state' output' decided)
 answer-core us vs s before xs ys h schedule turn policy state state' output output' decided p (Ok false) laws tells front at back held within grows d names decides =
     elim decides [
@@ -530,7 +530,7 @@ answer-core us vs s before xs ys h schedule turn policy state state' output outp
 
 pub answer-leaves : (ss : List InputPast) (before : List ℕ) (cursors : List InputView) (schedule : Schedule) (policy : Policy) (state : SelectorState) (output : JobOutputView) (decided i : ℕ) (r : Result Bool Fault) (h : InputView) (selector' : PolicyState) (output' : JobOutputView)
     → output'.names ≡ output.names → input_spec.IsNext schedule cursors (next.Decide i) → IsInput cursors i h → selector'.policy ≡ policy → (state.passed ≤ decided + 1 → selector'.state.passed ≤ decided + 1) → GrowsByOne state.tally selector'.state.tally → decided ≤ most_steps
-    → (state.passed < decided + 1 → IsWithin most_steps state.tally → Decides h.source.packet (record { policy = policy; state = state }) (decided + 1) output.target r selector' output'.target)
+    → (state.passed < decided + 1 → IsWithin most_steps state.tally → Decides h.source.packet (decided + 1) (sieve (record { policy = policy; state = state }) output.target) r (sieve selector' output'.target))
     → (d : PacketsDecided ss before (mk cursors schedule policy state output decided))
     → AnswerLeaves d i r (mk (slice_set cursors i (input_behind h)) (schedule_behind schedule i) policy selector'.state output' (decided + 1)) (mk cursors schedule policy selector'.state output' decided)
 answer-leaves ss before cursors schedule policy state output decided i r other selector' output' names tells among_other asks passes grows few decides d =
@@ -546,8 +546,8 @@ answer-leaves ss before cursors schedule policy state output decided i r other s
     let was : IsAt st.here.text st.here.done st.here.packets true h.source = subst W at.laws.waits st.at in
     let has = was.waits refl in
     let within : state.passed < decided + 1 = (let l = d.passed in omega (arith, l)) in
-    let C : Option Captured → Type 0 = λ o. Decides o (record { policy = policy; state = state }) (decided + 1) output.target r selector' output'.target in
-    let C' : Policy → Type 0 = λ k. Decides (Some has.packet) (record { policy = policy; state = state }) (decided + 1) output.target r (record { policy = k; state = selector'.state }) output'.target in
+    let C : Option Captured → Type 0 = λ o. Decides o (decided + 1) (sieve (record { policy = policy; state = state }) output.target) r (sieve selector' output'.target) in
+    let C' : Policy → Type 0 = λ k. Decides (Some has.packet) (decided + 1) (sieve (record { policy = policy; state = state }) output.target) r (sieve (record { policy = k; state = selector'.state }) output'.target) in
     let held : other.source.packet ≡ Some has.packet = ap (λ (v : InputView). v.source.packet) same ∙ has.held in
     let chosen = subst C' asks (subst C held (decides within (within-more decided most_steps state.tally few d.counted))) in
     let cursors' : slice_set cursors i (input_behind h) ≡ among.front ++ input_behind h ∷ among.back = ap (λ (l : List InputView). slice_set l i (input_behind h)) among.splits ∙ set-here among.front among.back h (input_behind h) i among.place in

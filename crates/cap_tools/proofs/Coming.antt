@@ -8,10 +8,10 @@ use Rattle.cap_io.specs.Source.{SourceView, Phase, Ended, FindsPacket, FindsEnd,
 use Rattle.cap_io.specs.Position.{IsAt, pending}
 use Rattle.cap_io.proofs.Items.{items_from-units, items_from-stops}
 use Rattle.cap_io.proofs.Standing.{IsAt-items, items-begin, Advances-sound}
-use Rattle.cap_tools.specs.declared.inputs.Schedule.{Schedule}
-use Rattle.cap_tools.specs.declared.inputs.Schedule.TheVariants.{Turn}
-use Rattle.cap_tools.specs.Sequence.{InputItems, Event, Packet, InputEnd, FaultIn, Sequence, sequence_in_turn, input_sequence, with_front, whole_input}
-use Rattle.cap_tools.specs.Inputs.{InputView, Future, InputPast, AreInputsBehind, AreFutures, actual_future, waiting_packets, packets_at, items_with, inputs_with, items_left, inputs_left, sequence_left, no_future, input_after, input_behind}
+use Rattle.cap_inputs.specs.declared.inputs.Schedule.{Schedule}
+use Rattle.cap_inputs.specs.declared.inputs.Schedule.TheVariants.{Turn}
+use Rattle.cap_inputs.specs.Sequence.{InputItems, Event, Packet, InputEnd, FaultIn, Sequence, sequence_in_turn, input_sequence, with_front, whole_input}
+use Rattle.cap_inputs.specs.Inputs.{InputView, Future, InputPast, AreInputsBehind, AreFutures, actual_future, waiting_packets, packets_at, items_with, inputs_with, items_left, inputs_left, sequence_left, no_future, input_after, input_behind}
 use Rattle.cap_tools.specs.Machine.{wholes_of}
 use Rattle.cap_tools.proofs.Splits.{At, Fit, Carries}
 

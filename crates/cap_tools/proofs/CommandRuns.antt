@@ -10,27 +10,28 @@ use Rattle.cap_filter.specs.declared.refusal.Refusal.TheVariants.{Expression}
 use Rattle.flt_words.specs.declared.fault.ExprFault.{ExprFault}
 use Rattle.flt_words.specs.declared.fault.ExprFault.TheVariants.{Memory}
 use Rattle.flt_gen.specs.declared.link.Link.{Link}
-use Rattle.cap_tools.specs.declared.packets.Turn.TheVariants as turn
-use Rattle.cap_tools.specs.Inputs.{InputPast}
+use Rattle.cap_tools.specs.declared.job.Turn.TheVariants as turn
+use Rattle.cap_inputs.specs.Inputs.{InputPast}
 use Rattle.cap_tools.specs.Machine.{written_by, failures_by}
 use Rattle.cap_tools.specs.Jobs.{JobView, RunResult, Decided, IsUnderWay, JobGives, JobRuns, EndsAs, EndsJob}
 use Rattle.cap_tools.specs.FirstStep.{filtering, output_of, output_name}
-use Rattle.cap_tools.specs.Commands.{Preparing, ReadsFilter, Compiles, CommandView, GivesBy, DecidedBy, RunsBy, ListsSome, RefusesExpression}
+use Rattle.cap_tools.specs.Start.{FilterAsked, Preparing, ReadsFilter, Compiles}
+use Rattle.cap_tools.specs.Commands.{GivesBy, DecidedBy, RunsBy, ListsSome, RefusesExpression}
 use Rattle.cap_tools.proofs.Ends.{ends-whole}
 use Rattle.cap_tools.proofs.Runs.{goes-on}
 
 -- the job whose filter is read
-pub record Filtered (words : List ℕ) (code : Option (List ℕ)) (count : Option ℕ) (first from : JobView) : Type 0 where
+pub record Filtered (asked : FilterAsked) (first from : JobView) : Type 0 where
   pub rule : Rule
-  pub is : IsRule words code rule
+  pub is : IsRule asked.words asked.code rule
   pub programs : List Content
   pub made : AreNew rule programs
-  pub from_is : from ≡ filtering rule count programs first
+  pub from_is : from ≡ filtering rule asked.count programs first
 
 -- the job that a preparation leaves
 abbrev pub Leads : Option Preparing → JobView → JobView → Type 0
 Leads None first from = from ≡ first
-Leads (Some (ReadsFilter words code count)) first from = Filtered words code count first from
+Leads (Some (ReadsFilter asked)) first from = Filtered asked first from
 Leads (Some (Compiles words link)) first from = ⊥
 
 -- it went on from there
@@ -43,9 +44,9 @@ pub record IsOn (preparing : Option Preparing) (first : JobView) (ss : List Inpu
   pub progress : IsUnderWay ss before from job
 
 -- no step was made yet, or some
-pub data Under (first : CommandView) (ss : List InputPast) (before : List ℕ) (job : CommandView) : Type 0 where
+pub data Under (first : JobView) (ss : List InputPast) (before : List ℕ) (job : JobView) : Type 0 where
   fresh : job ≡ first → Under first ss before job
-  goes : job.preparing ≡ None → IsOn first.preparing first.packets ss before job.packets → Under first ss before job
+  goes : job.preparing ≡ None → IsOn first.preparing first ss before job → Under first ss before job
 
 abbrev start-progress : (ss : List InputPast) (before : List ℕ) (j : JobView) → Decided ss before j → IsUnderWay ss before j j
 start-progress ss before j d = record { past = ss; texts = refl; decided = d; policy = refl; form = refl; output = refl; names = refl; order = refl; never = refl }
@@ -60,8 +61,8 @@ first-more tells None old new ss before gives d done names policy = record {
   names = names;
   progress = goes-on ss before old old new (start-progress ss before old d) (gives.1 ss before d) (policy refl);
 }
-first-more tells (Some (ReadsFilter words code count)) old new ss before gives d done names policy =
-    let from : JobView = filtering gives.rule count gives.programs old in
+first-more tells (Some (ReadsFilter asked)) old new ss before gives d done names policy =
+    let from : JobView = filtering gives.rule asked.count gives.programs old in
     let P : JobView → Type 0 = λ j. IsUnderWay ss before from j in
     record {
       from = from;
@@ -84,17 +85,17 @@ on-more tells p first job new ss before gives done names policy on = record {
   progress = goes-on ss before on.from job new on.progress (gives.1 on.progress.past before on.progress.decided) policy;
 }
 
-pub under-more : (tells : Bool) (first job new : CommandView) (ss : List InputPast) (before : List ℕ) → GivesBy job.preparing tells job.packets turn.More new.packets → DecidedBy first.preparing ss before first.packets
-    → new.preparing ≡ None → new.packets.done ≡ None → new.packets.machine.output.names ≡ job.packets.machine.output.names → (job.preparing ≡ None → new.packets.machine.policy ≡ job.packets.machine.policy)
+pub under-more : (tells : Bool) (first job new : JobView) (ss : List InputPast) (before : List ℕ) → GivesBy job.preparing tells job turn.More new → DecidedBy first.preparing ss before first
+    → new.preparing ≡ None → new.done ≡ None → new.machine.output.names ≡ job.machine.output.names → (job.preparing ≡ None → new.machine.policy ≡ job.machine.policy)
     → Under first ss before job → Under first ss before new
 under-more tells first job new ss before gives d prepared done names policy (fresh is) =
-    let P : CommandView → Type 0 = λ c. GivesBy c.preparing tells c.packets turn.More new.packets → new.packets.machine.output.names ≡ c.packets.machine.output.names → (c.preparing ≡ None → new.packets.machine.policy ≡ c.packets.machine.policy)
-    → IsOn first.preparing first.packets ss before new.packets in
-    let Q : P first = λ gives names policy. first-more tells first.preparing first.packets new.packets ss before gives d done names policy in
+    let P : JobView → Type 0 = λ c. GivesBy c.preparing tells c turn.More new → new.machine.output.names ≡ c.machine.output.names → (c.preparing ≡ None → new.machine.policy ≡ c.machine.policy)
+    → IsOn first.preparing first ss before new in
+    let Q : P first = λ gives names policy. first-more tells first.preparing first new ss before gives d done names policy in
     goes prepared (subst P (sym is) Q gives names policy)
 under-more tells first job new ss before gives d prepared done names policy (goes none is) =
-    let P : Option Preparing → Type 0 = λ p. GivesBy p tells job.packets turn.More new.packets in
-    goes prepared (on-more tells first.preparing first.packets job.packets new.packets ss before (subst P none gives) done names (policy none) is)
+    let P : Option Preparing → Type 0 = λ p. GivesBy p tells job turn.More new in
+    goes prepared (on-more tells first.preparing first job new ss before (subst P none gives) done names (policy none) is)
 
 ended : (tells : Bool) (from job new : JobView) (ss : List InputPast) (before : List ℕ) (r : RunResult) (progress : IsUnderWay ss before from job) → job.err ≡ from.err → job.machine.output.names ≡ from.machine.output.names
     → EndsJob tells job r.status new → r.output.written ≡ written_by new.machine → r.output.failures ≡ failures_by new.machine → r.messages ≡ new.err → JobRuns ss before tells from r
@@ -153,7 +154,7 @@ unlisted tells words link old new r same is refuses =
 first-done : (tells : Bool) (p : Option Preparing) (old new : JobView) (ss : List InputPast) (before : List ℕ) (r : RunResult) → GivesBy p tells old (turn.Done r.status) new → DecidedBy p ss before old
     → r.output.written ≡ written_by new.machine → r.output.failures ≡ failures_by new.machine → r.messages ≡ new.err → RunsBy p ss before tells old r
 first-done tells None old new ss before r gives d written failures is = ended tells old old new ss before r (start-progress ss before old d) refl refl gives written failures is
-first-done tells (Some (ReadsFilter words code count)) old new ss before r gives d written failures is =
+first-done tells (Some (ReadsFilter asked)) old new ss before r gives d written failures is =
     let T : OutputView → Type 0 = λ v. IsTold tells old.err (refusal_message gives.refusal) v in
     inr (record {
       refusal = gives.refusal;
@@ -173,17 +174,17 @@ on-done : (tells : Bool) (p : Option Preparing) (first job new : JobView) (ss : 
 on-done tells None first job new ss before r gives written failures is on =
     let P : JobView → Type 0 = λ j. JobRuns ss before tells j r in
     subst P on.leads (ended tells on.from job new ss before r on.progress on.err on.names gives written failures is)
-on-done tells (Some (ReadsFilter words code count)) first job new ss before r gives written failures is on =
+on-done tells (Some (ReadsFilter asked)) first job new ss before r gives written failures is on =
     let P : JobView → Type 0 = λ j. JobRuns ss before tells j r in
     inl (record { rule = on.leads.rule; is = on.leads.is; programs = on.leads.programs; made = on.leads.made; runs = subst P on.leads.from_is (ended tells on.from job new ss before r on.progress on.err on.names gives written failures is) })
 on-done tells (Some (Compiles words link)) first job new ss before r gives written failures is o = absurd o.leads
 
-pub under-done : (tells : Bool) (first job : CommandView) (new : JobView) (ss : List InputPast) (before : List ℕ) (r : RunResult) → GivesBy job.preparing tells job.packets (turn.Done r.status) new
-    → DecidedBy first.preparing ss before first.packets → r.output.written ≡ written_by new.machine → r.output.failures ≡ failures_by new.machine → r.messages ≡ new.err → Under first ss before job
-    → RunsBy first.preparing ss before tells first.packets r
+pub under-done : (tells : Bool) (first job : JobView) (new : JobView) (ss : List InputPast) (before : List ℕ) (r : RunResult) → GivesBy job.preparing tells job (turn.Done r.status) new
+    → DecidedBy first.preparing ss before first → r.output.written ≡ written_by new.machine → r.output.failures ≡ failures_by new.machine → r.messages ≡ new.err → Under first ss before job
+    → RunsBy first.preparing ss before tells first r
 under-done tells first job new ss before r gives d written failures same (fresh is) =
-    let P : CommandView → Type 0 = λ c. GivesBy c.preparing tells c.packets (turn.Done r.status) new in
-    first-done tells first.preparing first.packets new ss before r (subst P is gives) d written failures same
+    let P : JobView → Type 0 = λ c. GivesBy c.preparing tells c (turn.Done r.status) new in
+    first-done tells first.preparing first new ss before r (subst P is gives) d written failures same
 under-done tells first job new ss before r gives d written failures same (goes none is) =
-    let P : Option Preparing → Type 0 = λ p. GivesBy p tells job.packets (turn.Done r.status) new in
-    on-done tells first.preparing first.packets job.packets new ss before r (subst P none gives) written failures same is
+    let P : Option Preparing → Type 0 = λ p. GivesBy p tells job (turn.Done r.status) new in
+    on-done tells first.preparing first job new ss before r (subst P none gives) written failures same is

@@ -1,38 +1,51 @@
 -- The job of a command of which nothing is done.
-use Rattle.std.proofs.Common.{◌≡◌, inl, inr, ℕ, ◌+◌, ◌≤◌, Bool, true, not, List, [], ◌++◌, map, length, take, None, Ok, Err, refl, sym, ap, arith, subst, ◌∙◌, nat_eq, nat_le, ◌&&◌, add-zero}
+use Rattle.std.proofs.Common.{◌≡◌, inl, inr, ℕ, ◌+◌, ◌≤◌, Bool, true, not, List, [], ◌++◌, map, length, take, None, Ok, Err, refl, sym, ap, arith, subst, ◌∙◌, nat_eq, nat_le, ◌&&◌, add-zero, Option}
 use Rattle.std.proofs.lemmas.List.{append-nil}
 use Rattle.cap_octet.specs.declared.device.Stopped.{Stopped}
 use Rattle.flt_bpf.specs.Listing.{listing}
 use Rattle.cap_filter.specs.Messages.{write_failed_message}
-use Rattle.cap_tools.specs.Output.{Target, Capture, Text, Lines, Lists, written_to, failures_to}
-use Rattle.cap_tools.specs.Reports.{name_at}
+use Rattle.cap_tools.specs.Output.{Target, Capture, Text, Lines, Lists, output_at, target_at, written_to, failures_to}
+use Rattle.cap_tools.specs.Reports.{name_at, nothing_counted}
 use Rattle.cap_tools.specs.Machine.{MachineState, written_by}
+use Rattle.cap_tools.specs.Messages.{MessagesView}
 use Rattle.std.proofs.lemmas.Bool.{and_parts, eqb-true, leb-true}
 use Rattle.cap_filter.specs.Command.{is_proper, is_proper_edit, is_proper_print}
 use Rattle.cap_filter.specs.declared.command.Command.{Command}
 use Rattle.cap_filter.specs.declared.command.Command.TheVariants as command
-use Rattle.cap_filter.specs.Compilation.{IsCompiled}
-use Rattle.cap_filter.specs.Outcome.{OutputView, IsTold}
+use Rattle.cap_filter.specs.Compilation.{IsCompiled, ListingLeaves}
+use Rattle.cap_filter.specs.Outcome.{OutputView, IsTold, Runs}
 use Rattle.flt_bpf.specs.declared.insn.Insn.{Insn}
 use Rattle.flt_gen.specs.declared.link.Link.{Link}
-use Rattle.cap_tools.specs.declared.packets.Turn.{Turn}
-use Rattle.cap_tools.specs.declared.packets.Turn.TheVariants as turn
-use Rattle.cap_tools.specs.declared.output.Writing.{Writing}
+use Rattle.cap_tools.specs.declared.job.Turn.{Turn}
+use Rattle.cap_tools.specs.declared.job.Turn.TheVariants as turn
 use Rattle.cap_tools.specs.declared.output.Writing.TheVariants as writing
-use Rattle.cap_tools.specs.Sequence.{PacketOrder, InTurn}
-use Rattle.cap_tools.specs.Verdict.{Policy, Count, KeepAll}
-use Rattle.cap_tools.specs.Jobs.{JobView, Call, RunResult, fresh_job, most_inputs, order_of, nothing_done, end_text}
+use Rattle.cap_inputs.specs.Sequence.{InTurn}
+use Rattle.cap_tools.specs.Verdict.{Count, KeepAll}
+use Rattle.cap_tools.specs.Jobs.{JobView, Call, RunResult, first_job, machine_at, most_inputs, end_text}
+use Rattle.cap_inputs.specs.Fresh.{fresh_inputs, nothing_done}
+use Rattle.cap_inputs.specs.Sequence.{order_of}
 use Rattle.cap_tools.specs.declared.step.JobEnd.TheVariants as end
-use Rattle.cap_tools.specs.Inputs.{InputsView}
-use Rattle.cap_tools.specs.FirstStep.{EndsList, ListsInto, is_text}
+use Rattle.cap_inputs.specs.Inputs.{InputsView}
+use Rattle.cap_tools.specs.FirstStep.{EndsList, is_text, output_by}
 use Rattle.cap_tools.specs.Step.{ending}
-use Rattle.cap_tools.specs.Commands.{CommandView, IsReadyIf, CompileGives, DecidedBy, RunsBy, RunsCommand, assigned, command_first}
+use Rattle.cap_tools.specs.Start.{Assignment, Preparing, assigned}
+use Rattle.cap_tools.specs.Selector.{SelectorView, state_with}
+use Rattle.cap_tools.specs.Commands.{IsReadyIf, CompileGives, DecidedBy, RunsBy, RunsCommand}
 use Rattle.cap_tools.proofs.Programs.{new-for}
 use Rattle.cap_tools.proofs.Starts.{nothing-decided, first-few, first-less}
 
 pub lists-some : (tells : Bool) (words : List ℕ) (link : Link) (prog : List Insn) (old new : JobView) (r : Turn) → IsCompiled words link prog → EndsList prog tells old r new → CompileGives words link tells old r new
 lists-some tells words link prog old new turn.More compiled lists = lists
 lists-some tells words link prog old new (turn.Done status) compiled lists = inl (record { prog = prog; compiled = compiled; lists = lists })
+
+-- the job from which is taken what it prepares
+abbrev pub preparing_else : Option Preparing → JobView → JobView
+preparing_else p j = record { preparing = p; machine = j.machine; programs = j.programs; err = j.err; turns = j.turns; done = j.done }
+
+pub compile-gives : (words : List ℕ) (link : Link) (tells : Bool) (p : Option Preparing) (old : JobView) (r : Turn) (new : JobView) → CompileGives words link tells (preparing_else p old) r new → CompileGives words link tells old r new
+compile-gives words link tells p old turn.More new gives = gives
+compile-gives words link tells p old (turn.Done status) new (inl some) = inl (record { prog = some.prog; compiled = some.compiled; lists = record { runs = some.lists.runs } })
+compile-gives words link tells p old (turn.Done status) new (inr none) = inr (record { fault = none.fault; why = none.why; refuses = record { status_is = none.refuses.status_is; told = none.refuses.told; new_is = none.refuses.new_is } })
 
 one-input : (n : ℕ) (other : Bool) → (nat_eq n 1 && other) ≡ true → n ≤ most_inputs
 one-input n other is = let one = eqb-true n 1 (and_parts (nat_eq n 1) other is).0 in omega (arith, one)
@@ -45,14 +58,25 @@ few-inputs command.Infos n is = leb-true n most_inputs (and_parts (nat_le 1 n) (
 few-inputs (command.Print print) n is = one-input n (is_proper_print print) is
 few-inputs (command.Compile compile) n is = let none = eqb-true n 0 is in omega (arith, none)
 
--- the job that was made is that of the command
-pub first-is : {Z : Type 0} (c : Command Z) (call : Call) (order : PacketOrder) (policy : Policy) (w : Writing)
-    → order ≡ (assigned c).order → policy ≡ (assigned c).policy → w ≡ (assigned c).writing → fresh_job order policy w call ≡ (command_first c call).packets
-first-is c call order policy w same_order same_asked same_writing = rw (same_order, same_asked, same_writing) refl
+-- the job that was made of these parts is that of the command
+pub first-made : {Z : Type 0} (c : Command Z) (call : Call) (a : Assignment) (inputs : InputsView) (selector : SelectorView) (messages : MessagesView) (target : Target)
+    → a.preparing ≡ (assigned c).preparing → a.order ≡ (assigned c).order → a.policy ≡ (assigned c).policy → a.writing ≡ (assigned c).writing
+    → inputs ≡ fresh_inputs a.order call.inputs → selector ≡ record { policy = a.policy; state = state_with 0 nothing_counted; programs = [] }
+    → messages ≡ record { names = call.names; device = call.messages } → target ≡ target_at a.writing call.output.written call.output.failures call.room
+    → record {
+      preparing = a.preparing;
+      machine = machine_at inputs selector (output_at messages.names target) 0;
+      programs = selector.programs;
+      err = messages.device;
+      turns = 0;
+      done = None;
+    } ≡ first_job (assigned c) call
+first-made c call a inputs selector messages target same_preparing same_order same_policy same_writing is judged told written =
+    rw (is, judged, told, written, same_preparing, same_order, same_policy, same_writing) refl
 
 -- what a command reads or compiles first is not begun, and no step was made
 pub first-ready : {Z : Type 0} (c : Command Z) (call : Call) → length call.inputs ≤ most_inputs
-    → IsReadyIf (assigned c).preparing (command_first c call).packets
+    → IsReadyIf (assigned c).preparing (first_job (assigned c) call)
 first-ready (command.Edit edit) call few = tt
 first-ready (command.Merge merge) call few = tt
 first-ready command.Infos call few = tt
@@ -62,7 +86,7 @@ first-ready (command.Compile compile) call few =
 
 -- nothing is decided of the inputs
 pub first-decided : {Z : Type 0} (c : Command Z) (call : Call)
-    → DecidedBy (assigned c).preparing (map nothing_done call.inputs) call.output.written (command_first c call).packets
+    → DecidedBy (assigned c).preparing (map nothing_done call.inputs) call.output.written (first_job (assigned c) call)
 first-decided (command.Edit edit) call = record { packets = nothing-decided (assigned (command.Edit edit)).order call.inputs call.output.written (assigned (command.Edit edit)).policy call.names (assigned (command.Edit edit)).writing call.output.failures call.room; programs = refl }
 first-decided (command.Merge merge) call = record { packets = nothing-decided (order_of (not merge.append)) call.inputs call.output.written KeepAll call.names (writing.Capture merge.format) call.output.failures call.room; programs = refl }
 first-decided command.Infos call = record { packets = nothing-decided InTurn call.inputs call.output.written Count call.names writing.Text call.output.failures call.room; programs = refl }
@@ -70,14 +94,18 @@ first-decided (command.Print print) call = λ rule is programs made. record { pa
 first-decided (command.Compile compile) call = tt
 
 -- a command runs from its beginning
-pub command-begun : {Z : Type 0} (c : Command Z) (call : Call) (job : CommandView) (r : RunResult)
-    → job ≡ command_first c call → (job.packets.done ≡ None → RunsCommand call.tells job r)
-    → RunsBy (assigned c).preparing (map nothing_done call.inputs) call.output.written call.tells (command_first c call).packets r
+pub command-begun : {Z : Type 0} (c : Command Z) (call : Call) (job : JobView) (r : RunResult)
+    → job ≡ first_job (assigned c) call → (job.done ≡ None → RunsCommand call.tells job r)
+    → RunsBy (assigned c).preparing (map nothing_done call.inputs) call.output.written call.tells (first_job (assigned c) call) r
 command-begun c call job r is runs =
-    let P : CommandView → Type 0 = λ v. v.packets.done ≡ None → RunsCommand call.tells v r in
+    let P : JobView → Type 0 = λ v. v.done ≡ None → RunsCommand call.tells v r in
     subst P is runs refl (map nothing_done call.inputs) call.output.written (first-decided c call)
 
 -- ---- a listing is written
+
+abbrev ListsInto : List Insn → Bool → MachineState → OutputView → ℕ → MachineState → OutputView → Type 0
+ListsInto insns tells old err status new err' =
+    Runs (ListingLeaves insns (name_at old.output.names (length old.inputs.cursors)) (output_by old) (output_by new) status) tells err err'
 
 pub lists-ok : (insns : List Insn) (tells : Bool) (old new : MachineState) (err : OutputView) → is_text old.output.target ≡ true → Lists (listing insns) old.output.target (Ok tt) new.output.target → ListsInto insns tells old err 0 new err
 lists-ok insns tells old new err text lists = by_target old.output.target refl text lists

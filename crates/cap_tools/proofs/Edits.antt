@@ -8,7 +8,7 @@ use Rattle.cap_io.specs.Capture.{Placed}
 use Rattle.cap_window.specs.declared.mark.Mark.{Mark}
 use Rattle.cap_window.specs.Marks.{mark_of, has_same, last}
 use Rattle.cap_window.proofs.Marks.{last-last}
-use Rattle.cap_tools.specs.Sequence.{Packet, FaultIn}
+use Rattle.cap_inputs.specs.Sequence.{Packet, FaultIn}
 use Rattle.cap_tools.specs.Verdict.{Judgement, Edit, EditRule, SelectorState, initial_state, changed, is_selected, moved, passes, refuses, selects, skipped, unique, with_mark}
 use Rattle.cap_tools.specs.Outcome.{Form, AsReports, Progress, apply_verdict, next_progress, end_with, apply_events}
 use Rattle.cap_tools.specs.Edits.{PassesUnique, coming, is_repeated, selected, unique_behind}

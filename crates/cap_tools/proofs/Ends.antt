@@ -6,13 +6,14 @@ use Rattle.cap_filter.specs.Outcome.{OutputView, IsTold}
 use Rattle.cap_tools.specs.declared.step.JobEnd.{JobEnd}
 use Rattle.cap_tools.specs.declared.step.JobEnd.TheVariants as end
 use Rattle.cap_tools.specs.declared.step.StepOutcome.TheVariants.{Done}
-use Rattle.cap_tools.specs.Sequence.{InputItems, SequenceEnd, Complete, FaultIn, PacketOrder}
+use Rattle.cap_inputs.specs.Sequence.{InputItems, SequenceEnd, Complete, FaultIn, PacketOrder}
 use Rattle.cap_tools.specs.Reports.{name_at}
 use Rattle.cap_tools.specs.Verdict.{Policy}
 use Rattle.cap_tools.specs.Outcome.{Form, Work, Outcome, outcome, outcome_of_texts, message, status}
-use Rattle.cap_tools.specs.Inputs.{InputView, InputPast, IsInput, ordering_of}
+use Rattle.cap_inputs.specs.Inputs.{InputView, InputPast, IsInput, ordering_of}
 use Rattle.cap_tools.specs.Machine.{MachineState, PacketsDecided, Comes, EndLeaves, failures_by, form_of, written_by, texts, wholes_of, cut_at}
-use Rattle.cap_tools.specs.Jobs.{IsUnderWay, JobView, IsOut, Ends, EndsAs, EndsElse, EndsJob, IsOutOf, RunResult, work_of, end_text, end_status, offset_at, offset_of}
+use Rattle.cap_tools.specs.Jobs.{IsUnderWay, JobView, IsOut, Ends, EndsAs, EndsElse, EndsJob, IsOutOf, RunResult, work_of, end_text, end_status}
+use Rattle.cap_inputs.specs.Inputs.{offset_at, offset_of}
 use Rattle.cap_tools.specs.Step.{IsStep, ending}
 
 comes-out : (ss : List InputPast) (before : List ℕ) (old : MachineState) (rs : List InputItems) (d : PacketsDecided ss before old) (names : List (List ℕ)) (new : MachineState) (close : SequenceEnd) (text : List ℕ) (s : ℕ) → Comes rs d new close → text ≡ message names (Some close) → s ≡ status (Some close)

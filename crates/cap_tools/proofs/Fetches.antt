@@ -11,20 +11,20 @@ use Rattle.cap_io.specs.Capture.{Placed, Items, FaultAt, no_items, kind_of, afte
 use Rattle.cap_io.specs.Source.{SourceView, Phase, Reading, Ended, Failed, Steps, FindsPacket, FindsEnd, FindsFault, Advances}
 use Rattle.cap_io.specs.Position.{IsAt}
 use Rattle.cap_io.proofs.Standing.{IsAt-found, IsAt-closed, IsAt-fault}
-use Rattle.cap_tools.specs.declared.inputs.Schedule.{Schedule}
-use Rattle.cap_tools.specs.declared.inputs.Schedule.TheVariants.{Turn, Merge}
-use Rattle.cap_tools.specs.declared.inputs.Next.TheVariants as next
+use Rattle.cap_inputs.specs.declared.inputs.Schedule.{Schedule}
+use Rattle.cap_inputs.specs.declared.inputs.Schedule.TheVariants.{Turn, Merge}
+use Rattle.cap_inputs.specs.declared.inputs.Next.TheVariants as next
 use Rattle.cap_tools.specs.declared.step.StepOutcome.{StepOutcome}
 use Rattle.cap_tools.specs.Reports.{Report, Tally}
-use Rattle.cap_tools.specs.Sequence.{InputItems, Event, FaultIn, PacketOrder, InTurn, ByTime, sequence_of, with_front, whole_input}
+use Rattle.cap_inputs.specs.Sequence.{InputItems, Event, FaultIn, PacketOrder, InTurn, ByTime, sequence_of, with_front, whole_input}
 use Rattle.cap_tools.specs.Verdict.{Policy, Edit, Filter, KeepAll, Count, SelectorState}
 use Rattle.cap_tools.specs.Selector as selecting
 use Rattle.cap_tools.specs.Selector.{PolicyState, IsWithin, emptied, is_count}
 use Rattle.cap_tools.specs.Outcome.{Form, AsReports, Progress, no_progress, apply_events, final_progress, end_with, final_text, output_text, text_at_end, first_link}
 use Rattle.cap_tools.specs.Output.{JobOutputView, Target, Capture, Text, Lines, HasWritten, Reports, form_at, written_to, failures_to}
-use Rattle.cap_tools.specs.Inputs.{InputView, InputsView, Future, InputPast, AreInputsBehind, AreSettled, IsInput, EndedBefore, ReadsInput, IsNext, waits_from, waiting_packets, input_after, schedule_after, is_clean_end, actual_future, items_with, inputs_with, inputs_left, sequence_left, is_in_turn, ordering_of}
+use Rattle.cap_inputs.specs.Inputs.{InputView, InputsView, Future, InputPast, AreInputsBehind, AreSettled, IsInput, EndedBefore, ReadsInput, IsNext, waits_from, waiting_packets, input_after, schedule_after, is_clean_end, actual_future, items_with, inputs_with, inputs_left, sequence_left, is_in_turn, ordering_of}
 use Rattle.cap_tools.specs.Reports.{report_text, reports_text}
-use Rattle.cap_tools.specs.Machine.{MachineState, AppendsOnce, PacketsDecided, GoesOn, Comes, BreaksAt, WhyBroken, StopsWriting, StepLeaves, Closes, ClosesBy, asks_report, report_at, unless_failed, progress_at, progress_of, progress_over, form_of, failures_by, written_by, cut_at, wholes_of}
+use Rattle.cap_tools.specs.Machine.{MachineState, AppendsOnce, PacketsDecided, GoesOn, Comes, BreaksAt, WhyBroken, StopsWriting, StepLeaves, Closes, ClosesBy, asks_report, report_at, unless_failed, progress_at, progress_of, progress_over, form_of, failures_by, written_by, cut_at, wholes_of, sieve}
 use Rattle.cap_tools.proofs.Splits.{At, Fit, stands-split, stands-join, stands-length, fits-join, wholes-join, rests-join, finish-here, come-on}
 use Rattle.cap_tools.proofs.Coming.{carries-found, carries-closed, true-wholes, true-fits, finds}
 use Rattle.cap_tools.proofs.Outputs.{drained-text, ReportOk, report-ok, reports-more}
@@ -32,7 +32,7 @@ use Rattle.cap_tools.proofs.Growing.{Grows, course-grows}
 use Rattle.cap_tools.proofs.Laws.{ReadLaws, ReadAt, closed_in, read-at}
 use Rattle.cap_tools.proofs.Once.{once-nothing, once-report}
 use Rattle.cap_tools.proofs.Outcomes.{progress-append, course-close}
-use Rattle.cap_tools.proofs.Cursors.{greatest-here, greatest-same, never-at, never-kept, set-here}
+use Rattle.cap_inputs.proofs.Cursors.{greatest-here, greatest-same, never-at, never-kept, set-here}
 
 abbrev pub mk : List InputView → Schedule → Policy → SelectorState → JobOutputView → ℕ → MachineState
 mk cursors schedule policy state output decided = record { inputs = record { cursors = cursors; schedule = schedule }; policy = policy; state = state; output = output; decided = decided }
@@ -369,7 +369,7 @@ report-stops us vs s before xs ys h s' schedule turn policy state names (Text by
 closed-core : (us vs : List InputPast) (s : InputPast) (before : List ℕ) (xs ys : List InputView) (h : InputView) (s' : SourceView) (schedule : Schedule) (turn : ℕ) (policy : Policy) (state : SelectorState) (output : JobOutputView) (decided : ℕ) (r : StepOutcome) (selector' : PolicyState) (output' : JobOutputView)
     → (laws : ReadLaws schedule turn xs ys h) → IsNext schedule (xs ++ h ∷ ys) (next.Read turn) → AreInputsBehind us xs → At s h → AreInputsBehind vs ys → Advances h.source.phase h.source (Ok false) s' → Steps h.source.phase h.source (Ok false) s'
     → (d : PacketsDecided (us ++ s ∷ vs) before (mk (xs ++ h ∷ ys) schedule policy state output decided))
-    → (b : Bool) → asks_report (ordering_of schedule) policy ≡ b → ClosesBy b turn (input_after h (Ok false) s') (record { policy = policy; state = state }) output r selector' output'
+    → (b : Bool) → asks_report (ordering_of schedule) policy ≡ b → ClosesBy b turn (input_after h (Ok false) s') (sieve (record { policy = policy; state = state }) output) r (sieve selector' output')
     → StepLeaves d r (mk (xs ++ input_after h (Ok false) s' ∷ ys) (schedule_after schedule turn true) policy selector'.state output' decided)
 closed-core us vs s before xs ys h s' schedule turn policy state output decided r selector' output' laws tells front at back advances steps d false asks by =
     rw (by.0, by.1, by.2)
@@ -405,7 +405,7 @@ FetchLeaves {ss} {before} {old} d i (Err fault) r new = BreaksAt d new i fault
 -- what is made of an answer: at its end an input is closed, and else the rest stays
 abbrev pub Follows : Result Bool Fault → InputsView → ℕ → PolicyState → JobOutputView → StepOutcome → PolicyState → JobOutputView → Type 0
 Follows (Ok true) inputs i selector old r selector' new = (selector' ≡ selector) × (new ≡ old)
-Follows (Ok false) inputs i selector old r selector' new = Closes inputs i selector old r selector' new
+Follows (Ok false) inputs i selector old r selector' new = Closes inputs i (sieve selector old) r (sieve selector' new)
 Follows (Err fault) inputs i selector old r selector' new = (selector' ≡ selector) × (new ≡ old)
 
 read_input-core : (us vs : List InputPast) (s : InputPast) (before : List ℕ) (xs ys : List InputView) (h : InputView) (s' : SourceView) (a : Result Bool Fault) (schedule : Schedule) (turn : ℕ) (policy : Policy) (state : SelectorState) (output : JobOutputView) (decided : ℕ) (r : StepOutcome) (selector' : PolicyState) (output' : JobOutputView)
@@ -418,8 +418,8 @@ read_input-core us vs s before xs ys h s' (Ok true) schedule turn policy state o
 read_input-core us vs s before xs ys h s' (Ok false) schedule turn policy state output decided r selector' output' laws tells front at back advances steps d follows =
     let h' : InputView = input_after h (Ok false) s' in
     let same : follows.cursor ≡ h' = among-same (xs ++ h' ∷ ys) turn follows.cursor h' follows.among (record { front = xs; back = ys; place = laws.here; splits = refl }) in
-    let P : InputView → Type 0 = λ v. ClosesBy (asks_report (ordering_of (schedule_after schedule turn true)) policy) turn v (record { policy = policy; state = state }) output r selector' output' in
-    let Q : PacketOrder → Type 0 = λ o. ClosesBy (asks_report o policy) turn h' (record { policy = policy; state = state }) output r selector' output' in
+    let P : InputView → Type 0 = λ v. ClosesBy (asks_report (ordering_of (schedule_after schedule turn true)) policy) turn v (sieve (record { policy = policy; state = state }) output) r (sieve selector' output') in
+    let Q : PacketOrder → Type 0 = λ o. ClosesBy (asks_report o policy) turn h' (sieve (record { policy = policy; state = state }) output) r (sieve selector' output') in
     closed-core us vs s before xs ys h s' schedule turn policy state output decided r selector' output' laws tells front at back advances steps d (asks_report (ordering_of schedule) policy) refl
     (subst Q (laws.order true) (subst P same follows.by))
 read_input-core us vs s before xs ys h s' (Err fault) schedule turn policy state output decided r selector' output' laws tells front at back advances steps d follows = rw (follows.0, follows.1) (record {
@@ -465,11 +465,11 @@ read_input-leaves ss before cursors schedule policy state output decided i a inp
 
 pub closes-by : (schedule : Schedule) (input : ℕ) (cursor : InputView) (selector selector' : PolicyState) (output output' : JobOutputView) (r : StepOutcome) (tally : Tally) (report : Report) (answer : Result (Unit {0}) DeviceFault) → is_in_turn schedule ≡ true
     → selecting.TakesTally (is_count selector.policy) selector (Some tally) selector' → report ≡ report_at input cursor tally → Reports (report_text output.names report) output.target answer output'.target → output'.names ≡ output.names → r ≡ unless_failed answer
-    → ClosesBy (asks_report (ordering_of schedule) selector.policy) input cursor selector output r selector' output'
+    → ClosesBy (asks_report (ordering_of schedule) selector.policy) input cursor (sieve selector output) r (sieve selector' output')
 closes-by (Merge n u) input cursor selector selector' output output' r tally report answer turn taken is reports names ends = (cc)
 closes-by (Turn turn) input cursor selector selector' output output' r tally report answer here taken is reports names ends = by_count (is_count selector.policy) taken
   where
-    by_count : (b : Bool) → selecting.TakesTally b selector (Some tally) selector' → ClosesBy b input cursor selector output r selector' output'
+    by_count : (b : Bool) → selecting.TakesTally b selector (Some tally) selector' → ClosesBy b input cursor (sieve selector output) r (sieve selector' output')
     by_count false taken = absurd (let e = taken.0 in cc)
     by_count true taken =
         let same : tally ≡ selector.state.tally = (let e = taken.0 in cc) in

@@ -11,14 +11,14 @@ use Rattle.cap_io.specs.Sink.{SinkView, FinishesEmpty, HasPackets, link_or_ether
 use Rattle.cap_io.specs.Text.{heading, text}
 use Rattle.cap_io.specs.Source.{Ended}
 use Rattle.cap_io.proofs.Texts.{finish-none, finish-none-writes, finish-some}
-use Rattle.cap_tools.specs.declared.inputs.Schedule.{Schedule}
-use Rattle.cap_tools.specs.declared.inputs.Next.TheVariants as next
+use Rattle.cap_inputs.specs.declared.inputs.Schedule.{Schedule}
+use Rattle.cap_inputs.specs.declared.inputs.Next.TheVariants as next
 use Rattle.cap_tools.specs.Reports.{Report}
-use Rattle.cap_tools.specs.Sequence.{InputItems, Complete, sequence_of, with_front}
+use Rattle.cap_inputs.specs.Sequence.{InputItems, Complete, sequence_of, with_front}
 use Rattle.cap_tools.specs.Verdict.{Policy, SelectorState}
 use Rattle.cap_tools.specs.Outcome.{Form, AsCapture, Progress, closing_text, final_progress, lines_text, end_with, final_text, first_link}
 use Rattle.cap_tools.specs.Output.{JobOutputView, Target, Capture, Text, Lines, HasWrittenTo, Finishes, form_at, form_to, written_to, failures_to}
-use Rattle.cap_tools.specs.Inputs.{InputView, Future, InputPast, AreInputsBehind, EndedTo, IsNext, actual_future, ordering_of, first_declared_link}
+use Rattle.cap_inputs.specs.Inputs.{InputView, Future, InputPast, AreInputsBehind, EndedTo, IsNext, actual_future, ordering_of, first_declared_link}
 use Rattle.cap_tools.specs.Reports.{reports_text}
 use Rattle.cap_tools.specs.Machine.{MachineState, PacketsDecided, Comes, StopsWriting, progress_at, progress_of, progress_over, wholes_of}
 use Rattle.cap_tools.proofs.Splits.{At}

@@ -6,7 +6,7 @@ use Rattle.cap_octet.specs.declared.fault.Fault.{Fault}
 use Rattle.cap_io.specs.Capture.{Placed}
 use Rattle.cap_io.specs.declared.source.Kind.{Kind}
 use Rattle.cap_tools.specs.Reports.{Report}
-use Rattle.cap_tools.specs.Sequence.{Event, Packet, InputEnd, SequenceEnd, Complete, Sequence, with_front}
+use Rattle.cap_inputs.specs.Sequence.{Event, Packet, InputEnd, SequenceEnd, Complete, Sequence, with_front}
 use Rattle.cap_tools.specs.Verdict.{Policy, Edit, Filter, KeepAll, Count, SelectorState, Verdict, Pass, PassLast, Skip, Refuse, judge}
 use Rattle.cap_tools.specs.Outcome.{Form, Progress, no_progress, decide_unless, apply_verdict, end_input, apply_event, next_progress, apply_events, final_progress, form_refuses, end_with, end_unless_ended, unless_ended}
 use Rattle.cap_tools.proofs.Outcomes.{progress-append}

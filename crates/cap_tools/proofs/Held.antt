@@ -1,10 +1,10 @@
 -- The current packet of the input whose turn it is.
 use Rattle.std.proofs.Common.{◌≡◌, ℕ, ◌+◌, ◌≤◌, Option, None, Some, List, true, refl, ◌∙◌, ap}
 use Rattle.cap_octet.specs.Packet.{Captured}
-use Rattle.cap_tools.specs.declared.inputs.Schedule.{Schedule}
-use Rattle.cap_tools.specs.declared.inputs.Schedule.TheVariants.{Turn, Merge}
-use Rattle.cap_tools.specs.declared.inputs.Next.TheVariants as next
-use Rattle.cap_tools.specs.Inputs.{InputView, IsInput, IsNext}
+use Rattle.cap_inputs.specs.declared.inputs.Schedule.{Schedule}
+use Rattle.cap_inputs.specs.declared.inputs.Schedule.TheVariants.{Turn, Merge}
+use Rattle.cap_inputs.specs.declared.inputs.Next.TheVariants as next
+use Rattle.cap_inputs.specs.Inputs.{InputView, IsInput, IsNext}
 use Rattle.cap_tools.specs.Selector.{SelectorView, most_spent, spent_by_verdict}
 use Rattle.cap_filter.specs.Programs.{spent_in}
 use Rattle.cap_tools.specs.Machine.{Spends}

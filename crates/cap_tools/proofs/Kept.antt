@@ -1,6 +1,6 @@
 -- What a step keeps of the counts.
 use Rattle.std.proofs.Common.{ℕ, ◌+◌, ◌≤◌, Option, None, Some, arith}
-use Rattle.cap_tools.specs.Inputs.{InputsView, most_steps}
+use Rattle.cap_inputs.specs.Inputs.{InputsView, most_steps}
 use Rattle.cap_tools.specs.Jobs.{IsCounted}
 use Rattle.cap_tools.specs.Bounds.{HasFewTurns, IsPaid, most_turns, owed}
 

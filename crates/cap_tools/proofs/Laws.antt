@@ -5,16 +5,16 @@ use Rattle.cap_octet.specs.declared.fault.Fault.{Fault}
 use Rattle.cap_io.specs.declared.source.Kind.{Kind}
 use Rattle.cap_io.specs.Capture.{Declared, Items, no_items, kind_of}
 use Rattle.cap_io.specs.Source.{Ended}
-use Rattle.cap_tools.specs.declared.inputs.Schedule.{Schedule}
-use Rattle.cap_tools.specs.declared.inputs.Schedule.TheVariants.{Turn, Merge}
-use Rattle.cap_tools.specs.declared.inputs.Next.TheVariants as next
-use Rattle.cap_tools.specs.Sequence.{InputItems, Event, Packet, InputEnd, SequenceEnd, Complete, FaultIn, PacketOrder, InTurn, ByTime, with_front, sequence_in_turn, sequence_by_time, fault_in_front, sequence_of_entries, sort_entries, all_entries, unless_fault}
+use Rattle.cap_inputs.specs.declared.inputs.Schedule.{Schedule}
+use Rattle.cap_inputs.specs.declared.inputs.Schedule.TheVariants.{Turn, Merge}
+use Rattle.cap_inputs.specs.declared.inputs.Next.TheVariants as next
+use Rattle.cap_inputs.specs.Sequence.{InputItems, Event, Packet, InputEnd, SequenceEnd, Complete, FaultIn, PacketOrder, InTurn, ByTime, with_front, sequence_in_turn, sequence_by_time, fault_in_front, sequence_of_entries, sort_entries, all_entries, unless_fault}
 use Rattle.cap_tools.specs.Verdict.{Policy}
 use Rattle.cap_tools.specs.Outcome.{Form, Progress, apply_events, end_input, unless_ended}
-use Rattle.cap_tools.specs.Inputs.{InputView, Future, AreFutures, IsInput, IsNext, EndedTo, EndedBefore, Laid, InputOver, waits_over, ended_over, InputFrom, waits_from, ended_from, InputsOver, InputsFrom, KeysOver, KeysFrom, NoneWaits, key_of, time_of, input_behind, items_left, inputs_left, sequence_left, ordering_of, schedule_after, schedule_behind}
+use Rattle.cap_inputs.specs.Inputs.{InputView, Future, AreFutures, IsInput, IsNext, EndedTo, EndedBefore, Laid, InputOver, waits_over, ended_over, InputFrom, waits_from, ended_from, InputsOver, InputsFrom, KeysOver, KeysFrom, NoneWaits, key_of, time_of, input_behind, items_left, inputs_left, sequence_left, ordering_of, schedule_after, schedule_behind}
 use Rattle.cap_tools.proofs.Splits.{Fit, fits-join, rests-join, rests-length}
 use Rattle.cap_tools.proofs.Coming.{left-decided, turn-closes, turn-broken}
-use Rattle.cap_tools.proofs.Order.{merged-broken}
+use Rattle.cap_inputs.proofs.Order.{merged-broken}
 use Rattle.cap_tools.proofs.Merges.{merge-decides, none-broken, ended-rest}
 
 -- ---- inputs in front

@@ -4,11 +4,11 @@ use Rattle.std.proofs.lemmas.List.{length-append}
 use Rattle.std.specs.List.{slice_set}
 use Rattle.cap_octet.specs.declared.fault.Fault.{Fault}
 use Rattle.cap_io.specs.Source.{SourceView, Phase, Reading, Ended, Failed, Steps}
-use Rattle.cap_tools.specs.declared.inputs.Schedule.{Schedule}
-use Rattle.cap_tools.specs.declared.inputs.Schedule.TheVariants.{Turn, Merge}
-use Rattle.cap_tools.specs.declared.inputs.Next.TheVariants as next
-use Rattle.cap_tools.specs.Inputs.{InputView, InputsView, IsInput, IsNext, MarksDecided, ReadSteps, input_behind, input_after, schedule_after, schedule_behind, is_clean_end, input_steps_left, steps_left_in, steps_left, waiting_count}
-use Rattle.cap_tools.proofs.Cursors.{set-here}
+use Rattle.cap_inputs.specs.declared.inputs.Schedule.{Schedule}
+use Rattle.cap_inputs.specs.declared.inputs.Schedule.TheVariants.{Turn, Merge}
+use Rattle.cap_inputs.specs.declared.inputs.Next.TheVariants as next
+use Rattle.cap_inputs.specs.Inputs.{InputView, InputsView, IsInput, IsNext, MarksDecided, ReadSteps, input_behind, input_after, schedule_after, schedule_behind, is_clean_end, input_steps_left, steps_left_in, steps_left, waiting_count}
+use Rattle.cap_inputs.proofs.Cursors.{set-here}
 use Rattle.cap_tools.proofs.Fetches.{among-same}
 
 left-append : (w : ℕ) (xs ys : List InputView) → steps_left_in w (xs ++ ys) ≡ steps_left_in w xs + steps_left_in w ys

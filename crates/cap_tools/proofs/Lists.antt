@@ -15,7 +15,7 @@ use Rattle.cap_filter.specs.FilterRules.{Rule, rule_decides}
 use Rattle.cap_window.specs.declared.mark.Mark.{Mark}
 use Rattle.cap_window.specs.Marks.{mark_of, has_same, last}
 use Rattle.cap_window.proofs.Marks.{last-last}
-use Rattle.cap_tools.specs.Sequence.{Event, Packet, Complete, FaultIn}
+use Rattle.cap_inputs.specs.Sequence.{Event, Packet, Complete, FaultIn}
 use Rattle.cap_tools.specs.Verdict.{Policy, Count, Filter, Edit, EditRule, Judgement, PassLast, Pass, SelectorState, initial_state, changed, filters, is_last, is_selected, judge_by, moved, passes, refuses, selects, skipped, unique, with_mark}
 use Rattle.cap_tools.specs.Reports.{Tally, counted}
 use Rattle.cap_tools.specs.Outcome.{Form, AsReports, Progress, apply_verdict, next_progress, end_with, apply_events}

@@ -3,11 +3,11 @@ use Rattle.std.proofs.Common.{◌≡◌, ℕ, ◌+◌, true, false, max, List, [
 use Rattle.cap_octet.specs.Packet.{Captured}
 use Rattle.cap_io.specs.Capture.{Placed, Items, after_packets}
 use Rattle.cap_io.specs.Source.{Ended}
-use Rattle.cap_tools.specs.Sequence.{Packet, SequenceEnd, Complete, with_front, end_at, first_end, fault_in_front, sequence_by_time}
-use Rattle.cap_tools.specs.Inputs.{InputView, Future, AreFutures, waiting_packets, items_left, inputs_left, no_future, input_behind, InputOver, waits_over, ended_over, InputFrom, waits_from, ended_from, InputsOver, InputsFrom}
+use Rattle.cap_inputs.specs.Sequence.{Packet, SequenceEnd, Complete, with_front, end_at, first_end, fault_in_front, sequence_by_time}
+use Rattle.cap_inputs.specs.Inputs.{InputView, Future, AreFutures, waiting_packets, items_left, inputs_left, no_future, input_behind, InputOver, waits_over, ended_over, InputFrom, waits_from, ended_from, InputsOver, InputsFrom}
 use Rattle.cap_tools.proofs.Splits.{Fit}
 use Rattle.cap_tools.proofs.Coming.{hand_is}
-use Rattle.cap_tools.proofs.Order.{IsOver, IsFrom, AllOver, AllFrom, merged-next}
+use Rattle.cap_inputs.proofs.Order.{IsOver, IsFrom, AllOver, AllFrom, merged-next}
 
 abbrev first_is : InputView → Captured → Placed
 first_is h p = record { offset = h.source.offset; packet = p }

@@ -4,7 +4,7 @@ use Rattle.std.proofs.lemmas.List.{append_assoc, append-nil}
 use Rattle.cap_octet.specs.Packet.{Captured}
 use Rattle.cap_io.proofs.Texts.{text-more}
 use Rattle.cap_io.specs.Text.{added, text}
-use Rattle.cap_tools.specs.Sequence.{Complete}
+use Rattle.cap_inputs.specs.Sequence.{Complete}
 use Rattle.cap_tools.specs.Reports.{Report, report_text, reports_text}
 use Rattle.cap_tools.specs.Outcome.{Form, AsCapture, AsReports, AsLines, Progress, closing_text, packet_bytes, report_bytes, output_text}
 use Rattle.cap_tools.specs.Output.{JobOutputView, HasWritten, form_at, written_to}

@@ -14,7 +14,7 @@ use Rattle.cap_io.specs.Sink.{SinkView, HasPackets, PutsAfter, IsPutAnswer, PutW
 use Rattle.cap_io.specs.Text.{added, refused}
 use Rattle.cap_io.proofs.Texts.{put-answers, put-writes, put-taken, HasPackets-put, refused-write_failed, refused-no_memory}
 use Rattle.cap_tools.specs.Reports.{Report}
-use Rattle.cap_tools.specs.Sequence.{Complete}
+use Rattle.cap_inputs.specs.Sequence.{Complete}
 use Rattle.cap_tools.specs.Verdict.{SelectorState}
 use Rattle.cap_tools.specs.Outcome.{Form, AsCapture, AsReports, AsLines, closing_text, lines_text, final_text, form_refuses, output_text}
 use Rattle.cap_tools.specs.Output.{Target, Capture, Text, Lines, HasWrittenTo, Puts, Reports, form_to, written_to, failures_to}

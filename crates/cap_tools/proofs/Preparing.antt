@@ -6,13 +6,20 @@ use Rattle.flt_bpf.specs.Content.{Content}
 use Rattle.flt_lang.specs.Tree.{empty, truth}
 use Rattle.cap_filter.specs.FilterRules.{Rule, by_reading, by_answer}
 use Rattle.cap_filter.specs.Filters.{AreNew}
-use Rattle.cap_tools.specs.declared.job.Preparation.{Preparation}
-use Rattle.cap_tools.specs.Commands.{preparing_of}
+use Rattle.cap_tools.specs.declared.start.Preparation.{Preparation}
+use Rattle.cap_tools.specs.Start.{Preparing, preparing_of}
+use Rattle.cap_tools.specs.Commands.{IsReadyIf}
+use Rattle.cap_tools.specs.Jobs.{JobView}
 use Rattle.cap_filter.specs.Programs.{spent_in}
 
 pub none-before : {Z : Type 0} (p : Option (Preparation Z)) → is_some p ≡ false → option_map preparing_of p ≡ None
 none-before None is = refl
 none-before (Some p) is = (cc)
+
+-- a job that prepares nothing is ready
+pub ready-none : (p : Option Preparing) (j : JobView) → p ≡ None → IsReadyIf p j
+ready-none None j is = tt
+ready-none (Some preparing) j is = (cc)
 
 none-spent : (programs : List Content) → All (λ program. program.spent ≡ 0) programs → spent_in programs ≡ 0
 none-spent [] all = refl

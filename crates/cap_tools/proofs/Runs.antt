@@ -1,7 +1,7 @@
 -- Many steps.
 use Rattle.std.proofs.Common.{◌≡◌, ℕ, zero, suc, List, [], ◌∷◌, refl, ◌∙◌, ap}
 use Rattle.cap_io.specs.Capture.{Placed}
-use Rattle.cap_tools.specs.Inputs.{InputPast}
+use Rattle.cap_inputs.specs.Inputs.{InputPast}
 use Rattle.cap_tools.specs.Machine.{finish_at, texts}
 use Rattle.cap_tools.specs.Jobs.{JobView, IsUnderWay, StaysDecided}
 

@@ -12,7 +12,7 @@ use Rattle.cap_tools.specs.declared.selector.Verdict as code
 use Rattle.cap_tools.specs.Verdict.{Policy, Edit, Filter, KeepAll, Count, SelectorState, Judgement, Pass, PassLast, Skip, judge, judge_by, refuses, filters, is_last}
 use Rattle.cap_tools.specs.Reports.{Tally}
 use Rattle.cap_tools.specs.Reports.{HasRoom, counted}
-use Rattle.cap_tools.specs.Inputs.{most_steps}
+use Rattle.cap_inputs.specs.Inputs.{most_steps}
 use Rattle.cap_tools.specs.Selector.{PolicyState, IsWithin, IsWindowFor, Keeps, is_count, count_of, TakesTally, marks_in, passing, places, state_of, verdict_of, IsVerdict}
 
 nat_le-true : (a b : ℕ) → a ≤ b → nat_le a b ≡ true

@@ -3,9 +3,9 @@ use Rattle.std.proofs.Common.{◌≡◌, ℕ, suc, List, [], ◌∷◌, ◌++◌
 use Rattle.cap_io.specs.Capture.{Placed}
 use Rattle.cap_io.specs.Source.{Ended}
 use Rattle.cap_io.specs.Position.{IsAt}
-use Rattle.cap_tools.specs.Sequence.{InputItems, Event, sequence_of, with_front}
-use Rattle.cap_tools.specs.declared.inputs.Schedule.{Schedule}
-use Rattle.cap_tools.specs.Inputs.{InputView, Future, InputPast, AreInputsBehind, AreFutures, AreSettled, items_with, inputs_with, items_left, inputs_left, no_future, sequence_left, ordering_of}
+use Rattle.cap_inputs.specs.Sequence.{InputItems, Event, sequence_of, with_front}
+use Rattle.cap_inputs.specs.declared.inputs.Schedule.{Schedule}
+use Rattle.cap_inputs.specs.Inputs.{InputView, Future, InputPast, AreInputsBehind, AreFutures, AreSettled, items_with, inputs_with, items_left, inputs_left, no_future, sequence_left, ordering_of}
 use Rattle.cap_tools.specs.Machine.{finish_at}
 
 abbrev pub At : InputPast → InputView → Type 0

@@ -1,5 +1,5 @@
 -- A job of which nothing is done.
-use Rattle.std.proofs.Common.{◌≡◌, ℕ, suc, ◌*◌, ◌^◌, ◌<◌, ◌≤◌, List, [], ◌∷◌, map, length, Bool, refl, sym, ◌∙◌, ap, arith}
+use Rattle.std.proofs.Common.{◌≡◌, ℕ, suc, ◌*◌, ◌^◌, ◌<◌, ◌≤◌, List, [], ◌∷◌, map, length, refl, sym, ap, arith}
 use Rattle.cap_tools.specs.declared.output.Writing.{Writing}
 use Rattle.cap_tools.specs.declared.output.Writing.TheVariants as writing
 use Rattle.cap_tools.specs.Output.{HasWrittenTo, target_at}
@@ -7,13 +7,13 @@ use Rattle.cap_tools.specs.Reports.{nothing_counted}
 use Rattle.std.proofs.lemmas.List.{append-nil}
 use Rattle.cap_io.proofs.Standing.{IsAt-start}
 use Rattle.cap_io.proofs.Texts.{HasPackets-none}
-use Rattle.cap_tools.specs.Sequence.{InputItems, sequence_in_turn, sequence_by_time, PacketOrder, InTurn, ByTime}
-use Rattle.cap_tools.specs.declared.inputs.Schedule.{Schedule}
+use Rattle.cap_inputs.specs.Sequence.{InputItems, sequence_in_turn, sequence_by_time, PacketOrder, InTurn, ByTime}
 use Rattle.cap_tools.proofs.Laws.{laid-start}
 use Rattle.cap_tools.specs.Verdict.{Policy}
-use Rattle.cap_tools.specs.Jobs.{FreshInput, fresh_view, nothing_done, first_schedule, fresh_inputs, order_of, most_inputs}
+use Rattle.cap_tools.specs.Jobs.{most_inputs}
+use Rattle.cap_inputs.specs.Fresh.{FreshInput, fresh_view, nothing_done, first_schedule, fresh_inputs}
 use Rattle.cap_tools.specs.Selector.{state_with}
-use Rattle.cap_tools.specs.Inputs.{InputView, Future, AreInputsBehind, KnowGreatest, AreFutures, AreSettled, NoneWaits, EndedBefore, inputs_with, inputs_left, items_with, steps_left_in, steps_left, most_steps, waiting_total}
+use Rattle.cap_inputs.specs.Inputs.{Future, AreInputsBehind, KnowGreatest, AreFutures, AreSettled, NoneWaits, EndedBefore, inputs_with, inputs_left, items_with, steps_left_in, steps_left, most_steps, waiting_total}
 use Rattle.cap_tools.specs.Bounds.{reads_of, owed, most_turns}
 use Rattle.cap_tools.specs.Machine.{PacketsDecided}
 use Rattle.cap_tools.proofs.Fetches.{mk}
@@ -65,17 +65,6 @@ nothing-decided order os before policy names w failures room = record {
   counted = (omega arith, omega arith, omega arith);
   ended = start-ended order os;
 }
-
-map-map : {X : Type 0} (f : X → FreshInput) (xs : List X) → map (λ x. fresh_view (f x)) xs ≡ map fresh_view (map f xs)
-map-map f [] = refl
-map-map f (x ∷ xs) = ap (λ (l : List InputView). fresh_view (f x) ∷ l) (map-map f xs)
-
--- the inputs as they are handed over
-pub first-inputs : {X : Type 0} (f : X → FreshInput) (xs : List X) (cursors : List InputView) (schedule : Schedule) (merges : Bool) → cursors ≡ map (λ x. fresh_view (f x)) xs → schedule ≡ first_schedule (order_of merges) (length cursors)
-    → record { cursors = cursors; schedule = schedule } ≡ fresh_inputs (order_of merges) (map f xs)
-first-inputs f xs cursors schedule merges is at =
-    ap (λ (p : Schedule). record { cursors = cursors; schedule = p }) at
-    ∙ ap (λ (l : List InputView). record { cursors = l; schedule = first_schedule (order_of merges) (length l) }) (is ∙ map-map f xs)
 
 count-map : (os : List FreshInput) → length (map fresh_view os) ≡ length os
 count-map [] = refl

@@ -4,12 +4,12 @@ use Rattle.std.proofs.lemmas.List.{length-append}
 use Rattle.std.specs.List.{slice_set}
 use Rattle.cap_octet.specs.declared.fault.Fault.{Fault}
 use Rattle.cap_io.specs.Source.{SourceView, Phase, Reading, Ended, Failed, Steps, behind}
-use Rattle.cap_tools.specs.declared.inputs.Schedule.{Schedule}
-use Rattle.cap_tools.specs.declared.inputs.Schedule.TheVariants.{Turn, Merge}
-use Rattle.cap_tools.specs.declared.inputs.Next.TheVariants as next
-use Rattle.cap_tools.specs.Inputs.{InputView, InputsView, IsInput, IsNext, MarksDecided, ReadSteps, input_behind, input_after, schedule_after, schedule_behind, is_clean_end, waiting_count, waiting_total}
+use Rattle.cap_inputs.specs.declared.inputs.Schedule.{Schedule}
+use Rattle.cap_inputs.specs.declared.inputs.Schedule.TheVariants.{Turn, Merge}
+use Rattle.cap_inputs.specs.declared.inputs.Next.TheVariants as next
+use Rattle.cap_inputs.specs.Inputs.{InputView, InputsView, IsInput, IsNext, MarksDecided, ReadSteps, input_behind, input_after, schedule_after, schedule_behind, is_clean_end, waiting_count, waiting_total}
 use Rattle.cap_tools.specs.Bounds.{reads_of, owed, most_turns, IsPaid}
-use Rattle.cap_tools.proofs.Cursors.{set-here}
+use Rattle.cap_inputs.proofs.Cursors.{set-here}
 use Rattle.cap_tools.proofs.Fetches.{among-same}
 use Rattle.cap_tools.proofs.Lefts.{Goes}
 

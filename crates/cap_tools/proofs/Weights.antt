@@ -9,9 +9,9 @@ use Rattle.cap_io.specs.Source.{SourceView, Phase, Reading, Ended, Failed, HasFe
 use Rattle.cap_tools.specs.declared.output.Writing.{Writing}
 use Rattle.cap_tools.specs.declared.output.Writing.TheVariants as writing
 use Rattle.cap_tools.specs.Output.{Target, Capture, Text, Lines, target_at}
-use Rattle.cap_tools.specs.Inputs.{InputView, InputsView, IsInput, ReadSteps, MarksDecided, input_after, input_behind}
+use Rattle.cap_inputs.specs.Inputs.{InputView, InputsView, IsInput, ReadSteps, MarksDecided, input_after, input_behind}
 use Rattle.cap_tools.specs.Selector.{HasFewMarks}
-use Rattle.cap_tools.specs.Jobs.{FreshInput, fresh_view}
+use Rattle.cap_inputs.specs.Fresh.{FreshInput, fresh_view}
 use Rattle.cap_tools.specs.Machine.{MachineState}
 use Rattle.cap_tools.specs.Bounds.{HasFewInterfaces, IsBounded, IsLight, IsSmall, declared_weight, inputs_weight, names_weight, target_weight}
 

@@ -7,7 +7,7 @@ use Rattle.cap_io.specs.Reading.{most_in_unit}
 use Rattle.cap_io.specs.Source.{HasFew, behind}
 use Rattle.cap_io.specs.Text.{AreFew, most_output_interfaces}
 use Rattle.cap_tools.specs.Output.{Target, Capture, Text, Lines}
-use Rattle.cap_tools.specs.Inputs.{InputView, InputsView, IsInput, ReadsInput, ReadSteps, MarksDecided, is_clean_end, ordering_of, schedule_left, waiting_total, weight_of}
+use Rattle.cap_inputs.specs.Inputs.{InputView, InputsView, IsInput, ReadsInput, ReadSteps, MarksDecided, is_clean_end, ordering_of, schedule_left, waiting_total, weight_of}
 use Rattle.cap_octet.specs.Packet.{Captured}
 use Rattle.cap_filter.specs.Programs.{spent_in}
 use Rattle.cap_tools.specs.Selector.{most_spent, places, spent_by_verdict, window_of}

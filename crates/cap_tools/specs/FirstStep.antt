@@ -7,12 +7,12 @@ use Rattle.cap_filter.specs.Compilation.{ListingLeaves}
 use Rattle.cap_filter.specs.Messages.{refusal_message, refusal_status}
 use Rattle.cap_filter.specs.FilterRules.{Rule}
 use Rattle.cap_filter.specs.Outcome.{OutputView, IsTold, Runs, seen}
-use Rattle.cap_tools.specs.declared.packets.Turn.{Turn}
-use Rattle.cap_tools.specs.declared.packets.Turn.TheVariants as turn
+use Rattle.cap_tools.specs.declared.job.Turn.{Turn}
+use Rattle.cap_tools.specs.declared.job.Turn.TheVariants as turn
 use Rattle.cap_tools.specs.Output.{Target, Capture, Text, Lines}
 use Rattle.cap_tools.specs.Verdict.{Policy, Filter}
 use Rattle.cap_tools.specs.Selector.{state_with}
-use Rattle.cap_tools.specs.Inputs.{steps_left, most_steps}
+use Rattle.cap_inputs.specs.Inputs.{steps_left, most_steps}
 use Rattle.cap_tools.specs.Reports.{name_at, nothing_counted}
 use Rattle.cap_tools.specs.Bounds.{most_turns, owed}
 use Rattle.cap_tools.specs.Machine.{MachineState, written_by, failures_by}
@@ -38,6 +38,7 @@ asking policy m = record { inputs = m.inputs; policy = policy; state = state_wit
 -- the job whose packets go through the filter, by these programs, up to so many that pass
 abbrev pub filtering : Rule → Option ℕ → List Content → JobView → JobView
 filtering rule count programs j = record {
+  preparing = None;
   machine = asking (Filter rule count) j.machine;
   programs = programs;
   err = j.err;
@@ -48,6 +49,7 @@ filtering rule count programs j = record {
 -- the job that ended by a refusal, with these messages
 abbrev pub refusing : Refusal → OutputView → JobView → JobView
 refusing refusal err j = record {
+  preparing = None;
   machine = j.machine;
   programs = j.programs;
   err = err;
@@ -72,14 +74,9 @@ pub record Refuses (refusal : Refusal) (tells : Bool) (old : JobView) (status : 
   pub told : IsTold tells old.err (refusal_message refusal) new.err
   pub new_is : new ≡ refusing refusal new.err old
 
--- a listing is written, or a prefix of it where the output's device failed
-abbrev pub ListsInto : List Insn → Bool → MachineState → OutputView → ℕ → MachineState → OutputView → Type 0
-ListsInto insns tells old err status new err' =
-    Runs (ListingLeaves insns (name_at old.output.names (length old.inputs.cursors)) (output_by old) (output_by new) status) tells err err'
-
--- and the job ended
+-- a listing is written, or a prefix of it where the output's device failed, and the job ended
 pub record Lists (insns : List Insn) (tells : Bool) (old : JobView) (status : ℕ) (new : JobView) : Type 0 where
-  pub runs : ListsInto insns tells old.machine old.err status new.machine new.err
+  pub runs : Runs (ListingLeaves insns (output_name old) (output_of old) (output_of new) status) tells old.err new.err
 
 abbrev pub EndsList : List Insn → Bool → JobView → Turn → JobView → Type 0
 EndsList insns tells old turn.More new = ⊥

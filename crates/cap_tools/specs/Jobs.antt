@@ -1,40 +1,27 @@
 -- What a contract sees of a whole job, with its messages, and how it ends.
 use Rattle.std.specs.Prelude.{◌≡◌, ◌⊎◌, ℕ, ◌+◌, ◌≤◌, Bool, true, false, List, [], ◌++◌, length, map, Option, None, Some}
-use Rattle.std.specs.List.{slice_get}
 use Rattle.cap_octet.specs.declared.device.Input as input
 use Rattle.cap_octet.specs.declared.device.Output as output
 use Rattle.cap_octet.specs.declared.fault.Fault.{Fault}
-use Rattle.cap_io.specs.Source.{source_at}
 use Rattle.cap_filter.specs.Messages.{fault_message, write_failed_message, no_memory_message}
 use Rattle.cap_filter.specs.Outcome.{OutputView, IsTold, seen}
-use Rattle.cap_tools.specs.declared.inputs.Schedule.{Schedule}
-use Rattle.cap_tools.specs.declared.inputs.Schedule.TheVariants as schedule
 use Rattle.cap_tools.specs.declared.step.JobEnd.{JobEnd}
 use Rattle.cap_tools.specs.declared.step.JobEnd.TheVariants as end
-use Rattle.cap_tools.specs.declared.packets.Turn.{Turn}
-use Rattle.cap_tools.specs.declared.packets.Turn.TheVariants as turn
-use Rattle.cap_tools.specs.Sequence.{InputItems, PacketOrder, InTurn, ByTime}
-use Rattle.cap_tools.specs.declared.output.Writing.{Writing}
-use Rattle.cap_tools.specs.Output.{target_at}
-use Rattle.cap_tools.specs.Verdict.{Policy}
-use Rattle.cap_tools.specs.Selector.{HavePrograms, state_with}
+use Rattle.cap_tools.specs.declared.job.Turn.{Turn}
+use Rattle.cap_tools.specs.declared.job.Turn.TheVariants as turn
+use Rattle.cap_inputs.specs.Sequence.{InputItems}
+use Rattle.cap_tools.specs.Output.{JobOutputView, target_at}
+use Rattle.cap_tools.specs.Start.{Assignment, Preparing}
+use Rattle.cap_tools.specs.Selector.{HavePrograms, SelectorView, state_with}
 use Rattle.cap_tools.specs.Reports.{name_at, nothing_counted}
 use Rattle.cap_tools.specs.Outcome.{Outcome, Work, first_link, outcome, outcome_of_texts}
-use Rattle.cap_tools.specs.Inputs.{InputView, InputsView, InputPast, IsInput, most_steps, ordering_of}
+use Rattle.cap_inputs.specs.Inputs.{InputView, InputsView, InputPast, IsInput, most_steps, ordering_of, offset_at}
+use Rattle.cap_inputs.specs.Fresh.{FreshInput, fresh_input, fresh_inputs}
 use Rattle.flt_bpf.specs.Content.{Content}
-use Rattle.cap_tools.specs.Machine.{MachineState, MachineView, machine_with, AppendsOnce, PacketsDecided, GoesOn, EndsByCut, WantsMemory, StopsWriting, never_failing, form_of, written_by, failures_by, texts, progress_of, progress_over, wholes_of, cut_at}
+use Rattle.cap_tools.specs.Machine.{MachineState, MachineView, machine_with, AppendsOnce, PacketsDecided, GoesOn, EndsByCut, WantsMemory, StopsWriting, form_of, written_by, failures_by, texts, progress_of, progress_over, wholes_of, cut_at}
+use Rattle.cap_inputs.specs.Inputs.{never_failing}
 
 -- ---- as it is handed over
-
--- an input of which nothing is read
-pub record FreshInput : Type 0 where
-  pub text : List ℕ
-  pub given : ℕ
-  pub failures : ℕ
-  pub never_fails : Bool
-
-abbrev pub fresh_input : {I : Type 0} → input.Ghosts I → I → FreshInput
-fresh_input device i = record { text = device.unread i; given = device.given i; failures = device.failures i; never_fails = device.never_fails i }
 
 -- a device that is written to
 abbrev pub device_view : {O : Type 0} → output.Ghosts O → O → OutputView
@@ -69,26 +56,11 @@ pub record RunResult : Type 0 where
 abbrev pub run_result : ℕ → OutputView → OutputView → RunResult
 run_result status output messages = record { status = status; output = output; messages = messages }
 
-abbrev pub fresh_view : FreshInput → InputView
-fresh_view o = record { source = source_at o.text o.given o.failures o.never_fails; waiting = false; greatest = 0 }
-
-abbrev pub nothing_done : FreshInput → InputPast
-nothing_done o = record { text = o.text; done = []; packets = [] }
-
-abbrev pub order_of : Bool → PacketOrder
-order_of false = InTurn
-order_of true = ByTime
-
-abbrev pub first_schedule : PacketOrder → ℕ → Schedule
-first_schedule InTurn count = schedule.Turn 0
-first_schedule ByTime count = schedule.Merge 0 count
-
-abbrev pub fresh_inputs : PacketOrder → List FreshInput → InputsView
-fresh_inputs order os = record { cursors = map fresh_view os; schedule = first_schedule order (length (map fresh_view os)) }
-
 -- ---- the view
 
 pub record JobView : Type 0 where
+  -- what is done before the first packet; nothing once it is done
+  pub preparing : Option Preparing
   pub machine : MachineState
   -- by which packets are judged
   pub programs : List Content
@@ -99,6 +71,10 @@ pub record JobView : Type 0 where
   -- the status, where it ended
   pub done : Option ℕ
 
+-- of the parts of a job
+abbrev pub machine_at : InputsView → SelectorView → JobOutputView → ℕ → MachineState
+machine_at inputs selector output decided = record { inputs = inputs; policy = selector.policy; state = selector.state; output = output; decided = decided }
+
 abbrev pub machine_of : JobView → MachineView
 machine_of j = machine_with j.machine j.programs
 
@@ -106,9 +82,16 @@ abbrev pub most_inputs : ℕ
 most_inputs = 256
 
 -- a job of which nothing is done
-abbrev pub fresh_job : PacketOrder → Policy → Writing → Call → JobView
-fresh_job order policy writing call = record {
-  machine = record { inputs = fresh_inputs order call.inputs; policy = policy; state = state_with 0 nothing_counted; output = record { names = call.names; target = target_at writing call.output.written call.output.failures call.room }; decided = 0 };
+abbrev pub first_job : Assignment → Call → JobView
+first_job a call = record {
+  preparing = a.preparing;
+  machine = record {
+    inputs = fresh_inputs a.order call.inputs;
+    policy = a.policy;
+    state = state_with 0 nothing_counted;
+    output = record { names = call.names; target = target_at a.writing call.output.written call.output.failures call.room };
+    decided = 0;
+  };
   programs = [];
   err = call.messages;
   turns = 0;
@@ -127,13 +110,6 @@ IsCounted None turns left = turns + left ≤ most_steps
 IsCounted (Some status) turns left = (turns ≤ most_steps + 1) × (status ≤ 2)
 
 -- ---- how it ends
-
-abbrev pub offset_of : Option InputView → ℕ
-offset_of None = 0
-offset_of (Some h) = h.source.offset
-
-abbrev pub offset_at : List InputView → ℕ → ℕ
-offset_at cursors i = offset_of (slice_get cursors i)
 
 -- what is reported of it
 abbrev pub end_text : List (List ℕ) → List InputView → JobEnd → List ℕ

@@ -3,15 +3,13 @@ pub mod Commands
 pub mod Outcome
 pub mod Output
 pub mod Edits
-pub mod Sequence
-pub mod Inputs
 pub mod FirstStep
 pub mod Jobs
 pub mod Selector
+pub mod Start
 pub mod Lists
 pub mod Machine
 pub mod Messages
-pub mod Queue
 pub mod Reports
 pub mod Verdict
 pub mod Step

@@ -10,7 +10,7 @@ use Rattle.cap_io.specs.Source.{SourceView, Advances}
 use Rattle.cap_io.specs.Position.{IsCutShort}
 use Rattle.flt_bpf.specs.Content.{Content}
 use Rattle.cap_filter.specs.Programs.{spent_in}
-use Rattle.cap_tools.specs.declared.inputs.Next.TheVariants as next
+use Rattle.cap_inputs.specs.declared.inputs.Next.TheVariants as next
 use Rattle.cap_tools.specs.declared.selector.Verdict as code
 use Rattle.cap_tools.specs.declared.selector.Verdict.TheVariants as code_verdict
 use Rattle.cap_tools.specs.declared.step.JobEnd.{JobEnd}
@@ -19,12 +19,12 @@ use Rattle.cap_tools.specs.declared.step.StepOutcome.{StepOutcome}
 use Rattle.cap_tools.specs.declared.step.StepOutcome.TheVariants.{More, Done}
 use Rattle.cap_tools.specs.Reports.{Report, Tally, report_text}
 use Rattle.cap_tools.specs.Output.{JobOutputView, Target, HasWritten, Puts, Reports, form_at, written_to, failures_to}
-use Rattle.cap_tools.specs.Sequence.{Event, SequenceEnd, Complete, FaultIn, InputItems, PacketOrder, InTurn, ByTime, sequence_of, whole_input}
+use Rattle.cap_inputs.specs.Sequence.{Event, SequenceEnd, Complete, FaultIn, InputItems, PacketOrder, InTurn, ByTime, sequence_of, whole_input}
 use Rattle.cap_tools.specs.Verdict.{Policy, SelectorState, Verdict, Pass, PassLast, Skip, Refuse, judge}
 use Rattle.cap_tools.specs.Selector.{PolicyState, SelectorView, IsWithin, emptied, is_count, most_spent, spent_by_verdict}
 use Rattle.cap_tools.specs.Selector as selecting
 use Rattle.cap_tools.specs.Outcome.{Form, Progress, no_progress, apply_events, final_progress, final_text, output_text, closing_text, first_link, packet_bytes, report_bytes, form_refuses}
-use Rattle.cap_tools.specs.Inputs.{InputsView, InputView, InputPast, AreInputsBehind, KnowGreatest, AreSettled, IsInput, EndedBefore, ReadsInput, IsNext, input_after, ordering_of}
+use Rattle.cap_inputs.specs.Inputs.{InputsView, InputView, InputPast, AreInputsBehind, KnowGreatest, AreSettled, IsInput, EndedBefore, ReadsInput, IsNext, input_after, ordering_of, never_failing}
 
 -- ---- the view
 
@@ -98,24 +98,32 @@ Offers code_verdict.Pass p old r new = PutsAs false p old r new
 Offers code_verdict.PassLast p old r new = PutsAs true p old r new
 Offers code_verdict.Skip p old r new = (r ≡ Ok false) × (new ≡ old)
 
+-- what judges, and where what passes goes
+pub record Sieve (T : Type 0) : Type 0 where
+  pub selector : PolicyState
+  pub output : T
+
+abbrev pub sieve : {T : Type 0} → PolicyState → T → Sieve T
+sieve selector output = record { selector = selector; output = output }
+
 -- a packet is judged, and put where it passes
-pub record Judges (p : Captured) (selector : PolicyState) (number : ℕ) (old : Target) (r : Result Bool Fault) (selector' : PolicyState) (new : Target) : Type 0 where
+pub record Judges (p : Captured) (number : ℕ) (old : Sieve Target) (r : Result Bool Fault) (new : Sieve Target) : Type 0 where
   pub answer : code.Verdict
   -- as it passes
   pub packet : Captured
-  pub told : selecting.IsVerdict (judge selector.policy selector.state number p) (Ok answer) packet selector'.state
-  pub offers : Offers answer packet old r new
+  pub told : selecting.IsVerdict (judge old.selector.policy old.selector.state number p) (Ok answer) packet new.selector.state
+  pub offers : Offers answer packet old.output r new.output
 
 -- it is refused, and nothing is written
-pub record Rejects (p : Captured) (selector : PolicyState) (number : ℕ) (old : Target) (r : Result Bool Fault) (selector' : PolicyState) (new : Target) : Type 0 where
+pub record Rejects (p : Captured) (number : ℕ) (old : Sieve Target) (r : Result Bool Fault) (new : Sieve Target) : Type 0 where
   pub fault : Fault
-  pub told : selecting.IsVerdict (judge selector.policy selector.state number p) (Err fault) p selector'.state
+  pub told : selecting.IsVerdict (judge old.selector.policy old.selector.state number p) (Err fault) p new.selector.state
   pub answer : r ≡ Err fault
-  pub same : new ≡ old
+  pub same : new.output ≡ old.output
 
-abbrev pub Decides : Option Captured → PolicyState → ℕ → Target → Result Bool Fault → PolicyState → Target → Type 0
-Decides None selector number old r selector' new = ⊥
-Decides (Some p) selector number old r selector' new = Judges p selector number old r selector' new ⊎ Rejects p selector number old r selector' new
+abbrev pub Decides : Option Captured → ℕ → Sieve Target → Result Bool Fault → Sieve Target → Type 0
+Decides None number old r new = ⊥
+Decides (Some p) number old r new = Judges p number old r new ⊎ Rejects p number old r new
 
 -- what deciding the current packet cost
 abbrev pub Spends : Option Captured → SelectorView → ℕ → SelectorView → Type 0
@@ -135,22 +143,22 @@ unless_failed (Ok done) = More
 unless_failed (Err fault) = Done end.OutputFailed
 
 -- an input is reported, and the count begins anew
-pub record ReportsOn (input : ℕ) (cursor : InputView) (selector : PolicyState) (old : JobOutputView) (r : StepOutcome) (selector' : PolicyState) (new : JobOutputView) : Type 0 where
+pub record ReportsOn (input : ℕ) (cursor : InputView) (old : Sieve JobOutputView) (r : StepOutcome) (new : Sieve JobOutputView) : Type 0 where
   pub answer : Result (Unit {0}) DeviceFault
-  pub reports : Reports (report_text old.names (report_at input cursor selector.state.tally)) old.target answer new.target
-  pub names : new.names ≡ old.names
+  pub reports : Reports (report_text old.output.names (report_at input cursor old.selector.state.tally)) old.output.target answer new.output.target
+  pub names : new.output.names ≡ old.output.names
   pub is : r ≡ unless_failed answer
-  pub selector_is : selector' ≡ record { policy = selector.policy; state = emptied selector.state }
+  pub selector_is : new.selector ≡ record { policy = old.selector.policy; state = emptied old.selector.state }
 
-abbrev pub ClosesBy : Bool → ℕ → InputView → PolicyState → JobOutputView → StepOutcome → PolicyState → JobOutputView → Type 0
-ClosesBy false input cursor selector old r selector' new = (r ≡ More) × (selector' ≡ selector) × (new ≡ old)
-ClosesBy true input cursor selector old r selector' new = ReportsOn input cursor selector old r selector' new
+abbrev pub ClosesBy : Bool → ℕ → InputView → Sieve JobOutputView → StepOutcome → Sieve JobOutputView → Type 0
+ClosesBy false input cursor old r new = (r ≡ More) × (new.selector ≡ old.selector) × (new.output ≡ old.output)
+ClosesBy true input cursor old r new = ReportsOn input cursor old r new
 
 -- an input was read to its end
-pub record Closes (inputs : InputsView) (input : ℕ) (selector : PolicyState) (old : JobOutputView) (r : StepOutcome) (selector' : PolicyState) (new : JobOutputView) : Type 0 where
+pub record Closes (inputs : InputsView) (input : ℕ) (old : Sieve JobOutputView) (r : StepOutcome) (new : Sieve JobOutputView) : Type 0 where
   pub cursor : InputView
   pub among : IsInput inputs.cursors input cursor
-  pub by : ClosesBy (asks_report (ordering_of inputs.schedule) selector.policy) input cursor selector old r selector' new
+  pub by : ClosesBy (asks_report (ordering_of inputs.schedule) old.selector.policy) input cursor old r new
 
 abbrev pub unwritten : ℕ → Fault → JobEnd
 unwritten input WriteFailed = end.OutputFailed
@@ -184,10 +192,6 @@ pub record AppendsOnce (link : Option ℕ) (far next : Progress) (old new : JobO
 -- how far the job is
 abbrev pub progress_of : {ss : List InputPast} {before : List ℕ} {m : MachineState} → PacketsDecided ss before m → Progress
 progress_of {ss} {before} {m} d = progress_at m d.packets d.reports
-
--- of each input whether its device never fails
-abbrev pub never_failing : List InputView → List Bool
-never_failing hs = map (λ h. h.source.never_fails) hs
 
 -- it goes on, and finished some bytes of one input
 pub record GoesOn {ss : List InputPast} {before : List ℕ} {old : MachineState} (d : PacketsDecided ss before old) (new : MachineState) : Type 0 where

@@ -11,7 +11,7 @@ use Rattle.cap_io.specs.Text.{added, heading, text, refused}
 use Rattle.cap_print.specs.declared.print.Options.{Options}
 use Rattle.cap_print.specs.Rendering.{printed}
 use Rattle.cap_filter.specs.Messages.{fault_message}
-use Rattle.cap_tools.specs.Sequence.{Event, Packet, InputEnd, SequenceEnd, Complete, FaultIn, Sequence, InputItems, PacketOrder, sequence_of, whole_input}
+use Rattle.cap_inputs.specs.Sequence.{Event, Packet, InputEnd, SequenceEnd, Complete, FaultIn, Sequence, InputItems, PacketOrder, sequence_of, whole_input}
 use Rattle.cap_tools.specs.Verdict.{Policy, Count, SelectorState, initial_state, Verdict, Pass, PassLast, Skip, Refuse, judge}
 use Rattle.cap_tools.specs.Reports.{Report, nothing_counted, report_text, reports_text, name_at}
 

@@ -84,18 +84,18 @@ pub record PutsInto (p : Captured) (old : SinkView) (r : Result (Unit {0}) Fault
   pub puts : sinks.Puts old.state old p r sink
   pub writes : PutWrites old.state old p r sink
 
--- what is printed of a packet is appended, or the device failed
-pub record Prints (options : Options) (p : Captured) (written : List ℕ) (failures room : ℕ) (r : Result (Unit {0}) Fault) (new : Target) : Type 0 where
+-- what is printed of a packet is appended to lines, or the device failed
+pub record Prints (bytes written : List ℕ) (failures : ℕ) (r : Result (Unit {0}) Fault) (lines : List ℕ → ℕ → Target) (new : Target) : Type 0 where
   pub after : List ℕ
-  pub appends : AppendsOrStops r written (printed options p) after
+  pub appends : AppendsOrStops r written bytes after
   pub fault : IfErr r (λ fault. fault ≡ WriteFailed)
-  pub is : new ≡ Lines options after (failures + failures_of r) room
+  pub is : new ≡ lines after (failures + failures_of r)
 
 -- a packet is written, where packets are
 abbrev pub Puts : Captured → Target → Result (Unit {0}) Fault → Target → Type 0
 Puts p (Capture sink) r new = PutsInto p sink r new
 Puts p (Text written failures room) r new = (r ≡ Ok tt) × (new ≡ Text written failures room)
-Puts p (Lines options written failures room) r new = Prints options p written failures room r new
+Puts p (Lines options written failures room) r new = Prints (printed options p) written failures r (λ w f. Lines options w f room) new
 
 -- a text is appended, or the device failed
 pub record Appends {E : Type 0} (bytes written : List ℕ) (failures room : ℕ) (r : Result (Unit {0}) E) (new : Target) : Type 0 where

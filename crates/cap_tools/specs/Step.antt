@@ -4,7 +4,7 @@ use Rattle.cap_filter.specs.Outcome.{OutputView}
 use Rattle.cap_tools.specs.declared.step.JobEnd.{JobEnd}
 use Rattle.cap_tools.specs.declared.step.StepOutcome.{StepOutcome}
 use Rattle.cap_tools.specs.declared.step.StepOutcome.TheVariants.{More}
-use Rattle.cap_tools.specs.Inputs.{steps_left}
+use Rattle.cap_inputs.specs.Inputs.{steps_left}
 use Rattle.cap_tools.specs.Selector.{HavePrograms}
 use Rattle.cap_tools.specs.Machine.{StepGives}
 use Rattle.cap_tools.specs.Jobs.{JobView, end_status, machine_of}
@@ -21,6 +21,7 @@ pub record IsStep (inputs_tell output_tells : Bool) (old : JobView) (r : StepOut
   pub sound : HavePrograms new.machine.policy new.programs
   pub policy : new.machine.policy ≡ old.machine.policy
   pub names : new.machine.output.names ≡ old.machine.output.names
+  pub preparing : new.preparing ≡ old.preparing
   pub err : new.err ≡ old.err
   pub turns : new.turns ≡ old.turns
   pub done : r ≡ More → new.done ≡ old.done
@@ -28,6 +29,7 @@ pub record IsStep (inputs_tell output_tells : Bool) (old : JobView) (r : StepOut
 -- the job that ended so, with these messages
 abbrev pub ending : JobEnd → OutputView → JobView → JobView
 ending end err j = record {
+  preparing = j.preparing;
   machine = j.machine;
   programs = j.programs;
   err = err;

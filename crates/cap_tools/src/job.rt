@@ -1,166 +1,120 @@
-//! The jobs of commands: what is read before the first packet, and then the packets.
-ghost use Rattle.std.specs.Prelude.{ℕ, ◌≡◌, ◌+◌, ◌<◌, ◌≤◌, [], IfErr, IfOk, IsTrue, None, Some};
+//! Jobs: one machine for all commands, step by step.
+ghost use Rattle.std.specs.Prelude.{ℕ, ◌≡◌, ◌+◌, ◌<◌, ◌≤◌, IfErr, IfOk, IsTrue, None, Some, length};
 ghost use Rattle.std.specs.Prelude.{map, string_bytes, true, vec_len};
-ghost use Rattle.std.specs.Option.{option_map};
 ghost use Rattle.cap_filter.specs.Command.{is_proper};
-ghost use Rattle.cap_filter.specs.FilterRules.{IsRule, IsWhy, code_of};
-ghost use Rattle.cap_filter.specs.Filters.{AreNew, programs_of, rule_of};
-ghost use Rattle.cap_filter.specs.Outcome.{seen};
-ghost use Rattle.cap_tools.specs.Bounds.{IsLight, most_turns};
-ghost use Rattle.cap_tools.specs.Commands.{CommandRuns, IsReady, Prepares, PreparesOnly};
-ghost use Rattle.cap_tools.specs.Commands.{RunsCommand};
-ghost use Rattle.cap_tools.specs.Commands.{assigned, lines_unless, preparing_of};
-ghost use Rattle.cap_tools.specs.Jobs.{IsStatus, call_of, device_view, done_by, machine_of};
-ghost use Rattle.cap_tools.specs.Jobs.{fresh_input, order_of, run_result, turn_goes_on};
-ghost use Rattle.cap_tools.specs.Selector.{HavePrograms, policy_of, programs_in};
+ghost use Rattle.cap_filter.specs.Outcome.{IsTold, seen};
+ghost use Rattle.cap_tools.specs.Bounds.{IsLight, ReadsNothing, StepReads, most_turns};
+ghost use Rattle.cap_tools.specs.Commands.{CommandRuns, RunsCommand};
+ghost use Rattle.cap_inputs.specs.Inputs.{most_steps, steps_left};
+ghost use Rattle.cap_inputs.specs.Inputs as input_spec;
+ghost use Rattle.cap_tools.specs.Jobs.{call_of, device_view, end_status, end_text, run_result};
 
-use crate::output::Writing;
-use crate::packets::{PacketJob, Turn, Work};
-use crate::selector::Policy;
+use crate::messages::Messages;
+use crate::output::JobOutput;
+use crate::selector::Selector;
+use crate::start::{Assignment, Preparation, assignment_of, read_filter};
+use crate::step::{JobEnd, StepOutcome, close, decide, unwritten};
 use cap_filter::command::{Command, Compile, Print};
 use cap_filter::compile::compile_text;
-use cap_filter::filter::{Filter, read_code, read_words};
+use cap_filter::filter::Filter;
 use cap_filter::message::tell_no_memory;
 use cap_filter::refusal::Refusal;
+use cap_inputs::{Inputs, Next};
 use cap_octet::{Input, Output};
-use cap_print::Options;
+use flt_bpf::Program;
 use std::alloc::Allocator;
 use std::marker::Model;
 
-/// What a job does before its first packet.
-#[derive(Drop)]
-pub enum Preparation<A: Allocator> {
-    /// Reads the filter of a print, its words or its listing.
-    Filter(Print<A>),
-    /// Compiles an expression and writes its listing, and nothing else.
-    Listing(Compile<A>),
-}
-
-/// What a command asks for.
-#[derive(Drop)]
-struct Assignment<A: Allocator> {
-    preparation: Option<Preparation<A>>,
-    work: Work<A>,
-}
-
-/// By what packets are judged, what is written, and whether inputs are merged.
-fn work<A: Allocator>(policy: Policy<A>, writing: Writing, merges: bool) -> Work<A>
-    ensures policy { result.policy ≡ policy }
-    ensures writing { result.writing ≡ writing }
-    ensures merges { result.merges ≡ merges }
-{
-    Work {
-        policy,
-        writing,
-        merges,
-    }
-}
-
-/// What a print writes: packets in a format if there is one, else their lines.
-fn writing_of<A: Allocator>(print: &Print<A>) -> Writing
-    ensures { result ≡ lines_unless print.now.write (record {
-      link = print.now.link;
-      bytes = print.now.bytes;
-    }) }
-{
-    match print.write {
-        Some(format) => Writing::Capture(format),
-        None => Writing::Lines(Options {
-            link: print.link,
-            bytes: print.bytes,
-        }),
-    }
-}
-
-/// What a command asks for. The filter of a print is read in the first step.
-fn assignment_of<A: Allocator>(command: Command<A>) -> Assignment<A>
-    ensures preparing { option_map preparing_of result.preparation ≡ (assigned command).preparing }
-    ensures policy { policy_of result.work.policy ≡ (assigned command).policy }
-    ensures order { order_of result.work.merges ≡ (assigned command).order }
-    ensures writing { result.work.writing ≡ (assigned command).writing }
-    ensures programs { programs_in result.work.policy ≡ [] }
-    ensures sound { HavePrograms (policy_of result.work.policy) (programs_in result.work.policy) }
-{
-    match command {
-        Command::Edit(edit) => {
-            let writing = Writing::Capture(edit.format);
-            Assignment {
-                preparation: None,
-                work: work(Policy::Edit(edit), writing, false),
-            }
-        }
-        Command::Merge(merge) => Assignment {
-            preparation: None,
-            work: work(
-                Policy::KeepAll,
-                Writing::Capture(merge.format),
-                !merge.append,
-            ),
-        },
-        Command::Infos => Assignment {
-            preparation: None,
-            work: work(Policy::Count, Writing::Text, false),
-        },
-        Command::Print(print) => {
-            let writing = writing_of(&print);
-            Assignment {
-                preparation: Some(Preparation::Filter(print)),
-                work: work(Policy::KeepAll, writing, false),
-            }
-        }
-        Command::Compile(compile) => Assignment {
-            preparation: Some(Preparation::Listing(compile)),
-            work: work(Policy::KeepAll, Writing::Text, false),
-        },
-    }
-}
-
-/// The filter that a print is asked for.
-fn read_filter<A: Allocator + Copy + Drop>(alloc: A, print: &Print<A>) -> Result<Filter<A>, Refusal>
-    ensures rule { IfOk result (λ filter. IsRule (string_bytes print.now.expr) (code_of print.now)
-        (rule_of filter)) }
-    ensures programs { IfOk result (λ filter. AreNew (rule_of filter) (programs_of filter)) }
-    ensures refused { IfErr result (IsWhy (string_bytes print.now.expr) (code_of print.now)) }
-{
-    let words = print.expr.as_str();
-    match &print.code {
-        Some(text) => read_code(alloc, words, text),
-        None => read_words(alloc, words),
-    }
+/// What a step leaves to do; the status where the job ended.
+#[derive(Clone, Copy, Debug, PartialEq, Eq)]
+pub enum Turn {
+    More,
+    Done(u8),
 }
 
 /// The job of a command.
 #[derive(Drop)]
 pub struct Job<I: Input, O: Output, E: Output, A: Allocator> {
     alloc: A,
-    /// `None` once it is done.
+    /// What is done before the first packet. `None` once it is done.
     preparation: Option<Preparation<A>>,
-    packets: PacketJob<I, O, E, A>,
+    inputs: Inputs<I, A>,
+    selector: Selector<A>,
+    output: JobOutput<O, A>,
+    messages: Messages<E, A>,
+    /// How many packets are decided.
+    decided: u128,
+    /// How many steps it made.
+    turns: u128,
+    /// The status, where it ended.
+    done: Option<u8>,
 }
 
 impl<I: Input, O: Output, E: Output, A: Allocator> Model for Job<I, O, E, A> {
-    ghost use Rattle.std.specs.Option.{option_map};
+    ghost use Rattle.std.specs.Prelude.{◌+◌, ◌≤◌};
     ghost use Rattle.std.specs.Coded.{codes};
+    ghost use Rattle.std.specs.Option.{option_map};
     ghost use Rattle.cap_filter.specs.Programs.{expression_code};
-    ghost use Rattle.cap_tools.specs.Commands.{CommandView, IsReadyIf, preparing_of};
+    ghost use Rattle.cap_tools.specs.Bounds.{HasFewTurns, IsBounded};
+    ghost use Rattle.cap_tools.specs.Commands.{IsReadyIf};
+    ghost use Rattle.cap_inputs.specs.Inputs.{most_steps, steps_left};
+    ghost use Rattle.cap_tools.specs.Jobs.{JobView, IsCounted, machine_at};
+    ghost use Rattle.cap_tools.specs.Output.{output_at};
+    ghost use Rattle.cap_tools.specs.Selector.{HasFewMarks, HavePrograms};
+    ghost use Rattle.cap_tools.specs.Start.{preparing_of};
 
-    ghost Value = { CommandView };
+    ghost Value = { JobView };
 
     ghost coded = { Prim.hlevel (codes, expression_code) };
 
-    ghost view = { λ c. record {
-      preparing = option_map preparing_of c.preparation;
-      packets = c.packets;
+    ghost view = { λ j. record {
+      preparing = option_map preparing_of j.preparation;
+      machine = machine_at j.inputs j.selector (output_at j.messages.names j.output) j.decided;
+      programs = j.selector.programs;
+      err = j.messages.device;
+      turns = j.turns;
+      done = j.done;
     } };
 
-    ghost invariant = { λ c. IsReadyIf (option_map preparing_of c.preparation) c.packets };
+    ghost invariant = { λ j. (j.decided + steps_left j.inputs ≤ most_steps)
+        × IsBounded j.inputs j.output
+        × HasFewMarks j.selector.policy j.selector.state
+        × HavePrograms j.selector.policy j.selector.programs
+        × IsCounted j.done j.turns (steps_left j.inputs)
+        × HasFewTurns j.done j.turns j.inputs
+        × IsReadyIf (option_map preparing_of j.preparation) (record {
+          preparing = option_map preparing_of j.preparation;
+          machine = machine_at j.inputs j.selector (output_at j.messages.names j.output) j.decided;
+          programs = j.selector.programs;
+          err = j.messages.device;
+          turns = j.turns;
+          done = j.done;
+        }) };
+}
+
+fn status_at_end(end: JobEnd) -> u8
+    ensures { result ≡ end_status end }
+{
+    match end {
+        JobEnd::Complete => 0,
+        JobEnd::FaultIn(_, _) | JobEnd::OutputFailed => 1,
+    }
 }
 
 impl<I: Input, O: Output, E: Output, A: Allocator + Copy + Drop> Job<I, O, E, A> {
-    ghost use Rattle.cap_tools.specs.Commands.{DecidedBy, GivesBy, StepReadsBy, command_first};
-    ghost use Rattle.cap_tools.specs.Commands.{command_left};
-    ghost use Rattle.cap_tools.specs.Jobs.{nothing_done};
+    ghost use Rattle.cap_filter.specs.Filters.{AreNew, programs_of, rule_of};
+    ghost use Rattle.cap_filter.specs.Messages.{refusal_status};
+    ghost use Rattle.cap_tools.specs.Commands.{CompileGives, DecidedBy, FilterGives, GivesBy};
+    ghost use Rattle.cap_tools.specs.Commands.{Keeps, KeepsFirst, PreparesOnly, StepReadsBy};
+    ghost use Rattle.cap_tools.specs.FirstStep.{EndsList, IsFresh, Refuses, filtering, is_text};
+    ghost use Rattle.cap_tools.specs.Jobs.{IsStatus, JobGives, done_by, first_job};
+    ghost use Rattle.cap_inputs.specs.Fresh.{fresh_input};
+    ghost use Rattle.cap_tools.specs.Jobs.{machine_of, turn_goes_on};
+    ghost use Rattle.cap_inputs.specs.Fresh.{nothing_done};
     ghost use Rattle.cap_tools.specs.Machine.{failures_by, written_by};
+    ghost use Rattle.cap_tools.specs.Selector.{HavePrograms};
+    ghost use Rattle.cap_tools.specs.Start.{asked_by, assigned};
+    ghost use Rattle.cap_tools.specs.Step.{IsStep, ending};
 
     /// The job of a proper command. `names` are those of the inputs, then of the output. Where
     /// there is no memory nothing was read or written.
@@ -175,20 +129,36 @@ impl<I: Input, O: Output, E: Output, A: Allocator + Copy + Drop> Job<I, O, E, A>
     where
         I: Drop,
         requires proper { is_proper command (vec_len inputs) ≡ true }
-        ensures fresh { IfOk result (λ job. job ≡ command_first command
+        ensures fresh { IfOk result (λ job. job ≡ first_job (assigned command)
             (call_of I.Input O.Output E.Output (map string_bytes names.items) inputs.items out
             err)) }
         ensures decided { IfOk result (λ job. DecidedBy job.preparing
-            (map nothing_done (map (fresh_input I.Input) inputs.items)) (O.written out)
-            job.packets) }
+            (map nothing_done (map (fresh_input I.Input) inputs.items)) (O.written out) job) }
         ensures refused { IfErr result (λ devices. (devices.0 ≡ out) × (devices.1 ≡ err)) }
     {
-        let Assignment { preparation, work } = assignment_of(command);
-        let packets = PacketJob::new(alloc, work, names, inputs, out, err)?;
+        let Assignment {
+            preparation,
+            policy,
+            writing,
+            merges,
+        } = assignment_of(command);
+        let Some(inputs) = Inputs::new(alloc, inputs, merges) else {
+            return Err((out, err));
+        };
+        let Ok(selector) = Selector::new(alloc, policy) else {
+            return Err((out, err));
+        };
+        let output = JobOutput::new(alloc, writing, out);
         Ok(Job {
             alloc,
             preparation,
-            packets,
+            inputs,
+            selector,
+            output,
+            messages: Messages::new(err, names),
+            decided: 0,
+            turns: 0,
+            done: None,
         })
     }
 
@@ -197,34 +167,242 @@ impl<I: Input, O: Output, E: Output, A: Allocator + Copy + Drop> Job<I, O, E, A>
     /// is lost.
     #[inline(always)]
     pub fn step(&mut self) -> Turn
-        ensures after { (s : ℕ) → self.old.packets.done ≡ Some s
-            → (result ≡ Turn.Done s) × (self.new ≡ self.old) }
-        ensures told { IsTrue I.tells → IsTrue O.tells → self.old.packets.done ≡ None
-            → GivesBy self.old.preparing E.tells self.old.packets result self.new.packets }
-        ensures prepared { self.new.preparing ≡ None }
-        ensures done { self.new.packets.done ≡ done_by result }
-        ensures status { IsStatus result }
-        ensures turns { self.old.packets.done ≡ None → self.new.packets.turns
-            ≡ self.old.packets.turns + 1 }
-        ensures few { self.old.packets.done ≡ None → self.new.packets.turns ≤ most_turns
-            self.old.packets.machine.inputs + 1 }
+        ensures after { (s : ℕ) → self.old.done ≡ Some s → (result ≡ Turn.Done s)
+            × (self.new ≡ self.old) }
+        ensures told { IsTrue I.tells → IsTrue O.tells → self.old.done ≡ None
+            → GivesBy self.old.preparing E.tells self.old result self.new }
+        ensures keeps { Keeps self.old result self.new }
         ensures reads { StepReadsBy self.old.preparing I.tells (turn_goes_on result)
-            (machine_of self.old.packets) (machine_of self.new.packets) }
-        ensures light { IsLight self.new.packets.machine }
-        ensures sound { HavePrograms self.new.packets.machine.policy self.new.packets.programs }
-        ensures left { result ≡ Turn.More → command_left self.new < command_left self.old }
-        ensures names { self.new.packets.machine.output.names
-            ≡ self.old.packets.machine.output.names }
-        ensures policy { self.old.preparing ≡ None → self.new.packets.machine.policy
-            ≡ self.old.packets.machine.policy }
+            (machine_of self.old) (machine_of self.new) }
     {
         // Most steps have nothing to take; `take` would move the whole place each time.
         if self.preparation.is_none() {
-            return self.packets.step();
+            return self.go_on();
         }
         match self.preparation.take() {
-            Some(preparation) => prepare(self.alloc, preparation, &mut self.packets),
-            None => self.packets.step(),
+            Some(Preparation::Filter(print)) => self.read_filter(&print),
+            Some(Preparation::Listing(compile)) => self.compile(&compile),
+            None => self.go_on(),
+        }
+    }
+
+    /// Reads the filter of a print. It is one step.
+    fn read_filter(&mut self, print: &Print<A>) -> Turn
+        requires fresh { IsFresh self.old }
+        requires taken { self.old.preparing ≡ None }
+        ensures gives { FilterGives (asked_by print.now) E.tells self.old result self.new }
+        ensures keeps { KeepsFirst self.old result self.new }
+        ensures reads { PreparesOnly (machine_of self.old) (machine_of self.new) }
+    {
+        match read_filter(self.alloc, print) {
+            Ok(filter) => self.filter(filter, print.count),
+            Err(refusal) => self.refuse(refusal),
+        }
+    }
+
+    /// Compiles an expression, and writes its listing. It is one step, and the last one.
+    fn compile(&mut self, compile: &Compile<A>) -> Turn
+        requires fresh { IsFresh self.old }
+        requires taken { self.old.preparing ≡ None }
+        requires text { is_text self.old.machine.output.target ≡ true }
+        ensures gives { IsTrue O.tells → CompileGives (string_bytes compile.now.expr)
+            compile.now.link E.tells self.old result self.new }
+        ensures keeps { KeepsFirst self.old result self.new }
+        ensures reads { PreparesOnly (machine_of self.old) (machine_of self.new) }
+    {
+        match compile_text(self.alloc, compile.expr.as_str(), compile.link) {
+            Ok(program) => self.list(&program),
+            Err(fault) => self.refuse(Refusal::Expression(fault)),
+        }
+    }
+
+    /// One step on behind what is prepared: reads one input on, decides one packet or ends the
+    /// output, and reports how the job ended where it did.
+    // Two calls a packet: in the loop they save about 70 instructions.
+    #[inline(always)]
+    fn go_on(&mut self) -> Turn
+        requires { self.old.preparing ≡ None }
+        ensures after { (s : ℕ) → self.old.done ≡ Some s → (result ≡ Turn.Done s)
+            × (self.new ≡ self.old) }
+        ensures told { IsTrue I.tells → IsTrue O.tells → self.old.done ≡ None
+            → JobGives E.tells self.old result self.new }
+        ensures prepared { self.new.preparing ≡ None }
+        ensures done { self.new.done ≡ done_by result }
+        ensures status { IsStatus result }
+        ensures turns { self.old.done ≡ None → self.new.turns ≡ self.old.turns + 1 }
+        ensures few { self.old.done ≡ None → self.new.turns
+            ≤ most_turns self.old.machine.inputs + 1 }
+        ensures reads { StepReads I.tells (turn_goes_on result) (machine_of self.old)
+            (machine_of self.new) }
+        ensures light { IsLight self.new.machine }
+        ensures sound { HavePrograms self.new.machine.policy self.new.programs }
+        ensures left { result ≡ Turn.More → (self.new.turns ≡ self.old.turns + 1)
+            × (steps_left self.new.machine.inputs < steps_left self.old.machine.inputs) }
+        ensures kept { (self.new.machine.output.names ≡ self.old.machine.output.names)
+            × (self.new.machine.policy ≡ self.old.machine.policy) }
+    {
+        if let Some(status) = self.done {
+            return Turn::Done(status);
+        }
+        match self.do_next() {
+            StepOutcome::More => {
+                self.turns += 1;
+                Turn::More
+            }
+            StepOutcome::Done(end) => self.end(end),
+        }
+    }
+
+    /// Does what is next: reads one input on, decides one packet, or ends the output.
+    #[inline(always)]
+    fn do_next(&mut self) -> StepOutcome
+        requires { self.old.preparing ≡ None }
+        ensures { IsStep I.tells O.tells self.old result self.new }
+    {
+        match self.inputs.next() {
+            Next::Decide(input) => self.decide_next(input),
+            Next::Read(input) => self.read_input(input),
+            Next::Finish => self.finish(),
+        }
+    }
+
+    /// Decides the current packet of an input.
+    fn decide_next(&mut self, input: usize) -> StepOutcome
+        requires prepared { self.old.preparing ≡ None }
+        requires next { input_spec.IsNext self.old.machine.inputs.schedule
+            self.old.machine.inputs.cursors (Next.Decide input) }
+        requires within { input < length self.old.machine.inputs.cursors }
+        ensures { IsStep I.tells O.tells self.old result self.new }
+    {
+        let number = self.decided + 1;
+        match decide(
+            self.inputs.cursor(input),
+            &mut self.selector,
+            &mut self.output,
+            number,
+        ) {
+            Ok(last) => {
+                self.inputs.mark_decided(input);
+                self.decided = number;
+                if last {
+                    StepOutcome::Done(JobEnd::Complete)
+                } else {
+                    StepOutcome::More
+                }
+            }
+            Err(fault) => StepOutcome::Done(unwritten(input, fault)),
+        }
+    }
+
+    /// Reads an input on.
+    fn read_input(&mut self, input: usize) -> StepOutcome
+        requires prepared { self.old.preparing ≡ None }
+        requires next { input_spec.IsNext self.old.machine.inputs.schedule
+            self.old.machine.inputs.cursors (Next.Read input) }
+        requires within { input < length self.old.machine.inputs.cursors }
+        ensures { IsStep I.tells O.tells self.old result self.new }
+    {
+        match self.inputs.read_input(input) {
+            Ok(true) => StepOutcome::More,
+            Ok(false) => close(
+                &self.inputs,
+                input,
+                &mut self.selector,
+                &mut self.output,
+                &self.messages,
+            ),
+            Err(fault) => {
+                // The bytes of a broken unit pay for no step: none is counted from here on.
+                self.done = Some(1);
+                StepOutcome::Done(JobEnd::FaultIn(input, fault))
+            }
+        }
+    }
+
+    /// Ends the output.
+    fn finish(&mut self) -> StepOutcome
+        requires prepared { self.old.preparing ≡ None }
+        requires next { input_spec.IsNext self.old.machine.inputs.schedule
+            self.old.machine.inputs.cursors Next.Finish }
+        ensures { IsStep I.tells O.tells self.old result self.new }
+    {
+        let first = self.inputs.first_link();
+        match self.output.finish(first) {
+            Ok(()) => StepOutcome::Done(JobEnd::Complete),
+            Err(_) => StepOutcome::Done(JobEnd::OutputFailed),
+        }
+    }
+
+    /// Reports how the job ended. A message that can't be written is lost.
+    fn end(&mut self, end: JobEnd) -> Turn
+        requires prepared { self.old.preparing ≡ None }
+        requires few { self.old.turns ≤ most_steps }
+        ensures done { result ≡ Turn.Done (end_status end) }
+        ensures ended { self.new ≡ ending end self.new.err self.old }
+        ensures told { IsTold E.tells self.old.err (end_text self.old.machine.output.names
+            self.old.machine.inputs.cursors end) self.new.err }
+        ensures quiet { end ≡ JobEnd.Complete → self.new.err ≡ self.old.err }
+    {
+        self.messages.end(&self.inputs, end);
+        let status = status_at_end(end);
+        self.turns += 1;
+        self.done = Some(status);
+        Turn::Done(status)
+    }
+
+    /// From here on packets are judged by this filter, up to so many that pass. It is one step.
+    fn filter(&mut self, filter: Filter<A>, count: Option<u64>) -> Turn
+        requires fresh { IsFresh self.old }
+        requires taken { self.old.preparing ≡ None }
+        requires new { AreNew (rule_of filter) (programs_of filter) }
+        ensures more { result ≡ Turn.More }
+        ensures filtered { self.new ≡ filtering (rule_of filter) count (programs_of filter)
+            self.old }
+        ensures light { IsLight self.new.machine }
+        ensures sound { HavePrograms self.new.machine.policy self.new.programs }
+    {
+        self.selector = Selector::filtering(filter, count);
+        self.turns += 1;
+        Turn::More
+    }
+
+    /// Reports why an expression or a listing is refused, and ends the job.
+    fn refuse(&mut self, refusal: Refusal) -> Turn
+        requires fresh { IsFresh self.old }
+        requires taken { self.old.preparing ≡ None }
+        ensures done { result ≡ Turn.Done (refusal_status refusal) }
+        ensures status { IsStatus result }
+        ensures refused { Refuses refusal E.tells self.old (refusal_status refusal) self.new }
+        ensures light { IsLight self.new.machine }
+        ensures sound { HavePrograms self.new.machine.policy self.new.programs }
+    {
+        self.messages.refuse(refusal);
+        let status = refusal.status();
+        self.turns += 1;
+        self.done = Some(status);
+        Turn::Done(status)
+    }
+
+    /// Writes the listing of a program, and ends the job.
+    fn list(&mut self, program: &Program<A>) -> Turn
+        requires fresh { IsFresh self.old }
+        requires taken { self.old.preparing ≡ None }
+        requires text { is_text self.old.machine.output.target ≡ true }
+        ensures told { IsTrue O.tells → EndsList program.now.insns E.tells self.old result
+            self.new }
+        ensures prepared { self.new.preparing ≡ None }
+        ensures done { self.new.done ≡ done_by result }
+        ensures status { IsStatus result }
+        ensures turns { self.new.turns ≡ self.old.turns + 1 }
+        ensures inputs { self.new.machine.inputs ≡ self.old.machine.inputs }
+        ensures reads { ReadsNothing (machine_of self.old) (machine_of self.new) }
+        ensures light { IsLight self.new.machine }
+        ensures sound { HavePrograms self.new.machine.policy self.new.programs }
+        ensures names { self.new.machine.output.names ≡ self.old.machine.output.names }
+    {
+        match self.output.list(program) {
+            Ok(()) => self.end(JobEnd::Complete),
+            Err(_) => self.end(JobEnd::OutputFailed),
         }
     }
 
@@ -232,44 +410,11 @@ impl<I: Input, O: Output, E: Output, A: Allocator + Copy + Drop> Job<I, O, E, A>
     pub fn close(self) -> (O, E)
     where
         I: Drop,
-        ensures written { O.written result.0 ≡ written_by self.packets.machine }
-        ensures failures { O.failures result.0 ≡ failures_by self.packets.machine }
-        ensures messages { seen (E.written result.1) (E.failures result.1) ≡ self.packets.err }
+        ensures written { O.written result.0 ≡ written_by self.machine }
+        ensures failures { O.failures result.0 ≡ failures_by self.machine }
+        ensures messages { seen (E.written result.1) (E.failures result.1) ≡ self.err }
     {
-        self.packets.close()
-    }
-}
-
-/// Reads what a job needs before its first packet, or writes a listing.
-fn prepare<I: Input, O: Output, E: Output, A: Allocator + Copy + Drop>(
-    alloc: A,
-    preparation: Preparation<A>,
-    packets: &mut PacketJob<I, O, E, A>,
-) -> Turn
-    requires { IsReady (preparing_of preparation) packets.old }
-    ensures gives { IsTrue O.tells → Prepares (preparing_of preparation) E.tells packets.old result
-        packets.new }
-    ensures done { packets.new.done ≡ done_by result }
-    ensures status { IsStatus result }
-    ensures turns { packets.new.turns ≡ packets.old.turns + 1 }
-    ensures few { packets.new.turns ≤ most_turns packets.old.machine.inputs + 1 }
-    ensures reads { PreparesOnly (machine_of packets.old) (machine_of packets.new) }
-    ensures light { IsLight packets.new.machine }
-    ensures sound { HavePrograms packets.new.machine.policy packets.new.programs }
-    ensures inputs { packets.new.machine.inputs ≡ packets.old.machine.inputs }
-    ensures names { packets.new.machine.output.names ≡ packets.old.machine.output.names }
-{
-    match preparation {
-        Preparation::Filter(print) => match read_filter(alloc, &print) {
-            Ok(filter) => packets.filter(filter, print.count),
-            Err(refusal) => packets.refuse(refusal),
-        },
-        Preparation::Listing(compile) => {
-            match compile_text(alloc, compile.expr.as_str(), compile.link) {
-                Ok(program) => packets.list(&program),
-                Err(fault) => packets.refuse(Refusal::Expression(fault)),
-            }
-        }
+        (self.output.into_output(), self.messages.into_device())
     }
 }
 
@@ -281,7 +426,7 @@ where
     E: Output,
     A: Allocator + Copy + Drop,
     ensures status { result.0 ≤ 2 }
-    ensures told { IsTrue I.tells → IsTrue O.tells → job.packets.done ≡ None
+    ensures told { IsTrue I.tells → IsTrue O.tells → job.done ≡ None
         → RunsCommand E.tells job (run_result result.0 (device_view O.Output result.1)
         (device_view E.Output result.2)) }
 {

@@ -5,10 +5,10 @@ ghost use Rattle.cap_octet.specs.Device.{AppendsOrStops, failures_of};
 ghost use Rattle.cap_tools.specs.Jobs.{end_text};
 ghost use Rattle.cap_tools.specs.Reports.{name_at};
 
-use crate::inputs::Inputs;
 use crate::step::JobEnd;
 use cap_filter::message::{tell_fault, tell_refusal, tell_write_failed};
 use cap_filter::refusal::Refusal;
+use cap_inputs::Inputs;
 use cap_octet::{DeviceFault, Input, Output};
 use std::alloc::Allocator;
 use std::marker::Model;

@@ -4,7 +4,7 @@ ghost use Rattle.std.specs.Prelude.{if◌then◌else◌, length};
 ghost use Rattle.cap_octet.specs.Packet.{Captured, captured};
 ghost use Rattle.cap_io.specs.Reading.{most_in_unit};
 ghost use Rattle.cap_filter.specs.Programs.{spent_in};
-ghost use Rattle.cap_tools.specs.Inputs.{most_steps};
+ghost use Rattle.cap_inputs.specs.Inputs.{most_steps};
 ghost use Rattle.cap_tools.specs.Verdict.{is_last, judge_by};
 ghost use Rattle.cap_tools.specs.Selector.{IsWindowFor, Keeps, count_of, is_count, marks_in};
 ghost use Rattle.cap_tools.specs.Selector.{most_spent, passing, policy_of, programs_in, spent_by};

@@ -2,17 +2,17 @@
 ghost use Rattle.std.specs.Prelude.{◌≡◌, ◌<◌, ◌≤◌, IsTrue, false, length, true};
 ghost use Rattle.cap_octet.specs.Packet.{captured};
 ghost use Rattle.cap_tools.specs.Bounds.{HasFewInterfaces};
-ghost use Rattle.cap_tools.specs.Inputs.{most_steps, ordering_of};
+ghost use Rattle.cap_inputs.specs.Inputs.{most_steps, ordering_of};
 ghost use Rattle.cap_tools.specs.Output.{output_at};
 ghost use Rattle.cap_tools.specs.Selector.{GrowsByOne, HasFewMarks, IsWithin, policy_state};
 ghost use Rattle.cap_tools.specs.Machine.{Closes, Decides, Offers, Spends, asks_report};
-ghost use Rattle.cap_tools.specs.Machine.{unwritten};
+ghost use Rattle.cap_tools.specs.Machine.{sieve, unwritten};
 
-use crate::inputs::{InputCursor, Inputs};
 use crate::messages::Messages;
 use crate::output::JobOutput;
 use crate::report::Report;
 use crate::selector::{Selector, Verdict};
+use cap_inputs::{InputCursor, Inputs};
 use cap_octet::{Fault, Input, Output, Packet};
 use std::alloc::Allocator;
 
@@ -65,8 +65,8 @@ pub(crate) fn decide<I: Input, O: Output, A: Allocator + Copy + Drop>(
     requires { cursor.now.waiting ≡ true }
     ensures told { IsTrue O.tells → selector.old.state.passed < number
         → IsWithin most_steps selector.old.state.tally
-        → Decides cursor.now.source.packet (policy_state selector.old) number output.old result
-        (policy_state selector.new) output.new }
+        → Decides cursor.now.source.packet number (sieve (policy_state selector.old) output.old)
+        result (sieve (policy_state selector.new) output.new) }
     ensures policy { selector.new.policy ≡ selector.old.policy }
     ensures spends { Spends cursor.now.source.packet selector.old number selector.new }
     ensures passed { selector.old.state.passed ≤ number → selector.new.state.passed ≤ number }
@@ -88,9 +88,9 @@ pub(crate) fn close<I: Input, O: Output, E: Output, A: Allocator>(
     messages: &Messages<E, A>,
 ) -> StepOutcome
     requires { input < length inputs.now.cursors }
-    ensures told { IsTrue O.tells → Closes inputs.now input (policy_state selector.old)
-        (output_at messages.now.names output.old) result (policy_state selector.new)
-        (output_at messages.now.names output.new) }
+    ensures told { IsTrue O.tells → Closes inputs.now input
+        (sieve (policy_state selector.old) (output_at messages.now.names output.old)) result
+        (sieve (policy_state selector.new) (output_at messages.now.names output.new)) }
     ensures programs { selector.new.programs ≡ selector.old.programs }
     ensures policy { selector.new.policy ≡ selector.old.policy }
     ensures marks { HasFewMarks selector.old.policy selector.old.state

@@ -1,14 +1,14 @@
 use Rattle.std.proofs.Common.{◌≡◌, ℕ, List, IsTrue, None}
-use Rattle.cap_tools.specs.Inputs.{InputPast}
-use Rattle.cap_tools.specs.Commands.{DecidedBy, command_left}
+use Rattle.cap_inputs.specs.Inputs.{InputPast}
+use Rattle.cap_tools.specs.Commands.{DecidedBy, job_left}
 use Rattle.cap_tools.proofs.CommandRuns.{Under}
 use Rattle.cap_tools.proofs.job.run_on.Given as goal
 
 abbrev pub invariant-loop-status : goal.invariant-loop-status
 invariant-loop-status g l = record {
-  undone : l.initial.job.packets.done ≡ None → l.job.packets.done ≡ None;
-  told : IsTrue g.I.Input.tells → IsTrue g.O.Output.tells → l.initial.job.packets.done ≡ None → (ss : List InputPast) (before : List ℕ) → DecidedBy l.initial.job.preparing ss before l.initial.job.packets → Under l.initial.job ss before l.job;
+  undone : l.initial.job.done ≡ None → l.job.done ≡ None;
+  told : IsTrue g.I.Input.tells → IsTrue g.O.Output.tells → l.initial.job.done ≡ None → (ss : List InputPast) (before : List ℕ) → DecidedBy l.initial.job.preparing ss before l.initial.job → Under l.initial.job ss before l.job;
 }
 
 abbrev pub decreases-loop-status : goal.decreases-loop-status
-decreases-loop-status g l = command_left l.job
+decreases-loop-status g l = job_left l.job

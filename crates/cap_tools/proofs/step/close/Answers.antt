@@ -1,7 +1,7 @@
 use Rattle.std.proofs.Common.{◌≡◌, ℕ, List, true, Ok, Err, refl, sym, ◌∙◌, ap₂, subst}
 use Rattle.cap_tools.specs.declared.step.JobEnd.TheVariants as end
 use Rattle.cap_tools.specs.declared.step.StepOutcome.TheVariants.{More, Done}
-use Rattle.cap_tools.specs.Inputs.{is_in_turn}
+use Rattle.cap_inputs.specs.Inputs.{is_in_turn}
 use Rattle.cap_tools.specs.Output.{Reports, output_at}
 use Rattle.cap_tools.specs.Reports.{file_report}
 use Rattle.cap_tools.specs.Selector.{is_count, policy_state}

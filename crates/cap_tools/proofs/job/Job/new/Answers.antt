@@ -1,28 +1,52 @@
-use Rattle.std.proofs.Common.{◌≡◌, Option, map, length, string_bytes, sym, subst, ◌∙◌, arith}
-use Rattle.cap_tools.specs.Jobs.{JobView, Call, call_of, fresh_input, nothing_done}
-use Rattle.cap_tools.specs.Commands.{Preparing, DecidedBy, IsReadyIf, command_first}
-use Rattle.cap_tools.proofs.CommandStarts.{few-inputs, first-decided, first-is, first-ready}
-use Rattle.cap_tools.proofs.Starts.{same-count}
+use Rattle.std.proofs.Common.{◌≡◌, ◌≤◌, List, map, length, string_bytes, sym, ap, subst, ◌∙◌, arith}
+use Rattle.std.specs.List.{All}
+use Rattle.std.specs.Option.{option_map}
+use Rattle.flt_bpf.specs.Content.{Content}
+use Rattle.cap_tools.specs.Bounds.{HasFewInterfaces, IsSmall, most_turns, owed}
+use Rattle.cap_tools.specs.Output.{Target}
+use Rattle.cap_tools.specs.Reports.{nothing_counted}
+use Rattle.cap_inputs.specs.Inputs.{InputsView, steps_left}
+use Rattle.cap_tools.specs.Selector.{HasFewMarks, HavePrograms, SelectorView, policy_of, state_with}
+use Rattle.cap_inputs.specs.Sequence.{PacketOrder, order_of}
+use Rattle.cap_tools.specs.Start.{Assignment, preparing_of}
+use Rattle.cap_tools.specs.Jobs.{JobView, Call, call_of, most_inputs}
+use Rattle.cap_inputs.specs.Fresh.{fresh_input, fresh_inputs, nothing_done}
+use Rattle.cap_tools.specs.Commands.{DecidedBy, IsReadyIf}
+use Rattle.cap_tools.proofs.CommandStarts.{few-inputs, first-decided, first-made, first-ready}
+use Rattle.cap_tools.proofs.Starts.{first-few, first-left, same-count}
+use Rattle.cap_tools.proofs.Weights.{few-first, small-first}
 use Rattle.cap_tools.proofs.job.Job.new.Goals as goal
 
 pub invariant_of-result : goal.invariant_of-result
 invariant_of-result g c =
     let call : Call = call_of g.I.Input g.O.Output g.E.Output (map string_bytes c.args.names.items) c.args.inputs.items c.args.out c.args.err in
+    let order : PacketOrder = order_of c.assignment_of-preparation.result.merges in
     let count : length call.inputs ≡ length c.args.inputs.items = same-count (fresh_input g.I.Input) c.args.inputs.items in
-    let few = few-inputs c.args.command _ c.requires.proper in
-    let made : c.in_ok-packets.packets ≡ (command_first c.args.command call).packets =
-    c.in_ok-packets.ensures.fresh
-    ∙ first-is c.args.command call _ _ _ c.assignment_of-preparation.ensures.order c.assignment_of-preparation.ensures.policy c.assignment_of-preparation.ensures.writing in
-    let J : JobView → Type 0 = λ j. IsReadyIf (command_first c.args.command call).preparing j in
-    let P : Option Preparing → Type 0 = λ p. IsReadyIf p c.in_ok-packets.packets in
-    subst P (sym c.assignment_of-preparation.ensures.preparing) (subst J (sym made) (first-ready c.args.command call (omega (arith, few, count))))
+    let proper = few-inputs c.args.command _ c.requires.proper in
+    let within : length call.inputs ≤ most_inputs = omega (arith, proper, count) in
+    let bound = first-left order call.inputs within in
+    let left : steps_left c.in-Some.inputs ≡ steps_left (fresh_inputs order call.inputs) = ap steps_left c.in-Some.ensures in
+    let owes : owed c.in-Some.inputs ≡ owed (fresh_inputs order call.inputs) = ap owed c.in-Some.ensures in
+    let most : most_turns c.in-Some.inputs ≡ most_turns (fresh_inputs order call.inputs) = ap most_turns c.in-Some.ensures in
+    let turns = first-few order call.inputs in
+    let cursors : All IsSmall c.in-Some.inputs.cursors = (let P : InputsView → Type 0 = λ f. All IsSmall f.cursors in subst P (sym c.in-Some.ensures) (small-first call.inputs)) in
+    let few : HasFewInterfaces c.new-output.result = (let P : Target → Type 0 = λ t. HasFewInterfaces t in subst P (sym c.new-output.ensures) (few-first c.assignment_of-preparation.result.writing _ _ _)) in
+    let marks : HasFewMarks c.in-Ok.selector.policy c.in-Ok.selector.state = (let P : SelectorView → Type 0 = λ v. HasFewMarks v.policy v.state in subst P (sym c.in-Ok.ensures) (omega arith)) in
+    let sound : HavePrograms c.in-Ok.selector.policy c.in-Ok.selector.programs = (let P : SelectorView → Type 0 = λ v. HavePrograms v.policy v.programs in subst P (sym c.in-Ok.ensures) c.assignment_of-preparation.ensures.sound) in
+    let a : Assignment = record { preparing = option_map preparing_of c.assignment_of-preparation.result.preparation; policy = policy_of c.assignment_of-preparation.result.policy; order = order; writing = c.assignment_of-preparation.result.writing } in
+    let programs : List Content → SelectorView = λ l. record { policy = a.policy; state = state_with 0 nothing_counted; programs = l } in
+    let made = first-made c.args.command call a c.in-Some.inputs c.in-Ok.selector c.new-3.result c.new-output.result c.assignment_of-preparation.ensures.preparing c.assignment_of-preparation.ensures.order c.assignment_of-preparation.ensures.policy c.assignment_of-preparation.ensures.writing
+    c.in-Some.ensures (c.in-Ok.ensures ∙ ap programs c.assignment_of-preparation.ensures.programs) c.new-3.ensures c.new-output.ensures in
+    let J : JobView → Type 0 = λ j. IsReadyIf j.preparing j in
+    (omega (arith, left, bound), (cursors, few), marks, sound, omega (arith, left, bound), omega (arith, owes, most, turns), subst J (sym made) (first-ready c.args.command call within))
 
 pub returns-clause-decided : goal.returns-clause-decided
 returns-clause-decided g c =
     let call : Call = call_of g.I.Input g.O.Output g.E.Output (map string_bytes c.args.names.items) c.args.inputs.items c.args.out c.args.err in
-    let made : c.in_ok-packets.packets ≡ (command_first c.args.command call).packets =
-    c.in_ok-packets.ensures.fresh
-    ∙ first-is c.args.command call _ _ _ c.assignment_of-preparation.ensures.order c.assignment_of-preparation.ensures.policy c.assignment_of-preparation.ensures.writing in
-    let J : JobView → Type 0 = λ j. DecidedBy (command_first c.args.command call).preparing (map nothing_done call.inputs) call.output.written j in
-    let P : Option Preparing → Type 0 = λ p. DecidedBy p (map nothing_done call.inputs) call.output.written c.in_ok-packets.packets in
-    subst P (sym c.assignment_of-preparation.ensures.preparing) (subst J (sym made) (first-decided c.args.command call))
+    let order : PacketOrder = order_of c.assignment_of-preparation.result.merges in
+    let a : Assignment = record { preparing = option_map preparing_of c.assignment_of-preparation.result.preparation; policy = policy_of c.assignment_of-preparation.result.policy; order = order; writing = c.assignment_of-preparation.result.writing } in
+    let programs : List Content → SelectorView = λ l. record { policy = a.policy; state = state_with 0 nothing_counted; programs = l } in
+    let made = first-made c.args.command call a c.in-Some.inputs c.in-Ok.selector c.new-3.result c.new-output.result c.assignment_of-preparation.ensures.preparing c.assignment_of-preparation.ensures.order c.assignment_of-preparation.ensures.policy c.assignment_of-preparation.ensures.writing
+    c.in-Some.ensures (c.in-Ok.ensures ∙ ap programs c.assignment_of-preparation.ensures.programs) c.new-3.ensures c.new-output.ensures in
+    let J : JobView → Type 0 = λ j. DecidedBy j.preparing (map nothing_done call.inputs) call.output.written j in
+    subst J (sym made) (first-decided c.args.command call)

@@ -1,26 +1,24 @@
-use Rattle.std.proofs.Common.{◌≡◌, Option, None, Some, sym, ◌∙◌, ap, subst}
+use Rattle.std.proofs.Common.{◌≡◌, Option, None, Some, string_bytes, sym, ◌∙◌, ap, subst}
 use Rattle.std.specs.Option.{option_map}
-use Rattle.cap_tools.specs.Jobs.{machine_of, turn_goes_on}
-use Rattle.cap_tools.specs.Commands.{CommandView, Preparing, StepReadsBy, preparing_of}
+use Rattle.cap_tools.specs.Output.{output_at}
+use Rattle.cap_tools.specs.Start.{Preparing, preparing_of}
+use Rattle.cap_tools.specs.Jobs.{JobView, machine_at, machine_of, turn_goes_on}
+use Rattle.cap_tools.specs.Commands.{GivesBy, StepReadsBy}
+use Rattle.cap_tools.proofs.CommandStarts.{compile-gives}
 use Rattle.cap_tools.proofs.Preparing.{none-before}
 use Rattle.cap_tools.proofs.job.Job.step.Goals as goal
 
-pub returns-in-Some-clause-reads : goal.returns-in-Some-clause-reads
-returns-in-Some-clause-reads g c =
-    let P : CommandView → Type 0 = λ v. StepReadsBy v.preparing g.I.Input.tells (turn_goes_on c.prepare.result) (machine_of v.packets) (machine_of c.prepare.new.packets) in
-    let Q : Option Preparing → Type 0 = λ p. StepReadsBy p g.I.Input.tells (turn_goes_on c.prepare.result) (machine_of c.self.inside.packets) (machine_of c.prepare.new.packets) in
-    let some : option_map preparing_of c.self.inside.preparation ≡ Some (preparing_of c.in-Some.preparation) = ap (option_map preparing_of) (sym c.take.ensures.value ∙ c.in-Some.is) in
-    subst P c.self.view_is (subst Q (sym some) c.prepare.ensures.reads)
-
-pub returns-in-None-clause-reads : goal.returns-in-None-clause-reads
-returns-in-None-clause-reads g c =
-    let P : CommandView → Type 0 = λ v. StepReadsBy v.preparing g.I.Input.tells (turn_goes_on c.step-in-None.result) (machine_of v.packets) (machine_of c.step-in-None.new.self) in
-    let Q : Option Preparing → Type 0 = λ p. StepReadsBy p g.I.Input.tells (turn_goes_on c.step-in-None.result) (machine_of c.self.inside.packets) (machine_of c.step-in-None.new.self) in
-    let none : option_map preparing_of c.self.inside.preparation ≡ None = ap (option_map preparing_of) (sym c.take.ensures.value ∙ c.in-None.is) in
-    subst P c.self.view_is (subst Q (sym none) c.step-in-None.ensures.reads)
+pub returns-in-Some-Listing-clause-told : goal.returns-in-Some-Listing-clause-told
+returns-in-Some-Listing-clause-told g c = λ ti to none.
+    let preparing : Option Preparing = option_map preparing_of c.self.inside.preparation in
+    let was : JobView = record { preparing = preparing; machine = machine_at c.self.inside.inputs c.self.inside.selector (output_at c.self.inside.messages.names c.self.inside.output) c.self.inside.decided; programs = c.self.inside.selector.programs; err = c.self.inside.messages.device; turns = c.self.inside.turns; done = c.self.inside.done } in
+    let some = ap (option_map preparing_of) (sym c.take.ensures.value ∙ c.in-Some-Listing.is ∙ ap Some c.in-Some-Listing.field-0-is) in
+    let P : JobView → Type 0 = λ v. GivesBy v.preparing g.E.Output.tells v c.compile.result c.compile.new.self in
+    let Q : Option Preparing → Type 0 = λ p. GivesBy p g.E.Output.tells was c.compile.result c.compile.new.self in
+    subst P c.self.view_is (subst Q (sym some) (compile-gives (string_bytes c.in-Some-Listing.compile.expr) c.in-Some-Listing.compile.link g.E.Output.tells (option_map preparing_of c.take.new.self) was c.compile.result c.compile.new.self (c.compile.ensures.gives to)))
 
 pub returns-then-is_none-clause-reads : goal.returns-then-is_none-clause-reads
 returns-then-is_none-clause-reads g c =
-    let P : CommandView → Type 0 = λ v. StepReadsBy v.preparing g.I.Input.tells (turn_goes_on c.step.result) (machine_of v.packets) (machine_of c.step.new.self) in
-    let Q : Option Preparing → Type 0 = λ p. StepReadsBy p g.I.Input.tells (turn_goes_on c.step.result) (machine_of c.self.inside.packets) (machine_of c.step.new.self) in
-    subst P c.self.view_is (subst Q (sym (none-before c.self.inside.preparation c.if-is_none.ensures)) c.step.ensures.reads)
+    let none : c.args.self.now.preparing ≡ None = ap (λ (v : JobView). v.preparing) (sym c.self.view_is) ∙ none-before c.self.inside.preparation c.if-is_none.ensures in
+    let Q : Option Preparing → Type 0 = λ p. StepReadsBy p g.I.Input.tells (turn_goes_on c.go_on.result) (machine_of c.args.self.now) (machine_of c.go_on.new.self) in
+    subst Q (sym none) c.go_on.ensures.reads

@@ -2,7 +2,7 @@ use Rattle.std.proofs.Common.{◌≡◌, ℕ, ◌+◌, ◌<◌, Bool, true, fals
 use Rattle.cap_octet.specs.Packet.{Captured, captured}
 use Rattle.cap_octet.specs.declared.fault.Fault.TheVariants.{TooManyPackets}
 use Rattle.cap_tools.specs.declared.selector.Verdict.TheVariants as code
-use Rattle.cap_tools.specs.Inputs.{most_steps}
+use Rattle.cap_inputs.specs.Inputs.{most_steps}
 use Rattle.cap_tools.specs.Verdict.{Judgement, SelectorState, is_last, judge_by, refuses, judge}
 use Rattle.cap_tools.specs.Selector.{SelectorView, IsWithin, Keeps, IsVerdict, policy_of, count_of, is_count, marks_in, passing, state_of, verdict_of}
 use Rattle.cap_tools.proofs.Selectors.{few, too-many, tells-count, tells-none, tells-passed, within-room}

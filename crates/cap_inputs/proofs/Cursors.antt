@@ -1,0 +1,111 @@
+-- One input among others.
+use Rattle.std.proofs.Common.{◌≡◌, ℕ, zero, suc, ◌+◌, ◌<◌, List, [], ◌∷◌, ◌++◌, length, max, Option, None, Some, refl, sym, ◌∙◌, ap, arith, get_or, drop, Bool, Result}
+use Rattle.std.specs.Option.{option_or}
+use Rattle.std.proofs.Math.Nat.{max_comm}
+use Rattle.std.proofs.lemmas.List.{append-nil}
+use Rattle.cap_octet.specs.Packet.{Captured}
+use Rattle.cap_io.specs.Capture.{Placed, first_link_of}
+use Rattle.std.specs.List.{slice_set}
+use Rattle.cap_octet.specs.declared.fault.Fault.{Fault}
+use Rattle.cap_io.specs.Source.{Advances, HasFew, Phase, Reading, Ended, Failed, SourceView, Steps}
+use Rattle.cap_inputs.specs.Inputs.{never_failing}
+use Rattle.cap_inputs.specs.declared.inputs.Schedule.{Schedule}
+use Rattle.cap_inputs.specs.Inputs.{InputView, InputsView, InputPast, AreInputsBehind, KnowGreatest, IsInput, ReadsInput, ReadSteps, greatest_of, input_after, schedule_after, is_clean_end, first_declared_link, input_behind, time_of}
+
+pub get-among : (cursors : List InputView) (i : ℕ) (h d : InputView) → i < length cursors → h ≡ get_or cursors i d → IsInput cursors i h
+get-among [] i h d within is = absurd (omega (arith, within))
+get-among (x ∷ xs) zero h d within is = record { front = []; back = xs; place = refl; splits = ap (λ (y : InputView). y ∷ xs) (sym is) }
+get-among (x ∷ xs) (suc i) h d within is =
+    let a = get-among xs i h d (omega (arith, within)) is in
+    record { front = x ∷ a.front; back = a.back; place = ap suc a.place; splits = ap (λ (l : List InputView). x ∷ l) a.splits }
+
+pub some-among : (cursors : List InputView) (i : ℕ) → i < length cursors → (h : InputView) × IsInput cursors i h
+some-among [] i within = absurd (omega (arith, within))
+some-among (x ∷ xs) zero within = (x, record { front = []; back = xs; place = refl; splits = refl })
+some-among (x ∷ xs) (suc i) within =
+    let a = some-among xs i (omega (arith, within)) in
+    (a.0, record { front = x ∷ a.1.front; back = a.1.back; place = ap suc a.1.place; splits = ap (λ (l : List InputView). x ∷ l) a.1.splits })
+
+pub set-here : (front back : List InputView) (h w : InputView) (i : ℕ) → length front ≡ i → slice_set (front ++ h ∷ back) i w ≡ front ++ w ∷ back
+set-here [] back h w i place = rw (← place) refl
+set-here (x ∷ xs) back h w i place = rw (← place) (ap (λ (l : List InputView). x ∷ l) (set-here xs back h w (length xs) refl))
+
+pub fetches-by : (inputs : InputsView) (i : ℕ) (r : Result Bool Fault) (old new : InputView) (schedule' : Schedule) (closed : Bool) → i < length inputs.cursors → old ≡ get_or inputs.cursors i old
+    → Advances old.source.phase old.source r new.source → Steps old.source.phase old.source r new.source → new ≡ input_after old r new.source → schedule' ≡ schedule_after inputs.schedule i closed → closed ≡ is_clean_end r
+    → ReadsInput inputs i r (record { cursors = slice_set inputs.cursors i new; schedule = schedule' })
+fetches-by inputs i r old new schedule' closed within value advances steps is moved end = record {
+  cursor = old;
+  among = get-among inputs.cursors i old old within value;
+  source = new.source;
+  advances = advances;
+  steps = steps;
+  is =
+      ap (λ (h : InputView). record { cursors = slice_set inputs.cursors i h; schedule = schedule' }) is
+      ∙ ap (λ (p : Schedule). record { cursors = slice_set inputs.cursors i (input_after old r new.source); schedule = p }) (moved ∙ ap (λ (b : Bool). schedule_after inputs.schedule i b) end);
+}
+
+pub first-drop : (cursors : List InputView) (i : ℕ) (h d : InputView) → i < length cursors → h ≡ get_or cursors i d → first_declared_link (drop i cursors) ≡ option_or (first_link_of h.source.declared) (first_declared_link (drop (i + 1) cursors))
+first-drop [] i h d within is = absurd (omega (arith, within))
+first-drop (x ∷ xs) zero h d within is = rw is refl
+first-drop (x ∷ xs) (suc i) h d within is =
+    let e : suc i + 1 ≡ suc (i + 1) = omega arith in
+    rw e (first-drop xs i h d (omega (arith, within)) is)
+
+pub first-none : (cursors : List InputView) → None ≡ first_declared_link (drop (length cursors) cursors)
+first-none [] = refl
+first-none (x ∷ xs) = first-none xs
+
+pub read_input-steps-by : (inputs : InputsView) (i : ℕ) (r : Result Bool Fault) (old new : InputView) (schedule' : Schedule) (closed : Bool) → i < length inputs.cursors → old ≡ get_or inputs.cursors i old
+    → Steps old.source.phase old.source r new.source → HasFew new.source.declared → new ≡ input_after old r new.source → schedule' ≡ schedule_after inputs.schedule i closed → closed ≡ is_clean_end r
+    → ReadSteps inputs i r (record { cursors = slice_set inputs.cursors i new; schedule = schedule' })
+read_input-steps-by inputs i r old new schedule' closed within value steps few is moved end = record {
+  cursor = old;
+  among = get-among inputs.cursors i old old within value;
+  source = new.source;
+  steps = steps;
+  few = few;
+  is =
+      ap (λ (h : InputView). record { cursors = slice_set inputs.cursors i h; schedule = schedule' }) is
+      ∙ ap (λ (p : Schedule). record { cursors = slice_set inputs.cursors i (input_after old r new.source); schedule = p }) (moved ∙ ap (λ (b : Bool). schedule_after inputs.schedule i b) end);
+}
+
+-- ---- whether devices never fail
+
+pub never-at : (xs ys : List InputView) (h h' : InputView) → h'.source.never_fails ≡ h.source.never_fails → never_failing (xs ++ h' ∷ ys) ≡ never_failing (xs ++ h ∷ ys)
+never-at [] ys h h' same = ap (λ (b : Bool). b ∷ never_failing ys) same
+never-at (x ∷ xs) ys h h' same = ap (λ (l : List Bool). x.source.never_fails ∷ l) (never-at xs ys h h' same)
+
+never-by : (p : Phase) (old new : SourceView) (a : Result Bool Fault) → Steps p old a new → new.never_fails ≡ old.never_fails
+never-by Reading old new a steps = steps.never
+never-by Ended old new a steps = ap (λ (s : SourceView). s.never_fails) steps.1
+never-by (Failed fault) old new a steps = ap (λ (s : SourceView). s.never_fails) steps.1
+
+pub never-kept : (old new : SourceView) (a : Result Bool Fault) → Steps old.phase old a new → new.never_fails ≡ old.never_fails
+never-kept old new a steps = never-by old.phase old new a steps
+
+-- ---- the greatest time
+
+max-assoc : (a b c : ℕ) → max a (max b c) ≡ max (max a b) c
+max-assoc a b c = omega (arith)
+
+greatest-more : (ps : List Placed) (x : Placed) → greatest_of (ps ++ x ∷ []) ≡ max (greatest_of ps) x.packet.time
+greatest-more [] x = max_comm x.packet.time 0
+greatest-more (p ∷ ps) x = ap (max p.packet.time) (greatest-more ps x) ∙ max-assoc p.packet.time (greatest_of ps) x.packet.time
+
+-- one more packet is done
+pub greatest-decided : (h : InputView) (p : Captured) (offset : ℕ) (ps : List Placed) → h.source.packet ≡ Some p → h.greatest ≡ greatest_of ps → (input_behind h).greatest ≡ greatest_of (ps ++ record { offset = offset; packet = p } ∷ [])
+greatest-decided h p offset ps held knows =
+    ap (λ (o : Option Captured). max h.greatest (time_of o)) held
+    ∙ ap (λ (n : ℕ). max n p.time) knows
+    ∙ sym (greatest-more ps (record { offset = offset; packet = p }))
+
+-- no packet more is done
+pub greatest-same : (g : ℕ) (ps : List Placed) → g ≡ greatest_of ps → g ≡ greatest_of (ps ++ [])
+greatest-same g ps knows = knows ∙ ap greatest_of (sym (append-nil ps))
+
+pub greatest-here : (us vs : List InputPast) (s s' : InputPast) (xs ys : List InputView) (h h' : InputView) → AreInputsBehind us xs → KnowGreatest (us ++ s ∷ vs) (xs ++ h ∷ ys)
+    → (h.greatest ≡ greatest_of s.packets → h'.greatest ≡ greatest_of s'.packets) → KnowGreatest (us ++ s' ∷ vs) (xs ++ h' ∷ ys)
+greatest-here [] vs s s' [] ys h h' behind knows goes = (goes knows.0, knows.1)
+greatest-here [] vs s s' (x ∷ xs) ys h h' behind knows goes = absurd behind
+greatest-here (u ∷ us) vs s s' [] ys h h' behind knows goes = absurd behind
+greatest-here (u ∷ us) vs s s' (x ∷ xs) ys h h' behind knows goes = (knows.0, greatest-here us vs s s' xs ys h h' behind.1 knows.1 goes)

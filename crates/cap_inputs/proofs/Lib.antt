@@ -1,0 +1,5 @@
+pub mod Cursors
+pub mod Fresh
+pub mod Leasts
+pub mod Order
+pub mod Queues

@@ -1,0 +1,179 @@
+-- A merge from the current packets gives the order of the whole.
+use Rattle.std.proofs.Common.{◌≡◌, ℕ, suc, ◌+◌, ◌<◌, ◌≤◌, true, false, if◌then◌else◌, max, List, [], ◌∷◌, ◌++◌, length, refl, sym, ◌∙◌, ap, arith, add-zero, subst}
+use Rattle.std.proofs.lemmas.List.{append_assoc}
+use Rattle.std.proofs.lemmas.Bool.Decides.{nat_tests}
+use Rattle.cap_octet.specs.declared.fault.Fault.{Fault}
+use Rattle.cap_io.specs.Capture.{Placed, Items, Ending}
+use Rattle.cap_inputs.specs.Sequence.{Event, Packet, SequenceEnd, Complete, FaultIn, Sequence, with_front, InputItems, Entry, end_behind, entries_of, input_entries, all_entries, comes_before, insert_entry, sort_entries, end_or_more, sequence_of_entries, end_at, first_end, fault_in_front, unless_fault, sequence_by_time}
+
+-- a fact of each
+abbrev pub Each : (Entry → Type 0) → List Entry → Type 0
+Each P [] = Unit {0}
+Each P (x ∷ xs) = P x × Each P xs
+
+Each-append : (P : Entry → Type 0) (xs ys : List Entry) → Each P xs → Each P ys → Each P (xs ++ ys)
+Each-append P [] ys a b = b
+Each-append P (x ∷ xs) ys a b = (a.0, Each-append P xs ys a.1 b)
+
+Each-weaker : (P Q : Entry → Type 0) → ((x : Entry) → P x → Q x) → (xs : List Entry) → Each P xs → Each Q xs
+Each-weaker P Q f [] h = tt
+Each-weaker P Q f (x ∷ xs) h = (f x h.0, Each-weaker P Q f xs h.1)
+
+put_in-Each : (P : Entry → Type 0) (e : Entry) (xs : List Entry) → P e → Each P xs → Each P (insert_entry e xs)
+put_in-Each P e [] p h = (p, tt)
+put_in-Each P e (x ∷ xs) p h =
+    elim (comes_before x e) as (λ b. Each P (if b then x ∷ insert_entry e xs else e ∷ x ∷ xs)) [ true ↦ (h.0, put_in-Each P e xs p h.1) | false ↦ (p, h) ]
+
+sorted-Each : (P : Entry → Type 0) (xs : List Entry) → Each P xs → Each P (sort_entries xs)
+sorted-Each P [] h = tt
+sorted-Each P (x ∷ xs) h = put_in-Each P x (sort_entries xs) h.0 (sorted-Each P xs h.1)
+
+put_in-first : (e : Entry) (xs : List Entry) → Each (λ x. comes_before x e ≡ false) xs → insert_entry e xs ≡ e ∷ xs
+put_in-first e [] h = refl
+put_in-first e (x ∷ xs) h = rw h.0 refl
+
+-- what comes before all others is first in the order
+pub sorted-first : (e : Entry) (xs ys : List Entry) → Each (λ x. comes_before e x ≡ true) xs → Each (λ y. comes_before y e ≡ false) ys → sort_entries (xs ++ e ∷ ys) ≡ e ∷ sort_entries (xs ++ ys)
+sorted-first e [] ys a b = put_in-first e (sort_entries ys) (sorted-Each (λ y. comes_before y e ≡ false) ys b)
+sorted-first e (x ∷ xs) ys a b = ap (insert_entry x) (sorted-first e xs ys a.1 b) ∙ rw a.0 refl
+
+-- the keys of an input never fall
+abbrev FollowsIn : ℕ → ℕ → Entry → Type 0
+FollowsIn input greatest x = (x.input ≡ input) × (greatest ≤ x.key)
+
+follow-weaker : (input g g' : ℕ) → g ≤ g' → (xs : List Entry) → Each (FollowsIn input g') xs → Each (FollowsIn input g) xs
+follow-weaker input g g' lg [] h = tt
+follow-weaker input g g' lg (x ∷ xs) h = ((h.0.0, omega (arith, lg, h.0.1)), follow-weaker input g g' lg xs h.1)
+
+entries-follow : (input : ℕ) (ending : Ending) (greatest : ℕ) (ps : List Placed) → Each (FollowsIn input greatest) (entries_of input ending greatest ps)
+entries-follow input ending greatest [] = tt
+entries-follow input ending greatest (p ∷ ps) =
+    ((refl, omega arith), follow-weaker input greatest (max greatest p.packet.time) (omega arith) (entries_of input ending (max greatest p.packet.time) ps) (entries-follow input ending (max greatest p.packet.time) ps))
+
+later-own : (e x : Entry) → FollowsIn e.input e.key x → comes_before x e ≡ false
+later-own e x h = grind (arith, nat_tests, h.0, h.1)
+
+ahead : (e x : Entry) → e.key < x.key → comes_before e x ≡ true
+ahead e x h = grind (arith, nat_tests, h)
+
+not-after : (e x : Entry) → e.key ≤ x.key → e.input < x.input → comes_before x e ≡ false
+not-after e x h l = grind (arith, nat_tests, h, l)
+
+-- the least key of what is left of an input is over the key, or at least the key
+abbrev pub IsOver : ℕ → ℕ → List Placed → Type 0
+IsOver k greatest [] = Unit {0}
+IsOver k greatest (p ∷ ps) = k < max greatest p.packet.time
+
+abbrev pub IsFrom : ℕ → ℕ → List Placed → Type 0
+IsFrom k greatest [] = Unit {0}
+IsFrom k greatest (p ∷ ps) = k ≤ max greatest p.packet.time
+
+abbrev pub AllOver : ℕ → List InputItems → Type 0
+AllOver k [] = Unit {0}
+AllOver k (r ∷ rs) = IsOver k r.greatest r.items.packets × AllOver k rs
+
+abbrev pub AllFrom : ℕ → List InputItems → Type 0
+AllFrom k [] = Unit {0}
+AllFrom k (r ∷ rs) = IsFrom k r.greatest r.items.packets × AllFrom k rs
+
+entries-over : (e : Entry) (input : ℕ) (ending : Ending) (greatest : ℕ) (ps : List Placed) → IsOver e.key greatest ps → Each (λ x. comes_before e x ≡ true) (entries_of input ending greatest ps)
+entries-over e input ending greatest [] h = tt
+entries-over e input ending greatest (p ∷ ps) h = (
+  ahead e (record { key = max greatest p.packet.time; input = input; p = p; last = end_behind input ending ps }) h,
+  Each-weaker (FollowsIn input (max greatest p.packet.time)) (λ x. comes_before e x ≡ true) (λ x f. ahead e x (omega (arith, h, f.1))) (entries_of input ending (max greatest p.packet.time) ps)
+      (entries-follow input ending (max greatest p.packet.time) ps),
+)
+
+entries-from : (e : Entry) (input : ℕ) (ending : Ending) (greatest : ℕ) (ps : List Placed) → e.input < input → IsFrom e.key greatest ps → Each (λ x. comes_before x e ≡ false) (entries_of input ending greatest ps)
+entries-from e input ending greatest [] l h = tt
+entries-from e input ending greatest (p ∷ ps) l h = (
+  not-after e (record { key = max greatest p.packet.time; input = input; p = p; last = end_behind input ending ps }) h l,
+  Each-weaker (FollowsIn input (max greatest p.packet.time)) (λ x. comes_before x e ≡ false) (λ x f. not-after e x (omega (arith, h, f.1)) (omega (arith, l, f.0))) (entries_of input ending (max greatest p.packet.time) ps)
+      (entries-follow input ending (max greatest p.packet.time) ps),
+)
+
+all-over : (e : Entry) (input : ℕ) (rs : List InputItems) → AllOver e.key rs → Each (λ x. comes_before e x ≡ true) (all_entries input rs)
+all-over e input [] h = tt
+all-over e input (r ∷ rs) h = Each-append (λ x. comes_before e x ≡ true) (input_entries input r) (all_entries (input + 1) rs) (entries-over e input r.items.ending r.greatest r.items.packets h.0) (all-over e (input + 1) rs h.1)
+
+all-from : (e : Entry) (input : ℕ) (rs : List InputItems) → e.input < input → AllFrom e.key rs → Each (λ x. comes_before x e ≡ false) (all_entries input rs)
+all-from e input [] l h = tt
+all-from e input (r ∷ rs) l h = Each-append (λ x. comes_before x e ≡ false) (input_entries input r) (all_entries (input + 1) rs) (entries-from e input r.items.ending r.greatest r.items.packets l h.0) (all-from e (input + 1) rs (omega (arith, l)) h.1)
+
+all_entries-append : (input : ℕ) (xs ys : List InputItems) → all_entries input (xs ++ ys) ≡ all_entries input xs ++ all_entries (input + length xs) ys
+all_entries-append input [] ys = rw add-zero refl
+all_entries-append input (x ∷ xs) ys =
+    let e : input + suc (length xs) ≡ (input + 1) + length xs = omega arith in
+    rw (e, all_entries-append (input + 1) xs ys) (sym (append_assoc (input_entries input x) (all_entries (input + 1) xs) (all_entries (input + 1 + length xs) ys)))
+
+first-close-assoc : (a b c : SequenceEnd) → first_end a (first_end b c) ≡ first_end (first_end a b) c
+first-close-assoc Complete b c = refl
+first-close-assoc (FaultIn i f o) b c = refl
+
+broken-append : (input : ℕ) (xs ys : List InputItems) → fault_in_front input (xs ++ ys) ≡ first_end (fault_in_front input xs) (fault_in_front (input + length xs) ys)
+broken-append input [] ys = rw add-zero refl
+broken-append input (x ∷ xs) ys =
+    let e : input + suc (length xs) ≡ (input + 1) + length xs = omega arith in
+    rw (e, broken-append (input + 1) xs ys) (first-close-assoc (end_at input x) (fault_in_front (input + 1) xs) (fault_in_front (input + 1 + length xs) ys))
+
+first-over : (a b : SequenceEnd) → first_end a b ≡ Complete → (a ≡ Complete) × (b ≡ Complete)
+first-over Complete b h = (refl, h)
+first-over (FaultIn i f o) b h = absurd (let e : FaultIn i f o ≡ Complete = h in cc)
+
+over-right : (a : SequenceEnd) → first_end a Complete ≡ a
+over-right Complete = refl
+over-right (FaultIn i f o) = refl
+
+up-to-close : (c : SequenceEnd) (e : Event) (fed : Sequence) → end_or_more c e fed ≡ with_front (e ∷ []) (unless_fault c fed)
+up-to-close Complete e fed = refl
+up-to-close (FaultIn i f o) e fed = refl
+
+-- An input whose current packet has the least key, the lowest input of those: its packet comes first, and what is left
+-- behind it is the merge of what is left.
+pub merged-next : (xs ys : List InputItems) (g : ℕ) (p : Placed) (items : Items) (ps : List Placed) (size : ℕ) → items.packets ≡ p ∷ ps
+    → fault_in_front 0 (xs ++ record { greatest = g; items = items; size = size } ∷ ys) ≡ Complete → AllOver (max g p.packet.time) xs → AllFrom (max g p.packet.time) ys
+    → sequence_by_time (xs ++ record { greatest = g; items = items; size = size } ∷ ys)
+    ≡ with_front (Packet (length xs) p ∷ []) (sequence_by_time (xs ++ record { greatest = max g p.packet.time; items = record { packets = ps; declared = items.declared; ending = items.ending }; size = size } ∷ ys))
+merged-next xs ys g p items ps size is whole over from =
+    let k : ℕ = max g p.packet.time in
+    let n : ℕ = length xs in
+    let r : InputItems = record { greatest = g; items = record { packets = p ∷ ps; declared = items.declared; ending = items.ending }; size = size } in
+    let r' : InputItems = record { greatest = k; items = record { packets = ps; declared = items.declared; ending = items.ending }; size = size } in
+    let same : record { greatest = g; items = items; size = size } ≡ r = ap (λ (l : List Placed). record { greatest = g; items = record { packets = l; declared = items.declared; ending = items.ending }; size = size }) is in
+    let B : InputItems → Type 0 = λ z. fault_in_front 0 (xs ++ z ∷ ys) ≡ Complete in
+    let whole' : fault_in_front 0 (xs ++ r ∷ ys) ≡ Complete = subst B same whole in
+    let e : Entry = record { key = k; input = n; p = p; last = end_behind n items.ending ps } in
+    let zero : 0 + n ≡ n = omega arith in
+    let apart = first-over (fault_in_front 0 xs) (fault_in_front (0 + n) (r ∷ ys)) (sym (broken-append 0 xs (r ∷ ys)) ∙ whole') in
+    let rest = first-over (end_at (0 + n) r) (fault_in_front (0 + n + 1) ys) apart.1 in
+    let behind_e : List Entry = input_entries n r' ++ all_entries (n + 1) ys in
+    let old : all_entries 0 (xs ++ r ∷ ys) ≡ all_entries 0 xs ++ e ∷ behind_e = all_entries-append 0 xs (r ∷ ys) ∙ ap (λ (m : ℕ). all_entries 0 xs ++ all_entries m (r ∷ ys)) zero in
+    let new : all_entries 0 (xs ++ r' ∷ ys) ≡ all_entries 0 xs ++ behind_e = all_entries-append 0 xs (r' ∷ ys) ∙ ap (λ (m : ℕ). all_entries 0 xs ++ all_entries m (r' ∷ ys)) zero in
+    let follows : Each (λ x. comes_before x e ≡ false) behind_e =
+    Each-append (λ x. comes_before x e ≡ false) (input_entries n r') (all_entries (n + 1) ys)
+    (Each-weaker (FollowsIn n k) (λ x. comes_before x e ≡ false) (λ x h. later-own e x h) (input_entries n r') (entries-follow n items.ending k ps))
+    (all-from e (n + 1) ys (omega arith) from) in
+    let first : sort_entries (all_entries 0 (xs ++ r ∷ ys)) ≡ e ∷ sort_entries (all_entries 0 (xs ++ r' ∷ ys)) =
+    ap sort_entries old ∙ sorted-first e (all_entries 0 xs) behind_e (all-over e 0 xs over) follows ∙ ap (λ (l : List Entry). e ∷ sort_entries l) (sym new) in
+    let left_broken : fault_in_front 0 (xs ++ r' ∷ ys) ≡ end_behind n items.ending ps =
+    broken-append 0 xs (r' ∷ ys)
+    ∙ ap (λ (c : SequenceEnd). first_end c (fault_in_front (0 + n) (r' ∷ ys))) apart.0
+    ∙ ap (λ (c : SequenceEnd). first_end (end_at (0 + n) r') c) rest.1
+    ∙ over-right (end_at (0 + n) r')
+    ∙ ap (λ (m : ℕ). end_at m r') zero in
+    ap (λ (z : InputItems). sequence_by_time (xs ++ z ∷ ys)) same
+    ∙ ap (λ (c : SequenceEnd). unless_fault c (sequence_of_entries (sort_entries (all_entries 0 (xs ++ r ∷ ys))))) whole'
+    ∙ ap sequence_of_entries first
+    ∙ up-to-close (end_behind n items.ending ps) (Packet n p) (sequence_of_entries (sort_entries (all_entries 0 (xs ++ r' ∷ ys))))
+    ∙ ap (λ (c : SequenceEnd). with_front (Packet n p ∷ []) (unless_fault c (sequence_of_entries (sort_entries (all_entries 0 (xs ++ r' ∷ ys)))))) (sym left_broken)
+
+-- an input that ends by a fault, where none before it does and it has no packet left: nothing more comes
+pub merged-broken : (xs ys : List InputItems) (r : InputItems) (fault : Fault) (offset : ℕ) → fault_in_front 0 xs ≡ Complete → end_at (length xs) r ≡ FaultIn (length xs) fault offset
+    → sequence_by_time (xs ++ r ∷ ys) ≡ record { events = []; end = FaultIn (length xs) fault offset }
+merged-broken xs ys r fault offset none is =
+    let zero : 0 + length xs ≡ length xs = omega arith in
+    ap (λ (c : SequenceEnd). unless_fault c (sequence_of_entries (sort_entries (all_entries 0 (xs ++ r ∷ ys)))))
+    (broken-append 0 xs (r ∷ ys)
+    ∙ ap (λ (c : SequenceEnd). first_end c (fault_in_front (0 + length xs) (r ∷ ys))) none
+    ∙ ap (λ (m : ℕ). fault_in_front m (r ∷ ys)) zero
+    ∙ ap (λ (c : SequenceEnd). first_end c (fault_in_front (length xs + 1) ys)) is)

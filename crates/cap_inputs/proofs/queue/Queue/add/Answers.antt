@@ -1,0 +1,18 @@
+use Rattle.std.specs.BinaryHeap.{heap_items}
+use Rattle.std.specs.declared.cmp.Reverse.{Reverse}
+use Rattle.std.proofs.lemmas.List.Sorted.{IsPermutation-map}
+use Rattle.cap_inputs.specs.declared.queue.Waiting.{Waiting}
+use Rattle.cap_inputs.proofs.Queues.{once_added, bare}
+use Rattle.cap_inputs.proofs.queue.Queue.add.Goals as goal
+
+pub invariant_of-self : goal.invariant_of-self
+invariant_of-self g c =
+    let order = rw c.unwrap.ensures at c.push.ensures.heap_order in
+    let moved = rw c.unwrap.ensures at c.push.ensures.permutation in
+    let bare_moved = IsPermutation-map (λ (r : Reverse Waiting). r.0) _ _ moved in
+    (order c.self.invariant.0, once_added c.args.entry (bare (heap_items c.self.inside.heap)) (bare (heap_items c.push.new.self)) (rw (← c.self.view_is) at c.requires.alone) c.self.invariant.1 bare_moved)
+
+pub returns-clause-waiting : goal.returns-clause-waiting
+returns-clause-waiting g c =
+    let moved = rw c.unwrap.ensures at c.push.ensures.permutation in
+    rw (← c.self.view_is) (IsPermutation-map (λ (r : Reverse Waiting). r.0) _ _ moved)

@@ -1,0 +1,4 @@
+pub mod Fresh
+pub mod Inputs
+pub mod Queue
+pub mod Sequence

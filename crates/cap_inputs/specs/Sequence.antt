@@ -1,0 +1,142 @@
+-- The packets of a job in the job's order, from what its inputs hold, and where the order ends.
+use Rattle.std.specs.Prelude.{ℕ, ◌+◌, ◌&&◌, ◌||◌, Bool, true, false, if◌then◌else◌, nat_lt, nat_eq, max, List, [], ◌∷◌, ◌++◌, length, Option}
+use Rattle.cap_octet.specs.declared.fault.Fault.{Fault}
+use Rattle.cap_io.specs.declared.source.Kind.{Kind}
+use Rattle.cap_io.specs.Capture.{Placed, Items, Ending, End, FaultAt, kind_of, items}
+
+-- ---- what comes
+
+-- a packet of an input; or an input, which is of this kind and has so many bytes, was read to its clean end
+pub data Event : Type 0 where
+  Packet : (input : ℕ) → (p : Placed) → Event
+  InputEnd : (input : ℕ) → (kind : Option Kind) → (size : ℕ) → Event
+
+-- how the order ends: with all inputs, or by the fault of one at an offset
+pub data SequenceEnd : Type 0 where
+  Complete : SequenceEnd
+  FaultIn : (input : ℕ) → (fault : Fault) → (offset : ℕ) → SequenceEnd
+
+pub record Sequence : Type 0 where
+  pub events : List Event
+  pub end : SequenceEnd
+
+abbrev pub with_front : List Event → Sequence → Sequence
+with_front es more = record { events = es ++ more.events; end = more.end }
+
+-- ---- what is left of an input
+
+-- The greatest time of the packets before, the items from there on, and the number of bytes of the whole input.
+pub record InputItems : Type 0 where
+  pub greatest : ℕ
+  pub items : Items
+  pub size : ℕ
+
+-- a whole input
+abbrev pub whole_input : List ℕ → InputItems
+whole_input text = record { greatest = 0; items = items text; size = length text }
+
+-- ---- in turn
+
+abbrev pub packet_events : ℕ → List Placed → List Event
+packet_events input [] = []
+packet_events input (p ∷ ps) = Packet input p ∷ packet_events input ps
+
+-- an input's packets, and the others where it ends cleanly
+abbrev pub input_sequence : ℕ → InputItems → Ending → Sequence → Sequence
+input_sequence input r End more = with_front (packet_events input r.items.packets ++ InputEnd input (kind_of r.items.declared) r.size ∷ []) more
+input_sequence input r (FaultAt fault offset) more = record { events = packet_events input r.items.packets; end = FaultIn input fault offset }
+
+-- the inputs one behind another, up to the first fault; they are numbered on from `input`
+abbrev pub sequence_in_turn : ℕ → List InputItems → Sequence
+sequence_in_turn input [] = record { events = []; end = Complete }
+sequence_in_turn input (r ∷ rs) = input_sequence input r r.items.ending (sequence_in_turn (input + 1) rs)
+
+-- ---- by time
+
+-- A packet of an input, and the greatest time in its own input up to and with it. Where it is the last of an input that
+-- ends by a fault, the order ends behind it.
+pub record Entry : Type 0 where
+  pub key : ℕ
+  pub input : ℕ
+  pub p : Placed
+  pub last : SequenceEnd
+
+abbrev pub end_of : ℕ → Ending → SequenceEnd
+end_of input End = Complete
+end_of input (FaultAt fault offset) = FaultIn input fault offset
+
+-- how the order ends behind a packet that is followed by these in its input
+abbrev pub end_behind : ℕ → Ending → List Placed → SequenceEnd
+end_behind input ending [] = end_of input ending
+end_behind input ending (p ∷ ps) = Complete
+
+-- the packets of an input from a place on, behind the greatest time so far
+abbrev pub entries_of : ℕ → Ending → ℕ → List Placed → List Entry
+entries_of input ending greatest [] = []
+entries_of input ending greatest (p ∷ ps) =
+    record { key = max greatest p.packet.time; input = input; p = p; last = end_behind input ending ps }
+    ∷ entries_of input ending (max greatest p.packet.time) ps
+
+abbrev pub input_entries : ℕ → InputItems → List Entry
+input_entries input r = entries_of input r.items.ending r.greatest r.items.packets
+
+-- all packets that are left, the inputs numbered on from here
+abbrev pub all_entries : ℕ → List InputItems → List Entry
+all_entries input [] = []
+all_entries input (r ∷ rs) = input_entries input r ++ all_entries (input + 1) rs
+
+-- by the greatest time, then the input's number; the packets of one input keep their order
+abbrev pub comes_before : Entry → Entry → Bool
+comes_before x y = nat_lt x.key y.key || (nat_eq x.key y.key && nat_lt x.input y.input)
+
+abbrev pub insert_entry : Entry → List Entry → List Entry
+insert_entry e [] = e ∷ []
+insert_entry e (x ∷ xs) = if comes_before x e then x ∷ insert_entry e xs else e ∷ x ∷ xs
+
+abbrev pub sort_entries : List Entry → List Entry
+sort_entries [] = []
+sort_entries (e ∷ es) = insert_entry e (sort_entries es)
+
+abbrev pub end_or_more : SequenceEnd → Event → Sequence → Sequence
+end_or_more Complete e more = with_front (e ∷ []) more
+end_or_more (FaultIn input fault offset) e more = record { events = e ∷ []; end = FaultIn input fault offset }
+
+-- up to and with the first packet behind which the order ends
+abbrev pub sequence_of_entries : List Entry → Sequence
+sequence_of_entries [] = record { events = []; end = Complete }
+sequence_of_entries (e ∷ es) = end_or_more e.last (Packet e.input e.p) (sequence_of_entries es)
+
+-- how the order ends with an input of which these items are left
+abbrev pub end_at : ℕ → InputItems → SequenceEnd
+end_at input r = end_behind input r.items.ending r.items.packets
+
+abbrev pub first_end : SequenceEnd → SequenceEnd → SequenceEnd
+first_end Complete later = later
+first_end (FaultIn input fault offset) later = FaultIn input fault offset
+
+-- the fault of the first input that ends by one and has no packet left
+abbrev pub fault_in_front : ℕ → List InputItems → SequenceEnd
+fault_in_front input [] = Complete
+fault_in_front input (r ∷ rs) = first_end (end_at input r) (fault_in_front (input + 1) rs)
+
+abbrev pub unless_fault : SequenceEnd → Sequence → Sequence
+unless_fault Complete more = more
+unless_fault (FaultIn input fault offset) more = record { events = []; end = FaultIn input fault offset }
+
+-- Where an input has none left and ends by a fault, nothing comes; else all packets in the order.
+abbrev pub sequence_by_time : List InputItems → Sequence
+sequence_by_time rs = unless_fault (fault_in_front 0 rs) (sequence_of_entries (sort_entries (all_entries 0 rs)))
+
+-- ---- the job's order
+
+pub data PacketOrder : Type 0 where
+  InTurn : PacketOrder
+  ByTime : PacketOrder
+
+abbrev pub order_of : (merges : Bool) → PacketOrder
+order_of false = InTurn
+order_of true = ByTime
+
+abbrev pub sequence_of : PacketOrder → List InputItems → Sequence
+sequence_of InTurn rs = sequence_in_turn 0 rs
+sequence_of ByTime rs = sequence_by_time rs

@@ -1,0 +1,418 @@
+//! The inputs of a job, and which of them is next.
+ghost use Rattle.std.specs.Prelude.{◌≡◌, ◌&&◌, [], true, ◌<◌, ◌≤◌, ◌-◌, ◌^◌, IsTrue, false, length};
+ghost use Rattle.std.specs.Prelude.{map};
+ghost use Rattle.std.specs.Option.{IfSome};
+ghost use Rattle.cap_inputs.specs.Fresh.{fresh_view, fresh_input, first_schedule};
+ghost use Rattle.cap_inputs.specs.Sequence.{order_of};
+ghost use Rattle.cap_inputs.specs.Inputs.{Enters, HasPlaceFor, IsNextByTime, IsNextInTurn};
+ghost use Rattle.cap_inputs.specs.Inputs.{IsQueued, Leaves, first_declared_link, is_clean_end};
+ghost use Rattle.cap_inputs.specs.Inputs.{is_merge, key_of, schedule_after, schedule_behind};
+ghost use Rattle.cap_inputs.specs.Inputs.{time_of};
+
+use crate::queue::{Queue, Waiting};
+use cap_io::{Kind, Source};
+use cap_octet::{Fault, Input, Packet};
+use std::alloc::Allocator;
+use std::marker::Model;
+
+/// An input, with its current packet.
+#[derive(Drop)]
+pub struct InputCursor<I: Input, A: Allocator> {
+    source: Source<I, A>,
+    /// Whether the current packet isn't decided yet.
+    waiting: bool,
+    /// The greatest time of the packets that are decided.
+    greatest: u64,
+    /// The time of the current packet, 0 where there is none.
+    time: u64,
+}
+
+impl<I: Input, A: Allocator> Model for InputCursor<I, A> {
+    ghost use Rattle.std.specs.Prelude.{◌≡◌, is_some, true};
+    ghost use Rattle.cap_inputs.specs.Inputs.{InputView, time_of};
+
+    ghost Value = { InputView };
+
+    ghost view = { λ h. record { source = h.source; waiting = h.waiting; greatest = h.greatest } };
+
+    ghost invariant = { λ h. (h.time ≡ time_of h.source.packet)
+        × (h.waiting ≡ true → is_some h.source.packet ≡ true) };
+}
+
+/// Which input is next, by the order of the packets.
+#[derive(Clone, Copy, Debug, PartialEq, Eq)]
+pub enum Schedule {
+    /// The inputs come one behind another, and this one is the current one.
+    Turn(usize),
+    /// By the greatest times; first the inputs from one up to another are read on.
+    Merge(usize, usize),
+}
+
+/// What a job does next.
+#[derive(Clone, Copy, Debug, PartialEq, Eq)]
+pub enum Next {
+    /// Reads an input on.
+    Read(usize),
+    /// Decides the current packet of an input.
+    Decide(usize),
+    /// All inputs are at their ends.
+    Finish,
+}
+
+/// The time of the current packet, 0 where there is none.
+fn time_in<I: Input, A: Allocator>(source: &Source<I, A>) -> u64
+    ensures { result ≡ time_of source.now.packet }
+{
+    match source.time() {
+        Some(time) => time,
+        None => 0,
+    }
+}
+
+impl<I: Input, A: Allocator> InputCursor<I, A> {
+    ghost use Rattle.cap_inputs.specs.Inputs.{InputView, input_after, is_packet_found, input_behind};
+    ghost use Rattle.cap_io.specs.Source.{SourceView, Advances, HasFew, Steps};
+    ghost use Rattle.std.specs.Option.{option_map};
+    ghost use Rattle.cap_octet.specs.Packet.{captured};
+    ghost use Rattle.cap_io.specs.Capture.{first_link_of, kind_of};
+    ghost use Rattle.cap_io.specs.Reading.{most_in_unit};
+    ghost use Rattle.std.specs.Prelude.{◌≤◌, IsSome, length};
+    ghost use Rattle.std.specs.Option.{IfSome};
+
+    fn new(source: Source<I, A>) -> Self
+        ensures { result ≡ record { source = source; waiting = false; greatest = 0 } }
+    {
+        let time = time_in(&source);
+        InputCursor {
+            source,
+            waiting: false,
+            greatest: 0,
+            time,
+        }
+    }
+
+    /// Reads on to the next packet.
+    fn advance(&mut self) -> Result<bool, Fault>
+        ensures told { IsTrue I.tells → Advances self.old.source.phase self.old.source result
+            self.new.source }
+        ensures steps { Steps self.old.source.phase self.old.source result self.new.source }
+        ensures few { HasFew self.new.source.declared }
+        ensures is { self.new ≡ input_after self.old result self.new.source }
+    {
+        let result = self.source.advance();
+        self.waiting = matches!(result, Ok(true));
+        self.time = time_in(&self.source);
+        result
+    }
+
+    /// The current packet.
+    pub fn packet(&self) -> Option<Packet<'_>>
+        ensures packet { option_map captured result ≡ self.now.source.packet }
+        ensures short { IfSome result (λ packet. length packet.bytes.now ≤ most_in_unit) }
+        ensures waits { self.now.waiting ≡ true → IsSome result }
+    {
+        self.source.head()
+    }
+
+    /// The current packet is decided.
+    fn mark_decided(&mut self)
+        ensures { self.new ≡ input_behind self.old }
+    {
+        self.greatest = self.greatest.max(self.time);
+        self.waiting = false;
+    }
+
+    fn first_link(&self) -> Option<u16>
+        ensures { result ≡ first_link_of self.now.source.declared }
+    {
+        self.source.first_link()
+    }
+
+    /// The greatest time up to and with the current packet.
+    fn key(&self) -> u64
+        ensures { result ≡ key_of self.now }
+    {
+        self.greatest.max(self.time)
+    }
+
+    /// What the capture is, once its first unit was read.
+    pub fn kind(&self) -> Option<Kind>
+        ensures { result ≡ kind_of self.now.source.declared }
+    {
+        self.source.kind()
+    }
+
+    /// Where the current unit begins, in bytes; at the clean end, the number of bytes.
+    pub fn offset(&self) -> u64
+        ensures { result ≡ self.now.source.offset }
+    {
+        self.source.offset()
+    }
+}
+
+/// The inputs of a job.
+#[derive(Drop)]
+pub struct Inputs<I: Input, A: Allocator> {
+    cursors: Vec<InputCursor<I, A>, A>,
+    schedule: Schedule,
+    /// Of a merge the inputs whose packets wait, with their keys.
+    queue: Queue<A>,
+}
+
+impl<I: Input, A: Allocator> Model for Inputs<I, A> {
+    ghost use Rattle.cap_inputs.specs.Inputs.{InputsView, HoldsQueue};
+
+    ghost Value = { InputsView };
+
+    ghost view = { λ f. record { cursors = f.cursors.items; schedule = f.schedule } };
+
+    ghost invariant = { λ f. HoldsQueue f.schedule f.cursors.items f.queue };
+}
+
+impl<I: Input, A: Allocator> Inputs<I, A> {
+    ghost use Rattle.cap_inputs.specs.Fresh.{fresh_inputs};
+    ghost use Rattle.cap_inputs.specs.Inputs.{offset_at};
+    ghost use Rattle.cap_inputs.specs.Inputs.{InputsView, IsInput, IsNext, MarksDecided};
+    ghost use Rattle.cap_inputs.specs.Inputs.{ReadSteps, ReadsInput, first_declared_link};
+    ghost use Rattle.cap_inputs.specs.Inputs.{is_in_turn};
+
+    /// The inputs, one behind another or merged; `None` where there is no memory.
+    pub fn new(alloc: A, inputs: Vec<I, A>, merges: bool) -> Option<Self>
+    where
+        I: Drop,
+        A: Copy + Drop,
+        ensures { IfSome result (λ made. made ≡ fresh_inputs (order_of merges)
+            (map (fresh_input I.Input) inputs.items)) }
+    {
+        let cursors = cursors_of(alloc, inputs)?;
+        let schedule = schedule_at_first(&cursors, merges);
+        let queue = queue_for(alloc, merges, cursors.len())?;
+        Some(Inputs {
+            cursors,
+            schedule,
+            queue,
+        })
+    }
+
+    /// Whether the inputs come one behind another.
+    pub fn is_in_turn(&self) -> bool
+        ensures { result ≡ is_in_turn self.now.schedule }
+    {
+        matches!(self.schedule, Schedule::Turn(_))
+    }
+
+    /// How many inputs there are.
+    pub fn count(&self) -> usize
+        ensures { result ≡ length self.now.cursors }
+    {
+        self.cursors.len()
+    }
+
+    /// Where the current unit of an input begins, or its next unit.
+    pub fn offset(&self, input: usize) -> u64
+        ensures { result ≡ offset_at self.now.cursors input }
+    {
+        match self.cursors.get(input) {
+            Some(cursor) => cursor.offset(),
+            None => 0,
+        }
+    }
+
+    /// What is next of the inputs.
+    pub fn next(&self) -> Next
+        ensures { IsNext self.now.schedule self.now.cursors result }
+    {
+        match self.schedule {
+            Schedule::Turn(turn) => next_in_turn(&self.cursors, turn),
+            Schedule::Merge(next, last) => next_by_time(&self.cursors, &self.queue, next, last),
+        }
+    }
+
+    /// An input.
+    pub fn cursor(&self, input: usize) -> &InputCursor<I, A>
+        requires { input < length self.now.cursors }
+        ensures { IsInput self.now.cursors input result.now }
+    {
+        &self.cursors[input]
+    }
+
+    /// The current packet of an input, which is the next, is decided.
+    pub fn mark_decided(&mut self, input: usize)
+        requires within { input < length self.old.cursors }
+        requires next { IsNext self.old.schedule self.old.cursors (Next.Decide input) }
+        ensures { MarksDecided self.old input self.new }
+    {
+        self.cursors[input].mark_decided();
+        go_back(&mut self.queue, &mut self.schedule, input);
+    }
+
+    /// The first link type that the inputs declare, in their order.
+    pub fn first_link(&self) -> Option<u16>
+        ensures { result ≡ first_declared_link self.now.cursors }
+    {
+        first_link_in(&self.cursors)
+    }
+
+    /// Reads an input on, which is the next.
+    pub fn read_input(&mut self, input: usize) -> Result<bool, Fault>
+        requires within { input < length self.old.cursors }
+        requires next { IsNext self.old.schedule self.old.cursors (Next.Read input) }
+        ensures told { IsTrue I.tells → ReadsInput self.old input result self.new }
+        ensures steps { ReadSteps self.old input result self.new }
+        ensures count { length self.new.cursors ≡ length self.old.cursors }
+    {
+        let cursor = &mut self.cursors[input];
+        let result = cursor.advance();
+        let entry = Waiting {
+            time: cursor.key(),
+            input,
+        };
+        let waits = cursor.waiting;
+        go_on(
+            &mut self.queue,
+            &mut self.schedule,
+            entry,
+            waits,
+            is_end(result),
+        );
+        result
+    }
+}
+
+/// The first link type that some inputs declare, in their order.
+fn first_link_in<I: Input, A: Allocator>(cursors: &[InputCursor<I, A>]) -> Option<u16>
+    ensures { result ≡ first_declared_link cursors.now }
+{
+    let mut first = None;
+    let mut i = cursors.len();
+    while i > 0 {
+        i -= 1;
+        let cursor = &cursors[i];
+        first = cursor.first_link().or(first);
+    }
+    first
+}
+
+fn is_end(answer: Result<bool, Fault>) -> bool
+    ensures { result ≡ is_clean_end answer }
+{
+    matches!(answer, Ok(false))
+}
+
+fn next_in_turn<I: Input, A: Allocator>(cursors: &[InputCursor<I, A>], turn: usize) -> Next
+    ensures { IsNextInTurn cursors.now turn result }
+{
+    if turn < cursors.len() {
+        let cursor = &cursors[turn];
+        if cursor.waiting {
+            Next::Decide(turn)
+        } else {
+            Next::Read(turn)
+        }
+    } else {
+        Next::Finish
+    }
+}
+
+/// The queue of so many inputs; `None` where there is no memory. Inputs that aren't merged need
+/// none.
+fn queue_for<A: Allocator>(alloc: A, merges: bool, count: usize) -> Option<Queue<A>>
+where
+    A: Drop,
+    ensures { IfSome result (λ q. (q.waiting ≡ []) × (IsTrue merges → count ≤ q.room)) }
+{
+    let room = if merges { count } else { 0 };
+    Queue::new(alloc, room).ok()
+}
+
+/// Goes on behind an input that was read on. If the inputs are merged, it waits where it has a
+/// packet; if not, the next one comes where this one is closed.
+fn go_on<A: Allocator>(
+    queue: &mut Queue<A>,
+    schedule: &mut Schedule,
+    entry: Waiting,
+    waits: bool,
+    closed: bool,
+)
+    requires room { (waits && is_merge schedule.old) ≡ true → HasPlaceFor queue.old entry.input }
+    requires few { entry.input < 2 ^ 64 - 1 }
+    ensures queue { Enters (waits && is_merge schedule.old) entry queue.old queue.new }
+    ensures schedule { schedule.new ≡ schedule_after schedule.old entry.input closed }
+{
+    match schedule {
+        Schedule::Turn(turn) => {
+            if closed {
+                *turn = entry.input + 1;
+            }
+        }
+        Schedule::Merge(next, _) => {
+            *next = entry.input + 1;
+            if waits {
+                queue.add(entry);
+            }
+        }
+    }
+}
+
+/// Goes back to an input whose packet is decided: if the inputs are merged, it waits no more and is
+/// read on next.
+fn go_back<A: Allocator>(queue: &mut Queue<A>, schedule: &mut Schedule, input: usize)
+    requires { input < 2 ^ 64 - 1 }
+    ensures queue { Leaves (is_merge schedule.old) queue.old queue.new }
+    ensures schedule { schedule.new ≡ schedule_behind schedule.old input }
+{
+    if let Schedule::Merge(next, last) = schedule {
+        *next = input;
+        *last = input + 1;
+        queue.take();
+    }
+}
+
+fn next_by_time<I: Input, A: Allocator>(
+    cursors: &[InputCursor<I, A>],
+    queue: &Queue<A>,
+    next: usize,
+    last: usize,
+) -> Next
+    requires { IsQueued cursors.now next last queue.now }
+    ensures { IsNextByTime cursors.now next last result }
+{
+    if next < last && next < cursors.len() {
+        return Next::Read(next);
+    }
+    match queue.peek() {
+        Some(first) => Next::Decide(first.input),
+        None => Next::Finish,
+    }
+}
+
+/// The inputs, of which nothing is read; `None` where there is no memory.
+fn cursors_of<I, A>(alloc: A, inputs: Vec<I, A>) -> Option<Vec<InputCursor<I, A>, A>>
+where
+    I: Input + Drop,
+    A: Allocator + Copy + Drop,
+    ensures { IfSome result (λ cursors. cursors.items ≡ map (λ input. fresh_view
+        (fresh_input I.Input input)) inputs.items) }
+{
+    let mut cursors = Vec::new(alloc);
+    for input in inputs {
+        let cursor = InputCursor::new(Source::new(alloc, input));
+        if cursors.push(cursor).is_err() {
+            return None;
+        }
+    }
+    Some(cursors)
+}
+
+fn schedule_at_first<I: Input, A: Allocator>(
+    cursors: &[InputCursor<I, A>],
+    merges: bool,
+) -> Schedule
+    ensures { result ≡ first_schedule (order_of merges) (length cursors.now) }
+{
+    if merges {
+        Schedule::Merge(0, cursors.len())
+    } else {
+        Schedule::Turn(0)
+    }
+}

@@ -1,9 +1,0 @@
-use Rattle.std.proofs.Common.{◌≡◌, ◌≤◌, length, drop}
-use Rattle.cap_tools.specs.Inputs.{first_declared_link}
-use Rattle.cap_tools.proofs.inputs.first_link_in.Given as goal
-
-abbrev pub invariant-loop-i : goal.invariant-loop-i
-invariant-loop-i g l = (l.i ≤ length l.cursors) × (l.first ≡ first_declared_link (drop l.i l.cursors))
-
-abbrev pub decreases-loop-i : goal.decreases-loop-i
-decreases-loop-i g l = l.i

@@ -1,0 +1,148 @@
+use Rattle.std.proofs.Common.{◌≡◌, ◌+◌, Ok, Err, IsTrue, List, ℕ, subst, sym, ◌∙◌, ap, arith, Bool, refl, Option}
+use Rattle.std.specs.List.{slice_set}
+use Rattle.cap_filter.specs.Outcome.{OutputView}
+use Rattle.cap_tools.specs.Output.{output_at}
+use Rattle.cap_inputs.specs.declared.inputs.Next.TheVariants as next
+use Rattle.cap_tools.specs.declared.step.JobEnd.TheVariants as end
+use Rattle.cap_tools.specs.declared.step.StepOutcome.{StepOutcome}
+use Rattle.cap_tools.specs.declared.step.StepOutcome.TheVariants.{More, Done}
+use Rattle.cap_inputs.specs.Inputs.{InputsView, InputView, InputPast, input_behind, schedule_behind}
+use Rattle.cap_inputs.specs.Inputs as input_spec
+use Rattle.cap_tools.specs.Verdict.{Policy}
+use Rattle.cap_tools.specs.Selector.{SelectorView, policy_state}
+use Rattle.cap_tools.specs.Machine.{MachineState, PacketsDecided, EndLeaves, StepGives, unwritten}
+use Rattle.cap_tools.specs.Start.{Preparing, preparing_of}
+use Rattle.std.specs.Option.{option_map}
+use Rattle.cap_tools.specs.Jobs.{machine_at, JobView}
+use Rattle.cap_tools.specs.Bounds.{decides_one, leaves_one}
+use Rattle.cap_tools.specs.Step.{IsStep}
+use Rattle.cap_tools.proofs.Answers.{answer-leaves, AnswerLeaves}
+use Rattle.cap_tools.proofs.Fetches.{mk, among-same}
+use Rattle.cap_tools.proofs.Held.{answer-waits, held}
+use Rattle.cap_tools.proofs.Kept.{counted-kept, few-kept}
+use Rattle.cap_tools.proofs.Lefts.{mark_decided-less}
+use Rattle.cap_tools.proofs.Preparing.{ready-none}
+use Rattle.cap_tools.proofs.Programs.{have-decided}
+use Rattle.cap_tools.proofs.Turns.{mark_decided-paid}
+use Rattle.cap_tools.proofs.Weights.{is-light, mark_decided-small}
+use Rattle.cap_tools.proofs.job.Job.decide_next.Goals as goal
+use Rattle.cap_tools.proofs.job.Job.decide_next.Goals.{then-last, else-last}
+
+pub decide-requires : goal.decide-requires
+decide-requires g c =
+    let N : JobView → Type 0 = λ v. input_spec.IsNext v.machine.inputs.schedule v.machine.inputs.cursors (next.Decide c.args.input) in
+    answer-waits c.self.inside.inputs.schedule c.self.inside.inputs.cursors c.args.input c.cursor.result.now (subst N (sym c.self.view_is) c.requires.next) c.cursor.ensures
+
+pub invariant_of-self : goal.invariant_of-self
+invariant_of-self g c =
+    let N : JobView → Type 0 = λ v. input_spec.IsNext v.machine.inputs.schedule v.machine.inputs.cursors (next.Decide c.args.input) in
+    let tells = subst N (sym c.self.view_is) c.requires.next in
+    let less = mark_decided-less c.self.inside.inputs c.mark_decided.new.self c.args.input tells c.mark_decided.ensures in
+    let paid = mark_decided-paid c.self.inside.inputs c.mark_decided.new.self c.args.input tells c.mark_decided.ensures in
+    let was = c.self.invariant.0 in (
+      omega (arith, less, was),
+      (mark_decided-small c.self.inside.inputs c.mark_decided.new.self c.args.input c.mark_decided.ensures c.self.invariant.1.0, c.decide.ensures.few c.self.invariant.1.1),
+      c.decide.ensures.marks,
+      have-decided c.cursor.result.now.source.packet c.self.inside.selector (c.self.inside.decided + 1) c.decide.new.selector c.decide.ensures.spends c.decide.ensures.policy c.self.invariant.3,
+      counted-kept c.self.inside.done c.self.inside.turns _ _ (omega (arith, less)) c.self.invariant.4,
+      few-kept c.self.inside.done c.self.inside.turns c.self.inside.inputs c.mark_decided.new.self paid c.self.invariant.5,
+      ready-none _ _ (ap (λ (v : JobView). v.preparing) c.self.view_is ∙ c.requires.prepared),
+    )
+
+pub invariant_of-self-in-Err : goal.invariant_of-self-in-Err
+invariant_of-self-in-Err g c = (
+  c.self.invariant.0,
+  (c.self.invariant.1.0, c.decide.ensures.few c.self.invariant.1.1),
+  c.decide.ensures.marks,
+  have-decided c.cursor.result.now.source.packet c.self.inside.selector (c.self.inside.decided + 1) c.decide.new.selector c.decide.ensures.spends c.decide.ensures.policy c.self.invariant.3,
+  c.self.invariant.4,
+  c.self.invariant.5,
+  ready-none _ _ (ap (λ (v : JobView). v.preparing) c.self.view_is ∙ c.requires.prepared),
+)
+
+pub returns-in-Err : goal.returns-in-Err
+returns-in-Err g c =
+    let preparing : Option Preparing = option_map preparing_of c.self.inside.preparation in
+    let j : SelectorView = c.decide.new.selector in
+    let m : MachineState = machine_at c.self.inside.inputs c.self.inside.selector (output_at c.self.inside.messages.names c.self.inside.output) c.self.inside.decided in
+    let err : OutputView = c.self.inside.messages.device in
+    let left : Policy → MachineState = λ k. record { inputs = c.self.inside.inputs; policy = k; state = j.state; output = output_at c.self.inside.messages.names c.decide.new.output; decided = c.self.inside.decided } in
+    let new : JobView = record { preparing = preparing; machine = left j.policy; programs = j.programs; err = err; turns = c.self.inside.turns; done = c.self.inside.done } in
+    let N : JobView → Type 0 = λ v. input_spec.IsNext v.machine.inputs.schedule v.machine.inputs.cursors (next.Decide c.args.input) in
+    let tells = subst N (sym c.self.view_is) c.requires.next in
+    let h = held c.cursor.result.now.source.packet c.self.inside.selector (c.self.inside.decided + 1) c.decide.new.selector c.decide.ensures.spends in
+    let P : JobView → Type 0 = λ v. IsStep g.I.Input.tells g.O.Output.tells v (Done (unwritten c.args.input c.in-Err.fault)) new in
+    rw c.unwritten.ensures (subst P c.self.view_is (record {
+      told = λ ti to ss before d.
+          let K : Policy → Type 0 = λ k. EndLeaves d (unwritten c.args.input c.in-Err.fault) (left k) in
+          subst K (sym c.in-Err.ensures.policy)
+          (answer-leaves ss before m.inputs.cursors m.inputs.schedule m.policy m.state m.output m.decided c.args.input (Err c.in-Err.fault) c.cursor.result.now (policy_state j) (output_at c.self.inside.messages.names c.decide.new.output) refl tells c.cursor.ensures c.in-Err.ensures.policy c.in-Err.ensures.passed c.in-Err.ensures.counted (let i = c.self.invariant.0 in omega (arith, i)) (c.in-Err.ensures.told to) d);
+      reads = leaves_one c.args.input refl (record {
+        packet = h.packet;
+        holds = record { cursor = c.cursor.result.now; among = c.cursor.ensures; waits = answer-waits m.inputs.schedule m.inputs.cursors c.args.input c.cursor.result.now tells c.cursor.ensures; held = h.is };
+        inputs = refl;
+        decided = refl;
+        programs = h.spends;
+        cost = h.cost;
+      });
+      progress = λ more. (cc);
+      paid = λ more. (cc);
+      light = is-light (left j.policy) (c.self.invariant.1.0, c.decide.ensures.few c.self.invariant.1.1) c.decide.ensures.marks;
+      sound = have-decided c.cursor.result.now.source.packet c.self.inside.selector (c.self.inside.decided + 1) j c.decide.ensures.spends c.decide.ensures.policy c.self.invariant.3;
+      policy = c.in-Err.ensures.policy;
+      names = refl;
+      preparing = refl;
+      err = refl;
+      turns = refl;
+      done = λ more. refl;
+    }))
+
+pub returns-after-last : goal.returns-after-last
+returns-after-last g c =
+    let preparing : Option Preparing = option_map preparing_of c.self.inside.preparation in
+    let j : SelectorView = c.decide.new.selector in
+    let m : MachineState = machine_at c.self.inside.inputs c.self.inside.selector (output_at c.self.inside.messages.names c.self.inside.output) c.self.inside.decided in
+    let err : OutputView = c.self.inside.messages.device in
+    let left : InputsView → Policy → MachineState = λ f k. record { inputs = f; policy = k; state = j.state; output = output_at c.self.inside.messages.names c.decide.new.output; decided = c.self.inside.decided + 1 } in
+    let was : JobView = record { preparing = preparing; machine = m; programs = c.self.inside.selector.programs; err = err; turns = c.self.inside.turns; done = c.self.inside.done } in
+    let new : JobView = record { preparing = preparing; machine = left c.mark_decided.new.self j.policy; programs = j.programs; err = err; turns = c.self.inside.turns; done = c.self.inside.done } in
+    let N : JobView → Type 0 = λ v. input_spec.IsNext v.machine.inputs.schedule v.machine.inputs.cursors (next.Decide c.args.input) in
+    let tells = subst N (sym c.self.view_is) c.requires.next in
+    let behind : InputView → InputsView = λ v. record { cursors = slice_set m.inputs.cursors c.args.input (input_behind v); schedule = schedule_behind m.inputs.schedule c.args.input } in
+    let same = among-same m.inputs.cursors c.args.input c.cursor.result.now c.mark_decided.ensures.cursor c.cursor.ensures c.mark_decided.ensures.among in
+    let inputs : c.mark_decided.new.self ≡ behind c.cursor.result.now = c.mark_decided.ensures.is ∙ ap behind (sym same) in
+    let failed : MachineState = mk m.inputs.cursors m.inputs.schedule m.policy j.state (output_at c.self.inside.messages.names c.decide.new.output) m.decided in
+    let all : (ss : List InputPast) (before : List ℕ) (d : PacketsDecided ss before m) → IsTrue g.O.Output.tells → AnswerLeaves d c.args.input (Ok c.in-Ok.last) (left c.mark_decided.new.self j.policy) failed = λ ss before d to.
+    let NF : InputsView → Type 0 = λ f. AnswerLeaves d c.args.input (Ok c.in-Ok.last) (left f m.policy) failed in
+    let NK : Policy → Type 0 = λ k. AnswerLeaves d c.args.input (Ok c.in-Ok.last) (left c.mark_decided.new.self k) failed in
+    subst NK (sym c.in-Ok.ensures.policy) (subst NF (sym inputs)
+    (answer-leaves ss before m.inputs.cursors m.inputs.schedule m.policy m.state m.output m.decided c.args.input (Ok c.in-Ok.last) c.cursor.result.now (policy_state j) (output_at c.self.inside.messages.names c.decide.new.output) refl tells c.cursor.ensures c.in-Ok.ensures.policy c.in-Ok.ensures.passed c.in-Ok.ensures.counted (let i = c.self.invariant.0 in omega (arith, i)) (c.in-Ok.ensures.told to) d)) in
+    let h = held c.cursor.result.now.source.packet c.self.inside.selector (c.self.inside.decided + 1) c.decide.new.selector c.decide.ensures.spends in
+    let S : StepOutcome → JobView → Type 0 = λ r v. IsStep g.I.Input.tells g.O.Output.tells v r new in
+    let step : (r : StepOutcome) → (IsTrue g.O.Output.tells → StepGives m r new.machine) → S r was = λ r told. record {
+      told = λ ti to. told to;
+      reads = decides_one c.args.input (record {
+        packet = h.packet;
+        holds = record { cursor = c.cursor.result.now; among = c.cursor.ensures; waits = answer-waits m.inputs.schedule m.inputs.cursors c.args.input c.cursor.result.now tells c.cursor.ensures; held = h.is };
+        settles = c.mark_decided.ensures;
+        decided = refl;
+        programs = h.spends;
+        cost = h.cost;
+      });
+      progress = λ more. mark_decided-less c.self.inside.inputs c.mark_decided.new.self c.args.input tells c.mark_decided.ensures;
+      paid = λ more. mark_decided-paid c.self.inside.inputs c.mark_decided.new.self c.args.input tells c.mark_decided.ensures;
+      light = is-light (left c.mark_decided.new.self j.policy) (mark_decided-small c.self.inside.inputs c.mark_decided.new.self c.args.input c.mark_decided.ensures c.self.invariant.1.0, c.decide.ensures.few c.self.invariant.1.1) c.decide.ensures.marks;
+      sound = have-decided c.cursor.result.now.source.packet c.self.inside.selector (c.self.inside.decided + 1) j c.decide.ensures.spends c.decide.ensures.policy c.self.invariant.3;
+      policy = c.in-Ok.ensures.policy;
+      names = refl;
+      preparing = refl;
+      err = refl;
+      turns = refl;
+      done = λ more. refl;
+    } in
+    let goes : (r : StepOutcome) → S r was → S r c.args.self.now = λ r s. (let Q : JobView → Type 0 = λ v. S r v in subst Q c.self.view_is s) in
+    let R : (ss : List InputPast) (before : List ℕ) → PacketsDecided ss before m → Bool → Type 0 = λ ss before d b. AnswerLeaves d c.args.input (Ok b) new.machine failed in
+    elim c.if-last.branch [
+      | then-last w ↦ rw w.result-is (goes (Done end.Complete) (step (Done end.Complete) (λ to ss before d. (let B : Bool → Type 0 = λ b. R ss before d b in subst B w.if-last.true (all ss before d to)))))
+      | else-last w ↦ rw w.result-is (goes More (step More (λ to ss before d. (let B : Bool → Type 0 = λ b. R ss before d b in subst B w.if-last.false (all ss before d to)))))
+    ]

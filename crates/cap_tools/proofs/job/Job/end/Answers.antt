@@ -1,0 +1,33 @@
+use Rattle.std.proofs.Common.{◌≡◌, ℕ, ◌+◌, List, Some, ap, ap₂, subst, Option}
+use Rattle.cap_filter.specs.Outcome.{IsTold}
+use Rattle.cap_tools.specs.Output.{output_at}
+use Rattle.cap_tools.specs.Messages.{MessagesView}
+use Rattle.cap_tools.specs.Start.{Preparing, preparing_of}
+use Rattle.std.specs.Option.{option_map}
+use Rattle.cap_tools.specs.Jobs.{JobView, end_text}
+use Rattle.cap_tools.specs.Step.{ending}
+use Rattle.cap_tools.proofs.job.Job.end.Goals as goal
+
+pub returns-clause-ended : goal.returns-clause-ended
+returns-clause-ended g c =
+    let preparing : Option Preparing = option_map preparing_of c.self.inside.preparation in
+    let with : List (List ℕ) → ℕ → JobView = λ names status. record {
+      preparing = preparing;
+      machine = record { inputs = c.self.inside.inputs; policy = c.self.inside.selector.policy; state = c.self.inside.selector.state; output = output_at names c.self.inside.output; decided = c.self.inside.decided };
+      programs = c.self.inside.selector.programs;
+      err = c.end.new.self.device;
+      turns = c.self.inside.turns + 1;
+      done = Some status;
+    } in
+    let P : JobView → Type 0 = λ v. with c.end.new.self.names c.status_at_end-status.result ≡ ending c.args.end c.end.new.self.device v in
+    subst P c.self.view_is (ap₂ with c.end.ensures.names c.status_at_end-status.ensures)
+
+pub returns-clause-told : goal.returns-clause-told
+returns-clause-told g c =
+    let P : JobView → Type 0 = λ v. IsTold g.E.Output.tells v.err (end_text v.machine.output.names v.machine.inputs.cursors c.args.end) c.end.new.self.device in
+    subst P c.self.view_is c.end.ensures.told
+
+pub returns-clause-quiet : goal.returns-clause-quiet
+returns-clause-quiet g c = λ clean.
+    let P : JobView → Type 0 = λ v. c.end.new.self.device ≡ v.err in
+    subst P c.self.view_is (ap (λ (m : MessagesView). m.device) (c.end.ensures.quiet clean))

@@ -1,0 +1,11 @@
+use Rattle.std.proofs.Common.{arith, subst, sym}
+use Rattle.cap_tools.specs.Output.{output_at}
+use Rattle.cap_tools.specs.Selector.{HasFewMarks, SelectorView}
+use Rattle.cap_tools.proofs.Weights.{is-light}
+use Rattle.cap_tools.proofs.job.Job.filter.Goals as goal
+
+pub returns-clause-light : goal.returns-clause-light
+returns-clause-light g c =
+    let few : HasFewMarks c.filtering.result.policy c.filtering.result.state = (let P : SelectorView → Type 0 = λ v. HasFewMarks v.policy v.state in subst P (sym c.filtering.ensures) (omega arith)) in
+    is-light (record { inputs = c.self.inside.inputs; policy = c.filtering.result.policy; state = c.filtering.result.state; output = output_at c.self.inside.messages.names c.self.inside.output; decided = c.self.inside.decided })
+    c.self.invariant.1 few

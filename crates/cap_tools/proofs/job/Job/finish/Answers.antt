@@ -1,0 +1,54 @@
+use Rattle.std.proofs.Common.{Result, Option, IsTrue, List, ℕ, refl, subst, sym}
+use Rattle.cap_octet.specs.declared.fault.Fault.{Fault}
+use Rattle.cap_filter.specs.Outcome.{OutputView}
+use Rattle.cap_inputs.specs.declared.inputs.Next.TheVariants as next
+use Rattle.cap_tools.specs.declared.step.JobEnd.{JobEnd}
+use Rattle.cap_tools.specs.declared.step.JobEnd.TheVariants as end
+use Rattle.cap_tools.specs.declared.step.StepOutcome.TheVariants.{Done}
+use Rattle.cap_tools.specs.Output.{output_at, Finishes}
+use Rattle.cap_inputs.specs.Inputs.{InputPast}
+use Rattle.cap_inputs.specs.Inputs as input_spec
+use Rattle.cap_tools.specs.Machine.{MachineState, PacketsDecided, EndLeaves}
+use Rattle.cap_tools.specs.Start.{Preparing, preparing_of}
+use Rattle.std.specs.Option.{option_map}
+use Rattle.cap_tools.specs.Jobs.{machine_at, JobView}
+use Rattle.cap_tools.specs.Bounds.{reads_nothing}
+use Rattle.cap_tools.specs.Step.{IsStep}
+use Rattle.cap_tools.proofs.Finishes.{finish-leaves, FinishLeaves}
+use Rattle.cap_tools.proofs.Weights.{is-light}
+use Rattle.cap_tools.proofs.job.Job.finish.Goals as goal
+use Rattle.cap_tools.proofs.job.Job.finish.Goals.{in-Ok, in-Err}
+
+pub returns : goal.returns
+returns g c =
+    let preparing : Option Preparing = option_map preparing_of c.self.inside.preparation in
+    let m : MachineState = machine_at c.self.inside.inputs c.self.inside.selector (output_at c.self.inside.messages.names c.self.inside.output) c.self.inside.decided in
+    let err : OutputView = c.self.inside.messages.device in
+    let left : MachineState = record { inputs = c.self.inside.inputs; policy = c.self.inside.selector.policy; state = c.self.inside.selector.state; output = output_at c.self.inside.messages.names c.finish.new.self; decided = c.self.inside.decided } in
+    let new : JobView = record { preparing = preparing; machine = left; programs = c.self.inside.selector.programs; err = err; turns = c.self.inside.turns; done = c.self.inside.done } in
+    let N : JobView → Type 0 = λ v. input_spec.IsNext v.machine.inputs.schedule v.machine.inputs.cursors next.Finish in
+    let tells = subst N (sym c.self.view_is) c.requires.next in
+    let F : Option ℕ → Type 0 = λ o. Finishes o m.output.target c.finish.result left.output.target in
+    let all : (ss : List InputPast) (before : List ℕ) (d : PacketsDecided ss before m) → IsTrue g.O.Output.tells → FinishLeaves d c.finish.result left = λ ss before d to.
+    finish-leaves ss before m.inputs.cursors m.inputs.schedule m.policy m.state m.output m.decided c.finish.result left tells refl (subst F c.first_link-first.ensures (c.finish.ensures.told to)) d in
+    let S : JobEnd → JobView → Type 0 = λ e v. IsStep g.I.Input.tells g.O.Output.tells v (Done e) new in
+    let step : (e : JobEnd) → ((ss : List InputPast) (before : List ℕ) (d : PacketsDecided ss before m) → IsTrue g.O.Output.tells → EndLeaves d e left) → S e c.args.self.now = λ e told.
+    let Q : JobView → Type 0 = λ v. S e v in
+    subst Q c.self.view_is (record {
+      told = λ ti to ss before d. told ss before d to;
+      reads = reads_nothing refl (record { inputs = refl; decided = refl; programs = refl });
+      progress = λ more. (cc);
+      paid = λ more. (cc);
+      light = is-light left (c.self.invariant.1.0, c.finish.ensures.few c.self.invariant.1.1) c.self.invariant.2;
+      sound = c.self.invariant.3;
+      policy = refl;
+      names = refl;
+      preparing = refl;
+      err = refl;
+      turns = refl;
+      done = λ more. refl;
+    }) in
+    elim c.match-finish.branch [
+      | in-Ok w ↦ rw w.result-is (step end.Complete (λ ss before d to. (let R : Result (Unit {0}) Fault → Type 0 = λ r. FinishLeaves d r left in subst R w.in-Ok.is (all ss before d to))))
+      | in-Err w ↦ rw w.result-is (step end.OutputFailed (λ ss before d to. (let R : Result (Unit {0}) Fault → Type 0 = λ r. FinishLeaves d r left in subst R w.in-Err.is (all ss before d to))))
+    ]

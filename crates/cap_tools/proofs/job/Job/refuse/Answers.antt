@@ -1,0 +1,30 @@
+use Rattle.std.proofs.Common.{◌≡◌, ◌∙◌, ℕ, ◌+◌, List, Option, None, Some, refl, ap, ap₂, subst}
+use Rattle.std.specs.Option.{option_map}
+use Rattle.cap_filter.specs.Messages.{refusal_status}
+use Rattle.cap_tools.specs.Output.{output_at}
+use Rattle.cap_tools.specs.Start.{Preparing, preparing_of}
+use Rattle.cap_tools.specs.Jobs.{JobView, machine_at}
+use Rattle.cap_tools.specs.FirstStep.{Refuses}
+use Rattle.cap_tools.proofs.Weights.{is-light}
+use Rattle.cap_tools.proofs.job.Job.refuse.Goals as goal
+
+pub returns-clause-refused : goal.returns-clause-refused
+returns-clause-refused g c =
+    let preparing : Option Preparing = option_map preparing_of c.self.inside.preparation in
+    let none : preparing ≡ None = ap (λ (v : JobView). v.preparing) c.self.view_is ∙ c.requires.taken in
+    let with : Option Preparing → List (List ℕ) → ℕ → JobView = λ p names status. record {
+      preparing = p;
+      machine = machine_at c.self.inside.inputs c.self.inside.selector (output_at names c.self.inside.output) c.self.inside.decided;
+      programs = c.self.inside.selector.programs;
+      err = c.refuse.new.self.device;
+      turns = c.self.inside.turns + 1;
+      done = Some status;
+    } in
+    let P : JobView → Type 0 = λ v. Refuses c.args.refusal g.E.Output.tells v (refusal_status c.args.refusal) (with preparing c.refuse.new.self.names c.status-status.result) in
+    let N : Option Preparing → JobView = λ p. with p c.refuse.new.self.names c.status-status.result in
+    subst P c.self.view_is (record { status_is = refl; told = c.refuse.ensures.told; new_is = ap N none ∙ ap₂ (with None) c.refuse.ensures.names c.status-status.ensures })
+
+pub returns-clause-light : goal.returns-clause-light
+returns-clause-light g c =
+    is-light (machine_at c.self.inside.inputs c.self.inside.selector (output_at c.refuse.new.self.names c.self.inside.output) c.self.inside.decided)
+    c.self.invariant.1 c.self.invariant.2

@@ -1,6 +1,0 @@
-use Rattle.std.specs.List.{IsDistinct}
-use Rattle.cap_tools.proofs.queue.Queue.new.Goals as goal
-
-pub invariant_of-result : goal.invariant_of-result
-unfolding IsDistinct
-invariant_of-result g c = (c.in_ok-with_capacity.ensures.heap_order, rw (c.in_ok-with_capacity.ensures.items) tt)

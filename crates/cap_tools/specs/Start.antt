@@ -1,0 +1,58 @@
+-- What a command asks of its job, and what the job does before its first packet.
+use Rattle.std.specs.Prelude.{ℕ, not, List, Option, None, Some, string_bytes}
+use Rattle.cap_octet.specs.declared.format.Format.{Format}
+use Rattle.cap_print.specs.declared.print.Options.{Options}
+use Rattle.flt_gen.specs.declared.link.Link.{Link}
+use Rattle.cap_filter.specs.declared.command.Command.{Command}
+use Rattle.cap_filter.specs.declared.command.Print.{Print}
+use Rattle.cap_filter.specs.declared.command.Command.TheVariants as command
+use Rattle.cap_filter.specs.FilterRules.{code_of}
+use Rattle.cap_tools.specs.declared.start.Preparation.{Preparation}
+use Rattle.cap_tools.specs.declared.start.Preparation.TheVariants as preparation
+use Rattle.cap_tools.specs.declared.output.Writing.{Writing}
+use Rattle.cap_tools.specs.declared.output.Writing.TheVariants as writing
+use Rattle.cap_inputs.specs.Sequence.{PacketOrder, InTurn, order_of}
+use Rattle.cap_tools.specs.Verdict.{Policy, Edit, KeepAll, Count}
+use Rattle.cap_tools.specs.Selector.{edit_rule_of}
+
+-- a filter by these words, or by a listing, for so many packets at most
+pub record FilterAsked : Type 0 where
+  pub words : List ℕ
+  pub code : Option (List ℕ)
+  pub count : Option ℕ
+
+abbrev pub asked_by : {Z : Type 0} → Print Z → FilterAsked
+asked_by print = record { words = string_bytes print.expr; code = code_of print; count = print.count }
+
+-- what a job does before its first packet: it reads a filter, or it compiles an expression, and nothing else
+pub data Preparing : Type 0 where
+  ReadsFilter : FilterAsked → Preparing
+  Compiles : (words : List ℕ) → (link : Link) → Preparing
+
+abbrev pub preparing_of : {Z : Type 0} → Preparation Z → Preparing
+preparing_of (preparation.Filter print) = ReadsFilter (asked_by print)
+preparing_of (preparation.Listing compile) = Compiles (string_bytes compile.expr) compile.link
+
+-- what is done first, the policy for packets, in which order they come, and what is written
+pub record Assignment : Type 0 where
+  pub preparing : Option Preparing
+  pub policy : Policy
+  pub order : PacketOrder
+  pub writing : Writing
+
+-- packets in a format where there is one, else their lines
+abbrev pub lines_unless : Option Format → Options → Writing
+lines_unless None options = writing.Lines options
+lines_unless (Some format) options = writing.Capture format
+
+abbrev pub assigned : {Z : Type 0} → Command Z → Assignment
+assigned (command.Edit edit) = record { preparing = None; policy = Edit (edit_rule_of edit); order = InTurn; writing = writing.Capture edit.format }
+assigned (command.Merge merge) = record { preparing = None; policy = KeepAll; order = order_of (not merge.append); writing = writing.Capture merge.format }
+assigned command.Infos = record { preparing = None; policy = Count; order = InTurn; writing = writing.Text }
+assigned (command.Print print) = record {
+  preparing = Some (ReadsFilter (asked_by print));
+  policy = KeepAll;
+  order = InTurn;
+  writing = lines_unless print.write (record { link = print.link; bytes = print.bytes });
+}
+assigned (command.Compile compile) = record { preparing = Some (Compiles (string_bytes compile.expr) compile.link); policy = KeepAll; order = InTurn; writing = writing.Text }

@@ -1,0 +1,129 @@
+//! What a command asks of its job, and what the job does before its first packet.
+ghost use Rattle.std.specs.Prelude.{◌≡◌, [], IfErr, IfOk, None, Some, false, string_bytes};
+ghost use Rattle.std.specs.Option.{option_map};
+ghost use Rattle.cap_filter.specs.FilterRules.{IsRule, IsWhy, code_of};
+ghost use Rattle.cap_filter.specs.Filters.{AreNew, programs_of, rule_of};
+ghost use Rattle.cap_tools.specs.Selector.{HavePrograms, policy_of, programs_in};
+ghost use Rattle.cap_inputs.specs.Sequence.{order_of};
+ghost use Rattle.cap_tools.specs.Start.{assigned, lines_unless, preparing_of};
+
+use crate::output::Writing;
+use crate::selector::Policy;
+use cap_filter::command::{Command, Compile, Print};
+use cap_filter::filter::{Filter, read_code, read_words};
+use cap_filter::refusal::Refusal;
+use cap_print::Options;
+use std::alloc::Allocator;
+
+/// What a job does before its first packet.
+#[derive(Drop)]
+pub enum Preparation<A: Allocator> {
+    /// Reads the filter of a print, its words or its listing.
+    Filter(Print<A>),
+    /// Compiles an expression and writes its listing, and nothing else.
+    Listing(Compile<A>),
+}
+
+/// What a command asks for.
+#[derive(Drop)]
+pub struct Assignment<A: Allocator> {
+    pub preparation: Option<Preparation<A>>,
+    /// By what packets are judged.
+    pub policy: Policy<A>,
+    pub writing: Writing,
+    /// Whether the inputs are merged by their times, in place of one behind another.
+    pub merges: bool,
+}
+
+/// What a print writes: packets in a format if there is one, else their lines.
+fn writing_of<A: Allocator>(print: &Print<A>) -> Writing
+    ensures { result ≡ lines_unless print.now.write (record {
+      link = print.now.link;
+      bytes = print.now.bytes;
+    }) }
+{
+    match print.write {
+        Some(format) => Writing::Capture(format),
+        None => Writing::Lines(Options {
+            link: print.link,
+            bytes: print.bytes,
+        }),
+    }
+}
+
+/// Packets are judged by this from the first step on.
+fn packets_alone<A: Allocator>(policy: Policy<A>, writing: Writing, merges: bool) -> Assignment<A>
+    ensures preparing { result.preparation ≡ None }
+    ensures policy { result.policy ≡ policy }
+    ensures writing { result.writing ≡ writing }
+    ensures merges { result.merges ≡ merges }
+{
+    Assignment {
+        preparation: None,
+        policy,
+        writing,
+        merges,
+    }
+}
+
+/// Something is read or compiled first.
+fn prepared_by<A: Allocator>(preparation: Preparation<A>, writing: Writing) -> Assignment<A>
+    ensures preparing { result.preparation ≡ Some preparation }
+    ensures policy { result.policy ≡ Policy.KeepAll }
+    ensures writing { result.writing ≡ writing }
+    ensures merges { result.merges ≡ false }
+{
+    Assignment {
+        preparation: Some(preparation),
+        policy: Policy::KeepAll,
+        writing,
+        merges: false,
+    }
+}
+
+/// What a command asks for. The filter of a print is read in the first step.
+pub fn assignment_of<A: Allocator>(command: Command<A>) -> Assignment<A>
+    ensures preparing { option_map preparing_of result.preparation ≡ (assigned command).preparing }
+    ensures policy { policy_of result.policy ≡ (assigned command).policy }
+    ensures order { order_of result.merges ≡ (assigned command).order }
+    ensures writing { result.writing ≡ (assigned command).writing }
+    ensures programs { programs_in result.policy ≡ [] }
+    ensures sound { HavePrograms (policy_of result.policy) (programs_in result.policy) }
+{
+    match command {
+        Command::Edit(edit) => {
+            let writing = Writing::Capture(edit.format);
+            packets_alone(Policy::Edit(edit), writing, false)
+        }
+        Command::Merge(merge) => {
+            packets_alone(
+                Policy::KeepAll,
+                Writing::Capture(merge.format),
+                !merge.append,
+            )
+        }
+        Command::Infos => packets_alone(Policy::Count, Writing::Text, false),
+        Command::Print(print) => {
+            let writing = writing_of(&print);
+            prepared_by(Preparation::Filter(print), writing)
+        }
+        Command::Compile(compile) => prepared_by(Preparation::Listing(compile), Writing::Text),
+    }
+}
+
+/// The filter that a print is asked for.
+pub fn read_filter<A: Allocator + Copy + Drop>(
+    alloc: A,
+    print: &Print<A>,
+) -> Result<Filter<A>, Refusal>
+    ensures rule { IfOk result (λ filter. IsRule (string_bytes print.now.expr) (code_of print.now)
+        (rule_of filter)) }
+    ensures programs { IfOk result (λ filter. AreNew (rule_of filter) (programs_of filter)) }
+    ensures refused { IfErr result (IsWhy (string_bytes print.now.expr) (code_of print.now)) }
+{
+    let words = print.expr.as_str();
+    match &print.code {
+        Some(text) => read_code(alloc, words, text),
+        None => read_words(alloc, words),
+    }
+}
