@@ -11,6 +11,7 @@ pub mod Numbers
 pub mod Lines
 pub mod LineByLine
 pub mod InsnLines
+pub mod Reach
 pub mod Readings
 pub mod Wrong
 pub mod Written

@@ -7,6 +7,7 @@ pub mod Listing
 pub mod Machine
 pub mod Message
 pub mod Position
+pub mod Reach
 pub mod Reading
 pub mod Refusal
 pub mod Valid

@@ -3,6 +3,7 @@
 ghost use Rattle.std.specs.Prelude.{◌≡◌, Some, true};
 ghost use Rattle.std.specs.Option.{is_some};
 ghost use Rattle.flt_bpf.specs.Instructions.{code_of, operation_of};
+ghost use Rattle.flt_bpf.specs.Machine.{size_of};
 
 /// A register of 32 bits.
 #[derive(Clone, Copy, PartialEq, Eq, Debug)]
@@ -19,6 +20,20 @@ pub enum Width {
     Word,
     HalfWord,
     Byte,
+}
+
+impl Width {
+    /// How many bytes a load takes.
+    #[inline(always)]
+    pub(crate) fn size(self) -> usize
+        ensures { result ≡ size_of self }
+    {
+        match self {
+            Width::Word => 4,
+            Width::HalfWord => 2,
+            Width::Byte => 1,
+        }
+    }
 }
 
 /// What a register is loaded with, where it isn't bytes of the packet.
