@@ -1,5 +1,6 @@
 -- The lemmas that several proofs share.
 pub mod Rules
+pub mod Codes
 pub mod Checking
 pub mod Scan
 pub mod Steps

@@ -1,8 +1,17 @@
-//! Laws over the definitions of listings.
+//! Laws over the definitions of codes and of listings.
 
-ghost use Rattle.std.specs.Prelude.{◌≡◌, ℕ, ◌≤◌, List, length, All};
+ghost use Rattle.std.specs.Prelude.{◌≡◌, ℕ, ◌≤◌, List, length, All, Some};
 ghost use Rattle.flt_bpf.specs.declared.insn.Insn.{Insn};
+ghost use Rattle.flt_bpf.specs.declared.operation.Operation.{Operation};
+ghost use Rattle.flt_bpf.specs.Instructions.{code_of, operation_of};
 ghost use Rattle.flt_bpf.specs.Listing.{listing, InRange, IsListing, IsRefusedAt};
+
+/// An operation that a code gives has this code. The other way round is in the contract of
+/// `Operation::code`.
+pub fn code_back()
+    ensures { (code : ℕ) (operation : Operation) → operation_of code ≡ Some operation
+        → code_of operation ≡ code }
+{}
 
 /// What is written is read back: the listing of at most 32,768 instructions whose fields are in
 /// range is a listing of these instructions and of no others, and it is refused at no line.
