@@ -1,5 +1,5 @@
 -- The code of an operation that a code gives is that code.
-use Rattle.std.proofs.Common.{◌≡◌, ℕ, List, [], ◌∷◌, Option, Some, None, refl, arith}
+use Rattle.std.proofs.Common.{◌≡◌, ℕ, List, [], ◌∷◌, Option, Some, None, arith}
 use Rattle.std.proofs.lemmas.Bool.Decides.{nat_tests}
 use Rattle.flt_bpf.specs.declared.operation.Operation.{Operation}
 use Rattle.flt_bpf.specs.Instructions.{code_of, found, operations, operation_of}
@@ -13,11 +13,3 @@ found_code (p ∷ os) code o e =
 pub back_of_code : (code : ℕ) (o : Operation) → operation_of code ≡ Some o → code_of o ≡ code
 unfolding operation_of
 back_of_code code o e = found_code operations code o e
-
--- a code is no operation's if it isn't that of the operation that each operation with this code is
-pub no_other : (code : ℕ) (o : Operation) → ((p : Operation) → operation_of code ≡ Some p → o ≡ p) → (code_of o ≡ code → ⊥) → (r : Option Operation) → operation_of code ≡ r → None ≡ r
-no_other code o only differs None e = refl
-no_other code o only differs (Some p) e =
-    let same = only p e in
-    let back = back_of_code code p e in
-    absurd (differs cc)
