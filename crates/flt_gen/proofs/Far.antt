@@ -24,12 +24,12 @@ use Rattle.flt_bpf.specs.Instructions.{operation_of, code_of}
 use Rattle.flt_gen.specs.Elementary.{network}
 use Rattle.flt_gen.specs.Numbers.{width_of}
 use Rattle.flt_gen.specs.Formula.{Formula, Single, Compare, Both, Either, Except, Guard, Fork, Choose, Among}
-use Rattle.flt_gen.specs.Code.{plain, computation, branch_insn, jump_before, branch_before, comparison_before, field_before, mask_before, base_before, transport_before, accessor_before, number_before, Entered, at_top, chain_before, search_before, LEVELS, elementary_before, fork_before, emitted, NEAR}
+use Rattle.flt_gen.specs.Code.{plain, computation, constant, constant_operand, branch_insn, jump_before, branch_before, comparison_before, field_before, mask_before, base_before, transport_before, accessor_before, number_before, Entered, at_top, chain_before, search_before, LEVELS, elementary_before, fork_before, emitted, NEAR}
 use Rattle.flt_gen.specs.declared.follow.Knowledge.{Knowledge}
 use Rattle.flt_gen.specs.Follow.{and_fork, load_code, fact, always, and_fact, target}
 use Rattle.flt_gen.specs.declared.elementary.Elementary.{Elementary}
 use Rattle.flt_gen.specs.Layout.{is_branch, JUMP, IsNeeded, JumpsAreNeeded}
-use Rattle.flt_gen.proofs.Tails.{tail, Extends, extends_none, extends_on, test_extends, relation_extends, emitted_extends, by_test}
+use Rattle.flt_gen.proofs.Tails.{tail, Extends, extends_none, extends_on, test_extends, relation_extends, emitted_extends, by_test, by_right}
 use Rattle.flt_bpf.specs.declared.operation.Operation.TheVariants.{Jump, JumpIf, LoadIndirect}
 
 pub load_no_jump : (w : Width) → load_code w ≢ JUMP
@@ -42,17 +42,27 @@ indirect_no_jump Word = λ e. absurd (omega arith)
 indirect_no_jump HalfWord = λ e. absurd (omega arith)
 indirect_no_jump Byte = λ e. absurd (omega arith)
 
-pub operator_no_jump : (a : Operator) → code_of (computation a) ≢ JUMP
-operator_no_jump Add = λ e. absurd (omega arith)
-operator_no_jump Subtract = λ e. absurd (omega arith)
-operator_no_jump Multiply = λ e. absurd (omega arith)
-operator_no_jump Divide = λ e. absurd (omega arith)
-operator_no_jump Or = λ e. absurd (omega arith)
-operator_no_jump And = λ e. absurd (omega arith)
-operator_no_jump ShiftLeft = λ e. absurd (omega arith)
-operator_no_jump ShiftRight = λ e. absurd (omega arith)
-operator_no_jump Remainder = λ e. absurd (omega arith)
-operator_no_jump ExclusiveOr = λ e. absurd (omega arith)
+pub operator_no_jump : (a : Operator) (o : Operand) → code_of (computation a o) ≢ JUMP
+operator_no_jump Add Constant = λ e. absurd (omega arith)
+operator_no_jump Add IndexRegister = λ e. absurd (omega arith)
+operator_no_jump Subtract Constant = λ e. absurd (omega arith)
+operator_no_jump Subtract IndexRegister = λ e. absurd (omega arith)
+operator_no_jump Multiply Constant = λ e. absurd (omega arith)
+operator_no_jump Multiply IndexRegister = λ e. absurd (omega arith)
+operator_no_jump Divide Constant = λ e. absurd (omega arith)
+operator_no_jump Divide IndexRegister = λ e. absurd (omega arith)
+operator_no_jump Or Constant = λ e. absurd (omega arith)
+operator_no_jump Or IndexRegister = λ e. absurd (omega arith)
+operator_no_jump And Constant = λ e. absurd (omega arith)
+operator_no_jump And IndexRegister = λ e. absurd (omega arith)
+operator_no_jump ShiftLeft Constant = λ e. absurd (omega arith)
+operator_no_jump ShiftLeft IndexRegister = λ e. absurd (omega arith)
+operator_no_jump ShiftRight Constant = λ e. absurd (omega arith)
+operator_no_jump ShiftRight IndexRegister = λ e. absurd (omega arith)
+operator_no_jump Remainder Constant = λ e. absurd (omega arith)
+operator_no_jump Remainder IndexRegister = λ e. absurd (omega arith)
+operator_no_jump ExclusiveOr Constant = λ e. absurd (omega arith)
+operator_no_jump ExclusiveOr IndexRegister = λ e. absurd (omega arith)
 
 pub branch_no_jump : (t : Test) (o : Operand) → code_of (JumpIf t o) ≢ JUMP
 branch_no_jump test.Equal Constant = λ e. absurd (omega arith)
@@ -196,7 +206,9 @@ number_needed link len slot c h = needed_put c _ (λ e. absurd (omega arith)) h
 number_needed link (negated a) slot c h = number_needed link a slot _ (needed_put c _ (λ e. absurd (omega arith)) h)
 number_needed link (load protocol size i) slot c h = number_needed link i slot _ (accessor_needed link protocol (width_of size) c h)
 number_needed link (applied operator l r) slot c h =
-    number_needed link l slot _ (needed_put _ _ (λ e. absurd (omega arith)) (number_needed link r (slot + 1) _ (needed_put _ _ (λ e. absurd (omega arith)) (needed_put _ _ (λ e. absurd (omega arith)) (needed_put c _ (operator_no_jump operator) h)))))
+    number_needed link l slot _ (by_right (λ b. JumpsAreNeeded b) (constant_operand operator r) slot _ _
+    (λ k is. needed_put c _ (operator_no_jump operator Constant) h)
+    (needed_put _ _ (λ e. absurd (omega arith)) (number_needed link r (slot + 1) _ (needed_put _ _ (λ e. absurd (omega arith)) (needed_put _ _ (λ e. absurd (omega arith)) (needed_put c _ (operator_no_jump operator IndexRegister) h))))))
 
 -- the same of the code from the entry on
 pub record Needed (e : Entered) : Type 0 where
@@ -238,7 +250,9 @@ pub emitted_needed : (link : Link) (known : Knowledge) (f : Formula) (hit miss :
 emitted_needed link known (Single t) hit miss c lh lm n h m = elementary_needed known t hit miss c lh lm n h m
 emitted_needed link known (Compare comparison l r) hit miss c lh lm n h m =
     record {
-      needed = needed_top _ (number_needed link l 0 _ (needed_put _ _ (λ e. absurd (omega arith)) (number_needed link r 1 _ (needed_put _ _ (λ e. absurd (omega arith)) (needed_put _ _ (λ e. absurd (omega arith)) (comparison_needed comparison IndexRegister 0 hit miss c n))))));
+      needed = needed_top _ (number_needed link l 0 _ (by_right (λ b. JumpsAreNeeded b) (constant r) 0 _ _
+          (λ k is. comparison_needed comparison Constant k hit miss c n)
+          (needed_put _ _ (λ e. absurd (omega arith)) (number_needed link r 1 _ (needed_put _ _ (λ e. absurd (omega arith)) (needed_put _ _ (λ e. absurd (omega arith)) (comparison_needed comparison IndexRegister 0 hit miss c n)))))));
       inside = omega arith;
       extends = relation_extends link comparison l r hit miss c;
     }

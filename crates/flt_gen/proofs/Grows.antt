@@ -1,6 +1,6 @@
 -- The code of a formula has no fault, and no more instructions than its bound.
-use Rattle.std.proofs.Common.{◌≡◌, ℕ, zero, suc, ◌+◌, ◌-◌, ◌*◌, ◌/◌, ◌<◌, ◌≤◌, List, [], ◌∷◌, length, take, drop, get_or, true, false, Option, Some, None, refl, ap, ◌∙◌, arith, length-drop, length-take}
-use Rattle.std.specs.Prelude.{nat_lt, nat_le, ◌&&◌}
+use Rattle.std.proofs.Common.{◌≡◌, ℕ, zero, suc, ◌+◌, ◌-◌, ◌*◌, ◌/◌, ◌<◌, ◌≤◌, List, [], ◌∷◌, length, take, drop, get_or, Bool, true, false, Option, Some, None, refl, ap, ◌∙◌, arith, length-drop, length-take}
+use Rattle.std.specs.Prelude.{nat_lt, nat_le, ◌==◌, not, ◌&&◌, if◌then◌else◌}
 use Rattle.std.proofs.lemmas.Bool.Decides.{nat_tests}
 use Rattle.flt_bpf.specs.declared.insn.Insn.{Insn}
 use Rattle.flt_bpf.specs.declared.operation.Width.{Width}
@@ -21,7 +21,7 @@ use Rattle.flt_gen.specs.declared.elementary.Place.{Place}
 use Rattle.flt_gen.specs.declared.elementary.Place.TheVariants.{At, Past}
 use Rattle.flt_gen.specs.declared.elementary.Elementary.TheVariants.{Known, Field}
 use Rattle.flt_bpf.specs.declared.fault.CheckFault.{CheckFault}
-use Rattle.flt_bpf.specs.declared.fault.CheckFault.TheVariants.{JumpOut, NoSuchWord}
+use Rattle.flt_bpf.specs.declared.fault.CheckFault.TheVariants.{JumpOut, NoSuchWord, DivisionByZero, ShiftTooFar}
 use Rattle.flt_bpf.specs.Instructions.{operation_of}
 use Rattle.flt_bpf.specs.Check.{fault_of, unless, ends_in_return}
 use Rattle.flt_gen.specs.Elementary.{network}
@@ -29,13 +29,14 @@ use Rattle.flt_gen.specs.Numbers.{width_of}
 use Rattle.flt_gen.specs.Formula.{Formula, Single, Compare, Both, Either, Except, Guard, Fork, Choose, Among}
 use Rattle.flt_lang.specs.Counts.{number_words, number_size}
 use Rattle.flt_gen.specs.Counts.{words, nodes, tests}
-use Rattle.flt_gen.specs.Code.{plain, computation, branch_insn, jump_before, branch_before, comparison_before, field_before, mask_before, base_before, transport_before, accessor_before, number_before, Entered, at_top, chain_before, search_before, LEVELS, elementary_before, fork_before, emitted, NEAR}
+use Rattle.flt_gen.specs.Code.{plain, computation, takes, constant, constant_operand, branch_insn, jump_before, branch_before, comparison_before, field_before, mask_before, base_before, transport_before, accessor_before, number_before, Entered, at_top, chain_before, search_before, LEVELS, elementary_before, fork_before, emitted, NEAR}
 use Rattle.flt_gen.specs.declared.follow.Knowledge.{Knowledge}
 use Rattle.flt_gen.specs.Follow.{and_fork, fact, always, and_fact, target}
 use Rattle.flt_gen.specs.declared.elementary.Elementary.{Elementary}
 use Rattle.flt_gen.proofs.Onward.{target_inside}
 use Rattle.flt_bpf.proofs.Suffix.{IsFaultless}
-use Rattle.flt_gen.proofs.Tails.{one_of_four, by_test}
+use Rattle.flt_gen.proofs.Tails.{one_of_four, by_test, by_right}
+use Rattle.flt_gen.proofs.Numbers.{operand_is}
 use Rattle.flt_bpf.specs.declared.operation.Operation.TheVariants.{LoadAbsolute, LoadIndirect, Load, LoadHeaderLength, Store, Compute, Negate, Jump, CopyToIndex}
 use Rattle.flt_bpf.specs.declared.operation.Register.TheVariants.{Accumulator}
 use Rattle.flt_bpf.specs.declared.operation.Source.TheVariants.{Immediate, Memory, Length}
@@ -114,7 +115,7 @@ indirect_fine Word k m = refl
 indirect_fine HalfWord k m = refl
 indirect_fine Byte k m = refl
 
-operator_fine : (operator : Operator) (k m : ℕ) → fault_of (plain (computation operator) k) m ≡ None
+operator_fine : (operator : Operator) (k m : ℕ) → fault_of (plain (computation operator IndexRegister) k) m ≡ None
 unfolding fault_of operation_of
 operator_fine Add k m = refl
 operator_fine Subtract k m = refl
@@ -126,6 +127,23 @@ operator_fine ShiftLeft k m = refl
 operator_fine ShiftRight k m = refl
 operator_fine Remainder k m = refl
 operator_fine ExclusiveOr k m = refl
+
+not_zero : (b : Bool) → not b ≡ true → (if b then Some DivisionByZero else None) ≡ None
+not_zero true e = cc
+not_zero false e = refl
+
+constant_fine : (operator : Operator) (k m : ℕ) → takes operator k ≡ true → fault_of (plain (computation operator Constant) k) m ≡ None
+unfolding fault_of operation_of
+constant_fine Add k m t = refl
+constant_fine Subtract k m t = refl
+constant_fine Multiply k m t = refl
+constant_fine Divide k m t = not_zero (k == 0) t
+constant_fine Or k m t = refl
+constant_fine And k m t = refl
+constant_fine ShiftLeft k m t = ap (λ b. unless b ShiftTooFar) t
+constant_fine ShiftRight k m t = ap (λ b. unless b ShiftTooFar) t
+constant_fine Remainder k m t = not_zero (k == 0) t
+constant_fine ExclusiveOr k m t = refl
 
 ends_put : (i : Insn) (c : List Insn) → ends_in_return c ≡ true → ends_in_return (i ∷ c) ≡ true
 ends_put i [] e = cc
@@ -208,12 +226,13 @@ number_grows link (negated a) slot c d m few g =
 number_grows link (load protocol size i) slot c d m few g =
     grows_more c _ (m + 4 + 6 * number_size i) _ (omega arith) (number_grows link i slot c (accessor_before link protocol (width_of size) d) (m + 4) few (accessor_grows link protocol (width_of size) c d m g))
 number_grows link (applied operator l r) slot c d m few g =
-    let g1 = grows_put c d m (m + 1) (plain (computation operator) 0) g (operator_fine operator 0 (length d)) (omega arith) in
+    let g1 = grows_put c d m (m + 1) (plain (computation operator IndexRegister) 0) g (operator_fine operator 0 (length d)) (omega arith) in
     let g2 = grows_put c _ (m + 1) (m + 2) (plain (Load Accumulator Memory) slot) g1 (word_fine slot _ (omega arith)) (omega arith) in
     let g3 = grows_put c _ (m + 2) (m + 3) (plain CopyToIndex 0) g2 (to_x_fine 0 _) (omega arith) in
     let g4 = number_grows link r (slot + 1) c _ (m + 3) (omega arith) g3 in
     let g5 = grows_put c _ (m + 3 + 6 * number_size r) (m + 4 + 6 * number_size r) (plain (Store Accumulator) slot) g4 (store_fine slot _ (omega arith)) (omega arith) in
-    grows_more c _ (m + 4 + 6 * number_size r + 6 * number_size l) _ (omega arith) (number_grows link l slot c _ (m + 4 + 6 * number_size r) (omega arith) g5)
+    let g6 = by_right (λ b. Grows c b (m + 4 + 6 * number_size r)) (constant_operand operator r) slot _ _ (λ k is. grows_put c d m _ _ g (constant_fine operator k (length d) (operand_is operator r k is).taken) (omega arith)) g5 in
+    grows_more c _ (m + 4 + 6 * number_size r + 6 * number_size l) _ (omega arith) (number_grows link l slot c _ (m + 4 + 6 * number_size r) (omega arith) g6)
 
 -- grown code, with its entry inside
 pub record Sits (e : Entered) (c : List Insn) (m : ℕ) : Type 0 where
@@ -286,7 +305,8 @@ emitted_sits link known (Compare comparison l r) hit miss c few s e ph lh pm lm 
     let g2 = grows_put c _ 4 5 (plain CopyToIndex 0) g1 (to_x_fine 0 _) (omega arith) in
     let g3 = number_grows link r 1 c _ 5 (omega arith) g2 in
     let g4 = grows_put c _ (5 + 6 * number_size r) (6 + 6 * number_size r) (plain (Store Accumulator) 0) g3 (store_fine 0 _ (omega arith)) (omega arith) in
-    sits_top c _ (6 + 6 * number_size r + 6 * number_size l) _ (omega arith) (number_grows link l 0 c _ (6 + 6 * number_size r) (omega arith) g4)
+    let g5 = by_right (λ b. Grows c b (6 + 6 * number_size r)) (constant r) 0 _ _ (λ k is. grows_more c _ 3 _ (omega arith) (comparison_grows comparison Constant k hit miss c s e ph lh pm lm)) g4 in
+    sits_top c _ (6 + 6 * number_size r + 6 * number_size l) _ (omega arith) (number_grows link l 0 c _ (6 + 6 * number_size r) (omega arith) g5)
 emitted_sits link known (Both a b) hit miss c few s e ph lh pm lm =
     let d = emitted link known b hit miss c in
     let sb = emitted_sits link known b hit miss c (omega arith) s e ph lh pm lm in

@@ -1,5 +1,5 @@
 -- What the code of arithmetic does.
-use Rattle.std.proofs.Common.{◌≡◌, ℕ, ◌+◌, ◌-◌, ◌%◌, ◌^◌, ◌<◌, ◌≤◌, List, ◌∷◌, length, Bool, true, false, Option, Some, None, refl, sym, ap, ◌∙◌, arith}
+use Rattle.std.proofs.Common.{◌≡◌, ℕ, ◌+◌, ◌-◌, ◌%◌, ◌^◌, ◌<◌, ◌≤◌, List, ◌∷◌, length, Bool, true, false, Option, Some, None, refl, sym, ap, ◌∙◌, subst, arith}
 use Rattle.std.specs.Prelude.{slice_get, slice_set, nat_lt, if◌then◌else◌, bit_and}
 use Rattle.std.specs.Option.{option_map}
 use Rattle.std.proofs.Math.ListN.{set, length-set}
@@ -27,7 +27,8 @@ use Rattle.flt_gen.specs.declared.link.Link.{Link}
 use Rattle.flt_gen.specs.Elementary.{with, network}
 use Rattle.flt_gen.specs.Numbers.{width_of, base, result_of, number}
 use Rattle.flt_lang.specs.Counts.{number_words}
-use Rattle.flt_gen.specs.Code.{plain, computation, branch_insn, base_before, transport_before, accessor_before, operands_before, number_before}
+use Rattle.flt_gen.specs.Code.{plain, computation, takes, constant, constant_operand, branch_insn, base_before, transport_before, accessor_before, operands_before, number_before}
+use Rattle.flt_gen.proofs.Tails.{by_right}
 use Rattle.flt_bpf.proofs.Suffix.{answer_of, answer_after}
 use Rattle.flt_bpf.specs.declared.operation.Operation.TheVariants.{LoadAbsolute, LoadIndirect, Load, LoadHeaderLength, Store, Compute, Negate, Jump, CopyToIndex}
 use Rattle.flt_bpf.specs.declared.operation.Source.TheVariants.{Immediate, Memory, Length}
@@ -43,7 +44,31 @@ get_set_below xs i j v less l =
     let within : j < length (slice_set xs i v) = omega (arith, length-set {A = ℕ}) in
     slice_get-get_or (slice_set xs i v) j 0 within ∙ ap Some (get_or-set_other xs i j v 0 (λ e. absurd (omega arith))) ∙ sym (slice_get-get_or xs j 0 (omega arith))
 
+-- a right operand that is in an instruction is a constant that this may have
+pub record IsConstant (operator : Operator) (r : NumberTree) (k : ℕ) : Type 0 where
+  pub is : constant r ≡ Some k
+  pub taken : takes operator k ≡ true
+
+pub operand_is : (operator : Operator) (r : NumberTree) (k : ℕ) → constant_operand operator r ≡ Some k → IsConstant operator r k
+operand_is operator r k e = by_constant (constant r) refl e
+  where
+    by_taken : (j : ℕ) (t : Bool) → constant r ≡ Some j → takes operator j ≡ t → (if t then Some j else None) ≡ Some k → IsConstant operator r k
+    by_taken j true c t f = let same : j ≡ k = cc in record { is = c ∙ f; taken = subst (λ m. takes operator m ≡ true) same t }
+    by_taken j false c t f = cc
+
+    by_constant : (o : Option ℕ) → constant r ≡ o → with o (λ j. if takes operator j then Some j else None) ≡ Some k → IsConstant operator r k
+    by_constant None c f = cc
+    by_constant (Some j) c f = by_taken j (takes operator j) c refl f
+
 module _ (p : List ℕ) (n : ℕ) where
+  pub constant_is : (link : Link) (r : NumberTree) (k : ℕ) → constant r ≡ Some k → number link r p n ≡ Some k
+  constant_is link (literal j) k e = e
+  constant_is link (named j) k e = e
+  constant_is link len k e = cc
+  constant_is link (load protocol size i) k e = cc
+  constant_is link (negated a) k e = cc
+  constant_is link (applied operator l r) k e = cc
+
   -- one instruction
   pub run_literal : (k : ℕ) (c : List Insn) (s : State) → answer_of (plain (Load Accumulator Immediate) k ∷ c) p n 0 s ≡ answer_of c p n 0 (record s { accumulator = k })
   unfolding step operation_of
@@ -61,7 +86,7 @@ module _ (p : List ℕ) (n : ℕ) where
   unfolding step operation_of
   run_to_x k c s = refl
 
-  pub run_operator : (operator : Operator) (k : ℕ) (c : List Insn) (s : State) → answer_of (plain (computation operator) k ∷ c) p n 0 s ≡ answer_after (answer_of c p n) (into Accumulator (result_of operator s.accumulator s.index) s)
+  pub run_operator : (operator : Operator) (k : ℕ) (c : List Insn) (s : State) → answer_of (plain (computation operator IndexRegister) k ∷ c) p n 0 s ≡ answer_after (answer_of c p n) (into Accumulator (result_of operator s.accumulator s.index) s)
   unfolding step operation_of
   run_operator Add k c s = refl
   run_operator Subtract k c s = refl
@@ -73,6 +98,19 @@ module _ (p : List ℕ) (n : ℕ) where
   run_operator ShiftRight k c s = refl
   run_operator Remainder k c s = refl
   run_operator ExclusiveOr k c s = refl
+
+  run_constant : (operator : Operator) (k : ℕ) (c : List Insn) (s : State) → answer_of (plain (computation operator Constant) k ∷ c) p n 0 s ≡ answer_after (answer_of c p n) (into Accumulator (result_of operator s.accumulator k) s)
+  unfolding step operation_of
+  run_constant Add k c s = refl
+  run_constant Subtract k c s = refl
+  run_constant Multiply k c s = refl
+  run_constant Divide k c s = refl
+  run_constant Or k c s = refl
+  run_constant And k c s = refl
+  run_constant ShiftLeft k c s = refl
+  run_constant ShiftRight k c s = refl
+  run_constant Remainder k c s = refl
+  run_constant ExclusiveOr k c s = refl
 
   pub run_load : (w : Width) (k : ℕ) (c : List Insn) (s : State) → answer_of (plain (LoadAbsolute w) k ∷ c) p n 0 s ≡ answer_after (answer_of c p n) (into Accumulator (field p k w) s)
   unfolding step operation_of
@@ -214,13 +252,19 @@ module _ (p : List ℕ) (n : ℕ) where
           let moved = run_to_x 0 (plain (Load Accumulator Memory) slot ∷ c) u ∙ run_word slot x c (record u { index = u.accumulator }) word in
           (record { accumulator = x; index = u.accumulator; memory = u.memory }, record { long = r.1.long; kept = λ j l. r.1.kept j (omega arith) ∙ kept_below j l }, refl, r.2, to_word ∙ r.3 ∙ moved)
 
-  binary_runs : (operator : Operator) (c' c : List Insn) (slot : ℕ) (s : State) (ox oy : Option ℕ) → TwoRuns c' (plain (computation operator) 0 ∷ c) slot s ox oy → NumberRuns c' c slot s (with ox (λ x. with oy (λ y. result_of operator x y)))
+  binary_runs : (operator : Operator) (c' c : List Insn) (slot : ℕ) (s : State) (ox oy : Option ℕ) → TwoRuns c' (plain (computation operator IndexRegister) 0 ∷ c) slot s ox oy → NumberRuns c' c slot s (with ox (λ x. with oy (λ y. result_of operator x y)))
   binary_runs operator c' c slot s None oy r = r
   binary_runs operator c' c slot s (Some x) None r = r
   binary_runs operator c' c slot s (Some x) (Some y) r =
       let t = r.0 in
       let same : result_of operator t.accumulator t.index ≡ result_of operator x y = ap (λ v. result_of operator v t.index) r.2 ∙ ap (λ v. result_of operator x v) r.3 in
-      chain c' (plain (computation operator) 0 ∷ c) c slot slot s t (omega arith) r.1 r.4 (result_of operator x y) (into_runs (plain (computation operator) 0 ∷ c) c slot t t r.1.long refl (result_of operator x y) (run_operator operator 0 c t ∙ ap (λ o. answer_after (answer_of c p n) (into Accumulator o t)) same))
+      chain c' (plain (computation operator IndexRegister) 0 ∷ c) c slot slot s t (omega arith) r.1 r.4 (result_of operator x y) (into_runs (plain (computation operator IndexRegister) 0 ∷ c) c slot t t r.1.long refl (result_of operator x y) (run_operator operator 0 c t ∙ ap (λ o. answer_after (answer_of c p n) (into Accumulator o t)) same))
+
+  -- the right one is in the instruction
+  constant_runs : (operator : Operator) (k : ℕ) (c : List Insn) (slot v : ℕ) (s : State) → length s.memory ≡ 16 → s.accumulator ≡ v → (o : Option ℕ) → o ≡ Some k → NumberRuns (plain (computation operator Constant) k ∷ c) c slot s (with o (λ y. result_of operator v y))
+  constant_runs operator k c slot v s long e o is =
+      let run = run_constant operator k c s ∙ ap (λ a. answer_after (answer_of c p n) (into Accumulator (result_of operator a k) s)) e in
+      subst (λ q. NumberRuns (plain (computation operator Constant) k ∷ c) c slot s (with q (λ y. result_of operator v y))) (sym is) (into_runs (plain (computation operator Constant) k ∷ c) c slot s s long refl (result_of operator v k) run)
 
   minus_runs : (c : List Insn) (slot v : ℕ) (s : State) → length s.memory ≡ 16 → s.accumulator ≡ v → NumberRuns (plain Negate 0 ∷ c) c slot s (Some ((2 ^ 32 - v) % 2 ^ 32))
   minus_runs c slot v s long e =
@@ -236,4 +280,6 @@ module _ (p : List ℕ) (n : ℕ) where
   number_runs link (negated e) slot c s long few =
       number_then _ (plain Negate 0 ∷ c) c slot s (number link e p n) (λ v. Some ((2 ^ 32 - v) % 2 ^ 32)) (number_runs link e slot (plain Negate 0 ∷ c) s long few) (λ v t l a. minus_runs c slot v t l a)
   number_runs link (applied operator l r) slot c s long few =
-      binary_runs operator _ c slot s (number link l p n) (number link r p n) (two_runs _ (number_before link r (slot + 1) (operands_before slot (plain (computation operator) 0 ∷ c))) (plain (computation operator) 0 ∷ c) slot s (number link l p n) (number link r p n) (omega arith) (number_runs link l slot _ s long (omega arith)) (λ t lt. number_runs link r (slot + 1) _ t lt (omega arith)))
+      by_right (λ d. NumberRuns (number_before link l slot d) c slot s (number link (applied operator l r) p n)) (constant_operand operator r) slot _ _
+      (λ k is. number_then _ (plain (computation operator Constant) k ∷ c) c slot s (number link l p n) (λ x. with (number link r p n) (λ y. result_of operator x y)) (number_runs link l slot _ s long (omega arith)) (λ v t l a. constant_runs operator k c slot v t l a (number link r p n) (constant_is link r k (operand_is operator r k is).is)))
+      (binary_runs operator _ c slot s (number link l p n) (number link r p n) (two_runs _ (number_before link r (slot + 1) (operands_before slot (plain (computation operator IndexRegister) 0 ∷ c))) (plain (computation operator IndexRegister) 0 ∷ c) slot s (number link l p n) (number link r p n) (omega arith) (number_runs link l slot _ s long (omega arith)) (λ t lt. number_runs link r (slot + 1) _ t lt (omega arith))))

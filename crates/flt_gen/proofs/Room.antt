@@ -11,7 +11,7 @@ use Rattle.flt_gen.specs.Group.{Group, MOST_TOGETHER, same_type, same_protocol, 
 use Rattle.flt_gen.proofs.Ascending.{length_inserted}
 use Rattle.flt_gen.proofs.Onward.{both_true}
 use Rattle.flt_bpf.specs.declared.insn.Insn.{Insn}
-use Rattle.flt_bpf.specs.declared.operation.Operand.TheVariants.{IndexRegister}
+use Rattle.flt_bpf.specs.declared.operation.Operand.TheVariants.{Constant, IndexRegister}
 use Rattle.flt_lang.specs.declared.node.Node.{Node}
 use Rattle.flt_lang.specs.declared.node.Node.TheVariants as node
 use Rattle.flt_gen.specs.declared.link.Link.{Link}
@@ -20,8 +20,10 @@ use Rattle.flt_gen.specs.declared.waiting.Waiting.TheVariants.{Index, Left}
 use Rattle.flt_gen.specs.Numbers.{width_of}
 use Rattle.flt_gen.specs.Primitives.{check_formula, cast_formula, sized_formula, qualified_formula}
 use Rattle.flt_gen.specs.Follow.{nothing}
-use Rattle.flt_gen.specs.Code.{plain}
-use Rattle.flt_gen.specs.Walk.{Walk, relation_put, number_put, with_code, operands_put, formula_put, settled_by, settled, group_put, value_put, join_put, truth_node_put, is_truth_node, with_node, walked}
+use Rattle.flt_words.specs.declared.token.Operator.{Operator}
+use Rattle.flt_words.specs.declared.token.Comparison.{Comparison}
+use Rattle.flt_gen.specs.Code.{plain, computation, takes, comparison_before}
+use Rattle.flt_gen.specs.Walk.{Walk, relation_put, number_put, with_code, operands_put, formula_put, settled_by, settled, group_put, value_put, join_put, truth_node_put, is_truth_node, with_node, applied_put, compared_put, both_put, or_else, walked}
 use Rattle.flt_gen.proofs.Tails.{extends_none, comparison_extends, accessor_extends, emitted_extends, accessors_extend}
 use Rattle.flt_bpf.specs.declared.operation.Operation.TheVariants.{Load, Store}
 use Rattle.flt_bpf.specs.declared.operation.Register.TheVariants.{Accumulator}
@@ -45,9 +47,9 @@ low_more (Index p ∷ ns) m n l h = low_more ns m n l h
 low_more (Left s ∷ ns) m n l h = (let k = h.0 in omega arith, low_more ns m n l h.1)
 
 -- after more code
-record Grown (w v : Walk) : Type 0 where
-  low : IsLow v
-  longer : length w.code ≤ length v.code
+pub record Grown (w v : Walk) : Type 0 where
+  pub low : IsLow v
+  pub longer : length w.code ≤ length v.code
 
 grown_on : (w v : Walk) → IsLow w → length w.code ≤ length v.code → v.slot ≡ w.slot → v.numbers ≡ w.numbers → length v.group.numbers ≤ MOST_TOGETHER → Grown w v
 grown_on w v h l s n f =
@@ -197,10 +199,82 @@ node_low link w n h = (node_grown link w n h).low
 pub node_longer : (link : Link) (w : Walk) (n : Node) → IsLow w → length w.code ≤ length (with_node link w n).code
 node_longer link w n h = (node_grown link w n h).longer
 
+-- the same of two nodes that are put at once
+is_some : (u v : Walk) → Some u ≡ Some v → u ≡ v
+is_some u v e = cc
+
+only_code : (w : Walk) (c : List Insn) → length w.code ≤ length c → IsLow w → Grown w (with_code c w)
+only_code w c l h = grown_on w (with_code c w) h l refl refl h.few
+
+applied_grown : (o : Operator) (k : ℕ) (w v : Walk) → IsLow w → applied_put o k w ≡ Some v → Grown w v
+applied_grown o k w v h e = by_taken (takes o k) e
+  where
+    c : List Insn
+    c = plain (computation o Constant) k ∷ w.code
+
+    by_taken : (t : Bool) → (if t then Some (with_code c w) else None) ≡ Some v → Grown w v
+    by_taken true f = subst (λ u. Grown w u) (is_some (with_code c w) v f) (only_code w c (omega arith) h)
+    by_taken false f = cc
+
+compared_grown : (link : Link) (c : Comparison) (k : ℕ) (w v : Walk) → IsLow w → compared_put c k (settled link w) ≡ Some v → Grown w v
+compared_grown link c k w v h e =
+    let u = settled link w in
+    let g = settled_grown link w w.group.numbers h in
+    let d = comparison_before c Constant k u.to.yes u.to.no u.code in
+    subst (λ x. Grown w x) (is_some (with_code d u) v e) (grown_after w u (with_code d u) g (only_code u d (comparison_extends c Constant k u.to.yes u.to.no u.code).longer g.low))
+
+pub both_grown : (link : Link) (w v : Walk) (n m : Node) → IsLow w → both_put link w n m ≡ Some v → Grown w v
+both_grown link w v (node.Apply o) (node.Literal k) h e = applied_grown o k w v h e
+both_grown link w v (node.Apply o) (node.Named k) h e = applied_grown o k w v h e
+both_grown link w v (node.Compare c) (node.Literal k) h e = compared_grown link c k w v h e
+both_grown link w v (node.Compare c) (node.Named k) h e = compared_grown link c k w v h e
+both_grown link w v _ _ h e = cc
+
+-- how a walk goes on: with two nodes at once, or with one
+or_walked : (link : Link) (w u v : Walk) (o : Option Walk) (ns : List Node) → o ≡ Some v → walked link (or_else o u) ns ≡ walked link v ns
+or_walked link w u v o ns e = ap (λ x. walked link (or_else x u) ns) e
+
+or_none : (link : Link) (u : Walk) (o : Option Walk) (ns : List Node) → o ≡ None → walked link (or_else o u) ns ≡ walked link u ns
+or_none link u o ns e = ap (λ x. walked link (or_else x u) ns) e
+
+pub both_walked : (link : Link) (w v : Walk) (n m : Node) (ns : List Node) → both_put link w n m ≡ Some v → walked link w (n ∷ m ∷ ns) ≡ walked link v ns
+both_walked link w v (node.Apply o) (node.Literal k) ns e = or_walked link w _ v _ ns e
+both_walked link w v (node.Apply o) (node.Named k) ns e = or_walked link w _ v _ ns e
+both_walked link w v (node.Compare c) (node.Literal k) ns e = ap (λ x. walked link x ns) (is_some _ v e)
+both_walked link w v (node.Compare c) (node.Named k) ns e = ap (λ x. walked link x ns) (is_some _ v e)
+both_walked link w v _ _ ns e = cc
+
+pub one_walked : (link : Link) (w : Walk) (n m : Node) (ns : List Node) → both_put link w n m ≡ None → walked link w (n ∷ m ∷ ns) ≡ walked link (with_node link w n) (m ∷ ns)
+one_walked link w (node.Apply o) (node.Literal k) ns e = or_none link _ _ ns e
+one_walked link w (node.Apply o) (node.Named k) ns e = or_none link _ _ ns e
+one_walked link w (node.Compare c) (node.Literal k) ns e = cc
+one_walked link w (node.Compare c) (node.Named k) ns e = cc
+one_walked link w _ _ ns e = refl
+
+pub last_walked : (link : Link) (w : Walk) (n : Node) → walked link w (n ∷ []) ≡ with_node link w n
+last_walked link w (node.Apply o) = refl
+last_walked link w (node.Compare c) = refl
+last_walked link w _ = refl
+
+longer_by : (link : Link) (w : Walk) (n m : Node) (ns : List Node) → IsLow w → ((v : Walk) → IsLow v → length v.code ≤ length (walked link v ns).code) → (IsLow (with_node link w n) → length (with_node link w n).code ≤ length (walked link (with_node link w n) (m ∷ ns)).code) → (o : Option Walk) → both_put link w n m ≡ o → length w.code ≤ length (walked link w (n ∷ m ∷ ns)).code
+longer_by link w n m ns h both one (Some v) e =
+    let g = both_grown link w v n m h e in
+    let l = g.longer in
+    let t = both v g.low in
+    let s = ap (λ (x : Walk). length x.code) (both_walked link w v n m ns e) in
+    omega arith
+longer_by link w n m ns h both one None e =
+    let l = node_longer link w n h in
+    let t = one (node_low link w n h) in
+    let s = ap (λ (x : Walk). length x.code) (one_walked link w n m ns e) in
+    omega arith
+
 -- the code at the end is no shorter than the code before
 pub walked_longer : (link : Link) (w : Walk) (ns : List Node) → IsLow w → length w.code ≤ length (walked link w ns).code
 walked_longer link w [] h = omega arith
-walked_longer link w (n ∷ ns) h =
+walked_longer link w (n ∷ []) h =
     let l = node_longer link w n h in
-    let m = walked_longer link (with_node link w n) ns (node_low link w n h) in
+    let e = ap (λ (x : Walk). length x.code) (last_walked link w n) in
     omega arith
+walked_longer link w (n ∷ m ∷ ns) h =
+    longer_by link w n m ns h (λ v low. walked_longer link v ns low) (λ low. walked_longer link (with_node link w n) (m ∷ ns) low) (both_put link w n m) refl

@@ -39,13 +39,13 @@ use Rattle.flt_gen.specs.Numbers.{number}
 use Rattle.flt_gen.specs.Formula.{Formula, Single, Compare, Both, Either, Except, Guard, Fork, Choose, Among, is_one_of, among_reads, relation_reads, both, either, negated as exchanged, reads}
 use Rattle.flt_lang.specs.Counts.{number_words}
 use Rattle.flt_gen.specs.Counts.{words}
-use Rattle.flt_gen.specs.Code.{plain, computation, base_before, transport_before, accessor_before, elementary_before, jump_before, branch_before, comparison_before, field_before, mask_before, test_before, operands_before, number_before, relation_before, Entered, at_top, chain_before, search_before, LEVELS, among_before, emitted, NEAR}
+use Rattle.flt_gen.specs.Code.{plain, computation, constant, constant_operand, base_before, transport_before, accessor_before, elementary_before, jump_before, branch_before, comparison_before, field_before, mask_before, test_before, operands_before, number_before, relation_before, Entered, at_top, chain_before, search_before, LEVELS, among_before, emitted, NEAR}
 use Rattle.flt_bpf.proofs.Suffix.{answer_of, answer_after}
-use Rattle.flt_gen.proofs.Tails.{Extends, extends_none, extends_put, extends_on, branch_extends, field_extends, mask_extends, one_of_four, by_test, test_extends, relation_extends, search_extends}
+use Rattle.flt_gen.proofs.Tails.{Extends, extends_none, extends_put, extends_on, branch_extends, field_extends, mask_extends, one_of_four, by_test, by_right, test_extends, relation_extends, search_extends}
 use Rattle.flt_gen.proofs.Ascending.{Ascending, Searchable, searchable_ascends, ascending_take, ascending_drop, lower_half, upper_half}
 use Rattle.flt_gen.specs.declared.elementary.MaskedField.{MaskedField}
 use Rattle.flt_bpf.proofs.Suffix.{answer_drop}
-use Rattle.flt_gen.proofs.Numbers.{TwoRuns, run_load, run_indirect, run_header, run_mask, run_jump, run_branch, number_runs, two_runs}
+use Rattle.flt_gen.proofs.Numbers.{NumberRuns, TwoRuns, constant_is, run_load, run_indirect, run_header, run_mask, run_jump, run_branch, number_runs, two_runs}
 use Rattle.flt_bpf.specs.declared.operation.Operation.TheVariants.{LoadIndirect, Jump, JumpIf}
 
 -- one of two answers, by a reading; a rejected one ends the run with 0
@@ -237,12 +237,22 @@ module _ (p : List ℕ) (n : ℕ) where
       let t = r.0 in
       r.4 ∙ comparison_runs (At 0) comparison IndexRegister 0 hit miss v w c t r.1.long tt lh lm (ready_anyhow p n (At 0) c hit v h) (ready_anyhow p n (At 0) c miss w m) ∙ ap (λ a. Some (if compares comparison a t.index then v else w)) r.2 ∙ ap (λ b. Some (if compares comparison x b then v else w)) r.3 ∙ ap Some (reading_picks (compares comparison x y) v w)
 
+  -- the right one is in the test
+  constant_compared : (comparison : Comparison) (k hit miss v w : ℕ) (c c' : List Insn) (s : State) → hit ≤ length c → miss ≤ length c → Leads p n c hit v → Leads p n c miss w → (ox oy : Option ℕ) → oy ≡ Some k → NumberRuns p n c' (comparison_before comparison Constant k hit miss c) 0 s ox → answer_of c' p n 0 s ≡ Some (pick (reading_of (with ox (λ x. with oy (λ y. Some (compares comparison x y))))) v w)
+  constant_compared comparison k hit miss v w c c' s lh lm h m None oy is r = r
+  constant_compared comparison k hit miss v w c c' s lh lm h m (Some x) oy is r =
+      let t = r.0 in
+      r.3 ∙ comparison_runs (At 0) comparison Constant k hit miss v w c t r.1.long tt lh lm (ready_anyhow p n (At 0) c hit v h) (ready_anyhow p n (At 0) c miss w m) ∙ ap (λ a. Some (if compares comparison a k then v else w)) r.2 ∙ ap Some (reading_picks (compares comparison x k) v w) ∙ ap (λ o. Some (pick (reading_of (with o (λ y. Some (compares comparison x y)))) v w)) (sym is)
+
   relation_runs : (link : Link) (comparison : Comparison) (l r : NumberTree) (hit miss v w : ℕ) (c : List Insn) (s : State) → length s.memory ≡ 16 → hit ≤ length c → miss ≤ length c → Leads p n c hit v → Leads p n c miss w → number_words l ≤ 16 → 1 + number_words r ≤ 16 → answer_of (relation_before link comparison l r hit miss c) p n 0 s ≡ Some (pick (relation_reads link comparison l r p n) v w)
   relation_runs link comparison l r hit miss v w c s long lh lm h m few_l few_r =
-      compared_runs comparison hit miss v w c _ s lh lm h m (number link l p n) (number link r p n)
+      by_right (λ d. answer_of (number_before link l 0 d) p n 0 s ≡ Some (pick (relation_reads link comparison l r p n) v w)) (constant r) 0 _ _
+      (λ k is. constant_compared comparison k hit miss v w c _ s lh lm h m (number link l p n) (number link r p n) (constant_is p n link r k is)
+      (number_runs p n link l 0 (comparison_before comparison Constant k hit miss c) s long (omega arith)))
+      (compared_runs comparison hit miss v w c _ s lh lm h m (number link l p n) (number link r p n)
       (two_runs p n _ (number_before link r 1 (operands_before 0 (comparison_before comparison IndexRegister 0 hit miss c))) (comparison_before comparison IndexRegister 0 hit miss c) 0 s (number link l p n) (number link r p n) (omega arith)
       (number_runs p n link l 0 _ s long (omega arith))
-      (λ t lt. number_runs p n link r 1 _ t lt few_r))
+      (λ t lt. number_runs p n link r 1 _ t lt few_r)))
 
   -- each test of a field at a place goes on where there is an answer
   pub record Calm (c : List Insn) : Type 0 where
@@ -317,17 +327,27 @@ module _ (p : List ℕ) (n : ℕ) where
   indirect_no_load HalfWord = refl
   indirect_no_load Byte = refl
 
-  operator_no_load : (a : Operator) → is_load (code_of (computation a)) ≡ false
-  operator_no_load Add = refl
-  operator_no_load Subtract = refl
-  operator_no_load Multiply = refl
-  operator_no_load Divide = refl
-  operator_no_load Remainder = refl
-  operator_no_load ExclusiveOr = refl
-  operator_no_load Or = refl
-  operator_no_load And = refl
-  operator_no_load ShiftLeft = refl
-  operator_no_load ShiftRight = refl
+  operator_no_load : (a : Operator) (o : Operand) → is_load (code_of (computation a o)) ≡ false
+  operator_no_load Add Constant = refl
+  operator_no_load Add IndexRegister = refl
+  operator_no_load Subtract Constant = refl
+  operator_no_load Subtract IndexRegister = refl
+  operator_no_load Multiply Constant = refl
+  operator_no_load Multiply IndexRegister = refl
+  operator_no_load Divide Constant = refl
+  operator_no_load Divide IndexRegister = refl
+  operator_no_load Or Constant = refl
+  operator_no_load Or IndexRegister = refl
+  operator_no_load And Constant = refl
+  operator_no_load And IndexRegister = refl
+  operator_no_load ShiftLeft Constant = refl
+  operator_no_load ShiftLeft IndexRegister = refl
+  operator_no_load ShiftRight Constant = refl
+  operator_no_load ShiftRight IndexRegister = refl
+  operator_no_load Remainder Constant = refl
+  operator_no_load Remainder IndexRegister = refl
+  operator_no_load ExclusiveOr Constant = refl
+  operator_no_load ExclusiveOr IndexRegister = refl
 
   mask_settled : (mask : Option ℕ) (c : List Insn) → Calm c → Calm (mask_before mask c)
   mask_settled None c h = h
@@ -419,7 +439,15 @@ module _ (p : List ℕ) (n : ℕ) where
   number_settled link (negated a) slot c h = number_settled link a slot _ (settled_put c _ refl h)
   number_settled link (load protocol size i) slot c h = number_settled link i slot _ (accessor_settled link protocol (width_of size) c h)
   number_settled link (applied operator l r) slot c h =
-      number_settled link l slot _ (settled_put _ _ refl (number_settled link r (slot + 1) _ (settled_put _ _ refl (settled_put _ _ refl (settled_put c _ (operator_no_load operator) h)))))
+      number_settled link l slot _ (by_right (λ b. Calm b) (constant_operand operator r) slot _ _
+      (λ k is. settled_put c _ (operator_no_load operator Constant) h)
+      (settled_put _ _ refl (number_settled link r (slot + 1) _ (settled_put _ _ refl (settled_put _ _ refl (settled_put c _ (operator_no_load operator IndexRegister) h))))))
+
+  relation_settled : (link : Link) (comparison : Comparison) (l r : NumberTree) (hit miss : ℕ) (c : List Insn) → Calm c → Calm (relation_before link comparison l r hit miss c)
+  relation_settled link comparison l r hit miss c z =
+      number_settled link l 0 _ (by_right (λ b. Calm b) (constant r) 0 _ _
+      (λ k is. comparison_settled comparison Constant k hit miss c z)
+      (settled_put _ _ refl (number_settled link r 1 _ (settled_put _ _ refl (settled_put _ _ refl (comparison_settled comparison IndexRegister 0 hit miss c z))))))
 
   -- the code of a formula, entered at its entry, has an answer, which is the formula's where what is known holds
   pub record Works (e : Entered) (c : List Insn) (known : Knowledge) (v : ℕ) : Type 0 where
@@ -549,7 +577,7 @@ module _ (p : List ℕ) (n : ℕ) where
       record {
         inside = omega arith;
         extends = relation_extends link comparison l r hit miss c;
-        settled = number_settled link l 0 _ (settled_put _ _ refl (number_settled link r 1 _ (settled_put _ _ refl (settled_put _ _ refl (comparison_settled comparison IndexRegister 0 hit miss c z)))));
+        settled = relation_settled link comparison l r hit miss c z;
         u = pick (relation_reads link comparison l r p n) v w;
         leads = leads_top (relation_before link comparison l r hit miss c) _ (λ s long. relation_runs link comparison l r hit miss v w c s long lh lm h m (omega arith) (omega arith));
         right = λ k. refl;

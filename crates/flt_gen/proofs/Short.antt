@@ -22,12 +22,12 @@ use Rattle.flt_gen.specs.Numbers.{width_of}
 use Rattle.flt_gen.specs.Formula.{Formula, Single, Compare, Both, Either, Except, Guard, Fork, Choose, Among}
 use Rattle.flt_lang.specs.Counts.{number_size}
 use Rattle.flt_gen.specs.Counts.{nodes, tests}
-use Rattle.flt_gen.specs.Code.{plain, branch_insn, branch_before, comparison_before, field_before, mask_before, base_before, transport_before, accessor_before, number_before, Entered, chain_before, search_before, LEVELS, elementary_before, fork_before, emitted, NEAR}
+use Rattle.flt_gen.specs.Code.{plain, computation, constant, constant_operand, branch_insn, branch_before, comparison_before, field_before, mask_before, base_before, transport_before, accessor_before, number_before, Entered, chain_before, search_before, LEVELS, elementary_before, fork_before, emitted, NEAR}
 use Rattle.flt_gen.specs.declared.follow.Knowledge.{Knowledge}
 use Rattle.flt_gen.specs.Follow.{and_fork, fact, always, and_fact, target}
 use Rattle.flt_gen.specs.declared.elementary.Elementary.{Elementary}
 use Rattle.flt_gen.specs.Layout.{JUMP}
-use Rattle.flt_gen.proofs.Tails.{by_test}
+use Rattle.flt_gen.proofs.Tails.{by_test, by_right}
 use Rattle.flt_gen.proofs.Far.{load_no_jump, indirect_no_jump, operator_no_jump, branch_no_jump}
 use Rattle.flt_bpf.specs.declared.operation.Operation.TheVariants.{Load, Store, Negate, CopyToIndex}
 use Rattle.flt_bpf.specs.declared.operation.Register.TheVariants.{Accumulator}
@@ -126,12 +126,13 @@ number_slim link (negated a) slot c d m s =
 number_slim link (load protocol size i) slot c d m s =
     slim_more c _ (m + 4 + 6 * number_size i) _ (omega arith) (number_slim link i slot c (accessor_before link protocol (width_of size) d) (m + 4) (accessor_slim link protocol (width_of size) c d m s))
 number_slim link (applied operator l r) slot c d m s =
-    let s1 = slim_put c d m (m + 1) _ s (operator_no_jump operator) (omega arith) in
+    let s1 = slim_put c d m (m + 1) (plain (computation operator IndexRegister) 0) s (operator_no_jump operator IndexRegister) (omega arith) in
     let s2 = slim_put c _ (m + 1) (m + 2) (plain (Load Accumulator Memory) slot) s1 (λ e. absurd (omega arith)) (omega arith) in
     let s3 = slim_put c _ (m + 2) (m + 3) (plain CopyToIndex 0) s2 (λ e. absurd (omega arith)) (omega arith) in
     let s4 = number_slim link r (slot + 1) c _ (m + 3) s3 in
     let s5 = slim_put c _ (m + 3 + 6 * number_size r) (m + 4 + 6 * number_size r) (plain (Store Accumulator) slot) s4 (λ e. absurd (omega arith)) (omega arith) in
-    slim_more c _ (m + 4 + 6 * number_size r + 6 * number_size l) _ (omega arith) (number_slim link l slot c _ (m + 4 + 6 * number_size r) s5)
+    let s6 = by_right (λ b. Slim c b (m + 4 + 6 * number_size r)) (constant_operand operator r) slot _ _ (λ k is. slim_put c d m _ (plain (computation operator Constant) k) s (operator_no_jump operator Constant) (omega arith)) s5 in
+    slim_more c _ (m + 4 + 6 * number_size r + 6 * number_size l) _ (omega arith) (number_slim link l slot c _ (m + 4 + 6 * number_size r) s6)
 
 elementary_slim : (known : Knowledge) (t : Elementary) (hit miss : ℕ) (c : List Insn) → length c + 4 ≤ 256 → All (λ i. i.code ≢ JUMP) c → Slim c (elementary_before known t hit miss c).code 4
 elementary_slim known (Known true) hit miss c l n = record { none = n; longer = omega arith; shorter = omega arith }
@@ -154,7 +155,8 @@ emitted_slim link known (Compare comparison x y) hit miss c l n =
     let s3 = slim_put c _ 2 3 (plain CopyToIndex 0) s2 (λ e. absurd (omega arith)) (omega arith) in
     let s4 = number_slim link y 1 c _ 3 s3 in
     let s5 = slim_put c _ (3 + 6 * number_size y) (4 + 6 * number_size y) (plain (Store Accumulator) 0) s4 (λ e. absurd (omega arith)) (omega arith) in
-    slim_more c _ (4 + 6 * number_size y + 6 * number_size x) _ (omega arith) (number_slim link x 0 c _ (4 + 6 * number_size y) s5)
+    let s6 = by_right (λ b. Slim c b (4 + 6 * number_size y)) (constant y) 0 _ _ (λ k is. slim_more c _ 1 _ (omega arith) (comparison_slim comparison Constant k hit miss c (omega arith) n)) s5 in
+    slim_more c _ (4 + 6 * number_size y + 6 * number_size x) _ (omega arith) (number_slim link x 0 c _ (4 + 6 * number_size y) s6)
 emitted_slim link known (Both a b) hit miss c l n =
     let e = emitted link known b hit miss c in
     let sb = emitted_slim link known b hit miss c (omega arith) n in

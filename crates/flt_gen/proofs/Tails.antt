@@ -21,10 +21,11 @@ use Rattle.flt_gen.specs.declared.elementary.Elementary.TheVariants.{Known, Fiel
 use Rattle.flt_gen.specs.Elementary.{network}
 use Rattle.flt_gen.specs.Numbers.{width_of, accessor_tests}
 use Rattle.flt_gen.specs.Formula.{Formula, Single, Compare, Both, Either, Except, Guard, Fork, Choose, Among}
-use Rattle.flt_gen.specs.Code.{plain, branch_before, comparison_before, field_before, mask_before, test_before, accessor_before, number_before, relation_before, Entered, chain_before, search_before, LEVELS, elementary_before, fork_before, emitted, all_before, accessors_before, base_before, transport_before, NEAR}
+use Rattle.flt_gen.specs.Code.{plain, branch_before, comparison_before, field_before, mask_before, test_before, accessor_before, constant, constant_operand, right_before, number_before, relation_before, Entered, chain_before, search_before, LEVELS, elementary_before, fork_before, emitted, all_before, accessors_before, base_before, transport_before, NEAR}
 use Rattle.flt_gen.specs.declared.follow.Knowledge.{Knowledge}
 use Rattle.flt_gen.specs.Follow.{and_fork, fact, always, nothing, and_fact, target}
-use Rattle.flt_bpf.specs.declared.operation.Operation.TheVariants.{Negate, Jump}
+use Rattle.flt_bpf.specs.declared.operation.Operation.TheVariants.{Store, Negate, Jump}
+use Rattle.flt_bpf.specs.declared.operation.Register.TheVariants.{Accumulator}
 
 -- by a test
 pub by_test : {A : Type 0} (P : A → Type 0) (b : Bool) (x y : A) → (b ≡ true → P x) → (b ≡ false → P y) → P (if b then x else y)
@@ -100,6 +101,11 @@ accessor_extends link Udp w c d e = transport_extends link w c d e
 accessor_extends link Icmp w c d e = transport_extends link w c d e
 accessor_extends link _ w c d e = base_extends (network link) w c d e
 
+-- by what is behind a left operand
+pub by_right : (P : List Insn → Type 0) (o : Option ℕ) (slot : ℕ) (short : ℕ → List Insn) (long : List Insn) → ((k : ℕ) → o ≡ Some k → P (short k)) → P (plain (Store Accumulator) slot ∷ long) → P (right_before o slot short long)
+by_right P None slot short long one all = all
+by_right P (Some k) slot short long one all = one k refl
+
 pub number_extends : (link : Link) (e : NumberTree) (slot : ℕ) (c d : List Insn) → Extends c d → Extends c (number_before link e slot d)
 number_extends link (literal k) slot c d e = extends_put c d _ e
 number_extends link (named k) slot c d e = extends_put c d _ e
@@ -107,7 +113,9 @@ number_extends link len slot c d e = extends_put c d _ e
 number_extends link (load protocol size i) slot c d e = number_extends link i slot c _ (accessor_extends link protocol (width_of size) c d e)
 number_extends link (negated a) slot c d e = number_extends link a slot c (plain Negate 0 ∷ d) (extends_put c d _ e)
 number_extends link (applied operator l r) slot c d e =
-    number_extends link l slot c _ (extends_put c _ _ (number_extends link r (slot + 1) c _ (extends_put c _ _ (extends_put c _ _ (extends_put c d _ e)))))
+    number_extends link l slot c _ (by_right (λ b. Extends c b) (constant_operand operator r) slot _ _
+    (λ k is. extends_put c d _ e)
+    (extends_put c _ _ (number_extends link r (slot + 1) c _ (extends_put c _ _ (extends_put c _ _ (extends_put c d _ e))))))
 
 pub test_extends : (t : FieldTest) (hit miss : ℕ) (c : List Insn) → Extends c (test_before t hit miss c)
 test_extends t hit miss c = field_extends t.place t.width c _ (mask_extends t.mask c _ (comparison_extends t.comparison Constant t.value hit miss c))
@@ -141,7 +149,9 @@ search_extends (suc k) vs hit miss c =
 
 pub relation_extends : (link : Link) (comparison : Comparison) (l r : NumberTree) (hit miss : ℕ) (c : List Insn) → Extends c (relation_before link comparison l r hit miss c)
 relation_extends link comparison l r hit miss c =
-    number_extends link l 0 c _ (extends_put c _ _ (number_extends link r 1 c _ (extends_put c _ _ (extends_put c _ _ (comparison_extends comparison IndexRegister 0 hit miss c)))))
+    number_extends link l 0 c _ (by_right (λ b. Extends c b) (constant r) 0 _ _
+    (λ k is. comparison_extends comparison Constant k hit miss c)
+    (extends_put c _ _ (number_extends link r 1 c _ (extends_put c _ _ (extends_put c _ _ (comparison_extends comparison IndexRegister 0 hit miss c))))))
 
 pub emitted_extends : (link : Link) (known : Knowledge) (f : Formula) (hit miss : ℕ) (c : List Insn) → Extends c (emitted link known f hit miss c).code
 emitted_extends link known (Single t) hit miss c = elementary_extends known t hit miss c

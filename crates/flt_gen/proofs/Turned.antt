@@ -1,5 +1,5 @@
 -- The walk over the nodes of an expression makes its program.
-use Rattle.std.proofs.Common.{◌≡◌, ℕ, ◌+◌, ◌-◌, ◌≤◌, List, [], ◌∷◌, ◌++◌, length, drop, take, get_or, suc, ◌<◌, add-one, sym, ap, ◌∙◌, arith}
+use Rattle.std.proofs.Common.{◌≡◌, ℕ, ◌+◌, ◌-◌, ◌≤◌, List, [], ◌∷◌, ◌++◌, length, drop, take, get_or, zero, suc, ◌<◌, Option, Some, None, refl, sym, ap, ◌∙◌, subst, arith}
 use Rattle.std.specs.Prelude.{reverse}
 use Rattle.std.proofs.Math.Seq.{take-suc}
 use Rattle.std.proofs.lemmas.List.{reverse-reverse, reverse-append}
@@ -10,9 +10,9 @@ use Rattle.flt_lang.specs.Machine.{expr_onto}
 use Rattle.flt_lang.proofs.NodesBack.{expr_turned}
 use Rattle.flt_gen.specs.declared.link.Link.{Link}
 use Rattle.flt_gen.specs.Code.{expression_code, program_code}
-use Rattle.flt_gen.specs.Walk.{Walk, with_node, walked, start, insns_of}
+use Rattle.flt_gen.specs.Walk.{Walk, with_node, both_put, walked, start, insns_of}
 use Rattle.flt_gen.proofs.Walking.{expression_walked}
-use Rattle.flt_gen.proofs.Room.{IsLow, node_low, node_longer, walked_longer}
+use Rattle.flt_gen.proofs.Room.{IsLow, node_low, both_grown, walked_longer, both_walked, one_walked, last_walked}
 use Rattle.flt_gen.proofs.Whole.{Fits}
 
 nodes_turned : (e : Expression) (ns : List Node) → ns ≡ expr_nodes e → reverse ns ≡ expr_onto e
@@ -48,29 +48,70 @@ program_is link e ns h =
     ∙ ap (λ k. drop (length (expression_code link e).code - k) (expression_code link e).code) y
 
 -- the last of the nodes that are left
-pub last_node : (link : Link) (ns : List Node) (m : ℕ) (other : Node) (w : Walk) → 0 < m → m ≤ length ns → walked link w (reverse (take m ns)) ≡ walked link (with_node link w (get_or ns (m - 1) other)) (reverse (take (m - 1) ns))
-last_node link ns m other w some within =
-    let k = m - 1 in
-    let n = get_or ns k other in
-    let up : m ≡ suc k = (let e : m ≡ k + 1 = omega arith in e ∙ add-one k) in
-    let taken : take m ns ≡ take k ns ++ (n ∷ []) = ap (λ j. take j ns) up ∙ take-suc ns k other (omega arith) in
-    let turned : reverse (take m ns) ≡ n ∷ reverse (take k ns) = ap reverse taken ∙ reverse-append (take k ns) (n ∷ []) in
-    ap (walked link w) turned
+last_turned : (ns : List Node) (k : ℕ) (other : Node) → k < length ns → reverse (take (suc k) ns) ≡ get_or ns k other ∷ reverse (take k ns)
+last_turned ns k other within = ap reverse (take-suc ns k other within) ∙ reverse-append (take k ns) (get_or ns k other ∷ [])
 
--- the walk so far has room, and so has the next node
-pub record HasRoom (link : Link) (w : Walk) (n : Node) : Type 0 where
-  pub few : w.slot ≤ 32768
+-- which nodes are put at once, of those in front of a place and the one there
+abbrev both_last : Link → List Node → ℕ → Node → Walk → Option Walk
+both_last link ns zero other w = None
+both_last link ns (suc k) other w = both_put link w (get_or ns (suc k) other) (get_or ns k other)
+
+last_is : (link : Link) (ns : List Node) (j : ℕ) (other : Node) (w : Walk) → 0 < j → both_last link ns j other w ≡ both_put link w (get_or ns j other) (get_or ns (j - 1) other)
+last_is link ns zero other w some = absurd (omega arith)
+last_is link ns (suc k) other w some =
+    let less : k ≡ suc k - 1 = omega arith in ap (λ i. both_put link w (get_or ns (suc k) other) (get_or ns i other)) less
+
+last_both : (link : Link) (ns : List Node) (m : ℕ) (other : Node) (w v : Walk) → m < length ns → both_last link ns m other w ≡ Some v → walked link w (reverse (take (suc m) ns)) ≡ walked link v (reverse (take (m - 1) ns))
+last_both link ns zero other w v within e = cc
+last_both link ns (suc k) other w v within e =
+    let one = last_turned ns (suc k) other within ∙ ap (λ xs. get_or ns (suc k) other ∷ xs) (last_turned ns k other (omega arith)) in
+    let less : suc k - 1 ≡ k = omega arith in
+    ap (walked link w) one ∙ both_walked link w v (get_or ns (suc k) other) (get_or ns k other) (reverse (take k ns)) e ∙ ap (λ j. walked link v (reverse (take j ns))) (sym less)
+
+last_node : (link : Link) (ns : List Node) (m : ℕ) (other : Node) (w : Walk) → m < length ns → both_last link ns m other w ≡ None → walked link w (reverse (take (suc m) ns)) ≡ walked link (with_node link w (get_or ns m other)) (reverse (take m ns))
+last_node link ns zero other w within e = ap (walked link w) (last_turned ns zero other within) ∙ last_walked link w (get_or ns zero other)
+last_node link ns (suc k) other w within e =
+    let two = last_turned ns k other (omega arith) in
+    ap (walked link w) (last_turned ns (suc k) other within ∙ ap (λ xs. get_or ns (suc k) other ∷ xs) two)
+    ∙ one_walked link w (get_or ns (suc k) other) (get_or ns k other) (reverse (take k ns)) e
+    ∙ ap (λ xs. walked link (with_node link w (get_or ns (suc k) other)) xs) (sym two)
+
+-- a walk that has so many of the nodes in front of it, and room for them
+pub record Stands (link : Link) (ns : List Node) (m : ℕ) (w : Walk) : Type 0 where
+  pub within : m ≤ length ns
+  pub same : walked link w (reverse (take m ns)) ≡ walked link start (reverse ns)
+  pub low : IsLow w
+  pub slots : w.slot ≤ 32768
   pub some : length w.group.numbers ≤ 4096
-  pub before : length w.code ≤ 32768
-  pub after : length (with_node link w n).code ≤ 32768
+  pub code : length w.code ≤ 32768
 
-pub has_room : (link : Link) (ns : List Node) (m : ℕ) (other : Node) (w : Walk) → 0 < m → m ≤ length ns → IsLow w → walked link w (reverse (take m ns)) ≡ walked link start (reverse ns) → length (walked link start (reverse ns)).code ≤ 32768 → HasRoom link w (get_or ns (m - 1) other)
-has_room link ns m other w some within low same room =
-    let n = get_or ns (m - 1) other in
-    let v = with_node link w n in
-    let whole = sym (last_node link ns m other w some within) ∙ same in
-    let l = node_longer link w n low in
-    let r = walked_longer link v (reverse (take (m - 1) ns)) (node_low link w n low) in
-    let q : length (walked link v (reverse (take (m - 1) ns))).code ≡ length (walked link start (reverse ns)).code = ap (λ (x : Walk). length x.code) whole in
+pub stands : (link : Link) (ns : List Node) (m : ℕ) (w : Walk) → length (walked link start (reverse ns)).code ≤ 32768 → m ≤ length ns → walked link w (reverse (take m ns)) ≡ walked link start (reverse ns) → IsLow w → Stands link ns m w
+stands link ns m w room within same low =
+    let r = walked_longer link w (reverse (take m ns)) low in
+    let q : length (walked link w (reverse (take m ns))).code ≡ length (walked link start (reverse ns)).code = ap (λ (x : Walk). length x.code) same in
     let s = low.slot in
-    record { few = omega arith; some = low.few; before = omega arith; after = omega arith }
+    record { within = within; same = same; low = low; slots = omega arith; some = low.few; code = omega arith }
+
+-- behind one node more
+one_stands : (link : Link) (ns : List Node) (j : ℕ) (other : Node) (w : Walk) → length (walked link start (reverse ns)).code ≤ 32768 → Stands link ns (suc j) w → both_last link ns j other w ≡ None → Stands link ns j (with_node link w (get_or ns j other))
+one_stands link ns j other w room h e =
+    let l = h.within in
+    stands link ns j (with_node link w (get_or ns j other)) room (omega arith) (sym (last_node link ns j other w (omega arith) e) ∙ h.same) (node_low link w (get_or ns j other) h.low)
+
+pub first_stands : (link : Link) (ns : List Node) (m : ℕ) (other : Node) (w : Walk) → length (walked link start (reverse ns)).code ≤ 32768 → Stands link ns m w → 0 < m → m - 1 ≡ 0 → Stands link ns (m - 1) (with_node link w (get_or ns (m - 1) other))
+first_stands link ns zero other w room h some first = absurd (omega arith)
+first_stands link ns (suc zero) other w room h some first = one_stands link ns zero other w room h refl
+first_stands link ns (suc (suc k)) other w room h some first = absurd (omega arith)
+
+pub node_stands : (link : Link) (ns : List Node) (m : ℕ) (other : Node) (w : Walk) → length (walked link start (reverse ns)).code ≤ 32768 → Stands link ns m w → 0 < m - 1 → both_put link w (get_or ns (m - 1) other) (get_or ns (m - 1 - 1) other) ≡ None → Stands link ns (m - 1) (with_node link w (get_or ns (m - 1) other))
+node_stands link ns m other w room h some e =
+    let up : m ≡ suc (m - 1) = omega arith in
+    one_stands link ns (m - 1) other w room (subst (λ j. Stands link ns j w) up h) (last_is link ns (m - 1) other w some ∙ e)
+
+-- behind two nodes more, at once
+pub both_stand : (link : Link) (ns : List Node) (m : ℕ) (other : Node) (w v : Walk) → length (walked link start (reverse ns)).code ≤ 32768 → Stands link ns m w → 0 < m - 1 → both_put link w (get_or ns (m - 1) other) (get_or ns (m - 1 - 1) other) ≡ Some v → Stands link ns (m - 1 - 1) v
+both_stand link ns m other w v room h some e =
+    let up : m ≡ suc (m - 1) = omega arith in
+    let l = h.within in
+    let at = subst (λ j. walked link w (reverse (take j ns)) ≡ walked link start (reverse ns)) up h.same in
+    stands link ns (m - 1 - 1) v room (omega arith) (sym (last_both link ns (m - 1) other w v (omega arith) (last_is link ns (m - 1) other w some ∙ e)) ∙ at) (both_grown link w v (get_or ns (m - 1) other) (get_or ns (m - 1 - 1) other) h.low e).low

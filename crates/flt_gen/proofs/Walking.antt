@@ -1,4 +1,5 @@
 -- The walk over the nodes of a tree, the last first, puts the code of the tree's formula in front.
+use Rattle.std.specs.Prelude.{◌+◌, if◌then◌else◌}
 use Rattle.std.proofs.Common.{◌≡◌, ℕ, List, [], ◌∷◌, Bool, true, false, Option, Some, None, refl, sym, ap, ◌∙◌, ◌⊎◌, inl, inr}
 use Rattle.flt_bpf.specs.declared.insn.Insn.{Insn}
 use Rattle.flt_words.specs.declared.token.Join.TheVariants.{And, Or}
@@ -6,7 +7,9 @@ use Rattle.flt_words.specs.declared.token.Comparison.{Comparison}
 use Rattle.flt_lang.specs.declared.quals.FullQuals.{FullQuals}
 use Rattle.flt_lang.specs.declared.value.Value.{Value}
 use Rattle.flt_lang.specs.declared.node.Node.{Node}
-use Rattle.flt_lang.specs.declared.node.Node.TheVariants.{Compare, Not}
+use Rattle.flt_lang.specs.declared.node.Node.TheVariants.{Apply, Compare, Literal, Not}
+use Rattle.flt_bpf.specs.declared.operation.Operand.TheVariants.{Constant, IndexRegister}
+use Rattle.flt_words.specs.declared.token.Operator.{Operator}
 use Rattle.flt_gen.specs.declared.elementary.Elementary.TheVariants.{Known}
 use Rattle.flt_gen.specs.Primitives.{check_formula, cast_formula, sized_formula, qualified_formula}
 use Rattle.flt_gen.specs.Group.{Group, no_group, larger_group, truth_member, choice, or_any, or_group, group_formula, grouped}
@@ -19,13 +22,18 @@ use Rattle.flt_gen.specs.Numbers.{accessors}
 use Rattle.flt_gen.specs.Formula.{Formula, Single, Both, Either, Except, Compare as compare}
 use Rattle.flt_gen.specs.Reading.{formula}
 use Rattle.flt_gen.specs.Follow.{nothing}
-use Rattle.flt_gen.specs.Code.{number_before, Entered, emitted, expression_code}
-use Rattle.flt_gen.specs.Walk.{Walk, targets, truth_put, number_put, formula_put, settled_by, value_put, truth_node_put, start, walked}
+use Rattle.flt_gen.specs.Code.{plain, computation, takes, comparison_before, operands_before, right_before, number_before, Entered, emitted, accessors_before, expression_code}
+use Rattle.flt_gen.specs.Walk.{Walk, targets, truth_put, number_put, with_code, formula_put, settled_by, settled, value_put, truth_node_put, with_node, or_else, start, walked}
 use Rattle.flt_gen.proofs.Joined.{checked_emitted}
 
 -- a number's code and accessors are put
 abbrev with_number : Link → NumberTree → Walk → Walk
 with_number link a w = record w { code = number_before link a w.slot w.code; accessors = accessors a w.accessors }
+
+-- an operator whose right operand is a constant, which its instruction may have or not
+constant_walked : (link : Link) (o : Operator) (k : ℕ) (a : NumberTree) (w : Walk) (d : List Node) → ((v : Walk) → walked link v (number_onto a d) ≡ walked link (number_put link v.numbers (with_number link a v)) d) → (t : Bool) → walked link (or_else (if t then Some (with_code (plain (computation o Constant) k ∷ w.code) w) else None) (with_node link (with_node link w (Apply o)) (Literal k))) (number_onto a d) ≡ walked link (number_put link w.numbers (record w { code = number_before link a w.slot (right_before (if t then Some k else None) w.slot (λ j. plain (computation o Constant) j ∷ w.code) (number_before link (literal k) (w.slot + 1) (operands_before w.slot (plain (computation o IndexRegister) 0 ∷ w.code)))); accessors = accessors a w.accessors })) d
+constant_walked link o k a w d left true = left _
+constant_walked link o k a w d left false = left _
 
 number_walked : (link : Link) (a : NumberTree) (w : Walk) (d : List Node) → walked link w (number_onto a d) ≡ walked link (number_put link w.numbers (with_number link a w)) d
 number_walked link (literal n) w d = refl
@@ -33,7 +41,12 @@ number_walked link (named n) w d = refl
 number_walked link len w d = refl
 number_walked link (load p s a) w d = number_walked link a _ d
 number_walked link (negated a) w d = number_walked link a _ d
-number_walked link (applied o a b) w d = number_walked link b _ (number_onto a d) ∙ number_walked link a _ d
+number_walked link (applied o a (literal k)) w d = constant_walked link o k a w d (λ v. number_walked link a v d) (takes o k)
+number_walked link (applied o a (named k)) w d = constant_walked link o k a w d (λ v. number_walked link a v d) (takes o k)
+number_walked link (applied o a len) w d = number_walked link a _ d
+number_walked link (applied o a (load p s i)) w d = number_walked link (load p s i) _ (number_onto a d) ∙ number_walked link a _ d
+number_walked link (applied o a (negated i)) w d = number_walked link (negated i) _ (number_onto a d) ∙ number_walked link a _ d
+number_walked link (applied o a (applied q x y)) w d = number_walked link (applied q x y) _ (number_onto a d) ∙ number_walked link a _ d
 
 -- a walk between two truths, with hosts that wait
 abbrev pub waiting : List Insn → Targets → List LeftTruth → Group → Bool → Walk
@@ -56,12 +69,33 @@ value_walked link q v c to ts group false (Some more) h = refl
 value_walked link q v c to ts group true (Some more) (inl e) = cc
 value_walked link q v c to ts group true (Some more) (inr e) = cc
 
-relation_walked : (link : Link) (k : Comparison) (a b : NumberTree) (c : List Insn) (to : Targets) (ts : List LeftTruth) (d : List Node) → walked link (truth_node_put link (between c to ts) (Compare k)) (number_onto b (number_onto a d)) ≡ walked link (put_of link (formula link (compared k a b)) c to ts) d
-relation_walked link k a b c to ts d =
-    number_walked link b _ (number_onto a d) ∙ number_walked link a _ d
-    ∙ ap (λ (e : Entered). walked link (truth_put e (between c to ts)) d) (sym (checked_emitted link (accessors a (accessors b [])) (compare k a b) to.yes to.no c))
+-- a comparison behind the group that waits: a constant that is its right operand is in the test
+abbrev comparison_walked : Link → Comparison → NumberTree → Walk → List Node → Walk
+comparison_walked link k (literal j) w d = walked link (with_code (comparison_before k Constant j w.to.yes w.to.no w.code) w) d
+comparison_walked link k (named j) w d = walked link (with_code (comparison_before k Constant j w.to.yes w.to.no w.code) w) d
+comparison_walked link k b w d = walked link (truth_node_put link w (Compare k)) (number_onto b d)
 
-relation_settled : (link : Link) (k : Comparison) (a b : NumberTree) (c : List Insn) (to : Targets) (ts : List LeftTruth) (group : Group) (chained : Bool) (d : List Node) (bs : List ℕ) → walked link (truth_node_put link (settled_by link (waiting c to ts group chained) bs) (Compare k)) (number_onto b (number_onto a d)) ≡ walked link (put_of link (or_any (formula link (compared k a b)) (group_formula link group) bs) c to ts) d
+compare_walked : (link : Link) (k : Comparison) (b : NumberTree) (w : Walk) (d : List Node) → walked link w (Compare k ∷ number_onto b d) ≡ comparison_walked link k b (settled link w) d
+compare_walked link k (literal j) w d = refl
+compare_walked link k (named j) w d = refl
+compare_walked link k len w d = refl
+compare_walked link k (load p s i) w d = refl
+compare_walked link k (negated i) w d = refl
+compare_walked link k (applied o x y) w d = refl
+
+relation_walked : (link : Link) (k : Comparison) (a b : NumberTree) (c : List Insn) (to : Targets) (ts : List LeftTruth) (d : List Node) → comparison_walked link k b (between c to ts) (number_onto a d) ≡ walked link (put_of link (formula link (compared k a b)) c to ts) d
+relation_walked link k a b c to ts d =
+    both b ∙ ap (λ (e : Entered). walked link (truth_put e (between c to ts)) d) (sym (checked_emitted link (accessors a (accessors b [])) (compare k a b) to.yes to.no c))
+  where
+    both : (r : NumberTree) → comparison_walked link k r (between c to ts) (number_onto a d) ≡ (let e = emitted link nothing (compare k a r) to.yes to.no c in walked link (truth_put (accessors_before link (accessors a (accessors r [])) e.entry to.no e.code) (between c to ts)) d)
+    both (literal j) = number_walked link a _ d
+    both (named j) = number_walked link a _ d
+    both len = number_walked link a _ d
+    both (load p s i) = number_walked link (load p s i) _ (number_onto a d) ∙ number_walked link a _ d
+    both (negated i) = number_walked link (negated i) _ (number_onto a d) ∙ number_walked link a _ d
+    both (applied o x y) = number_walked link (applied o x y) _ (number_onto a d) ∙ number_walked link a _ d
+
+relation_settled : (link : Link) (k : Comparison) (a b : NumberTree) (c : List Insn) (to : Targets) (ts : List LeftTruth) (group : Group) (chained : Bool) (d : List Node) (bs : List ℕ) → comparison_walked link k b (settled_by link (waiting c to ts group chained) bs) (number_onto a d) ≡ walked link (put_of link (or_any (formula link (compared k a b)) (group_formula link group) bs) c to ts) d
 relation_settled link k a b c to ts group chained d [] = relation_walked link k a b c to ts d
 relation_settled link k a b c to ts group chained d (h ∷ hs) =
     let e = emitted link nothing (group_formula link group) to.yes to.no c in
@@ -112,7 +146,7 @@ truth_walked link (sized s n) group k free = λ c to ts d. ap (λ w. walked link
 truth_walked link (bare v) group k free = λ c to ts d. ap (λ w. walked link w d) (leaf_put link (Single (Known false)) c to ts group k group.numbers)
 truth_walked link (valued q v) group k free = λ c to ts d. ap (λ w. walked link w d) (leaf_put link (Single (Known false)) c to ts group k group.numbers)
 truth_walked link (qualified q v) group k free = λ c to ts d. ap (λ w. walked link w d) (value_walked link q v c to ts group k (larger_group q v group) free)
-truth_walked link (compared x a b) group k free = λ c to ts d. relation_settled link x a b c to ts group k d group.numbers
+truth_walked link (compared x a b) group k free = λ c to ts d. compare_walked link x b (waiting c to ts group k) (number_onto a d) ∙ relation_settled link x a b c to ts group k d group.numbers
 truth_walked link (denied a) group k free = λ c to ts d. denied_walked link a (truth_walked link a no_group false (inl refl)) c to ts group k d group.numbers
 truth_walked link (joined And a b) group k free =
     λ c to ts d. settled_both link a b (truth_walked link a no_group false (inl refl)) (truth_walked link b no_group false (inl refl)) c to ts group k d group.numbers

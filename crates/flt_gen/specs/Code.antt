@@ -1,5 +1,5 @@
 -- The code of a formula, which is put in front of the code that is there.
-use Rattle.std.specs.Prelude.{ℕ, zero, suc, ◌+◌, ◌-◌, ◌/◌, true, false, nat_le, nat_lt, ◌&&◌, if◌then◌else◌, List, [], ◌∷◌, length, take, drop, get_or, Option, Some, None}
+use Rattle.std.specs.Prelude.{ℕ, zero, suc, ◌+◌, ◌-◌, ◌/◌, true, false, nat_le, nat_lt, ◌==◌, not, ◌&&◌, if◌then◌else◌, Bool, List, [], ◌∷◌, length, take, drop, get_or, Option, Some, None}
 use Rattle.flt_bpf.specs.declared.insn.Insn.{Insn}
 use Rattle.flt_bpf.specs.declared.operation.Width.{Width}
 use Rattle.flt_bpf.specs.declared.operation.Test.{Test}
@@ -21,7 +21,7 @@ use Rattle.flt_gen.specs.declared.elementary.FieldTest.{FieldTest}
 use Rattle.flt_gen.specs.declared.elementary.Elementary.{Elementary}
 use Rattle.flt_gen.specs.declared.elementary.MaskedField.{MaskedField}
 use Rattle.flt_gen.specs.declared.elementary.Elementary.TheVariants.{Known, Field}
-use Rattle.flt_gen.specs.Elementary.{network}
+use Rattle.flt_gen.specs.Elementary.{with, network}
 use Rattle.flt_gen.specs.Follow.{fact, always, nothing, and_fact, and_fork, target}
 use Rattle.flt_gen.specs.Numbers.{width_of, accessor_tests}
 use Rattle.flt_gen.specs.Formula.{Formula, Single, Compare, Both, Either, Except, Guard, Fork, Choose, Among}
@@ -51,9 +51,27 @@ alu_operation ShiftRight = arithmetic.ShiftRight
 alu_operation Remainder = arithmetic.Remainder
 alu_operation ExclusiveOr = arithmetic.ExclusiveOr
 
--- an operator with X
-abbrev pub computation : Operator → Operation
-computation operator = Compute (alu_operation operator) IndexRegister
+-- an operator with X, or with a constant
+abbrev pub computation : Operator → Operand → Operation
+computation operator operand = Compute (alu_operation operator) operand
+
+-- whether an operator's instruction may have a constant: a division by 0 and a shift by 32 or more aren't valid with one
+abbrev pub takes : Operator → ℕ → Bool
+takes Divide k = not (k == 0)
+takes Remainder k = not (k == 0)
+takes ShiftLeft k = nat_lt k 32
+takes ShiftRight k = nat_lt k 32
+takes _ k = true
+
+-- the constant that arithmetic is
+abbrev pub constant : NumberTree → Option ℕ
+constant (literal k) = Some k
+constant (named k) = Some k
+constant _ = None
+
+-- a right operand that is in the operator's instruction
+abbrev pub constant_operand : Operator → NumberTree → Option ℕ
+constant_operand operator r = with (constant r) (λ k. if takes operator k then Some k else None)
 
 -- the greatest offset of a conditional jump
 abbrev pub NEAR : ℕ
@@ -118,6 +136,12 @@ accessor_before link _ width c = base_before (network link) width c
 abbrev pub operands_before : ℕ → List Insn → List Insn
 operands_before slot c = plain CopyToIndex 0 ∷ plain (Load Accumulator Memory) slot ∷ c
 
+-- what is behind a left operand: an instruction with the right one in it; or the left one goes into a word, and then the
+-- right one is computed
+abbrev pub right_before : Option ℕ → ℕ → (ℕ → List Insn) → List Insn → List Insn
+right_before (Some k) slot short long = short k
+right_before None slot short long = plain (Store Accumulator) slot ∷ long
+
 -- arithmetic's value goes into A; the words from slot on are free for it
 abbrev pub number_before : Link → NumberTree → ℕ → List Insn → List Insn
 number_before link (literal k) slot c = plain (Load Accumulator Immediate) k ∷ c
@@ -126,11 +150,13 @@ number_before link len slot c = plain (Load Accumulator Length) 0 ∷ c
 number_before link (load protocol size i) slot c = number_before link i slot (accessor_before link protocol (width_of size) c)
 number_before link (negated a) slot c = number_before link a slot (plain Negate 0 ∷ c)
 number_before link (applied operator l r) slot c =
-    number_before link l slot (plain (Store Accumulator) slot ∷ number_before link r (slot + 1) (operands_before slot (plain (computation operator) 0 ∷ c)))
+    number_before link l slot (right_before (constant_operand operator r) slot (λ k. plain (computation operator Constant) k ∷ c)
+    (number_before link r (slot + 1) (operands_before slot (plain (computation operator IndexRegister) 0 ∷ c))))
 
 abbrev pub relation_before : Link → Comparison → NumberTree → NumberTree → ℕ → ℕ → List Insn → List Insn
 relation_before link comparison l r hit miss c =
-    number_before link l 0 (plain (Store Accumulator) 0 ∷ number_before link r 1 (operands_before 0 (comparison_before comparison IndexRegister 0 hit miss c)))
+    number_before link l 0 (right_before (constant r) 0 (λ k. comparison_before comparison Constant k hit miss c)
+    (number_before link r 1 (operands_before 0 (comparison_before comparison IndexRegister 0 hit miss c))))
 
 -- code, and the place at which it is entered
 pub record Entered : Type 0 where

@@ -1,7 +1,9 @@
 -- The walk over the nodes of an expression, from the last to the first.
-use Rattle.std.specs.Prelude.{ℕ, ◌+◌, List, [], ◌∷◌, length, drop, ◌-◌, fold, Bool, true, false, Option, Some, None}
+use Rattle.std.specs.Prelude.{ℕ, ◌+◌, List, [], ◌∷◌, length, drop, ◌-◌, if◌then◌else◌, Bool, true, false, Option, Some, None}
 use Rattle.flt_bpf.specs.declared.insn.Insn.{Insn}
-use Rattle.flt_bpf.specs.declared.operation.Operand.TheVariants.{IndexRegister}
+use Rattle.flt_bpf.specs.declared.operation.Operand.TheVariants.{Constant, IndexRegister}
+use Rattle.flt_words.specs.declared.token.Operator.{Operator}
+use Rattle.flt_words.specs.declared.token.Comparison.{Comparison}
 use Rattle.flt_words.specs.declared.token.Join.{Join}
 use Rattle.flt_words.specs.declared.token.Join.TheVariants.{And, Or}
 use Rattle.flt_words.specs.declared.token.Protocol.{Protocol}
@@ -19,7 +21,7 @@ use Rattle.flt_gen.specs.Formula.{Formula}
 use Rattle.flt_gen.specs.Group.{Group, no_group, larger_group, group_formula}
 use Rattle.flt_gen.specs.Primitives.{check_formula, cast_formula, sized_formula, qualified_formula}
 use Rattle.flt_gen.specs.Follow.{nothing}
-use Rattle.flt_gen.specs.Code.{plain, comparison_before, accessor_before, computation, operands_before, Entered, entered, emitted, accessors_before, returns_code}
+use Rattle.flt_gen.specs.Code.{plain, comparison_before, accessor_before, computation, takes, operands_before, Entered, entered, emitted, accessors_before, returns_code}
 use Rattle.flt_bpf.specs.declared.operation.Operation.TheVariants.{Load, Store, Negate}
 use Rattle.flt_bpf.specs.declared.operation.Register.TheVariants.{Accumulator}
 use Rattle.flt_bpf.specs.declared.operation.Source.TheVariants.{Immediate, Length}
@@ -124,7 +126,7 @@ with_node link w node.Len = number_put link w.numbers (with_code (plain (Load Ac
 with_node link w (node.Load protocol size) =
     record w { code = accessor_before link protocol (width_of size) w.code; numbers = Index protocol ∷ w.numbers }
 with_node link w node.Negate = with_code (plain Negate 0 ∷ w.code) w
-with_node link w (node.Apply operator) = operands_put w.slot (plain (computation operator) 0 ∷ w.code) w
+with_node link w (node.Apply operator) = operands_put w.slot (plain (computation operator IndexRegister) 0 ∷ w.code) w
 with_node link w (node.Check protocol) = truth_node_put link (settled link w) (node.Check protocol)
 with_node link w (node.Cast protocol c) = truth_node_put link (settled link w) (node.Cast protocol c)
 with_node link w (node.Sized size n) = truth_node_put link (settled link w) (node.Sized size n)
@@ -132,6 +134,21 @@ with_node link w (node.Bare v) = truth_node_put link (settled link w) (node.Bare
 with_node link w (node.Valued quals v) = truth_node_put link (settled link w) (node.Valued quals v)
 with_node link w (node.Compare comparison) = truth_node_put link (settled link w) (node.Compare comparison)
 with_node link w node.Not = truth_node_put link (settled link w) node.Not
+
+-- an operator or a comparison, and its right operand, a constant that its instruction may have: the left operand is next
+abbrev pub applied_put : Operator → ℕ → Walk → Option Walk
+applied_put operator k w = if takes operator k then Some (with_code (plain (computation operator Constant) k ∷ w.code) w) else None
+
+abbrev pub compared_put : Comparison → ℕ → Walk → Option Walk
+compared_put comparison k w = Some (with_code (comparison_before comparison Constant k w.to.yes w.to.no w.code) w)
+
+-- such a node and the one before it, or none where they aren't put at once
+abbrev pub both_put : Link → Walk → Node → Node → Option Walk
+both_put link w (node.Apply operator) (node.Literal k) = applied_put operator k w
+both_put link w (node.Apply operator) (node.Named k) = applied_put operator k w
+both_put link w (node.Compare comparison) (node.Literal k) = compared_put comparison k (settled link w)
+both_put link w (node.Compare comparison) (node.Named k) = compared_put comparison k (settled link w)
+both_put link w _ _ = None
 
 -- a node of arithmetic
 abbrev pub is_number_node : Node → Bool
@@ -158,9 +175,22 @@ is_truth_node _ = false
 abbrev pub start : Walk
 start = record { code = returns_code; to = targets 2 1; slot = 0; truths = []; numbers = []; accessors = []; group = no_group; chained = false }
 
+abbrev pub or_else : Option Walk → Walk → Walk
+or_else (Some v) w = v
+or_else None w = w
+
+-- two nodes, at once or one after the other
+abbrev pub pair_put : Link → Walk → Node → Node → Walk
+pair_put link w n right = or_else (both_put link w n right) (with_node link (with_node link w n) right)
+
 -- the walk over nodes, the last first
 abbrev pub walked : Link → Walk → List Node → Walk
-walked link w nodes = fold (with_node link) w nodes
+walked link w [] = w
+walked link w (node.Apply o ∷ node.Literal k ∷ ns) = walked link (pair_put link w (node.Apply o) (node.Literal k)) ns
+walked link w (node.Apply o ∷ node.Named k ∷ ns) = walked link (pair_put link w (node.Apply o) (node.Named k)) ns
+walked link w (node.Compare c ∷ node.Literal k ∷ ns) = walked link (pair_put link w (node.Compare c) (node.Literal k)) ns
+walked link w (node.Compare c ∷ node.Named k ∷ ns) = walked link (pair_put link w (node.Compare c) (node.Named k)) ns
+walked link w (n ∷ ns) = walked link (with_node link w n) ns
 
 -- the instructions from where the program begins
 abbrev pub insns_of : Walk → List Insn

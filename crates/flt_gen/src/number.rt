@@ -2,8 +2,8 @@
 
 ghost use Rattle.std.specs.Prelude.{◌≡◌, ◌^◌, ◌<◌, length, OnOk, IfOk, reverse};
 ghost use Rattle.flt_gen.specs.Code.{entered, base_before, transport_before, accessor_before};
-ghost use Rattle.flt_gen.specs.Code.{alu_operation, computation, operands_before, all_before};
-ghost use Rattle.flt_gen.specs.Code.{accessors_before};
+ghost use Rattle.flt_gen.specs.Code.{alu_operation, computation, takes, operands_before};
+ghost use Rattle.flt_gen.specs.Code.{all_before, accessors_before};
 ghost use Rattle.flt_gen.specs.Follow.{nothing};
 ghost use Rattle.flt_gen.specs.Numbers.{accessor_tests, width_of};
 ghost use Rattle.flt_gen.specs.Puts.{HasRoom, Puts};
@@ -35,11 +35,23 @@ fn alu_operation(operator: Operator) -> AluOperation
     }
 }
 
-/// An operator between A and X.
-pub fn computation(operator: Operator) -> Operation
-    ensures { result ≡ computation operator }
+/// An operator between A and X, or between A and a constant.
+pub fn computation(operator: Operator, operand: Operand) -> Operation
+    ensures { result ≡ computation operator operand }
 {
-    Operation::Compute(alu_operation(operator), Operand::IndexRegister)
+    Operation::Compute(alu_operation(operator), operand)
+}
+
+/// Whether an operator's instruction may have a constant: a division by 0 and a shift by 32 or
+/// more aren't valid with one.
+pub fn takes(operator: Operator, constant: u32) -> bool
+    ensures { result ≡ takes operator constant }
+{
+    match operator {
+        Operator::Divide | Operator::Remainder => constant != 0,
+        Operator::ShiftLeft | Operator::ShiftRight => constant < 32,
+        _ => true,
+    }
 }
 
 /// How much an accessor reads of which the size in bytes is written: 1, 2 or 4.
@@ -80,7 +92,7 @@ fn put_transport<A: Allocator>(
     let start = network(link);
     code.put_plain(Operation::LoadIndirect(width), start)?;
     code.put_plain(Operation::CopyToIndex, 0)?;
-    code.put_plain(computation(Operator::Add), 0)?;
+    code.put_plain(computation(Operator::Add, Operand::IndexRegister), 0)?;
     code.put_plain(Operation::LoadHeaderLength, start)
 }
 

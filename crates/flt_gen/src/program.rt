@@ -32,7 +32,13 @@ fn program_insns<A: Allocator + Clone>(
     // The label names the loop in its proof.
     'nodes: while left > 0 {
         left -= 1;
-        walk.put_node(link, &nodes[left])?;
+        if left == 0 {
+            walk.put_node(link, &nodes[left])?;
+        } else if walk.put_both_nodes(link, &nodes[left], &nodes[left - 1])? {
+            left -= 1;
+        } else {
+            walk.put_node(link, &nodes[left])?;
+        }
     }
     Ok(walk.into_insns())
 }

@@ -11,7 +11,6 @@ use crate::code::Code;
 use crate::context::Context;
 use crate::elementary::{Hosts, NetTest, PortTest, Ports};
 use crate::group::Group;
-use crate::number::put_operands;
 use crate::port::put_ports;
 use crate::primitive::{put_ether_host, put_proto};
 use crate::put::put_comparison;
@@ -142,11 +141,7 @@ pub fn put_sized<A: Allocator>(
         Size::Less => Comparison::AtMost,
         Size::Greater => Comparison::AtLeast,
     };
-    let load = Operation::Load(Register::Accumulator, Source::Immediate);
-    put_comparison(code, comparison, Operand::IndexRegister, 0, context.to)?;
-    put_operands(code, 0)?;
-    code.put_plain(load, number)?;
-    code.put_plain(Operation::Store(Register::Accumulator), 0)?;
+    put_comparison(code, comparison, Operand::Constant, number, context.to)?;
     code.put_plain(Operation::Load(Register::Accumulator, Source::Length), 0)?;
     Ok(code.top())
 }

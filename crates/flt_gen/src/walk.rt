@@ -3,18 +3,20 @@
 //! processor's stack than a short one.
 
 ghost use Rattle.std.specs.Prelude.{◌≡◌, ◌+◌, ◌^◌, ◌<◌, ◌≤◌, true, length, OnOk, IfOk};
+ghost use Rattle.std.specs.Prelude.{if◌then◌else◌};
 ghost use Rattle.flt_gen.specs.Group.{larger_group};
 ghost use Rattle.flt_gen.specs.Code.{entered};
 ghost use Rattle.flt_gen.specs.Puts.{HasRoom};
 ghost use Rattle.flt_gen.specs.Walk.{start, truth_put, relation_put, number_put, is_number_node};
 ghost use Rattle.flt_gen.specs.Walk.{is_truth_node, operands_put, settled, group_put, value_put};
 ghost use Rattle.flt_gen.specs.Walk.{join_put, truth_node_put, with_node, insns_of};
+ghost use Rattle.flt_gen.specs.Walk.{applied_put, compared_put, both_put};
 
 use crate::code::{Code, Targets};
 use crate::context::Context;
 use crate::group::Group;
 use crate::link::Link;
-use crate::number::{computation, put_accessor, put_accessors, put_operands, width_of};
+use crate::number::{computation, put_accessor, put_accessors, put_operands, takes, width_of};
 use crate::primitive::{put_cast, put_check};
 use crate::put::put_comparison;
 use crate::value::{put_group, put_qualified, put_sized};
@@ -22,7 +24,7 @@ use crate::waiting::{LeftTruth, Numbers, Truths, Waiting};
 use flt_bpf::insn::Insn;
 use flt_bpf::operation::{Operand, Operation, Register, Source};
 use flt_lang::{FullQuals, Node, Value};
-use flt_words::{Join, Protocol};
+use flt_words::{Comparison, Join, Operator, Protocol};
 use std::alloc::{AllocError, Allocator};
 use std::marker::Model;
 
@@ -163,7 +165,8 @@ impl<A: Allocator> Walk<A> {
             }
             Node::Negate => self.code.put_plain(Operation::Negate, 0),
             Node::Apply(operator) => {
-                self.code.put_plain(computation(*operator), 0)?;
+                self.code
+                    .put_plain(computation(*operator, Operand::IndexRegister), 0)?;
                 self.put_both(self.slot)
             }
             _ => unreachable!(),
@@ -261,6 +264,63 @@ impl<A: Allocator> Walk<A> {
         };
         self.finish_truth(entry);
         Ok(())
+    }
+
+    /// An operator with a constant as its right operand. `false`: its instruction may not have it.
+    fn put_applied(&mut self, operator: Operator, constant: u32) -> Result<bool, AllocError>
+        ensures put { IfOk result (λ put. applied_put operator constant self.old
+            ≡ (if put then Some self.new else None)) }
+        ensures same { IfOk result (λ put. self.new ≡ (if put then self.new else self.old)) }
+    {
+        if !takes(operator, constant) {
+            return Ok(false);
+        }
+        self.code
+            .put_plain(computation(operator, Operand::Constant), constant)?;
+        Ok(true)
+    }
+
+    /// A comparison with a constant as its right operand.
+    fn put_compared(
+        &mut self,
+        link: Link,
+        comparison: Comparison,
+        constant: u32,
+    ) -> Result<(), AllocError>
+        requires room { length self.old.code < 2 ^ 30 }
+        requires some { length self.old.group.numbers ≤ 4096 }
+        ensures { OnOk result
+            (compared_put comparison constant (settled link self.old) ≡ Some self.new) }
+    {
+        self.settle(link)?;
+        let to = self.to;
+        put_comparison(&mut self.code, comparison, Operand::Constant, constant, to)
+    }
+
+    /// A node and the one before it at once, where that is its right operand and a constant that
+    /// its instruction may have. `false`: they aren't put.
+    pub fn put_both_nodes(
+        &mut self,
+        link: Link,
+        node: &Node,
+        right: &Node,
+    ) -> Result<bool, AllocError>
+        requires room { length self.old.code < 2 ^ 30 }
+        requires some { length self.old.group.numbers ≤ 4096 }
+        ensures put { IfOk result (λ put. both_put link self.old node.now right.now
+            ≡ (if put then Some self.new else None)) }
+        ensures same { IfOk result (λ put. self.new ≡ (if put then self.new else self.old)) }
+    {
+        match (node, right) {
+            (Node::Apply(operator), Node::Literal(n) | Node::Named(n)) => {
+                self.put_applied(*operator, *n)
+            }
+            (Node::Compare(comparison), Node::Literal(n) | Node::Named(n)) => {
+                self.put_compared(link, *comparison, *n)?;
+                Ok(true)
+            }
+            _ => Ok(false),
+        }
     }
 
     /// One more node, the one before those that were put.
