@@ -1,5 +1,5 @@
 -- Each node has room, and leaves the same walk to do.
-use Rattle.std.proofs.Common.{◌≡◌, ◌-◌, ◌<◌, Some, None, ◌∙◌, sym, ap, subst, length, take, get_or, arith}
+use Rattle.std.proofs.Common.{◌≡◌, ◌-◌, Some, None, ◌∙◌, sym, ap, subst, length, take, get_or, arith}
 use Rattle.std.specs.Prelude.{reverse, if◌then◌else◌}
 use Rattle.flt_words.specs.declared.token.Protocol.TheVariants.{Ether}
 use Rattle.flt_lang.specs.declared.node.Node.TheVariants.{Check}
