@@ -20,11 +20,11 @@ abbrev pub is_standard_input : Opened → Bool
 is_standard_input (opened.File file) = false
 is_standard_input (opened.Stream stream) = true
 
-abbrev pub is_standard_output : Created → Bool
+abbrev pub is_standard_output : {S : Type 0} → Created S → Bool
 is_standard_output (created.File output) = false
 is_standard_output (created.Stream stream) = true
 
 -- the output is a file that may still hold what it held before it was opened
-abbrev pub is_kept : Created → Bool
+abbrev pub is_kept : {S : Type 0} → Created S → Bool
 is_kept (created.File output) = not output.is_emptied
 is_kept (created.Stream stream) = false

@@ -1,17 +1,18 @@
 //! Lines that are waited for: what is buffered before a pipe goes out before a read that may wait.
-ghost use Rattle.std.specs.Prelude.{None};
+ghost use Rattle.std.specs.Prelude.{◌≡◌, None, false, true};
 ghost use Rattle.std.specs.Io.{WritesAtMost};
 ghost use Rattle.std.specs.Io.KnownBytes.{WriteAppends};
 
-use crate::overwrites::{input_path, is_plain, output_path};
+use crate::files::{Identify, is_plain};
+use crate::overwrites::{input_path, output_path};
 use crate::streams::Created;
 use std::cell::{Cell, RefCell};
 use std::io::{self, BufWriter, Error, ErrorKind, Write};
 
 /// Whether a read of some input may wait: it is no plain file.
-fn may_wait(rt: &HostRuntime, names: &[String]) -> bool {
+fn may_wait(files: &impl Identify, names: &[String]) -> bool {
     for name in names {
-        if !is_plain(rt, input_path(name)) {
+        if !is_plain(files, input_path(name)) {
             return true;
         }
     }
@@ -20,8 +21,30 @@ fn may_wait(rt: &HostRuntime, names: &[String]) -> bool {
 
 /// Whether what is written to the output is to go out before each read: some input isn't a plain
 /// file, and the output isn't one either, so that somebody may read it as it comes.
-pub fn is_waited_for(rt: &HostRuntime, names: &[String], output: &str) -> bool {
-    may_wait(rt, names) && !is_plain(rt, output_path(Some(output)))
+pub fn is_waited_for(files: &impl Identify, names: &[String], output: &str) -> bool {
+    may_wait(files, names) && !is_plain(files, output_path(Some(output)))
+}
+
+/// When what a run writes leaves its buffer.
+#[derive(Drop)]
+pub enum Buffering {
+    /// At once: a terminal shows each line, report or listing as it is written.
+    AtOnce,
+    BeforeReads,
+    WhenFull,
+}
+
+/// When an output's buffer is written out.
+pub fn buffering_of(is_terminal: bool, is_waited_for: bool) -> Buffering
+    ensures terminal { is_terminal ≡ true → result ≡ Buffering.AtOnce }
+    ensures read { is_terminal ≡ false → is_waited_for ≡ true → result ≡ Buffering.BeforeReads }
+    ensures full { is_terminal ≡ false → is_waited_for ≡ false → result ≡ Buffering.WhenFull }
+{
+    match (is_terminal, is_waited_for) {
+        (true, _) => Buffering::AtOnce,
+        (false, true) => Buffering::BeforeReads,
+        (false, false) => Buffering::WhenFull,
+    }
 }
 
 /// The buffer before an output whose lines are waited for. The job writes to it, and the inputs

@@ -7,6 +7,7 @@ ghost use Rattle.capkit.specs.Line.{is_ready, SaysLine};
 ghost use Rattle.capkit_main.specs.Status.{status_of};
 ghost use Rattle.capkit_main.specs.Words.{with_help_option};
 
+mod files;
 mod held;
 mod message;
 mod overwrites;

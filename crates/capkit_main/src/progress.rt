@@ -16,7 +16,7 @@ const MIB: u64 = 1_048_576;
 
 /// The size of all files of these names. 0 where one is no plain file, so that its size isn't
 /// known.
-fn total_size(rt: &HostRuntime, names: &[String]) -> u64 {
+pub(crate) fn total_size(rt: &HostRuntime, names: &[String]) -> u64 {
     let mut total: u64 = 0;
     for name in names {
         match fs::metadata(rt, name) {
@@ -41,15 +41,18 @@ fn is_file(rt: &HostRuntime, output: &str) -> bool {
     }
 }
 
+/// Whether a line can be written over on a terminal of that name.
+pub(crate) fn can_write_over(is_terminal: bool, name: Option<&str>) -> bool {
+    is_terminal && name != Some("dumb")
+}
+
 /// Whether standard error is a terminal on which a line can be written over.
 fn is_drawable(rt: &HostRuntime) -> bool {
-    if !rt.stderr().is_terminal() {
-        return false;
-    }
-    match env::var(rt, "TERM") {
-        Ok(terminal) => terminal.as_str() != "dumb",
-        Err(_) => true,
-    }
+    let name = env::var(rt, "TERM").ok();
+    can_write_over(
+        rt.stderr().is_terminal(),
+        name.as_ref().map(|name| name.as_str()),
+    )
 }
 
 /// Counts the bytes that the inputs of a job read.
@@ -63,54 +66,71 @@ pub struct Progress<'a> {
     read: Cell<u64>,
     /// The second at which it is shown next.
     next: Cell<u64>,
+    /// Whether its line stands on the terminal.
+    is_shown: Cell<bool>,
+}
+
+/// When a job begins that shows its progress. None where that could meet lines, or another
+/// program's progress, on the terminal, or where none can be drawn on.
+pub(crate) fn start_of(rt: &HostRuntime, output: &str, is_drawable: bool) -> Option<Instant> {
+    if !is_drawable || !is_file(rt, output) {
+        return None;
+    }
+    Instant::now(rt).ok()
 }
 
 impl<'a> Progress<'a> {
-    /// Nothing is read yet of the inputs of these names. Nothing is shown where that could meet
-    /// lines, or another program's progress, on the terminal.
+    /// Nothing is read yet of the inputs of these names.
     pub fn new(rt: &'a HostRuntime, names: &[String], output: &str) -> Progress<'a> {
-        let start = if is_file(rt, output) && is_drawable(rt) {
-            Instant::now(rt).ok()
-        } else {
-            None
-        };
+        let start = start_of(rt, output, is_drawable(rt));
+        Progress::since(rt, start, total_size(rt, names))
+    }
+
+    /// Nothing is read yet of inputs of that size, by a job that began then.
+    pub(crate) fn since(rt: &'a HostRuntime, start: Option<Instant>, total: u64) -> Progress<'a> {
         Progress {
             rt,
             start,
-            total: total_size(rt, names),
+            total,
             read: Cell::new(0),
             next: Cell::new(FIRST),
+            is_shown: Cell::new(false),
         }
     }
 
-    /// Counts bytes that were read, and shows progress once a second.
+    /// Whether it counts, so that it may be shown.
+    pub(crate) fn counts(&self) -> bool {
+        self.start.is_some()
+    }
+
+    /// Counts bytes that were read, and shows progress on standard error.
     fn count(&self, bytes: usize) {
-        let Some(start) = self.start else {
-            return;
-        };
+        if let Some(start) = self.start {
+            let elapsed = start.elapsed(self.rt);
+            // Where the clock can't be read, nothing is shown.
+            let seconds = elapsed.map_or(0, |elapsed| elapsed.as_secs());
+            self.count_at(self.rt, bytes, seconds);
+        }
+    }
+
+    /// Counts bytes that were read by that second, and shows progress once a second.
+    pub(crate) fn count_at(&self, terminal: &impl Eprint, bytes: usize, seconds: u64) {
         let read = self.read.get().saturating_add(bytes as u64);
         self.read.set(read);
-        let Ok(elapsed) = start.elapsed(self.rt) else {
-            return;
-        };
-        let seconds = elapsed.as_secs();
         if seconds >= self.next.get() {
             self.next.set(seconds.saturating_add(1));
-            self.show(read, seconds);
+            self.show(terminal, read, seconds);
         }
     }
 
     /// Writes the line, over the one that stands there.
-    fn show(&self, read: u64, seconds: u64) {
+    fn show(&self, terminal: &impl Eprint, read: u64, seconds: u64) {
+        self.is_shown.set(true);
         let mib = read / MIB;
         let rate = mib / seconds.max(1);
         let _ = match self.share(read) {
-            Some(share) => self
-                .rt
-                .eprint(format_args!("\r\x1b[K{share}% read, {rate} MiB/s")),
-            None => self
-                .rt
-                .eprint(format_args!("\r\x1b[K{mib} MiB read, {rate} MiB/s")),
+            Some(share) => terminal.eprint(format_args!("\r\x1b[K{share}% read, {rate} MiB/s")),
+            None => terminal.eprint(format_args!("\r\x1b[K{mib} MiB read, {rate} MiB/s")),
         };
     }
 
@@ -124,9 +144,9 @@ impl<'a> Progress<'a> {
     }
 
     /// Erases the line, if one stands there.
-    pub fn erase(&self) {
-        if self.next.get() > FIRST {
-            let _ = self.rt.eprint(format_args!("\r\x1b[K"));
+    pub fn erase(&self, terminal: &impl Eprint) {
+        if self.is_shown.replace(false) {
+            let _ = terminal.eprint(format_args!("\r\x1b[K"));
         }
     }
 }

@@ -10,7 +10,7 @@ ghost use Rattle.capkit.specs.Line.{has_expression, is_ready, with_code};
 ghost use Rattle.capkit_main.specs.Ending.{has_failed, is_unread, status_by};
 ghost use Rattle.capkit_main.specs.Streams.{is_kept};
 
-use crate::held::{Held, Outlet, is_waited_for};
+use crate::held::{Buffering, Held, Outlet, buffering_of, is_waited_for};
 use crate::message::Shown;
 use crate::progress::{Counted, Progress};
 use crate::streams::{Created, Opened};
@@ -82,7 +82,7 @@ pub(crate) fn read_listing<'a>(rt: &HostRuntime, name: &'a str) -> Result<Vec<u8
 }
 
 /// The command with the bytes of its listing, where one is named.
-fn with_listing<'a>(
+pub(crate) fn with_listing<'a>(
     rt: &HostRuntime,
     command: Command,
     listing: Option<&'a str>,
@@ -140,21 +140,21 @@ pub(crate) fn create<'a>(rt: &HostRuntime, name: &'a str) -> Result<Created, Sto
 }
 
 /// The output with its buffer. What is waited for goes into the buffer that reads write out.
-fn target<'a, 'h>(
+pub(crate) fn target<'a, 'h>(
     rt: &HostRuntime,
     created: Created,
     is_waited_for: bool,
     held: &'h Held,
 ) -> Result<Target<'h>, Stop<'a>> {
-    // A terminal shows each line, report or listing as it is written.
-    if created.is_terminal() {
-        return buffered(BufWriter::with_capacity(rt.alloc(), 0, Outlet::Direct(created)));
-    }
-    if !is_waited_for {
-        return buffered(BufWriter::with_capacity(rt.alloc(), BUFFER, Outlet::Direct(created)));
-    }
-    held.hold(buffered(BufWriter::with_capacity(rt.alloc(), BUFFER, created))?);
-    buffered(BufWriter::with_capacity(rt.alloc(), 0, Outlet::Held(held)))
+    let capacity = match buffering_of(created.is_terminal(), is_waited_for) {
+        Buffering::AtOnce => 0,
+        Buffering::WhenFull => BUFFER,
+        Buffering::BeforeReads => {
+            held.hold(buffered(BufWriter::with_capacity(rt.alloc(), BUFFER, created))?);
+            return buffered(BufWriter::with_capacity(rt.alloc(), 0, Outlet::Held(held)));
+        }
+    };
+    buffered(BufWriter::with_capacity(rt.alloc(), capacity, Outlet::Direct(created)))
 }
 
 /// Runs the command over its inputs and the output of that name. What the command told of the
@@ -179,7 +179,7 @@ fn run_over<'a>(
     let messages = buffered(BufWriter::new(rt.alloc(), rt.stderr()))?;
     let (out, err) = (StdOutput::new(target), StdOutput::new(messages));
     let (status, target, messages) = run_job(rt, command, names, inputs, out, err);
-    progress.erase();
+    progress.erase(rt);
     finish(status, target, messages, output)
 }
 
@@ -200,7 +200,7 @@ fn run_job<I: Input + Drop, O: Output, E: Output>(
 }
 
 /// Writes what is buffered, and tells the run's message and how its output ended.
-fn finish<'a, W: Write + Drop>(
+pub(crate) fn finish<'a, W: Write + Drop>(
     status: u8,
     target: StdOutput<Outlet<'_>>,
     messages: StdOutput<W>,
@@ -239,7 +239,7 @@ fn leave(status: u8, output: &mut Created) -> io::Result<()>
 }
 
 /// Writes what is buffered, and decides over what the output held before.
-fn settle(status: u8, target: &mut Target<'_>) -> io::Result<()> {
+pub(crate) fn settle(status: u8, target: &mut Target<'_>) -> io::Result<()> {
     if let Outlet::Direct(created) = target.get_mut() {
         leave(status, created)?;
     }
@@ -321,6 +321,28 @@ fn output_name(output: &Option<String>) -> &str
     }
 }
 
+/// Opens the inputs in order, creates the output, runs the command, and returns its status.
+pub(crate) fn run_command(
+    rt: &HostRuntime,
+    command: Command,
+    names: Vec<String>,
+    output: &str,
+    progress: &Progress<'_>,
+    held: &Held,
+) -> u8
+    requires { is_proper command (vec_len names) ≡ true }
+    ensures { result ≤ 2 }
+{
+    let inputs = match open(rt, names.as_slice(), progress, held) {
+        Ok(inputs) => inputs,
+        Err(stop) => return stopped(rt, stop),
+    };
+    match run_over(rt, command, names, inputs, output, progress, held) {
+        Ok(status) => status,
+        Err(stop) => stopped(rt, stop),
+    }
+}
+
 /// Runs the command of the line over the files and streams that its names mean, and returns
 /// its status.
 ///
@@ -343,13 +365,5 @@ pub fn run(rt: &HostRuntime, line: Line) -> u8
         Err(stop) => return stopped(rt, stop),
     };
     let progress = Progress::new(rt, names.as_slice(), output);
-    let held = Held::new();
-    let inputs = match open(rt, names.as_slice(), &progress, &held) {
-        Ok(inputs) => inputs,
-        Err(stop) => return stopped(rt, stop),
-    };
-    match run_over(rt, command, names, inputs, output, &progress, &held) {
-        Ok(status) => status,
-        Err(stop) => stopped(rt, stop),
-    }
+    run_command(rt, command, names, output, &progress, &Held::new())
 }

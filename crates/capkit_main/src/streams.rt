@@ -44,11 +44,11 @@ pub struct OutputFile {
     is_emptied: bool,
 }
 
-/// An output that was created.
+/// An output that was created. A test has a stream of its own in place of standard output.
 #[derive(Drop)]
-pub enum Created {
+pub enum Created<S = Stdout> {
     File(OutputFile),
-    Stream(Stdout),
+    Stream(S),
 }
 
 impl Created {
@@ -68,7 +68,9 @@ impl Created {
             is_emptied: false,
         }))
     }
+}
 
+impl<S> Created<S> {
     /// Removes what a plain file held before it was opened. Later calls do nothing.
     ///
     /// A device and a pipe hold nothing that could be removed.
@@ -90,7 +92,7 @@ impl Created {
     }
 }
 
-impl Write for Created {
+impl<S: Write> Write for Created<S> {
     /// One write. What a file held before goes before its first one.
     fn write(&mut self, buf: &[u8]) -> io::Result<usize>
         ensures bound { WritesAtMost result buf.now }
@@ -112,11 +114,11 @@ impl Write for Created {
     }
 }
 
-impl Created {
+impl<S: IsTerminal> Created<S> {
     /// Whether somebody looks at what is written as it comes.
     pub fn is_terminal(&self) -> bool {
         match self {
-            Created::File(_) => false,
+            Created::File(output) => output.file.is_terminal(),
             Created::Stream(stream) => stream.is_terminal(),
         }
     }
