@@ -5,7 +5,6 @@ use Rattle.cap_filter.specs.Messages.{fault_message}
 use Rattle.cap_filter.specs.Outcome.{OutputView, IsTold}
 use Rattle.cap_tools.specs.declared.step.JobEnd.{JobEnd}
 use Rattle.cap_tools.specs.declared.step.JobEnd.TheVariants as end
-use Rattle.cap_tools.specs.declared.step.StepOutcome.TheVariants.{Done}
 use Rattle.cap_inputs.specs.Sequence.{InputItems, SequenceEnd, Complete, FaultIn, PacketOrder}
 use Rattle.cap_tools.specs.Reports.{name_at}
 use Rattle.cap_tools.specs.Verdict.{Policy}
@@ -85,7 +84,7 @@ clean-status (end.FaultIn input fault) is = (cc)
 clean-status end.OutputFailed is = (cc)
 
 -- a step that ended the job, and its report
-pub step-ends : (inputs_tell output_tells tells : Bool) (old mid new : JobView) (e : JobEnd) → IsTrue inputs_tell → IsTrue output_tells → IsStep inputs_tell output_tells old (Done e) mid → new ≡ ending e new.err mid
+pub step-ends : (inputs_tell output_tells tells : Bool) (old mid new : JobView) (e : JobEnd) → IsTrue inputs_tell → IsTrue output_tells → IsStep inputs_tell output_tells old (Some e) mid → new ≡ ending e new.err mid
     → IsTold tells mid.err (end_text mid.machine.output.names mid.machine.inputs.cursors e) new.err → (e ≡ end.Complete → new.err ≡ mid.err) → EndsJob tells old (end_status e) new
 step-ends inputs_tell output_tells tells old mid new e ti to step is told quiet =
     let text : List ℕ = end_text old.machine.output.names mid.machine.inputs.cursors e in

@@ -14,7 +14,7 @@ use Rattle.cap_io.proofs.Standing.{IsAt-found, IsAt-closed, IsAt-fault}
 use Rattle.cap_inputs.specs.declared.inputs.Schedule.{Schedule}
 use Rattle.cap_inputs.specs.declared.inputs.Schedule.TheVariants.{Turn, Merge}
 use Rattle.cap_inputs.specs.declared.inputs.Next.TheVariants as next
-use Rattle.cap_tools.specs.declared.step.StepOutcome.{StepOutcome}
+use Rattle.cap_tools.specs.declared.step.JobEnd.{JobEnd}
 use Rattle.cap_tools.specs.Reports.{Report, Tally}
 use Rattle.cap_inputs.specs.Sequence.{InputItems, Event, FaultIn, PacketOrder, InTurn, ByTime, sequence_of, with_front, whole_input}
 use Rattle.cap_tools.specs.Verdict.{Policy, Edit, Filter, KeepAll, Count, SelectorState}
@@ -366,7 +366,7 @@ report-stops us vs s before xs ys h s' schedule turn policy state names (Text by
       stops = (let S : Target → Type 0 = λ t. Stops bytes own (written_to t) in subst S (sym reports.is) reports.appends);
     }
 
-closed-core : (us vs : List InputPast) (s : InputPast) (before : List ℕ) (xs ys : List InputView) (h : InputView) (s' : SourceView) (schedule : Schedule) (turn : ℕ) (policy : Policy) (state : SelectorState) (output : JobOutputView) (decided : ℕ) (r : StepOutcome) (selector' : PolicyState) (output' : JobOutputView)
+closed-core : (us vs : List InputPast) (s : InputPast) (before : List ℕ) (xs ys : List InputView) (h : InputView) (s' : SourceView) (schedule : Schedule) (turn : ℕ) (policy : Policy) (state : SelectorState) (output : JobOutputView) (decided : ℕ) (r : Option JobEnd) (selector' : PolicyState) (output' : JobOutputView)
     → (laws : ReadLaws schedule turn xs ys h) → IsNext schedule (xs ++ h ∷ ys) (next.Read turn) → AreInputsBehind us xs → At s h → AreInputsBehind vs ys → Advances h.source.phase h.source (Ok false) s' → Steps h.source.phase h.source (Ok false) s'
     → (d : PacketsDecided (us ++ s ∷ vs) before (mk (xs ++ h ∷ ys) schedule policy state output decided))
     → (b : Bool) → asks_report (ordering_of schedule) policy ≡ b → ClosesBy b turn (input_after h (Ok false) s') (sieve (record { policy = policy; state = state }) output) r (sieve selector' output')
@@ -397,18 +397,18 @@ closed-core us vs s before xs ys h s' schedule turn policy state output decided 
 
 -- ---- all of them
 
-abbrev pub FetchLeaves : {ss : List InputPast} {before : List ℕ} {old : MachineState} → PacketsDecided ss before old → ℕ → Result Bool Fault → StepOutcome → MachineState → Type 0
+abbrev pub FetchLeaves : {ss : List InputPast} {before : List ℕ} {old : MachineState} → PacketsDecided ss before old → ℕ → Result Bool Fault → Option JobEnd → MachineState → Type 0
 FetchLeaves {ss} {before} {old} d i (Ok true) r new = GoesOn d new
 FetchLeaves {ss} {before} {old} d i (Ok false) r new = StepLeaves d r new
 FetchLeaves {ss} {before} {old} d i (Err fault) r new = BreaksAt d new i fault
 
 -- what is made of an answer: at its end an input is closed, and else the rest stays
-abbrev pub Follows : Result Bool Fault → InputsView → ℕ → PolicyState → JobOutputView → StepOutcome → PolicyState → JobOutputView → Type 0
+abbrev pub Follows : Result Bool Fault → InputsView → ℕ → PolicyState → JobOutputView → Option JobEnd → PolicyState → JobOutputView → Type 0
 Follows (Ok true) inputs i selector old r selector' new = (selector' ≡ selector) × (new ≡ old)
 Follows (Ok false) inputs i selector old r selector' new = Closes inputs i (sieve selector old) r (sieve selector' new)
 Follows (Err fault) inputs i selector old r selector' new = (selector' ≡ selector) × (new ≡ old)
 
-read_input-core : (us vs : List InputPast) (s : InputPast) (before : List ℕ) (xs ys : List InputView) (h : InputView) (s' : SourceView) (a : Result Bool Fault) (schedule : Schedule) (turn : ℕ) (policy : Policy) (state : SelectorState) (output : JobOutputView) (decided : ℕ) (r : StepOutcome) (selector' : PolicyState) (output' : JobOutputView)
+read_input-core : (us vs : List InputPast) (s : InputPast) (before : List ℕ) (xs ys : List InputView) (h : InputView) (s' : SourceView) (a : Result Bool Fault) (schedule : Schedule) (turn : ℕ) (policy : Policy) (state : SelectorState) (output : JobOutputView) (decided : ℕ) (r : Option JobEnd) (selector' : PolicyState) (output' : JobOutputView)
     → ReadLaws schedule turn xs ys h → IsNext schedule (xs ++ h ∷ ys) (next.Read turn) → AreInputsBehind us xs → At s h → AreInputsBehind vs ys → Advances h.source.phase h.source a s' → Steps h.source.phase h.source a s'
     → (d : PacketsDecided (us ++ s ∷ vs) before (mk (xs ++ h ∷ ys) schedule policy state output decided))
     → Follows a (record { cursors = xs ++ input_after h a s' ∷ ys; schedule = schedule_after schedule turn (is_clean_end a) }) turn (record { policy = policy; state = state }) output r selector' output'
@@ -429,7 +429,7 @@ read_input-core us vs s before xs ys h s' (Err fault) schedule turn policy state
 })
 
 -- one input taken out of a step's premises
-pub read_input-leaves : (ss : List InputPast) (before : List ℕ) (cursors : List InputView) (schedule : Schedule) (policy : Policy) (state : SelectorState) (output : JobOutputView) (decided : ℕ) (i : ℕ) (a : Result Bool Fault) (inputs' : InputsView) (r : StepOutcome) (selector' : PolicyState) (output' : JobOutputView)
+pub read_input-leaves : (ss : List InputPast) (before : List ℕ) (cursors : List InputView) (schedule : Schedule) (policy : Policy) (state : SelectorState) (output : JobOutputView) (decided : ℕ) (i : ℕ) (a : Result Bool Fault) (inputs' : InputsView) (r : Option JobEnd) (selector' : PolicyState) (output' : JobOutputView)
     → IsNext schedule cursors (next.Read i) → ReadsInput (record { cursors = cursors; schedule = schedule }) i a inputs' → (d : PacketsDecided ss before (mk cursors schedule policy state output decided))
     → Follows a inputs' i (record { policy = policy; state = state }) output r selector' output'
     → FetchLeaves d i a r (mk inputs'.cursors inputs'.schedule policy selector'.state output' decided)
@@ -463,7 +463,7 @@ read_input-leaves ss before cursors schedule policy state output decided i a inp
 
 -- ---- an input is closed
 
-pub closes-by : (schedule : Schedule) (input : ℕ) (cursor : InputView) (selector selector' : PolicyState) (output output' : JobOutputView) (r : StepOutcome) (tally : Tally) (report : Report) (answer : Result (Unit {0}) DeviceFault) → is_in_turn schedule ≡ true
+pub closes-by : (schedule : Schedule) (input : ℕ) (cursor : InputView) (selector selector' : PolicyState) (output output' : JobOutputView) (r : Option JobEnd) (tally : Tally) (report : Report) (answer : Result (Unit {0}) DeviceFault) → is_in_turn schedule ≡ true
     → selecting.TakesTally (is_count selector.policy) selector (Some tally) selector' → report ≡ report_at input cursor tally → Reports (report_text output.names report) output.target answer output'.target → output'.names ≡ output.names → r ≡ unless_failed answer
     → ClosesBy (asks_report (ordering_of schedule) selector.policy) input cursor (sieve selector output) r (sieve selector' output')
 closes-by (Merge n u) input cursor selector selector' output output' r tally report answer turn taken is reports names ends = (cc)

@@ -1,8 +1,12 @@
 -- What a step keeps of the counts.
-use Rattle.std.proofs.Common.{ℕ, ◌+◌, ◌≤◌, Option, None, Some, arith}
+use Rattle.std.proofs.Common.{ℕ, ◌+◌, ◌≤◌, Option, None, Some, arith, Bool}
 use Rattle.cap_inputs.specs.Inputs.{InputsView, most_steps}
 use Rattle.cap_tools.specs.Jobs.{IsCounted}
 use Rattle.cap_tools.specs.Bounds.{HasFewTurns, IsPaid, most_turns, owed}
+use Rattle.cap_filter.specs.Outcome.{OutputView}
+use Rattle.cap_tools.specs.Start.{Preparing}
+use Rattle.cap_tools.specs.Jobs.{JobView}
+use Rattle.cap_tools.specs.Bounds.{StepReads, reads_on, decides_one, leaves_one, reads_nothing}
 
 pub counted-kept : (done : Option ℕ) (turns left left' : ℕ) → left' ≤ left → IsCounted done turns left → IsCounted done turns left'
 counted-kept None turns left left' less is = omega (arith, less, is)
@@ -18,3 +22,11 @@ paid-turns turns owes most owes' most' paid few = omega (arith, paid, few)
 pub few-kept : (done : Option ℕ) (turns : ℕ) (inputs inputs' : InputsView) → IsPaid inputs inputs' → HasFewTurns done turns inputs → HasFewTurns done turns inputs'
 few-kept None turns inputs inputs' paid few = paid-turns turns (owed inputs) (most_turns inputs) (owed inputs') (most_turns inputs') paid few
 few-kept (Some status) turns inputs inputs' paid few = tt
+
+-- a step reads what it read, whatever becomes of its messages and of the count of steps
+pub reads-kept : (tells goes : Bool) (old mid : JobView) (p : Option Preparing) (err : OutputView) (turns : ℕ) (ended : Option ℕ) → StepReads tells goes old mid
+    → StepReads tells goes old (record { preparing = p; machine = mid.machine; programs = mid.programs; err = err; turns = turns; done = ended })
+reads-kept tells goes old mid p err turns ended (reads_on i answer on reads) = reads_on i answer on (record { fetches = reads.fetches; told = reads.told; decided = reads.decided; output = reads.output; programs = reads.programs })
+reads-kept tells goes old mid p err turns ended (decides_one i one) = decides_one i (record { packet = one.packet; holds = one.holds; settles = one.settles; decided = one.decided; programs = one.programs; cost = one.cost })
+reads-kept tells goes old mid p err turns ended (leaves_one i ends one) = leaves_one i ends (record { packet = one.packet; holds = one.holds; inputs = one.inputs; decided = one.decided; programs = one.programs; cost = one.cost })
+reads-kept tells goes old mid p err turns ended (reads_nothing ends none) = reads_nothing ends (record { inputs = none.inputs; decided = none.decided; programs = none.programs })

@@ -6,25 +6,25 @@ use Rattle.cap_io.specs.Capture.{Declared, Nothing, PcapFile, PcapngFile}
 use Rattle.cap_io.specs.Reading.{most_in_unit}
 use Rattle.cap_io.specs.Source.{HasFew, behind}
 use Rattle.cap_io.specs.Text.{AreFew, most_output_interfaces}
+use Rattle.cap_tools.specs.declared.step.JobEnd.{JobEnd}
 use Rattle.cap_tools.specs.Output.{Target, Capture, Text, Lines}
 use Rattle.cap_inputs.specs.Inputs.{InputView, InputsView, IsInput, ReadsInput, ReadSteps, MarksDecided, is_clean_end, ordering_of, schedule_left, waiting_total, weight_of}
 use Rattle.cap_octet.specs.Packet.{Captured}
 use Rattle.cap_filter.specs.Programs.{spent_in}
 use Rattle.cap_tools.specs.Selector.{most_spent, places, spent_by_verdict, window_of}
-use Rattle.cap_tools.specs.declared.step.StepOutcome.{StepOutcome}
-use Rattle.cap_tools.specs.declared.step.StepOutcome.TheVariants.{More, Done}
-use Rattle.cap_tools.specs.Machine.{MachineState, MachineView, asks_report}
+use Rattle.cap_tools.specs.Machine.{MachineState, asks_report}
+use Rattle.cap_tools.specs.Jobs.{JobView}
 
 -- ---- what a step reads
 
 -- One input was read on, to its next packet and no further. No packet is decided, and nothing is written unless the
 -- input was read to its end and is to be reported.
-pub record ReadsOn (tells : Bool) (old : MachineView) (input : ℕ) (answer : Result Bool Fault) (new : MachineView) : Type 0 where
-  pub fetches : ReadSteps old.inputs input answer new.inputs
+pub record ReadsOn (tells : Bool) (old : JobView) (input : ℕ) (answer : Result Bool Fault) (new : JobView) : Type 0 where
+  pub fetches : ReadSteps old.machine.inputs input answer new.machine.inputs
   -- where the input tells its bytes: its next packet, its clean end or its fault, and no more
-  pub told : IsTrue tells → ReadsInput old.inputs input answer new.inputs
-  pub decided : new.decided ≡ old.decided
-  pub output : (is_clean_end answer && asks_report (ordering_of old.inputs.schedule) old.policy) ≡ false → new.output ≡ old.output
+  pub told : IsTrue tells → ReadsInput old.machine.inputs input answer new.machine.inputs
+  pub decided : new.machine.decided ≡ old.machine.decided
+  pub output : (is_clean_end answer && asks_report (ordering_of old.machine.inputs.schedule) old.machine.policy) ≡ false → new.machine.output ≡ old.machine.output
   pub programs : new.programs ≡ old.programs
 
 -- an input's current packet, which isn't decided yet
@@ -35,27 +35,27 @@ pub record Holds (cursors : List InputView) (input : ℕ) (p : Captured) : Type 
   pub held : cursor.source.packet ≡ Some p
 
 -- The current packet of one input was decided, and nothing is read. It cost one run of a program at most.
-pub record DecidesOne (old : MachineView) (input : ℕ) (new : MachineView) : Type 0 where
+pub record DecidesOne (old : JobView) (input : ℕ) (new : JobView) : Type 0 where
   pub packet : Captured
-  pub holds : Holds old.inputs.cursors input packet
-  pub settles : MarksDecided old.inputs input new.inputs
-  pub decided : new.decided ≡ old.decided + 1
-  pub programs : new.programs ≡ spent_by_verdict old.policy (old.decided + 1) packet old.programs
-  pub cost : spent_in new.programs ≤ spent_in old.programs + most_spent old.policy
+  pub holds : Holds old.machine.inputs.cursors input packet
+  pub settles : MarksDecided old.machine.inputs input new.machine.inputs
+  pub decided : new.machine.decided ≡ old.machine.decided + 1
+  pub programs : new.programs ≡ spent_by_verdict old.machine.policy (old.machine.decided + 1) packet old.programs
+  pub cost : spent_in new.programs ≤ spent_in old.programs + most_spent old.machine.policy
 
 -- it is refused, or wasn't written
-pub record LeavesOne (old : MachineView) (input : ℕ) (new : MachineView) : Type 0 where
+pub record LeavesOne (old : JobView) (input : ℕ) (new : JobView) : Type 0 where
   pub packet : Captured
-  pub holds : Holds old.inputs.cursors input packet
-  pub inputs : new.inputs ≡ old.inputs
-  pub decided : new.decided ≡ old.decided
-  pub programs : new.programs ≡ spent_by_verdict old.policy (old.decided + 1) packet old.programs
-  pub cost : spent_in new.programs ≤ spent_in old.programs + most_spent old.policy
+  pub holds : Holds old.machine.inputs.cursors input packet
+  pub inputs : new.machine.inputs ≡ old.machine.inputs
+  pub decided : new.machine.decided ≡ old.machine.decided
+  pub programs : new.programs ≡ spent_by_verdict old.machine.policy (old.machine.decided + 1) packet old.programs
+  pub cost : spent_in new.programs ≤ spent_in old.programs + most_spent old.machine.policy
 
 -- nothing is read, no packet is decided, and no program runs
-pub record ReadsNothing (old new : MachineView) : Type 0 where
-  pub inputs : new.inputs ≡ old.inputs
-  pub decided : new.decided ≡ old.decided
+pub record ReadsNothing (old new : JobView) : Type 0 where
+  pub inputs : new.machine.inputs ≡ old.machine.inputs
+  pub decided : new.machine.decided ≡ old.machine.decided
   pub programs : new.programs ≡ old.programs
 
 abbrev pub is_fault : Result Bool Fault → Bool
@@ -64,15 +64,15 @@ is_fault (Err fault) = true
 
 -- A step reads one input on, or decides one packet, or can't decide it, or does neither. It goes on behind an input that
 -- gave no fault, or a packet that is decided, and not otherwise.
-pub data StepReads (tells goes : Bool) (old new : MachineView) : Type 0 where
+pub data StepReads (tells goes : Bool) (old new : JobView) : Type 0 where
   reads_on : (input : ℕ) → (answer : Result Bool Fault) → (goes ≡ true → is_fault answer ≡ false) → ReadsOn tells old input answer new → StepReads tells goes old new
   decides_one : (input : ℕ) → DecidesOne old input new → StepReads tells goes old new
   leaves_one : (input : ℕ) → goes ≡ false → LeavesOne old input new → StepReads tells goes old new
   reads_nothing : goes ≡ false → ReadsNothing old new → StepReads tells goes old new
 
-abbrev pub goes_on : StepOutcome → Bool
-goes_on More = true
-goes_on (Done end) = false
+abbrev pub goes_on : Option JobEnd → Bool
+goes_on None = true
+goes_on (Some end) = false
 
 -- ---- how many steps were made
 

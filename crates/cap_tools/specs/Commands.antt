@@ -20,7 +20,6 @@ use Rattle.cap_tools.specs.Start.{FilterAsked, Preparing, ReadsFilter, Compiles,
 use Rattle.cap_tools.specs.Selector.{HavePrograms}
 use Rattle.cap_inputs.specs.Inputs.{InputPast, steps_left}
 use Rattle.cap_tools.specs.Bounds.{IsLight, StepReads, most_turns}
-use Rattle.cap_tools.specs.Machine.{MachineView}
 use Rattle.cap_tools.specs.Jobs.{JobView, Decided, IsStatus, JobGives, JobRuns, NeverBegan, Call, RunResult, done_by, first_job}
 use Rattle.cap_inputs.specs.Fresh.{nothing_done}
 use Rattle.cap_tools.specs.FirstStep.{IsFresh, Lists, Refuses, filtering, is_text, output_of, output_name}
@@ -116,12 +115,12 @@ pub record Keeps (old : JobView) (r : Turn) (new : JobView) : Type 0 where
   pub policy : old.preparing ≡ None → new.machine.policy ≡ old.machine.policy
 
 -- Nothing is read before the filter is there, and no packet is decided; no program has run.
-pub record PreparesOnly (old new : MachineView) : Type 0 where
-  pub inputs : new.inputs ≡ old.inputs
-  pub decided : new.decided ≡ old.decided
+pub record PreparesOnly (old new : JobView) : Type 0 where
+  pub inputs : new.machine.inputs ≡ old.machine.inputs
+  pub decided : new.machine.decided ≡ old.machine.decided
   pub unspent : spent_in new.programs ≡ spent_in old.programs
 
-abbrev pub StepReadsBy : Option Preparing → (tells goes : Bool) → MachineView → MachineView → Type 0
+abbrev pub StepReadsBy : Option Preparing → (tells goes : Bool) → JobView → JobView → Type 0
 StepReadsBy None tells goes old new = StepReads tells goes old new
 StepReadsBy (Some preparing) tells goes old new = PreparesOnly old new
 

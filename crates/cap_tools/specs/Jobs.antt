@@ -18,7 +18,7 @@ use Rattle.cap_tools.specs.Outcome.{Outcome, Work, first_link, outcome, outcome_
 use Rattle.cap_inputs.specs.Inputs.{InputView, InputsView, InputPast, IsInput, most_steps, ordering_of, offset_at}
 use Rattle.cap_inputs.specs.Fresh.{FreshInput, fresh_input, fresh_inputs}
 use Rattle.flt_bpf.specs.Content.{Content}
-use Rattle.cap_tools.specs.Machine.{MachineState, MachineView, machine_with, AppendsOnce, PacketsDecided, GoesOn, EndsByCut, WantsMemory, StopsWriting, form_of, written_by, failures_by, texts, progress_of, progress_over, wholes_of, cut_at}
+use Rattle.cap_tools.specs.Machine.{MachineState, AppendsOnce, PacketsDecided, GoesOn, EndsByCut, WantsMemory, StopsWriting, form_of, written_by, failures_by, texts, progress_of, progress_over, wholes_of, cut_at}
 use Rattle.cap_inputs.specs.Inputs.{never_failing}
 
 -- ---- as it is handed over
@@ -74,9 +74,6 @@ pub record JobView : Type 0 where
 -- of the parts of a job
 abbrev pub machine_at : InputsView → SelectorView → JobOutputView → ℕ → MachineState
 machine_at inputs selector output decided = record { inputs = inputs; policy = selector.policy; state = selector.state; output = output; decided = decided }
-
-abbrev pub machine_of : JobView → MachineView
-machine_of j = machine_with j.machine j.programs
 
 abbrev pub most_inputs : ℕ
 most_inputs = 256

@@ -8,15 +8,12 @@ use Rattle.cap_octet.specs.declared.device.DeviceFault.{DeviceFault}
 use Rattle.cap_io.specs.Capture.{Placed, Items, kind_of}
 use Rattle.cap_io.specs.Source.{SourceView, Advances}
 use Rattle.cap_io.specs.Position.{IsCutShort}
-use Rattle.flt_bpf.specs.Content.{Content}
 use Rattle.cap_filter.specs.Programs.{spent_in}
 use Rattle.cap_inputs.specs.declared.inputs.Next.TheVariants as next
 use Rattle.cap_tools.specs.declared.selector.Verdict as code
 use Rattle.cap_tools.specs.declared.selector.Verdict.TheVariants as code_verdict
 use Rattle.cap_tools.specs.declared.step.JobEnd.{JobEnd}
 use Rattle.cap_tools.specs.declared.step.JobEnd.TheVariants as end
-use Rattle.cap_tools.specs.declared.step.StepOutcome.{StepOutcome}
-use Rattle.cap_tools.specs.declared.step.StepOutcome.TheVariants.{More, Done}
 use Rattle.cap_tools.specs.Reports.{Report, Tally, report_text}
 use Rattle.cap_tools.specs.Output.{JobOutputView, Target, HasWritten, Puts, Reports, form_at, written_to, failures_to}
 use Rattle.cap_inputs.specs.Sequence.{Event, SequenceEnd, Complete, FaultIn, InputItems, PacketOrder, InTurn, ByTime, sequence_of, whole_input}
@@ -36,21 +33,6 @@ pub record MachineState : Type 0 where
   pub output : JobOutputView
   -- how many packets are decided
   pub decided : ℕ
-
-pub record MachineView : Type 0 where
-  pub inputs : InputsView
-  pub policy : Policy
-  pub state : SelectorState
-  pub output : JobOutputView
-  pub decided : ℕ
-  -- by which packets are judged
-  pub programs : List Content
-
-abbrev pub machine_state : MachineView → MachineState
-machine_state m = record { inputs = m.inputs; policy = m.policy; state = m.state; output = m.output; decided = m.decided }
-
-abbrev pub machine_with : MachineState → List Content → MachineView
-machine_with m programs = record { inputs = m.inputs; policy = m.policy; state = m.state; output = m.output; decided = m.decided; programs = programs }
 
 abbrev pub form_of : MachineState → Form
 form_of m = form_at m.output
@@ -138,24 +120,24 @@ asks_report ByTime policy = false
 abbrev pub report_at : ℕ → InputView → Tally → Report
 report_at input h tally = record { input = input; kind = kind_of h.source.declared; size = h.source.offset; tally = tally }
 
-abbrev pub unless_failed : Result (Unit {0}) DeviceFault → StepOutcome
-unless_failed (Ok done) = More
-unless_failed (Err fault) = Done end.OutputFailed
+abbrev pub unless_failed : Result (Unit {0}) DeviceFault → Option JobEnd
+unless_failed (Ok done) = None
+unless_failed (Err fault) = Some end.OutputFailed
 
 -- an input is reported, and the count begins anew
-pub record ReportsOn (input : ℕ) (cursor : InputView) (old : Sieve JobOutputView) (r : StepOutcome) (new : Sieve JobOutputView) : Type 0 where
+pub record ReportsOn (input : ℕ) (cursor : InputView) (old : Sieve JobOutputView) (r : Option JobEnd) (new : Sieve JobOutputView) : Type 0 where
   pub answer : Result (Unit {0}) DeviceFault
   pub reports : Reports (report_text old.output.names (report_at input cursor old.selector.state.tally)) old.output.target answer new.output.target
   pub names : new.output.names ≡ old.output.names
   pub is : r ≡ unless_failed answer
   pub selector_is : new.selector ≡ record { policy = old.selector.policy; state = emptied old.selector.state }
 
-abbrev pub ClosesBy : Bool → ℕ → InputView → Sieve JobOutputView → StepOutcome → Sieve JobOutputView → Type 0
-ClosesBy false input cursor old r new = (r ≡ More) × (new.selector ≡ old.selector) × (new.output ≡ old.output)
+abbrev pub ClosesBy : Bool → ℕ → InputView → Sieve JobOutputView → Option JobEnd → Sieve JobOutputView → Type 0
+ClosesBy false input cursor old r new = (r ≡ None) × (new.selector ≡ old.selector) × (new.output ≡ old.output)
 ClosesBy true input cursor old r new = ReportsOn input cursor old r new
 
 -- an input was read to its end
-pub record Closes (inputs : InputsView) (input : ℕ) (old : Sieve JobOutputView) (r : StepOutcome) (new : Sieve JobOutputView) : Type 0 where
+pub record Closes (inputs : InputsView) (input : ℕ) (old : Sieve JobOutputView) (r : Option JobEnd) (new : Sieve JobOutputView) : Type 0 where
   pub cursor : InputView
   pub among : IsInput inputs.cursors input cursor
   pub by : ClosesBy (asks_report (ordering_of inputs.schedule) old.selector.policy) input cursor old r new
@@ -313,9 +295,9 @@ EndLeaves {ss} {before} {old} d end.Complete new = Comes (wholes_of ss) d new Co
 EndLeaves {ss} {before} {old} d (end.FaultIn input fault) new = BreaksAt d new input fault
 EndLeaves {ss} {before} {old} d end.OutputFailed new = StopsWriting d new
 
-abbrev pub StepLeaves : {ss : List InputPast} {before : List ℕ} {old : MachineState} → PacketsDecided ss before old → StepOutcome → MachineState → Type 0
-StepLeaves {ss} {before} {old} d More new = GoesOn d new
-StepLeaves {ss} {before} {old} d (Done e) new = EndLeaves d e new
+abbrev pub StepLeaves : {ss : List InputPast} {before : List ℕ} {old : MachineState} → PacketsDecided ss before old → Option JobEnd → MachineState → Type 0
+StepLeaves {ss} {before} {old} d None new = GoesOn d new
+StepLeaves {ss} {before} {old} d (Some e) new = EndLeaves d e new
 
-abbrev pub StepGives : MachineState → StepOutcome → MachineState → Type 0
+abbrev pub StepGives : MachineState → Option JobEnd → MachineState → Type 0
 StepGives old r new = (ss : List InputPast) (before : List ℕ) (d : PacketsDecided ss before old) → StepLeaves d r new

@@ -1,22 +1,20 @@
 -- What each step over the packets keeps and leaves, before its end is reported.
-use Rattle.std.specs.Prelude.{◌≡◌, ◌+◌, ◌<◌, Bool, IsTrue, Some}
+use Rattle.std.specs.Prelude.{◌≡◌, ◌+◌, ◌<◌, Bool, IsTrue, Some, Option, None}
 use Rattle.cap_filter.specs.Outcome.{OutputView}
 use Rattle.cap_tools.specs.declared.step.JobEnd.{JobEnd}
-use Rattle.cap_tools.specs.declared.step.StepOutcome.{StepOutcome}
-use Rattle.cap_tools.specs.declared.step.StepOutcome.TheVariants.{More}
 use Rattle.cap_inputs.specs.Inputs.{steps_left}
 use Rattle.cap_tools.specs.Selector.{HavePrograms}
 use Rattle.cap_tools.specs.Machine.{StepGives}
-use Rattle.cap_tools.specs.Jobs.{JobView, end_status, machine_of}
+use Rattle.cap_tools.specs.Jobs.{JobView, end_status}
 use Rattle.cap_tools.specs.Bounds.{IsLight, IsPaid, StepReads, goes_on}
 
 -- What a step leaves, where the inputs tell their bytes, and the output does; and what holds of any device. Messages and
 -- steps are not touched.
-pub record IsStep (inputs_tell output_tells : Bool) (old : JobView) (r : StepOutcome) (new : JobView) : Type 0 where
+pub record IsStep (inputs_tell output_tells : Bool) (old : JobView) (r : Option JobEnd) (new : JobView) : Type 0 where
   pub told : IsTrue inputs_tell → IsTrue output_tells → StepGives old.machine r new.machine
-  pub reads : StepReads inputs_tell (goes_on r) (machine_of old) (machine_of new)
-  pub progress : r ≡ More → steps_left new.machine.inputs < steps_left old.machine.inputs
-  pub paid : r ≡ More → IsPaid old.machine.inputs new.machine.inputs
+  pub reads : StepReads inputs_tell (goes_on r) old new
+  pub progress : r ≡ None → steps_left new.machine.inputs < steps_left old.machine.inputs
+  pub paid : r ≡ None → IsPaid old.machine.inputs new.machine.inputs
   pub light : IsLight new.machine
   pub sound : HavePrograms new.machine.policy new.programs
   pub policy : new.machine.policy ≡ old.machine.policy
@@ -24,7 +22,7 @@ pub record IsStep (inputs_tell output_tells : Bool) (old : JobView) (r : StepOut
   pub preparing : new.preparing ≡ old.preparing
   pub err : new.err ≡ old.err
   pub turns : new.turns ≡ old.turns
-  pub done : r ≡ More → new.done ≡ old.done
+  pub done : r ≡ None → new.done ≡ old.done
 
 -- the job that ended so, with these messages
 abbrev pub ending : JobEnd → OutputView → JobView → JobView

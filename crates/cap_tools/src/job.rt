@@ -13,7 +13,7 @@ use crate::messages::Messages;
 use crate::output::JobOutput;
 use crate::selector::Selector;
 use crate::start::{Assignment, Preparation, assignment_of, read_filter};
-use crate::step::{JobEnd, StepOutcome, close, decide, unwritten};
+use crate::step::{JobEnd, close, decide, unwritten};
 use cap_filter::command::{Command, Compile, Print};
 use cap_filter::compile::compile_text;
 use cap_filter::filter::Filter;
@@ -109,7 +109,7 @@ impl<I: Input, O: Output, E: Output, A: Allocator + Copy + Drop> Job<I, O, E, A>
     ghost use Rattle.cap_tools.specs.FirstStep.{EndsList, IsFresh, Refuses, filtering, is_text};
     ghost use Rattle.cap_tools.specs.Jobs.{IsStatus, JobGives, done_by, first_job};
     ghost use Rattle.cap_inputs.specs.Fresh.{fresh_input};
-    ghost use Rattle.cap_tools.specs.Jobs.{machine_of, turn_goes_on};
+    ghost use Rattle.cap_tools.specs.Jobs.{turn_goes_on};
     ghost use Rattle.cap_inputs.specs.Fresh.{nothing_done};
     ghost use Rattle.cap_tools.specs.Machine.{failures_by, written_by};
     ghost use Rattle.cap_tools.specs.Selector.{HavePrograms};
@@ -173,7 +173,7 @@ impl<I: Input, O: Output, E: Output, A: Allocator + Copy + Drop> Job<I, O, E, A>
             → GivesBy self.old.preparing E.tells self.old result self.new }
         ensures keeps { Keeps self.old result self.new }
         ensures reads { StepReadsBy self.old.preparing I.tells (turn_goes_on result)
-            (machine_of self.old) (machine_of self.new) }
+            self.old self.new }
     {
         // Most steps have nothing to take; `take` would move the whole place each time.
         if self.preparation.is_none() {
@@ -192,7 +192,7 @@ impl<I: Input, O: Output, E: Output, A: Allocator + Copy + Drop> Job<I, O, E, A>
         requires taken { self.old.preparing ≡ None }
         ensures gives { FilterGives (asked_by print.now) E.tells self.old result self.new }
         ensures keeps { KeepsFirst self.old result self.new }
-        ensures reads { PreparesOnly (machine_of self.old) (machine_of self.new) }
+        ensures reads { PreparesOnly self.old self.new }
     {
         match read_filter(self.alloc, print) {
             Ok(filter) => self.filter(filter, print.count),
@@ -208,7 +208,7 @@ impl<I: Input, O: Output, E: Output, A: Allocator + Copy + Drop> Job<I, O, E, A>
         ensures gives { IsTrue O.tells → CompileGives (string_bytes compile.now.expr)
             compile.now.link E.tells self.old result self.new }
         ensures keeps { KeepsFirst self.old result self.new }
-        ensures reads { PreparesOnly (machine_of self.old) (machine_of self.new) }
+        ensures reads { PreparesOnly self.old self.new }
     {
         match compile_text(self.alloc, compile.expr.as_str(), compile.link) {
             Ok(program) => self.list(&program),
@@ -232,8 +232,8 @@ impl<I: Input, O: Output, E: Output, A: Allocator + Copy + Drop> Job<I, O, E, A>
         ensures turns { self.old.done ≡ None → self.new.turns ≡ self.old.turns + 1 }
         ensures few { self.old.done ≡ None → self.new.turns
             ≤ most_turns self.old.machine.inputs + 1 }
-        ensures reads { StepReads I.tells (turn_goes_on result) (machine_of self.old)
-            (machine_of self.new) }
+        ensures reads { StepReads I.tells (turn_goes_on result) self.old
+            self.new }
         ensures light { IsLight self.new.machine }
         ensures sound { HavePrograms self.new.machine.policy self.new.programs }
         ensures left { result ≡ Turn.More → (self.new.turns ≡ self.old.turns + 1)
@@ -245,17 +245,18 @@ impl<I: Input, O: Output, E: Output, A: Allocator + Copy + Drop> Job<I, O, E, A>
             return Turn::Done(status);
         }
         match self.do_next() {
-            StepOutcome::More => {
+            None => {
                 self.turns += 1;
                 Turn::More
             }
-            StepOutcome::Done(end) => self.end(end),
+            Some(end) => self.end(end),
         }
     }
 
-    /// Does what is next: reads one input on, decides one packet, or ends the output.
+    /// Does what is next: reads one input on, decides one packet, or ends the output. It returns
+    /// the end where the job ends here.
     #[inline(always)]
-    fn do_next(&mut self) -> StepOutcome
+    fn do_next(&mut self) -> Option<JobEnd>
         requires { self.old.preparing ≡ None }
         ensures { IsStep I.tells O.tells self.old result self.new }
     {
@@ -267,7 +268,7 @@ impl<I: Input, O: Output, E: Output, A: Allocator + Copy + Drop> Job<I, O, E, A>
     }
 
     /// Decides the current packet of an input.
-    fn decide_next(&mut self, input: usize) -> StepOutcome
+    fn decide_next(&mut self, input: usize) -> Option<JobEnd>
         requires prepared { self.old.preparing ≡ None }
         requires next { input_spec.IsNext self.old.machine.inputs.schedule
             self.old.machine.inputs.cursors (Next.Decide input) }
@@ -284,18 +285,14 @@ impl<I: Input, O: Output, E: Output, A: Allocator + Copy + Drop> Job<I, O, E, A>
             Ok(last) => {
                 self.inputs.mark_decided(input);
                 self.decided = number;
-                if last {
-                    StepOutcome::Done(JobEnd::Complete)
-                } else {
-                    StepOutcome::More
-                }
+                if last { Some(JobEnd::Complete) } else { None }
             }
-            Err(fault) => StepOutcome::Done(unwritten(input, fault)),
+            Err(fault) => Some(unwritten(input, fault)),
         }
     }
 
     /// Reads an input on.
-    fn read_input(&mut self, input: usize) -> StepOutcome
+    fn read_input(&mut self, input: usize) -> Option<JobEnd>
         requires prepared { self.old.preparing ≡ None }
         requires next { input_spec.IsNext self.old.machine.inputs.schedule
             self.old.machine.inputs.cursors (Next.Read input) }
@@ -303,7 +300,7 @@ impl<I: Input, O: Output, E: Output, A: Allocator + Copy + Drop> Job<I, O, E, A>
         ensures { IsStep I.tells O.tells self.old result self.new }
     {
         match self.inputs.read_input(input) {
-            Ok(true) => StepOutcome::More,
+            Ok(true) => None,
             Ok(false) => close(
                 &self.inputs,
                 input,
@@ -314,13 +311,13 @@ impl<I: Input, O: Output, E: Output, A: Allocator + Copy + Drop> Job<I, O, E, A>
             Err(fault) => {
                 // The bytes of a broken unit pay for no step: none is counted from here on.
                 self.done = Some(1);
-                StepOutcome::Done(JobEnd::FaultIn(input, fault))
+                Some(JobEnd::FaultIn(input, fault))
             }
         }
     }
 
     /// Ends the output.
-    fn finish(&mut self) -> StepOutcome
+    fn finish(&mut self) -> Option<JobEnd>
         requires prepared { self.old.preparing ≡ None }
         requires next { input_spec.IsNext self.old.machine.inputs.schedule
             self.old.machine.inputs.cursors Next.Finish }
@@ -328,8 +325,8 @@ impl<I: Input, O: Output, E: Output, A: Allocator + Copy + Drop> Job<I, O, E, A>
     {
         let first = self.inputs.first_link();
         match self.output.finish(first) {
-            Ok(()) => StepOutcome::Done(JobEnd::Complete),
-            Err(_) => StepOutcome::Done(JobEnd::OutputFailed),
+            Ok(()) => Some(JobEnd::Complete),
+            Err(_) => Some(JobEnd::OutputFailed),
         }
     }
 
@@ -395,7 +392,7 @@ impl<I: Input, O: Output, E: Output, A: Allocator + Copy + Drop> Job<I, O, E, A>
         ensures status { IsStatus result }
         ensures turns { self.new.turns ≡ self.old.turns + 1 }
         ensures inputs { self.new.machine.inputs ≡ self.old.machine.inputs }
-        ensures reads { ReadsNothing (machine_of self.old) (machine_of self.new) }
+        ensures reads { ReadsNothing self.old self.new }
         ensures light { IsLight self.new.machine }
         ensures sound { HavePrograms self.new.machine.policy self.new.programs }
         ensures names { self.new.machine.output.names ≡ self.old.machine.output.names }

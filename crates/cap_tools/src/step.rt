@@ -27,13 +27,6 @@ pub enum JobEnd {
     OutputFailed,
 }
 
-/// What a step leaves to do.
-#[derive(Clone, Copy, Debug, PartialEq, Eq)]
-pub enum StepOutcome {
-    More,
-    Done(JobEnd),
-}
-
 /// Writes a packet that passes, and returns whether it is the last.
 fn put<O: Output, A: Allocator>(
     verdict: Verdict,
@@ -79,14 +72,15 @@ pub(crate) fn decide<I: Input, O: Output, A: Allocator + Copy + Drop>(
     put(verdict, &packet, output)
 }
 
-/// Reports an input that was read to its end, where files are counted, one behind another.
+/// Reports an input that was read to its end, where files are counted, one behind another. It
+/// returns the end where the job ends here.
 pub(crate) fn close<I: Input, O: Output, E: Output, A: Allocator>(
     inputs: &Inputs<I, A>,
     input: usize,
     selector: &mut Selector<A>,
     output: &mut JobOutput<O, A>,
     messages: &Messages<E, A>,
-) -> StepOutcome
+) -> Option<JobEnd>
     requires { input < length inputs.now.cursors }
     ensures told { IsTrue O.tells → Closes inputs.now input
         (sieve (policy_state selector.old) (output_at messages.now.names output.old)) result
@@ -101,10 +95,10 @@ pub(crate) fn close<I: Input, O: Output, E: Output, A: Allocator>(
 {
     let cursor = inputs.cursor(input);
     if !inputs.is_in_turn() {
-        return StepOutcome::More;
+        return None;
     }
     let Some(tally) = selector.close() else {
-        return StepOutcome::More;
+        return None;
     };
     let report = Report {
         kind: cursor.kind(),
@@ -112,8 +106,8 @@ pub(crate) fn close<I: Input, O: Output, E: Output, A: Allocator>(
         tally,
     };
     match output.report(messages.name(input), &report) {
-        Ok(()) => StepOutcome::More,
-        Err(_) => StepOutcome::Done(JobEnd::OutputFailed),
+        Ok(()) => None,
+        Err(_) => Some(JobEnd::OutputFailed),
     }
 }
 

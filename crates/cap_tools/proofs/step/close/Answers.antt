@@ -1,6 +1,5 @@
-use Rattle.std.proofs.Common.{◌≡◌, ℕ, List, true, Ok, Err, refl, sym, ◌∙◌, ap₂, subst}
+use Rattle.std.proofs.Common.{◌≡◌, ℕ, List, true, Ok, Err, refl, sym, ◌∙◌, ap₂, subst, None, Some}
 use Rattle.cap_tools.specs.declared.step.JobEnd.TheVariants as end
-use Rattle.cap_tools.specs.declared.step.StepOutcome.TheVariants.{More, Done}
 use Rattle.cap_inputs.specs.Inputs.{is_in_turn}
 use Rattle.cap_tools.specs.Output.{Reports, output_at}
 use Rattle.cap_tools.specs.Reports.{file_report}
@@ -15,7 +14,7 @@ returns-in-Ok-clause-told g c = λ to.
     record {
       cursor = c.cursor-cursor.result.now;
       among = c.cursor-cursor.ensures;
-      by = closes-by c.args.inputs.now.schedule c.args.input c.cursor-cursor.result.now (policy_state c.args.selector.now) (policy_state c.close.new.self) (output_at c.args.messages.now.names c.args.output.now) (output_at c.args.messages.now.names c.report.new.self) More c.in-Some.tally
+      by = closes-by c.args.inputs.now.schedule c.args.input c.cursor-cursor.result.now (policy_state c.args.selector.now) (policy_state c.close.new.self) (output_at c.args.messages.now.names c.args.output.now) (output_at c.args.messages.now.names c.report.new.self) None c.in-Some.tally
           _ (Ok tt) turn c.in-Some.ensures.closes (ap₂ (λ k n. record { input = c.args.input; kind = k; size = n; tally = c.in-Some.tally }) c.kind.ensures c.offset.ensures) (let F : List ℕ → Type 0 = λ n. Reports (file_report n c.kind.result c.offset.result c.in-Some.tally) c.args.output.now (Ok tt) c.report.new.self in subst F c.name.ensures (c.in-Ok.ensures.told to)) refl refl;
     }
 
@@ -28,7 +27,7 @@ returns-in-Err-clause-told g c = λ to.
     record {
       cursor = c.cursor-cursor.result.now;
       among = c.cursor-cursor.ensures;
-      by = closes-by c.args.inputs.now.schedule c.args.input c.cursor-cursor.result.now (policy_state c.args.selector.now) (policy_state c.close.new.self) (output_at c.args.messages.now.names c.args.output.now) (output_at c.args.messages.now.names c.report.new.self) (Done end.OutputFailed) c.in-Some.tally
+      by = closes-by c.args.inputs.now.schedule c.args.input c.cursor-cursor.result.now (policy_state c.args.selector.now) (policy_state c.close.new.self) (output_at c.args.messages.now.names c.args.output.now) (output_at c.args.messages.now.names c.report.new.self) (Some end.OutputFailed) c.in-Some.tally
           _ (Err c.in-Err.field-0) turn c.in-Some.ensures.closes (ap₂ (λ k n. record { input = c.args.input; kind = k; size = n; tally = c.in-Some.tally }) c.kind.ensures c.offset.ensures) (let F : List ℕ → Type 0 = λ n. Reports (file_report n c.kind.result c.offset.result c.in-Some.tally) c.args.output.now (Err c.in-Err.field-0) c.report.new.self in subst F c.name.ensures (c.in-Err.ensures.told to)) refl refl;
     }
 

@@ -1,11 +1,10 @@
-use Rattle.std.proofs.Common.{◌≡◌, ◌+◌, Ok, Err, IsTrue, List, ℕ, subst, sym, ◌∙◌, ap, arith, Bool, refl, Option}
+use Rattle.std.proofs.Common.{◌≡◌, ◌+◌, Ok, Err, IsTrue, List, ℕ, subst, sym, ◌∙◌, ap, arith, Bool, refl, Option, None, Some}
 use Rattle.std.specs.List.{slice_set}
 use Rattle.cap_filter.specs.Outcome.{OutputView}
+use Rattle.cap_tools.specs.declared.step.JobEnd.{JobEnd}
 use Rattle.cap_tools.specs.Output.{output_at}
 use Rattle.cap_inputs.specs.declared.inputs.Next.TheVariants as next
 use Rattle.cap_tools.specs.declared.step.JobEnd.TheVariants as end
-use Rattle.cap_tools.specs.declared.step.StepOutcome.{StepOutcome}
-use Rattle.cap_tools.specs.declared.step.StepOutcome.TheVariants.{More, Done}
 use Rattle.cap_inputs.specs.Inputs.{InputsView, InputView, InputPast, input_behind, schedule_behind}
 use Rattle.cap_inputs.specs.Inputs as input_spec
 use Rattle.cap_tools.specs.Verdict.{Policy}
@@ -71,7 +70,7 @@ returns-in-Err g c =
     let N : JobView → Type 0 = λ v. input_spec.IsNext v.machine.inputs.schedule v.machine.inputs.cursors (next.Decide c.args.input) in
     let tells = subst N (sym c.self.view_is) c.requires.next in
     let h = held c.cursor.result.now.source.packet c.self.inside.selector (c.self.inside.decided + 1) c.decide.new.selector c.decide.ensures.spends in
-    let P : JobView → Type 0 = λ v. IsStep g.I.Input.tells g.O.Output.tells v (Done (unwritten c.args.input c.in-Err.fault)) new in
+    let P : JobView → Type 0 = λ v. IsStep g.I.Input.tells g.O.Output.tells v (Some (unwritten c.args.input c.in-Err.fault)) new in
     rw c.unwritten.ensures (subst P c.self.view_is (record {
       told = λ ti to ss before d.
           let K : Policy → Type 0 = λ k. EndLeaves d (unwritten c.args.input c.in-Err.fault) (left k) in
@@ -118,8 +117,8 @@ returns-after-last g c =
     subst NK (sym c.in-Ok.ensures.policy) (subst NF (sym inputs)
     (answer-leaves ss before m.inputs.cursors m.inputs.schedule m.policy m.state m.output m.decided c.args.input (Ok c.in-Ok.last) c.cursor.result.now (policy_state j) (output_at c.self.inside.messages.names c.decide.new.output) refl tells c.cursor.ensures c.in-Ok.ensures.policy c.in-Ok.ensures.passed c.in-Ok.ensures.counted (let i = c.self.invariant.0 in omega (arith, i)) (c.in-Ok.ensures.told to) d)) in
     let h = held c.cursor.result.now.source.packet c.self.inside.selector (c.self.inside.decided + 1) c.decide.new.selector c.decide.ensures.spends in
-    let S : StepOutcome → JobView → Type 0 = λ r v. IsStep g.I.Input.tells g.O.Output.tells v r new in
-    let step : (r : StepOutcome) → (IsTrue g.O.Output.tells → StepGives m r new.machine) → S r was = λ r told. record {
+    let S : Option JobEnd → JobView → Type 0 = λ r v. IsStep g.I.Input.tells g.O.Output.tells v r new in
+    let step : (r : Option JobEnd) → (IsTrue g.O.Output.tells → StepGives m r new.machine) → S r was = λ r told. record {
       told = λ ti to. told to;
       reads = decides_one c.args.input (record {
         packet = h.packet;
@@ -140,9 +139,9 @@ returns-after-last g c =
       turns = refl;
       done = λ more. refl;
     } in
-    let goes : (r : StepOutcome) → S r was → S r c.args.self.now = λ r s. (let Q : JobView → Type 0 = λ v. S r v in subst Q c.self.view_is s) in
+    let goes : (r : Option JobEnd) → S r was → S r c.args.self.now = λ r s. (let Q : JobView → Type 0 = λ v. S r v in subst Q c.self.view_is s) in
     let R : (ss : List InputPast) (before : List ℕ) → PacketsDecided ss before m → Bool → Type 0 = λ ss before d b. AnswerLeaves d c.args.input (Ok b) new.machine failed in
     elim c.if-last.branch [
-      | then-last w ↦ rw w.result-is (goes (Done end.Complete) (step (Done end.Complete) (λ to ss before d. (let B : Bool → Type 0 = λ b. R ss before d b in subst B w.if-last.true (all ss before d to)))))
-      | else-last w ↦ rw w.result-is (goes More (step More (λ to ss before d. (let B : Bool → Type 0 = λ b. R ss before d b in subst B w.if-last.false (all ss before d to)))))
+      | then-last w ↦ rw w.result-is (goes (Some end.Complete) (step (Some end.Complete) (λ to ss before d. (let B : Bool → Type 0 = λ b. R ss before d b in subst B w.if-last.true (all ss before d to)))))
+      | else-last w ↦ rw w.result-is (goes None (step None (λ to ss before d. (let B : Bool → Type 0 = λ b. R ss before d b in subst B w.if-last.false (all ss before d to)))))
     ]

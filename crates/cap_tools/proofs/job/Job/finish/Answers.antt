@@ -1,10 +1,9 @@
-use Rattle.std.proofs.Common.{Result, Option, IsTrue, List, ℕ, refl, subst, sym}
+use Rattle.std.proofs.Common.{Result, Option, IsTrue, List, ℕ, refl, subst, sym, Some}
 use Rattle.cap_octet.specs.declared.fault.Fault.{Fault}
 use Rattle.cap_filter.specs.Outcome.{OutputView}
 use Rattle.cap_inputs.specs.declared.inputs.Next.TheVariants as next
 use Rattle.cap_tools.specs.declared.step.JobEnd.{JobEnd}
 use Rattle.cap_tools.specs.declared.step.JobEnd.TheVariants as end
-use Rattle.cap_tools.specs.declared.step.StepOutcome.TheVariants.{Done}
 use Rattle.cap_tools.specs.Output.{output_at, Finishes}
 use Rattle.cap_inputs.specs.Inputs.{InputPast}
 use Rattle.cap_inputs.specs.Inputs as input_spec
@@ -31,7 +30,7 @@ returns g c =
     let F : Option ℕ → Type 0 = λ o. Finishes o m.output.target c.finish.result left.output.target in
     let all : (ss : List InputPast) (before : List ℕ) (d : PacketsDecided ss before m) → IsTrue g.O.Output.tells → FinishLeaves d c.finish.result left = λ ss before d to.
     finish-leaves ss before m.inputs.cursors m.inputs.schedule m.policy m.state m.output m.decided c.finish.result left tells refl (subst F c.first_link-first.ensures (c.finish.ensures.told to)) d in
-    let S : JobEnd → JobView → Type 0 = λ e v. IsStep g.I.Input.tells g.O.Output.tells v (Done e) new in
+    let S : JobEnd → JobView → Type 0 = λ e v. IsStep g.I.Input.tells g.O.Output.tells v (Some e) new in
     let step : (e : JobEnd) → ((ss : List InputPast) (before : List ℕ) (d : PacketsDecided ss before m) → IsTrue g.O.Output.tells → EndLeaves d e left) → S e c.args.self.now = λ e told.
     let Q : JobView → Type 0 = λ v. S e v in
     subst Q c.self.view_is (record {

@@ -1,10 +1,9 @@
-use Rattle.std.proofs.Common.{◌≡◌, ◌<◌, ◌∙◌, ◌&&◌, length, Bool, true, false, Result, Ok, Some, refl, sym, ap, arith, subst, Option}
+use Rattle.std.proofs.Common.{◌≡◌, ◌<◌, ◌∙◌, ◌&&◌, length, Bool, true, false, Result, Ok, Some, refl, sym, ap, arith, subst, Option, None}
 use Rattle.cap_octet.specs.declared.fault.Fault.{Fault}
 use Rattle.cap_filter.specs.Outcome.{OutputView}
 use Rattle.cap_tools.specs.Output.{output_at}
 use Rattle.cap_inputs.specs.declared.inputs.Next.TheVariants as next
 use Rattle.cap_tools.specs.declared.step.JobEnd.TheVariants as end
-use Rattle.cap_tools.specs.declared.step.StepOutcome.TheVariants.{More, Done}
 use Rattle.cap_inputs.specs.Sequence.{PacketOrder}
 use Rattle.cap_inputs.specs.Inputs.{InputsView, is_clean_end, ordering_of}
 use Rattle.cap_inputs.specs.Inputs as input_spec
@@ -92,13 +91,13 @@ returns-in-Ok-true g c =
     let tells = subst N (sym c.self.view_is) c.requires.next in
     let within = subst W (sym c.self.view_is) c.requires.within in
     let found : c.read_input.result ≡ Ok true = c.in-Ok-true.is ∙ ap Ok c.in-Ok-true.field-0-test in
-    let F : Result Bool Fault → Type 0 = λ a. Follows a c.read_input.new.self c.args.input (policy_state j) m.output More (policy_state j) m.output in
-    let P : JobView → Type 0 = λ v. IsStep g.I.Input.tells g.O.Output.tells v More new in
+    let F : Result Bool Fault → Type 0 = λ a. Follows a c.read_input.new.self c.args.input (policy_state j) m.output None (policy_state j) m.output in
+    let P : JobView → Type 0 = λ v. IsStep g.I.Input.tells g.O.Output.tells v None new in
     subst P c.self.view_is (record {
       told = λ ti to ss before d.
-          let L : Result Bool Fault → Type 0 = λ a. FetchLeaves d c.args.input a More left in
+          let L : Result Bool Fault → Type 0 = λ a. FetchLeaves d c.args.input a None left in
           subst L found
-          (read_input-leaves ss before m.inputs.cursors m.inputs.schedule m.policy m.state m.output m.decided c.args.input c.read_input.result c.read_input.new.self More (policy_state j) m.output tells (c.read_input.ensures.told ti) d (subst F (sym found) (refl, refl)));
+          (read_input-leaves ss before m.inputs.cursors m.inputs.schedule m.policy m.state m.output m.decided c.args.input c.read_input.result c.read_input.new.self None (policy_state j) m.output tells (c.read_input.ensures.told ti) d (subst F (sym found) (refl, refl)));
       reads = reads_on c.args.input c.read_input.result (λ on. ap is_fault c.in-Ok-true.is) (record { fetches = c.read_input.ensures.steps; told = c.read_input.ensures.told; decided = refl; programs = refl; output = λ on. refl });
       progress = λ more. read_input-less c.self.inside.inputs c.read_input.new.self c.args.input c.read_input.result tells within c.read_input.ensures.steps (subst Goes (sym c.in-Ok-true.is) tt);
       paid = λ more. read_input-paid c.self.inside.inputs c.read_input.new.self c.args.input c.read_input.result tells within c.read_input.ensures.steps (subst Goes (sym c.in-Ok-true.is) tt);
@@ -170,13 +169,13 @@ returns-in-Err g c =
     let W : JobView → Type 0 = λ v. c.args.input < length v.machine.inputs.cursors in
     let tells = subst N (sym c.self.view_is) c.requires.next in
     let within = subst W (sym c.self.view_is) c.requires.within in
-    let F : Result Bool Fault → Type 0 = λ a. Follows a c.read_input.new.self c.args.input (policy_state j) m.output More (policy_state j) m.output in
-    let P : JobView → Type 0 = λ v. IsStep g.I.Input.tells g.O.Output.tells v (Done (end.FaultIn c.args.input c.in-Err.fault)) new in
+    let F : Result Bool Fault → Type 0 = λ a. Follows a c.read_input.new.self c.args.input (policy_state j) m.output None (policy_state j) m.output in
+    let P : JobView → Type 0 = λ v. IsStep g.I.Input.tells g.O.Output.tells v (Some (end.FaultIn c.args.input c.in-Err.fault)) new in
     subst P c.self.view_is (record {
       told = λ ti to ss before d.
-          let L : Result Bool Fault → Type 0 = λ a. FetchLeaves d c.args.input a More left in
+          let L : Result Bool Fault → Type 0 = λ a. FetchLeaves d c.args.input a None left in
           subst L c.in-Err.is
-          (read_input-leaves ss before m.inputs.cursors m.inputs.schedule m.policy m.state m.output m.decided c.args.input c.read_input.result c.read_input.new.self More (policy_state j) m.output tells (c.read_input.ensures.told ti) d (subst F (sym c.in-Err.is) (refl, refl)));
+          (read_input-leaves ss before m.inputs.cursors m.inputs.schedule m.policy m.state m.output m.decided c.args.input c.read_input.result c.read_input.new.self None (policy_state j) m.output tells (c.read_input.ensures.told ti) d (subst F (sym c.in-Err.is) (refl, refl)));
       reads = reads_on c.args.input c.read_input.result (λ on. (cc)) (record { fetches = c.read_input.ensures.steps; told = c.read_input.ensures.told; decided = refl; programs = refl; output = λ on. refl });
       progress = λ more. (cc);
       paid = λ more. (cc);

@@ -2,7 +2,7 @@ use Rattle.std.proofs.Common.{◌≡◌, Option, None, Some, string_bytes, sym, 
 use Rattle.std.specs.Option.{option_map}
 use Rattle.cap_tools.specs.Output.{output_at}
 use Rattle.cap_tools.specs.Start.{Preparing, preparing_of}
-use Rattle.cap_tools.specs.Jobs.{JobView, machine_at, machine_of, turn_goes_on}
+use Rattle.cap_tools.specs.Jobs.{JobView, machine_at, turn_goes_on}
 use Rattle.cap_tools.specs.Commands.{GivesBy, StepReadsBy}
 use Rattle.cap_tools.proofs.CommandStarts.{compile-gives}
 use Rattle.cap_tools.proofs.Preparing.{none-before}
@@ -20,5 +20,5 @@ returns-in-Some-Listing-clause-told g c = λ ti to none.
 pub returns-then-is_none-clause-reads : goal.returns-then-is_none-clause-reads
 returns-then-is_none-clause-reads g c =
     let none : c.args.self.now.preparing ≡ None = ap (λ (v : JobView). v.preparing) (sym c.self.view_is) ∙ none-before c.self.inside.preparation c.if-is_none.ensures in
-    let Q : Option Preparing → Type 0 = λ p. StepReadsBy p g.I.Input.tells (turn_goes_on c.go_on.result) (machine_of c.args.self.now) (machine_of c.go_on.new.self) in
+    let Q : Option Preparing → Type 0 = λ p. StepReadsBy p g.I.Input.tells (turn_goes_on c.go_on.result) c.args.self.now c.go_on.new.self in
     subst Q (sym none) c.go_on.ensures.reads
