@@ -36,14 +36,14 @@ use Rattle.cap_tools.specs.Verdict as judged_spec
 use Rattle.cap_tools.specs.Selector.{PolicyState, GrowsByOne, IsWithin, IsVerdict}
 use Rattle.cap_print.specs.declared.print.Options.{Options}
 use Rattle.cap_print.specs.Rendering.{printed}
-use Rattle.cap_tools.specs.Outcome.{Form, AsCapture, AsLines, Progress, lines_text, no_progress, decide_unless, apply_verdict, apply_event, apply_events, final_progress, packet_bytes, form_refuses, end_with, final_text, first_link, output_text}
+use Rattle.cap_tools.specs.Outcome.{Form, AsCapture, AsLines, Progress, IsNextEvent, lines_text, no_progress, decide_unless, apply_verdict, apply_event, apply_events, final_progress, packet_bytes, form_refuses, end_with, final_text, first_link, output_text}
 use Rattle.cap_tools.specs.Outcome as course_spec
 use Rattle.cap_tools.specs.Output.{JobOutputView, Target, Capture, Text, Lines, HasWritten, Puts, form_at, form_to, output_at, written_to, failures_to}
-use Rattle.cap_inputs.specs.Inputs.{InputView, InputsView, Future, InputPast, AreInputsBehind, IsInput, input_behind, schedule_behind, actual_future, inputs_with, items_left, inputs_left, sequence_left, most_steps, ordering_of}
+use Rattle.cap_inputs.specs.Inputs.{InputView, InputsView, Future, InputPast, AreInputsBehind, AreSettled, IsInput, input_behind, schedule_behind, actual_future, inputs_with, items_left, inputs_left, sequence_left, most_steps, ordering_of}
 use Rattle.cap_inputs.specs.Inputs as input_spec
-use Rattle.cap_tools.specs.Machine.{MachineState, PacketsDecided, GoesOn, Comes, Decides, Offers, StopsWriting, NextPacket, PassesAs, EndLeaves, progress_at, progress_of, progress_over, form_of, wholes_of, written_by, unwritten, sieve}
+use Rattle.cap_tools.specs.Machine.{MachineState, PacketsDecided, GoesOn, Comes, Decides, Offers, StopsWriting, NextPacket, PassesAs, EndLeaves, progress_at, progress_of, progress_over, form_of, wholes_of, work_of, written_by, unwritten, sieve}
 use Rattle.cap_tools.proofs.Splits.{At, stands-split, stands-join, stands-length, rests-join, finish-here, come-on}
-use Rattle.cap_tools.proofs.Coming.{carries-decided, true-wholes, true-fit, true-fits}
+use Rattle.cap_tools.proofs.Coming.{carries-decided, come-first, true-wholes, true-fit, true-fits}
 use Rattle.cap_tools.proofs.Outputs.{drained-text, PutOk, put-ok, WhyUnput, lines-more, unput, closing-some}
 use Rattle.cap_tools.proofs.Growing.{Grows, course-grows}
 use Rattle.cap_tools.proofs.Laws.{DecideLaws, DecideAt, decide-at}
@@ -116,6 +116,16 @@ pub record Ahead (ss : List InputPast) (cursors : List InputView) (schedule : Sc
   pub more : Sequence
   pub is : sequence_of (ordering_of schedule) (wholes_of ss) ≡ with_front es (with_front (e ∷ []) more)
 
+-- it is the next event
+pub is-next : (ss : List InputPast) (before : List ℕ) (cursors : List InputView) (schedule : Schedule) (policy : Policy) (state : SelectorState) (output : JobOutputView) (decided : ℕ) (e : Event)
+    → (d : PacketsDecided ss before (mk cursors schedule policy state output decided)) → Ahead ss cursors schedule d.events e
+    → IsNextEvent (work_of (mk cursors schedule policy state output decided)) (wholes_of ss) d.events e
+is-next ss before cursors schedule policy state output decided e d ahead = record {
+  later = ahead.more.events;
+  is = ap (λ (s : Sequence). s.events) ahead.is;
+  goes = ap (λ (w : Progress). w.end) d.progress;
+}
+
 pub next-true : (us vs : List InputPast) (s : InputPast) (before : List ℕ) (xs ys : List InputView) (h : InputView) (schedule : Schedule) (turn : ℕ) (policy : Policy) (state : SelectorState) (output : JobOutputView) (decided : ℕ) (p : Captured)
     → DecideLaws schedule turn xs ys h → AreInputsBehind us xs → At s h → AreInputsBehind vs ys → h.source.packet ≡ Some p
     → (d : PacketsDecided (us ++ s ∷ vs) before (mk (xs ++ h ∷ ys) schedule policy state output decided))
@@ -167,6 +177,9 @@ decided-goes us vs s before xs ys h schedule turn policy state state' output out
     let here : At after (input_behind h) = subst A same (IsAt-decided s.text s.done s.packets h.source was).1 in
     let old : MachineState = mk (xs ++ h ∷ ys) schedule policy state output decided in
     let new : MachineState = mk (xs ++ input_behind h ∷ ys) (schedule_behind schedule turn) policy state' output' (decided + 1) in
+    let behind : AreInputsBehind (us ++ after ∷ vs) new.inputs.cursors = stands-join us vs after xs ys (input_behind h) front here back in
+    let come : AreSettled (us ++ after ∷ vs) new.inputs (d.events ++ Packet turn x ∷ []) = come-on us vs s after xs ys h (input_behind h) schedule (schedule_behind schedule turn) d.events (Packet turn x ∷ []) laws.order front d.come
+    (λ f' fit. carries-decided s xs ys h turn schedule (schedule_behind schedule turn) h.source.block p waits held (λ f fit fs gs before with_front. laws.decided_left p held f fit fs gs before with_front) f' fit) in
     record {
       input = turn;
       finished = h.source.block;
@@ -174,11 +187,11 @@ decided-goes us vs s before xs ys h schedule turn policy state state' output out
       past = us ++ after ∷ vs;
       past_is = sym (finish-here us vs s turn h.source.block (x ∷ []) (stands-length us xs front ∙ laws.here));
       decided = record {
-        behind = stands-join us vs after xs ys (input_behind h) front here back;
+        behind = behind;
         greatest = greatest-here us vs s after xs ys h (input_behind h) front d.greatest (greatest-decided h p h.source.offset s.packets held);
         events = d.events ++ Packet turn x ∷ [];
-        come = come-on us vs s after xs ys h (input_behind h) schedule (schedule_behind schedule turn) d.events (Packet turn x ∷ []) laws.order front d.come
-            (λ f' fit. carries-decided s xs ys h turn schedule (schedule_behind schedule turn) h.source.block p waits held (λ f fit fs gs before with_front. laws.decided_left p held f fit fs gs before with_front) f' fit);
+        first = come-first (us ++ after ∷ vs) new.inputs (d.events ++ Packet turn x ∷ []) behind come;
+        come = come;
         packets = d.packets ++ t.passed;
         reports = d.reports;
         progress = ap (λ (f : Form). apply_events policy f no_progress (d.events ++ Packet turn x ∷ [])) t.form ∙ progress-next policy (form_at output) d.events (Packet turn x) (progress_at old d.packets d.reports) (progress_at new (d.packets ++ t.passed) d.reports) d.progress t.went;
@@ -324,7 +337,20 @@ unput-capture ss before cursors schedule turn policy state state' names sink sin
     stops-writing ss before cursors schedule policy state state' names sink sink' decided new (Packet turn x) q o d ahead
     (went ∙ ap (λ (f : Option Fault). decide_unless f (progress_of d) turn x state' q o) why.0) answers why is
 unput-capture ss before cursors schedule turn policy state state' names sink sink' decided new x q o NoMemory d ahead went tells same_feed cursor among offset answers why is =
-    record { cursor = cursor; among = among; why = inr (inr (record { next = tells; inputs = same_feed; why = refl; written = ap written_to is ∙ why.0; device = ap failures_to is ∙ why.1 })) }
+    record {
+      cursor = cursor;
+      among = among;
+      why = inr (inr (record {
+        next = tells;
+        packet = x;
+        comes = is-next ss before cursors schedule policy state (record { names = names; target = Capture sink }) decided (Packet turn x) d ahead;
+        place = offset;
+        inputs = same_feed;
+        why = refl;
+        written = ap written_to is ∙ why.0;
+        device = ap failures_to is ∙ why.1;
+      }));
+    }
 unput-capture ss before cursors schedule turn policy state state' names sink sink' decided new x q o fault d ahead went tells same_feed cursor among offset answers why is =
     let m : MachineState = mk cursors schedule policy state (record { names = names; target = Capture sink }) decided in
     let w : Progress = progress_of d in
@@ -512,6 +538,7 @@ answer-core us vs s before xs ys h schedule turn policy state state' output outp
       among = here;
       packet = p;
       held = held;
+      comes = is-next (us ++ s ∷ vs) before (xs ++ h ∷ ys) schedule policy state output decided (Packet turn x) d ahead;
       passed = q;
       passes = passes;
       taken = taken;

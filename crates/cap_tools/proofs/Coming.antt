@@ -10,9 +10,10 @@ use Rattle.cap_io.proofs.Items.{items_from-units, items_from-stops}
 use Rattle.cap_io.proofs.Standing.{IsAt-items, items-begin, Advances-sound}
 use Rattle.cap_inputs.specs.declared.inputs.Schedule.{Schedule}
 use Rattle.cap_inputs.specs.declared.inputs.Schedule.TheVariants.{Turn}
-use Rattle.cap_inputs.specs.Sequence.{InputItems, Event, Packet, InputEnd, FaultIn, Sequence, sequence_in_turn, input_sequence, with_front, whole_input}
-use Rattle.cap_inputs.specs.Inputs.{InputView, Future, InputPast, AreInputsBehind, AreFutures, actual_future, waiting_packets, packets_at, items_with, inputs_with, items_left, inputs_left, sequence_left, no_future, input_after, input_behind}
+use Rattle.cap_inputs.specs.Sequence.{InputItems, Event, Packet, InputEnd, FaultIn, Sequence, sequence_of, sequence_in_turn, input_sequence, with_front, whole_input}
+use Rattle.cap_inputs.specs.Inputs.{InputView, InputsView, Future, InputPast, AreInputsBehind, AreFutures, AreSettled, ordering_of, actual_future, waiting_packets, packets_at, items_with, inputs_with, items_left, inputs_left, sequence_left, no_future, input_after, input_behind}
 use Rattle.cap_tools.specs.Machine.{wholes_of}
+use Rattle.cap_tools.specs.Outcome.{ComeFirst}
 use Rattle.cap_tools.proofs.Splits.{At, Fit, Carries}
 
 drop-front : (rs qs : List InputItems) (r : InputItems) (n : ℕ) → length rs ≡ n → drop n (rs ++ r ∷ qs) ≡ r ∷ qs
@@ -182,6 +183,15 @@ true-fits [] [] st = tt
 true-fits [] (h ∷ hs) st = absurd st
 true-fits (s ∷ ss) [] st = absurd st
 true-fits (s ∷ ss) (h ∷ hs) st = (true-fit s h st.0, true-fits ss hs st.1)
+
+-- what came is the first of the order of the whole inputs
+pub come-first : (ss : List InputPast) (inputs : InputsView) (es : List Event) → AreInputsBehind ss inputs.cursors → AreSettled ss inputs es → ComeFirst (sequence_of (ordering_of inputs.schedule) (wholes_of ss)) es
+come-first ss inputs es behind come = record {
+  later = sequence_left inputs.schedule (inputs_left inputs.cursors (map (λ (h : InputView). actual_future h.source) inputs.cursors));
+  is =
+      ap (sequence_of (ordering_of inputs.schedule)) (sym (true-wholes ss inputs.cursors behind))
+      ∙ come (map (λ (h : InputView). actual_future h.source) inputs.cursors) (true-fits ss inputs.cursors behind);
+}
 
 -- what an input finds that met no fault
 pub finds : (s : InputPast) (h : InputView) (s' : SourceView) (r : Result Bool Fault) → At s h → h.waiting ≡ false → Advances h.source.phase h.source r s' → Finds h.source r s'

@@ -13,7 +13,8 @@ use Rattle.flt_gen.specs.declared.link.Link.{Link}
 use Rattle.cap_tools.specs.declared.job.Turn.TheVariants as turn
 use Rattle.cap_inputs.specs.Inputs.{InputPast}
 use Rattle.cap_tools.specs.Machine.{written_by, failures_by}
-use Rattle.cap_tools.specs.Jobs.{JobView, RunResult, Decided, IsUnderWay, JobGives, JobRuns, EndsAs, EndsJob}
+use Rattle.cap_tools.specs.Call.{RunResult}
+use Rattle.cap_tools.specs.Jobs.{JobView, Decided, IsUnderWay, JobGives, JobRuns, EndsAs, EndsJob}
 use Rattle.cap_tools.specs.FirstStep.{filtering, output_of, output_name}
 use Rattle.cap_tools.specs.Start.{FilterAsked, Preparing, ReadsFilter, Compiles}
 use Rattle.cap_tools.specs.Commands.{GivesBy, DecidedBy, RunsBy, ListsSome, RefusesExpression}

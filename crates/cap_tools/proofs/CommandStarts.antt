@@ -21,7 +21,8 @@ use Rattle.cap_tools.specs.declared.job.Turn.TheVariants as turn
 use Rattle.cap_tools.specs.declared.output.Writing.TheVariants as writing
 use Rattle.cap_inputs.specs.Sequence.{InTurn}
 use Rattle.cap_tools.specs.Verdict.{Count, KeepAll}
-use Rattle.cap_tools.specs.Jobs.{JobView, Call, RunResult, first_job, machine_at, most_inputs, end_text}
+use Rattle.cap_tools.specs.Call.{Call, RunResult}
+use Rattle.cap_tools.specs.Jobs.{JobView, first_job, machine_at, most_inputs, end_text}
 use Rattle.cap_inputs.specs.Fresh.{fresh_inputs, nothing_done}
 use Rattle.cap_inputs.specs.Sequence.{order_of}
 use Rattle.cap_tools.specs.declared.step.JobEnd.TheVariants as end

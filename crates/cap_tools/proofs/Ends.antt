@@ -8,10 +8,11 @@ use Rattle.cap_tools.specs.declared.step.JobEnd.TheVariants as end
 use Rattle.cap_inputs.specs.Sequence.{InputItems, SequenceEnd, Complete, FaultIn, PacketOrder}
 use Rattle.cap_tools.specs.Reports.{name_at}
 use Rattle.cap_tools.specs.Verdict.{Policy}
-use Rattle.cap_tools.specs.Outcome.{Form, Work, Outcome, outcome, outcome_of_texts, message, status}
+use Rattle.cap_tools.specs.Outcome.{Form, Work, Outcome, outcome, outcome_of_texts, message, status, cut_at}
 use Rattle.cap_inputs.specs.Inputs.{InputView, InputPast, IsInput, ordering_of}
-use Rattle.cap_tools.specs.Machine.{MachineState, PacketsDecided, Comes, EndLeaves, failures_by, form_of, written_by, texts, wholes_of, cut_at}
-use Rattle.cap_tools.specs.Jobs.{IsUnderWay, JobView, IsOut, Ends, EndsAs, EndsElse, EndsJob, IsOutOf, RunResult, work_of, end_text, end_status}
+use Rattle.cap_tools.specs.Machine.{MachineState, PacketsDecided, Comes, EndLeaves, failures_by, form_of, written_by, texts, wholes_of, work_of}
+use Rattle.cap_tools.specs.Call.{RunResult}
+use Rattle.cap_tools.specs.Jobs.{IsUnderWay, JobView, IsOut, Ends, EndsAs, EndsElse, EndsJob, IsOutOf, end_text, end_status}
 use Rattle.cap_inputs.specs.Inputs.{offset_at, offset_of}
 use Rattle.cap_tools.specs.Step.{IsStep, ending}
 
@@ -48,12 +49,12 @@ ends-as ss before old d names new (end.FaultIn input fault) leaves =
           cut = cut;
           out = comes-out ss before old (cut_at (wholes_of ss) input cut.held) d names new (FaultIn input fault leaves.cursor.source.offset) (end_text names new.inputs.cursors (end.FaultIn input fault)) 1 cut.comes text refl;
         }))
-        | inr wants ↦ inr (inr (inl (record { input = input; fault = fault; wants = wants; text_is = refl; status_is = refl })))
+        | inr wants ↦ inr (inr (inl (record { input = input; fault = fault; after = leaves.cursor.source; wants = wants; text_is = ap (λ n. fault_message (name_at names input) n fault) (place ∙ wants.place); status_is = refl })))
       ]
     ]
 ends-as ss before old d names new end.OutputFailed leaves = inr (inr (inr (record { stops = leaves; text_is = refl; status_is = refl })))
 
-same-work : (ss : List InputPast) (before : List ℕ) (first old : JobView) → IsUnderWay ss before first old → work_of old.machine ≡ work_of first.machine
+pub same-work : (ss : List InputPast) (before : List ℕ) (first old : JobView) → IsUnderWay ss before first old → work_of old.machine ≡ work_of first.machine
 same-work ss before first old progress =
     let m = old.machine in
     let o = first.machine in

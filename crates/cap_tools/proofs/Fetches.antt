@@ -16,17 +16,17 @@ use Rattle.cap_inputs.specs.declared.inputs.Schedule.TheVariants.{Turn, Merge}
 use Rattle.cap_inputs.specs.declared.inputs.Next.TheVariants as next
 use Rattle.cap_tools.specs.declared.step.JobEnd.{JobEnd}
 use Rattle.cap_tools.specs.Reports.{Report, Tally}
-use Rattle.cap_inputs.specs.Sequence.{InputItems, Event, FaultIn, PacketOrder, InTurn, ByTime, sequence_of, with_front, whole_input}
+use Rattle.cap_inputs.specs.Sequence.{InputItems, Event, FaultIn, PacketOrder, InTurn, ByTime, Sequence, sequence_of, with_front, whole_input}
 use Rattle.cap_tools.specs.Verdict.{Policy, Edit, Filter, KeepAll, Count, SelectorState}
 use Rattle.cap_tools.specs.Selector as selecting
 use Rattle.cap_tools.specs.Selector.{PolicyState, IsWithin, emptied, is_count}
-use Rattle.cap_tools.specs.Outcome.{Form, AsReports, Progress, no_progress, apply_events, final_progress, end_with, final_text, output_text, text_at_end, first_link}
+use Rattle.cap_tools.specs.Outcome.{Form, AsReports, Progress, cut_at, no_progress, apply_events, final_progress, end_with, final_text, output_text, text_at_end, first_link}
 use Rattle.cap_tools.specs.Output.{JobOutputView, Target, Capture, Text, Lines, HasWritten, Reports, form_at, written_to, failures_to}
 use Rattle.cap_inputs.specs.Inputs.{InputView, InputsView, Future, InputPast, AreInputsBehind, AreSettled, IsInput, EndedBefore, ReadsInput, IsNext, waits_from, waiting_packets, input_after, schedule_after, is_clean_end, actual_future, items_with, inputs_with, inputs_left, sequence_left, is_in_turn, ordering_of}
 use Rattle.cap_tools.specs.Reports.{report_text, reports_text}
-use Rattle.cap_tools.specs.Machine.{MachineState, AppendsOnce, PacketsDecided, GoesOn, Comes, BreaksAt, WhyBroken, StopsWriting, StepLeaves, Closes, ClosesBy, asks_report, report_at, unless_failed, progress_at, progress_of, progress_over, form_of, failures_by, written_by, cut_at, wholes_of, sieve}
+use Rattle.cap_tools.specs.Machine.{MachineState, AppendsOnce, PacketsDecided, GoesOn, Comes, BreaksAt, WhyBroken, StopsWriting, StepLeaves, Closes, ClosesBy, asks_report, report_at, unless_failed, progress_at, progress_of, progress_over, form_of, failures_by, written_by, wholes_of, sieve}
 use Rattle.cap_tools.proofs.Splits.{At, Fit, stands-split, stands-join, stands-length, fits-join, wholes-join, rests-join, finish-here, come-on}
-use Rattle.cap_tools.proofs.Coming.{carries-found, carries-closed, true-wholes, true-fits, finds}
+use Rattle.cap_tools.proofs.Coming.{carries-found, carries-closed, come-first, true-wholes, true-fits, finds}
 use Rattle.cap_tools.proofs.Outputs.{drained-text, ReportOk, report-ok, reports-more}
 use Rattle.cap_tools.proofs.Growing.{Grows, course-grows}
 use Rattle.cap_tools.proofs.Laws.{ReadLaws, ReadAt, closed_in, read-at}
@@ -61,18 +61,22 @@ found-goes us vs s before xs ys h s' schedule turn policy state output decided l
     let same : s.packets ++ [] ≡ s.packets = append-nil s.packets in
     let here : At (record { text = s.text; done = s.done ++ found.passes.passed; packets = s.packets ++ [] }) (input_after h (Ok true) s') =
     rw same (IsAt-found s.text s.done s.packets h.source s' (subst P waits at) found) in
+    let past : List InputPast = us ++ record { text = s.text; done = s.done ++ found.passes.passed; packets = s.packets ++ [] } ∷ vs in
+    let behind : AreInputsBehind past new.inputs.cursors = stands-join us vs (record { text = s.text; done = s.done ++ found.passes.passed; packets = s.packets ++ [] }) xs ys (input_after h (Ok true) s') front here back in
+    let come : AreSettled past new.inputs (d.events ++ []) = come-on us vs s (record { text = s.text; done = s.done ++ found.passes.passed; packets = s.packets ++ [] }) xs ys h (input_after h (Ok true) s') schedule (schedule_after schedule turn false) d.events [] (laws.order false) front d.come
+    (λ f' fit. carries-found s xs ys h s' schedule (schedule_after schedule turn false) laws.found_left waits advances found f') in
     record {
       input = turn;
       finished = found.passes.passed;
       packets = [];
-      past = us ++ record { text = s.text; done = s.done ++ found.passes.passed; packets = s.packets ++ [] } ∷ vs;
+      past = past;
       past_is = sym (finish-here us vs s turn found.passes.passed [] (stands-length us xs front ∙ laws.here));
       decided = record {
-        behind = stands-join us vs (record { text = s.text; done = s.done ++ found.passes.passed; packets = s.packets ++ [] }) xs ys (input_after h (Ok true) s') front here back;
+        behind = behind;
         greatest = greatest-here us vs s (record { text = s.text; done = s.done ++ found.passes.passed; packets = s.packets ++ [] }) xs ys h (input_after h (Ok true) s') front d.greatest (greatest-same h.greatest s.packets);
         events = d.events ++ [];
-        come = come-on us vs s (record { text = s.text; done = s.done ++ found.passes.passed; packets = s.packets ++ [] }) xs ys h (input_after h (Ok true) s') schedule (schedule_after schedule turn false) d.events [] (laws.order false) front d.come
-            (λ f' fit. carries-found s xs ys h s' schedule (schedule_after schedule turn false) laws.found_left waits advances found f');
+        first = come-first past new.inputs (d.events ++ []) behind come;
+        come = come;
         packets = d.packets;
         reports = d.reports;
         progress = ap (λ (l : List Event). apply_events policy (form_at output) no_progress l) (append-nil d.events) ∙ d.progress;
@@ -144,6 +148,7 @@ closed-goes us vs s before xs ys h s' schedule turn policy state output decided 
         behind = out.behind;
         greatest = greatest-here us vs s (read-out s found.passes.passed) xs ys h (input_after h (Ok false) s') front d.greatest (greatest-same h.greatest s.packets);
         events = d.events ++ es;
+        first = come-first (us ++ read-out s found.passes.passed ∷ vs) (record { cursors = xs ++ input_after h (Ok false) s' ∷ ys; schedule = schedule_after schedule turn true }) (d.events ++ es) out.behind out.come;
         come = out.come;
         packets = d.packets;
         reports = reports;
@@ -304,6 +309,10 @@ told-closed InTurn (Edit s) w i kind size is = (cc)
 told-closed InTurn (Filter rule count) w i kind size is = (cc)
 told-closed InTurn KeepAll w i kind size is = (cc)
 
+pub in-turn : (o : PacketOrder) (policy : Policy) → asks_report o policy ≡ true → o ≡ InTurn
+in-turn InTurn policy is = refl
+in-turn ByTime policy is = (cc)
+
 -- the device failed at a report
 report-stops : (us vs : List InputPast) (s : InputPast) (before : List ℕ) (xs ys : List InputView) (h : InputView) (s' : SourceView) (schedule : Schedule) (turn : ℕ) (policy : Policy) (state : SelectorState) (names : List (List ℕ)) (target : Target) (decided : ℕ) (state' : SelectorState) (output' : JobOutputView) (fault : DeviceFault)
     → (laws : ReadLaws schedule turn xs ys h) → IsNext schedule (xs ++ h ∷ ys) (next.Read turn) → AreInputsBehind us xs → At s h → AreInputsBehind vs ys → Advances h.source.phase h.source (Ok false) s' → Steps h.source.phase h.source (Ok false) s'
@@ -353,6 +362,12 @@ report-stops us vs s before xs ys h s' schedule turn policy state names (Text by
         input = turn;
         next = tells;
         fetches = fetched;
+        comes = record {
+          later = (sequence_left schedule' (inputs_left hs' fs)).events;
+          is = ap (λ (q : Sequence). q.events) is ∙ append_assoc d.events es (sequence_left schedule' (inputs_left hs' fs)).events
+              ∙ ap (λ (l : List Event). d.events ++ (l ++ (sequence_left schedule' (inputs_left hs' fs)).events)) (laws.closed_one (in-turn (ordering_of schedule) policy asks) (kind_of s'.declared) s'.offset);
+          goes = ap (λ (v : Progress). v.end) d.progress;
+        };
         policy = asks;
         bytes_are = refl;
       }));

@@ -14,7 +14,7 @@ use Rattle.cap_io.proofs.Texts.{finish-none, finish-none-writes, finish-some}
 use Rattle.cap_inputs.specs.declared.inputs.Schedule.{Schedule}
 use Rattle.cap_inputs.specs.declared.inputs.Next.TheVariants as next
 use Rattle.cap_tools.specs.Reports.{Report}
-use Rattle.cap_inputs.specs.Sequence.{InputItems, Complete, sequence_of, with_front}
+use Rattle.cap_inputs.specs.Sequence.{Event, InputItems, Complete, sequence_of, with_front}
 use Rattle.cap_tools.specs.Verdict.{Policy, SelectorState}
 use Rattle.cap_tools.specs.Outcome.{Form, AsCapture, Progress, closing_text, final_progress, lines_text, end_with, final_text, first_link}
 use Rattle.cap_tools.specs.Output.{JobOutputView, Target, Capture, Text, Lines, HasWrittenTo, Finishes, form_at, form_to, written_to, failures_to}
@@ -37,6 +37,16 @@ over-course ss before cursors schedule policy state output decided at d =
     ∙ d.come (map (λ (h : InputView). actual_future h.source) cursors) fits
     ∙ ap (with_front d.events) (at.over_left (map (λ (h : InputView). actual_future h.source) cursors) fits))
     d.progress refl
+
+-- all events came
+over-all : (ss : List InputPast) (before : List ℕ) (cursors : List InputView) (schedule : Schedule) (policy : Policy) (state : SelectorState) (output : JobOutputView) (decided : ℕ) → OverAt schedule cursors → (d : PacketsDecided ss before (mk cursors schedule policy state output decided))
+    → sequence_of (ordering_of schedule) (wholes_of ss) ≡ record { events = d.events; end = Complete }
+over-all ss before cursors schedule policy state output decided at d =
+    let fits = true-fits ss cursors d.behind in
+    ap (sequence_of (ordering_of schedule)) (sym (true-wholes ss cursors d.behind))
+    ∙ d.come (map (λ (h : InputView). actual_future h.source) cursors) fits
+    ∙ ap (with_front d.events) (at.over_left (map (λ (h : InputView). actual_future h.source) cursors) fits)
+    ∙ ap (λ (l : List Event). record { events = l; end = Complete }) (append-nil d.events)
 
 declared-one : (s : InputPast) (h : InputView) → At s h → h.source.phase ≡ Ended → first_link_of (items s.text).declared ≡ first_link_of h.source.declared
 declared-one s h at e =
@@ -110,11 +120,12 @@ finish-empty before sink [] link fault new has finishes =
 finish-stops : (ss : List InputPast) (before : List ℕ) (names : List (List ℕ)) (target : Target) (cursors : List InputView) (schedule : Schedule) (policy : Policy) (state : SelectorState) (decided : ℕ) (fault : Fault) (new : MachineState)
     → (d : PacketsDecided ss before (mk cursors schedule policy state (record { names = names; target = target }) decided))
     → final_progress policy (form_to names target) (sequence_of (ordering_of schedule) (wholes_of ss)) ≡ over (mk cursors schedule policy state (record { names = names; target = target }) decided) d.packets d.reports
+    → sequence_of (ordering_of schedule) (wholes_of ss) ≡ record { events = d.events; end = Complete }
     → first_link (wholes_of ss) ≡ first_declared_link cursors → IsNext schedule cursors next.Finish → new.inputs ≡ record { cursors = cursors; schedule = schedule } → Finishes (first_declared_link cursors) target (Err fault) new.output.target
     → StopsWriting d new
-finish-stops ss before names (Text bytes failures room) cursors schedule policy state decided fault new d stop link tells inputs finishes = absurd (let e = finishes.0 in cc)
-finish-stops ss before names (Lines options bytes failures room) cursors schedule policy state decided fault new d stop link tells inputs finishes = absurd (let e = finishes.0 in cc)
-finish-stops ss before names (Capture sink) cursors schedule policy state decided fault new d stop link tells inputs finishes =
+finish-stops ss before names (Text bytes failures room) cursors schedule policy state decided fault new d stop all link tells inputs finishes = absurd (let e = finishes.0 in cc)
+finish-stops ss before names (Lines options bytes failures room) cursors schedule policy state decided fault new d stop all link tells inputs finishes = absurd (let e = finishes.0 in cc)
+finish-stops ss before names (Capture sink) cursors schedule policy state decided fault new d stop all link tells inputs finishes =
     let form : Form = AsCapture sink.format in
     let empty : StopsEmpty before sink d.packets (first_declared_link cursors) new.output.target = finish-empty before sink d.packets (first_declared_link cursors) fault new.output.target d.output finishes in
     let bytes : List ℕ = heading sink.format (link_or_ethernet (first_declared_link cursors)) in
@@ -123,7 +134,7 @@ finish-stops ss before names (Capture sink) cursors schedule policy state decide
     record {
       failures = empty.failures;
       bytes = bytes;
-      answer = inr (inr (record { next = tells; bytes_are = closing_is; inputs = inputs }));
+      answer = inr (inr (record { next = tells; comes = record { is = all; goes = ap (λ (w : Progress). w.end) d.progress }; bytes_are = closing_is; inputs = inputs }));
       back = [];
       whole =
           ap (λ (w : Progress). final_text form (first_link (wholes_of ss)) w) stop
@@ -153,4 +164,4 @@ finish-leaves ss before cursors schedule policy state output decided (Ok done) n
 finish-leaves ss before cursors schedule policy state output decided (Err fault) new tells inputs finishes d =
     let at : OverAt schedule cursors = over-at schedule cursors tells d.ended in
     finish-stops ss before output.names output.target cursors schedule policy state decided fault new d
-    (over-course ss before cursors schedule policy state output decided at d) (links ss cursors at.count d.behind at.few at.ended) tells inputs finishes
+    (over-course ss before cursors schedule policy state output decided at d) (over-all ss before cursors schedule policy state output decided at d) (links ss cursors at.count d.behind at.few at.ended) tells inputs finishes

@@ -110,6 +110,7 @@ pub record ReadLaws (schedule : Schedule) (i : ℕ) (xs ys : List InputView) (h 
   pub found_left : (rs : List InputItems) → sequence_left schedule rs ≡ sequence_left (schedule_after schedule i false) rs
   pub found_ended : (h' : InputView) → InputFrom 0 h' → EndedBefore (schedule_after schedule i false) (xs ++ h' ∷ ys)
   pub closed_events : Option Kind → ℕ → List Event
+  pub closed_one : ordering_of schedule ≡ InTurn → (kind : Option Kind) (size : ℕ) → closed_events kind size ≡ InputEnd i kind size ∷ []
   pub closed_left : (declared : Declared) (g size : ℕ) (fs gs : List Future) → AreFutures xs fs → AreFutures ys gs
       → sequence_left schedule (inputs_left xs fs ++ record { greatest = g; items = no_items declared None 0; size = size } ∷ inputs_left ys gs)
       ≡ with_front (closed_events (kind_of declared) size) (sequence_left (schedule_after schedule i true) (inputs_left xs fs ++ record { greatest = g; items = no_items declared None 0; size = size } ∷ inputs_left ys gs))
@@ -134,6 +135,7 @@ turn-reads turn i xs ys h here is waits ended = record {
   found_left = λ rs. refl;
   found_ended = λ h' r. ended-other xs ys h h' turn (here ∙ is) ended;
   closed_events = λ kind size. InputEnd i kind size ∷ [];
+  closed_one = λ is kind size. refl;
   closed_left = λ declared g size fs gs before with_front.
       let same : i ≡ turn = is in
       rw (← is) (turn-closes i g g declared size (record { greatest = g; items = no_items declared None 0; size = size }) (inputs_left xs fs) (inputs_left ys gs) (rests-length xs fs before ∙ here));
@@ -159,6 +161,7 @@ merge-reads n u i xs ys h here is less laid =
       found_left = λ rs. refl;
       found_ended = on;
       closed_events = λ kind size. [];
+      closed_one = λ is. (cc);
       closed_left = λ declared g size fs gs before with_front. refl;
       closed_way = λ policy form w kind size on. refl;
       closed_ended = λ h' w e. on h' (ended_from w e);

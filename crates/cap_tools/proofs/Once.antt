@@ -26,12 +26,12 @@ appended before old new ps rs bytes has is =
 
 -- ---- a packet more, and a report more
 
-packet-more : (form : Form) (ps : List Captured) (q : Captured) (rs : List Report) → output_text form (ps ++ q ∷ []) rs ≡ output_text form ps rs ++ packet_bytes form ps q
+pub packet-more : (form : Form) (ps : List Captured) (q : Captured) (rs : List Report) → output_text form (ps ++ q ∷ []) rs ≡ output_text form ps rs ++ packet_bytes form ps q
 packet-more (AsCapture format) ps q rs = text-more format ps q [] ∙ ap (λ (l : List ℕ). text format ps ++ l) (append-nil (added format ps q))
 packet-more (AsReports names) ps q rs = sym (append-nil (reports_text names rs))
 packet-more (AsLines options) ps q rs = lines-one options ps q
 
-report-more : (form : Form) (ps : List Captured) (rs : List Report) (r : Report) → output_text form ps (rs ++ r ∷ []) ≡ output_text form ps rs ++ report_bytes form r
+pub report-more : (form : Form) (ps : List Captured) (rs : List Report) (r : Report) → output_text form ps (rs ++ r ∷ []) ≡ output_text form ps rs ++ report_bytes form r
 report-more (AsCapture format) ps rs r = sym (append-nil (text format ps))
 report-more (AsReports names) ps rs r =
     ap (reports_text names) (sym (append-nil (rs ++ r ∷ [])))

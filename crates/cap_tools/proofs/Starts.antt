@@ -16,6 +16,7 @@ use Rattle.cap_tools.specs.Selector.{state_with}
 use Rattle.cap_inputs.specs.Inputs.{Future, AreInputsBehind, KnowGreatest, AreFutures, AreSettled, NoneWaits, EndedBefore, inputs_with, inputs_left, items_with, steps_left_in, steps_left, most_steps, waiting_total}
 use Rattle.cap_tools.specs.Bounds.{reads_of, owed, most_turns}
 use Rattle.cap_tools.specs.Machine.{PacketsDecided}
+use Rattle.cap_tools.proofs.Coming.{come-first}
 use Rattle.cap_tools.proofs.Fetches.{mk}
 
 start-behind : (os : List FreshInput) → AreInputsBehind (map nothing_done os) (map fresh_view os)
@@ -56,6 +57,7 @@ nothing-decided order os before policy names w failures room = record {
   behind = start-behind os;
   greatest = start-greatest os;
   events = [];
+  first = come-first (map nothing_done os) (record { cursors = map fresh_view os; schedule = first_schedule order (length (map fresh_view os)) }) [] (start-behind os) (start-come order os);
   come = start-come order os;
   packets = [];
   reports = [];

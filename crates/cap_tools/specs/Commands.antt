@@ -4,7 +4,6 @@ use Rattle.flt_gen.specs.declared.link.Link.{Link}
 use Rattle.flt_bpf.specs.declared.insn.Insn.{Insn}
 use Rattle.flt_bpf.specs.Content.{Content}
 use Rattle.flt_words.specs.declared.fault.ExprFault.{ExprFault}
-use Rattle.cap_filter.specs.declared.command.Command.{Command}
 use Rattle.cap_filter.specs.declared.refusal.Refusal.{Refusal}
 use Rattle.cap_filter.specs.declared.refusal.Refusal.TheVariants as refusal
 use Rattle.cap_filter.specs.Compilation.{IsCompiled, CompileLeaves}
@@ -16,12 +15,12 @@ use Rattle.cap_filter.specs.Outcome.{IsTold, Runs}
 use Rattle.cap_filter.specs.Programs.{spent_in}
 use Rattle.cap_tools.specs.declared.job.Turn.{Turn}
 use Rattle.cap_tools.specs.declared.job.Turn.TheVariants as turn
-use Rattle.cap_tools.specs.Start.{FilterAsked, Preparing, ReadsFilter, Compiles, assigned}
+use Rattle.cap_tools.specs.Start.{FilterAsked, Preparing, ReadsFilter, Compiles}
 use Rattle.cap_tools.specs.Selector.{HavePrograms}
 use Rattle.cap_inputs.specs.Inputs.{InputPast, steps_left}
 use Rattle.cap_tools.specs.Bounds.{IsLight, StepReads, most_turns}
-use Rattle.cap_tools.specs.Jobs.{JobView, Decided, IsStatus, JobGives, JobRuns, NeverBegan, Call, RunResult, done_by, first_job}
-use Rattle.cap_inputs.specs.Fresh.{nothing_done}
+use Rattle.cap_tools.specs.Call.{RunResult}
+use Rattle.cap_tools.specs.Jobs.{JobView, Decided, IsStatus, JobGives, JobRuns, done_by}
 use Rattle.cap_tools.specs.FirstStep.{IsFresh, Lists, Refuses, filtering, is_text, output_of, output_name}
 
 -- a job that still prepares made no step; what is compiled is written as text
@@ -157,9 +156,3 @@ RunsBy (Some (Compiles words link)) ss before tells first r =
 
 abbrev pub RunsCommand : Bool → JobView → RunResult → Type 0
 RunsCommand tells first r = (ss : List InputPast) (before : List ℕ) → DecidedBy first.preparing ss before first → RunsBy first.preparing ss before tells first r
-
--- what a run of a command leaves; or there was no memory to begin it
-abbrev pub CommandRuns : {Z : Type 0} → Command Z → Call → RunResult → Type 0
-CommandRuns c call r =
-    RunsBy (assigned c).preparing (map nothing_done call.inputs) call.output.written call.tells (first_job (assigned c) call) r
-    ⊎ NeverBegan call r

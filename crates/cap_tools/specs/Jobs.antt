@@ -1,10 +1,8 @@
 -- What a contract sees of a whole job, with its messages, and how it ends.
 use Rattle.std.specs.Prelude.{◌≡◌, ◌⊎◌, ℕ, ◌+◌, ◌≤◌, Bool, true, false, List, [], ◌++◌, length, map, Option, None, Some}
-use Rattle.cap_octet.specs.declared.device.Input as input
-use Rattle.cap_octet.specs.declared.device.Output as output
 use Rattle.cap_octet.specs.declared.fault.Fault.{Fault}
-use Rattle.cap_filter.specs.Messages.{fault_message, write_failed_message, no_memory_message}
-use Rattle.cap_filter.specs.Outcome.{OutputView, IsTold, seen}
+use Rattle.cap_filter.specs.Messages.{fault_message, write_failed_message}
+use Rattle.cap_filter.specs.Outcome.{OutputView, IsTold}
 use Rattle.cap_tools.specs.declared.step.JobEnd.{JobEnd}
 use Rattle.cap_tools.specs.declared.step.JobEnd.TheVariants as end
 use Rattle.cap_tools.specs.declared.job.Turn.{Turn}
@@ -14,47 +12,14 @@ use Rattle.cap_tools.specs.Output.{JobOutputView, target_at}
 use Rattle.cap_tools.specs.Start.{Assignment, Preparing}
 use Rattle.cap_tools.specs.Selector.{HavePrograms, SelectorView, state_with}
 use Rattle.cap_tools.specs.Reports.{name_at, nothing_counted}
-use Rattle.cap_tools.specs.Outcome.{Outcome, Work, first_link, outcome, outcome_of_texts}
+use Rattle.cap_tools.specs.Outcome.{Outcome, cut_at, first_link, outcome, outcome_of_texts}
 use Rattle.cap_inputs.specs.Inputs.{InputView, InputsView, InputPast, IsInput, most_steps, ordering_of, offset_at}
-use Rattle.cap_inputs.specs.Fresh.{FreshInput, fresh_input, fresh_inputs}
+use Rattle.cap_inputs.specs.Fresh.{fresh_inputs}
+use Rattle.cap_io.specs.Source.{SourceView}
+use Rattle.cap_tools.specs.Call.{Call, RunResult}
 use Rattle.flt_bpf.specs.Content.{Content}
-use Rattle.cap_tools.specs.Machine.{MachineState, AppendsOnce, PacketsDecided, GoesOn, EndsByCut, WantsMemory, StopsWriting, form_of, written_by, failures_by, texts, progress_of, progress_over, wholes_of, cut_at}
+use Rattle.cap_tools.specs.Machine.{MachineState, AppendsOnce, PacketsDecided, GoesOn, EndsByCut, WantsMemory, StopsWriting, form_of, written_by, failures_by, texts, progress_of, progress_over, wholes_of, work_of}
 use Rattle.cap_inputs.specs.Inputs.{never_failing}
-
--- ---- as it is handed over
-
--- a device that is written to
-abbrev pub device_view : {O : Type 0} → output.Ghosts O → O → OutputView
-device_view device o = seen (device.written o) (device.failures o)
-
--- A call, beside its command: the names of the inputs, then of the output; the inputs; the output, with how many bytes it
--- takes in all before it fails; and the messages' device, with whether it tells its bytes.
-pub record Call : Type 0 where
-  pub names : List (List ℕ)
-  pub inputs : List FreshInput
-  pub output : OutputView
-  pub room : ℕ
-  pub messages : OutputView
-  pub tells : Bool
-
-abbrev pub call_of : {I O E : Type 0} → input.Ghosts I → output.Ghosts O → output.Ghosts E → (names : List (List ℕ)) → List I → O → E → Call
-call_of inputs output messages names is out err = record {
-  names = names;
-  inputs = map (fresh_input inputs) is;
-  output = device_view output out;
-  room = output.room out;
-  messages = device_view messages err;
-  tells = messages.tells;
-}
-
--- what a run hands back
-pub record RunResult : Type 0 where
-  pub status : ℕ
-  pub output : OutputView
-  pub messages : OutputView
-
-abbrev pub run_result : ℕ → OutputView → OutputView → RunResult
-run_result status output messages = record { status = status; output = output; messages = messages }
 
 -- ---- the view
 
@@ -119,9 +84,6 @@ end_status end.Complete = 0
 end_status (end.FaultIn input fault) = 1
 end_status end.OutputFailed = 1
 
-abbrev pub work_of : MachineState → Work
-work_of m = record { order = ordering_of m.inputs.schedule; policy = m.policy; form = form_of m }
-
 -- output, message and status are those of inputs with these items, and the output's device didn't fail
 pub record IsOut {ss : List InputPast} {before : List ℕ} {old : MachineState} (rs : List InputItems) (d : PacketsDecided ss before old) (names : List (List ℕ)) (new : MachineState) (text : List ℕ) (status : ℕ) : Type 0 where
   pub written : written_by new ≡ before ++ (outcome (work_of old) names rs).output
@@ -140,12 +102,13 @@ pub record IsOutCut {ss : List InputPast} {before : List ℕ} {old : MachineStat
   pub cut : EndsByCut d new input fault cursor.source
   pub out : IsOut (cut_at (wholes_of ss) input cut.held) d names new text status
 
--- there was no memory elsewhere: the output stays
-pub record LacksMemory (names : List (List ℕ)) (old new : MachineState) (text : List ℕ) (status : ℕ) : Type 0 where
+-- there was no memory to write a packet: the output stays
+pub record LacksMemory {ss : List InputPast} {before : List ℕ} {old : MachineState} (d : PacketsDecided ss before old) (names : List (List ℕ)) (new : MachineState) (text : List ℕ) (status : ℕ) : Type 0 where
   pub input : ℕ
   pub fault : Fault
-  pub wants : WantsMemory old new input fault
-  pub text_is : text ≡ fault_message (name_at names input) (offset_at new.inputs.cursors input) fault
+  pub after : SourceView
+  pub wants : WantsMemory d new input fault after
+  pub text_is : text ≡ fault_message (name_at names input) wants.packet.offset fault
   pub status_is : status ≡ 1
 
 -- the output's device failed
@@ -156,7 +119,7 @@ pub record LosesOutput {ss : List InputPast} {before : List ℕ} {old : MachineS
 
 abbrev pub EndsElse : {ss : List InputPast} {before : List ℕ} {old : MachineState} → PacketsDecided ss before old → List (List ℕ) → MachineState → List ℕ → ℕ → Type 0
 EndsElse {ss} {before} {old} d names new text status =
-    IsOutCut d names new text status ⊎ LacksMemory names old new text status ⊎ LosesOutput d names new text status
+    IsOutCut d names new text status ⊎ LacksMemory d names new text status ⊎ LosesOutput d names new text status
 
 abbrev pub EndsAs : {ss : List InputPast} {before : List ℕ} {old : MachineState} → PacketsDecided ss before old → List (List ℕ) → MachineState → List ℕ → ℕ → Type 0
 EndsAs {ss} {before} {old} d names new text status = IsOut (wholes_of ss) d names new text status ⊎ EndsElse d names new text status
@@ -231,9 +194,3 @@ pub record JobRuns (ss : List InputPast) (before : List ℕ) (tells : Bool) (fir
   pub failures : r.output.failures ≡ failures_by last
   pub told : IsTold tells first.err text r.messages
   pub quiet : r.status ≡ 0 → r.messages ≡ first.err
-
--- there was no memory to begin
-pub record NeverBegan (call : Call) (r : RunResult) : Type 0 where
-  pub status_is : r.status ≡ 1
-  pub same : r.output ≡ call.output
-  pub told : IsTold call.tells call.messages no_memory_message r.messages

@@ -1,4 +1,5 @@
 pub mod Bounds
+pub mod Call
 pub mod Commands
 pub mod Outcome
 pub mod Output
@@ -6,6 +7,7 @@ pub mod Edits
 pub mod FirstStep
 pub mod Jobs
 pub mod Selector
+pub mod Run
 pub mod Start
 pub mod Lists
 pub mod Machine

@@ -16,11 +16,11 @@ use Rattle.cap_tools.specs.declared.step.JobEnd.{JobEnd}
 use Rattle.cap_tools.specs.declared.step.JobEnd.TheVariants as end
 use Rattle.cap_tools.specs.Reports.{Report, Tally, report_text}
 use Rattle.cap_tools.specs.Output.{JobOutputView, Target, HasWritten, Puts, Reports, form_at, written_to, failures_to}
-use Rattle.cap_inputs.specs.Sequence.{Event, SequenceEnd, Complete, FaultIn, InputItems, PacketOrder, InTurn, ByTime, sequence_of, whole_input}
+use Rattle.cap_inputs.specs.Sequence.{Event, Packet, InputEnd, SequenceEnd, Complete, FaultIn, InputItems, PacketOrder, InTurn, ByTime, sequence_of, whole_input}
 use Rattle.cap_tools.specs.Verdict.{Policy, SelectorState, Verdict, Pass, PassLast, Skip, Refuse, judge}
 use Rattle.cap_tools.specs.Selector.{PolicyState, SelectorView, IsWithin, emptied, is_count, most_spent, spent_by_verdict}
 use Rattle.cap_tools.specs.Selector as selecting
-use Rattle.cap_tools.specs.Outcome.{Form, Progress, no_progress, apply_events, final_progress, final_text, output_text, closing_text, first_link, packet_bytes, report_bytes, form_refuses}
+use Rattle.cap_tools.specs.Outcome.{Form, Progress, Work, ComeFirst, IsNextEvent, AreAllEvents, cut_at, no_progress, apply_events, final_progress, final_text, output_text, closing_text, first_link, packet_bytes, report_bytes, form_refuses}
 use Rattle.cap_inputs.specs.Inputs.{InputsView, InputView, InputPast, AreInputsBehind, KnowGreatest, AreSettled, IsInput, EndedBefore, ReadsInput, IsNext, input_after, ordering_of, never_failing}
 
 -- ---- the view
@@ -37,6 +37,10 @@ pub record MachineState : Type 0 where
 abbrev pub form_of : MachineState → Form
 form_of m = form_at m.output
 
+-- in which order its packets come, how they are judged, and in which form they are written
+abbrev pub work_of : MachineState → Work
+work_of m = record { order = ordering_of m.inputs.schedule; policy = m.policy; form = form_of m }
+
 abbrev pub written_by : MachineState → List ℕ
 written_by m = written_to m.output.target
 
@@ -47,6 +51,9 @@ failures_by m = failures_to m.output.target
 
 abbrev pub texts : List InputPast → List (List ℕ)
 texts ss = map (λ s. s.text) ss
+
+abbrev pub wholes_of : List InputPast → List InputItems
+wholes_of ss = map whole_input (texts ss)
 
 -- how far the job is, with these packets and reports
 abbrev pub progress_at : MachineState → List Captured → List Report → Progress
@@ -59,6 +66,8 @@ pub record PacketsDecided (ss : List InputPast) (before : List ℕ) (m : Machine
   pub behind : AreInputsBehind ss m.inputs.cursors
   pub greatest : KnowGreatest ss m.inputs.cursors
   pub events : List Event
+  -- the events are the first of the order of the whole inputs, and they stay the first whatever follows what was read
+  pub first : ComeFirst (sequence_of (ordering_of m.inputs.schedule) (wholes_of ss)) events
   pub come : AreSettled ss m.inputs events
   pub packets : List Captured
   pub reports : List Report
@@ -154,9 +163,6 @@ finish_at [] i bytes packets = []
 finish_at (s ∷ ss) zero bytes packets = record { text = s.text; done = s.done ++ bytes; packets = s.packets ++ packets } ∷ ss
 finish_at (s ∷ ss) (suc i) bytes packets = s ∷ finish_at ss i bytes packets
 
-abbrev pub wholes_of : List InputPast → List InputItems
-wholes_of ss = map whole_input (texts ss)
-
 -- What a step adds to the output, where the job is at `far` before the step and at `next` behind it: nothing, a packet
 -- that passes, the report of an input, or what a clean end adds.
 pub data OneAnswer (form : Form) (link : Option ℕ) (far next : Progress) (bytes : List ℕ) : Type 0 where
@@ -204,12 +210,6 @@ pub record Comes {ss : List InputPast} {before : List ℕ} {old : MachineState} 
   -- the output's device didn't fail
   pub device : failures_by new ≡ failures_by old
 
--- these items in place of one input's
-abbrev pub cut_at : List InputItems → ℕ → Items → List InputItems
-cut_at [] i items = []
-cut_at (r ∷ rs) zero items = record { greatest = r.greatest; items = items; size = r.size } ∷ rs
-cut_at (r ∷ rs) (suc i) items = r ∷ cut_at rs i items
-
 -- This input was read on in this step, and its device failed or there was no memory for its next unit: it is cut short
 -- there, where `after` stands.
 pub record EndsByCut {ss : List InputPast} {before : List ℕ} {old : MachineState} (d : PacketsDecided ss before old) (new : MachineState) (input : ℕ) (fault : Fault) (after : SourceView) : Type 0 where
@@ -227,9 +227,13 @@ pub record EndsByCut {ss : List InputPast} {before : List ℕ} {old : MachineSta
   pub why : ((fault ≡ ReadFailed) × (cursor.source.failures < after.failures) × (cursor.source.never_fails ≡ false)) ⊎ (fault ≡ NoMemory)
   pub comes : Comes (cut_at (wholes_of ss) input held) d new (FaultIn input fault after.offset)
 
--- there was no memory to write the current packet of this input, which was next: the output stays
-pub record WantsMemory (old new : MachineState) (input : ℕ) (fault : Fault) : Type 0 where
+-- There was no memory to write the current packet of this input, which is the next of the order and begins where `after`
+-- stands: the output stays.
+pub record WantsMemory {ss : List InputPast} {before : List ℕ} {old : MachineState} (d : PacketsDecided ss before old) (new : MachineState) (input : ℕ) (fault : Fault) (after : SourceView) : Type 0 where
   pub next : IsNext old.inputs.schedule old.inputs.cursors (next.Decide input)
+  pub packet : Placed
+  pub comes : IsNextEvent (work_of old) (wholes_of ss) d.events (Packet input packet)
+  pub place : after.offset ≡ packet.offset
   pub inputs : new.inputs ≡ old.inputs
   pub why : fault ≡ NoMemory
   pub written : written_by new ≡ written_by old
@@ -250,6 +254,7 @@ pub record NextPacket {ss : List InputPast} {before : List ℕ} {old : MachineSt
   pub among : IsInput old.inputs.cursors input cursor
   pub packet : Captured
   pub held : cursor.source.packet ≡ Some packet
+  pub comes : IsNextEvent (work_of old) (wholes_of ss) d.events (Packet input (record { offset = cursor.source.offset; packet = packet }))
   pub passed : Captured
   pub passes : PassesAs (judge old.policy old.state (old.decided + 1) packet).verdict passed
   pub taken : form_refuses (form_of old) d.packets passed ≡ None
@@ -257,16 +262,18 @@ pub record NextPacket {ss : List InputPast} {before : List ℕ} {old : MachineSt
   pub inputs : new.inputs ≡ old.inputs
 
 -- next is an input that is read to its end in this step, and reported; this is its report
-pub record NextReport (old new : MachineState) (bytes : List ℕ) : Type 0 where
+pub record NextReport {ss : List InputPast} {before : List ℕ} {old : MachineState} (d : PacketsDecided ss before old) (new : MachineState) (bytes : List ℕ) : Type 0 where
   pub input : ℕ
   pub next : IsNext old.inputs.schedule old.inputs.cursors (next.Read input)
   pub fetches : ReadsInput old.inputs input (Ok false) new.inputs
+  pub comes : IsNextEvent (work_of old) (wholes_of ss) d.events (InputEnd input (kind_of fetches.source.declared) fetches.source.offset)
   pub policy : asks_report (ordering_of old.inputs.schedule) old.policy ≡ true
   pub bytes_are : bytes ≡ report_bytes (form_of old) (report_at input (input_after fetches.cursor (Ok false) fetches.source) old.state.tally)
 
 -- all inputs were read; this is what a clean end adds
 pub record NextClosing {ss : List InputPast} {before : List ℕ} {old : MachineState} (d : PacketsDecided ss before old) (new : MachineState) (bytes : List ℕ) : Type 0 where
   pub next : IsNext old.inputs.schedule old.inputs.cursors next.Finish
+  pub comes : AreAllEvents (work_of old) (wholes_of ss) d.events
   pub bytes_are : bytes ≡ closing_text (form_of old) (first_link (wholes_of ss)) d.packets
   pub inputs : new.inputs ≡ old.inputs
 
@@ -274,7 +281,7 @@ pub record NextClosing {ss : List InputPast} {before : List ℕ} {old : MachineS
 pub record StopsWriting {ss : List InputPast} {before : List ℕ} {old : MachineState} (d : PacketsDecided ss before old) (new : MachineState) : Type 0 where
   pub failures : failures_by new ≡ failures_by old + 1
   pub bytes : List ℕ
-  pub answer : NextPacket d new bytes ⊎ NextReport old new bytes ⊎ NextClosing d new bytes
+  pub answer : NextPacket d new bytes ⊎ NextReport d new bytes ⊎ NextClosing d new bytes
   pub back : List ℕ
   pub whole : final_text (form_of old) (first_link (wholes_of ss)) (progress_over old (wholes_of ss)) ≡ output_text (form_of old) d.packets d.reports ++ (bytes ++ back)
   pub so_far : written_by old ≡ before ++ output_text (form_of old) d.packets d.reports
@@ -283,7 +290,7 @@ pub record StopsWriting {ss : List InputPast} {before : List ℕ} {old : Machine
 -- the inputs end so, or the current packet is refused; or the input is cut short; or there was no memory
 abbrev pub WhyBroken : {ss : List InputPast} {before : List ℕ} {old : MachineState} → PacketsDecided ss before old → MachineState → ℕ → Fault → SourceView → Type 0
 WhyBroken {ss} {before} {old} d new input fault after =
-    Comes (wholes_of ss) d new (FaultIn input fault after.offset) ⊎ EndsByCut d new input fault after ⊎ WantsMemory old new input fault
+    Comes (wholes_of ss) d new (FaultIn input fault after.offset) ⊎ EndsByCut d new input fault after ⊎ WantsMemory d new input fault after
 
 pub record BreaksAt {ss : List InputPast} {before : List ℕ} {old : MachineState} (d : PacketsDecided ss before old) (new : MachineState) (input : ℕ) (fault : Fault) : Type 0 where
   pub cursor : InputView

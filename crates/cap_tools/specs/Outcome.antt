@@ -1,17 +1,17 @@
 -- What a job makes of the packets that come: the output, the message and the status.
-use Rattle.std.specs.Prelude.{ℕ, ◌+◌, List, [], ◌∷◌, ◌++◌, map, Option, None, Some, unwrap_or}
+use Rattle.std.specs.Prelude.{◌≡◌, ℕ, zero, suc, ◌+◌, List, [], ◌∷◌, ◌++◌, map, Option, None, Some, unwrap_or}
 use Rattle.std.specs.List.{flat_map}
 use Rattle.std.specs.Option.{option_or}
 use Rattle.cap_octet.specs.Packet.{Captured}
 use Rattle.cap_octet.specs.declared.fault.Fault.{Fault}
 use Rattle.cap_octet.specs.declared.format.Format.{Format}
 use Rattle.cap_io.specs.declared.source.Kind.{Kind}
-use Rattle.cap_io.specs.Capture.{Placed, first_link_of}
+use Rattle.cap_io.specs.Capture.{Placed, Items, first_link_of}
 use Rattle.cap_io.specs.Text.{added, heading, text, refused}
 use Rattle.cap_print.specs.declared.print.Options.{Options}
 use Rattle.cap_print.specs.Rendering.{printed}
 use Rattle.cap_filter.specs.Messages.{fault_message}
-use Rattle.cap_inputs.specs.Sequence.{Event, Packet, InputEnd, SequenceEnd, Complete, FaultIn, Sequence, InputItems, PacketOrder, sequence_of, whole_input}
+use Rattle.cap_inputs.specs.Sequence.{Event, Packet, InputEnd, SequenceEnd, Complete, FaultIn, Sequence, InputItems, PacketOrder, sequence_of, whole_input, with_front}
 use Rattle.cap_tools.specs.Verdict.{Policy, Count, SelectorState, initial_state, Verdict, Pass, PassLast, Skip, Refuse, judge}
 use Rattle.cap_tools.specs.Reports.{Report, nothing_counted, report_text, reports_text, name_at}
 
@@ -184,3 +184,37 @@ outcome work names rs = outcome_at work names rs (final_progress work.policy wor
 -- what comes of inputs with these bytes
 abbrev pub outcome_of_texts : Work → List (List ℕ) → List (List ℕ) → Outcome
 outcome_of_texts work names texts = outcome work names (map whole_input texts)
+
+-- these items in place of one input's
+abbrev pub cut_at : List InputItems → ℕ → Items → List InputItems
+cut_at [] i items = []
+cut_at (r ∷ rs) zero items = record { greatest = r.greatest; items = items; size = r.size } ∷ rs
+cut_at (r ∷ rs) (suc i) items = r ∷ cut_at rs i items
+
+-- ---- what comes next
+
+-- these events are the first of an order
+pub record ComeFirst (order : Sequence) (es : List Event) : Type 0 where
+  pub later : Sequence
+  pub is : order ≡ with_front es later
+
+-- how far a job with this work is behind these events, and what is written then
+abbrev pub progress_behind : Work → List Event → Progress
+progress_behind work es = apply_events work.policy work.form no_progress es
+
+abbrev pub text_of_progress : Form → Progress → List ℕ
+text_of_progress form w = output_text form w.packets w.reports
+
+abbrev pub text_behind : Work → List Event → List ℕ
+text_behind work es = text_of_progress work.form (progress_behind work es)
+
+-- These events come first in the job's order over inputs with these items, and it didn't end with them; this one is next.
+pub record IsNextEvent (work : Work) (rs : List InputItems) (es : List Event) (e : Event) : Type 0 where
+  pub later : List Event
+  pub is : (sequence_of work.order rs).events ≡ es ++ e ∷ later
+  pub goes : (progress_behind work es).end ≡ None
+
+-- These events are all of the job's order over inputs with these items, and it didn't end with them, but with its inputs.
+pub record AreAllEvents (work : Work) (rs : List InputItems) (es : List Event) : Type 0 where
+  pub is : sequence_of work.order rs ≡ record { events = es; end = Complete }
+  pub goes : (progress_behind work es).end ≡ None

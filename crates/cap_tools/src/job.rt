@@ -4,10 +4,13 @@ ghost use Rattle.std.specs.Prelude.{map, string_bytes, true, vec_len};
 ghost use Rattle.cap_filter.specs.Command.{is_proper};
 ghost use Rattle.cap_filter.specs.Outcome.{IsTold, seen};
 ghost use Rattle.cap_tools.specs.Bounds.{IsLight, ReadsNothing, StepReads, most_turns};
-ghost use Rattle.cap_tools.specs.Commands.{CommandRuns, RunsCommand};
+ghost use Rattle.cap_tools.specs.Call.{call_of, device_view, run_result};
+ghost use Rattle.cap_tools.specs.Commands.{RunsCommand};
 ghost use Rattle.cap_inputs.specs.Inputs.{most_steps, steps_left};
 ghost use Rattle.cap_inputs.specs.Inputs as input_spec;
-ghost use Rattle.cap_tools.specs.Jobs.{call_of, device_view, end_status, end_text, run_result};
+ghost use Rattle.cap_tools.specs.Jobs.{end_status, end_text};
+ghost use Rattle.cap_tools.specs.Run.{CommandRuns};
+ghost use Rattle.cap_tools.specs.Start.{assigned};
 
 use crate::messages::Messages;
 use crate::output::JobOutput;
@@ -113,7 +116,7 @@ impl<I: Input, O: Output, E: Output, A: Allocator + Copy + Drop> Job<I, O, E, A>
     ghost use Rattle.cap_inputs.specs.Fresh.{nothing_done};
     ghost use Rattle.cap_tools.specs.Machine.{failures_by, written_by};
     ghost use Rattle.cap_tools.specs.Selector.{HavePrograms};
-    ghost use Rattle.cap_tools.specs.Start.{asked_by, assigned};
+    ghost use Rattle.cap_tools.specs.Start.{asked_by};
     ghost use Rattle.cap_tools.specs.Step.{IsStep, ending};
 
     /// The job of a proper command. `names` are those of the inputs, then of the output. Where
@@ -416,7 +419,7 @@ impl<I: Input, O: Output, E: Output, A: Allocator + Copy + Drop> Job<I, O, E, A>
 }
 
 /// Steps to the end, and returns the status.
-pub fn run_on<I, O, E, A>(mut job: Job<I, O, E, A>) -> (u8, O, E)
+fn run_on<I, O, E, A>(mut job: Job<I, O, E, A>) -> (u8, O, E)
 where
     I: Input + Drop,
     O: Output,
@@ -457,7 +460,7 @@ where
     A: Allocator + Copy + Drop,
     requires proper { is_proper command (vec_len inputs) ≡ true }
     ensures status { result.0 ≤ 2 }
-    ensures told { IsTrue I.tells → IsTrue O.tells → CommandRuns command
+    ensures told { IsTrue I.tells → IsTrue O.tells → CommandRuns (assigned command)
         (call_of I.Input O.Output E.Output (map string_bytes names.items) inputs.items out err)
         (run_result result.0 (device_view O.Output result.1) (device_view E.Output result.2)) }
 {

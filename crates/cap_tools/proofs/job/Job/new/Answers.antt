@@ -9,7 +9,8 @@ use Rattle.cap_inputs.specs.Inputs.{InputsView, steps_left}
 use Rattle.cap_tools.specs.Selector.{HasFewMarks, HavePrograms, SelectorView, policy_of, state_with}
 use Rattle.cap_inputs.specs.Sequence.{PacketOrder, order_of}
 use Rattle.cap_tools.specs.Start.{Assignment, preparing_of}
-use Rattle.cap_tools.specs.Jobs.{JobView, Call, call_of, most_inputs}
+use Rattle.cap_tools.specs.Call.{Call, call_of}
+use Rattle.cap_tools.specs.Jobs.{JobView, most_inputs}
 use Rattle.cap_inputs.specs.Fresh.{fresh_input, fresh_inputs, nothing_done}
 use Rattle.cap_tools.specs.Commands.{DecidedBy, IsReadyIf}
 use Rattle.cap_tools.proofs.CommandStarts.{few-inputs, first-decided, first-made, first-ready}

@@ -1,0 +1,428 @@
+-- What the run of a job leaves, in terms of its call.
+use Rattle.std.proofs.Common.{◌≡◌, ◌⊎◌, inl, inr, ℕ, ◌+◌, Bool, true, false, List, [], ◌∷◌, ◌++◌, length, map, take, Option, None, Some, Ok, refl, sym, ◌∙◌, ap, subst}
+use Rattle.std.proofs.lemmas.List.{append-nil, length-map, length-set}
+use Rattle.std.proofs.lemmas.Option.{slice_get-map}
+use Rattle.std.specs.List.{slice_get}
+use Rattle.std.specs.Option.{option_map}
+use Rattle.cap_octet.specs.Device.{Stops}
+use Rattle.cap_octet.specs.Packet.{Captured}
+use Rattle.cap_octet.specs.declared.fault.Fault.{Fault}
+use Rattle.cap_io.specs.Capture.{Placed, kind_of}
+use Rattle.cap_io.specs.Position.{IsCutShort}
+use Rattle.flt_gen.specs.declared.link.Link.{Link}
+use Rattle.flt_words.specs.declared.fault.ExprFault.{ExprFault}
+use Rattle.flt_words.specs.declared.fault.ExprFault.TheVariants as expression
+use Rattle.flt_bpf.specs.declared.fault.ListingFault.TheVariants as listing_fault
+use Rattle.flt_bpf.specs.Listing.{listing}
+use Rattle.cap_filter.specs.Compilation.{CompileLeaves}
+use Rattle.cap_filter.specs.declared.refusal.Refusal.{Refusal}
+use Rattle.cap_filter.specs.declared.refusal.Refusal.TheVariants as refusal
+use Rattle.cap_filter.specs.Messages.{fault_message, refusal_message, refusal_status, write_failed_message}
+use Rattle.cap_filter.specs.Outcome.{OutputView, IsTold, Runs, seen}
+use Rattle.cap_inputs.specs.Fresh.{FreshInput, fresh_view, nothing_done, first_schedule}
+use Rattle.cap_inputs.specs.Inputs.{InputView, InputsView, InputPast, input_after, never_failing, ordering_of}
+use Rattle.cap_inputs.specs.Sequence.{InputItems, Event, Packet, InputEnd, Complete, PacketOrder, InTurn, ByTime, whole_input}
+use Rattle.cap_tools.specs.declared.output.Writing.{Writing}
+use Rattle.cap_tools.specs.declared.output.Writing.TheVariants as writing
+use Rattle.cap_tools.specs.Call.{Call, RunResult}
+use Rattle.cap_tools.specs.Commands.{RunsBy}
+use Rattle.cap_tools.specs.FirstStep.{filtering, output_of, output_name}
+use Rattle.cap_tools.specs.Jobs.{JobView, JobRuns, IsOutCut, LacksMemory, LosesOutput, first_job}
+use Rattle.cap_tools.specs.Machine.{MachineState, PacketsDecided, NextPacket, NextReport, NextClosing, PassesAs, asks_report, failures_by, form_of, progress_of, texts, wholes_of, work_of, written_by}
+use Rattle.cap_tools.specs.Outcome.{Form, Outcome, Progress, Work, IsNextEvent, apply_event, apply_verdict, closing_text, end_input, cut_at, decide_unless, first_link, form_refuses, outcome, packet_bytes, report_bytes, text_behind, text_of_progress}
+use Rattle.cap_tools.specs.Output.{failures_to, form_to, target_at, written_to}
+use Rattle.cap_tools.specs.Reports.{name_at}
+use Rattle.cap_tools.specs.Run.{CommandRuns, HasCutInput, HasLackedMemory, HasLeft, HasLostOutput, IsNextAnswer, IsPolicy, IsRefused, IsWork, by_end, by_event, ends, form_asked, input_cut, listing_answer, listing_outcome, no_memory, of_listing, of_packets, of_refusal, output_failed, packets_answer, refusal_outcome, whole_inputs}
+use Rattle.cap_tools.specs.Start.{Assignment, Preparing, ReadsFilter, Compiles}
+use Rattle.cap_filter.specs.FilterRules.{Rule}
+use Rattle.flt_bpf.specs.Content.{Content}
+use Rattle.cap_io.specs.declared.source.Kind.{Kind}
+use Rattle.cap_tools.specs.Verdict.{Policy, Edit, Filter, KeepAll, Count, SelectorState, Verdict, Pass, PassLast, Skip, Refuse, judge}
+use Rattle.cap_tools.proofs.Ends.{same-work}
+use Rattle.cap_tools.proofs.Once.{packet-more, report-more}
+use Rattle.cap_tools.proofs.Outcomes.{progress-next}
+use Rattle.cap_tools.proofs.Outputs.{drained-text}
+
+-- ---- the first view, by its call
+
+-- what the first view of a job has of its call
+record Begins (asked : Assignment) (call : Call) (first : JobView) : Type 0 where
+  pub work : IsWork asked call (work_of first.machine)
+  pub names : first.machine.output.names ≡ call.names
+  pub failures : failures_by first.machine ≡ call.output.failures
+  pub never : never_failing first.machine.inputs.cursors ≡ map (λ (input : FreshInput). input.never_fails) call.inputs
+  pub err : first.err ≡ call.messages
+
+first-order : (order : PacketOrder) (count : ℕ) → ordering_of (first_schedule order count) ≡ order
+first-order InTurn count = refl
+first-order ByTime count = refl
+
+first-form : (names : List (List ℕ)) (w : Writing) (bytes : List ℕ) (failures room : ℕ) → form_to names (target_at w bytes failures room) ≡ form_asked names w
+first-form names (writing.Capture format) bytes failures room = refl
+first-form names writing.Text bytes failures room = refl
+first-form names (writing.Lines options) bytes failures room = refl
+
+first-failures : (w : Writing) (bytes : List ℕ) (failures room : ℕ) → failures_to (target_at w bytes failures room) ≡ failures
+first-failures (writing.Capture format) bytes failures room = refl
+first-failures writing.Text bytes failures room = refl
+first-failures (writing.Lines options) bytes failures room = refl
+
+first-written : (w : Writing) (bytes : List ℕ) (failures room : ℕ) → written_to (target_at w bytes failures room) ≡ bytes
+first-written (writing.Capture format) bytes failures room = refl
+first-written writing.Text bytes failures room = refl
+first-written (writing.Lines options) bytes failures room = refl
+
+first-never : (os : List FreshInput) → never_failing (map fresh_view os) ≡ map (λ (input : FreshInput). input.never_fails) os
+first-never [] = refl
+first-never (o ∷ os) = ap (λ (l : List Bool). o.never_fails ∷ l) (first-never os)
+
+first-texts : (os : List FreshInput) → texts (map nothing_done os) ≡ map (λ (input : FreshInput). input.text) os
+first-texts [] = refl
+first-texts (o ∷ os) = ap (λ (l : List (List ℕ)). o.text ∷ l) (first-texts os)
+
+first-wholes : (os : List FreshInput) → wholes_of (map nothing_done os) ≡ map (λ (input : FreshInput). whole_input input.text) os
+first-wholes [] = refl
+first-wholes (o ∷ os) = ap (λ (l : List InputItems). whole_input o.text ∷ l) (first-wholes os)
+
+first-output : (asked : Assignment) (call : Call) → output_of (first_job asked call) ≡ call.output
+first-output asked call =
+    ap (λ (w : List ℕ). seen w (failures_to (target_at asked.writing call.output.written call.output.failures call.room))) (first-written asked.writing call.output.written call.output.failures call.room)
+    ∙ ap (seen call.output.written) (first-failures asked.writing call.output.written call.output.failures call.room)
+
+first-name : (asked : Assignment) (call : Call) → output_name (first_job asked call) ≡ name_at call.names (length call.inputs)
+first-name asked call = ap (name_at call.names) (length-map call.inputs fresh_view)
+
+-- ---- what is told
+
+told-as : (tells : Bool) (old old' new : OutputView) (message message' : List ℕ) → message ≡ message' → old ≡ old' → IsTold tells old message new → IsTold tells old' message' new
+told-as tells old old' new message message' is same told =
+    let M : List ℕ → Type 0 = λ m. IsTold tells old m new in
+    let O : OutputView → Type 0 = λ v. IsTold tells v message' new in
+    subst O same (subst M is told)
+
+-- a refusal has a status of its own
+never-zero : (why : Refusal) → refusal_status why ≡ 0 → ⊥
+never-zero (refusal.Expression expression.Memory) zero = (cc)
+never-zero (refusal.Expression fault) zero = (cc)
+never-zero (refusal.Listing listing_fault.Memory) zero = (cc)
+never-zero (refusal.Listing fault) zero = (cc)
+never-zero (refusal.Program fault at) zero = (cc)
+
+-- ---- one of the inputs
+
+get-at : {A : Type 0} (xs ys : List A) (x : A) (i : ℕ) → length xs ≡ i → slice_get (xs ++ x ∷ ys) i ≡ Some x
+get-at [] ys x i is = rw (← is) refl
+get-at (y ∷ xs) ys x i is = rw (← is) (get-at xs ys x (length xs) refl)
+
+-- what a map has at a place comes of what is there
+record Comes {A B : Type 0} (f : A → B) (o : Option A) (b : B) : Type 0 where
+  pub from : A
+  pub is : o ≡ Some from
+  pub same : f from ≡ b
+
+comes-of : {A B : Type 0} (f : A → B) (o : Option A) (b : B) → option_map f o ≡ Some b → Comes f o b
+comes-of f None b is = (cc)
+comes-of f (Some a) b is = record { from = a; is = refl; same = (cc) }
+
+-- where one of two maps of a list has these at a place
+at-place : {A B : Type 0} (f : A → B) (xs : List A) (ys : List B) (i : ℕ) (b : B) → ys ≡ map f xs → slice_get ys i ≡ Some b → Comes f (slice_get xs i) b
+at-place f xs ys i b is has = comes-of f (slice_get xs i) b (sym (slice_get-map f xs i) ∙ ap (λ l. slice_get l i) (sym is) ∙ has)
+
+-- ---- what the next answer adds
+
+-- a packet that passes
+passes-adds : (form : Form) (w : Progress) (i : ℕ) (x : Placed) (v : Verdict) (state : SelectorState) (q : Captured) → PassesAs v q → form_refuses form w.packets q ≡ None
+    → text_of_progress form (apply_verdict form w i x v state) ≡ text_of_progress form w ++ packet_bytes form w.packets q
+passes-adds form w i x (Pass p) state q is taken =
+    rw is (ap (λ (o : Option Fault). text_of_progress form (decide_unless o w i x state q None)) taken ∙ packet-more form w.packets q w.reports)
+passes-adds form w i x (PassLast p) state q is taken =
+    rw is (ap (λ (o : Option Fault). text_of_progress form (decide_unless o w i x state q (Some Complete))) taken ∙ packet-more form w.packets q w.reports)
+passes-adds form w i x Skip state q is taken = absurd is
+passes-adds form w i x (Refuse fault) state q is taken = absurd is
+
+-- a report
+report-adds : (order : PacketOrder) (policy : Policy) (form : Form) (w : Progress) (i : ℕ) (kind : Option Kind) (size : ℕ) → asks_report order policy ≡ true
+    → text_of_progress form (end_input policy w i kind size) ≡ text_of_progress form w ++ report_bytes form (record { input = i; kind = kind; size = size; tally = w.state.tally })
+report-adds ByTime policy form w i kind size asks = (cc)
+report-adds InTurn Count form w i kind size asks = report-more form w.packets w.reports (record { input = i; kind = kind; size = size; tally = w.state.tally })
+report-adds InTurn (Edit s) form w i kind size asks = (cc)
+report-adds InTurn (Filter rule count) form w i kind size asks = (cc)
+report-adds InTurn KeepAll form w i kind size asks = (cc)
+
+next-answer : (ss : List InputPast) (before : List ℕ) (old new : MachineState) (bytes : List ℕ) (d : PacketsDecided ss before old) → NextPacket d new bytes ⊎ NextReport d new bytes ⊎ NextClosing d new bytes
+    → IsNextAnswer (work_of old) (wholes_of ss) (text_behind (work_of old) d.events) bytes
+next-answer ss before old new bytes d next =
+    elim next [
+      | inl packet ↦
+          let x : Placed = record { offset = packet.cursor.source.offset; packet = packet.packet } in
+          by_event d.events (Packet packet.input x) packet.comes refl
+          (behind-one (Packet packet.input x)
+          ∙ passes-adds form w packet.input x (judge old.policy old.state (old.decided + 1) packet.packet).verdict (judge old.policy old.state (old.decided + 1) packet.packet).state packet.passed packet.passes packet.taken
+          ∙ joins (sym packet.bytes_are))
+      | inr other ↦ elim other [
+        | inl report ↦
+            let kind : Option Kind = kind_of report.fetches.source.declared in
+            let size : ℕ = report.fetches.source.offset in
+            by_event d.events (InputEnd report.input kind size) report.comes refl
+            (behind-one (InputEnd report.input kind size)
+            ∙ report-adds (ordering_of old.inputs.schedule) old.policy form w report.input kind size report.policy
+            ∙ joins (sym report.bytes_are))
+        | inr closing ↦ by_end d.events closing.comes refl (closing.bytes_are ∙ ap (λ (v : Progress). closing_text form (first_link (wholes_of ss)) v.packets) (sym d.progress))
+      ]
+    ]
+  where
+    form : Form
+    form = form_of old
+
+    w : Progress
+    w = progress_of d
+
+    behind-one : (e : Event) → text_behind (work_of old) (d.events ++ e ∷ []) ≡ text_of_progress form (apply_event old.policy form w e)
+    behind-one e = ap (text_of_progress form) (progress-next old.policy form d.events e w (apply_event old.policy form w e) d.progress refl)
+
+    joins : {added : List ℕ} → added ≡ bytes → text_of_progress form w ++ added ≡ text_behind (work_of old) d.events ++ bytes
+    joins {added} is = ap (λ (l : List ℕ). text_of_progress form w ++ l) is ∙ ap (λ (v : Progress). text_of_progress form v ++ bytes) (sym d.progress)
+
+-- the inputs are as many as before
+same-count : (ss : List InputPast) (before : List ℕ) (old new : MachineState) (bytes : List ℕ) (d : PacketsDecided ss before old) → NextPacket d new bytes ⊎ NextReport d new bytes ⊎ NextClosing d new bytes
+    → length new.inputs.cursors ≡ length old.inputs.cursors
+same-count ss before old new bytes d next =
+    elim next [
+      | inl packet ↦ ap (λ (f : InputsView). length f.cursors) packet.inputs
+      | inr other ↦ elim other [
+        | inl report ↦ ap (λ (f : InputsView). length f.cursors) report.fetches.is ∙ length-set old.inputs.cursors report.input (input_after report.fetches.cursor (Ok false) report.fetches.source)
+        | inr closing ↦ ap (λ (f : InputsView). length f.cursors) closing.inputs
+      ]
+    ]
+
+-- ---- a job with packets
+
+-- what its run leaves
+packets-run : (asked : Assignment) (call : Call) (first : JobView) (r : RunResult) → Begins asked call first → JobRuns (map nothing_done call.inputs) call.output.written call.tells first r → CommandRuns asked call r
+packets-run asked call first r b runs =
+    elim runs.ends [
+      | inl whole ↦ ends (outcome w call.names (whole_inputs call)) (of_packets w b.work) (record {
+        output = whole.written_is ∙ ap (λ (o : Outcome). before ++ o.output) (all-of (wholes_of ss) (whole_inputs call) first-is);
+        failures = whole.device ∙ b.failures;
+        message = reported (whole.text_is ∙ ap (λ (o : Outcome). o.messages) (all-of (wholes_of ss) (whole_inputs call) first-is));
+        quiet = λ zero. runs.quiet zero ∙ b.err;
+        status = whole.status_is ∙ ap (λ (o : Outcome). o.status) (all-of (wholes_of ss) (whole_inputs call) first-is);
+      })
+      | inr other ↦ elim other [
+        | inl cut ↦ input_cut w b.work (cuts cut)
+        | inr more ↦ elim more [
+          | inl lacks ↦ no_memory w b.work (lacks-memory lacks)
+          | inr loses ↦ output_failed (loses-output loses)
+        ]
+      ]
+    ]
+  where
+    ss : List InputPast
+    ss = map nothing_done call.inputs
+
+    before : List ℕ
+    before = call.output.written
+
+    old : MachineState
+    old = runs.old.machine
+
+    d : PacketsDecided runs.progress.past before old
+    d = runs.progress.decided.packets
+
+    w : Work
+    w = work_of first.machine
+
+    names : List (List ℕ)
+    names = first.machine.output.names
+
+    work-is : work_of old ≡ w
+    work-is = same-work ss before first runs.old runs.progress
+
+    first-is : wholes_of ss ≡ whole_inputs call
+    first-is = first-wholes call.inputs
+
+    wholes-are : wholes_of runs.progress.past ≡ whole_inputs call
+    wholes-are = ap (λ (l : List (List ℕ)). map whole_input l) runs.progress.texts ∙ first-is
+
+    all-of : (rs rs' : List InputItems) → rs ≡ rs' → outcome w names rs ≡ outcome w call.names rs'
+    all-of rs rs' is = ap (λ (n : List (List ℕ)). outcome w n rs) b.names ∙ ap (λ (l : List InputItems). outcome w call.names l) is
+
+    reported : {message : List ℕ} → runs.text ≡ message → IsTold call.tells call.messages message r.messages
+    reported {message} is = told-as call.tells first.err call.messages r.messages runs.text message is b.err runs.told
+
+    so-far : written_by old ≡ before ++ text_behind w d.events
+    so-far =
+        drained-text before old.output.names old.output.target d.packets d.reports d.output
+        ∙ ap (λ (v : Progress). before ++ text_of_progress (form_of old) v) (sym d.progress)
+        ∙ ap (λ (v : Work). before ++ text_behind v d.events) work-is
+
+    unfailed : failures_by old ≡ call.output.failures
+    unfailed = runs.progress.output ∙ b.failures
+
+    cuts : IsOutCut d names runs.last runs.text r.status → HasCutInput call w r
+    cuts cut =
+        let items = cut.cut.held in
+        let whole : outcome (work_of old) names (cut_at (wholes_of runs.progress.past) cut.input items) ≡ outcome w call.names (cut_at (whole_inputs call) cut.input items) =
+        ap (λ (v : Work). outcome v names (cut_at (wholes_of runs.progress.past) cut.input items)) work-is
+        ∙ all-of (cut_at (wholes_of runs.progress.past) cut.input items) (cut_at (whole_inputs call) cut.input items) (ap (λ (l : List InputItems). cut_at l cut.input items) wholes-are) in
+        let text : Comes (λ (o : FreshInput). o.text) (slice_get call.inputs cut.input) cut.cut.past.text =
+        at-place (λ (o : FreshInput). o.text) call.inputs (texts runs.progress.past) cut.input cut.cut.past.text (runs.progress.texts ∙ first-texts call.inputs)
+        (slice_get-map (λ (s : InputPast). s.text) runs.progress.past cut.input
+        ∙ ap (option_map (λ (s : InputPast). s.text)) (ap (λ (l : List InputPast). slice_get l cut.input) cut.cut.among ∙ get-at cut.cut.front cut.cut.back cut.cut.past cut.input cut.cut.place)) in
+        let never : Comes (λ (o : FreshInput). o.never_fails) (slice_get call.inputs cut.input) cut.cut.cursor.source.never_fails =
+        at-place (λ (o : FreshInput). o.never_fails) call.inputs (never_failing old.inputs.cursors) cut.input cut.cut.cursor.source.never_fails (runs.progress.never ∙ b.never)
+        (slice_get-map (λ (h : InputView). h.source.never_fails) old.inputs.cursors cut.input
+        ∙ ap (option_map (λ (h : InputView). h.source.never_fails)) (ap (λ (l : List InputView). slice_get l cut.input) cut.cut.cursor_is.splits ∙ get-at cut.cut.cursor_is.front cut.cut.cursor_is.back cut.cut.cursor cut.input cut.cut.cursor_is.place)) in
+        let same : text.from ≡ never.from = (let e = sym text.is ∙ never.is in cc) in
+        let may : text.from.never_fails ≡ cut.cut.cursor.source.never_fails = ap (λ (o : FreshInput). o.never_fails) same ∙ never.same in
+        let T : List ℕ → Type 0 = λ l. IsCutShort l cut.fault items in
+        record {
+          place = cut.input;
+          input = text.from;
+          among = text.is;
+          fault = cut.fault;
+          why = elim cut.cut.why [ inl failed ↦ inl (failed.0, may ∙ failed.2) | inr full ↦ inr full ];
+          held = items;
+          cut = subst T (sym text.same) cut.cut.cut;
+          left = record {
+            output = runs.written ∙ cut.out.written ∙ ap (λ (o : Outcome). before ++ o.output) whole;
+            failures = runs.failures ∙ cut.out.device ∙ unfailed;
+            message = reported (cut.out.text_is ∙ ap (λ (o : Outcome). o.messages) whole);
+            quiet = λ zero. runs.quiet zero ∙ b.err;
+            status = cut.out.status_is ∙ ap (λ (o : Outcome). o.status) whole;
+          };
+        }
+
+    lacks-memory : LacksMemory d names runs.last runs.text r.status → HasLackedMemory call w r
+    lacks-memory lacks =
+        let e : Event = Packet lacks.input lacks.wants.packet in
+        let V : Work → Type 0 = λ v. IsNextEvent v (wholes_of runs.progress.past) d.events e in
+        let L : List InputItems → Type 0 = λ l. IsNextEvent w l d.events e in
+        record {
+          events = d.events;
+          input = lacks.input;
+          packet = lacks.wants.packet;
+          next = subst L wholes-are (subst V work-is lacks.wants.comes);
+          output = runs.written ∙ lacks.wants.written ∙ so-far;
+          failures = runs.failures ∙ lacks.wants.device ∙ unfailed;
+          message = reported (lacks.text_is
+              ∙ ap (λ (n : List (List ℕ)). fault_message (name_at n lacks.input) lacks.wants.packet.offset lacks.fault) b.names
+              ∙ ap (fault_message (name_at call.names lacks.input) lacks.wants.packet.offset) lacks.wants.why);
+          status = lacks.status_is;
+        }
+
+    loses-output : LosesOutput d names runs.last runs.text r.status → HasLostOutput asked call r
+    loses-output loses =
+        let bytes : List ℕ = loses.stops.bytes in
+        let V : Work → Type 0 = λ v. IsNextAnswer v (wholes_of runs.progress.past) (text_behind v d.events) bytes in
+        let L : List InputItems → Type 0 = λ l. IsNextAnswer w l (text_behind w d.events) bytes in
+        let S : List ℕ → Type 0 = λ l. Stops l bytes (written_by runs.last) in
+        let R : List ℕ → Type 0 = λ l. Stops (before ++ text_behind w d.events) bytes l in
+        let count : length runs.last.inputs.cursors ≡ length call.inputs =
+        same-count runs.progress.past before old runs.last bytes d loses.stops.answer
+        ∙ sym (length-map old.inputs.cursors (λ (h : InputView). h.source.never_fails))
+        ∙ ap length (runs.progress.never ∙ b.never)
+        ∙ length-map call.inputs (λ (o : FreshInput). o.never_fails) in
+        record {
+          written = text_behind w d.events;
+          bytes = bytes;
+          answer = packets_answer w b.work (subst L wholes-are (subst V work-is (next-answer runs.progress.past before old runs.last bytes d loses.stops.answer)));
+          stops = subst R (sym runs.written) (subst S so-far loses.stops.stops);
+          failures = runs.failures ∙ loses.stops.failures ∙ ap (λ n. n + 1) unfailed;
+          message = reported (loses.text_is
+              ∙ ap (λ (n : List (List ℕ)). write_failed_message (name_at n (length runs.last.inputs.cursors))) b.names
+              ∙ ap (λ n. write_failed_message (name_at call.names n)) count);
+          status = loses.status_is;
+        }
+
+-- ---- a job that is refused, or lists a program
+
+refused-run : (asked : Assignment) (call : Call) (r : RunResult) (why : Refusal) → IsRefused asked.preparing why → r.status ≡ refusal_status why → r.output ≡ output_of (first_job asked call) → IsTold call.tells call.messages (refusal_message why) r.messages → CommandRuns asked call r
+refused-run asked call r why refused status same told = ends (refusal_outcome why) (of_refusal why refused) (record {
+  output = ap (λ (o : OutputView). o.written) (same ∙ first-output asked call) ∙ sym (append-nil call.output.written);
+  failures = ap (λ (o : OutputView). o.failures) (same ∙ first-output asked call);
+  message = told;
+  quiet = λ zero. absurd (never-zero why (sym status ∙ zero));
+  status = status;
+})
+
+compile-run : (asked : Assignment) (call : Call) (r : RunResult) (words : List ℕ) (link : Link) → asked.preparing ≡ Some (Compiles words link)
+    → Runs (λ message. CompileLeaves words link (output_name (first_job asked call)) (output_of (first_job asked call)) r.output message r.status) call.tells call.messages r.messages → CommandRuns asked call r
+compile-run asked call r words link is runs =
+    elim runs.left [
+      | inl lists ↦ elim lists.listed [
+        | inl written ↦ ends (listing_outcome lists.prog) (of_listing words link lists.prog is lists.compiled) (record {
+          output = written.written ∙ ap (λ (o : OutputView). o.written ++ listing lists.prog) out;
+          failures = written.device ∙ ap (λ (o : OutputView). o.failures) out;
+          message = told written.told;
+          quiet = λ zero. runs.quiet written.told;
+          status = written.answered;
+        })
+        | inr failed ↦ output_failed (record {
+          written = [];
+          bytes = listing lists.prog;
+          answer = listing_answer words link lists.prog is lists.compiled refl refl;
+          stops = (failed.count, failed.within, failed.written ∙ ap (λ (o : OutputView). o.written ++ take failed.count (listing lists.prog)) out ∙ ap (λ (l : List ℕ). l ++ take failed.count (listing lists.prog)) (sym (append-nil call.output.written)));
+          failures = failed.failures ∙ ap (λ (o : OutputView). o.failures + 1) out;
+          message = told (failed.told ∙ ap write_failed_message (first-name asked call));
+          status = failed.answered;
+        })
+      ]
+      | inr fails ↦
+          let P : Option Preparing → Type 0 = λ p. IsRefused p (refusal.Expression fails.fault) in
+          refused-run asked call r (refusal.Expression fails.fault) (subst P (sym is) fails.why) fails.tells.answered fails.tells.output (told fails.tells.told)
+    ]
+  where
+    out : output_of (first_job asked call) ≡ call.output
+    out = first-output asked call
+
+    told : {message : List ℕ} → runs.message ≡ message → IsTold call.tells call.messages message r.messages
+    told {message} same = told-as call.tells call.messages call.messages r.messages runs.message message same refl runs.told
+
+-- ---- all of it
+
+begins : (asked : Assignment) (call : Call) → IsPolicy asked.preparing asked.policy asked.policy → Begins asked call (first_job asked call)
+begins asked call policy = record {
+  work = record {
+    order = first-order asked.order (length (map fresh_view call.inputs));
+    policy = policy;
+    form = first-form call.names asked.writing call.output.written call.output.failures call.room;
+  };
+  names = refl;
+  failures = first-failures asked.writing call.output.written call.output.failures call.room;
+  never = first-never call.inputs;
+  err = refl;
+}
+
+filter-begins : (asked : Assignment) (call : Call) (rule : Rule) (count : Option ℕ) (programs : List Content) → IsPolicy asked.preparing asked.policy (Filter rule count) → Begins asked call (filtering rule count programs (first_job asked call))
+filter-begins asked call rule count programs policy = record {
+  work = record {
+    order = first-order asked.order (length (map fresh_view call.inputs));
+    policy = policy;
+    form = first-form call.names asked.writing call.output.written call.output.failures call.room;
+  };
+  names = refl;
+  failures = first-failures asked.writing call.output.written call.output.failures call.room;
+  never = first-never call.inputs;
+  err = refl;
+}
+
+-- the run of a job is a run of its call
+pub call-runs : (asked : Assignment) (call : Call) (r : RunResult) → RunsBy asked.preparing (map nothing_done call.inputs) call.output.written call.tells (first_job asked call) r → CommandRuns asked call r
+call-runs asked call r runs = by_preparing asked.preparing refl runs
+  where
+    by_preparing : (p : Option Preparing) → asked.preparing ≡ p → RunsBy p (map nothing_done call.inputs) call.output.written call.tells (first_job asked call) r → CommandRuns asked call r
+    by_preparing None is runs =
+        let P : Option Preparing → Type 0 = λ p. IsPolicy p asked.policy asked.policy in
+        packets-run asked call (first_job asked call) r (begins asked call (subst P (sym is) refl)) runs
+    by_preparing (Some (ReadsFilter filter)) is runs =
+        elim runs [
+          | inl filtered ↦
+              let P : Option Preparing → Type 0 = λ p. IsPolicy p asked.policy (Filter filtered.rule filter.count) in
+              packets-run asked call (filtering filtered.rule filter.count filtered.programs (first_job asked call)) r
+              (filter-begins asked call filtered.rule filter.count filtered.programs (subst P (sym is) (filtered.rule, filtered.is, refl))) filtered.runs
+          | inr refused ↦
+              let P : Option Preparing → Type 0 = λ p. IsRefused p refused.refusal in
+              refused-run asked call r refused.refusal (subst P (sym is) refused.why) refused.status_is refused.same refused.told
+        ]
+    by_preparing (Some (Compiles words link)) is runs = compile-run asked call r words link is runs

@@ -1,0 +1,152 @@
+-- What a run of a command leaves: its outcome on the whole inputs; or what it leaves where a device fails, or memory runs out.
+-- All of it is said by the call, and by what the run hands back.
+use Rattle.std.specs.Prelude.{◌≡◌, ◌⊎◌, ℕ, ◌+◌, Bool, false, List, [], ◌∷◌, ◌++◌, length, map, Option, None, Some}
+use Rattle.std.specs.List.{slice_get}
+use Rattle.cap_octet.specs.Device.{Stops}
+use Rattle.cap_octet.specs.declared.fault.Fault.{Fault}
+use Rattle.cap_octet.specs.declared.fault.Fault.TheVariants.{ReadFailed, NoMemory}
+use Rattle.cap_io.specs.Capture.{Placed, Items}
+use Rattle.cap_io.specs.Position.{IsCutShort}
+use Rattle.flt_bpf.specs.Listing.{listing}
+use Rattle.flt_bpf.specs.declared.insn.Insn.{Insn}
+use Rattle.flt_gen.specs.declared.link.Link.{Link}
+use Rattle.cap_filter.specs.declared.refusal.Refusal.{Refusal}
+use Rattle.cap_filter.specs.declared.refusal.Refusal.TheVariants as refusal
+use Rattle.cap_filter.specs.Compilation.{IsCompiled}
+use Rattle.cap_filter.specs.Expressions.{IsReasonFor}
+use Rattle.cap_filter.specs.FilterRules.{Rule, IsRule, IsWhy}
+use Rattle.cap_filter.specs.Messages.{fault_message, no_memory_message, refusal_message, refusal_status, write_failed_message}
+use Rattle.cap_filter.specs.Outcome.{IsTold}
+use Rattle.cap_inputs.specs.Fresh.{FreshInput}
+use Rattle.cap_inputs.specs.Sequence.{Event, Packet, InputItems, whole_input}
+use Rattle.cap_tools.specs.declared.output.Writing.{Writing}
+use Rattle.cap_tools.specs.declared.output.Writing.TheVariants as writing
+use Rattle.cap_tools.specs.Call.{Call, RunResult}
+use Rattle.cap_tools.specs.Outcome.{Form, AsCapture, AsReports, AsLines, Outcome, Work, IsNextEvent, AreAllEvents, closing_text, cut_at, first_link, outcome, progress_behind, text_behind}
+use Rattle.cap_tools.specs.Reports.{name_at}
+use Rattle.cap_tools.specs.Start.{Assignment, Preparing, ReadsFilter, Compiles}
+use Rattle.cap_tools.specs.Verdict.{Policy, Filter}
+
+-- ---- the work that a command asks
+
+-- the form in which packets or reports are written
+abbrev pub form_asked : (names : List (List ℕ)) → Writing → Form
+form_asked names (writing.Capture format) = AsCapture format
+form_asked names writing.Text = AsReports names
+form_asked names (writing.Lines options) = AsLines options
+
+-- By what its packets are judged: as the command asks; those of a print by the filter that its words, or its listing, are. A
+-- compilation has no packets.
+abbrev pub IsPolicy : Option Preparing → (asked policy : Policy) → Type 0
+IsPolicy None asked policy = policy ≡ asked
+IsPolicy (Some (ReadsFilter filter)) asked policy = (rule : Rule) × IsRule filter.words filter.code rule × (policy ≡ Filter rule filter.count)
+IsPolicy (Some (Compiles words link)) asked policy = ⊥
+
+pub record IsWork (asked : Assignment) (call : Call) (work : Work) : Type 0 where
+  pub order : work.order ≡ asked.order
+  pub policy : IsPolicy asked.preparing asked.policy work.policy
+  pub form : work.form ≡ form_asked call.names asked.writing
+
+abbrev pub whole_inputs : Call → List InputItems
+whole_inputs call = map (λ (input : FreshInput). whole_input input.text) call.inputs
+
+-- ---- the outcome of a command
+
+-- why the filter of a print, or the expression of a compilation, is refused
+abbrev pub IsRefused : Option Preparing → Refusal → Type 0
+IsRefused None why = ⊥
+IsRefused (Some (ReadsFilter filter)) why = IsWhy filter.words filter.code why
+IsRefused (Some (Compiles words link)) (refusal.Expression fault) = IsReasonFor words fault
+IsRefused (Some (Compiles words link)) why = ⊥
+
+abbrev pub refusal_outcome : Refusal → Outcome
+refusal_outcome why = record { output = []; messages = refusal_message why; status = refusal_status why }
+
+abbrev pub listing_outcome : List Insn → Outcome
+listing_outcome prog = record { output = listing prog; messages = []; status = 0 }
+
+-- what a command leaves where no device fails and there is memory
+pub data IsOutcome (asked : Assignment) (call : Call) : Outcome → Type 0 where
+  of_packets : (work : Work) → IsWork asked call work → IsOutcome asked call (outcome work call.names (whole_inputs call))
+  of_refusal : (why : Refusal) → IsRefused asked.preparing why → IsOutcome asked call (refusal_outcome why)
+  of_listing : (words : List ℕ) (link : Link) (prog : List Insn) → asked.preparing ≡ Some (Compiles words link) → IsCompiled words link prog → IsOutcome asked call (listing_outcome prog)
+
+-- The outcome is written behind what the output held, and reported. The output's device didn't fail.
+pub record HasLeft (call : Call) (o : Outcome) (r : RunResult) : Type 0 where
+  pub output : r.output.written ≡ call.output.written ++ o.output
+  pub failures : r.output.failures ≡ call.output.failures
+  pub message : IsTold call.tells call.messages o.messages r.messages
+  -- where all went well the messages' device isn't called
+  pub quiet : r.status ≡ 0 → r.messages ≡ call.messages
+  pub status : r.status ≡ o.status
+
+-- ---- an input is cut short
+
+-- its device failed, and it is one that may fail; or there was no memory for its next unit
+abbrev pub IsWhyCut : Fault → FreshInput → Type 0
+IsWhyCut fault input = ((fault ≡ ReadFailed) × (input.never_fails ≡ false)) ⊎ (fault ≡ NoMemory)
+
+-- The outcome is that of inputs one of which ends by this fault where one of its units would begin.
+pub record HasCutInput (call : Call) (work : Work) (r : RunResult) : Type 0 where
+  pub place : ℕ
+  pub input : FreshInput
+  pub among : slice_get call.inputs place ≡ Some input
+  pub fault : Fault
+  pub why : IsWhyCut fault input
+  pub held : Items
+  pub cut : IsCutShort input.text fault held
+  pub left : HasLeft call (outcome work call.names (cut_at (whole_inputs call) place held)) r
+
+-- ---- memory runs out
+
+-- behind these events there was no memory to write the next packet
+pub record HasLackedMemory (call : Call) (work : Work) (r : RunResult) : Type 0 where
+  pub events : List Event
+  pub input : ℕ
+  pub packet : Placed
+  pub next : IsNextEvent work (whole_inputs call) events (Packet input packet)
+  pub output : r.output.written ≡ call.output.written ++ text_behind work events
+  pub failures : r.output.failures ≡ call.output.failures
+  pub message : IsTold call.tells call.messages (fault_message (name_at call.names input) packet.offset NoMemory) r.messages
+  pub status : r.status ≡ 1
+
+-- there was no memory to begin: nothing is read, and nothing is written but a message
+pub record NeverBegan (call : Call) (r : RunResult) : Type 0 where
+  pub status_is : r.status ≡ 1
+  pub same : r.output ≡ call.output
+  pub told : IsTold call.tells call.messages no_memory_message r.messages
+
+-- ---- the output fails
+
+-- What is next behind what was written: what one event adds, or what ends the output.
+pub data IsNextAnswer (work : Work) (rs : List InputItems) (written bytes : List ℕ) : Type 0 where
+  by_event : (es : List Event) (e : Event) → IsNextEvent work rs es e → written ≡ text_behind work es
+      → text_behind work (es ++ e ∷ []) ≡ written ++ bytes → IsNextAnswer work rs written bytes
+  by_end : (es : List Event) → AreAllEvents work rs es → written ≡ text_behind work es
+      → bytes ≡ closing_text work.form (first_link rs) (progress_behind work es).packets → IsNextAnswer work rs written bytes
+
+-- it is a command's; that of a compilation is its listing
+pub data IsAnswer (asked : Assignment) (call : Call) (written bytes : List ℕ) : Type 0 where
+  packets_answer : (work : Work) → IsWork asked call work → IsNextAnswer work (whole_inputs call) written bytes → IsAnswer asked call written bytes
+  listing_answer : (words : List ℕ) (link : Link) (prog : List Insn) → asked.preparing ≡ Some (Compiles words link) → IsCompiled words link prog
+      → written ≡ [] → bytes ≡ listing prog → IsAnswer asked call written bytes
+
+-- the output's device failed once, behind a prefix of one answer, not the whole
+pub record HasLostOutput (asked : Assignment) (call : Call) (r : RunResult) : Type 0 where
+  pub written : List ℕ
+  pub bytes : List ℕ
+  pub answer : IsAnswer asked call written bytes
+  pub stops : Stops (call.output.written ++ written) bytes r.output.written
+  pub failures : r.output.failures ≡ call.output.failures + 1
+  pub message : IsTold call.tells call.messages (write_failed_message (name_at call.names (length call.inputs))) r.messages
+  pub status : r.status ≡ 1
+
+-- ---- all of it
+
+-- A run leaves the outcome of its command; or an input was cut short, memory ran out, or the output failed.
+pub data CommandRuns (asked : Assignment) (call : Call) (r : RunResult) : Type 0 where
+  ends : (o : Outcome) → IsOutcome asked call o → HasLeft call o r → CommandRuns asked call r
+  input_cut : (work : Work) → IsWork asked call work → HasCutInput call work r → CommandRuns asked call r
+  no_memory : (work : Work) → IsWork asked call work → HasLackedMemory call work r → CommandRuns asked call r
+  output_failed : HasLostOutput asked call r → CommandRuns asked call r
+  never_began : NeverBegan call r → CommandRuns asked call r
