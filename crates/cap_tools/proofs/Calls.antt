@@ -10,7 +10,6 @@ use Rattle.cap_octet.specs.declared.fault.Fault.{Fault}
 use Rattle.cap_io.specs.Capture.{Placed, kind_of}
 use Rattle.cap_io.specs.Position.{IsCutShort}
 use Rattle.flt_gen.specs.declared.link.Link.{Link}
-use Rattle.flt_words.specs.declared.fault.ExprFault.{ExprFault}
 use Rattle.flt_words.specs.declared.fault.ExprFault.TheVariants as expression
 use Rattle.flt_bpf.specs.declared.fault.ListingFault.TheVariants as listing_fault
 use Rattle.flt_bpf.specs.Listing.{listing}
@@ -20,16 +19,19 @@ use Rattle.cap_filter.specs.declared.refusal.Refusal.TheVariants as refusal
 use Rattle.cap_filter.specs.Messages.{fault_message, refusal_message, refusal_status, write_failed_message}
 use Rattle.cap_filter.specs.Outcome.{OutputView, IsTold, Runs, seen}
 use Rattle.cap_inputs.specs.Fresh.{FreshInput, fresh_view, nothing_done, first_schedule}
-use Rattle.cap_inputs.specs.Inputs.{InputView, InputsView, InputPast, input_after, never_failing, ordering_of}
-use Rattle.cap_inputs.specs.Sequence.{InputItems, Event, Packet, InputEnd, Complete, PacketOrder, InTurn, ByTime, whole_input}
+use Rattle.cap_inputs.specs.Inputs.{InputView, InputsView, InputPast, input_after, never_failing, offset_at, ordering_of}
+use Rattle.cap_inputs.specs.Sequence.{InputItems, Event, Packet, InputEnd, SequenceEnd, Complete, FaultIn, PacketOrder, InTurn, ByTime, whole_input}
 use Rattle.cap_tools.specs.declared.output.Writing.{Writing}
 use Rattle.cap_tools.specs.declared.output.Writing.TheVariants as writing
 use Rattle.cap_tools.specs.Call.{Call, RunResult}
 use Rattle.cap_tools.specs.Commands.{RunsBy}
 use Rattle.cap_tools.specs.FirstStep.{filtering, output_of, output_name}
-use Rattle.cap_tools.specs.Jobs.{JobView, JobRuns, IsOutCut, LacksMemory, LosesOutput, first_job}
-use Rattle.cap_tools.specs.Machine.{MachineState, PacketsDecided, NextPacket, NextReport, NextClosing, PassesAs, asks_report, failures_by, form_of, progress_of, texts, wholes_of, work_of, written_by}
-use Rattle.cap_tools.specs.Outcome.{Form, Outcome, Progress, Work, IsNextEvent, apply_event, apply_verdict, closing_text, end_input, cut_at, decide_unless, first_link, form_refuses, outcome, packet_bytes, report_bytes, text_behind, text_of_progress}
+use Rattle.cap_tools.specs.Jobs.{JobView, JobRuns, end_status, end_text, first_job}
+use Rattle.cap_tools.specs.declared.step.JobEnd.{JobEnd}
+use Rattle.cap_tools.specs.declared.step.JobEnd.TheVariants as end
+use Rattle.cap_io.specs.Source.{SourceView}
+use Rattle.cap_tools.specs.Machine.{MachineState, PacketsDecided, Comes, EndLeaves, EndsByCut, NextPacket, NextReport, NextClosing, PassesAs, StopsWriting, WantsMemory, asks_report, failures_by, form_of, progress_of, texts, wholes_of, work_of, written_by}
+use Rattle.cap_tools.specs.Outcome.{Form, Outcome, Progress, Work, IsNextEvent, apply_event, apply_verdict, closing_text, end_input, cut_at, decide_unless, first_link, form_refuses, message, outcome, packet_bytes, report_bytes, status, text_behind, text_of_progress}
 use Rattle.cap_tools.specs.Output.{failures_to, form_to, target_at, written_to}
 use Rattle.cap_tools.specs.Reports.{name_at}
 use Rattle.cap_tools.specs.Run.{CommandRuns, HasCutInput, HasLackedMemory, HasLeft, HasLostOutput, IsNextAnswer, IsPolicy, IsRefused, IsWork, by_end, by_event, ends, form_asked, input_cut, listing_answer, listing_outcome, no_memory, of_listing, of_packets, of_refusal, output_failed, packets_answer, refusal_outcome, whole_inputs}
@@ -38,7 +40,7 @@ use Rattle.cap_filter.specs.FilterRules.{Rule}
 use Rattle.flt_bpf.specs.Content.{Content}
 use Rattle.cap_io.specs.declared.source.Kind.{Kind}
 use Rattle.cap_tools.specs.Verdict.{Policy, Edit, Filter, KeepAll, Count, SelectorState, Verdict, Pass, PassLast, Skip, Refuse, judge}
-use Rattle.cap_tools.proofs.Ends.{same-work}
+use Rattle.cap_tools.proofs.Ends.{offset-here, same-work}
 use Rattle.cap_tools.proofs.Once.{packet-more, report-more}
 use Rattle.cap_tools.proofs.Outcomes.{progress-next}
 use Rattle.cap_tools.proofs.Outputs.{drained-text}
@@ -115,17 +117,17 @@ get-at [] ys x i is = rw (← is) refl
 get-at (y ∷ xs) ys x i is = rw (← is) (get-at xs ys x (length xs) refl)
 
 -- what a map has at a place comes of what is there
-record Comes {A B : Type 0} (f : A → B) (o : Option A) (b : B) : Type 0 where
+record From {A B : Type 0} (f : A → B) (o : Option A) (b : B) : Type 0 where
   pub from : A
   pub is : o ≡ Some from
   pub same : f from ≡ b
 
-comes-of : {A B : Type 0} (f : A → B) (o : Option A) (b : B) → option_map f o ≡ Some b → Comes f o b
+comes-of : {A B : Type 0} (f : A → B) (o : Option A) (b : B) → option_map f o ≡ Some b → From f o b
 comes-of f None b is = (cc)
 comes-of f (Some a) b is = record { from = a; is = refl; same = (cc) }
 
 -- where one of two maps of a list has these at a place
-at-place : {A B : Type 0} (f : A → B) (xs : List A) (ys : List B) (i : ℕ) (b : B) → ys ≡ map f xs → slice_get ys i ≡ Some b → Comes f (slice_get xs i) b
+at-place : {A B : Type 0} (f : A → B) (xs : List A) (ys : List B) (i : ℕ) (b : B) → ys ≡ map f xs → slice_get ys i ≡ Some b → From f (slice_get xs i) b
 at-place f xs ys i b is has = comes-of f (slice_get xs i) b (sym (slice_get-map f xs i) ∙ ap (λ l. slice_get l i) (sym is) ∙ has)
 
 -- ---- what the next answer adds
@@ -199,23 +201,7 @@ same-count ss before old new bytes d next =
 
 -- what its run leaves
 packets-run : (asked : Assignment) (call : Call) (first : JobView) (r : RunResult) → Begins asked call first → JobRuns (map nothing_done call.inputs) call.output.written call.tells first r → CommandRuns asked call r
-packets-run asked call first r b runs =
-    elim runs.ends [
-      | inl whole ↦ ends (outcome w call.names (whole_inputs call)) (of_packets w b.work) (record {
-        output = whole.written_is ∙ ap (λ (o : Outcome). before ++ o.output) (all-of (wholes_of ss) (whole_inputs call) first-is);
-        failures = whole.device ∙ b.failures;
-        message = reported (whole.text_is ∙ ap (λ (o : Outcome). o.messages) (all-of (wholes_of ss) (whole_inputs call) first-is));
-        quiet = λ zero. runs.quiet zero ∙ b.err;
-        status = whole.status_is ∙ ap (λ (o : Outcome). o.status) (all-of (wholes_of ss) (whole_inputs call) first-is);
-      })
-      | inr other ↦ elim other [
-        | inl cut ↦ input_cut w b.work (cuts cut)
-        | inr more ↦ elim more [
-          | inl lacks ↦ no_memory w b.work (lacks-memory lacks)
-          | inr loses ↦ output_failed (loses-output loses)
-        ]
-      ]
-    ]
+packets-run asked call first r b runs = by_end runs.end refl runs.leaves
   where
     ss : List InputPast
     ss = map nothing_done call.inputs
@@ -247,8 +233,11 @@ packets-run asked call first r b runs =
     all-of : (rs rs' : List InputItems) → rs ≡ rs' → outcome w names rs ≡ outcome w call.names rs'
     all-of rs rs' is = ap (λ (n : List (List ℕ)). outcome w n rs) b.names ∙ ap (λ (l : List InputItems). outcome w call.names l) is
 
-    reported : {message : List ℕ} → runs.text ≡ message → IsTold call.tells call.messages message r.messages
-    reported {message} is = told-as call.tells first.err call.messages r.messages runs.text message is b.err runs.told
+    text : List ℕ
+    text = end_text names runs.last.inputs.cursors runs.end
+
+    reported : {message : List ℕ} → text ≡ message → IsTold call.tells call.messages message r.messages
+    reported {message} is = told-as call.tells first.err call.messages r.messages text message is b.err runs.told
 
     so-far : written_by old ≡ before ++ text_behind w d.events
     so-far =
@@ -259,81 +248,105 @@ packets-run asked call first r b runs =
     unfailed : failures_by old ≡ call.output.failures
     unfailed = runs.progress.output ∙ b.failures
 
-    cuts : IsOutCut d names runs.last runs.text r.status → HasCutInput call w r
-    cuts cut =
-        let items = cut.cut.held in
-        let whole : outcome (work_of old) names (cut_at (wholes_of runs.progress.past) cut.input items) ≡ outcome w call.names (cut_at (whole_inputs call) cut.input items) =
-        ap (λ (v : Work). outcome v names (cut_at (wholes_of runs.progress.past) cut.input items)) work-is
-        ∙ all-of (cut_at (wholes_of runs.progress.past) cut.input items) (cut_at (whole_inputs call) cut.input items) (ap (λ (l : List InputItems). cut_at l cut.input items) wholes-are) in
-        let text : Comes (λ (o : FreshInput). o.text) (slice_get call.inputs cut.input) cut.cut.past.text =
-        at-place (λ (o : FreshInput). o.text) call.inputs (texts runs.progress.past) cut.input cut.cut.past.text (runs.progress.texts ∙ first-texts call.inputs)
-        (slice_get-map (λ (s : InputPast). s.text) runs.progress.past cut.input
-        ∙ ap (option_map (λ (s : InputPast). s.text)) (ap (λ (l : List InputPast). slice_get l cut.input) cut.cut.among ∙ get-at cut.cut.front cut.cut.back cut.cut.past cut.input cut.cut.place)) in
-        let never : Comes (λ (o : FreshInput). o.never_fails) (slice_get call.inputs cut.input) cut.cut.cursor.source.never_fails =
-        at-place (λ (o : FreshInput). o.never_fails) call.inputs (never_failing old.inputs.cursors) cut.input cut.cut.cursor.source.never_fails (runs.progress.never ∙ b.never)
-        (slice_get-map (λ (h : InputView). h.source.never_fails) old.inputs.cursors cut.input
-        ∙ ap (option_map (λ (h : InputView). h.source.never_fails)) (ap (λ (l : List InputView). slice_get l cut.input) cut.cut.cursor_is.splits ∙ get-at cut.cut.cursor_is.front cut.cut.cursor_is.back cut.cut.cursor cut.input cut.cut.cursor_is.place)) in
-        let same : text.from ≡ never.from = (let e = sym text.is ∙ never.is in cc) in
-        let may : text.from.never_fails ≡ cut.cut.cursor.source.never_fails = ap (λ (o : FreshInput). o.never_fails) same ∙ never.same in
-        let T : List ℕ → Type 0 = λ l. IsCutShort l cut.fault items in
+    -- the outcome of inputs with these items is left
+    left : (rs rs' : List InputItems) (close : SequenceEnd) → rs ≡ rs' → Comes rs d runs.last close → text ≡ message names (Some close) → end_status runs.end ≡ status (Some close)
+        → HasLeft call (outcome w call.names rs') r
+    left rs rs' close same comes says is =
+        let whole : outcome (work_of old) names rs ≡ outcome w call.names rs' = ap (λ (v : Work). outcome v names rs) work-is ∙ all-of rs rs' same in
         record {
-          place = cut.input;
-          input = text.from;
-          among = text.is;
-          fault = cut.fault;
-          why = elim cut.cut.why [ inl failed ↦ inl (failed.0, may ∙ failed.2) | inr full ↦ inr full ];
-          held = items;
-          cut = subst T (sym text.same) cut.cut.cut;
-          left = record {
-            output = runs.written ∙ cut.out.written ∙ ap (λ (o : Outcome). before ++ o.output) whole;
-            failures = runs.failures ∙ cut.out.device ∙ unfailed;
-            message = reported (cut.out.text_is ∙ ap (λ (o : Outcome). o.messages) whole);
-            quiet = λ zero. runs.quiet zero ∙ b.err;
-            status = cut.out.status_is ∙ ap (λ (o : Outcome). o.status) whole;
-          };
+          output = runs.written ∙ comes.written ∙ ap (λ (o : Outcome). before ++ o.output) whole;
+          failures = runs.failures ∙ comes.device ∙ unfailed;
+          message = reported (says ∙ ap (message names) (sym comes.ends) ∙ ap (λ (o : Outcome). o.messages) whole);
+          quiet = λ zero. runs.quiet zero ∙ b.err;
+          status = runs.status_is ∙ is ∙ ap status (sym comes.ends) ∙ ap (λ (o : Outcome). o.status) whole;
         }
 
-    lacks-memory : LacksMemory d names runs.last runs.text r.status → HasLackedMemory call w r
-    lacks-memory lacks =
-        let e : Event = Packet lacks.input lacks.wants.packet in
+    whole-ends : (close : SequenceEnd) → Comes (wholes_of runs.progress.past) d runs.last close → text ≡ message names (Some close) → end_status runs.end ≡ status (Some close) → CommandRuns asked call r
+    whole-ends close comes says is = ends (outcome w call.names (whole_inputs call)) (of_packets w b.work) (left (wholes_of runs.progress.past) (whole_inputs call) close wholes-are comes says is)
+
+    says : (input : ℕ) (fault : Fault) (offset : ℕ) → runs.end ≡ end.FaultIn input fault → offset_at runs.last.inputs.cursors input ≡ offset → text ≡ fault_message (name_at names input) offset fault
+    says input fault offset is place = ap (end_text names runs.last.inputs.cursors) is ∙ ap (λ n. fault_message (name_at names input) n fault) place
+
+    cuts : (input : ℕ) (fault : Fault) (after : SourceView) → runs.end ≡ end.FaultIn input fault → offset_at runs.last.inputs.cursors input ≡ after.offset → EndsByCut d runs.last input fault after → HasCutInput call w r
+    cuts input fault after is place cut =
+        let items = cut.held in
+        let text_of : From (λ (o : FreshInput). o.text) (slice_get call.inputs input) cut.past.text =
+        at-place (λ (o : FreshInput). o.text) call.inputs (texts runs.progress.past) input cut.past.text (runs.progress.texts ∙ first-texts call.inputs)
+        (slice_get-map (λ (s : InputPast). s.text) runs.progress.past input
+        ∙ ap (option_map (λ (s : InputPast). s.text)) (ap (λ (l : List InputPast). slice_get l input) cut.among ∙ get-at cut.front cut.back cut.past input cut.place)) in
+        let never : From (λ (o : FreshInput). o.never_fails) (slice_get call.inputs input) cut.cursor.source.never_fails =
+        at-place (λ (o : FreshInput). o.never_fails) call.inputs (never_failing old.inputs.cursors) input cut.cursor.source.never_fails (runs.progress.never ∙ b.never)
+        (slice_get-map (λ (h : InputView). h.source.never_fails) old.inputs.cursors input
+        ∙ ap (option_map (λ (h : InputView). h.source.never_fails)) (ap (λ (l : List InputView). slice_get l input) cut.cursor_is.splits ∙ get-at cut.cursor_is.front cut.cursor_is.back cut.cursor input cut.cursor_is.place)) in
+        let same : text_of.from ≡ never.from = (let e = sym text_of.is ∙ never.is in cc) in
+        let may : text_of.from.never_fails ≡ cut.cursor.source.never_fails = ap (λ (o : FreshInput). o.never_fails) same ∙ never.same in
+        let T : List ℕ → Type 0 = λ l. IsCutShort l fault items in
+        record {
+          place = input;
+          input = text_of.from;
+          among = text_of.is;
+          fault = fault;
+          why = elim cut.why [ inl failed ↦ inl (failed.0, may ∙ failed.2) | inr full ↦ inr full ];
+          held = items;
+          cut = subst T (sym text_of.same) cut.cut;
+          left = left (cut_at (wholes_of runs.progress.past) input items) (cut_at (whole_inputs call) input items) (FaultIn input fault after.offset)
+              (ap (λ (l : List InputItems). cut_at l input items) wholes-are) cut.comes (says input fault after.offset is place) (ap end_status is);
+        }
+
+    lacks-memory : (input : ℕ) (fault : Fault) (after : SourceView) → runs.end ≡ end.FaultIn input fault → offset_at runs.last.inputs.cursors input ≡ after.offset → WantsMemory d runs.last input fault after → HasLackedMemory call w r
+    lacks-memory input fault after is place wants =
+        let e : Event = Packet input wants.packet in
         let V : Work → Type 0 = λ v. IsNextEvent v (wholes_of runs.progress.past) d.events e in
         let L : List InputItems → Type 0 = λ l. IsNextEvent w l d.events e in
         record {
           events = d.events;
-          input = lacks.input;
-          packet = lacks.wants.packet;
-          next = subst L wholes-are (subst V work-is lacks.wants.comes);
-          output = runs.written ∙ lacks.wants.written ∙ so-far;
-          failures = runs.failures ∙ lacks.wants.device ∙ unfailed;
-          message = reported (lacks.text_is
-              ∙ ap (λ (n : List (List ℕ)). fault_message (name_at n lacks.input) lacks.wants.packet.offset lacks.fault) b.names
-              ∙ ap (fault_message (name_at call.names lacks.input) lacks.wants.packet.offset) lacks.wants.why);
-          status = lacks.status_is;
+          input = input;
+          packet = wants.packet;
+          next = subst L wholes-are (subst V work-is wants.comes);
+          output = runs.written ∙ wants.written ∙ so-far;
+          failures = runs.failures ∙ wants.device ∙ unfailed;
+          message = reported (says input fault wants.packet.offset is (place ∙ wants.place)
+              ∙ ap (λ (n : List (List ℕ)). fault_message (name_at n input) wants.packet.offset fault) b.names
+              ∙ ap (fault_message (name_at call.names input) wants.packet.offset) wants.why);
+          status = runs.status_is ∙ ap end_status is;
         }
 
-    loses-output : LosesOutput d names runs.last runs.text r.status → HasLostOutput asked call r
-    loses-output loses =
-        let bytes : List ℕ = loses.stops.bytes in
+    loses-output : runs.end ≡ end.OutputFailed → StopsWriting d runs.last → HasLostOutput asked call r
+    loses-output is stops =
+        let bytes : List ℕ = stops.bytes in
         let V : Work → Type 0 = λ v. IsNextAnswer v (wholes_of runs.progress.past) (text_behind v d.events) bytes in
         let L : List InputItems → Type 0 = λ l. IsNextAnswer w l (text_behind w d.events) bytes in
         let S : List ℕ → Type 0 = λ l. Stops l bytes (written_by runs.last) in
         let R : List ℕ → Type 0 = λ l. Stops (before ++ text_behind w d.events) bytes l in
         let count : length runs.last.inputs.cursors ≡ length call.inputs =
-        same-count runs.progress.past before old runs.last bytes d loses.stops.answer
+        same-count runs.progress.past before old runs.last bytes d stops.answer
         ∙ sym (length-map old.inputs.cursors (λ (h : InputView). h.source.never_fails))
         ∙ ap length (runs.progress.never ∙ b.never)
         ∙ length-map call.inputs (λ (o : FreshInput). o.never_fails) in
         record {
           written = text_behind w d.events;
           bytes = bytes;
-          answer = packets_answer w b.work (subst L wholes-are (subst V work-is (next-answer runs.progress.past before old runs.last bytes d loses.stops.answer)));
-          stops = subst R (sym runs.written) (subst S so-far loses.stops.stops);
-          failures = runs.failures ∙ loses.stops.failures ∙ ap (λ n. n + 1) unfailed;
-          message = reported (loses.text_is
+          answer = packets_answer w b.work (subst L wholes-are (subst V work-is (next-answer runs.progress.past before old runs.last bytes d stops.answer)));
+          stops = subst R (sym runs.written) (subst S so-far stops.stops);
+          failures = runs.failures ∙ stops.failures ∙ ap (λ n. n + 1) unfailed;
+          message = reported (ap (end_text names runs.last.inputs.cursors) is
               ∙ ap (λ (n : List (List ℕ)). write_failed_message (name_at n (length runs.last.inputs.cursors))) b.names
               ∙ ap (λ n. write_failed_message (name_at call.names n)) count);
-          status = loses.status_is;
+          status = runs.status_is ∙ ap end_status is;
         }
+
+    by_end : (e : JobEnd) → runs.end ≡ e → EndLeaves d e runs.last → CommandRuns asked call r
+    by_end end.Complete is comes = whole-ends Complete comes (ap (end_text names runs.last.inputs.cursors) is) (ap end_status is)
+    by_end (end.FaultIn input fault) is breaks =
+        let place = offset-here runs.last.inputs.cursors input breaks.cursor breaks.among in
+        elim breaks.why [
+          | inl comes ↦ whole-ends (FaultIn input fault breaks.cursor.source.offset) comes (says input fault breaks.cursor.source.offset is place) (ap end_status is)
+          | inr other ↦ elim other [
+            | inl cut ↦ input_cut w b.work (cuts input fault breaks.cursor.source is place cut)
+            | inr wants ↦ no_memory w b.work (lacks-memory input fault breaks.cursor.source is place wants)
+          ]
+        ]
+    by_end end.OutputFailed is stops = output_failed (loses-output is stops)
 
 -- ---- a job that is refused, or lists a program
 

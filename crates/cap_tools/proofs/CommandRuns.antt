@@ -14,11 +14,10 @@ use Rattle.cap_tools.specs.declared.job.Turn.TheVariants as turn
 use Rattle.cap_inputs.specs.Inputs.{InputPast}
 use Rattle.cap_tools.specs.Machine.{written_by, failures_by}
 use Rattle.cap_tools.specs.Call.{RunResult}
-use Rattle.cap_tools.specs.Jobs.{JobView, Decided, IsUnderWay, JobGives, JobRuns, EndsAs, EndsJob}
+use Rattle.cap_tools.specs.Jobs.{JobView, Decided, IsUnderWay, JobGives, JobRuns, EndsJob, end_text}
 use Rattle.cap_tools.specs.FirstStep.{filtering, output_of, output_name}
 use Rattle.cap_tools.specs.Start.{FilterAsked, Preparing, ReadsFilter, Compiles}
 use Rattle.cap_tools.specs.Commands.{GivesBy, DecidedBy, RunsBy, ListsSome, RefusesExpression}
-use Rattle.cap_tools.proofs.Ends.{ends-whole}
 use Rattle.cap_tools.proofs.Runs.{goes-on}
 
 -- the job whose filter is read
@@ -101,19 +100,20 @@ under-more tells first job new ss before gives d prepared done names policy (goe
 ended : (tells : Bool) (from job new : JobView) (ss : List InputPast) (before : List ℕ) (r : RunResult) (progress : IsUnderWay ss before from job) → job.err ≡ from.err → job.machine.output.names ≡ from.machine.output.names
     → EndsJob tells job r.status new → r.output.written ≡ written_by new.machine → r.output.failures ≡ failures_by new.machine → r.messages ≡ new.err → JobRuns ss before tells from r
 ended tells from job new ss before r progress same names ends written failures is =
-    let N : List (List ℕ) → Type 0 = λ l. EndsAs progress.decided.packets l new.machine ends.text r.status in
-    let F : OutputView → Type 0 = λ v. IsTold tells v ends.text new.err in
-    let T : OutputView → Type 0 = λ v. IsTold tells from.err ends.text v in
+    let N : List (List ℕ) → Type 0 = λ l. IsTold tells job.err (end_text l new.machine.inputs.cursors ends.end) new.err in
+    let F : OutputView → Type 0 = λ v. IsTold tells v (end_text from.machine.output.names new.machine.inputs.cursors ends.end) new.err in
+    let T : OutputView → Type 0 = λ v. IsTold tells from.err (end_text from.machine.output.names new.machine.inputs.cursors ends.end) v in
     record {
       old = job;
       last = new.machine;
       progress = progress;
-      text = ends.text;
-      ends = ends-whole ss before from.machine.output.names from job new.machine ends.text r progress written failures (subst N names (ends.ends progress.past before progress.decided.packets));
+      end = ends.end;
+      leaves = ends.leaves progress.past before progress.decided.packets;
       written = written;
       failures = failures;
-      told = subst T (sym is) (subst F same ends.told);
+      told = subst T (sym is) (subst F same (subst N names ends.told));
       quiet = λ zero. is ∙ ends.quiet zero ∙ same;
+      status_is = ends.status_is;
     }
 
 output-is : (new : JobView) (out : OutputView) → out.written ≡ written_by new.machine → out.failures ≡ failures_by new.machine → out ≡ output_of new

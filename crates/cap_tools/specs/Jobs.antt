@@ -1,24 +1,20 @@
 -- What a contract sees of a whole job, with its messages, and how it ends.
-use Rattle.std.specs.Prelude.{◌≡◌, ◌⊎◌, ℕ, ◌+◌, ◌≤◌, Bool, true, false, List, [], ◌++◌, length, map, Option, None, Some}
-use Rattle.cap_octet.specs.declared.fault.Fault.{Fault}
+use Rattle.std.specs.Prelude.{◌≡◌, ℕ, ◌+◌, ◌≤◌, Bool, true, false, List, [], length, Option, None, Some}
 use Rattle.cap_filter.specs.Messages.{fault_message, write_failed_message}
 use Rattle.cap_filter.specs.Outcome.{OutputView, IsTold}
 use Rattle.cap_tools.specs.declared.step.JobEnd.{JobEnd}
 use Rattle.cap_tools.specs.declared.step.JobEnd.TheVariants as end
 use Rattle.cap_tools.specs.declared.job.Turn.{Turn}
 use Rattle.cap_tools.specs.declared.job.Turn.TheVariants as turn
-use Rattle.cap_inputs.specs.Sequence.{InputItems}
 use Rattle.cap_tools.specs.Output.{JobOutputView, target_at}
 use Rattle.cap_tools.specs.Start.{Assignment, Preparing}
 use Rattle.cap_tools.specs.Selector.{HavePrograms, SelectorView, state_with}
 use Rattle.cap_tools.specs.Reports.{name_at, nothing_counted}
-use Rattle.cap_tools.specs.Outcome.{Outcome, cut_at, first_link, outcome, outcome_of_texts}
-use Rattle.cap_inputs.specs.Inputs.{InputView, InputsView, InputPast, IsInput, most_steps, ordering_of, offset_at}
+use Rattle.cap_inputs.specs.Inputs.{InputView, InputsView, InputPast, most_steps, ordering_of, offset_at}
 use Rattle.cap_inputs.specs.Fresh.{fresh_inputs}
-use Rattle.cap_io.specs.Source.{SourceView}
 use Rattle.cap_tools.specs.Call.{Call, RunResult}
 use Rattle.flt_bpf.specs.Content.{Content}
-use Rattle.cap_tools.specs.Machine.{MachineState, AppendsOnce, PacketsDecided, GoesOn, EndsByCut, WantsMemory, StopsWriting, form_of, written_by, failures_by, texts, progress_of, progress_over, wholes_of, work_of}
+use Rattle.cap_tools.specs.Machine.{MachineState, PacketsDecided, GoesOn, EndLeaves, StepGives, form_of, written_by, failures_by, texts}
 use Rattle.cap_inputs.specs.Inputs.{never_failing}
 
 -- ---- the view
@@ -84,58 +80,17 @@ end_status end.Complete = 0
 end_status (end.FaultIn input fault) = 1
 end_status end.OutputFailed = 1
 
--- output, message and status are those of inputs with these items, and the output's device didn't fail
-pub record IsOut {ss : List InputPast} {before : List ℕ} {old : MachineState} (rs : List InputItems) (d : PacketsDecided ss before old) (names : List (List ℕ)) (new : MachineState) (text : List ℕ) (status : ℕ) : Type 0 where
-  pub written : written_by new ≡ before ++ (outcome (work_of old) names rs).output
-  pub once : AppendsOnce (first_link rs) (progress_of d) (progress_over old rs) old.output new.output
-  pub device : failures_by new ≡ failures_by old
-  pub text_is : text ≡ (outcome (work_of old) names rs).messages
-  pub status_is : status ≡ (outcome (work_of old) names rs).status
-
--- an input is cut short: its device failed in this step, or there was no memory for its next unit
-pub record IsOutCut {ss : List InputPast} {before : List ℕ} {old : MachineState} (d : PacketsDecided ss before old) (names : List (List ℕ)) (new : MachineState) (text : List ℕ) (status : ℕ) : Type 0 where
-  pub input : ℕ
-  pub fault : Fault
-  -- as this step left it
-  pub cursor : InputView
-  pub among : IsInput new.inputs.cursors input cursor
-  pub cut : EndsByCut d new input fault cursor.source
-  pub out : IsOut (cut_at (wholes_of ss) input cut.held) d names new text status
-
--- there was no memory to write a packet: the output stays
-pub record LacksMemory {ss : List InputPast} {before : List ℕ} {old : MachineState} (d : PacketsDecided ss before old) (names : List (List ℕ)) (new : MachineState) (text : List ℕ) (status : ℕ) : Type 0 where
-  pub input : ℕ
-  pub fault : Fault
-  pub after : SourceView
-  pub wants : WantsMemory d new input fault after
-  pub text_is : text ≡ fault_message (name_at names input) wants.packet.offset fault
-  pub status_is : status ≡ 1
-
--- the output's device failed
-pub record LosesOutput {ss : List InputPast} {before : List ℕ} {old : MachineState} (d : PacketsDecided ss before old) (names : List (List ℕ)) (new : MachineState) (text : List ℕ) (status : ℕ) : Type 0 where
-  pub stops : StopsWriting d new
-  pub text_is : text ≡ write_failed_message (name_at names (length new.inputs.cursors))
-  pub status_is : status ≡ 1
-
-abbrev pub EndsElse : {ss : List InputPast} {before : List ℕ} {old : MachineState} → PacketsDecided ss before old → List (List ℕ) → MachineState → List ℕ → ℕ → Type 0
-EndsElse {ss} {before} {old} d names new text status =
-    IsOutCut d names new text status ⊎ LacksMemory d names new text status ⊎ LosesOutput d names new text status
-
-abbrev pub EndsAs : {ss : List InputPast} {before : List ℕ} {old : MachineState} → PacketsDecided ss before old → List (List ℕ) → MachineState → List ℕ → ℕ → Type 0
-EndsAs {ss} {before} {old} d names new text status = IsOut (wholes_of ss) d names new text status ⊎ EndsElse d names new text status
-
 -- ---- a step
 
-abbrev pub Ends : List (List ℕ) → MachineState → MachineState → List ℕ → ℕ → Type 0
-Ends names old new text status = (ss : List InputPast) (before : List ℕ) (d : PacketsDecided ss before old) → EndsAs d names new text status
-
--- a message that can't be written is lost
+-- A step that ends a job ends it in one way. Its message and its status are those of the way; a message that can't be written
+-- is lost.
 pub record EndsJob (tells : Bool) (old : JobView) (status : ℕ) (new : JobView) : Type 0 where
-  pub text : List ℕ
-  pub ends : Ends old.machine.output.names old.machine new.machine text status
-  pub told : IsTold tells old.err text new.err
+  pub end : JobEnd
+  pub leaves : StepGives old.machine (Some end) new.machine
+  pub told : IsTold tells old.err (end_text old.machine.output.names new.machine.inputs.cursors end) new.err
   -- where all went well nothing is reported
   pub quiet : status ≡ 0 → new.err ≡ old.err
+  pub status_is : status ≡ end_status end
 
 -- it goes on, and what held of it holds again, its programs included
 pub record StaysDecided {ss : List InputPast} {before : List ℕ} {old : JobView} (d : Decided ss before old) (new : JobView) : Type 0 where
@@ -175,22 +130,16 @@ pub record IsUnderWay (ss : List InputPast) (before : List ℕ) (first j : JobVi
   -- an input that never fails is cut short by no failure
   pub never : never_failing j.machine.inputs.cursors ≡ never_failing first.machine.inputs.cursors
 
--- output, message and status are those of this outcome, and the output's device didn't fail
-pub record IsOutOf (o : Outcome) (before : List ℕ) (failures : ℕ) (text : List ℕ) (r : RunResult) : Type 0 where
-  pub written_is : r.output.written ≡ before ++ o.output
-  pub device : r.output.failures ≡ failures
-  pub text_is : text ≡ o.messages
-  pub status_is : r.status ≡ o.status
-
--- All that comes of the inputs was written and told; or something failed in the last step, behind steps that went on. The
--- output and the messages' device are handed back as that step left them.
+-- The last step ended the job in one way, behind steps that went on. The output and the messages' device are handed back as
+-- that step left them.
 pub record JobRuns (ss : List InputPast) (before : List ℕ) (tells : Bool) (first : JobView) (r : RunResult) : Type 0 where
   pub old : JobView
   pub last : MachineState
   pub progress : IsUnderWay ss before first old
-  pub text : List ℕ
-  pub ends : IsOutOf (outcome_of_texts (work_of first.machine) first.machine.output.names (texts ss)) before (failures_by first.machine) text r ⊎ EndsElse progress.decided.packets first.machine.output.names last text r.status
+  pub end : JobEnd
+  pub leaves : EndLeaves progress.decided.packets end last
   pub written : r.output.written ≡ written_by last
   pub failures : r.output.failures ≡ failures_by last
-  pub told : IsTold tells first.err text r.messages
+  pub told : IsTold tells first.err (end_text first.machine.output.names last.inputs.cursors end) r.messages
   pub quiet : r.status ≡ 0 → r.messages ≡ first.err
+  pub status_is : r.status ≡ end_status end

@@ -1,6 +1,6 @@
 -- What a run of a command leaves: its outcome on the whole inputs; or what it leaves where a device fails, or memory runs out.
 -- All of it is said by the call, and by what the run hands back.
-use Rattle.std.specs.Prelude.{◌≡◌, ◌⊎◌, ℕ, ◌+◌, Bool, false, List, [], ◌∷◌, ◌++◌, length, map, Option, None, Some}
+use Rattle.std.specs.Prelude.{◌≡◌, ◌⊎◌, ℕ, ◌+◌, false, List, [], ◌∷◌, ◌++◌, length, map, Option, None, Some}
 use Rattle.std.specs.List.{slice_get}
 use Rattle.cap_octet.specs.Device.{Stops}
 use Rattle.cap_octet.specs.declared.fault.Fault.{Fault}
