@@ -1,5 +1,5 @@
 -- One input among others.
-use Rattle.std.proofs.Common.{◌≡◌, ℕ, zero, suc, ◌+◌, ◌<◌, List, [], ◌∷◌, ◌++◌, length, max, Option, None, Some, refl, sym, ◌∙◌, ap, arith, get_or, drop, Bool, Result}
+use Rattle.std.proofs.Common.{◌≡◌, ℕ, zero, suc, ◌+◌, ◌<◌, List, [], ◌∷◌, ◌++◌, length, max, Option, None, Some, refl, sym, ◌∙◌, ap, arith, get_or, drop, Bool, true, false, Result, Ok, Err}
 use Rattle.std.specs.Option.{option_or}
 use Rattle.std.proofs.Math.Nat.{max_comm}
 use Rattle.std.proofs.lemmas.List.{append-nil}
@@ -7,10 +7,12 @@ use Rattle.cap_octet.specs.Packet.{Captured}
 use Rattle.cap_io.specs.Capture.{Placed, first_link_of}
 use Rattle.std.specs.List.{slice_set}
 use Rattle.cap_octet.specs.declared.fault.Fault.{Fault}
-use Rattle.cap_io.specs.Source.{Advances, HasFew, Phase, Reading, Ended, Failed, SourceView, Steps}
-use Rattle.cap_inputs.specs.Inputs.{never_failing}
+use Rattle.cap_io.specs.Source.{Advances, HasFew, Phase, Reading, Ended, Failed, SourceView, Steps, phase_told}
 use Rattle.cap_inputs.specs.declared.inputs.Schedule.{Schedule}
-use Rattle.cap_inputs.specs.Inputs.{InputView, InputsView, InputPast, AreInputsBehind, KnowGreatest, IsInput, ReadsInput, ReadSteps, greatest_of, input_after, schedule_after, is_clean_end, first_declared_link, input_behind, time_of}
+use Rattle.cap_inputs.specs.declared.inputs.Schedule.TheVariants.{Turn, Merge}
+use Rattle.cap_inputs.specs.Cursor.{ordering_of, schedule_after, schedule_behind}
+use Rattle.cap_inputs.specs.Inputs.{never_failing}
+use Rattle.cap_inputs.specs.Inputs.{InputView, InputsView, InputPast, AreInputsBehind, KnowGreatest, IsInput, ReadsInput, ReadSteps, greatest_of, input_after, first_declared_link, input_behind, time_of, with_cursor}
 
 pub get-among : (cursors : List InputView) (i : ℕ) (h d : InputView) → i < length cursors → h ≡ get_or cursors i d → IsInput cursors i h
 get-among [] i h d within is = absurd (omega (arith, within))
@@ -30,18 +32,28 @@ pub set-here : (front back : List InputView) (h w : InputView) (i : ℕ) → len
 set-here [] back h w i place = rw (← place) refl
 set-here (x ∷ xs) back h w i place = rw (← place) (ap (λ (l : List InputView). x ∷ l) (set-here xs back h w (length xs) refl))
 
-pub fetches-by : (inputs : InputsView) (i : ℕ) (r : Result Bool Fault) (old new : InputView) (schedule' : Schedule) (closed : Bool) → i < length inputs.cursors → old ≡ get_or inputs.cursors i old
-    → Advances old.source.phase old.source r new.source → Steps old.source.phase old.source r new.source → new ≡ input_after old r new.source → schedule' ≡ schedule_after inputs.schedule i closed → closed ≡ is_clean_end r
-    → ReadsInput inputs i r (record { cursors = slice_set inputs.cursors i new; schedule = schedule' })
-fetches-by inputs i r old new schedule' closed within value advances steps is moved end = record {
+-- the order of the packets stays
+pub schedule-order : (schedule : Schedule) (i : ℕ) (r : Result Bool Fault) → ordering_of (schedule_after schedule i r) ≡ ordering_of schedule
+schedule-order (Turn turn) i (Ok true) = refl
+schedule-order (Turn turn) i (Ok false) = refl
+schedule-order (Turn turn) i (Err fault) = refl
+schedule-order (Merge next last) i (Ok found) = refl
+schedule-order (Merge next last) i (Err fault) = refl
+
+pub behind-order : (schedule : Schedule) (i : ℕ) → ordering_of (schedule_behind schedule i) ≡ ordering_of schedule
+behind-order (Turn turn) i = refl
+behind-order (Merge next last) i = refl
+
+pub fetches-by : (inputs : InputsView) (i : ℕ) (r : Result Bool Fault) (old new : InputView) → i < length inputs.cursors → old ≡ get_or inputs.cursors i old
+    → Advances old.source.phase old.source r new.source → Steps old.source.phase old.source r new.source → new ≡ input_after old r new.source
+    → ReadsInput inputs i r (with_cursor inputs i new)
+fetches-by inputs i r old new within value advances steps is = record {
   cursor = old;
   among = get-among inputs.cursors i old old within value;
   source = new.source;
   advances = advances;
   steps = steps;
-  is =
-      ap (λ (h : InputView). record { cursors = slice_set inputs.cursors i h; schedule = schedule' }) is
-      ∙ ap (λ (p : Schedule). record { cursors = slice_set inputs.cursors i (input_after old r new.source); schedule = p }) (moved ∙ ap (λ (b : Bool). schedule_after inputs.schedule i b) end);
+  is = ap (with_cursor inputs i) is;
 }
 
 pub first-drop : (cursors : List InputView) (i : ℕ) (h d : InputView) → i < length cursors → h ≡ get_or cursors i d → first_declared_link (drop i cursors) ≡ option_or (first_link_of h.source.declared) (first_declared_link (drop (i + 1) cursors))
@@ -55,18 +67,17 @@ pub first-none : (cursors : List InputView) → None ≡ first_declared_link (dr
 first-none [] = refl
 first-none (x ∷ xs) = first-none xs
 
-pub read_input-steps-by : (inputs : InputsView) (i : ℕ) (r : Result Bool Fault) (old new : InputView) (schedule' : Schedule) (closed : Bool) → i < length inputs.cursors → old ≡ get_or inputs.cursors i old
-    → Steps old.source.phase old.source r new.source → HasFew new.source.declared → new ≡ input_after old r new.source → schedule' ≡ schedule_after inputs.schedule i closed → closed ≡ is_clean_end r
-    → ReadSteps inputs i r (record { cursors = slice_set inputs.cursors i new; schedule = schedule' })
-read_input-steps-by inputs i r old new schedule' closed within value steps few is moved end = record {
+pub read_input-steps-by : (inputs : InputsView) (i : ℕ) (r : Result Bool Fault) (old new : InputView) → i < length inputs.cursors → old ≡ get_or inputs.cursors i old
+    → Steps old.source.phase old.source r new.source → new.source.phase ≡ phase_told r → HasFew new.source.declared → new ≡ input_after old r new.source
+    → ReadSteps inputs i r (with_cursor inputs i new)
+read_input-steps-by inputs i r old new within value steps phase few is = record {
   cursor = old;
   among = get-among inputs.cursors i old old within value;
   source = new.source;
   steps = steps;
+  phase = phase;
   few = few;
-  is =
-      ap (λ (h : InputView). record { cursors = slice_set inputs.cursors i h; schedule = schedule' }) is
-      ∙ ap (λ (p : Schedule). record { cursors = slice_set inputs.cursors i (input_after old r new.source); schedule = p }) (moved ∙ ap (λ (b : Bool). schedule_after inputs.schedule i b) end);
+  is = ap (with_cursor inputs i) is;
 }
 
 -- ---- whether devices never fail

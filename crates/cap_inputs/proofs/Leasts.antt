@@ -1,5 +1,5 @@
 -- The queue of a merge gives the packet with the least key.
-use Rattle.std.proofs.Common.{◌≡◌, ◌≢◌, ℕ, zero, suc, ◌+◌, ◌<◌, ◌≤◌, ◌⊎◌, inl, inr, ◌&&◌, ◌||◌, Bool, true, false, IsTrue, List, [], ◌∷◌, ◌++◌, length, Option, None, Some, refl, sym, ◌∙◌, ap, map, arith, subst, length-append}
+use Rattle.std.proofs.Common.{◌≡◌, ◌≢◌, ℕ, zero, suc, ◌+◌, ◌<◌, ◌≤◌, ◌⊎◌, inl, inr, ◌&&◌, ◌||◌, Bool, true, false, IsTrue, List, [], ◌∷◌, ◌++◌, length, Option, None, Some, Result, Ok, Err, refl, sym, ◌∙◌, ap, map, arith, subst, length-append}
 use Rattle.std.specs.Prelude.{◌==◌}
 use Rattle.std.specs.List.{All, slice_set}
 use Rattle.std.specs.List.Sorted.{IsPermutation}
@@ -11,8 +11,9 @@ use Rattle.cap_inputs.specs.declared.inputs.Schedule.{Schedule}
 use Rattle.cap_inputs.specs.declared.inputs.Schedule.TheVariants.{Turn, Merge}
 use Rattle.cap_inputs.specs.declared.inputs.Next.TheVariants as next
 use Rattle.cap_inputs.specs.Queue.{Queue, NotAfter, Precedes, IsFirst, is_entered}
-use Rattle.cap_inputs.specs.Inputs.{Enters, HasPlaceFor, Leaves, TakesFirst, InputView, NoneWaits, IsLeast, KeysOver, KeysFrom, IsInput, IsNext, key_of, waits_with, waiting_count, waiting_total, IsQueued, HoldsQueue, is_merge, schedule_after, schedule_behind}
-use Rattle.cap_inputs.specs.Fresh.{first_schedule}
+use Rattle.cap_octet.specs.declared.fault.Fault.{Fault}
+use Rattle.cap_inputs.specs.Cursor.{Enters, HasPlaceFor, HoldsQueue, IsNextAt, IsQueued, Leaves, TakesFirst, first_schedule, is_merge, schedule_after, schedule_behind, waiting_total, waits_with}
+use Rattle.cap_inputs.specs.Inputs.{InputView, NoneWaits, IsLeast, KeysOver, KeysFrom, IsInput, is_packet_found, key_of, waiting_count}
 use Rattle.cap_inputs.specs.Sequence.{order_of}
 use Rattle.cap_inputs.proofs.Cursors.{set-here}
 
@@ -115,16 +116,11 @@ queued-in front back h h' first last q q' low not_yet waits moved roomy was = re
       sym (waits-other front back h h' t j other) ∙ was.unread t j (omega (arith, low, low')) less);
 }
 
-pub queued-out : (front back : List InputView) (h h' : InputView) (first last : ℕ) (q : Queue) → first ≤ length front → h.waiting ≡ false → h'.waiting ≡ false
-    → IsQueued (front ++ h ∷ back) first last q → IsQueued (front ++ h' ∷ back) (length front + 1) last q
-queued-out front back h h' first last q low not_yet no_more was = record {
-  entered = λ t j. elim (same-or-not j (length front)) [
-    | inl here ↦ (
-        let P : ℕ → Type 0 = λ n. is_entered q.waiting t n ≡ waits_with (front ++ h' ∷ back) t n in
-        let before : is_entered q.waiting t (length front) ≡ false = was.entered t (length front) ∙ waits-at front back h t ∙ still-not h.waiting (key_of h == t) not_yet in
-        subst P (sym here) (before ∙ sym (waits-at front back h' t ∙ still-not h'.waiting (key_of h' == t) no_more)))
-    | inr other ↦ was.entered t j ∙ waits-other front back h h' t j other
-  ];
+-- it waits no more than before
+pub queued-still : (front back : List InputView) (h h' : InputView) (first last : ℕ) (q : Queue) → h.waiting ≡ false → h'.waiting ≡ false
+    → IsQueued (front ++ h ∷ back) first last q → IsQueued (front ++ h' ∷ back) first last q
+queued-still front back h h' first last q not_yet no_more was = record {
+  entered = λ t j. was.entered t j ∙ same t j;
   counted =
       (let old = total-at front back h in
       let new = total-at front back h' in
@@ -133,10 +129,22 @@ queued-out front back h h' first last q low not_yet no_more was = record {
       let count = was.counted in
       omega (arith, old, new, zero_old, zero_new, count));
   room = (let r = was.room in simp length-append (omega (arith, r, length-append front (h ∷ back))));
-  unread = λ t j low' less. (
-      let other : j ≡ length front → ⊥ = λ e. omega (arith, low', e) in
-      sym (waits-other front back h h' t j other) ∙ was.unread t j (omega (arith, low, low')) less);
+  unread = λ t j low less. sym (same t j) ∙ was.unread t j low less;
 }
+  where
+    same : (t j : ℕ) → waits_with (front ++ h ∷ back) t j ≡ waits_with (front ++ h' ∷ back) t j
+    same t j = elim (same-or-not j (length front)) [
+      | inl here ↦ (
+          let P : ℕ → Type 0 = λ n. waits_with (front ++ h ∷ back) t n ≡ waits_with (front ++ h' ∷ back) t n in
+          subst P (sym here) ((waits-at front back h t ∙ still-not h.waiting (key_of h == t) not_yet) ∙ sym (waits-at front back h' t ∙ still-not h'.waiting (key_of h' == t) no_more)))
+      | inr other ↦ waits-other front back h h' t j other
+    ]
+
+pub queued-out : (front back : List InputView) (h h' : InputView) (first last : ℕ) (q : Queue) → first ≤ length front → h.waiting ≡ false → h'.waiting ≡ false
+    → IsQueued (front ++ h ∷ back) first last q → IsQueued (front ++ h' ∷ back) (length front + 1) last q
+queued-out front back h h' first last q low not_yet no_more was =
+    let still = queued-still front back h h' first last q not_yet no_more was in
+    record { entered = still.entered; counted = still.counted; room = still.room; unread = λ t j low' less. still.unread t j (omega (arith, low, low')) less }
 
 -- an input that doesn't wait is in no entry, and there is room for it
 pub none-entered : (ws : List Waiting) (i : ℕ) → ((t : ℕ) → is_entered ws t i ≡ false) → All (λ w. w.input ≢ i) ws
@@ -389,44 +397,11 @@ not-yet cursors i first last h q a is before was =
     let P : List InputView → Type 0 = λ l. waits_with l (key_of h) (length a.front) ≡ false in
     not-waiting a.front a.back h (subst P a.splits (was.unread (key_of h) (length a.front) (omega (arith, is, place)) (omega (arith, is, place, before))))
 
--- a packet of the input that is read on came
-pub fetched-in : (schedule : Schedule) (cursors : List InputView) (i : ℕ) (h h' : InputView) (closed : Bool) (q q' : Queue) → is_merge schedule ≡ true → IsInput cursors i h → IsNext schedule cursors (next.Read i)
-    → h'.waiting ≡ true → IsPermutation (record { time = key_of h'; input = i } ∷ q.waiting) q'.waiting → q.room ≤ q'.room
-    → HoldsQueue schedule cursors q → HoldsQueue (schedule_after schedule i closed) (slice_set cursors i h') q'
-fetched-in (Turn turn) cursors i h h' closed q q' merge a tells waits moved roomy was = absurd (cc)
-fetched-in (Merge first last) cursors i h h' closed q q' merge a tells waits moved roomy was =
-    let place = a.place in
-    let is = tells.is in
-    let P : ℕ → Type 0 = λ n. IsPermutation (record { time = key_of h'; input = n } ∷ q.waiting) q'.waiting in
-    let W : List InputView → Type 0 = λ l. IsQueued l first last q in
-    let after = queued-in a.front a.back h h' first last q q' (omega (arith, is, place)) (not-yet cursors i first last h q a tells.is tells.before was) waits (subst P (sym a.place) moved) roomy (subst W a.splits was) in
-    let V : List InputView → Type 0 = λ l. IsQueued l (length a.front + 1) last q' in
-    let N : ℕ → Type 0 = λ n. IsQueued (slice_set cursors i h') (n + 1) last q' in
-    subst N a.place (subst V (sym (set-among cursors i h h' a)) after)
-
--- none came, or the inputs come in turn
-pub fetched-out : (schedule : Schedule) (cursors : List InputView) (i : ℕ) (h h' : InputView) (closed : Bool) (q : Queue) → (h'.waiting && is_merge schedule) ≡ false → IsInput cursors i h → IsNext schedule cursors (next.Read i)
-    → HoldsQueue schedule cursors q → HoldsQueue (schedule_after schedule i closed) (slice_set cursors i h') q
-fetched-out (Turn turn) cursors i h h' true q none a tells was = tt
-fetched-out (Turn turn) cursors i h h' false q none a tells was = tt
-fetched-out (Merge first last) cursors i h h' closed q none a tells was =
-    let place = a.place in
-    let is = tells.is in
-    let W : List InputView → Type 0 = λ l. IsQueued l first last q in
-    let after = queued-out a.front a.back h h' first last q (omega (arith, is, place)) (not-yet cursors i first last h q a tells.is tells.before was) (and-false h'.waiting none) (subst W a.splits was) in
-    let V : List InputView → Type 0 = λ l. IsQueued l (length a.front + 1) last q in
-    let N : ℕ → Type 0 = λ n. IsQueued (slice_set cursors i h') (n + 1) last q in
-    subst N a.place (subst V (sym (set-among cursors i h h' a)) after)
-  where
-    and-false : (b : Bool) → (b && true) ≡ false → b ≡ false
-    and-false true e = e
-    and-false false e = e
-
--- there is room for its entry, and none of its own
-pub fetched-room : (schedule : Schedule) (cursors : List InputView) (i : ℕ) (h : InputView) (q : Queue) → is_merge schedule ≡ true → IsInput cursors i h → IsNext schedule cursors (next.Read i)
-    → HoldsQueue schedule cursors q → (length q.waiting < q.room) × All (λ w. w.input ≢ i) q.waiting
-fetched-room (Turn turn) cursors i h q merge a tells was = absurd (cc)
-fetched-room (Merge first last) cursors i h q merge a tells was =
+-- an input that is read on has room for its entry, and none of its own is there
+pub room-for : (schedule : Schedule) (cursors : List InputView) (i : ℕ) (h : InputView) (waits : Bool) (q : Queue) → IsInput cursors i h → IsNextAt schedule cursors (next.Read i) → HoldsQueue schedule cursors q
+    → (waits && is_merge schedule) ≡ true → HasPlaceFor q i
+room-for (Turn turn) cursors i h waits q a tells was merge = absurd (let e = (and-true waits false merge).1 in cc)
+room-for (Merge first last) cursors i h waits q a tells was merge =
     let W : List InputView → Type 0 = λ l. IsQueued l first last q in
     let here = subst W a.splits was in
     let idle = not-yet cursors i first last h q a tells.is tells.before was in
@@ -434,20 +409,36 @@ fetched-room (Merge first last) cursors i h q merge a tells was =
     (room-in a.front a.back h first last q idle here, subst P a.place (alone-in a.front a.back h first last q idle here))
 
 -- an input is read on
-pub fetched : (schedule : Schedule) (cursors : List InputView) (i : ℕ) (h h' : InputView) (closed : Bool) (q q' : Queue) → IsInput cursors i h → IsNext schedule cursors (next.Read i)
-    → Enters (h'.waiting && is_merge schedule) (record { time = key_of h'; input = i }) q q' → HoldsQueue schedule cursors q → HoldsQueue (schedule_after schedule i closed) (slice_set cursors i h') q'
-fetched schedule cursors i h h' closed q q' a tells enters was = cases (h'.waiting && is_merge schedule) refl enters
-  where
-    cases : (b : Bool) → (h'.waiting && is_merge schedule) ≡ b → Enters b (record { time = key_of h'; input = i }) q q' → HoldsQueue (schedule_after schedule i closed) (slice_set cursors i h') q'
-    cases true is enters' = (let parts = and-true h'.waiting (is_merge schedule) is in fetched-in schedule cursors i h h' closed q q' parts.1 a tells parts.0 enters'.0 enters'.1 was)
-    cases false is enters' = (let P : Queue → Type 0 = λ l. HoldsQueue (schedule_after schedule i closed) (slice_set cursors i h') l in subst P (sym enters') (fetched-out schedule cursors i h h' closed q is a tells was))
+pub queue-read : (schedule : Schedule) (cursors : List InputView) (i : ℕ) (h h' : InputView) (r : Result Bool Fault) (q q' : Queue) → IsInput cursors i h → IsNextAt schedule cursors (next.Read i)
+    → h'.waiting ≡ is_packet_found r → Enters (is_packet_found r && is_merge schedule) (record { time = key_of h'; input = i }) q q' → HoldsQueue schedule cursors q → HoldsQueue (schedule_after schedule i r) (slice_set cursors i h') q'
+queue-read (Turn turn) cursors i h h' (Ok true) q q' a tells waits enters was = tt
+queue-read (Turn turn) cursors i h h' (Ok false) q q' a tells waits enters was = tt
+queue-read (Turn turn) cursors i h h' (Err fault) q q' a tells waits enters was = tt
+queue-read (Merge first last) cursors i h h' (Ok true) q q' a tells waits enters was =
+    let place = a.place in
+    let is = tells.is in
+    let P : ℕ → Type 0 = λ n. IsPermutation (record { time = key_of h'; input = n } ∷ q.waiting) q'.waiting in
+    let W : List InputView → Type 0 = λ l. IsQueued l first last q in
+    let after = queued-in a.front a.back h h' first last q q' (omega (arith, is, place)) (not-yet cursors i first last h q a tells.is tells.before was) waits (subst P (sym a.place) enters.0) enters.1 (subst W a.splits was) in
+    let V : List InputView → Type 0 = λ l. IsQueued l (length a.front + 1) last q' in
+    let N : ℕ → Type 0 = λ n. IsQueued (slice_set cursors i h') (n + 1) last q' in
+    subst N a.place (subst V (sym (set-among cursors i h h' a)) after)
+queue-read (Merge first last) cursors i h h' (Ok false) q q' a tells waits enters was =
+    let place = a.place in
+    let is = tells.is in
+    let W : List InputView → Type 0 = λ l. IsQueued l first last q in
+    let after = queued-out a.front a.back h h' first last q (omega (arith, is, place)) (not-yet cursors i first last h q a tells.is tells.before was) waits (subst W a.splits was) in
+    let V : List InputView → Type 0 = λ l. IsQueued l (length a.front + 1) last q in
+    let N : ℕ → Type 0 = λ n. IsQueued (slice_set cursors i h') (n + 1) last q in
+    let Q : Queue → Type 0 = λ v. IsQueued (slice_set cursors i h') (i + 1) last v in
+    subst Q (sym enters) (subst N a.place (subst V (sym (set-among cursors i h h' a)) after))
+queue-read (Merge first last) cursors i h h' (Err fault) q q' a tells waits enters was =
+    let W : List InputView → Type 0 = λ l. IsQueued l first last q in
+    let V : List InputView → Type 0 = λ l. IsQueued l first last q in
+    let Q : Queue → Type 0 = λ v. IsQueued (slice_set cursors i h') first last v in
+    subst Q (sym enters) (subst V (sym (set-among cursors i h h' a)) (queued-still a.front a.back h h' first last q (not-yet cursors i first last h q a tells.is tells.before was) waits (subst W a.splits was)))
 
--- there is room for its entry
-pub schedule-for : (schedule : Schedule) (cursors : List InputView) (i : ℕ) (h : InputView) (waits : Bool) (q : Queue) → IsInput cursors i h → IsNext schedule cursors (next.Read i) → HoldsQueue schedule cursors q
-    → (waits && is_merge schedule) ≡ true → HasPlaceFor q i
-schedule-for schedule cursors i h waits q a tells was both = fetched-room schedule cursors i h q (and-true waits (is_merge schedule) both).1 a tells was
-
-taken-in : (schedule : Schedule) (cursors : List InputView) (i : ℕ) (h' : InputView) (q q' : Queue) (taken : Option Waiting) → is_merge schedule ≡ true → IsNext schedule cursors (next.Decide i) → h'.waiting ≡ false
+taken-in : (schedule : Schedule) (cursors : List InputView) (i : ℕ) (h' : InputView) (q q' : Queue) (taken : Option Waiting) → is_merge schedule ≡ true → IsNextAt schedule cursors (next.Decide i) → h'.waiting ≡ false
     → TakesFirst taken q q' → q.room ≤ q'.room → HoldsQueue schedule cursors q → HoldsQueue (schedule_behind schedule i) (slice_set cursors i h') q'
 taken-in (Turn turn) cursors i h' q q' taken merge tells decided moved roomy was = absurd (cc)
 taken-in (Merge first last) cursors i h' q q' None merge tells decided moved roomy was =
@@ -468,7 +459,7 @@ taken-in (Merge first last) cursors i h' q q' (Some w) merge tells decided moved
     subst N a.place (subst V (sym (set-among cursors i least.cursor h' a)) after)
 
 -- the current packet of the next input is decided
-pub settled-in : (schedule : Schedule) (cursors : List InputView) (i : ℕ) (h' : InputView) (q q' : Queue) → IsNext schedule cursors (next.Decide i) → h'.waiting ≡ false
+pub settled-in : (schedule : Schedule) (cursors : List InputView) (i : ℕ) (h' : InputView) (q q' : Queue) → IsNextAt schedule cursors (next.Decide i) → h'.waiting ≡ false
     → Leaves (is_merge schedule) q q' → HoldsQueue schedule cursors q → HoldsQueue (schedule_behind schedule i) (slice_set cursors i h') q'
 settled-in (Turn turn) cursors i h' q q' tells decided leaves was = tt
 settled-in (Merge first last) cursors i h' q q' tells decided leaves was = taken-in (Merge first last) cursors i h' q q' leaves.0 refl tells decided leaves.1 leaves.2 was

@@ -2,4 +2,5 @@ pub mod Cursors
 pub mod Fresh
 pub mod Leasts
 pub mod Order
+pub mod Placed
 pub mod Queues

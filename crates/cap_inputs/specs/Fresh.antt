@@ -1,10 +1,8 @@
 -- Inputs as they are handed over.
-use Rattle.std.specs.Prelude.{ℕ, Bool, false, List, [], length, map}
+use Rattle.std.specs.Prelude.{ℕ, Bool, false, List, [], map}
 use Rattle.cap_octet.specs.declared.device.Input as input
 use Rattle.cap_io.specs.Source.{source_at}
-use Rattle.cap_inputs.specs.declared.inputs.Schedule.{Schedule}
-use Rattle.cap_inputs.specs.declared.inputs.Schedule.TheVariants as schedule
-use Rattle.cap_inputs.specs.Sequence.{PacketOrder, InTurn, ByTime}
+use Rattle.cap_inputs.specs.Sequence.{PacketOrder}
 use Rattle.cap_inputs.specs.Inputs.{InputView, InputsView, InputPast}
 
 -- an input of which nothing is read
@@ -23,9 +21,5 @@ fresh_view o = record { source = source_at o.text o.given o.failures o.never_fai
 abbrev pub nothing_done : FreshInput → InputPast
 nothing_done o = record { text = o.text; done = []; packets = [] }
 
-abbrev pub first_schedule : PacketOrder → ℕ → Schedule
-first_schedule InTurn count = schedule.Turn 0
-first_schedule ByTime count = schedule.Merge 0 count
-
 abbrev pub fresh_inputs : PacketOrder → List FreshInput → InputsView
-fresh_inputs order os = record { cursors = map fresh_view os; schedule = first_schedule order (length (map fresh_view os)) }
+fresh_inputs order os = record { order = order; cursors = map fresh_view os }

@@ -1,17 +1,12 @@
 -- What a contract sees of the inputs of a job, and how far they are in their captures.
-use Rattle.std.specs.Prelude.{◌≡◌, ◌≢◌, ◌⊎◌, ◌&&◌, ◌==◌, ℕ, zero, suc, ◌+◌, ◌*◌, ◌-◌, ◌^◌, ◌<◌, ◌≤◌, Bool, true, false, max, List, [], ◌∷◌, ◌++◌, length, drop, map, Option, None, Some, Result, Ok, Err}
-use Rattle.std.specs.List.{All, slice_get, slice_set}
+use Rattle.std.specs.Prelude.{◌≡◌, ◌⊎◌, ℕ, suc, ◌+◌, ◌*◌, ◌-◌, ◌^◌, ◌<◌, ◌≤◌, Bool, true, false, max, List, [], ◌∷◌, ◌++◌, length, drop, map, Option, None, Some, Result, Ok, Err}
+use Rattle.std.specs.List.{slice_get, slice_set}
 use Rattle.std.specs.Option.{option_or}
 use Rattle.cap_octet.specs.Packet.{Captured}
 use Rattle.cap_octet.specs.declared.fault.Fault.{Fault}
 use Rattle.cap_io.specs.Capture.{Placed, Items, End, items_from, after_packets, first_link_of}
-use Rattle.cap_io.specs.Source.{SourceView, Ended, Advances, HasFew, Steps}
+use Rattle.cap_io.specs.Source.{SourceView, Phase, Reading, Ended, Failed, Advances, HasFew, Steps, phase_told}
 use Rattle.cap_io.specs.Position.{IsAt}
-use Rattle.std.specs.List.Sorted.{IsPermutation}
-use Rattle.cap_inputs.specs.declared.queue.Waiting.{Waiting}
-use Rattle.cap_inputs.specs.Queue.{Queue, Precedes, is_entered}
-use Rattle.cap_inputs.specs.declared.inputs.Schedule.{Schedule}
-use Rattle.cap_inputs.specs.declared.inputs.Schedule.TheVariants.{Turn, Merge}
 use Rattle.cap_inputs.specs.declared.inputs.Next.{Next}
 use Rattle.cap_inputs.specs.declared.inputs.Next.TheVariants as next
 use Rattle.cap_inputs.specs.Sequence.{InputItems, Event, Sequence, PacketOrder, InTurn, ByTime, sequence_of, sequence_in_turn, sequence_by_time, with_front}
@@ -25,17 +20,14 @@ pub record InputView : Type 0 where
   -- the greatest time of the packets that are decided
   pub greatest : ℕ
 
+-- in which order their packets come, and how far each of them is
 pub record InputsView : Type 0 where
+  pub order : PacketOrder
   pub cursors : List InputView
-  pub schedule : Schedule
 
-abbrev pub ordering_of : Schedule → PacketOrder
-ordering_of (Turn turn) = InTurn
-ordering_of (Merge next last) = ByTime
-
-abbrev pub is_in_turn : Schedule → Bool
-is_in_turn (Turn turn) = true
-is_in_turn (Merge next last) = false
+abbrev pub is_in_turn : PacketOrder → Bool
+is_in_turn InTurn = true
+is_in_turn ByTime = false
 
 -- ---- what is left
 
@@ -67,9 +59,20 @@ inputs_left (h ∷ hs) (f ∷ fs) = items_left h f ∷ inputs_left hs fs
 inputs_left [] fs = []
 inputs_left (h ∷ hs) [] = []
 
-abbrev pub sequence_left : Schedule → List InputItems → Sequence
-sequence_left (Turn turn) rs = sequence_in_turn turn (drop turn rs)
-sequence_left (Merge next last) rs = sequence_by_time rs
+abbrev pub one_more_if_ended : Phase → ℕ → ℕ
+one_more_if_ended Ended n = suc n
+one_more_if_ended Reading n = 0
+one_more_if_ended (Failed fault) n = 0
+
+-- how many inputs are at their clean ends, up to the first that isn't
+abbrev pub ended_count : List InputView → ℕ
+ended_count [] = 0
+ended_count (h ∷ hs) = one_more_if_ended h.source.phase (ended_count hs)
+
+-- the order of what is left: in turn, of the first input that isn't at its end and of those behind it
+abbrev pub sequence_left : PacketOrder → List InputView → List InputItems → Sequence
+sequence_left InTurn cursors rs = sequence_in_turn (ended_count cursors) (drop (ended_count cursors) rs)
+sequence_left ByTime cursors rs = sequence_by_time rs
 
 -- ---- what is done of the inputs
 
@@ -119,43 +122,7 @@ AreFutures (h ∷ hs) [] = ⊥
 -- These events came: whatever comes behind the current packets, the job's order has them in front of what is left.
 abbrev pub AreSettled : List InputPast → InputsView → List Event → Type 0
 AreSettled ss inputs es = (fs : List Future) → AreFutures inputs.cursors fs
-    → sequence_of (ordering_of inputs.schedule) (inputs_with ss inputs.cursors fs) ≡ with_front es (sequence_left inputs.schedule (inputs_left inputs.cursors fs))
-
--- so many inputs, the first ones, are at their clean ends
-abbrev pub EndedTo : ℕ → List InputView → Type 0
-EndedTo zero hs = Unit {0}
-EndedTo (suc n) [] = Unit {0}
-EndedTo (suc n) (h ∷ hs) = (h.source.phase ≡ Ended) × EndedTo n hs
-
--- a packet waits, whose greatest time so far is over the key, or at least the key; or the input is at its clean end
-pub data InputOver (k : ℕ) (h : InputView) : Type 0 where
-  waits_over : (p : Captured) → h.waiting ≡ true → h.source.packet ≡ Some p → k < max h.greatest p.time → InputOver k h
-  ended_over : h.waiting ≡ false → h.source.phase ≡ Ended → InputOver k h
-
-pub data InputFrom (k : ℕ) (h : InputView) : Type 0 where
-  waits_from : (p : Captured) → h.waiting ≡ true → h.source.packet ≡ Some p → k ≤ max h.greatest p.time → InputFrom k h
-  ended_from : h.waiting ≡ false → h.source.phase ≡ Ended → InputFrom k h
-
-abbrev pub InputsOver : ℕ → List InputView → Type 0
-InputsOver k [] = Unit {0}
-InputsOver k (h ∷ hs) = InputOver k h × InputsOver k hs
-
-abbrev pub InputsFrom : ℕ → List InputView → Type 0
-InputsFrom k [] = Unit {0}
-InputsFrom k (h ∷ hs) = InputFrom k h × InputsFrom k hs
-
--- from `next` on and before `last` the inputs are still to be read on; each other has a packet that waits, or is at its clean end
-abbrev pub Laid : ℕ → ℕ → List InputView → Type 0
-Laid next last [] = Unit {0}
-Laid zero zero (h ∷ hs) = InputFrom 0 h × Laid zero zero hs
-Laid zero (suc last) (h ∷ hs) = (h.waiting ≡ false) × Laid zero last hs
-Laid (suc next) zero (h ∷ hs) = InputFrom 0 h × Laid next zero hs
-Laid (suc next) (suc last) (h ∷ hs) = InputFrom 0 h × Laid next last hs
-
--- in turn, the inputs before this one are at their ends; by time, all are ready but those to be read on
-abbrev pub EndedBefore : Schedule → List InputView → Type 0
-EndedBefore (Turn turn) hs = EndedTo turn hs
-EndedBefore (Merge next last) hs = Laid next last hs
+    → sequence_of inputs.order (inputs_with ss inputs.cursors fs) ≡ with_front es (sequence_left inputs.order inputs.cursors (inputs_left inputs.cursors fs))
 
 -- ---- one input goes on
 
@@ -178,19 +145,9 @@ is_clean_end (Ok true) = false
 is_clean_end (Ok false) = true
 is_clean_end (Err fault) = false
 
--- the schedule behind an input that was read to its end, or not
-abbrev pub schedule_after : Schedule → ℕ → Bool → Schedule
-schedule_after (Turn turn) i true = Turn (i + 1)
-schedule_after (Turn turn) i false = Turn turn
-schedule_after (Merge next last) i closed = Merge (i + 1) last
-
--- the schedule behind a packet that is decided
-abbrev pub schedule_behind : Schedule → ℕ → Schedule
-schedule_behind (Turn turn) i = Turn turn
-schedule_behind (Merge next last) i = Merge i (i + 1)
-
-abbrev pub inputs_after : InputsView → ℕ → Result Bool Fault → InputView → InputsView
-inputs_after inputs i r h = record { cursors = slice_set inputs.cursors i h; schedule = schedule_after inputs.schedule i (is_clean_end r) }
+-- the inputs with another cursor in place of this one
+abbrev pub with_cursor : InputsView → ℕ → InputView → InputsView
+with_cursor inputs i h = record { order = inputs.order; cursors = slice_set inputs.cursors i h }
 
 -- an input was read on
 pub record ReadsInput (old : InputsView) (i : ℕ) (r : Result Bool Fault) (new : InputsView) : Type 0 where
@@ -199,7 +156,7 @@ pub record ReadsInput (old : InputsView) (i : ℕ) (r : Result Bool Fault) (new 
   pub source : SourceView
   pub advances : Advances cursor.source.phase cursor.source r source
   pub steps : Steps cursor.source.phase cursor.source r source
-  pub is : new ≡ inputs_after old i r (input_after cursor r source)
+  pub is : new ≡ with_cursor old i (input_after cursor r source)
 
 -- what holds of any device
 pub record ReadSteps (old : InputsView) (i : ℕ) (r : Result Bool Fault) (new : InputsView) : Type 0 where
@@ -207,48 +164,41 @@ pub record ReadSteps (old : InputsView) (i : ℕ) (r : Result Bool Fault) (new :
   pub among : IsInput old.cursors i cursor
   pub source : SourceView
   pub steps : Steps cursor.source.phase cursor.source r source
+  pub phase : source.phase ≡ phase_told r
   pub few : HasFew source.declared
-  pub is : new ≡ inputs_after old i r (input_after cursor r source)
-
--- Each step makes this less: each packet is read once, and then decided once, and each input is closed once. A merge reads
--- behind each packet that it decides.
-abbrev pub weight_of : Schedule → ℕ
-weight_of (Turn turn) = 2
-weight_of (Merge next last) = 3
+  pub is : new ≡ with_cursor old i (input_after cursor r source)
 
 abbrev pub waiting_count : Bool → ℕ
 waiting_count true = 1
 waiting_count false = 0
 
-abbrev pub input_steps_left : ℕ → InputView → ℕ
-input_steps_left weight h = weight * (2 ^ 63 - h.source.given) + (weight - 1) * waiting_count h.waiting
+-- The steps that follow without a byte more: a packet that waits is decided, and then its input is read on; an input that
+-- isn't at its end is read on.
+abbrev pub steps_owed : (waiting : Bool) → Phase → ℕ
+steps_owed true phase = 2
+steps_owed false Reading = 1
+steps_owed false Ended = 0
+steps_owed false (Failed fault) = 1
 
-abbrev pub steps_left_in : ℕ → List InputView → ℕ
-steps_left_in weight [] = 0
-steps_left_in weight (h ∷ hs) = input_steps_left weight h + steps_left_in weight hs
+abbrev pub owed_by : InputView → ℕ
+owed_by h = steps_owed h.waiting h.source.phase
 
-abbrev pub schedule_left : Schedule → ℕ → ℕ
-schedule_left (Turn turn) count = count - turn
-schedule_left (Merge next last) count = last - next
+-- Each step makes this less: each byte pays for two, since a packet is read once, and then decided once.
+abbrev pub input_steps_left : InputView → ℕ
+input_steps_left h = 2 * (2 ^ 63 - h.source.given) + owed_by h
+
+abbrev pub steps_left_in : List InputView → ℕ
+steps_left_in [] = 0
+steps_left_in (h ∷ hs) = input_steps_left h + steps_left_in hs
 
 -- how many steps a job makes at most
 abbrev pub most_steps : ℕ
 most_steps = 2 ^ 80
 
 abbrev pub steps_left : InputsView → ℕ
-steps_left f = steps_left_in (weight_of f.schedule) f.cursors + schedule_left f.schedule (length f.cursors)
+steps_left f = steps_left_in f.cursors
 
--- ---- the next thing to do
-
-pub record IsAmong (cursors : List InputView) (i : ℕ) (waiting : Bool) : Type 0 where
-  pub cursor : InputView
-  pub among : IsInput cursors i cursor
-  pub waits : cursor.waiting ≡ waiting
-
-abbrev pub IsNextInTurn : List InputView → ℕ → Next → Type 0
-IsNextInTurn cursors turn (next.Read i) = (i ≡ turn) × IsAmong cursors i false
-IsNextInTurn cursors turn (next.Decide i) = (i ≡ turn) × IsAmong cursors i true
-IsNextInTurn cursors turn next.Finish = length cursors ≤ turn
+-- ---- keys
 
 abbrev pub time_of : Option Captured → ℕ
 time_of None = 0
@@ -280,66 +230,65 @@ pub record IsLeast (cursors : List InputView) (i : ℕ) : Type 0 where
   pub over : KeysOver (key_of cursor) among.front
   pub from : KeysFrom (key_of cursor) among.back
 
--- whether an input's packet waits, with this key
-abbrev pub waits_with : List InputView → ℕ → ℕ → Bool
-waits_with [] key input = false
-waits_with (h ∷ hs) key zero = h.waiting && (key_of h == key)
-waits_with (h ∷ hs) key (suc input) = waits_with hs key input
+-- ---- what is next
 
--- how many packets wait
-abbrev pub waiting_total : List InputView → ℕ
-waiting_total [] = 0
-waiting_total (h ∷ hs) = waiting_count h.waiting + waiting_total hs
+-- it isn't at its clean end
+abbrev pub IsOpen : InputView → Type 0
+IsOpen h = h.source.phase ≡ Ended → ⊥
 
--- the queue of a merge has just the inputs whose packets wait, with their keys; the inputs that are to be read on don't wait
-pub record IsQueued (cursors : List InputView) (next last : ℕ) (q : Queue) : Type 0 where
-  pub entered : (key input : ℕ) → is_entered q.waiting key input ≡ waits_with cursors key input
-  pub counted : length q.waiting ≡ waiting_total cursors
-  pub room : length cursors ≤ q.room
-  pub unread : (key input : ℕ) → next ≤ input → input < last → waits_with cursors key input ≡ false
+abbrev pub AllEnded : List InputView → Type 0
+AllEnded [] = Unit {0}
+AllEnded (h ∷ hs) = (h.source.phase ≡ Ended) × AllEnded hs
 
--- a job that takes its inputs in turn has no use for the queue
-abbrev pub HoldsQueue : Schedule → List InputView → Queue → Type 0
-HoldsQueue (Turn turn) cursors q = Unit {0}
-HoldsQueue (Merge next last) cursors q = IsQueued cursors next last q
+abbrev pub NoneEnded : List InputView → Type 0
+NoneEnded [] = Unit {0}
+NoneEnded (h ∷ hs) = IsOpen h × NoneEnded hs
 
-abbrev pub is_merge : Schedule → Bool
-is_merge (Turn turn) = false
-is_merge (Merge next last) = true
+-- its current packet waits, or it is at its clean end
+abbrev pub IsReady : InputView → Type 0
+IsReady h = (h.waiting ≡ true) ⊎ (h.source.phase ≡ Ended)
 
--- there is room for the entry of an input, and none of its own is there
-abbrev pub HasPlaceFor : Queue → ℕ → Type 0
-HasPlaceFor q input = (length q.waiting < q.room) × All (λ w. w.input ≢ input) q.waiting
+abbrev pub AllReady : List InputView → Type 0
+AllReady [] = Unit {0}
+AllReady (h ∷ hs) = IsReady h × AllReady hs
 
--- an entry came to the others, or not
-abbrev pub Enters : Bool → Waiting → Queue → Queue → Type 0
-Enters true entry old new = IsPermutation (entry ∷ old.waiting) new.waiting × (old.room ≤ new.room)
-Enters false entry old new = new ≡ old
-
-abbrev pub TakesFirst : Option Waiting → Queue → Queue → Type 0
-TakesFirst None old new = old.waiting ≡ []
-TakesFirst (Some w) old new = IsPermutation old.waiting (w ∷ new.waiting) × All (Precedes w) new.waiting
-
--- the first entry was taken, or not
-abbrev pub Leaves : Bool → Queue → Queue → Type 0
-Leaves true old new = (taken : Option Waiting) × TakesFirst taken old new × (old.room ≤ new.room)
-Leaves false old new = new ≡ old
-
-pub record IsRead (cursors : List InputView) (next last i : ℕ) : Type 0 where
-  pub is : i ≡ next
-  pub before : next < last
+-- In turn, it is this input's turn: those in front of it are at their clean ends, it and those behind it aren't.
+pub record IsAtTurn (cursors : List InputView) (i : ℕ) (waiting : Bool) : Type 0 where
   pub cursor : InputView
   pub among : IsInput cursors i cursor
+  pub waits : cursor.waiting ≡ waiting
+  pub unended : IsOpen cursor
+  pub front : AllEnded among.front
+  pub back : NoneEnded among.back
 
-abbrev pub IsNextByTime : List InputView → ℕ → ℕ → Next → Type 0
-IsNextByTime cursors first last (next.Read i) = IsRead cursors first last i
-IsNextByTime cursors first last (next.Decide i) = (last ≤ first ⊎ length cursors ≤ first) × IsLeast cursors i
-IsNextByTime cursors first last next.Finish = (last ≤ first ⊎ length cursors ≤ first) × NoneWaits cursors
+abbrev pub IsNextInTurn : List InputView → Next → Type 0
+IsNextInTurn cursors (next.Read i) = IsAtTurn cursors i false
+IsNextInTurn cursors (next.Decide i) = IsAtTurn cursors i true
+IsNextInTurn cursors next.Finish = AllEnded cursors
+
+-- it is the first input that is neither at its clean end nor has a packet that waits
+pub record IsFirstUnready (cursors : List InputView) (i : ℕ) : Type 0 where
+  pub cursor : InputView
+  pub among : IsInput cursors i cursor
+  pub waits : cursor.waiting ≡ false
+  pub unended : IsOpen cursor
+  pub front : AllReady among.front
+
+-- by time, every input is read on to its next packet first; then that with the least key is decided
+abbrev pub IsNextByTime : List InputView → Next → Type 0
+IsNextByTime cursors (next.Read i) = IsFirstUnready cursors i
+IsNextByTime cursors (next.Decide i) = AllReady cursors × IsLeast cursors i
+IsNextByTime cursors next.Finish = NoneWaits cursors × AllEnded cursors
+
+abbrev pub IsNextIn : PacketOrder → List InputView → Next → Type 0
+IsNextIn InTurn cursors r = IsNextInTurn cursors r
+IsNextIn ByTime cursors r = IsNextByTime cursors r
 
 -- what is next of the inputs
-abbrev pub IsNext : Schedule → List InputView → Next → Type 0
-IsNext (Turn turn) cursors r = IsNextInTurn cursors turn r
-IsNext (Merge next last) cursors r = IsNextByTime cursors next last r
+abbrev pub IsNext : InputsView → Next → Type 0
+IsNext inputs r = IsNextIn inputs.order inputs.cursors r
+
+-- ---- a packet is decided
 
 -- the current packet is decided
 abbrev pub input_behind : InputView → InputView
@@ -348,7 +297,7 @@ input_behind h = record { source = h.source; waiting = false; greatest = max h.g
 pub record MarksDecided (old : InputsView) (i : ℕ) (new : InputsView) : Type 0 where
   pub cursor : InputView
   pub among : IsInput old.cursors i cursor
-  pub is : new ≡ record { cursors = slice_set old.cursors i (input_behind cursor); schedule = schedule_behind old.schedule i }
+  pub is : new ≡ with_cursor old i (input_behind cursor)
 
 abbrev pub first_declared_link : List InputView → Option ℕ
 first_declared_link [] = None

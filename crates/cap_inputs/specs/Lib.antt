@@ -1,3 +1,4 @@
+pub mod Cursor
 pub mod Fresh
 pub mod Inputs
 pub mod Queue

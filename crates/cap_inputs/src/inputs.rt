@@ -2,12 +2,12 @@
 ghost use Rattle.std.specs.Prelude.{◌≡◌, ◌&&◌, [], true, ◌<◌, ◌≤◌, ◌-◌, ◌^◌, IsTrue, false, length};
 ghost use Rattle.std.specs.Prelude.{map};
 ghost use Rattle.std.specs.Option.{IfSome};
-ghost use Rattle.cap_inputs.specs.Fresh.{fresh_view, fresh_input, first_schedule};
+ghost use Rattle.cap_inputs.specs.Cursor.{Enters, HasPlaceFor, IsAtCursor, IsNextOfMerge, IsQueued};
+ghost use Rattle.cap_inputs.specs.Cursor.{Leaves, first_schedule, is_merge, schedule_after};
+ghost use Rattle.cap_inputs.specs.Cursor.{schedule_behind};
+ghost use Rattle.cap_inputs.specs.Fresh.{fresh_view, fresh_input};
 ghost use Rattle.cap_inputs.specs.Sequence.{order_of};
-ghost use Rattle.cap_inputs.specs.Inputs.{Enters, HasPlaceFor, IsNextByTime, IsNextInTurn};
-ghost use Rattle.cap_inputs.specs.Inputs.{IsQueued, Leaves, first_declared_link, is_clean_end};
-ghost use Rattle.cap_inputs.specs.Inputs.{is_merge, key_of, schedule_after, schedule_behind};
-ghost use Rattle.cap_inputs.specs.Inputs.{time_of};
+ghost use Rattle.cap_inputs.specs.Inputs.{first_declared_link, is_packet_found, key_of, time_of};
 
 use crate::queue::{Queue, Waiting};
 use cap_io::{Kind, Source};
@@ -29,6 +29,7 @@ pub struct InputCursor<I: Input, A: Allocator> {
 
 impl<I: Input, A: Allocator> Model for InputCursor<I, A> {
     ghost use Rattle.std.specs.Prelude.{◌≡◌, is_some, true};
+    ghost use Rattle.cap_io.specs.Source.{Reading};
     ghost use Rattle.cap_inputs.specs.Inputs.{InputView, time_of};
 
     ghost Value = { InputView };
@@ -36,7 +37,8 @@ impl<I: Input, A: Allocator> Model for InputCursor<I, A> {
     ghost view = { λ h. record { source = h.source; waiting = h.waiting; greatest = h.greatest } };
 
     ghost invariant = { λ h. (h.time ≡ time_of h.source.packet)
-        × (h.waiting ≡ true → is_some h.source.packet ≡ true) };
+        × (h.waiting ≡ true → is_some h.source.packet ≡ true)
+        × (h.waiting ≡ true → h.source.phase ≡ Reading) };
 }
 
 /// Which input is next, by the order of the packets.
@@ -71,7 +73,7 @@ fn time_in<I: Input, A: Allocator>(source: &Source<I, A>) -> u64
 
 impl<I: Input, A: Allocator> InputCursor<I, A> {
     ghost use Rattle.cap_inputs.specs.Inputs.{InputView, input_after, is_packet_found, input_behind};
-    ghost use Rattle.cap_io.specs.Source.{SourceView, Advances, HasFew, Steps};
+    ghost use Rattle.cap_io.specs.Source.{SourceView, Advances, HasFew, Reading, Steps, phase_told};
     ghost use Rattle.std.specs.Option.{option_map};
     ghost use Rattle.cap_octet.specs.Packet.{captured};
     ghost use Rattle.cap_io.specs.Capture.{first_link_of, kind_of};
@@ -96,6 +98,7 @@ impl<I: Input, A: Allocator> InputCursor<I, A> {
         ensures told { IsTrue I.tells → Advances self.old.source.phase self.old.source result
             self.new.source }
         ensures steps { Steps self.old.source.phase self.old.source result self.new.source }
+        ensures phase { self.new.source.phase ≡ phase_told result }
         ensures few { HasFew self.new.source.declared }
         ensures is { self.new ≡ input_after self.old result self.new.source }
     {
@@ -116,7 +119,8 @@ impl<I: Input, A: Allocator> InputCursor<I, A> {
 
     /// The current packet is decided.
     fn mark_decided(&mut self)
-        ensures { self.new ≡ input_behind self.old }
+        ensures behind { self.new ≡ input_behind self.old }
+        ensures reading { self.old.waiting ≡ true → self.old.source.phase ≡ Reading }
     {
         self.greatest = self.greatest.max(self.time);
         self.waiting = false;
@@ -160,13 +164,15 @@ pub struct Inputs<I: Input, A: Allocator> {
 }
 
 impl<I: Input, A: Allocator> Model for Inputs<I, A> {
-    ghost use Rattle.cap_inputs.specs.Inputs.{InputsView, HoldsQueue};
+    ghost use Rattle.cap_inputs.specs.Cursor.{HoldsQueue, IsPlaced, ordering_of};
+    ghost use Rattle.cap_inputs.specs.Inputs.{InputsView};
 
     ghost Value = { InputsView };
 
-    ghost view = { λ f. record { cursors = f.cursors.items; schedule = f.schedule } };
+    ghost view = { λ f. record { order = ordering_of f.schedule; cursors = f.cursors.items } };
 
-    ghost invariant = { λ f. HoldsQueue f.schedule f.cursors.items f.queue };
+    ghost invariant = { λ f. HoldsQueue f.schedule f.cursors.items f.queue
+        × IsPlaced f.schedule f.cursors.items };
 }
 
 impl<I: Input, A: Allocator> Inputs<I, A> {
@@ -196,7 +202,7 @@ impl<I: Input, A: Allocator> Inputs<I, A> {
 
     /// Whether the inputs come one behind another.
     pub fn is_in_turn(&self) -> bool
-        ensures { result ≡ is_in_turn self.now.schedule }
+        ensures { result ≡ is_in_turn self.now.order }
     {
         matches!(self.schedule, Schedule::Turn(_))
     }
@@ -220,7 +226,7 @@ impl<I: Input, A: Allocator> Inputs<I, A> {
 
     /// What is next of the inputs.
     pub fn next(&self) -> Next
-        ensures { IsNext self.now.schedule self.now.cursors result }
+        ensures { IsNext self.now result }
     {
         match self.schedule {
             Schedule::Turn(turn) => next_in_turn(&self.cursors, turn),
@@ -239,7 +245,7 @@ impl<I: Input, A: Allocator> Inputs<I, A> {
     /// The current packet of an input, which is the next, is decided.
     pub fn mark_decided(&mut self, input: usize)
         requires within { input < length self.old.cursors }
-        requires next { IsNext self.old.schedule self.old.cursors (Next.Decide input) }
+        requires next { IsNext self.old (Next.Decide input) }
         ensures { MarksDecided self.old input self.new }
     {
         self.cursors[input].mark_decided();
@@ -256,7 +262,7 @@ impl<I: Input, A: Allocator> Inputs<I, A> {
     /// Reads an input on, which is the next.
     pub fn read_input(&mut self, input: usize) -> Result<bool, Fault>
         requires within { input < length self.old.cursors }
-        requires next { IsNext self.old.schedule self.old.cursors (Next.Read input) }
+        requires next { IsNext self.old (Next.Read input) }
         ensures told { IsTrue I.tells → ReadsInput self.old input result self.new }
         ensures steps { ReadSteps self.old input result self.new }
         ensures count { length self.new.cursors ≡ length self.old.cursors }
@@ -267,14 +273,7 @@ impl<I: Input, A: Allocator> Inputs<I, A> {
             time: cursor.key(),
             input,
         };
-        let waits = cursor.waiting;
-        go_on(
-            &mut self.queue,
-            &mut self.schedule,
-            entry,
-            waits,
-            is_end(result),
-        );
+        go_on(&mut self.queue, &mut self.schedule, entry, result);
         result
     }
 }
@@ -293,14 +292,8 @@ fn first_link_in<I: Input, A: Allocator>(cursors: &[InputCursor<I, A>]) -> Optio
     first
 }
 
-fn is_end(answer: Result<bool, Fault>) -> bool
-    ensures { result ≡ is_clean_end answer }
-{
-    matches!(answer, Ok(false))
-}
-
 fn next_in_turn<I: Input, A: Allocator>(cursors: &[InputCursor<I, A>], turn: usize) -> Next
-    ensures { IsNextInTurn cursors.now turn result }
+    ensures { IsAtCursor cursors.now turn result }
 {
     if turn < cursors.len() {
         let cursor = &cursors[turn];
@@ -326,31 +319,34 @@ where
 }
 
 /// Goes on behind an input that was read on. If the inputs are merged, it waits where it has a
-/// packet; if not, the next one comes where this one is closed.
+/// packet; if not, the next one comes where this one is closed. Where the read failed, nothing is
+/// next but to read it again.
 fn go_on<A: Allocator>(
     queue: &mut Queue<A>,
     schedule: &mut Schedule,
     entry: Waiting,
-    waits: bool,
-    closed: bool,
+    read: Result<bool, Fault>,
 )
-    requires room { (waits && is_merge schedule.old) ≡ true → HasPlaceFor queue.old entry.input }
+    requires room { (is_packet_found read && is_merge schedule.old) ≡ true
+        → HasPlaceFor queue.old entry.input }
     requires few { entry.input < 2 ^ 64 - 1 }
-    ensures queue { Enters (waits && is_merge schedule.old) entry queue.old queue.new }
-    ensures schedule { schedule.new ≡ schedule_after schedule.old entry.input closed }
+    ensures queue { Enters (is_packet_found read && is_merge schedule.old) entry queue.old
+        queue.new }
+    ensures schedule { schedule.new ≡ schedule_after schedule.old entry.input read }
 {
     match schedule {
-        Schedule::Turn(turn) => {
-            if closed {
-                *turn = entry.input + 1;
-            }
-        }
-        Schedule::Merge(next, _) => {
-            *next = entry.input + 1;
-            if waits {
+        Schedule::Turn(turn) => match read {
+            Ok(true) | Err(_) => {}
+            Ok(false) => *turn = entry.input + 1,
+        },
+        Schedule::Merge(next, _) => match read {
+            Ok(true) => {
+                *next = entry.input + 1;
                 queue.add(entry);
             }
-        }
+            Ok(false) => *next = entry.input + 1,
+            Err(_) => {}
+        },
     }
 }
 
@@ -375,7 +371,7 @@ fn next_by_time<I: Input, A: Allocator>(
     last: usize,
 ) -> Next
     requires { IsQueued cursors.now next last queue.now }
-    ensures { IsNextByTime cursors.now next last result }
+    ensures { IsNextOfMerge cursors.now next last result }
 {
     if next < last && next < cursors.len() {
         return Next::Read(next);

@@ -26,10 +26,9 @@ use Rattle.flt_gen.specs.Reading.{holds}
 use Rattle.cap_tools.specs.declared.selector.Verdict as code
 use Rattle.cap_tools.specs.declared.selector.Verdict.TheVariants as code_verdict
 use Rattle.cap_tools.specs.declared.step.JobEnd.TheVariants as end
-use Rattle.cap_inputs.specs.declared.inputs.Schedule.{Schedule}
 use Rattle.cap_inputs.specs.declared.inputs.Next.TheVariants as next
 use Rattle.cap_tools.specs.Reports.{Tally}
-use Rattle.cap_inputs.specs.Sequence.{InputItems, Event, Packet, SequenceEnd, Complete, FaultIn, Sequence, sequence_of, with_front}
+use Rattle.cap_inputs.specs.Sequence.{InputItems, Event, Packet, SequenceEnd, Complete, FaultIn, Sequence, sequence_of, with_front, PacketOrder}
 use Rattle.cap_tools.specs.Verdict.{Policy, Edit, Filter, KeepAll, Count, EditRule, SelectorState, Verdict, Pass, PassLast, Skip, Refuse, judge}
 use Rattle.cap_window.specs.Marks.{mark_of, has_same}
 use Rattle.cap_tools.specs.Verdict as judged_spec
@@ -39,7 +38,7 @@ use Rattle.cap_print.specs.Rendering.{printed}
 use Rattle.cap_tools.specs.Outcome.{Form, AsCapture, AsLines, Progress, IsNextEvent, lines_text, no_progress, decide_unless, apply_verdict, apply_event, apply_events, final_progress, packet_bytes, form_refuses, end_with, final_text, first_link, output_text}
 use Rattle.cap_tools.specs.Outcome as course_spec
 use Rattle.cap_tools.specs.Output.{JobOutputView, Target, Capture, Text, Lines, HasWritten, Puts, form_at, form_to, output_at, written_to, failures_to}
-use Rattle.cap_inputs.specs.Inputs.{InputView, InputsView, Future, InputPast, AreInputsBehind, AreSettled, IsInput, input_behind, schedule_behind, actual_future, inputs_with, items_left, inputs_left, sequence_left, most_steps, ordering_of}
+use Rattle.cap_inputs.specs.Inputs.{InputView, InputsView, Future, InputPast, AreInputsBehind, AreSettled, IsInput, input_behind, actual_future, inputs_with, items_left, inputs_left, sequence_left, most_steps}
 use Rattle.cap_inputs.specs.Inputs as input_spec
 use Rattle.cap_tools.specs.Machine.{MachineState, PacketsDecided, GoesOn, Comes, Decides, Offers, StopsWriting, NextPacket, PassesAs, EndLeaves, progress_at, progress_of, progress_over, form_of, wholes_of, work_of, written_by, unwritten, sieve}
 use Rattle.cap_tools.proofs.Splits.{At, stands-split, stands-join, stands-length, rests-join, finish-here, come-on}
@@ -50,7 +49,7 @@ use Rattle.cap_tools.proofs.Laws.{DecideLaws, DecideAt, decide-at}
 use Rattle.cap_tools.proofs.Once.{once-nothing, once-packet}
 use Rattle.cap_tools.proofs.Outcomes.{progress-next, course-stop}
 use Rattle.cap_inputs.proofs.Cursors.{greatest-decided, greatest-here, never-at, set-here}
-use Rattle.cap_tools.proofs.Fetches.{mk, among-same, comes-broken}
+use Rattle.cap_tools.proofs.Fetches.{mk, among-same, comes-broken, inputs_at}
 
 -- ---- a packet that is judged
 
@@ -112,33 +111,33 @@ took policy w before i x old new last state' code_verdict.Skip q has told names 
 laters : List InputView → List Future
 laters hs = map (λ (v : InputView). actual_future v.source) hs
 
-pub record Ahead (ss : List InputPast) (cursors : List InputView) (schedule : Schedule) (es : List Event) (e : Event) : Type 0 where
+pub record Ahead (ss : List InputPast) (cursors : List InputView) (order : PacketOrder) (es : List Event) (e : Event) : Type 0 where
   pub more : Sequence
-  pub is : sequence_of (ordering_of schedule) (wholes_of ss) ≡ with_front es (with_front (e ∷ []) more)
+  pub is : sequence_of order (wholes_of ss) ≡ with_front es (with_front (e ∷ []) more)
 
 -- it is the next event
-pub is-next : (ss : List InputPast) (before : List ℕ) (cursors : List InputView) (schedule : Schedule) (policy : Policy) (state : SelectorState) (output : JobOutputView) (decided : ℕ) (e : Event)
-    → (d : PacketsDecided ss before (mk cursors schedule policy state output decided)) → Ahead ss cursors schedule d.events e
-    → IsNextEvent (work_of (mk cursors schedule policy state output decided)) (wholes_of ss) d.events e
-is-next ss before cursors schedule policy state output decided e d ahead = record {
+pub is-next : (ss : List InputPast) (before : List ℕ) (cursors : List InputView) (order : PacketOrder) (policy : Policy) (state : SelectorState) (output : JobOutputView) (decided : ℕ) (e : Event)
+    → (d : PacketsDecided ss before (mk cursors order policy state output decided)) → Ahead ss cursors order d.events e
+    → IsNextEvent (work_of (mk cursors order policy state output decided)) (wholes_of ss) d.events e
+is-next ss before cursors order policy state output decided e d ahead = record {
   later = ahead.more.events;
   is = ap (λ (s : Sequence). s.events) ahead.is;
   goes = ap (λ (w : Progress). w.end) d.progress;
 }
 
-pub next-true : (us vs : List InputPast) (s : InputPast) (before : List ℕ) (xs ys : List InputView) (h : InputView) (schedule : Schedule) (turn : ℕ) (policy : Policy) (state : SelectorState) (output : JobOutputView) (decided : ℕ) (p : Captured)
-    → DecideLaws schedule turn xs ys h → AreInputsBehind us xs → At s h → AreInputsBehind vs ys → h.source.packet ≡ Some p
-    → (d : PacketsDecided (us ++ s ∷ vs) before (mk (xs ++ h ∷ ys) schedule policy state output decided))
-    → Ahead (us ++ s ∷ vs) (xs ++ h ∷ ys) schedule d.events (Packet turn (record { offset = h.source.offset; packet = p }))
-next-true us vs s before xs ys h schedule turn policy state output decided p laws front at back held d =
+pub next-true : (us vs : List InputPast) (s : InputPast) (before : List ℕ) (xs ys : List InputView) (h : InputView) (order : PacketOrder) (turn : ℕ) (policy : Policy) (state : SelectorState) (output : JobOutputView) (decided : ℕ) (p : Captured)
+    → DecideLaws order turn xs ys h → AreInputsBehind us xs → At s h → AreInputsBehind vs ys → h.source.packet ≡ Some p
+    → (d : PacketsDecided (us ++ s ∷ vs) before (mk (xs ++ h ∷ ys) order policy state output decided))
+    → Ahead (us ++ s ∷ vs) (xs ++ h ∷ ys) order d.events (Packet turn (record { offset = h.source.offset; packet = p }))
+next-true us vs s before xs ys h order turn policy state output decided p laws front at back held d =
     let fits = true-fits (us ++ s ∷ vs) (xs ++ h ∷ ys) d.behind in
     record {
-      more = sequence_left (schedule_behind schedule turn) (inputs_left xs (map (λ (v : InputView). actual_future v.source) xs) ++ items_left (input_behind h) (actual_future h.source) ∷ inputs_left ys (map (λ (v : InputView). actual_future v.source) ys));
+      more = sequence_left order (xs ++ input_behind h ∷ ys) (inputs_left xs (map (λ (v : InputView). actual_future v.source) xs) ++ items_left (input_behind h) (actual_future h.source) ∷ inputs_left ys (map (λ (v : InputView). actual_future v.source) ys));
       is =
-          ap (sequence_of (ordering_of schedule)) (sym (true-wholes (us ++ s ∷ vs) (xs ++ h ∷ ys) d.behind))
+          ap (sequence_of order) (sym (true-wholes (us ++ s ∷ vs) (xs ++ h ∷ ys) d.behind))
           ∙ d.come (map (λ (v : InputView). actual_future v.source) (xs ++ h ∷ ys)) fits
-          ∙ ap (λ (l : List Future). with_front d.events (sequence_left schedule (inputs_left (xs ++ h ∷ ys) l))) (map-append (λ (v : InputView). actual_future v.source) xs (h ∷ ys))
-          ∙ ap (λ (l : List InputItems). with_front d.events (sequence_left schedule l)) (rests-join xs ys h (map (λ (v : InputView). actual_future v.source) xs) (map (λ (v : InputView). actual_future v.source) ys) (actual_future h.source) (true-fits us xs front))
+          ∙ ap (λ (l : List Future). with_front d.events (sequence_left order (xs ++ h ∷ ys) (inputs_left (xs ++ h ∷ ys) l))) (map-append (λ (v : InputView). actual_future v.source) xs (h ∷ ys))
+          ∙ ap (λ (l : List InputItems). with_front d.events (sequence_left order (xs ++ h ∷ ys) l)) (rests-join xs ys h (map (λ (v : InputView). actual_future v.source) xs) (map (λ (v : InputView). actual_future v.source) ys) (actual_future h.source) (true-fits us xs front))
           ∙ ap (with_front d.events) (laws.decided_left p held (actual_future h.source) (true-fit s h at) (map (λ (v : InputView). actual_future v.source) xs) (map (λ (v : InputView). actual_future v.source) ys) (true-fits us xs front) (true-fits vs ys back));
     }
 
@@ -161,12 +160,12 @@ counted-more n t t' within grows =
     let z = grows.2 in
     (omega (arith, a, x), omega (arith, b, y), omega (arith, c, z))
 
-pub decided-goes : (us vs : List InputPast) (s : InputPast) (before : List ℕ) (xs ys : List InputView) (h : InputView) (schedule : Schedule) (turn : ℕ) (policy : Policy) (state state' : SelectorState) (output output' : JobOutputView) (decided : ℕ) (p : Captured)
-    → DecideLaws schedule turn xs ys h → AreInputsBehind us xs → At s h → AreInputsBehind vs ys → h.source.packet ≡ Some p → state'.passed ≤ decided + 1 → GrowsByOne state.tally state'.tally
-    → (d : PacketsDecided (us ++ s ∷ vs) before (mk (xs ++ h ∷ ys) schedule policy state output decided))
-    → Took policy (progress_at (mk (xs ++ h ∷ ys) schedule policy state output decided) d.packets d.reports) before turn (record { offset = h.source.offset; packet = p }) state' output output' false
-    → GoesOn d (mk (xs ++ input_behind h ∷ ys) (schedule_behind schedule turn) policy state' output' (decided + 1))
-decided-goes us vs s before xs ys h schedule turn policy state state' output output' decided p laws front at back held within grows d t =
+pub decided-goes : (us vs : List InputPast) (s : InputPast) (before : List ℕ) (xs ys : List InputView) (h : InputView) (order : PacketOrder) (turn : ℕ) (policy : Policy) (state state' : SelectorState) (output output' : JobOutputView) (decided : ℕ) (p : Captured)
+    → DecideLaws order turn xs ys h → AreInputsBehind us xs → At s h → AreInputsBehind vs ys → h.source.packet ≡ Some p → state'.passed ≤ decided + 1 → GrowsByOne state.tally state'.tally
+    → (d : PacketsDecided (us ++ s ∷ vs) before (mk (xs ++ h ∷ ys) order policy state output decided))
+    → Took policy (progress_at (mk (xs ++ h ∷ ys) order policy state output decided) d.packets d.reports) before turn (record { offset = h.source.offset; packet = p }) state' output output' false
+    → GoesOn d (mk (xs ++ input_behind h ∷ ys) order policy state' output' (decided + 1))
+decided-goes us vs s before xs ys h order turn policy state state' output output' decided p laws front at back held within grows d t =
     let waits : h.waiting ≡ true = laws.waits in
     let x : Placed = record { offset = h.source.offset; packet = p } in
     let P : Bool → Type 0 = λ b. IsAt s.text s.done s.packets b h.source in
@@ -175,11 +174,11 @@ decided-goes us vs s before xs ys h schedule turn policy state state' output out
     let after : InputPast = record { text = s.text; done = s.done ++ h.source.block; packets = s.packets ++ x ∷ [] } in
     let A : Captured → Type 0 = λ q. IsAt s.text (s.done ++ h.source.block) (s.packets ++ record { offset = h.source.offset; packet = q } ∷ []) false h.source in
     let here : At after (input_behind h) = subst A same (IsAt-decided s.text s.done s.packets h.source was).1 in
-    let old : MachineState = mk (xs ++ h ∷ ys) schedule policy state output decided in
-    let new : MachineState = mk (xs ++ input_behind h ∷ ys) (schedule_behind schedule turn) policy state' output' (decided + 1) in
+    let old : MachineState = mk (xs ++ h ∷ ys) order policy state output decided in
+    let new : MachineState = mk (xs ++ input_behind h ∷ ys) order policy state' output' (decided + 1) in
     let behind : AreInputsBehind (us ++ after ∷ vs) new.inputs.cursors = stands-join us vs after xs ys (input_behind h) front here back in
-    let come : AreSettled (us ++ after ∷ vs) new.inputs (d.events ++ Packet turn x ∷ []) = come-on us vs s after xs ys h (input_behind h) schedule (schedule_behind schedule turn) d.events (Packet turn x ∷ []) laws.order front d.come
-    (λ f' fit. carries-decided s xs ys h turn schedule (schedule_behind schedule turn) h.source.block p waits held (λ f fit fs gs before with_front. laws.decided_left p held f fit fs gs before with_front) f' fit) in
+    let come : AreSettled (us ++ after ∷ vs) new.inputs (d.events ++ Packet turn x ∷ []) = come-on us vs s after xs ys h (input_behind h) order d.events (Packet turn x ∷ []) front d.come
+    (λ f' fit. carries-decided s xs ys h turn order h.source.block p waits held (λ f fit fs gs before with_front. laws.decided_left p held f fit fs gs before with_front) f' fit) in
     record {
       input = turn;
       finished = h.source.block;
@@ -198,7 +197,6 @@ decided-goes us vs s before xs ys h schedule turn policy state state' output out
         output = t.output;
         passed = within;
         counted = counted-more decided state.tally state'.tally d.counted grows;
-        ended = laws.ended;
       };
       at_most_one = omega arith;
       form = t.form;
@@ -210,7 +208,7 @@ decided-goes us vs s before xs ys h schedule turn policy state state' output out
       ];
       output = t.failures;
       names = t.names;
-      order = laws.order;
+      order = refl;
       never = never-at xs ys h (input_behind h) refl;
     }
   where
@@ -228,10 +226,10 @@ decided-goes us vs s before xs ys h schedule turn policy state state' output out
 -- ---- it is the last, or it is refused
 
 -- the job ends at the current packet
-pub stops-course : (ss : List InputPast) (cursors : List InputView) (schedule : Schedule) (es : List Event) (e : Event) (policy : Policy) (form : Form) (w w' : Progress) (c : SequenceEnd) → Ahead ss cursors schedule es e → apply_events policy form no_progress es ≡ w → w.end ≡ None
-    → apply_event policy form w e ≡ w' → w'.end ≡ Some c → final_progress policy form (sequence_of (ordering_of schedule) (wholes_of ss)) ≡ w'
-stops-course ss cursors schedule es e policy form w w' c ahead far on went end =
-    course-stop policy form (sequence_of (ordering_of schedule) (wholes_of ss)) ahead.more es e w w' c ahead.is far (ap (λ (o : Option SequenceEnd). course_spec.unless_ended o w (apply_event policy form w e)) on ∙ went) end
+pub stops-course : (ss : List InputPast) (cursors : List InputView) (order : PacketOrder) (es : List Event) (e : Event) (policy : Policy) (form : Form) (w w' : Progress) (c : SequenceEnd) → Ahead ss cursors order es e → apply_events policy form no_progress es ≡ w → w.end ≡ None
+    → apply_event policy form w e ≡ w' → w'.end ≡ Some c → final_progress policy form (sequence_of order (wholes_of ss)) ≡ w'
+stops-course ss cursors order es e policy form w w' c ahead far on went end =
+    course-stop policy form (sequence_of order (wholes_of ss)) ahead.more es e w w' c ahead.is far (ap (λ (o : Option SequenceEnd). course_spec.unless_ended o w (apply_event policy form w e)) on ∙ went) end
 
 -- the last packet passed
 pub record LastTook (policy : Policy) (w : Progress) (before : List ℕ) (i : ℕ) (x : Placed) (state' : SelectorState) (old new : JobOutputView) : Type 0 where
@@ -262,18 +260,18 @@ abbrev AnswersNext : {ss : List InputPast} {before : List ℕ} {old : MachineSta
 AnswersNext {ss} {before} {old} d new q = form_refuses (form_of old) d.packets q ≡ None → (bytes : List ℕ) → bytes ≡ packet_bytes (form_of old) d.packets q → NextPacket d new bytes
 
 -- the device failed at a packet
-stops-writing : (ss : List InputPast) (before : List ℕ) (cursors : List InputView) (schedule : Schedule) (policy : Policy) (state state' : SelectorState) (names : List (List ℕ)) (sink sink' : SinkView) (decided : ℕ) (new : MachineState) (e : Event) (q : Captured) (o : Option SequenceEnd)
-    → (d : PacketsDecided ss before (mk cursors schedule policy state (record { names = names; target = Capture sink }) decided)) → Ahead ss cursors schedule d.events e
+stops-writing : (ss : List InputPast) (before : List ℕ) (cursors : List InputView) (order : PacketOrder) (policy : Policy) (state state' : SelectorState) (names : List (List ℕ)) (sink sink' : SinkView) (decided : ℕ) (new : MachineState) (e : Event) (q : Captured) (o : Option SequenceEnd)
+    → (d : PacketsDecided ss before (mk cursors order policy state (record { names = names; target = Capture sink }) decided)) → Ahead ss cursors order d.events e
     → apply_event policy (AsCapture sink.format) (progress_of d) e ≡ course_spec.decide (progress_of d) state' (q ∷ []) o
     → AnswersNext d new q → WhyUnput WriteFailed sink d.packets q sink' → new.output.target ≡ Capture sink'
     → StopsWriting d new
-stops-writing ss before cursors schedule policy state state' names sink sink' decided new e q o d ahead went answers why is =
+stops-writing ss before cursors order policy state state' names sink sink' decided new e q o d ahead went answers why is =
     let form : Form = AsCapture sink.format in
     let packets : List Captured = d.packets in
     let w : Progress = progress_of d in
     let w' : Progress = course_spec.decide w state' (q ∷ []) o in
-    let all : Progress = final_progress policy form (sequence_of (ordering_of schedule) (wholes_of ss)) in
-    let grows : Grows w' all = course-grows policy form (sequence_of (ordering_of schedule) (wholes_of ss)) ahead.more (d.events ++ e ∷ []) w'
+    let all : Progress = final_progress policy form (sequence_of order (wholes_of ss)) in
+    let grows : Grows w' all = course-grows policy form (sequence_of order (wholes_of ss)) ahead.more (d.events ++ e ∷ []) w'
     (ahead.is ∙ ap (λ (l : List Event). record { events = l; end = ahead.more.end }) (sym (append_assoc d.events (e ∷ []) ahead.more.events)))
     (progress-next policy form d.events e w w' d.progress went) in
     let closes : List ℕ = course_spec.text_at_end all.end form (first_link (wholes_of ss)) all.packets in
@@ -293,18 +291,18 @@ stops-writing ss before cursors schedule policy state state' names sink sink' de
     }
 
 -- the device failed at the line of a packet
-stops-line : (ss : List InputPast) (before : List ℕ) (cursors : List InputView) (schedule : Schedule) (policy : Policy) (state state' : SelectorState) (names : List (List ℕ)) (options : Options) (bytes after : List ℕ) (failures room decided : ℕ) (new : MachineState) (e : Event) (q : Captured) (o : Option SequenceEnd)
-    → (d : PacketsDecided ss before (mk cursors schedule policy state (record { names = names; target = Lines options bytes failures room }) decided)) → Ahead ss cursors schedule d.events e
+stops-line : (ss : List InputPast) (before : List ℕ) (cursors : List InputView) (order : PacketOrder) (policy : Policy) (state state' : SelectorState) (names : List (List ℕ)) (options : Options) (bytes after : List ℕ) (failures room decided : ℕ) (new : MachineState) (e : Event) (q : Captured) (o : Option SequenceEnd)
+    → (d : PacketsDecided ss before (mk cursors order policy state (record { names = names; target = Lines options bytes failures room }) decided)) → Ahead ss cursors order d.events e
     → apply_event policy (AsLines options) (progress_of d) e ≡ course_spec.decide (progress_of d) state' (q ∷ []) o
     → AnswersNext d new q → Stops bytes (printed options q) after → new.output.target ≡ Lines options after (failures + 1) room
     → StopsWriting d new
-stops-line ss before cursors schedule policy state state' names options bytes after failures room decided new e q o d ahead went answers stops is =
+stops-line ss before cursors order policy state state' names options bytes after failures room decided new e q o d ahead went answers stops is =
     let form : Form = AsLines options in
     let packets : List Captured = d.packets in
     let w : Progress = progress_of d in
     let w' : Progress = course_spec.decide w state' (q ∷ []) o in
-    let all : Progress = final_progress policy form (sequence_of (ordering_of schedule) (wholes_of ss)) in
-    let grows : Grows w' all = course-grows policy form (sequence_of (ordering_of schedule) (wholes_of ss)) ahead.more (d.events ++ e ∷ []) w'
+    let all : Progress = final_progress policy form (sequence_of order (wholes_of ss)) in
+    let grows : Grows w' all = course-grows policy form (sequence_of order (wholes_of ss)) ahead.more (d.events ++ e ∷ []) w'
     (ahead.is ∙ ap (λ (l : List Event). record { events = l; end = ahead.more.end }) (sym (append_assoc d.events (e ∷ []) ahead.more.events)))
     (progress-next policy form d.events e w w' d.progress went) in
     let closes : List ℕ = course_spec.text_at_end all.end form (first_link (wholes_of ss)) all.packets in
@@ -327,23 +325,23 @@ stops-line ss before cursors schedule policy state state' names options bytes af
 -- ---- what an answer leaves
 
 -- a packet that passes isn't put into a capture
-unput-capture : (ss : List InputPast) (before : List ℕ) (cursors : List InputView) (schedule : Schedule) (turn : ℕ) (policy : Policy) (state state' : SelectorState) (names : List (List ℕ)) (sink sink' : SinkView) (decided : ℕ) (new : MachineState) (x : Placed) (q : Captured) (o : Option SequenceEnd) (fault : Fault)
-    → (d : PacketsDecided ss before (mk cursors schedule policy state (record { names = names; target = Capture sink }) decided)) → Ahead ss cursors schedule d.events (Packet turn x)
+unput-capture : (ss : List InputPast) (before : List ℕ) (cursors : List InputView) (order : PacketOrder) (turn : ℕ) (policy : Policy) (state state' : SelectorState) (names : List (List ℕ)) (sink sink' : SinkView) (decided : ℕ) (new : MachineState) (x : Placed) (q : Captured) (o : Option SequenceEnd) (fault : Fault)
+    → (d : PacketsDecided ss before (mk cursors order policy state (record { names = names; target = Capture sink }) decided)) → Ahead ss cursors order d.events (Packet turn x)
     → apply_event policy (AsCapture sink.format) (progress_of d) (Packet turn x) ≡ decide_unless (refused sink.format d.packets q) (progress_of d) turn x state' q o
-    → input_spec.IsNext schedule cursors (next.Decide turn) → new.inputs ≡ record { cursors = cursors; schedule = schedule } → (cursor : InputView) → IsInput new.inputs.cursors turn cursor → cursor.source.offset ≡ x.offset
+    → input_spec.IsNext (inputs_at order cursors) (next.Decide turn) → new.inputs ≡ record { order = order; cursors = cursors } → (cursor : InputView) → IsInput new.inputs.cursors turn cursor → cursor.source.offset ≡ x.offset
     → AnswersNext d new q → WhyUnput fault sink d.packets q sink' → new.output.target ≡ Capture sink'
     → EndLeaves d (unwritten turn fault) new
-unput-capture ss before cursors schedule turn policy state state' names sink sink' decided new x q o WriteFailed d ahead went tells same_feed cursor among offset answers why is =
-    stops-writing ss before cursors schedule policy state state' names sink sink' decided new (Packet turn x) q o d ahead
+unput-capture ss before cursors order turn policy state state' names sink sink' decided new x q o WriteFailed d ahead went tells same_feed cursor among offset answers why is =
+    stops-writing ss before cursors order policy state state' names sink sink' decided new (Packet turn x) q o d ahead
     (went ∙ ap (λ (f : Option Fault). decide_unless f (progress_of d) turn x state' q o) why.0) answers why is
-unput-capture ss before cursors schedule turn policy state state' names sink sink' decided new x q o NoMemory d ahead went tells same_feed cursor among offset answers why is =
+unput-capture ss before cursors order turn policy state state' names sink sink' decided new x q o NoMemory d ahead went tells same_feed cursor among offset answers why is =
     record {
       cursor = cursor;
       among = among;
       why = inr (inr (record {
         next = tells;
         packet = x;
-        comes = is-next ss before cursors schedule policy state (record { names = names; target = Capture sink }) decided (Packet turn x) d ahead;
+        comes = is-next ss before cursors order policy state (record { names = names; target = Capture sink }) decided (Packet turn x) d ahead;
         place = offset;
         inputs = same_feed;
         why = refl;
@@ -351,11 +349,11 @@ unput-capture ss before cursors schedule turn policy state state' names sink sin
         device = ap failures_to is ∙ why.1;
       }));
     }
-unput-capture ss before cursors schedule turn policy state state' names sink sink' decided new x q o fault d ahead went tells same_feed cursor among offset answers why is =
-    let m : MachineState = mk cursors schedule policy state (record { names = names; target = Capture sink }) decided in
+unput-capture ss before cursors order turn policy state state' names sink sink' decided new x q o fault d ahead went tells same_feed cursor among offset answers why is =
+    let m : MachineState = mk cursors order policy state (record { names = names; target = Capture sink }) decided in
     let w : Progress = progress_of d in
-    let stop : final_progress policy (AsCapture sink.format) (sequence_of (ordering_of schedule) (wholes_of ss)) ≡ end_with w (FaultIn turn fault x.offset) =
-    stops-course ss cursors schedule d.events (Packet turn x) policy (AsCapture sink.format) w (end_with w (FaultIn turn fault x.offset)) (FaultIn turn fault x.offset) ahead d.progress refl
+    let stop : final_progress policy (AsCapture sink.format) (sequence_of order (wholes_of ss)) ≡ end_with w (FaultIn turn fault x.offset) =
+    stops-course ss cursors order d.events (Packet turn x) policy (AsCapture sink.format) w (end_with w (FaultIn turn fault x.offset)) (FaultIn turn fault x.offset) ahead d.progress refl
     (went ∙ ap (λ (f : Option Fault). decide_unless f w turn x state' q o) why.0) refl in
     record {
       cursor = cursor;
@@ -363,35 +361,35 @@ unput-capture ss before cursors schedule turn policy state state' names sink sin
       why = inl (rw offset (comes-broken ss before m (wholes_of ss) d new turn fault x.offset stop (ap written_to is ∙ why.1) (ap failures_to is ∙ why.2)));
     }
 
-unput-leaves : (ss : List InputPast) (before : List ℕ) (cursors : List InputView) (schedule : Schedule) (turn : ℕ) (policy : Policy) (state state' : SelectorState) (names : List (List ℕ)) (target : Target) (decided : ℕ) (new : MachineState) (x : Placed) (q : Captured) (o : Option SequenceEnd) (fault : Fault)
-    → (d : PacketsDecided ss before (mk cursors schedule policy state (record { names = names; target = target }) decided)) → Ahead ss cursors schedule d.events (Packet turn x)
+unput-leaves : (ss : List InputPast) (before : List ℕ) (cursors : List InputView) (order : PacketOrder) (turn : ℕ) (policy : Policy) (state state' : SelectorState) (names : List (List ℕ)) (target : Target) (decided : ℕ) (new : MachineState) (x : Placed) (q : Captured) (o : Option SequenceEnd) (fault : Fault)
+    → (d : PacketsDecided ss before (mk cursors order policy state (record { names = names; target = target }) decided)) → Ahead ss cursors order d.events (Packet turn x)
     → apply_event policy (form_to names target) (progress_of d) (Packet turn x) ≡ decide_unless (form_refuses (form_to names target) d.packets q) (progress_of d) turn x state' q o
-    → input_spec.IsNext schedule cursors (next.Decide turn) → new.inputs ≡ record { cursors = cursors; schedule = schedule } → (cursor : InputView) → IsInput new.inputs.cursors turn cursor → cursor.source.offset ≡ x.offset
+    → input_spec.IsNext (inputs_at order cursors) (next.Decide turn) → new.inputs ≡ record { order = order; cursors = cursors } → (cursor : InputView) → IsInput new.inputs.cursors turn cursor → cursor.source.offset ≡ x.offset
     → AnswersNext d new q → Puts q target (Err fault) new.output.target
     → EndLeaves d (unwritten turn fault) new
-unput-leaves ss before cursors schedule turn policy state state' names (Capture sink) decided new x q o fault d ahead went tells same_feed cursor among offset answers puts =
-    unput-capture ss before cursors schedule turn policy state state' names sink puts.sink decided new x q o fault d ahead went tells same_feed cursor among offset answers
+unput-leaves ss before cursors order turn policy state state' names (Capture sink) decided new x q o fault d ahead went tells same_feed cursor among offset answers puts =
+    unput-capture ss before cursors order turn policy state state' names sink puts.sink decided new x q o fault d ahead went tells same_feed cursor among offset answers
     (unput before d.packets q sink puts.sink fault d.output puts.puts puts.writes) puts.is
-unput-leaves ss before cursors schedule turn policy state state' names (Text bytes failures room) decided new x q o fault d ahead went tells same_feed cursor among offset answers puts = absurd (let e = puts.0 in cc)
-unput-leaves ss before cursors schedule turn policy state state' names (Lines options bytes failures room) decided new x q o fault d ahead went tells same_feed cursor among offset answers puts =
+unput-leaves ss before cursors order turn policy state state' names (Text bytes failures room) decided new x q o fault d ahead went tells same_feed cursor among offset answers puts = absurd (let e = puts.0 in cc)
+unput-leaves ss before cursors order turn policy state state' names (Lines options bytes failures room) decided new x q o fault d ahead went tells same_feed cursor among offset answers puts =
     let L : Fault → Type 0 = λ f. EndLeaves d (unwritten turn f) new in
     subst L (sym puts.fault)
-    (stops-line ss before cursors schedule policy state state' names options bytes puts.after failures room decided new (Packet turn x) q o d ahead went answers puts.appends puts.is)
+    (stops-line ss before cursors order policy state state' names options bytes puts.after failures room decided new (Packet turn x) q o d ahead went answers puts.appends puts.is)
 
-reject-leaves : (ss : List InputPast) (before : List ℕ) (cursors : List InputView) (schedule : Schedule) (turn : ℕ) (policy : Policy) (state state' : SelectorState) (output : JobOutputView) (decided : ℕ) (new : MachineState) (x : Placed) (fault : Fault)
-    → (d : PacketsDecided ss before (mk cursors schedule policy state output decided)) → Ahead ss cursors schedule d.events (Packet turn x)
+reject-leaves : (ss : List InputPast) (before : List ℕ) (cursors : List InputView) (order : PacketOrder) (turn : ℕ) (policy : Policy) (state state' : SelectorState) (output : JobOutputView) (decided : ℕ) (new : MachineState) (x : Placed) (fault : Fault)
+    → (d : PacketsDecided ss before (mk cursors order policy state output decided)) → Ahead ss cursors order d.events (Packet turn x)
     → IsVerdict (judge policy state (decided + 1) x.packet) (Err fault) x.packet state'
     → (cursor : InputView) → IsInput new.inputs.cursors turn cursor → cursor.source.offset ≡ x.offset → new.output ≡ output → (fault ≡ WriteFailed → ⊥)
     → EndLeaves d (unwritten turn fault) new
-reject-leaves ss before cursors schedule turn policy state state' output decided new x fault d ahead told cursor among offset same device =
+reject-leaves ss before cursors order turn policy state state' output decided new x fault d ahead told cursor among offset same device =
     let w : Progress = progress_of d in
     let kept : written_by new ≡ written_to output.target = ap (λ (v : JobOutputView). written_to v.target) same in
     let B : Type 0 = EndLeaves d (end.FaultIn turn fault) new in
     let breaks : B = record {
       cursor = cursor;
       among = among;
-      why = inl (rw offset (comes-broken ss before (mk cursors schedule policy state output decided) (wholes_of ss) d new turn fault x.offset
-          (stops-course ss cursors schedule d.events (Packet turn x) policy (form_at output) w (end_with w (FaultIn turn fault x.offset)) (FaultIn turn fault x.offset) ahead d.progress refl
+      why = inl (rw offset (comes-broken ss before (mk cursors order policy state output decided) (wholes_of ss) d new turn fault x.offset
+          (stops-course ss cursors order d.events (Packet turn x) policy (form_at output) w (end_with w (FaultIn turn fault x.offset)) (FaultIn turn fault x.offset) ahead d.progress refl
           (ap (λ (v : Verdict). apply_verdict (form_at output) w turn x v (judge policy state (decided + 1) x.packet).state) told) refl)
           kept (ap (λ (v : JobOutputView). failures_to v.target) same)));
     } in
@@ -473,31 +471,31 @@ AnswerLeaves {ss} {before} {old} d i (Ok false) new failed = GoesOn d new
 AnswerLeaves {ss} {before} {old} d i (Ok true) new failed = Comes (wholes_of ss) d new Complete
 AnswerLeaves {ss} {before} {old} d i (Err fault) new failed = EndLeaves d (unwritten i fault) failed
 
-answer-core : (us vs : List InputPast) (s : InputPast) (before : List ℕ) (xs ys : List InputView) (h : InputView) (schedule : Schedule) (turn : ℕ) (policy : Policy) (state state' : SelectorState) (output output' : JobOutputView) (decided : ℕ) (p : Captured) (r : Result Bool Fault)
-    → DecideLaws schedule turn xs ys h → input_spec.IsNext schedule (xs ++ h ∷ ys) (next.Decide turn) → AreInputsBehind us xs → At s h → AreInputsBehind vs ys → h.source.packet ≡ Some p → state'.passed ≤ decided + 1 → GrowsByOne state.tally state'.tally
-    → (d : PacketsDecided (us ++ s ∷ vs) before (mk (xs ++ h ∷ ys) schedule policy state output decided))
+answer-core : (us vs : List InputPast) (s : InputPast) (before : List ℕ) (xs ys : List InputView) (h : InputView) (order : PacketOrder) (turn : ℕ) (policy : Policy) (state state' : SelectorState) (output output' : JobOutputView) (decided : ℕ) (p : Captured) (r : Result Bool Fault)
+    → DecideLaws order turn xs ys h → input_spec.IsNext (inputs_at order (xs ++ h ∷ ys)) (next.Decide turn) → AreInputsBehind us xs → At s h → AreInputsBehind vs ys → h.source.packet ≡ Some p → state'.passed ≤ decided + 1 → GrowsByOne state.tally state'.tally
+    → (d : PacketsDecided (us ++ s ∷ vs) before (mk (xs ++ h ∷ ys) order policy state output decided))
     → output'.names ≡ output.names → Decides (Some p) (decided + 1) (sieve (record { policy = policy; state = state }) output.target) r (sieve (record { policy = policy; state = state' }) output'.target)
-    → AnswerLeaves d turn r (mk (xs ++ input_behind h ∷ ys) (schedule_behind schedule turn) policy state' output' (decided + 1)) (mk (xs ++ h ∷ ys) schedule policy state' output' decided)
-answer-core us vs s before xs ys h schedule turn policy state state' output output' decided p (Ok false) laws tells front at back held within grows d names decides =
+    → AnswerLeaves d turn r (mk (xs ++ input_behind h ∷ ys) order policy state' output' (decided + 1)) (mk (xs ++ h ∷ ys) order policy state' output' decided)
+answer-core us vs s before xs ys h order turn policy state state' output output' decided p (Ok false) laws tells front at back held within grows d names decides =
     elim decides [
-      | inl j ↦ decided-goes us vs s before xs ys h schedule turn policy state state' output output' decided p laws front at back held within grows d
-          (took policy (progress_at (mk (xs ++ h ∷ ys) schedule policy state output decided) d.packets d.reports) before turn (record { offset = h.source.offset; packet = p }) output output' false state' j.answer j.packet d.output j.told names j.offers)
+      | inl j ↦ decided-goes us vs s before xs ys h order turn policy state state' output output' decided p laws front at back held within grows d
+          (took policy (progress_at (mk (xs ++ h ∷ ys) order policy state output decided) d.packets d.reports) before turn (record { offset = h.source.offset; packet = p }) output output' false state' j.answer j.packet d.output j.told names j.offers)
       | inr x ↦ absurd (let e = x.answer in cc)
     ]
-answer-core us vs s before xs ys h schedule turn policy state state' output output' decided p (Ok true) laws tells front at back held within grows d names decides =
+answer-core us vs s before xs ys h order turn policy state state' output output' decided p (Ok true) laws tells front at back held within grows d names decides =
     elim decides [
       | inl j ↦
-          let w : Progress = progress_at (mk (xs ++ h ∷ ys) schedule policy state output decided) d.packets d.reports in
+          let w : Progress = progress_at (mk (xs ++ h ∷ ys) order policy state output decided) d.packets d.reports in
           let x : Placed = record { offset = h.source.offset; packet = p } in
           let l = last-took policy w before turn x output output' state' j.answer j.packet j.told names j.offers d.output in
-          let stop = stops-course (us ++ s ∷ vs) (xs ++ h ∷ ys) schedule d.events (Packet turn x) policy (form_at output) w (course_spec.decide w state' (l.packet ∷ []) (Some Complete)) Complete
-          (next-true us vs s before xs ys h schedule turn policy state output decided p laws front at back held d) d.progress refl l.went refl in
+          let stop = stops-course (us ++ s ∷ vs) (xs ++ h ∷ ys) order d.events (Packet turn x) policy (form_at output) w (course_spec.decide w state' (l.packet ∷ []) (Some Complete)) Complete
+          (next-true us vs s before xs ys h order turn policy state output decided p laws front at back held d) d.progress refl l.went refl in
           record {
             ends = ap (λ (v : Progress). v.end) stop;
             written =
                 closing-some before output'.names (form_at output) output'.target (first_link (wholes_of (us ++ s ∷ vs))) (d.packets ++ l.packet ∷ []) d.reports (decided + 1) state' l.output l.form (some d.packets l.packet)
                 ∙ ap (λ (v : Progress). before ++ final_text (form_at output) (first_link (wholes_of (us ++ s ∷ vs))) v) (sym stop);
-            once = once-packet (first_link (wholes_of (us ++ s ∷ vs))) before w (progress_over (mk (xs ++ h ∷ ys) schedule policy state output decided) (wholes_of (us ++ s ∷ vs))) output output' l.packet d.output l.output l.form
+            once = once-packet (first_link (wholes_of (us ++ s ∷ vs))) before w (progress_over (mk (xs ++ h ∷ ys) order policy state output decided) (wholes_of (us ++ s ∷ vs))) output output' l.packet d.output l.output l.form
                 (ap (λ (v : Progress). v.packets) stop) (ap (λ (v : Progress). v.reports) stop);
             device = l.failures;
           }
@@ -507,28 +505,28 @@ answer-core us vs s before xs ys h schedule turn policy state state' output outp
     some : (ps : List Captured) (q : Captured) → 0 ≡ length (ps ++ q ∷ []) → ⊥
     some [] q e = absurd (omega (arith, e))
     some (x ∷ ps) q e = absurd (omega (arith, e))
-answer-core us vs s before xs ys h schedule turn policy state state' output output' decided p (Err fault) laws tells front at back held within grows d names decides =
+answer-core us vs s before xs ys h order turn policy state state' output output' decided p (Err fault) laws tells front at back held within grows d names decides =
     elim decides [
       | inl j ↦ by_verdict_of j.answer j.packet j.told j.offers
       | inr j ↦
           let e : fault ≡ j.fault = (let e = j.answer in cc) in
-          rw e (reject-leaves (us ++ s ∷ vs) before (xs ++ h ∷ ys) schedule turn policy state state' output decided failed x j.fault d ahead j.told h here refl (ap₂ output_at names j.same) (never-device policy state state' (decided + 1) p j.fault j.told))
+          rw e (reject-leaves (us ++ s ∷ vs) before (xs ++ h ∷ ys) order turn policy state state' output decided failed x j.fault d ahead j.told h here refl (ap₂ output_at names j.same) (never-device policy state state' (decided + 1) p j.fault j.told))
     ]
   where
     x : Placed
     x = record { offset = h.source.offset; packet = p }
 
     failed : MachineState
-    failed = mk (xs ++ h ∷ ys) schedule policy state' output' decided
+    failed = mk (xs ++ h ∷ ys) order policy state' output' decided
 
     here : IsInput (xs ++ h ∷ ys) turn h
     here = record { front = xs; back = ys; place = laws.here; splits = refl }
 
-    ahead : Ahead (us ++ s ∷ vs) (xs ++ h ∷ ys) schedule d.events (Packet turn x)
-    ahead = next-true us vs s before xs ys h schedule turn policy state output decided p laws front at back held d
+    ahead : Ahead (us ++ s ∷ vs) (xs ++ h ∷ ys) order d.events (Packet turn x)
+    ahead = next-true us vs s before xs ys h order turn policy state output decided p laws front at back held d
 
     w : Progress
-    w = progress_at (mk (xs ++ h ∷ ys) schedule policy state output decided) d.packets d.reports
+    w = progress_at (mk (xs ++ h ∷ ys) order policy state output decided) d.packets d.reports
 
     answers : (q : Captured) → PassesAs (judge policy state (decided + 1) p).verdict q → AnswersNext d failed q
     answers q passes = λ taken bytes is. record {
@@ -538,7 +536,7 @@ answer-core us vs s before xs ys h schedule turn policy state state' output outp
       among = here;
       packet = p;
       held = held;
-      comes = is-next (us ++ s ∷ vs) before (xs ++ h ∷ ys) schedule policy state output decided (Packet turn x) d ahead;
+      comes = is-next (us ++ s ∷ vs) before (xs ++ h ∷ ys) order policy state output decided (Packet turn x) d ahead;
       passed = q;
       passes = passes;
       taken = taken;
@@ -548,27 +546,27 @@ answer-core us vs s before xs ys h schedule turn policy state state' output outp
 
     by_verdict_of : (v : code.Verdict) (q : Captured) → IsVerdict (judge policy state (decided + 1) p) (Ok v) q state' → Offers v q output.target (Err fault) output'.target → EndLeaves d (unwritten turn fault) failed
     by_verdict_of code_verdict.Pass q told offers =
-        unput-leaves (us ++ s ∷ vs) before (xs ++ h ∷ ys) schedule turn policy state state' output.names output.target decided failed x q None fault d ahead
+        unput-leaves (us ++ s ∷ vs) before (xs ++ h ∷ ys) order turn policy state state' output.names output.target decided failed x q None fault d ahead
         (goes-by policy (form_at output) w turn x (Pass q) state' told.0 told.1) tells refl h here refl (answers q (let A : Verdict → Type 0 = λ v. PassesAs v q in subst A told.0 refl)) offers
     by_verdict_of code_verdict.PassLast q told offers =
-        unput-leaves (us ++ s ∷ vs) before (xs ++ h ∷ ys) schedule turn policy state state' output.names output.target decided failed x q (Some Complete) fault d ahead
+        unput-leaves (us ++ s ∷ vs) before (xs ++ h ∷ ys) order turn policy state state' output.names output.target decided failed x q (Some Complete) fault d ahead
         (goes-by policy (form_at output) w turn x (PassLast q) state' told.0 told.1) tells refl h here refl (answers q (let A : Verdict → Type 0 = λ v. PassesAs v q in subst A told.0 refl)) offers
     by_verdict_of code_verdict.Skip q told offers = absurd (let e = offers.0 in cc)
 
-pub answer-leaves : (ss : List InputPast) (before : List ℕ) (cursors : List InputView) (schedule : Schedule) (policy : Policy) (state : SelectorState) (output : JobOutputView) (decided i : ℕ) (r : Result Bool Fault) (h : InputView) (selector' : PolicyState) (output' : JobOutputView)
-    → output'.names ≡ output.names → input_spec.IsNext schedule cursors (next.Decide i) → IsInput cursors i h → selector'.policy ≡ policy → (state.passed ≤ decided + 1 → selector'.state.passed ≤ decided + 1) → GrowsByOne state.tally selector'.state.tally → decided ≤ most_steps
+pub answer-leaves : (ss : List InputPast) (before : List ℕ) (cursors : List InputView) (order : PacketOrder) (policy : Policy) (state : SelectorState) (output : JobOutputView) (decided i : ℕ) (r : Result Bool Fault) (h : InputView) (selector' : PolicyState) (output' : JobOutputView)
+    → output'.names ≡ output.names → input_spec.IsNext (inputs_at order cursors) (next.Decide i) → IsInput cursors i h → selector'.policy ≡ policy → (state.passed ≤ decided + 1 → selector'.state.passed ≤ decided + 1) → GrowsByOne state.tally selector'.state.tally → decided ≤ most_steps
     → (state.passed < decided + 1 → IsWithin most_steps state.tally → Decides h.source.packet (decided + 1) (sieve (record { policy = policy; state = state }) output.target) r (sieve selector' output'.target))
-    → (d : PacketsDecided ss before (mk cursors schedule policy state output decided))
-    → AnswerLeaves d i r (mk (slice_set cursors i (input_behind h)) (schedule_behind schedule i) policy selector'.state output' (decided + 1)) (mk cursors schedule policy selector'.state output' decided)
-answer-leaves ss before cursors schedule policy state output decided i r other selector' output' names tells among_other asks passes grows few decides d =
-    let at : DecideAt schedule cursors i = decide-at schedule cursors i tells d.ended in
+    → (d : PacketsDecided ss before (mk cursors order policy state output decided))
+    → AnswerLeaves d i r (mk (slice_set cursors i (input_behind h)) order policy selector'.state output' (decided + 1)) (mk cursors order policy selector'.state output' decided)
+answer-leaves ss before cursors order policy state output decided i r other selector' output' names tells among_other asks passes grows few decides d =
+    let at : DecideAt order cursors i = decide-at order ss cursors i tells d.behind in
     let among = at.among in
     let h = at.cursor in
     let same : other ≡ h = among-same cursors i other h among_other among in
-    let D : List InputView → Type 0 = λ l. PacketsDecided ss before (mk l schedule policy state output decided) in
+    let D : List InputView → Type 0 = λ l. PacketsDecided ss before (mk l order policy state output decided) in
     let d' = subst D among.splits d in
     let st = stands-split ss among.front among.back h d'.behind in
-    let T : List InputView → Type 0 = λ l. input_spec.IsNext schedule l (next.Decide i) in
+    let T : List InputView → Type 0 = λ l. input_spec.IsNext (inputs_at order l) (next.Decide i) in
     let W : Bool → Type 0 = λ b. IsAt st.here.text st.here.done st.here.packets b h.source in
     let was : IsAt st.here.text st.here.done st.here.packets true h.source = subst W at.laws.waits st.at in
     let has = was.waits refl in
@@ -578,13 +576,13 @@ answer-leaves ss before cursors schedule policy state output decided i r other s
     let held : other.source.packet ≡ Some has.packet = ap (λ (v : InputView). v.source.packet) same ∙ has.held in
     let chosen = subst C' asks (subst C held (decides within (within-more decided most_steps state.tally few d.counted))) in
     let cursors' : slice_set cursors i (input_behind h) ≡ among.front ++ input_behind h ∷ among.back = ap (λ (l : List InputView). slice_set l i (input_behind h)) among.splits ∙ set-here among.front among.back h (input_behind h) i among.place in
-    let new : List InputView → MachineState = λ l. mk l (schedule_behind schedule i) policy selector'.state output' (decided + 1) in
-    let failed : List InputView → MachineState = λ l. mk l schedule policy selector'.state output' decided in
+    let new : List InputView → MachineState = λ l. mk l order policy selector'.state output' (decided + 1) in
+    let failed : List InputView → MachineState = λ l. mk l order policy selector'.state output' decided in
     let passes_on : selector'.state.passed ≤ decided + 1 = passes (let l = d.passed in omega (arith, l)) in
-    let core : (e : PacketsDecided (st.front ++ st.here ∷ st.back) before (mk (among.front ++ h ∷ among.back) schedule policy state output decided)) → AnswerLeaves e i r (new (among.front ++ input_behind h ∷ among.back)) (failed (among.front ++ h ∷ among.back)) = λ e.
-    answer-core st.front st.back st.here before among.front among.back h schedule i policy state selector'.state output output' decided has.packet r at.laws (subst T among.splits tells) st.before st.at st.behind has.held passes_on grows e names chosen in
-    let G : List InputPast → Type 0 = λ l. (e : PacketsDecided l before (mk (among.front ++ h ∷ among.back) schedule policy state output decided)) → AnswerLeaves e i r (new (among.front ++ input_behind h ∷ among.back)) (failed (among.front ++ h ∷ among.back)) in
-    let H : List InputView → Type 0 = λ l. (e : PacketsDecided ss before (mk l schedule policy state output decided)) → AnswerLeaves e i r (new (among.front ++ input_behind h ∷ among.back)) (failed l) in
+    let core : (e : PacketsDecided (st.front ++ st.here ∷ st.back) before (mk (among.front ++ h ∷ among.back) order policy state output decided)) → AnswerLeaves e i r (new (among.front ++ input_behind h ∷ among.back)) (failed (among.front ++ h ∷ among.back)) = λ e.
+    answer-core st.front st.back st.here before among.front among.back h order i policy state selector'.state output output' decided has.packet r at.laws (subst T among.splits tells) st.before st.at st.behind has.held passes_on grows e names chosen in
+    let G : List InputPast → Type 0 = λ l. (e : PacketsDecided l before (mk (among.front ++ h ∷ among.back) order policy state output decided)) → AnswerLeaves e i r (new (among.front ++ input_behind h ∷ among.back)) (failed (among.front ++ h ∷ among.back)) in
+    let H : List InputView → Type 0 = λ l. (e : PacketsDecided ss before (mk l order policy state output decided)) → AnswerLeaves e i r (new (among.front ++ input_behind h ∷ among.back)) (failed l) in
     let I : List InputView → Type 0 = λ l. AnswerLeaves d i r (new l) (failed cursors) in
     let J : InputView → Type 0 = λ v. AnswerLeaves d i r (new (slice_set cursors i (input_behind v))) (failed cursors) in
     let whole : H cursors = subst H (sym among.splits) (subst G (sym st.is) core) in

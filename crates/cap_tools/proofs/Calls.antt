@@ -18,8 +18,8 @@ use Rattle.cap_filter.specs.declared.refusal.Refusal.{Refusal}
 use Rattle.cap_filter.specs.declared.refusal.Refusal.TheVariants as refusal
 use Rattle.cap_filter.specs.Messages.{fault_message, refusal_message, refusal_status, write_failed_message}
 use Rattle.cap_filter.specs.Outcome.{OutputView, IsTold, Runs, seen}
-use Rattle.cap_inputs.specs.Fresh.{FreshInput, fresh_view, nothing_done, first_schedule}
-use Rattle.cap_inputs.specs.Inputs.{InputView, InputsView, InputPast, input_after, never_failing, offset_at, ordering_of}
+use Rattle.cap_inputs.specs.Fresh.{FreshInput, fresh_view, nothing_done}
+use Rattle.cap_inputs.specs.Inputs.{InputView, InputsView, InputPast, input_after, never_failing, offset_at}
 use Rattle.cap_inputs.specs.Sequence.{InputItems, Event, Packet, InputEnd, SequenceEnd, Complete, FaultIn, PacketOrder, InTurn, ByTime, whole_input}
 use Rattle.cap_tools.specs.declared.output.Writing.{Writing}
 use Rattle.cap_tools.specs.declared.output.Writing.TheVariants as writing
@@ -54,10 +54,6 @@ record Begins (asked : Assignment) (call : Call) (first : JobView) : Type 0 wher
   pub failures : failures_by first.machine ≡ call.output.failures
   pub never : never_failing first.machine.inputs.cursors ≡ map (λ (input : FreshInput). input.never_fails) call.inputs
   pub err : first.err ≡ call.messages
-
-first-order : (order : PacketOrder) (count : ℕ) → ordering_of (first_schedule order count) ≡ order
-first-order InTurn count = refl
-first-order ByTime count = refl
 
 first-form : (names : List (List ℕ)) (w : Writing) (bytes : List ℕ) (failures room : ℕ) → form_to names (target_at w bytes failures room) ≡ form_asked names w
 first-form names (writing.Capture format) bytes failures room = refl
@@ -167,7 +163,7 @@ next-answer ss before old new bytes d next =
             let size : ℕ = report.fetches.source.offset in
             by_event d.events (InputEnd report.input kind size) report.comes refl
             (behind-one (InputEnd report.input kind size)
-            ∙ report-adds (ordering_of old.inputs.schedule) old.policy form w report.input kind size report.policy
+            ∙ report-adds old.inputs.order old.policy form w report.input kind size report.policy
             ∙ joins (sym report.bytes_are))
         | inr closing ↦ by_end d.events closing.comes refl (closing.bytes_are ∙ ap (λ (v : Progress). closing_text form (first_link (wholes_of ss)) v.packets) (sym d.progress))
       ]
@@ -397,7 +393,7 @@ compile-run asked call r words link is runs =
 begins : (asked : Assignment) (call : Call) → IsPolicy asked.preparing asked.policy asked.policy → Begins asked call (first_job asked call)
 begins asked call policy = record {
   work = record {
-    order = first-order asked.order (length (map fresh_view call.inputs));
+    order = refl;
     policy = policy;
     form = first-form call.names asked.writing call.output.written call.output.failures call.room;
   };
@@ -410,7 +406,7 @@ begins asked call policy = record {
 filter-begins : (asked : Assignment) (call : Call) (rule : Rule) (count : Option ℕ) (programs : List Content) → IsPolicy asked.preparing asked.policy (Filter rule count) → Begins asked call (filtering rule count programs (first_job asked call))
 filter-begins asked call rule count programs policy = record {
   work = record {
-    order = first-order asked.order (length (map fresh_view call.inputs));
+    order = refl;
     policy = policy;
     form = first-form call.names asked.writing call.output.written call.output.failures call.room;
   };

@@ -8,10 +8,8 @@ use Rattle.cap_io.specs.Source.{SourceView, Phase, Ended, FindsPacket, FindsEnd,
 use Rattle.cap_io.specs.Position.{IsAt, pending}
 use Rattle.cap_io.proofs.Items.{items_from-units, items_from-stops}
 use Rattle.cap_io.proofs.Standing.{IsAt-items, items-begin, Advances-sound}
-use Rattle.cap_inputs.specs.declared.inputs.Schedule.{Schedule}
-use Rattle.cap_inputs.specs.declared.inputs.Schedule.TheVariants.{Turn}
-use Rattle.cap_inputs.specs.Sequence.{InputItems, Event, Packet, InputEnd, FaultIn, Sequence, sequence_of, sequence_in_turn, input_sequence, with_front, whole_input}
-use Rattle.cap_inputs.specs.Inputs.{InputView, InputsView, Future, InputPast, AreInputsBehind, AreFutures, AreSettled, ordering_of, actual_future, waiting_packets, packets_at, items_with, inputs_with, items_left, inputs_left, sequence_left, no_future, input_after, input_behind}
+use Rattle.cap_inputs.specs.Sequence.{InputItems, Event, Packet, InputEnd, FaultIn, Sequence, sequence_of, sequence_in_turn, input_sequence, with_front, whole_input, PacketOrder}
+use Rattle.cap_inputs.specs.Inputs.{InputView, InputsView, Future, InputPast, AreInputsBehind, AreFutures, AreSettled, actual_future, waiting_packets, packets_at, items_with, inputs_with, items_left, inputs_left, sequence_left, no_future, input_after, input_behind}
 use Rattle.cap_tools.specs.Machine.{wholes_of}
 use Rattle.cap_tools.specs.Outcome.{ComeFirst}
 use Rattle.cap_tools.proofs.Splits.{At, Fit, Carries}
@@ -34,16 +32,22 @@ not-ended s s' advances is =
     let same = subst P is advances in
     let e : Ok true ≡ Ok false = same.0 in cc
 
-pub carries-found : (s : InputPast) (xs ys : List InputView) (h : InputView) (s' : SourceView) (schedule schedule' : Schedule) → ((rs : List InputItems) → sequence_left schedule rs ≡ sequence_left schedule' rs) → h.waiting ≡ false → Advances h.source.phase h.source (Ok true) s' → (finds : FindsPacket h.source s') (f' : Future)
-    → Carries s (record { text = s.text; done = s.done ++ finds.passes.passed; packets = s.packets ++ [] }) xs ys h (input_after h (Ok true) s') schedule schedule' [] f'
-carries-found s xs ys h s' schedule schedule' lefts waits advances finds f' = record {
+pub carries-found : (s : InputPast) (xs ys : List InputView) (h : InputView) (s' : SourceView) (order : PacketOrder) → ((rs : List InputItems) → sequence_left order (xs ++ h ∷ ys) rs ≡ sequence_left order (xs ++ input_after h (Ok true) s' ∷ ys) rs) → h.waiting ≡ false → Advances h.source.phase h.source (Ok true) s' → (finds : FindsPacket h.source s') (f' : Future)
+    → Carries s (record { text = s.text; done = s.done ++ finds.passes.passed; packets = s.packets ++ [] }) xs ys h (input_after h (Ok true) s') order [] f'
+carries-found s xs ys h s' order lefts waits advances finds f' = record {
   future = record { items = after_packets (waiting_packets true s') f'.items; size = f'.size };
   fit = λ e. absurd (not-ended h.source s' advances e);
   same = rw (waits, append-nil s.packets) refl;
-  left_is = λ fs gs before with_front. rw waits (lefts (inputs_left xs fs ++ items_left (input_after h (Ok true) s') f' ∷ inputs_left ys gs));
+  left_is = λ fs gs before with_back.
+      ap (λ (b : Bool). sequence_left order (xs ++ h ∷ ys) (inputs_left xs fs ++ record { greatest = h.greatest; items = after_packets (waiting_packets b h.source) (after_packets (waiting_packets true s') f'.items); size = f'.size } ∷ inputs_left ys gs)) waits
+      ∙ lefts (inputs_left xs fs ++ items_left (input_after h (Ok true) s') f' ∷ inputs_left ys gs);
 }
 
 -- ---- the current packet is decided
+
+-- the order of the inputs from one on, in turn
+abbrev pub from_turn : ℕ → List InputItems → Sequence
+from_turn turn rs = sequence_in_turn turn (drop turn rs)
 
 came-next : (i : ℕ) (g : ℕ) (g' : ℕ) (x : Placed) (items : Items) (size : ℕ) (ending : Ending) (more : Sequence)
     → input_sequence i (record { greatest = g; items = after_packets (x ∷ []) items; size = size }) ending more
@@ -52,8 +56,8 @@ came-next i g g' x items size End more = refl
 came-next i g g' x items size (FaultAt fault offset) more = refl
 
 turn-next : (turn g g' : ℕ) (x : Placed) (items : Items) (size : ℕ) (rs qs : List InputItems) → length rs ≡ turn
-    → sequence_left (Turn turn) (rs ++ record { greatest = g; items = after_packets (x ∷ []) items; size = size } ∷ qs)
-    ≡ with_front (Packet turn x ∷ []) (sequence_left (Turn turn) (rs ++ record { greatest = g'; items = after_packets [] items; size = size } ∷ qs))
+    → from_turn turn (rs ++ record { greatest = g; items = after_packets (x ∷ []) items; size = size } ∷ qs)
+    ≡ with_front (Packet turn x ∷ []) (from_turn turn (rs ++ record { greatest = g'; items = after_packets [] items; size = size } ∷ qs))
 turn-next turn g g' x items size rs qs is =
     ap (sequence_in_turn turn) (drop-front rs qs (record { greatest = g; items = after_packets (x ∷ []) items; size = size }) turn is)
     ∙ came-next turn g g' x items size items.ending (sequence_in_turn (turn + 1) qs)
@@ -64,17 +68,17 @@ pub hand_is : (s : SourceView) (p : Captured) → s.packet ≡ Some p → waitin
 hand_is s p is = ap (packets_at s.offset) is
 
 pub left-decided : (h : InputView) (turn : ℕ) (p : Captured) → h.waiting ≡ true → h.source.packet ≡ Some p → (f : Future) (rs qs : List InputItems) → length rs ≡ turn
-    → sequence_left (Turn turn) (rs ++ items_left h f ∷ qs) ≡ with_front (Packet turn (record { offset = h.source.offset; packet = p }) ∷ []) (sequence_left (Turn turn) (rs ++ items_left (input_behind h) f ∷ qs))
+    → from_turn turn (rs ++ items_left h f ∷ qs) ≡ with_front (Packet turn (record { offset = h.source.offset; packet = p }) ∷ []) (from_turn turn (rs ++ items_left (input_behind h) f ∷ qs))
 left-decided h turn p waits held f rs qs is =
-    ap (λ (l : List Placed). sequence_left (Turn turn) (rs ++ record { greatest = h.greatest; items = after_packets l f.items; size = f.size } ∷ qs)) (ap (λ b. waiting_packets b h.source) waits ∙ hand_is h.source p held)
+    ap (λ (l : List Placed). from_turn turn (rs ++ record { greatest = h.greatest; items = after_packets l f.items; size = f.size } ∷ qs)) (ap (λ b. waiting_packets b h.source) waits ∙ hand_is h.source p held)
     ∙ turn-next turn h.greatest (input_behind h).greatest (record { offset = h.source.offset; packet = p }) f.items f.size rs qs is
 
-pub carries-decided : (s : InputPast) (xs ys : List InputView) (h : InputView) (i : ℕ) (schedule schedule' : Schedule) (bytes : List ℕ) (p : Captured) → h.waiting ≡ true → h.source.packet ≡ Some p
+pub carries-decided : (s : InputPast) (xs ys : List InputView) (h : InputView) (i : ℕ) (order : PacketOrder) (bytes : List ℕ) (p : Captured) → h.waiting ≡ true → h.source.packet ≡ Some p
     → ((f : Future) → Fit h f → (fs gs : List Future) → AreFutures xs fs → AreFutures ys gs
-    → sequence_left schedule (inputs_left xs fs ++ items_left h f ∷ inputs_left ys gs) ≡ with_front (Packet i (record { offset = h.source.offset; packet = p }) ∷ []) (sequence_left schedule' (inputs_left xs fs ++ items_left (input_behind h) f ∷ inputs_left ys gs)))
+    → sequence_left order (xs ++ h ∷ ys) (inputs_left xs fs ++ items_left h f ∷ inputs_left ys gs) ≡ with_front (Packet i (record { offset = h.source.offset; packet = p }) ∷ []) (sequence_left order (xs ++ input_behind h ∷ ys) (inputs_left xs fs ++ items_left (input_behind h) f ∷ inputs_left ys gs)))
     → (f' : Future) → Fit (input_behind h) f'
-    → Carries s (record { text = s.text; done = s.done ++ bytes; packets = s.packets ++ record { offset = h.source.offset; packet = p } ∷ [] }) xs ys h (input_behind h) schedule schedule' (Packet i (record { offset = h.source.offset; packet = p }) ∷ []) f'
-carries-decided s xs ys h i schedule schedule' bytes p waits held lefts f' fit =
+    → Carries s (record { text = s.text; done = s.done ++ bytes; packets = s.packets ++ record { offset = h.source.offset; packet = p } ∷ [] }) xs ys h (input_behind h) order (Packet i (record { offset = h.source.offset; packet = p }) ∷ []) f'
+carries-decided s xs ys h i order bytes p waits held lefts f' fit =
     let x : Placed = record { offset = h.source.offset; packet = p } in
     let hand : waiting_packets h.waiting h.source ≡ x ∷ [] = ap (λ b. waiting_packets b h.source) waits ∙ hand_is h.source p held in
     record {
@@ -103,8 +107,8 @@ later-size s s' rest passes =
     ∙ omega (arith, passes.offset)
 
 pub turn-closes : (turn g g' : ℕ) (declared : Declared) (size : ℕ) (r' : InputItems) (rs qs : List InputItems) → length rs ≡ turn
-    → sequence_left (Turn turn) (rs ++ record { greatest = g; items = no_items declared None 0; size = size } ∷ qs)
-    ≡ with_front (InputEnd turn (kind_of declared) size ∷ []) (sequence_left (Turn (turn + 1)) (rs ++ r' ∷ qs))
+    → from_turn turn (rs ++ record { greatest = g; items = no_items declared None 0; size = size } ∷ qs)
+    ≡ with_front (InputEnd turn (kind_of declared) size ∷ []) (from_turn (turn + 1) (rs ++ r' ∷ qs))
 turn-closes turn g g' declared size r' rs qs is =
     ap (sequence_in_turn turn) (drop-front rs qs (record { greatest = g; items = no_items declared None 0; size = size }) turn is)
     ∙ ap (λ (l : List InputItems). with_front (InputEnd turn (kind_of declared) size ∷ []) (sequence_in_turn (turn + 1) l)) (sym (drop-over rs qs r' turn is))
@@ -112,23 +116,27 @@ turn-closes turn g g' declared size r' rs qs is =
 same-end : (s s' : SourceView) → Advances s.phase s (Ok false) s' → s.phase ≡ Ended → s' ≡ s
 same-end s s' advances is = let P : Phase → Type 0 = λ p. Advances p s (Ok false) s' in (subst P is advances).1
 
-pub carries-closed : (s : InputPast) (xs ys : List InputView) (h : InputView) (s' : SourceView) (schedule schedule' : Schedule) (new : List Event)
+pub carries-closed : (s : InputPast) (xs ys : List InputView) (h : InputView) (s' : SourceView) (order : PacketOrder) (new : List Event)
     → ((fs gs : List Future) → AreFutures xs fs → AreFutures ys gs
-    → sequence_left schedule (inputs_left xs fs ++ record { greatest = h.greatest; items = no_items s'.declared None 0; size = s'.offset } ∷ inputs_left ys gs) ≡ with_front new (sequence_left schedule' (inputs_left xs fs ++ record { greatest = h.greatest; items = no_items s'.declared None 0; size = s'.offset } ∷ inputs_left ys gs)))
+    → sequence_left order (xs ++ h ∷ ys) (inputs_left xs fs ++ record { greatest = h.greatest; items = no_items s'.declared None 0; size = s'.offset } ∷ inputs_left ys gs) ≡ with_front new (sequence_left order (xs ++ input_after h (Ok false) s' ∷ ys) (inputs_left xs fs ++ record { greatest = h.greatest; items = no_items s'.declared None 0; size = s'.offset } ∷ inputs_left ys gs)))
     → h.waiting ≡ false → Advances h.source.phase h.source (Ok false) s' → (finds : FindsEnd h.source s') → (f' : Future) → Fit (input_after h (Ok false) s') f'
-    → Carries s (record { text = s.text; done = s.done ++ finds.passes.passed; packets = s.packets ++ [] }) xs ys h (input_after h (Ok false) s') schedule schedule' new f'
-carries-closed s xs ys h s' schedule schedule' new lefts waits advances finds f' fit =
+    → Carries s (record { text = s.text; done = s.done ++ finds.passes.passed; packets = s.packets ++ [] }) xs ys h (input_after h (Ok false) s') order new f'
+carries-closed s xs ys h s' order new lefts waits advances finds f' fit =
     let is : f' ≡ no_future s' = fit finds.phase in record {
       future = f';
       fit = λ e. is ∙ ap no_future (same-end h.source s' advances e);
       same = rw (waits, append-nil s.packets) refl;
-      left_is = λ fs gs before with_front. rw (waits, is) (lefts fs gs before with_front);
+      left_is = λ fs gs before with_back.
+          ap (λ (b : Bool). sequence_left order (xs ++ h ∷ ys) (inputs_left xs fs ++ record { greatest = h.greatest; items = after_packets (waiting_packets b h.source) f'.items; size = f'.size } ∷ inputs_left ys gs)) waits
+          ∙ ap (λ (f : Future). sequence_left order (xs ++ h ∷ ys) (inputs_left xs fs ++ record { greatest = h.greatest; items = after_packets [] f.items; size = f.size } ∷ inputs_left ys gs)) is
+          ∙ lefts fs gs before with_back
+          ∙ ap (λ (f : Future). with_front new (sequence_left order (xs ++ input_after h (Ok false) s' ∷ ys) (inputs_left xs fs ++ items_left (input_after h (Ok false) s') f ∷ inputs_left ys gs))) (sym is);
     }
 
 -- ---- an input ends by a fault
 
 pub turn-broken : (turn g : ℕ) (declared : Declared) (fault : Fault) (offset size : ℕ) (rs qs : List InputItems) → length rs ≡ turn
-    → sequence_left (Turn turn) (rs ++ record { greatest = g; items = no_items declared (Some fault) offset; size = size } ∷ qs) ≡ record { events = []; end = FaultIn turn fault offset }
+    → from_turn turn (rs ++ record { greatest = g; items = no_items declared (Some fault) offset; size = size } ∷ qs) ≡ record { events = []; end = FaultIn turn fault offset }
 turn-broken turn g declared fault offset size rs qs is =
     ap (sequence_in_turn turn) (drop-front rs qs (record { greatest = g; items = no_items declared (Some fault) offset; size = size }) turn is)
 
@@ -185,11 +193,11 @@ true-fits (s ∷ ss) [] st = absurd st
 true-fits (s ∷ ss) (h ∷ hs) st = (true-fit s h st.0, true-fits ss hs st.1)
 
 -- what came is the first of the order of the whole inputs
-pub come-first : (ss : List InputPast) (inputs : InputsView) (es : List Event) → AreInputsBehind ss inputs.cursors → AreSettled ss inputs es → ComeFirst (sequence_of (ordering_of inputs.schedule) (wholes_of ss)) es
+pub come-first : (ss : List InputPast) (inputs : InputsView) (es : List Event) → AreInputsBehind ss inputs.cursors → AreSettled ss inputs es → ComeFirst (sequence_of inputs.order (wholes_of ss)) es
 come-first ss inputs es behind come = record {
-  later = sequence_left inputs.schedule (inputs_left inputs.cursors (map (λ (h : InputView). actual_future h.source) inputs.cursors));
+  later = sequence_left inputs.order inputs.cursors (inputs_left inputs.cursors (map (λ (h : InputView). actual_future h.source) inputs.cursors));
   is =
-      ap (sequence_of (ordering_of inputs.schedule)) (sym (true-wholes ss inputs.cursors behind))
+      ap (sequence_of inputs.order) (sym (true-wholes ss inputs.cursors behind))
       ∙ come (map (λ (h : InputView). actual_future h.source) inputs.cursors) (true-fits ss inputs.cursors behind);
 }
 

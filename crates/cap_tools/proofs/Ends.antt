@@ -7,7 +7,7 @@ use Rattle.cap_tools.specs.declared.step.JobEnd.TheVariants as end
 use Rattle.cap_inputs.specs.Sequence.{PacketOrder}
 use Rattle.cap_tools.specs.Verdict.{Policy}
 use Rattle.cap_tools.specs.Outcome.{Form}
-use Rattle.cap_inputs.specs.Inputs.{InputView, InputPast, IsInput, ordering_of}
+use Rattle.cap_inputs.specs.Inputs.{InputView, InputPast, IsInput}
 use Rattle.cap_tools.specs.Machine.{MachineState, StepGives, form_of, work_of}
 use Rattle.cap_tools.specs.Jobs.{IsUnderWay, JobView, EndsJob, end_text, end_status}
 use Rattle.cap_inputs.specs.Inputs.{offset_at, offset_of}
@@ -25,8 +25,8 @@ same-work ss before first old progress =
     let m = old.machine in
     let o = first.machine in
     ap (λ (order : PacketOrder). record { order = order; policy = m.policy; form = form_of m }) progress.order
-    ∙ ap (λ (a : Policy). record { order = ordering_of o.inputs.schedule; policy = a; form = form_of m }) progress.policy
-    ∙ ap (λ (f : Form). record { order = ordering_of o.inputs.schedule; policy = o.policy; form = f }) progress.form
+    ∙ ap (λ (a : Policy). record { order = o.inputs.order; policy = a; form = form_of m }) progress.policy
+    ∙ ap (λ (f : Form). record { order = o.inputs.order; policy = o.policy; form = f }) progress.form
 
 pub clean-status : (e : JobEnd) → end_status e ≡ 0 → e ≡ end.Complete
 clean-status end.Complete is = refl

@@ -11,8 +11,6 @@ use Rattle.cap_io.specs.Capture.{Placed, Items, FaultAt, no_items, kind_of, afte
 use Rattle.cap_io.specs.Source.{SourceView, Phase, Reading, Ended, Failed, Steps, FindsPacket, FindsEnd, FindsFault, Advances}
 use Rattle.cap_io.specs.Position.{IsAt}
 use Rattle.cap_io.proofs.Standing.{IsAt-found, IsAt-closed, IsAt-fault}
-use Rattle.cap_inputs.specs.declared.inputs.Schedule.{Schedule}
-use Rattle.cap_inputs.specs.declared.inputs.Schedule.TheVariants.{Turn, Merge}
 use Rattle.cap_inputs.specs.declared.inputs.Next.TheVariants as next
 use Rattle.cap_tools.specs.declared.step.JobEnd.{JobEnd}
 use Rattle.cap_tools.specs.Reports.{Report, Tally}
@@ -22,7 +20,7 @@ use Rattle.cap_tools.specs.Selector as selecting
 use Rattle.cap_tools.specs.Selector.{PolicyState, IsWithin, emptied, is_count}
 use Rattle.cap_tools.specs.Outcome.{Form, AsReports, Progress, cut_at, no_progress, apply_events, final_progress, end_with, final_text, output_text, text_at_end, first_link}
 use Rattle.cap_tools.specs.Output.{JobOutputView, Target, Capture, Text, Lines, HasWritten, Reports, form_at, written_to, failures_to}
-use Rattle.cap_inputs.specs.Inputs.{InputView, InputsView, Future, InputPast, AreInputsBehind, AreSettled, IsInput, EndedBefore, ReadsInput, IsNext, waits_from, waiting_packets, input_after, schedule_after, is_clean_end, actual_future, items_with, inputs_with, inputs_left, sequence_left, is_in_turn, ordering_of}
+use Rattle.cap_inputs.specs.Inputs.{InputView, InputsView, Future, InputPast, AreInputsBehind, AreSettled, IsInput, ReadsInput, IsNext, waiting_packets, input_after, actual_future, items_with, inputs_with, inputs_left, sequence_left, is_in_turn}
 use Rattle.cap_tools.specs.Reports.{report_text, reports_text}
 use Rattle.cap_tools.specs.Machine.{MachineState, AppendsOnce, PacketsDecided, GoesOn, Comes, BreaksAt, WhyBroken, StopsWriting, StepLeaves, Closes, ClosesBy, asks_report, report_at, unless_failed, progress_at, progress_of, progress_over, form_of, failures_by, written_by, wholes_of, sieve}
 use Rattle.cap_tools.proofs.Splits.{At, Fit, stands-split, stands-join, stands-length, fits-join, wholes-join, rests-join, finish-here, come-on}
@@ -34,8 +32,11 @@ use Rattle.cap_tools.proofs.Once.{once-nothing, once-report}
 use Rattle.cap_tools.proofs.Outcomes.{progress-append, course-close}
 use Rattle.cap_inputs.proofs.Cursors.{greatest-here, greatest-same, never-at, never-kept, set-here}
 
-abbrev pub mk : List InputView → Schedule → Policy → SelectorState → JobOutputView → ℕ → MachineState
-mk cursors schedule policy state output decided = record { inputs = record { cursors = cursors; schedule = schedule }; policy = policy; state = state; output = output; decided = decided }
+abbrev pub inputs_at : PacketOrder → List InputView → InputsView
+inputs_at order cursors = record { order = order; cursors = cursors }
+
+abbrev pub mk : List InputView → PacketOrder → Policy → SelectorState → JobOutputView → ℕ → MachineState
+mk cursors order policy state output decided = record { inputs = inputs_at order cursors; policy = policy; state = state; output = output; decided = decided }
 
 at-here : (xs ys : List InputView) (v d : InputView) (n : ℕ) → length xs ≡ n → get_or (xs ++ v ∷ ys) n d ≡ v
 at-here [] ys v d n e = rw (← e) refl
@@ -49,22 +50,22 @@ among-same cursors i h h' a b =
 
 -- ---- a packet is found
 
-found-goes : (us vs : List InputPast) (s : InputPast) (before : List ℕ) (xs ys : List InputView) (h : InputView) (s' : SourceView) (schedule : Schedule) (turn : ℕ) (policy : Policy) (state : SelectorState) (output : JobOutputView) (decided : ℕ)
-    → ReadLaws schedule turn xs ys h → AreInputsBehind us xs → At s h → AreInputsBehind vs ys → Advances h.source.phase h.source (Ok true) s' → s'.never_fails ≡ h.source.never_fails
-    → (d : PacketsDecided (us ++ s ∷ vs) before (mk (xs ++ h ∷ ys) schedule policy state output decided))
-    → GoesOn d (mk (xs ++ input_after h (Ok true) s' ∷ ys) (schedule_after schedule turn false) policy state output decided)
-found-goes us vs s before xs ys h s' schedule turn policy state output decided laws front at back advances never d =
+found-goes : (us vs : List InputPast) (s : InputPast) (before : List ℕ) (xs ys : List InputView) (h : InputView) (s' : SourceView) (order : PacketOrder) (turn : ℕ) (policy : Policy) (state : SelectorState) (output : JobOutputView) (decided : ℕ)
+    → ReadLaws order turn xs ys h → AreInputsBehind us xs → At s h → AreInputsBehind vs ys → Advances h.source.phase h.source (Ok true) s' → s'.never_fails ≡ h.source.never_fails
+    → (d : PacketsDecided (us ++ s ∷ vs) before (mk (xs ++ h ∷ ys) order policy state output decided))
+    → GoesOn d (mk (xs ++ input_after h (Ok true) s' ∷ ys) order policy state output decided)
+found-goes us vs s before xs ys h s' order turn policy state output decided laws front at back advances never d =
     let waits : h.waiting ≡ false = laws.waits in
     let found : FindsPacket h.source s' = finds s h s' (Ok true) at waits advances in
     let P : Bool → Type 0 = λ b. IsAt s.text s.done s.packets b h.source in
-    let new : MachineState = mk (xs ++ input_after h (Ok true) s' ∷ ys) (schedule_after schedule turn false) policy state output decided in
+    let new : MachineState = mk (xs ++ input_after h (Ok true) s' ∷ ys) order policy state output decided in
     let same : s.packets ++ [] ≡ s.packets = append-nil s.packets in
     let here : At (record { text = s.text; done = s.done ++ found.passes.passed; packets = s.packets ++ [] }) (input_after h (Ok true) s') =
     rw same (IsAt-found s.text s.done s.packets h.source s' (subst P waits at) found) in
     let past : List InputPast = us ++ record { text = s.text; done = s.done ++ found.passes.passed; packets = s.packets ++ [] } ∷ vs in
     let behind : AreInputsBehind past new.inputs.cursors = stands-join us vs (record { text = s.text; done = s.done ++ found.passes.passed; packets = s.packets ++ [] }) xs ys (input_after h (Ok true) s') front here back in
-    let come : AreSettled past new.inputs (d.events ++ []) = come-on us vs s (record { text = s.text; done = s.done ++ found.passes.passed; packets = s.packets ++ [] }) xs ys h (input_after h (Ok true) s') schedule (schedule_after schedule turn false) d.events [] (laws.order false) front d.come
-    (λ f' fit. carries-found s xs ys h s' schedule (schedule_after schedule turn false) laws.found_left waits advances found f') in
+    let come : AreSettled past new.inputs (d.events ++ []) = come-on us vs s (record { text = s.text; done = s.done ++ found.passes.passed; packets = s.packets ++ [] }) xs ys h (input_after h (Ok true) s') order d.events [] front d.come
+    (λ f' fit. carries-found s xs ys h s' order (laws.found_left (input_after h (Ok true) s') (λ e. (let p = found.phase in cc (e, p)))) waits advances found f') in
     record {
       input = turn;
       finished = found.passes.passed;
@@ -83,14 +84,13 @@ found-goes us vs s before xs ys h s' schedule turn policy state output decided l
         output = d.output;
         passed = d.passed;
         counted = d.counted;
-        ended = laws.found_ended (input_after h (Ok true) s') (let has = here.waits refl in waits_from has.packet refl has.held (omega arith));
       };
       at_most_one = omega arith;
       form = refl;
       once = once-nothing (first_link (wholes_of (us ++ s ∷ vs))) (progress_of d) (progress_at new d.packets d.reports) output output refl refl refl;
       output = refl;
       names = refl;
-      order = laws.order false;
+      order = refl;
       never = never-at xs ys h (input_after h (Ok true) s') never;
     }
 
@@ -101,16 +101,15 @@ abbrev read-out : InputPast → List ℕ → InputPast
 read-out s bytes = record { text = s.text; done = s.done ++ bytes; packets = s.packets ++ [] }
 
 -- what holds of the inputs then
-record ReadOut (us vs : List InputPast) (s : InputPast) (xs ys : List InputView) (h' : InputView) (schedule' : Schedule) (events : List Event) (bytes : List ℕ) : Type 0 where
+record ReadOut (us vs : List InputPast) (s : InputPast) (xs ys : List InputView) (h' : InputView) (order : PacketOrder) (events : List Event) (bytes : List ℕ) : Type 0 where
   pub behind : AreInputsBehind (us ++ read-out s bytes ∷ vs) (xs ++ h' ∷ ys)
-  pub come : AreSettled (us ++ read-out s bytes ∷ vs) (record { cursors = xs ++ h' ∷ ys; schedule = schedule' }) events
-  pub ended : EndedBefore schedule' (xs ++ h' ∷ ys)
+  pub come : AreSettled (us ++ read-out s bytes ∷ vs) (record { order = order; cursors = xs ++ h' ∷ ys }) events
 
-closed-out : (us vs : List InputPast) (s : InputPast) (before : List ℕ) (xs ys : List InputView) (h : InputView) (s' : SourceView) (schedule : Schedule) (turn : ℕ) (policy : Policy) (state : SelectorState) (output : JobOutputView) (decided : ℕ)
-    → (laws : ReadLaws schedule turn xs ys h) → AreInputsBehind us xs → At s h → AreInputsBehind vs ys → Advances h.source.phase h.source (Ok false) s' → (found : FindsEnd h.source s')
-    → (d : PacketsDecided (us ++ s ∷ vs) before (mk (xs ++ h ∷ ys) schedule policy state output decided))
-    → ReadOut us vs s xs ys (input_after h (Ok false) s') (schedule_after schedule turn true) (d.events ++ laws.closed_events (kind_of s'.declared) s'.offset) found.passes.passed
-closed-out us vs s before xs ys h s' schedule turn policy state output decided laws front at back advances found d =
+closed-out : (us vs : List InputPast) (s : InputPast) (before : List ℕ) (xs ys : List InputView) (h : InputView) (s' : SourceView) (order : PacketOrder) (turn : ℕ) (policy : Policy) (state : SelectorState) (output : JobOutputView) (decided : ℕ)
+    → (laws : ReadLaws order turn xs ys h) → AreInputsBehind us xs → At s h → AreInputsBehind vs ys → Advances h.source.phase h.source (Ok false) s' → (found : FindsEnd h.source s')
+    → (d : PacketsDecided (us ++ s ∷ vs) before (mk (xs ++ h ∷ ys) order policy state output decided))
+    → ReadOut us vs s xs ys (input_after h (Ok false) s') order (d.events ++ laws.closed_events (kind_of s'.declared) s'.offset) found.passes.passed
+closed-out us vs s before xs ys h s' order turn policy state output decided laws front at back advances found d =
     let waits : h.waiting ≡ false = laws.waits in
     let P : Bool → Type 0 = λ b. IsAt s.text s.done s.packets b h.source in
     let same : s.packets ++ [] ≡ s.packets = append-nil s.packets in
@@ -119,24 +118,23 @@ closed-out us vs s before xs ys h s' schedule turn policy state output decided l
     rw same (IsAt-closed s.text s.done s.packets h.source s' (subst P waits at) found) in
     record {
       behind = stands-join us vs (read-out s found.passes.passed) xs ys (input_after h (Ok false) s') front here back;
-      come = come-on us vs s (read-out s found.passes.passed) xs ys h (input_after h (Ok false) s') schedule (schedule_after schedule turn true) d.events es (laws.order true) front d.come
-          (λ f' fit. carries-closed s xs ys h s' schedule (schedule_after schedule turn true) es (λ fs gs before with_front. laws.closed_left s'.declared h.greatest s'.offset fs gs before with_front) waits advances found f' fit);
-      ended = laws.closed_ended (input_after h (Ok false) s') refl found.phase;
+      come = come-on us vs s (read-out s found.passes.passed) xs ys h (input_after h (Ok false) s') order d.events es front d.come
+          (λ f' fit. carries-closed s xs ys h s' order es (λ fs gs before with_front. laws.closed_left (input_after h (Ok false) s') found.phase s'.declared h.greatest s'.offset fs gs before with_front) waits advances found f' fit);
     }
 
 -- it goes on, with what closing the input makes of the progress
-closed-goes : (us vs : List InputPast) (s : InputPast) (before : List ℕ) (xs ys : List InputView) (h : InputView) (s' : SourceView) (schedule : Schedule) (turn : ℕ) (policy : Policy) (state : SelectorState) (output : JobOutputView) (decided : ℕ) (state' : SelectorState) (output' : JobOutputView) (reports : List Report)
-    → (laws : ReadLaws schedule turn xs ys h) → AreInputsBehind us xs → At s h → AreInputsBehind vs ys → Advances h.source.phase h.source (Ok false) s' → s'.never_fails ≡ h.source.never_fails
-    → (d : PacketsDecided (us ++ s ∷ vs) before (mk (xs ++ h ∷ ys) schedule policy state output decided))
-    → closed_in (ordering_of schedule) policy (progress_at (mk (xs ++ h ∷ ys) schedule policy state output decided) d.packets d.reports) turn (kind_of s'.declared) s'.offset
+closed-goes : (us vs : List InputPast) (s : InputPast) (before : List ℕ) (xs ys : List InputView) (h : InputView) (s' : SourceView) (order : PacketOrder) (turn : ℕ) (policy : Policy) (state : SelectorState) (output : JobOutputView) (decided : ℕ) (state' : SelectorState) (output' : JobOutputView) (reports : List Report)
+    → (laws : ReadLaws order turn xs ys h) → AreInputsBehind us xs → At s h → AreInputsBehind vs ys → Advances h.source.phase h.source (Ok false) s' → s'.never_fails ≡ h.source.never_fails
+    → (d : PacketsDecided (us ++ s ∷ vs) before (mk (xs ++ h ∷ ys) order policy state output decided))
+    → closed_in order policy (progress_at (mk (xs ++ h ∷ ys) order policy state output decided) d.packets d.reports) turn (kind_of s'.declared) s'.offset
     ≡ record { decided = decided; state = state'; packets = d.packets; reports = reports; end = None }
     → HasWritten before output' d.packets reports → AppendsOnce (first_link (wholes_of (us ++ s ∷ vs))) (progress_of d) (record { decided = decided; state = state'; packets = d.packets; reports = reports; end = None }) output output' → form_at output' ≡ form_at output → failures_to output'.target ≡ failures_to output.target → output'.names ≡ output.names
     → state'.passed ≤ decided → IsWithin decided state'.tally
-    → GoesOn d (mk (xs ++ input_after h (Ok false) s' ∷ ys) (schedule_after schedule turn true) policy state' output' decided)
-closed-goes us vs s before xs ys h s' schedule turn policy state output decided state' output' reports laws front at back advances never d goes final_text once form failures names passed counted =
+    → GoesOn d (mk (xs ++ input_after h (Ok false) s' ∷ ys) order policy state' output' decided)
+closed-goes us vs s before xs ys h s' order turn policy state output decided state' output' reports laws front at back advances never d goes final_text once form failures names passed counted =
     let found : FindsEnd h.source s' = finds s h s' (Ok false) at laws.waits advances in
-    let out = closed-out us vs s before xs ys h s' schedule turn policy state output decided laws front at back advances found d in
-    let w : Progress = progress_at (mk (xs ++ h ∷ ys) schedule policy state output decided) d.packets d.reports in
+    let out = closed-out us vs s before xs ys h s' order turn policy state output decided laws front at back advances found d in
+    let w : Progress = progress_at (mk (xs ++ h ∷ ys) order policy state output decided) d.packets d.reports in
     let es : List Event = laws.closed_events (kind_of s'.declared) s'.offset in
     record {
       input = turn;
@@ -148,7 +146,7 @@ closed-goes us vs s before xs ys h s' schedule turn policy state output decided 
         behind = out.behind;
         greatest = greatest-here us vs s (read-out s found.passes.passed) xs ys h (input_after h (Ok false) s') front d.greatest (greatest-same h.greatest s.packets);
         events = d.events ++ es;
-        first = come-first (us ++ read-out s found.passes.passed ∷ vs) (record { cursors = xs ++ input_after h (Ok false) s' ∷ ys; schedule = schedule_after schedule turn true }) (d.events ++ es) out.behind out.come;
+        first = come-first (us ++ read-out s found.passes.passed ∷ vs) (record { order = order; cursors = xs ++ input_after h (Ok false) s' ∷ ys }) (d.events ++ es) out.behind out.come;
         come = out.come;
         packets = d.packets;
         reports = reports;
@@ -158,14 +156,13 @@ closed-goes us vs s before xs ys h s' schedule turn policy state output decided 
         output = final_text;
         passed = passed;
         counted = counted;
-        ended = out.ended;
       };
       at_most_one = omega arith;
       form = form;
       once = once;
       output = failures;
       names = names;
-      order = laws.order true;
+      order = refl;
       never = never-at xs ys h (input_after h (Ok false) s') never;
     }
 
@@ -214,19 +211,19 @@ risen s h s' fault at steps is = by_phase h.source.phase refl steps
     by_phase Ended e b = absurd (let w = b.0 in cc)
     by_phase (Failed other) e b = absurd (at.sound other e)
 
-pub broken-ends : (us vs : List InputPast) (s : InputPast) (before : List ℕ) (xs ys : List InputView) (h : InputView) (s' : SourceView) (fault : Fault) (schedule : Schedule) (turn : ℕ) (policy : Policy) (state : SelectorState) (output : JobOutputView) (decided : ℕ)
-    → ReadLaws schedule turn xs ys h → IsNext schedule (xs ++ h ∷ ys) (next.Read turn) → AreInputsBehind us xs → At s h → AreInputsBehind vs ys → Advances h.source.phase h.source (Err fault) s'
+pub broken-ends : (us vs : List InputPast) (s : InputPast) (before : List ℕ) (xs ys : List InputView) (h : InputView) (s' : SourceView) (fault : Fault) (order : PacketOrder) (turn : ℕ) (policy : Policy) (state : SelectorState) (output : JobOutputView) (decided : ℕ)
+    → ReadLaws order turn xs ys h → IsNext (inputs_at order (xs ++ h ∷ ys)) (next.Read turn) → AreInputsBehind us xs → At s h → AreInputsBehind vs ys → Advances h.source.phase h.source (Err fault) s'
     → Steps h.source.phase h.source (Err fault) s'
-    → (d : PacketsDecided (us ++ s ∷ vs) before (mk (xs ++ h ∷ ys) schedule policy state output decided))
-    → WhyBroken d (mk (xs ++ input_after h (Err fault) s' ∷ ys) (schedule_after schedule turn false) policy state output decided) turn fault s'
-broken-ends us vs s before xs ys h s' fault schedule turn policy state output decided laws tells front at back advances steps d =
+    → (d : PacketsDecided (us ++ s ∷ vs) before (mk (xs ++ h ∷ ys) order policy state output decided))
+    → WhyBroken d (mk (xs ++ input_after h (Err fault) s' ∷ ys) order policy state output decided) turn fault s'
+broken-ends us vs s before xs ys h s' fault order turn policy state output decided laws tells front at back advances steps d =
     let waits : h.waiting ≡ false = laws.waits in
     let found : FindsFault h.source s' fault = finds s h s' (Err fault) at waits advances in
     let P : Bool → Type 0 = λ b. IsAt s.text s.done s.packets b h.source in
     let here : IsAt s.text s.done s.packets false h.source = subst P waits at in
     elim (IsAt-fault s.text s.done s.packets h.source s' fault here found) [
       | inl faulty ↦ inl (comes-broken (us ++ s ∷ vs) before m (wholes_of (us ++ s ∷ vs)) d new turn fault s'.offset
-          (ap (λ (l : List InputItems). final_progress policy (form_at output) (sequence_of (ordering_of schedule) l))
+          (ap (λ (l : List InputItems). final_progress policy (form_at output) (sequence_of order l))
           (wholes_of-join us vs s ∙ ap (λ (r : InputItems). wholes_of us ++ r ∷ wholes_of vs) (ap (λ (i : Items). record { greatest = 0; items = i; size = length s.text }) faulty.items))
           ∙ cut-course)
           refl refl)
@@ -244,7 +241,7 @@ broken-ends us vs s before xs ys h s' fault schedule turn policy state output de
         cut = cut.cut;
         why = elim cut.why [ inl failed ↦ let rose = risen s h s' fault at steps failed in inl (failed, rose.0, rose.1) | inr full ↦ inr full ];
         comes = comes-broken (us ++ s ∷ vs) before m (cut_at (wholes_of (us ++ s ∷ vs)) turn (record { packets = s.packets; declared = s'.declared; ending = FaultAt fault s'.offset })) d new turn fault s'.offset
-            (ap (λ (l : List InputItems). final_progress policy (form_at output) (sequence_of (ordering_of schedule) l))
+            (ap (λ (l : List InputItems). final_progress policy (form_at output) (sequence_of order l))
             (ap (λ (l : List InputItems). cut_at l turn (record { packets = s.packets; declared = s'.declared; ending = FaultAt fault s'.offset })) (wholes_of-join us vs s)
             ∙ cut-here (wholes_of us) (wholes_of vs) (whole_input s.text) turn (record { packets = s.packets; declared = s'.declared; ending = FaultAt fault s'.offset }) (wholes_of-length us ∙ stands-length us xs front ∙ laws.here))
             ∙ cut-course)
@@ -253,10 +250,10 @@ broken-ends us vs s before xs ys h s' fault schedule turn policy state output de
     ]
   where
     m : MachineState
-    m = mk (xs ++ h ∷ ys) schedule policy state output decided
+    m = mk (xs ++ h ∷ ys) order policy state output decided
 
     new : MachineState
-    new = mk (xs ++ input_after h (Err fault) s' ∷ ys) (schedule_after schedule turn false) policy state output decided
+    new = mk (xs ++ input_after h (Err fault) s' ∷ ys) order policy state output decided
 
     -- the future in which the input ends so
     f : Future
@@ -274,18 +271,18 @@ broken-ends us vs s before xs ys h s' fault schedule turn policy state output de
     rest_as : Bool → InputItems
     rest_as b = record { greatest = h.greatest; items = after_packets (waiting_packets b h.source) f.items; size = f.size }
 
-    cut-course : final_progress policy (form_at output) (sequence_of (ordering_of schedule) (wholes_of us ++ record { greatest = 0; items = record { packets = s.packets; declared = s'.declared; ending = FaultAt fault s'.offset }; size = length s.text } ∷ wholes_of vs))
+    cut-course : final_progress policy (form_at output) (sequence_of order (wholes_of us ++ record { greatest = 0; items = record { packets = s.packets; declared = s'.declared; ending = FaultAt fault s'.offset }; size = length s.text } ∷ wholes_of vs))
         ≡ end_with (progress_at m d.packets d.reports) (FaultIn turn fault s'.offset)
     cut-course =
         course-close policy (form_at output) _ d.events (progress_at m d.packets d.reports) (FaultIn turn fault s'.offset)
-        (ap (sequence_of (ordering_of schedule))
+        (ap (sequence_of order)
         (ap (λ (l : List Placed). wholes_of us ++ record { greatest = 0; items = record { packets = l; declared = s'.declared; ending = FaultAt fault s'.offset }; size = length s.text } ∷ wholes_of vs) (sym (append-nil s.packets))
         ∙ ap (λ b. wholes_of us ++ record { greatest = 0; items = after s.packets b; size = length s.text } ∷ wholes_of vs) (sym laws.waits)
         ∙ ap (λ (l : List InputItems). l ++ items_with s h f ∷ wholes_of vs) (sym (true-wholes us xs front))
         ∙ ap (λ (l : List InputItems). inputs_with us xs (laters xs) ++ items_with s h f ∷ l) (sym (true-wholes vs ys back))
         ∙ sym (wholes-join us vs s xs ys h (laters xs) (laters ys) f front (true-fits us xs front)))
         ∙ d.come (laters xs ++ f ∷ laters ys) (fits-join xs ys h (laters xs) (laters ys) f (true-fits us xs front) fit (true-fits vs ys back))
-        ∙ ap (λ (l : List InputItems). with_front d.events (sequence_left schedule l)) (rests-join xs ys h (laters xs) (laters ys) f (true-fits us xs front) ∙ ap (λ b. inputs_left xs (laters xs) ++ rest_as b ∷ inputs_left ys (laters ys)) laws.waits)
+        ∙ ap (λ (l : List InputItems). with_front d.events (sequence_left order (xs ++ h ∷ ys) l)) (rests-join xs ys h (laters xs) (laters ys) f (true-fits us xs front) ∙ ap (λ b. inputs_left xs (laters xs) ++ rest_as b ∷ inputs_left ys (laters ys)) laws.waits)
         ∙ ap (with_front d.events) (laws.broken_left s'.declared fault s'.offset h.greatest (length s.text) (laters xs) (laters ys) (true-fits us xs front) (true-fits vs ys back)))
         d.progress refl
 
@@ -314,23 +311,22 @@ in-turn InTurn policy is = refl
 in-turn ByTime policy is = (cc)
 
 -- the device failed at a report
-report-stops : (us vs : List InputPast) (s : InputPast) (before : List ℕ) (xs ys : List InputView) (h : InputView) (s' : SourceView) (schedule : Schedule) (turn : ℕ) (policy : Policy) (state : SelectorState) (names : List (List ℕ)) (target : Target) (decided : ℕ) (state' : SelectorState) (output' : JobOutputView) (fault : DeviceFault)
-    → (laws : ReadLaws schedule turn xs ys h) → IsNext schedule (xs ++ h ∷ ys) (next.Read turn) → AreInputsBehind us xs → At s h → AreInputsBehind vs ys → Advances h.source.phase h.source (Ok false) s' → Steps h.source.phase h.source (Ok false) s'
-    → (d : PacketsDecided (us ++ s ∷ vs) before (mk (xs ++ h ∷ ys) schedule policy state (record { names = names; target = target }) decided))
-    → asks_report (ordering_of schedule) policy ≡ true
+report-stops : (us vs : List InputPast) (s : InputPast) (before : List ℕ) (xs ys : List InputView) (h : InputView) (s' : SourceView) (order : PacketOrder) (turn : ℕ) (policy : Policy) (state : SelectorState) (names : List (List ℕ)) (target : Target) (decided : ℕ) (state' : SelectorState) (output' : JobOutputView) (fault : DeviceFault)
+    → (laws : ReadLaws order turn xs ys h) → IsNext (inputs_at order (xs ++ h ∷ ys)) (next.Read turn) → AreInputsBehind us xs → At s h → AreInputsBehind vs ys → Advances h.source.phase h.source (Ok false) s' → Steps h.source.phase h.source (Ok false) s'
+    → (d : PacketsDecided (us ++ s ∷ vs) before (mk (xs ++ h ∷ ys) order policy state (record { names = names; target = target }) decided))
+    → asks_report order policy ≡ true
     → Reports (report_text names (report_at turn (input_after h (Ok false) s') state.tally)) target (Err fault) output'.target
-    → StopsWriting d (mk (xs ++ input_after h (Ok false) s' ∷ ys) (schedule_after schedule turn true) policy state' output' decided)
-report-stops us vs s before xs ys h s' schedule turn policy state names (Capture sink) decided state' output' fault laws tells front at back advances steps d asks reports = absurd (let e = reports.0 in cc)
-report-stops us vs s before xs ys h s' schedule turn policy state names (Lines options bytes failures room) decided state' output' fault laws tells front at back advances steps d asks reports = absurd (let e = reports.0 in cc)
-report-stops us vs s before xs ys h s' schedule turn policy state names (Text bytes failures room) decided state' output' fault laws tells front at back advances steps d asks reports =
+    → StopsWriting d (mk (xs ++ input_after h (Ok false) s' ∷ ys) order policy state' output' decided)
+report-stops us vs s before xs ys h s' order turn policy state names (Capture sink) decided state' output' fault laws tells front at back advances steps d asks reports = absurd (let e = reports.0 in cc)
+report-stops us vs s before xs ys h s' order turn policy state names (Lines options bytes failures room) decided state' output' fault laws tells front at back advances steps d asks reports = absurd (let e = reports.0 in cc)
+report-stops us vs s before xs ys h s' order turn policy state names (Text bytes failures room) decided state' output' fault laws tells front at back advances steps d asks reports =
     let form : Form = AsReports names in
     let output : JobOutputView = record { names = names; target = Text bytes failures room } in
     let h' : InputView = input_after h (Ok false) s' in
-    let schedule' : Schedule = schedule_after schedule turn true in
     let report : Report = report_at turn h' state.tally in
     let found : FindsEnd h.source s' = finds s h s' (Ok false) at laws.waits advances in
-    let out = closed-out us vs s before xs ys h s' schedule turn policy state output decided laws front at back advances found d in
-    let w : Progress = progress_at (mk (xs ++ h ∷ ys) schedule policy state output decided) d.packets d.reports in
+    let out = closed-out us vs s before xs ys h s' order turn policy state output decided laws front at back advances found d in
+    let w : Progress = progress_at (mk (xs ++ h ∷ ys) order policy state output decided) d.packets d.reports in
     let es : List Event = laws.closed_events (kind_of s'.declared) s'.offset in
     let w' : Progress = with_report w report in
     let ss' : List InputPast = us ++ read-out s found.passes.passed ∷ vs in
@@ -338,22 +334,21 @@ report-stops us vs s before xs ys h s' schedule turn policy state names (Text by
     let fs : List Future = map (λ (v : InputView). actual_future v.source) hs' in
     let far : apply_events policy form no_progress (d.events ++ es) ≡ w' =
     progress-append policy form no_progress d.events es ∙ ap (λ (v : Progress). apply_events policy form v es) d.progress
-    ∙ laws.closed_way policy form w (kind_of s'.declared) s'.offset refl ∙ told-closed (ordering_of schedule) policy w turn (kind_of s'.declared) s'.offset asks in
-    let is : sequence_of (ordering_of schedule) (wholes_of (us ++ s ∷ vs)) ≡ with_front (d.events ++ es) (sequence_left schedule' (inputs_left hs' fs)) =
-    ap (sequence_of (ordering_of schedule)) (wholes_of-join us vs s ∙ sym (wholes_of-join us vs (read-out s found.passes.passed)) ∙ sym (true-wholes ss' hs' out.behind))
-    ∙ ap (λ (o : PacketOrder). sequence_of o (inputs_with ss' hs' fs)) (sym (laws.order true))
+    ∙ laws.closed_way policy form w (kind_of s'.declared) s'.offset refl ∙ told-closed order policy w turn (kind_of s'.declared) s'.offset asks in
+    let is : sequence_of order (wholes_of (us ++ s ∷ vs)) ≡ with_front (d.events ++ es) (sequence_left order hs' (inputs_left hs' fs)) =
+    ap (sequence_of order) (wholes_of-join us vs s ∙ sym (wholes_of-join us vs (read-out s found.passes.passed)) ∙ sym (true-wholes ss' hs' out.behind))
     ∙ out.come fs (true-fits ss' hs' out.behind) in
-    let all : Progress = final_progress policy form (sequence_of (ordering_of schedule) (wholes_of (us ++ s ∷ vs))) in
-    let grows : Grows w' all = course-grows policy form (sequence_of (ordering_of schedule) (wholes_of (us ++ s ∷ vs))) (sequence_left schedule' (inputs_left hs' fs)) (d.events ++ es) w' is far in
+    let all : Progress = final_progress policy form (sequence_of order (wholes_of (us ++ s ∷ vs))) in
+    let grows : Grows w' all = course-grows policy form (sequence_of order (wholes_of (us ++ s ∷ vs))) (sequence_left order hs' (inputs_left hs' fs)) (d.events ++ es) w' is far in
     let ending : List ℕ = text_at_end all.end form (first_link (wholes_of (us ++ s ∷ vs))) all.packets in
     let own : List ℕ = report_text names report in
-    let fetched : ReadsInput (record { cursors = xs ++ h ∷ ys; schedule = schedule }) turn (Ok false) (record { cursors = hs'; schedule = schedule' }) = record {
+    let fetched : ReadsInput (record { order = order; cursors = xs ++ h ∷ ys }) turn (Ok false) (record { order = order; cursors = hs' }) = record {
       cursor = h;
       among = record { front = xs; back = ys; place = laws.here; splits = refl };
       source = s';
       advances = advances;
       steps = steps;
-      is = ap (λ (l : List InputView). record { cursors = l; schedule = schedule' }) (sym (set-here xs ys h h' turn laws.here));
+      is = ap (λ (l : List InputView). record { order = order; cursors = l }) (sym (set-here xs ys h h' turn laws.here));
     } in
     record {
       failures = ap failures_to reports.is;
@@ -363,9 +358,9 @@ report-stops us vs s before xs ys h s' schedule turn policy state names (Text by
         next = tells;
         fetches = fetched;
         comes = record {
-          later = (sequence_left schedule' (inputs_left hs' fs)).events;
-          is = ap (λ (q : Sequence). q.events) is ∙ append_assoc d.events es (sequence_left schedule' (inputs_left hs' fs)).events
-              ∙ ap (λ (l : List Event). d.events ++ (l ++ (sequence_left schedule' (inputs_left hs' fs)).events)) (laws.closed_one (in-turn (ordering_of schedule) policy asks) (kind_of s'.declared) s'.offset);
+          later = (sequence_left order hs' (inputs_left hs' fs)).events;
+          is = ap (λ (q : Sequence). q.events) is ∙ append_assoc d.events es (sequence_left order hs' (inputs_left hs' fs)).events
+              ∙ ap (λ (l : List Event). d.events ++ (l ++ (sequence_left order hs' (inputs_left hs' fs)).events)) (laws.closed_one (in-turn order policy asks) (kind_of s'.declared) s'.offset);
           goes = ap (λ (v : Progress). v.end) d.progress;
         };
         policy = asks;
@@ -381,34 +376,34 @@ report-stops us vs s before xs ys h s' schedule turn policy state names (Text by
       stops = (let S : Target → Type 0 = λ t. Stops bytes own (written_to t) in subst S (sym reports.is) reports.appends);
     }
 
-closed-core : (us vs : List InputPast) (s : InputPast) (before : List ℕ) (xs ys : List InputView) (h : InputView) (s' : SourceView) (schedule : Schedule) (turn : ℕ) (policy : Policy) (state : SelectorState) (output : JobOutputView) (decided : ℕ) (r : Option JobEnd) (selector' : PolicyState) (output' : JobOutputView)
-    → (laws : ReadLaws schedule turn xs ys h) → IsNext schedule (xs ++ h ∷ ys) (next.Read turn) → AreInputsBehind us xs → At s h → AreInputsBehind vs ys → Advances h.source.phase h.source (Ok false) s' → Steps h.source.phase h.source (Ok false) s'
-    → (d : PacketsDecided (us ++ s ∷ vs) before (mk (xs ++ h ∷ ys) schedule policy state output decided))
-    → (b : Bool) → asks_report (ordering_of schedule) policy ≡ b → ClosesBy b turn (input_after h (Ok false) s') (sieve (record { policy = policy; state = state }) output) r (sieve selector' output')
-    → StepLeaves d r (mk (xs ++ input_after h (Ok false) s' ∷ ys) (schedule_after schedule turn true) policy selector'.state output' decided)
-closed-core us vs s before xs ys h s' schedule turn policy state output decided r selector' output' laws tells front at back advances steps d false asks by =
+closed-core : (us vs : List InputPast) (s : InputPast) (before : List ℕ) (xs ys : List InputView) (h : InputView) (s' : SourceView) (order : PacketOrder) (turn : ℕ) (policy : Policy) (state : SelectorState) (output : JobOutputView) (decided : ℕ) (r : Option JobEnd) (selector' : PolicyState) (output' : JobOutputView)
+    → (laws : ReadLaws order turn xs ys h) → IsNext (inputs_at order (xs ++ h ∷ ys)) (next.Read turn) → AreInputsBehind us xs → At s h → AreInputsBehind vs ys → Advances h.source.phase h.source (Ok false) s' → Steps h.source.phase h.source (Ok false) s'
+    → (d : PacketsDecided (us ++ s ∷ vs) before (mk (xs ++ h ∷ ys) order policy state output decided))
+    → (b : Bool) → asks_report order policy ≡ b → ClosesBy b turn (input_after h (Ok false) s') (sieve (record { policy = policy; state = state }) output) r (sieve selector' output')
+    → StepLeaves d r (mk (xs ++ input_after h (Ok false) s' ∷ ys) order policy selector'.state output' decided)
+closed-core us vs s before xs ys h s' order turn policy state output decided r selector' output' laws tells front at back advances steps d false asks by =
     rw (by.0, by.1, by.2)
-    (closed-goes us vs s before xs ys h s' schedule turn policy state output decided state output d.reports laws front at back advances (never-kept h.source s' (Ok false) steps) d
-    (quiet-closed (ordering_of schedule) policy (progress_at (mk (xs ++ h ∷ ys) schedule policy state output decided) d.packets d.reports) turn (kind_of s'.declared) s'.offset asks)
+    (closed-goes us vs s before xs ys h s' order turn policy state output decided state output d.reports laws front at back advances (never-kept h.source s' (Ok false) steps) d
+    (quiet-closed order policy (progress_at (mk (xs ++ h ∷ ys) order policy state output decided) d.packets d.reports) turn (kind_of s'.declared) s'.offset asks)
     d.output (once-nothing (first_link (wholes_of (us ++ s ∷ vs))) (progress_of d) (progress_of d) output output refl refl refl) refl refl refl d.passed d.counted)
-closed-core us vs s before xs ys h s' schedule turn policy state output decided r selector' output' laws tells front at back advances steps d true asks by =
+closed-core us vs s before xs ys h s' order turn policy state output decided r selector' output' laws tells front at back advances steps d true asks by =
     rw (by.is, by.selector_is) (by_answer by.answer by.names by.reports)
   where
     old : MachineState
-    old = mk (xs ++ h ∷ ys) schedule policy state output decided
+    old = mk (xs ++ h ∷ ys) order policy state output decided
 
     report : Report
     report = report_at turn (input_after h (Ok false) s') state.tally
 
     by_answer : (answer : Result (Unit {0}) DeviceFault) → output'.names ≡ output.names → Reports (report_text output.names report) output.target answer output'.target
-        → StepLeaves d (unless_failed answer) (mk (xs ++ input_after h (Ok false) s' ∷ ys) (schedule_after schedule turn true) policy (emptied state) output' decided)
+        → StepLeaves d (unless_failed answer) (mk (xs ++ input_after h (Ok false) s' ∷ ys) order policy (emptied state) output' decided)
     by_answer (Ok done) names reports =
         let ok : ReportOk before d.packets d.reports report output.names output'.names output.target output'.target =
         report-ok before d.packets d.reports report output.names output'.names output.target output'.target names d.output reports in
-        closed-goes us vs s before xs ys h s' schedule turn policy state output decided (emptied state) output' (d.reports ++ report ∷ []) laws front at back advances (never-kept h.source s' (Ok false) steps) d
-        (told-closed (ordering_of schedule) policy (progress_at old d.packets d.reports) turn (kind_of s'.declared) s'.offset asks)
+        closed-goes us vs s before xs ys h s' order turn policy state output decided (emptied state) output' (d.reports ++ report ∷ []) laws front at back advances (never-kept h.source s' (Ok false) steps) d
+        (told-closed order policy (progress_at old d.packets d.reports) turn (kind_of s'.declared) s'.offset asks)
         ok.output (once-report (first_link (wholes_of (us ++ s ∷ vs))) before (progress_of d) (with_report (progress_of d) report) output output' report d.output ok.output ok.form refl refl) ok.form ok.failures names d.passed (omega arith, omega arith, omega arith)
-    by_answer (Err fault) names reports = report-stops us vs s before xs ys h s' schedule turn policy state output.names output.target decided (emptied state) output' fault laws tells front at back advances steps d asks reports
+    by_answer (Err fault) names reports = report-stops us vs s before xs ys h s' order turn policy state output.names output.target decided (emptied state) output' fault laws tells front at back advances steps d asks reports
 
 -- ---- all of them
 
@@ -423,66 +418,65 @@ Follows (Ok true) inputs i selector old r selector' new = (selector' ≡ selecto
 Follows (Ok false) inputs i selector old r selector' new = Closes inputs i (sieve selector old) r (sieve selector' new)
 Follows (Err fault) inputs i selector old r selector' new = (selector' ≡ selector) × (new ≡ old)
 
-read_input-core : (us vs : List InputPast) (s : InputPast) (before : List ℕ) (xs ys : List InputView) (h : InputView) (s' : SourceView) (a : Result Bool Fault) (schedule : Schedule) (turn : ℕ) (policy : Policy) (state : SelectorState) (output : JobOutputView) (decided : ℕ) (r : Option JobEnd) (selector' : PolicyState) (output' : JobOutputView)
-    → ReadLaws schedule turn xs ys h → IsNext schedule (xs ++ h ∷ ys) (next.Read turn) → AreInputsBehind us xs → At s h → AreInputsBehind vs ys → Advances h.source.phase h.source a s' → Steps h.source.phase h.source a s'
-    → (d : PacketsDecided (us ++ s ∷ vs) before (mk (xs ++ h ∷ ys) schedule policy state output decided))
-    → Follows a (record { cursors = xs ++ input_after h a s' ∷ ys; schedule = schedule_after schedule turn (is_clean_end a) }) turn (record { policy = policy; state = state }) output r selector' output'
-    → FetchLeaves d turn a r (mk (xs ++ input_after h a s' ∷ ys) (schedule_after schedule turn (is_clean_end a)) policy selector'.state output' decided)
-read_input-core us vs s before xs ys h s' (Ok true) schedule turn policy state output decided r selector' output' laws tells front at back advances steps d follows =
-    rw (follows.0, follows.1) (found-goes us vs s before xs ys h s' schedule turn policy state output decided laws front at back advances (never-kept h.source s' (Ok true) steps) d)
-read_input-core us vs s before xs ys h s' (Ok false) schedule turn policy state output decided r selector' output' laws tells front at back advances steps d follows =
+read_input-core : (us vs : List InputPast) (s : InputPast) (before : List ℕ) (xs ys : List InputView) (h : InputView) (s' : SourceView) (a : Result Bool Fault) (order : PacketOrder) (turn : ℕ) (policy : Policy) (state : SelectorState) (output : JobOutputView) (decided : ℕ) (r : Option JobEnd) (selector' : PolicyState) (output' : JobOutputView)
+    → ReadLaws order turn xs ys h → IsNext (inputs_at order (xs ++ h ∷ ys)) (next.Read turn) → AreInputsBehind us xs → At s h → AreInputsBehind vs ys → Advances h.source.phase h.source a s' → Steps h.source.phase h.source a s'
+    → (d : PacketsDecided (us ++ s ∷ vs) before (mk (xs ++ h ∷ ys) order policy state output decided))
+    → Follows a (record { order = order; cursors = xs ++ input_after h a s' ∷ ys }) turn (record { policy = policy; state = state }) output r selector' output'
+    → FetchLeaves d turn a r (mk (xs ++ input_after h a s' ∷ ys) order policy selector'.state output' decided)
+read_input-core us vs s before xs ys h s' (Ok true) order turn policy state output decided r selector' output' laws tells front at back advances steps d follows =
+    rw (follows.0, follows.1) (found-goes us vs s before xs ys h s' order turn policy state output decided laws front at back advances (never-kept h.source s' (Ok true) steps) d)
+read_input-core us vs s before xs ys h s' (Ok false) order turn policy state output decided r selector' output' laws tells front at back advances steps d follows =
     let h' : InputView = input_after h (Ok false) s' in
     let same : follows.cursor ≡ h' = among-same (xs ++ h' ∷ ys) turn follows.cursor h' follows.among (record { front = xs; back = ys; place = laws.here; splits = refl }) in
-    let P : InputView → Type 0 = λ v. ClosesBy (asks_report (ordering_of (schedule_after schedule turn true)) policy) turn v (sieve (record { policy = policy; state = state }) output) r (sieve selector' output') in
+    let P : InputView → Type 0 = λ v. ClosesBy (asks_report order policy) turn v (sieve (record { policy = policy; state = state }) output) r (sieve selector' output') in
     let Q : PacketOrder → Type 0 = λ o. ClosesBy (asks_report o policy) turn h' (sieve (record { policy = policy; state = state }) output) r (sieve selector' output') in
-    closed-core us vs s before xs ys h s' schedule turn policy state output decided r selector' output' laws tells front at back advances steps d (asks_report (ordering_of schedule) policy) refl
-    (subst Q (laws.order true) (subst P same follows.by))
-read_input-core us vs s before xs ys h s' (Err fault) schedule turn policy state output decided r selector' output' laws tells front at back advances steps d follows = rw (follows.0, follows.1) (record {
+    closed-core us vs s before xs ys h s' order turn policy state output decided r selector' output' laws tells front at back advances steps d (asks_report order policy) refl
+    (subst P same follows.by)
+read_input-core us vs s before xs ys h s' (Err fault) order turn policy state output decided r selector' output' laws tells front at back advances steps d follows = rw (follows.0, follows.1) (record {
   cursor = input_after h (Err fault) s';
   among = record { front = xs; back = ys; place = laws.here; splits = refl };
-  why = broken-ends us vs s before xs ys h s' fault schedule turn policy state output decided laws tells front at back advances steps d;
+  why = broken-ends us vs s before xs ys h s' fault order turn policy state output decided laws tells front at back advances steps d;
 })
 
 -- one input taken out of a step's premises
-pub read_input-leaves : (ss : List InputPast) (before : List ℕ) (cursors : List InputView) (schedule : Schedule) (policy : Policy) (state : SelectorState) (output : JobOutputView) (decided : ℕ) (i : ℕ) (a : Result Bool Fault) (inputs' : InputsView) (r : Option JobEnd) (selector' : PolicyState) (output' : JobOutputView)
-    → IsNext schedule cursors (next.Read i) → ReadsInput (record { cursors = cursors; schedule = schedule }) i a inputs' → (d : PacketsDecided ss before (mk cursors schedule policy state output decided))
+pub read_input-leaves : (ss : List InputPast) (before : List ℕ) (cursors : List InputView) (order : PacketOrder) (policy : Policy) (state : SelectorState) (output : JobOutputView) (decided : ℕ) (i : ℕ) (a : Result Bool Fault) (inputs' : InputsView) (r : Option JobEnd) (selector' : PolicyState) (output' : JobOutputView)
+    → IsNext (inputs_at order cursors) (next.Read i) → ReadsInput (record { order = order; cursors = cursors }) i a inputs' → (d : PacketsDecided ss before (mk cursors order policy state output decided))
     → Follows a inputs' i (record { policy = policy; state = state }) output r selector' output'
-    → FetchLeaves d i a r (mk inputs'.cursors inputs'.schedule policy selector'.state output' decided)
-read_input-leaves ss before cursors schedule policy state output decided i a inputs' r selector' output' tells fetches d follows =
-    let at : ReadAt schedule cursors i = read-at schedule cursors i tells d.ended in
+    → FetchLeaves d i a r (mk inputs'.cursors inputs'.order policy selector'.state output' decided)
+read_input-leaves ss before cursors order policy state output decided i a inputs' r selector' output' tells fetches d follows =
+    let at : ReadAt order cursors i = read-at order ss cursors i tells d.behind in
     let m = at.among in
     let h = at.cursor in
     let same : fetches.cursor ≡ h = among-same cursors i fetches.cursor h fetches.among m in
     let A : InputView → Type 0 = λ v. Advances v.source.phase v.source a fetches.source in
     let S : InputView → Type 0 = λ v. Steps v.source.phase v.source a fetches.source in
     let h' : InputView = input_after h a fetches.source in
-    let schedule' : Schedule = schedule_after schedule i (is_clean_end a) in
     let cursors' : slice_set cursors i h' ≡ m.front ++ h' ∷ m.back =
     ap (λ (l : List InputView). slice_set l i h') m.splits ∙ set-here m.front m.back h h' i m.place in
-    let feed'_is : inputs' ≡ record { cursors = m.front ++ h' ∷ m.back; schedule = schedule' } =
-    fetches.is ∙ ap (λ (v : InputView). record { cursors = slice_set cursors i (input_after v a fetches.source); schedule = schedule' }) same
-    ∙ ap (λ (l : List InputView). record { cursors = l; schedule = schedule' }) cursors' in
+    let feed'_is : inputs' ≡ record { order = order; cursors = m.front ++ h' ∷ m.back } =
+    fetches.is ∙ ap (λ (v : InputView). record { order = order; cursors = slice_set cursors i (input_after v a fetches.source) }) same
+    ∙ ap (λ (l : List InputView). record { order = order; cursors = l }) cursors' in
     let F : InputsView → Type 0 = λ f. Follows a f i (record { policy = policy; state = state }) output r selector' output' in
-    let D : List InputView → Type 0 = λ l. PacketsDecided ss before (mk l schedule policy state output decided) in
-    let T : List InputView → Type 0 = λ l. IsNext schedule l (next.Read i) in
+    let D : List InputView → Type 0 = λ l. PacketsDecided ss before (mk l order policy state output decided) in
+    let T : List InputView → Type 0 = λ l. IsNext (inputs_at order l) (next.Read i) in
     let d' = subst D m.splits d in
     let st = stands-split ss m.front m.back h d'.behind in
-    let new : MachineState = mk (m.front ++ h' ∷ m.back) schedule' policy selector'.state output' decided in
-    let core : (e : PacketsDecided (st.front ++ st.here ∷ st.back) before (mk (m.front ++ h ∷ m.back) schedule policy state output decided)) → FetchLeaves e i a r new = λ e.
-    read_input-core st.front st.back st.here before m.front m.back h fetches.source a schedule i policy state output decided r selector' output' at.laws (subst T m.splits tells) st.before st.at st.behind (subst A same fetches.advances) (subst S same fetches.steps) e (subst F feed'_is follows) in
-    let G : List InputPast → Type 0 = λ l. (e : PacketsDecided l before (mk (m.front ++ h ∷ m.back) schedule policy state output decided)) → FetchLeaves e i a r new in
-    let H : List InputView → Type 0 = λ l. (e : PacketsDecided ss before (mk l schedule policy state output decided)) → FetchLeaves e i a r new in
-    let N : InputsView → Type 0 = λ f. FetchLeaves d i a r (mk f.cursors f.schedule policy selector'.state output' decided) in
+    let new : MachineState = mk (m.front ++ h' ∷ m.back) order policy selector'.state output' decided in
+    let core : (e : PacketsDecided (st.front ++ st.here ∷ st.back) before (mk (m.front ++ h ∷ m.back) order policy state output decided)) → FetchLeaves e i a r new = λ e.
+    read_input-core st.front st.back st.here before m.front m.back h fetches.source a order i policy state output decided r selector' output' at.laws (subst T m.splits tells) st.before st.at st.behind (subst A same fetches.advances) (subst S same fetches.steps) e (subst F feed'_is follows) in
+    let G : List InputPast → Type 0 = λ l. (e : PacketsDecided l before (mk (m.front ++ h ∷ m.back) order policy state output decided)) → FetchLeaves e i a r new in
+    let H : List InputView → Type 0 = λ l. (e : PacketsDecided ss before (mk l order policy state output decided)) → FetchLeaves e i a r new in
+    let N : InputsView → Type 0 = λ f. FetchLeaves d i a r (mk f.cursors f.order policy selector'.state output' decided) in
     let whole_input : H cursors = subst H (sym m.splits) (subst G (sym st.is) core) in
     subst N (sym feed'_is) (whole_input d)
 
 -- ---- an input is closed
 
-pub closes-by : (schedule : Schedule) (input : ℕ) (cursor : InputView) (selector selector' : PolicyState) (output output' : JobOutputView) (r : Option JobEnd) (tally : Tally) (report : Report) (answer : Result (Unit {0}) DeviceFault) → is_in_turn schedule ≡ true
+pub closes-by : (order : PacketOrder) (input : ℕ) (cursor : InputView) (selector selector' : PolicyState) (output output' : JobOutputView) (r : Option JobEnd) (tally : Tally) (report : Report) (answer : Result (Unit {0}) DeviceFault) → is_in_turn order ≡ true
     → selecting.TakesTally (is_count selector.policy) selector (Some tally) selector' → report ≡ report_at input cursor tally → Reports (report_text output.names report) output.target answer output'.target → output'.names ≡ output.names → r ≡ unless_failed answer
-    → ClosesBy (asks_report (ordering_of schedule) selector.policy) input cursor (sieve selector output) r (sieve selector' output')
-closes-by (Merge n u) input cursor selector selector' output output' r tally report answer turn taken is reports names ends = (cc)
-closes-by (Turn turn) input cursor selector selector' output output' r tally report answer here taken is reports names ends = by_count (is_count selector.policy) taken
+    → ClosesBy (asks_report order selector.policy) input cursor (sieve selector output) r (sieve selector' output')
+closes-by ByTime input cursor selector selector' output output' r tally report answer turn taken is reports names ends = (cc)
+closes-by InTurn input cursor selector selector' output output' r tally report answer here taken is reports names ends = by_count (is_count selector.policy) taken
   where
     by_count : (b : Bool) → selecting.TakesTally b selector (Some tally) selector' → ClosesBy b input cursor (sieve selector output) r (sieve selector' output')
     by_count false taken = absurd (let e = taken.0 in cc)
@@ -492,8 +486,8 @@ closes-by (Turn turn) input cursor selector selector' output output' r tally rep
         record { answer = answer; reports = subst P (is ∙ ap (report_at input cursor) same) reports; names = names; is = ends; selector_is = taken.1 }
 
 -- what was counted is taken of an input that is reported alone
-pub counted : (schedule : Schedule) (policy : Policy) (selector selector' : PolicyState) (tally : Tally) → is_in_turn schedule ≡ true → selecting.TakesTally (is_count policy) selector (Some tally) selector' → asks_report (ordering_of schedule) policy ≡ false → ⊥
-counted (Merge n u) policy selector selector' tally turn taken none = (cc)
-counted (Turn turn) policy selector selector' tally here taken none =
+pub counted : (order : PacketOrder) (policy : Policy) (selector selector' : PolicyState) (tally : Tally) → is_in_turn order ≡ true → selecting.TakesTally (is_count policy) selector (Some tally) selector' → asks_report order policy ≡ false → ⊥
+counted ByTime policy selector selector' tally turn taken none = (cc)
+counted InTurn policy selector selector' tally here taken none =
     let C : Bool → Type 0 = λ b. selecting.TakesTally b selector (Some tally) selector' in
     let e = (subst C none taken).0 in cc

@@ -1,5 +1,5 @@
 -- The step that ends the output.
-use Rattle.std.proofs.Common.{◌≡◌, ℕ, zero, suc, ◌+◌, ◌≤◌, List, [], ◌∷◌, ◌++◌, length, map, Option, Some, Result, Ok, Err, refl, sym, ◌∙◌, ap, arith, subst, inr, add-zero}
+use Rattle.std.proofs.Common.{◌≡◌, ℕ, ◌+◌, List, [], ◌∷◌, ◌++◌, map, Option, Some, Result, Ok, Err, refl, sym, ◌∙◌, ap, subst, inr, add-zero}
 use Rattle.std.proofs.lemmas.List.{append-nil}
 use Rattle.std.specs.Option.{option_or}
 use Rattle.cap_octet.specs.Device.{Stops}
@@ -11,39 +11,38 @@ use Rattle.cap_io.specs.Sink.{SinkView, FinishesEmpty, HasPackets, link_or_ether
 use Rattle.cap_io.specs.Text.{heading, text}
 use Rattle.cap_io.specs.Source.{Ended}
 use Rattle.cap_io.proofs.Texts.{finish-none, finish-none-writes, finish-some}
-use Rattle.cap_inputs.specs.declared.inputs.Schedule.{Schedule}
 use Rattle.cap_inputs.specs.declared.inputs.Next.TheVariants as next
 use Rattle.cap_tools.specs.Reports.{Report}
-use Rattle.cap_inputs.specs.Sequence.{Event, InputItems, Complete, sequence_of, with_front}
+use Rattle.cap_inputs.specs.Sequence.{Event, InputItems, Complete, sequence_of, with_front, PacketOrder}
 use Rattle.cap_tools.specs.Verdict.{Policy, SelectorState}
 use Rattle.cap_tools.specs.Outcome.{Form, AsCapture, Progress, closing_text, final_progress, lines_text, end_with, final_text, first_link}
 use Rattle.cap_tools.specs.Output.{JobOutputView, Target, Capture, Text, Lines, HasWrittenTo, Finishes, form_at, form_to, written_to, failures_to}
-use Rattle.cap_inputs.specs.Inputs.{InputView, Future, InputPast, AreInputsBehind, EndedTo, IsNext, actual_future, ordering_of, first_declared_link}
+use Rattle.cap_inputs.specs.Inputs.{InputView, Future, InputPast, AreInputsBehind, IsNext, actual_future, first_declared_link, AllEnded}
 use Rattle.cap_tools.specs.Reports.{reports_text}
 use Rattle.cap_tools.specs.Machine.{MachineState, PacketsDecided, Comes, StopsWriting, progress_at, progress_of, progress_over, wholes_of}
 use Rattle.cap_tools.proofs.Splits.{At}
 use Rattle.cap_tools.proofs.Coming.{true-whole, true-wholes, true-fit, true-fits}
 use Rattle.cap_tools.proofs.Outcomes.{course-close}
 use Rattle.cap_tools.proofs.Laws.{OverAt, over-at}
-use Rattle.cap_tools.proofs.Fetches.{mk}
+use Rattle.cap_tools.proofs.Fetches.{mk, inputs_at}
 use Rattle.cap_tools.proofs.Once.{once-closing}
 
-pub over-course : (ss : List InputPast) (before : List ℕ) (cursors : List InputView) (schedule : Schedule) (policy : Policy) (state : SelectorState) (output : JobOutputView) (decided : ℕ) → OverAt schedule cursors → (d : PacketsDecided ss before (mk cursors schedule policy state output decided))
-    → final_progress policy (form_at output) (sequence_of (ordering_of schedule) (wholes_of ss)) ≡ end_with (progress_at (mk cursors schedule policy state output decided) d.packets d.reports) Complete
-over-course ss before cursors schedule policy state output decided at d =
+pub over-course : (ss : List InputPast) (before : List ℕ) (cursors : List InputView) (order : PacketOrder) (policy : Policy) (state : SelectorState) (output : JobOutputView) (decided : ℕ) → OverAt order cursors → (d : PacketsDecided ss before (mk cursors order policy state output decided))
+    → final_progress policy (form_at output) (sequence_of order (wholes_of ss)) ≡ end_with (progress_at (mk cursors order policy state output decided) d.packets d.reports) Complete
+over-course ss before cursors order policy state output decided at d =
     let fits = true-fits ss cursors d.behind in
-    course-close policy (form_at output) (sequence_of (ordering_of schedule) (wholes_of ss)) d.events (progress_at (mk cursors schedule policy state output decided) d.packets d.reports) Complete
-    (ap (sequence_of (ordering_of schedule)) (sym (true-wholes ss cursors d.behind))
+    course-close policy (form_at output) (sequence_of order (wholes_of ss)) d.events (progress_at (mk cursors order policy state output decided) d.packets d.reports) Complete
+    (ap (sequence_of order) (sym (true-wholes ss cursors d.behind))
     ∙ d.come (map (λ (h : InputView). actual_future h.source) cursors) fits
     ∙ ap (with_front d.events) (at.over_left (map (λ (h : InputView). actual_future h.source) cursors) fits))
     d.progress refl
 
 -- all events came
-over-all : (ss : List InputPast) (before : List ℕ) (cursors : List InputView) (schedule : Schedule) (policy : Policy) (state : SelectorState) (output : JobOutputView) (decided : ℕ) → OverAt schedule cursors → (d : PacketsDecided ss before (mk cursors schedule policy state output decided))
-    → sequence_of (ordering_of schedule) (wholes_of ss) ≡ record { events = d.events; end = Complete }
-over-all ss before cursors schedule policy state output decided at d =
+over-all : (ss : List InputPast) (before : List ℕ) (cursors : List InputView) (order : PacketOrder) (policy : Policy) (state : SelectorState) (output : JobOutputView) (decided : ℕ) → OverAt order cursors → (d : PacketsDecided ss before (mk cursors order policy state output decided))
+    → sequence_of order (wholes_of ss) ≡ record { events = d.events; end = Complete }
+over-all ss before cursors order policy state output decided at d =
     let fits = true-fits ss cursors d.behind in
-    ap (sequence_of (ordering_of schedule)) (sym (true-wholes ss cursors d.behind))
+    ap (sequence_of order) (sym (true-wholes ss cursors d.behind))
     ∙ d.come (map (λ (h : InputView). actual_future h.source) cursors) fits
     ∙ ap (with_front d.events) (at.over_left (map (λ (h : InputView). actual_future h.source) cursors) fits)
     ∙ ap (λ (l : List Event). record { events = l; end = Complete }) (append-nil d.events)
@@ -53,14 +52,13 @@ declared-one s h at e =
     ap (λ (r : InputItems). first_link_of r.items.declared) (sym (true-whole s h at))
     ∙ ap (λ (f : Future). first_link_of f.items.declared) (true-fit s h at e)
 
-pub links : (ss : List InputPast) (hs : List InputView) (n : ℕ) → AreInputsBehind ss hs → length hs ≤ n → EndedTo n hs → first_link (wholes_of ss) ≡ first_declared_link hs
-links [] [] n st few ended = refl
-links [] (h ∷ hs) n st few ended = absurd st
-links (s ∷ ss) [] n st few ended = absurd st
-links (s ∷ ss) (h ∷ hs) zero st few ended = absurd (omega (arith, few))
-links (s ∷ ss) (h ∷ hs) (suc n) st few ended =
+pub links : (ss : List InputPast) (hs : List InputView) → AreInputsBehind ss hs → AllEnded hs → first_link (wholes_of ss) ≡ first_declared_link hs
+links [] [] st ended = refl
+links [] (h ∷ hs) st ended = absurd st
+links (s ∷ ss) [] st ended = absurd st
+links (s ∷ ss) (h ∷ hs) st ended =
     ap (λ (o : Option ℕ). option_or o (first_link (wholes_of ss))) (declared-one s h st.0 ended.0)
-    ∙ ap (option_or (first_link_of h.source.declared)) (links ss hs n st.1 (omega (arith, few)) ended.1)
+    ∙ ap (option_or (first_link_of h.source.declared)) (links ss hs st.1 ended.1)
 
 abbrev over : MachineState → List Captured → List Report → Progress
 over m packets reports = end_with (progress_at m packets reports) Complete
@@ -117,15 +115,15 @@ finish-empty before sink [] link fault new has finishes =
       stops = subst S (sym finishes.is) (finish-none-writes before sink link (Err fault) finishes.sink has finishes.writes);
     }
 
-finish-stops : (ss : List InputPast) (before : List ℕ) (names : List (List ℕ)) (target : Target) (cursors : List InputView) (schedule : Schedule) (policy : Policy) (state : SelectorState) (decided : ℕ) (fault : Fault) (new : MachineState)
-    → (d : PacketsDecided ss before (mk cursors schedule policy state (record { names = names; target = target }) decided))
-    → final_progress policy (form_to names target) (sequence_of (ordering_of schedule) (wholes_of ss)) ≡ over (mk cursors schedule policy state (record { names = names; target = target }) decided) d.packets d.reports
-    → sequence_of (ordering_of schedule) (wholes_of ss) ≡ record { events = d.events; end = Complete }
-    → first_link (wholes_of ss) ≡ first_declared_link cursors → IsNext schedule cursors next.Finish → new.inputs ≡ record { cursors = cursors; schedule = schedule } → Finishes (first_declared_link cursors) target (Err fault) new.output.target
+finish-stops : (ss : List InputPast) (before : List ℕ) (names : List (List ℕ)) (target : Target) (cursors : List InputView) (order : PacketOrder) (policy : Policy) (state : SelectorState) (decided : ℕ) (fault : Fault) (new : MachineState)
+    → (d : PacketsDecided ss before (mk cursors order policy state (record { names = names; target = target }) decided))
+    → final_progress policy (form_to names target) (sequence_of order (wholes_of ss)) ≡ over (mk cursors order policy state (record { names = names; target = target }) decided) d.packets d.reports
+    → sequence_of order (wholes_of ss) ≡ record { events = d.events; end = Complete }
+    → first_link (wholes_of ss) ≡ first_declared_link cursors → IsNext (inputs_at order cursors) next.Finish → new.inputs ≡ record { order = order; cursors = cursors } → Finishes (first_declared_link cursors) target (Err fault) new.output.target
     → StopsWriting d new
-finish-stops ss before names (Text bytes failures room) cursors schedule policy state decided fault new d stop all link tells inputs finishes = absurd (let e = finishes.0 in cc)
-finish-stops ss before names (Lines options bytes failures room) cursors schedule policy state decided fault new d stop all link tells inputs finishes = absurd (let e = finishes.0 in cc)
-finish-stops ss before names (Capture sink) cursors schedule policy state decided fault new d stop all link tells inputs finishes =
+finish-stops ss before names (Text bytes failures room) cursors order policy state decided fault new d stop all link tells inputs finishes = absurd (let e = finishes.0 in cc)
+finish-stops ss before names (Lines options bytes failures room) cursors order policy state decided fault new d stop all link tells inputs finishes = absurd (let e = finishes.0 in cc)
+finish-stops ss before names (Capture sink) cursors order policy state decided fault new d stop all link tells inputs finishes =
     let form : Form = AsCapture sink.format in
     let empty : StopsEmpty before sink d.packets (first_declared_link cursors) new.output.target = finish-empty before sink d.packets (first_declared_link cursors) fault new.output.target d.output finishes in
     let bytes : List ℕ = heading sink.format (link_or_ethernet (first_declared_link cursors)) in
@@ -143,14 +141,14 @@ finish-stops ss before names (Capture sink) cursors schedule policy state decide
       stops = empty.stops;
     }
 
-pub finish-leaves : (ss : List InputPast) (before : List ℕ) (cursors : List InputView) (schedule : Schedule) (policy : Policy) (state : SelectorState) (output : JobOutputView) (decided : ℕ) (r : Result (Unit {0}) Fault) (new : MachineState)
-    → IsNext schedule cursors next.Finish → new.inputs ≡ record { cursors = cursors; schedule = schedule } → Finishes (first_declared_link cursors) output.target r new.output.target → (d : PacketsDecided ss before (mk cursors schedule policy state output decided))
+pub finish-leaves : (ss : List InputPast) (before : List ℕ) (cursors : List InputView) (order : PacketOrder) (policy : Policy) (state : SelectorState) (output : JobOutputView) (decided : ℕ) (r : Result (Unit {0}) Fault) (new : MachineState)
+    → IsNext (inputs_at order cursors) next.Finish → new.inputs ≡ record { order = order; cursors = cursors } → Finishes (first_declared_link cursors) output.target r new.output.target → (d : PacketsDecided ss before (mk cursors order policy state output decided))
     → FinishLeaves d r new
-finish-leaves ss before cursors schedule policy state output decided (Ok done) new tells inputs finishes d =
-    let at : OverAt schedule cursors = over-at schedule cursors tells d.ended in
-    let m : MachineState = mk cursors schedule policy state output decided in
-    let stop = over-course ss before cursors schedule policy state output decided at d in
-    let link = links ss cursors at.count d.behind at.few at.ended in
+finish-leaves ss before cursors order policy state output decided (Ok done) new tells inputs finishes d =
+    let at : OverAt order cursors = over-at order cursors tells in
+    let m : MachineState = mk cursors order policy state output decided in
+    let stop = over-course ss before cursors order policy state output decided at d in
+    let link = links ss cursors d.behind at.ended in
     let text_is : written_to new.output.target ≡ before ++ final_text (form_at output) (first_link (wholes_of ss)) (over m d.packets d.reports) =
     finish-text before output.names d.packets d.reports decided state output.target new.output.target (first_declared_link cursors) d.output finishes
     ∙ ap (λ (o : Option ℕ). before ++ final_text (form_at output) o (over m d.packets d.reports)) (sym link) in
@@ -161,7 +159,7 @@ finish-leaves ss before cursors schedule policy state output decided (Ok done) n
           (ap (λ (w : Progress). w.packets) stop) (ap (λ (w : Progress). w.reports) stop) (ap (λ (w : Progress). w.end) stop);
       device = finish-device before output.names d.packets d.reports output.target new.output.target (first_declared_link cursors) d.output finishes;
     }
-finish-leaves ss before cursors schedule policy state output decided (Err fault) new tells inputs finishes d =
-    let at : OverAt schedule cursors = over-at schedule cursors tells d.ended in
-    finish-stops ss before output.names output.target cursors schedule policy state decided fault new d
-    (over-course ss before cursors schedule policy state output decided at d) (over-all ss before cursors schedule policy state output decided at d) (links ss cursors at.count d.behind at.few at.ended) tells inputs finishes
+finish-leaves ss before cursors order policy state output decided (Err fault) new tells inputs finishes d =
+    let at : OverAt order cursors = over-at order cursors tells in
+    finish-stops ss before output.names output.target cursors order policy state decided fault new d
+    (over-course ss before cursors order policy state output decided at d) (over-all ss before cursors order policy state output decided at d) (links ss cursors d.behind at.ended) tells inputs finishes

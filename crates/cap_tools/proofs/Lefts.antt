@@ -1,63 +1,129 @@
--- Each step leaves less to do.
-use Rattle.std.proofs.Common.{◌≡◌, ℕ, ◌+◌, ◌-◌, ◌^◌, ◌<◌, ◌≤◌, suc, Bool, true, false, List, [], ◌∷◌, ◌++◌, length, Result, Ok, Err, refl, sym, ◌∙◌, ap, arith}
+-- Each step leaves less to do, and is paid by what was read.
+use Rattle.std.proofs.Common.{◌≡◌, ℕ, ◌+◌, ◌*◌, ◌^◌, ◌<◌, ◌≤◌, suc, Bool, true, false, List, [], ◌∷◌, ◌++◌, length, Result, Ok, Err, refl, sym, ◌∙◌, ap, arith}
 use Rattle.std.proofs.lemmas.List.{length-append}
 use Rattle.std.specs.List.{slice_set}
 use Rattle.cap_octet.specs.declared.fault.Fault.{Fault}
-use Rattle.cap_io.specs.Source.{SourceView, Phase, Reading, Ended, Failed, Steps}
-use Rattle.cap_inputs.specs.declared.inputs.Schedule.{Schedule}
-use Rattle.cap_inputs.specs.declared.inputs.Schedule.TheVariants.{Turn, Merge}
+use Rattle.cap_io.specs.Source.{SourceView, Phase, Reading, Ended, Failed, Steps, behind, phase_told}
+use Rattle.cap_inputs.specs.Sequence.{PacketOrder, InTurn, ByTime}
 use Rattle.cap_inputs.specs.declared.inputs.Next.TheVariants as next
-use Rattle.cap_inputs.specs.Inputs.{InputView, InputsView, IsInput, IsNext, MarksDecided, ReadSteps, input_behind, input_after, schedule_after, schedule_behind, is_clean_end, input_steps_left, steps_left_in, steps_left, waiting_count}
+use Rattle.cap_inputs.specs.Inputs.{InputView, InputsView, IsInput, IsNext, IsNextIn, IsOpen, MarksDecided, ReadSteps, input_after, input_behind, input_steps_left, is_packet_found, owed_by, steps_left, steps_left_in, steps_owed, with_cursor}
 use Rattle.cap_inputs.proofs.Cursors.{set-here}
+use Rattle.cap_tools.specs.Bounds.{IsPaid, most_turns, owed, owed_in, reads_of}
 use Rattle.cap_tools.proofs.Fetches.{among-same}
 
-left-append : (w : ℕ) (xs ys : List InputView) → steps_left_in w (xs ++ ys) ≡ steps_left_in w xs + steps_left_in w ys
-left-append w [] ys = omega arith
-left-append w (x ∷ xs) ys = let e = left-append w xs ys in omega (arith, e)
+-- ---- one input for another
 
--- one input for another
-one-left : (w : ℕ) (cursors : List InputView) (i : ℕ) (h h' : InputView) → IsInput cursors i h → (n : ℕ) → input_steps_left w h' + n ≡ input_steps_left w h → (steps_left_in w (slice_set cursors i h') + n ≡ steps_left_in w cursors) × (length (slice_set cursors i h') ≡ length cursors)
-one-left w cursors i h h' a n is =
+left-append : (xs ys : List InputView) → steps_left_in (xs ++ ys) ≡ steps_left_in xs + steps_left_in ys
+left-append [] ys = omega arith
+left-append (x ∷ xs) ys = let e = left-append xs ys in omega (arith, e)
+
+owed-append : (xs ys : List InputView) → owed_in (xs ++ ys) ≡ owed_in xs + owed_in ys
+owed-append [] ys = omega arith
+owed-append (x ∷ xs) ys = let e = owed-append xs ys in omega (arith, e)
+
+reads-append : (xs ys : List InputView) → reads_of (xs ++ ys) ≡ reads_of xs + reads_of ys
+reads-append [] ys = omega arith
+reads-append (x ∷ xs) ys = let e = reads-append xs ys in omega (arith, e)
+
+-- what one input for another changes
+record Exchanged (cursors cursors' : List InputView) (h h' : InputView) : Type 0 where
+  left : steps_left_in cursors' + input_steps_left h ≡ steps_left_in cursors + input_steps_left h'
+  reads : reads_of cursors' + behind h.source ≡ reads_of cursors + behind h'.source
+  owes : owed_in cursors' + owed_by h ≡ owed_in cursors + owed_by h'
+  count : length cursors' ≡ length cursors
+
+exchanged : (cursors : List InputView) (i : ℕ) (h h' : InputView) → IsInput cursors i h → Exchanged cursors (slice_set cursors i h') h h'
+exchanged cursors i h h' a =
     let set : slice_set cursors i h' ≡ a.front ++ h' ∷ a.back = ap (λ (l : List InputView). slice_set l i h') a.splits ∙ set-here a.front a.back h h' i a.place in
-    let one = left-append w a.front (h ∷ a.back) in
-    let other = left-append w a.front (h' ∷ a.back) in
-    let total : steps_left_in w cursors ≡ steps_left_in w a.front + (input_steps_left w h + steps_left_in w a.back) = ap (steps_left_in w) a.splits ∙ one in
-    let total' : steps_left_in w (slice_set cursors i h') ≡ steps_left_in w a.front + (input_steps_left w h' + steps_left_in w a.back) = ap (steps_left_in w) set ∙ other in
+    let left : steps_left_in cursors ≡ steps_left_in a.front + (input_steps_left h + steps_left_in a.back) = ap steps_left_in a.splits ∙ left-append a.front (h ∷ a.back) in
+    let left' : steps_left_in (slice_set cursors i h') ≡ steps_left_in a.front + (input_steps_left h' + steps_left_in a.back) = ap steps_left_in set ∙ left-append a.front (h' ∷ a.back) in
+    let reads : reads_of cursors ≡ reads_of a.front + (behind h.source + reads_of a.back) = ap reads_of a.splits ∙ reads-append a.front (h ∷ a.back) in
+    let reads' : reads_of (slice_set cursors i h') ≡ reads_of a.front + (behind h'.source + reads_of a.back) = ap reads_of set ∙ reads-append a.front (h' ∷ a.back) in
+    let owes : owed_in cursors ≡ owed_in a.front + (owed_by h + owed_in a.back) = ap owed_in a.splits ∙ owed-append a.front (h ∷ a.back) in
+    let owes' : owed_in (slice_set cursors i h') ≡ owed_in a.front + (owed_by h' + owed_in a.back) = ap owed_in set ∙ owed-append a.front (h' ∷ a.back) in
     let count : length cursors ≡ length a.front + suc (length a.back) = ap length a.splits ∙ length-append a.front (h ∷ a.back) in
     let count' : length (slice_set cursors i h') ≡ length a.front + suc (length a.back) = ap length set ∙ length-append a.front (h' ∷ a.back) in
-    (omega (arith, total, total', is), count' ∙ sym count)
+    record { left = omega (arith, left, left'); reads = omega (arith, reads, reads'); owes = omega (arith, owes, owes'); count = count' ∙ sym count }
 
-pub mark_decided-less : (inputs inputs' : InputsView) (i : ℕ) → IsNext inputs.schedule inputs.cursors (next.Decide i) → MarksDecided inputs i inputs' → steps_left inputs' < steps_left inputs
-mark_decided-less inputs inputs' i tells s = by_place inputs.schedule refl tells
+-- ---- what an input owes
+
+-- an input that is to be read on
+record Unready (h : InputView) : Type 0 where
+  waits : h.waiting ≡ false
+  on : IsOpen h
+
+owes-one : (p : Phase) → (p ≡ Ended → ⊥) → steps_owed false p ≡ 1
+owes-one Reading on = refl
+owes-one Ended on = absurd (on refl)
+owes-one (Failed fault) on = refl
+
+unready-owes : (h : InputView) → Unready h → owed_by h ≡ 1
+unready-owes h un = ap (λ (b : Bool). steps_owed b h.source.phase) un.waits ∙ owes-one h.source.phase un.on
+
+to-read : (inputs : InputsView) (i : ℕ) (h : InputView) → IsNext inputs (next.Read i) → IsInput inputs.cursors i h → Unready h
+to-read inputs i h tells a = by_order inputs.order tells
   where
-    by_place : (schedule : Schedule) → inputs.schedule ≡ schedule → IsNext schedule inputs.cursors (next.Decide i) → steps_left inputs' < steps_left inputs
-    by_place (Turn turn) is tells =
-        let same = among-same inputs.cursors i s.cursor tells.1.cursor s.among tells.1.among in
-        let waits : s.cursor.waiting ≡ true = ap (λ (v : InputView). v.waiting) same ∙ tells.1.waits in
-        let less : input_steps_left 2 (input_behind s.cursor) + 1 ≡ input_steps_left 2 s.cursor = (let e : waiting_count s.cursor.waiting ≡ 1 = ap waiting_count waits in omega (arith, e)) in
-        let all = one-left 2 inputs.cursors i s.cursor (input_behind s.cursor) s.among 1 less in
-        let F : Schedule → ℕ = λ p. steps_left (record { cursors = slice_set inputs.cursors i (input_behind s.cursor); schedule = schedule_behind p i }) in
-        let new : steps_left inputs' ≡ steps_left_in 2 (slice_set inputs.cursors i (input_behind s.cursor)) + (length (slice_set inputs.cursors i (input_behind s.cursor)) - turn) = ap steps_left s.is ∙ ap F is in
-        let old : steps_left inputs ≡ steps_left_in 2 inputs.cursors + (length inputs.cursors - turn) = ap (λ (p : Schedule). steps_left (record { cursors = inputs.cursors; schedule = p })) is in
-        let count = all.1 in
-        let sum = all.0 in
-        omega (arith, new, old, sum, count)
-    by_place (Merge n u) is tells =
-        let same = among-same inputs.cursors i s.cursor tells.1.cursor s.among tells.1.among in
-        let waits : s.cursor.waiting ≡ true = ap (λ (v : InputView). v.waiting) same ∙ tells.1.waits in
-        let less : input_steps_left 3 (input_behind s.cursor) + 2 ≡ input_steps_left 3 s.cursor = (let e : waiting_count s.cursor.waiting ≡ 1 = ap waiting_count waits in omega (arith, e)) in
-        let all = one-left 3 inputs.cursors i s.cursor (input_behind s.cursor) s.among 2 less in
-        let F : Schedule → ℕ = λ p. steps_left (record { cursors = slice_set inputs.cursors i (input_behind s.cursor); schedule = schedule_behind p i }) in
-        let new : steps_left inputs' ≡ steps_left_in 3 (slice_set inputs.cursors i (input_behind s.cursor)) + (i + 1 - i) = ap steps_left s.is ∙ ap F is in
-        let old : steps_left inputs ≡ steps_left_in 3 inputs.cursors + (u - n) = ap (λ (p : Schedule). steps_left (record { cursors = inputs.cursors; schedule = p })) is in
-        let sum = all.0 in
-        omega (arith, new, old, sum)
+    by_order : (order : PacketOrder) → IsNextIn order inputs.cursors (next.Read i) → Unready h
+    by_order InTurn tells =
+        let same = among-same inputs.cursors i h tells.cursor a tells.among in
+        record { waits = ap (λ (v : InputView). v.waiting) same ∙ tells.waits; on = λ e. tells.unended (sym (ap (λ (v : InputView). v.source.phase) same) ∙ e) }
+    by_order ByTime tells =
+        let same = among-same inputs.cursors i h tells.cursor a tells.among in
+        record { waits = ap (λ (v : InputView). v.waiting) same ∙ tells.waits; on = λ e. tells.unended (sym (ap (λ (v : InputView). v.source.phase) same) ∙ e) }
 
-grown : (old new : SourceView) → Steps old.phase old (Ok true) new → (old.given < new.given) × (new.given < 2 ^ 63)
+-- the packet of an input that is to be decided waits
+pub to-decide : (order : PacketOrder) (cursors : List InputView) (i : ℕ) (h : InputView) → IsNextIn order cursors (next.Decide i) → IsInput cursors i h → h.waiting ≡ true
+to-decide InTurn cursors i h tells a = ap (λ (v : InputView). v.waiting) (among-same cursors i h tells.cursor a tells.among) ∙ tells.waits
+to-decide ByTime cursors i h tells a = ap (λ (v : InputView). v.waiting) (among-same cursors i h tells.1.cursor a tells.1.among) ∙ tells.1.waits
+
+-- behind its packet it owes at most one step
+behind-owes : (p : Phase) → steps_owed false p ≤ 1
+behind-owes Reading = omega arith
+behind-owes Ended = omega arith
+behind-owes (Failed fault) = omega arith
+
+-- ---- a packet is decided
+
+record Decided (inputs inputs' : InputsView) (i : ℕ) (s : MarksDecided inputs i inputs') : Type 0 where
+  one : Exchanged inputs.cursors (slice_set inputs.cursors i (input_behind s.cursor)) s.cursor (input_behind s.cursor)
+  owed_two : owed_by s.cursor ≡ 2
+  owes : owed_by (input_behind s.cursor) ≤ 1
+
+decided : (inputs inputs' : InputsView) (i : ℕ) → IsNext inputs (next.Decide i) → (s : MarksDecided inputs i inputs') → Decided inputs inputs' i s
+decided inputs inputs' i tells s = record {
+  one = exchanged inputs.cursors i s.cursor (input_behind s.cursor) s.among;
+  owed_two = ap (λ (b : Bool). steps_owed b s.cursor.source.phase) (to-decide inputs.order inputs.cursors i s.cursor tells s.among);
+  owes = behind-owes s.cursor.source.phase;
+}
+
+pub mark_decided-less : (inputs inputs' : InputsView) (i : ℕ) → IsNext inputs (next.Decide i) → MarksDecided inputs i inputs' → steps_left inputs' < steps_left inputs
+mark_decided-less inputs inputs' i tells s =
+    let d = decided inputs inputs' i tells s in
+    let left = d.one.left in
+    let two = d.owed_two in
+    let most = d.owes in
+    let new : steps_left inputs' ≡ steps_left_in (slice_set inputs.cursors i (input_behind s.cursor)) = ap steps_left s.is in
+    omega (arith, left, two, most, new)
+
+pub mark_decided-paid : (inputs inputs' : InputsView) (i : ℕ) → IsNext inputs (next.Decide i) → MarksDecided inputs i inputs' → IsPaid inputs inputs'
+mark_decided-paid inputs inputs' i tells s =
+    let d = decided inputs inputs' i tells s in
+    let owes = d.one.owes in
+    let reads = d.one.reads in
+    let count = d.one.count in
+    let two = d.owed_two in
+    let most = d.owes in
+    let owes' : owed inputs' ≡ owed_in (slice_set inputs.cursors i (input_behind s.cursor)) = ap owed s.is in
+    let turns' : most_turns inputs' ≡ 2 * reads_of (slice_set inputs.cursors i (input_behind s.cursor)) + length (slice_set inputs.cursors i (input_behind s.cursor)) + 1 = ap most_turns s.is in
+    omega (arith, owes, reads, count, two, most, owes', turns')
+
+-- ---- an input is read on
+
+grown : (old new : SourceView) → Steps old.phase old (Ok true) new → (old.given < new.given) × (new.given < 2 ^ 63) × (behind old < behind new)
 grown old new steps = by_phase old.phase steps
   where
-    by_phase : (p : Phase) → Steps p old (Ok true) new → (old.given < new.given) × (new.given < 2 ^ 63)
-    by_phase Reading s = (s.progress refl, s.bounded refl)
+    by_phase : (p : Phase) → Steps p old (Ok true) new → (old.given < new.given) × (new.given < 2 ^ 63) × (behind old < behind new)
+    by_phase Reading s = (s.progress refl, s.bounded refl, let more = s.progress refl in let counted = s.counted in omega (arith, more, counted))
     by_phase Ended s = absurd (let e = s.0 in cc)
     by_phase (Failed fault) s = absurd (let e = s.0 in cc)
 
@@ -69,97 +135,79 @@ kept old new r steps = by_phase old.phase steps
     by_phase Ended s = let e : new.given ≡ old.given = ap (λ (v : SourceView). v.given) s.1 in omega (arith, e)
     by_phase (Failed fault) s = let e : new.given ≡ old.given = ap (λ (v : SourceView). v.given) s.1 in omega (arith, e)
 
+-- no bytes are lost at the end
+reads-kept : (old new : SourceView) → Steps old.phase old (Ok false) new → behind old ≤ behind new
+reads-kept old new steps = by_phase old.phase steps
+  where
+    by_phase : (p : Phase) → Steps p old (Ok false) new → behind old ≤ behind new
+    by_phase Reading s = let more = s.given in let counted = s.counted in omega (arith, more, counted)
+    by_phase Ended s = let e : behind new ≡ behind old = ap behind s.1 in omega (arith, e)
+    by_phase (Failed fault) s = let e : behind new ≡ behind old = ap behind s.1 in omega (arith, e)
+
 abbrev pub Goes : Result Bool Fault → Type 0
 Goes (Ok b) = Unit {0}
 Goes (Err fault) = ⊥
 
-pub read_input-less : (inputs inputs' : InputsView) (i : ℕ) (r : Result Bool Fault) → IsNext inputs.schedule inputs.cursors (next.Read i) → i < length inputs.cursors → ReadSteps inputs i r inputs' → Goes r → steps_left inputs' < steps_left inputs
-read_input-less inputs inputs' i r tells within f goes = by_place inputs.schedule r refl tells f.steps goes (ap steps_left f.is)
-  where
-    after : Schedule → Result Bool Fault → InputsView
-    after schedule r = record { cursors = slice_set inputs.cursors i (input_after f.cursor r f.source); schedule = schedule_after schedule i (is_clean_end r) }
+-- what an input owes that was read on
+after-owes : (r : Result Bool Fault) (h : InputView) (source : SourceView) → source.phase ≡ phase_told r → owed_by (input_after h r source) ≡ steps_owed (is_packet_found r) (phase_told r)
+after-owes r h source phase = ap (steps_owed (is_packet_found r)) phase
 
-    by_place : (schedule : Schedule) (r : Result Bool Fault) → inputs.schedule ≡ schedule → IsNext schedule inputs.cursors (next.Read i) → Steps f.cursor.source.phase f.cursor.source r f.source → Goes r → steps_left inputs' ≡ steps_left (after inputs.schedule r) → steps_left inputs' < steps_left inputs
-    by_place schedule (Err fault) is tells steps goes new = absurd goes
-    by_place (Turn turn) (Ok true) is tells steps goes new =
-        let same = among-same inputs.cursors i f.cursor tells.1.cursor f.among tells.1.among in
-        let waits : f.cursor.waiting ≡ false = ap (λ (v : InputView). v.waiting) same ∙ tells.1.waits in
-        let none : waiting_count f.cursor.waiting ≡ 0 = ap waiting_count waits in
+pub read_input-less : (inputs inputs' : InputsView) (i : ℕ) (r : Result Bool Fault) → IsNext inputs (next.Read i) → ReadSteps inputs i r inputs' → Goes r → steps_left inputs' < steps_left inputs
+read_input-less inputs inputs' i r tells f goes = by_result r f.steps f.phase goes (ap steps_left f.is)
+  where
+    one : owed_by f.cursor ≡ 1
+    one = unready-owes f.cursor (to-read inputs i f.cursor tells f.among)
+
+    by_result : (r : Result Bool Fault) → Steps f.cursor.source.phase f.cursor.source r f.source → f.source.phase ≡ phase_told r → Goes r → steps_left inputs' ≡ steps_left (with_cursor inputs i (input_after f.cursor r f.source)) → steps_left inputs' < steps_left inputs
+    by_result (Err fault) steps phase goes new = absurd goes
+    by_result (Ok true) steps phase goes new =
         let more = grown f.cursor.source f.source steps in
-        let h' : InputView = input_after f.cursor (Ok true) f.source in
-        let less : input_steps_left 2 h' + (input_steps_left 2 f.cursor - input_steps_left 2 h') ≡ input_steps_left 2 f.cursor = omega (arith, none, more.0, more.1) in
-        let gap : 1 ≤ input_steps_left 2 f.cursor - input_steps_left 2 h' = omega (arith, none, more.0, more.1) in
-        let all = one-left 2 inputs.cursors i f.cursor h' f.among _ less in
-        let new' : steps_left inputs' ≡ steps_left_in 2 (slice_set inputs.cursors i h') + (length (slice_set inputs.cursors i h') - turn) = new ∙ ap (λ (p : Schedule). steps_left (after p (Ok true))) is in
-        let old : steps_left inputs ≡ steps_left_in 2 inputs.cursors + (length inputs.cursors - turn) = ap (λ (p : Schedule). steps_left (record { cursors = inputs.cursors; schedule = p })) is in
-        let sum = all.0 in
-        let count = all.1 in
-        omega (arith, new', old, sum, count, gap)
-    by_place (Turn turn) (Ok false) is tells steps goes new =
-        let same = among-same inputs.cursors i f.cursor tells.1.cursor f.among tells.1.among in
-        let waits : f.cursor.waiting ≡ false = ap (λ (v : InputView). v.waiting) same ∙ tells.1.waits in
-        let none : waiting_count f.cursor.waiting ≡ 0 = ap waiting_count waits in
-        let more = kept f.cursor.source f.source (Ok false) steps in
-        let h' : InputView = input_after f.cursor (Ok false) f.source in
-        let less : input_steps_left 2 h' + (input_steps_left 2 f.cursor - input_steps_left 2 h') ≡ input_steps_left 2 f.cursor = omega (arith, none, more) in
-        let all = one-left 2 inputs.cursors i f.cursor h' f.among _ less in
-        let new' : steps_left inputs' ≡ steps_left_in 2 (slice_set inputs.cursors i h') + (length (slice_set inputs.cursors i h') - (i + 1)) = new ∙ ap (λ (p : Schedule). steps_left (after p (Ok false))) is in
-        let old : steps_left inputs ≡ steps_left_in 2 inputs.cursors + (length inputs.cursors - turn) = ap (λ (p : Schedule). steps_left (record { cursors = inputs.cursors; schedule = p })) is in
-        let sum = all.0 in
-        let count = all.1 in
-        let here = tells.0 in
-        omega (arith, new', old, sum, count, here, within)
-    by_place (Merge n u) (Ok true) is tells steps goes new =
-        let more = grown f.cursor.source f.source steps in
-        let h' : InputView = input_after f.cursor (Ok true) f.source in
-        let less : input_steps_left 3 h' + (input_steps_left 3 f.cursor - input_steps_left 3 h') ≡ input_steps_left 3 f.cursor = omega (arith, more.0, more.1) in
-        let all = one-left 3 inputs.cursors i f.cursor h' f.among _ less in
-        let new' : steps_left inputs' ≡ steps_left_in 3 (slice_set inputs.cursors i h') + (u - (i + 1)) = new ∙ ap (λ (p : Schedule). steps_left (after p (Ok true))) is in
-        let old : steps_left inputs ≡ steps_left_in 3 inputs.cursors + (u - n) = ap (λ (p : Schedule). steps_left (record { cursors = inputs.cursors; schedule = p })) is in
-        let sum = all.0 in
-        let here = tells.is in
-        let before = tells.before in
-        omega (arith, new', old, sum, here, before)
-    by_place (Merge n u) (Ok false) is tells steps goes new =
-        let more = kept f.cursor.source f.source (Ok false) steps in
-        let h' : InputView = input_after f.cursor (Ok false) f.source in
-        let less : input_steps_left 3 h' + (input_steps_left 3 f.cursor - input_steps_left 3 h') ≡ input_steps_left 3 f.cursor = omega (arith, more) in
-        let all = one-left 3 inputs.cursors i f.cursor h' f.among _ less in
-        let new' : steps_left inputs' ≡ steps_left_in 3 (slice_set inputs.cursors i h') + (u - (i + 1)) = new ∙ ap (λ (p : Schedule). steps_left (after p (Ok false))) is in
-        let old : steps_left inputs ≡ steps_left_in 3 inputs.cursors + (u - n) = ap (λ (p : Schedule). steps_left (record { cursors = inputs.cursors; schedule = p })) is in
-        let sum = all.0 in
-        let here = tells.is in
-        let before = tells.before in
-        omega (arith, new', old, sum, here, before)
+        let given = more.0 in
+        let bounded = more.1 in
+        let left = (exchanged inputs.cursors i f.cursor (input_after f.cursor (Ok true) f.source) f.among).left in
+        let owes = after-owes (Ok true) f.cursor f.source phase in
+        omega (arith, given, bounded, left, owes, one, new)
+    by_result (Ok false) steps phase goes new =
+        let given = kept f.cursor.source f.source (Ok false) steps in
+        let left = (exchanged inputs.cursors i f.cursor (input_after f.cursor (Ok false) f.source) f.among).left in
+        let owes = after-owes (Ok false) f.cursor f.source phase in
+        omega (arith, given, left, owes, one, new)
 
 -- reading on never leaves more
-pub read_input-kept : (inputs inputs' : InputsView) (i : ℕ) (r : Result Bool Fault) → IsNext inputs.schedule inputs.cursors (next.Read i) → i < length inputs.cursors → ReadSteps inputs i r inputs' → steps_left inputs' ≤ steps_left inputs
-read_input-kept inputs inputs' i (Ok b) tells within f = let less = read_input-less inputs inputs' i (Ok b) tells within f tt in omega (arith, less)
-read_input-kept inputs inputs' i (Err fault) tells within f = by_place inputs.schedule refl tells (ap steps_left f.is)
+pub read_input-kept : (inputs inputs' : InputsView) (i : ℕ) (r : Result Bool Fault) → IsNext inputs (next.Read i) → ReadSteps inputs i r inputs' → steps_left inputs' ≤ steps_left inputs
+read_input-kept inputs inputs' i (Ok b) tells f = let less = read_input-less inputs inputs' i (Ok b) tells f tt in omega (arith, less)
+read_input-kept inputs inputs' i (Err fault) tells f =
+    let one = unready-owes f.cursor (to-read inputs i f.cursor tells f.among) in
+    let given = kept f.cursor.source f.source (Err fault) f.steps in
+    let left = (exchanged inputs.cursors i f.cursor (input_after f.cursor (Err fault) f.source) f.among).left in
+    let owes = after-owes (Err fault) f.cursor f.source f.phase in
+    let new : steps_left inputs' ≡ steps_left_in (slice_set inputs.cursors i (input_after f.cursor (Err fault) f.source)) = ap steps_left f.is in
+    omega (arith, given, left, owes, one, new)
+
+pub read_input-paid : (inputs inputs' : InputsView) (i : ℕ) (r : Result Bool Fault) → IsNext inputs (next.Read i) → ReadSteps inputs i r inputs' → Goes r → IsPaid inputs inputs'
+read_input-paid inputs inputs' i r tells f goes = by_result r f.steps f.phase goes (ap owed f.is) (ap most_turns f.is)
   where
-    h' : InputView
-    h' = input_after f.cursor (Err fault) f.source
+    one : owed_by f.cursor ≡ 1
+    one = unready-owes f.cursor (to-read inputs i f.cursor tells f.among)
 
-    after : Schedule → InputsView
-    after schedule = record { cursors = slice_set inputs.cursors i h'; schedule = schedule_after schedule i false }
+    after : Result Bool Fault → InputsView
+    after r = with_cursor inputs i (input_after f.cursor r f.source)
 
-    more : f.cursor.source.given ≤ f.source.given
-    more = kept f.cursor.source f.source (Err fault) f.steps
-
-    by_place : (schedule : Schedule) → inputs.schedule ≡ schedule → IsNext schedule inputs.cursors (next.Read i) → steps_left inputs' ≡ steps_left (after inputs.schedule) → steps_left inputs' ≤ steps_left inputs
-    by_place (Turn turn) is tells new =
-        let less : input_steps_left 2 h' + (input_steps_left 2 f.cursor - input_steps_left 2 h') ≡ input_steps_left 2 f.cursor = omega (arith, more) in
-        let all = one-left 2 inputs.cursors i f.cursor h' f.among _ less in
-        let new' : steps_left inputs' ≡ steps_left_in 2 (slice_set inputs.cursors i h') + (length (slice_set inputs.cursors i h') - turn) = new ∙ ap (λ (p : Schedule). steps_left (after p)) is in
-        let old : steps_left inputs ≡ steps_left_in 2 inputs.cursors + (length inputs.cursors - turn) = ap (λ (p : Schedule). steps_left (record { cursors = inputs.cursors; schedule = p })) is in
-        let sum = all.0 in
-        let count = all.1 in
-        omega (arith, new', old, sum, count)
-    by_place (Merge n u) is tells new =
-        let less : input_steps_left 3 h' + (input_steps_left 3 f.cursor - input_steps_left 3 h') ≡ input_steps_left 3 f.cursor = omega (arith, more) in
-        let all = one-left 3 inputs.cursors i f.cursor h' f.among _ less in
-        let new' : steps_left inputs' ≡ steps_left_in 3 (slice_set inputs.cursors i h') + (u - (i + 1)) = new ∙ ap (λ (p : Schedule). steps_left (after p)) is in
-        let old : steps_left inputs ≡ steps_left_in 3 inputs.cursors + (u - n) = ap (λ (p : Schedule). steps_left (record { cursors = inputs.cursors; schedule = p })) is in
-        let sum = all.0 in
-        let here = tells.is in
-        omega (arith, new', old, sum, here)
+    by_result : (r : Result Bool Fault) → Steps f.cursor.source.phase f.cursor.source r f.source → f.source.phase ≡ phase_told r → Goes r → owed inputs' ≡ owed (after r) → most_turns inputs' ≡ most_turns (after r) → IsPaid inputs inputs'
+    by_result (Err fault) steps phase goes owes' most = absurd goes
+    by_result (Ok true) steps phase goes owes' most =
+        let more = (grown f.cursor.source f.source steps).2 in
+        let ex = exchanged inputs.cursors i f.cursor (input_after f.cursor (Ok true) f.source) f.among in
+        let reads = ex.reads in
+        let owes = ex.owes in
+        let count = ex.count in
+        let new = after-owes (Ok true) f.cursor f.source phase in
+        omega (arith, more, reads, owes, count, new, one, owes', most)
+    by_result (Ok false) steps phase goes owes' most =
+        let more = reads-kept f.cursor.source f.source steps in
+        let ex = exchanged inputs.cursors i f.cursor (input_after f.cursor (Ok false) f.source) f.among in
+        let reads = ex.reads in
+        let owes = ex.owes in
+        let count = ex.count in
+        let new = after-owes (Ok false) f.cursor f.source phase in
+        omega (arith, more, reads, owes, count, new, one, owes', most)

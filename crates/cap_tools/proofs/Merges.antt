@@ -1,13 +1,30 @@
 -- Merging: what the keys of the inputs say of all that may come.
-use Rattle.std.proofs.Common.{◌≡◌, ℕ, ◌+◌, true, false, max, List, [], ◌∷◌, ◌++◌, length, Some, refl, sym, ◌∙◌, ap, subst}
+use Rattle.std.proofs.Common.{◌≡◌, ℕ, ◌+◌, ◌<◌, ◌≤◌, true, false, max, List, [], ◌∷◌, ◌++◌, length, Some, refl, sym, ◌∙◌, ap, subst}
 use Rattle.cap_octet.specs.Packet.{Captured}
 use Rattle.cap_io.specs.Capture.{Placed, Items, after_packets}
 use Rattle.cap_io.specs.Source.{Ended}
 use Rattle.cap_inputs.specs.Sequence.{Packet, SequenceEnd, Complete, with_front, end_at, first_end, fault_in_front, sequence_by_time}
-use Rattle.cap_inputs.specs.Inputs.{InputView, Future, AreFutures, waiting_packets, items_left, inputs_left, no_future, input_behind, InputOver, waits_over, ended_over, InputFrom, waits_from, ended_from, InputsOver, InputsFrom}
+use Rattle.cap_inputs.specs.Inputs.{InputView, Future, AreFutures, waiting_packets, items_left, inputs_left, no_future, input_behind}
 use Rattle.cap_tools.proofs.Splits.{Fit}
 use Rattle.cap_tools.proofs.Coming.{hand_is}
 use Rattle.cap_inputs.proofs.Order.{IsOver, IsFrom, AllOver, AllFrom, merged-next}
+
+-- a packet waits, whose greatest time so far is over the key, or at least the key; or the input is at its clean end
+pub data InputOver (k : ℕ) (h : InputView) : Type 0 where
+  waits_over : (p : Captured) → h.waiting ≡ true → h.source.packet ≡ Some p → k < max h.greatest p.time → InputOver k h
+  ended_over : h.waiting ≡ false → h.source.phase ≡ Ended → InputOver k h
+
+pub data InputFrom (k : ℕ) (h : InputView) : Type 0 where
+  waits_from : (p : Captured) → h.waiting ≡ true → h.source.packet ≡ Some p → k ≤ max h.greatest p.time → InputFrom k h
+  ended_from : h.waiting ≡ false → h.source.phase ≡ Ended → InputFrom k h
+
+abbrev pub InputsOver : ℕ → List InputView → Type 0
+InputsOver k [] = Unit {0}
+InputsOver k (h ∷ hs) = InputOver k h × InputsOver k hs
+
+abbrev pub InputsFrom : ℕ → List InputView → Type 0
+InputsFrom k [] = Unit {0}
+InputsFrom k (h ∷ hs) = InputFrom k h × InputsFrom k hs
 
 abbrev first_is : InputView → Captured → Placed
 first_is h p = record { offset = h.source.offset; packet = p }

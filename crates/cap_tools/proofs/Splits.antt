@@ -3,9 +3,8 @@ use Rattle.std.proofs.Common.{◌≡◌, ℕ, suc, List, [], ◌∷◌, ◌++◌
 use Rattle.cap_io.specs.Capture.{Placed}
 use Rattle.cap_io.specs.Source.{Ended}
 use Rattle.cap_io.specs.Position.{IsAt}
-use Rattle.cap_inputs.specs.Sequence.{InputItems, Event, sequence_of, with_front}
-use Rattle.cap_inputs.specs.declared.inputs.Schedule.{Schedule}
-use Rattle.cap_inputs.specs.Inputs.{InputView, Future, InputPast, AreInputsBehind, AreFutures, AreSettled, items_with, inputs_with, items_left, inputs_left, no_future, sequence_left, ordering_of}
+use Rattle.cap_inputs.specs.Sequence.{InputItems, Event, sequence_of, with_front, PacketOrder}
+use Rattle.cap_inputs.specs.Inputs.{InputView, Future, InputPast, AreInputsBehind, AreFutures, AreSettled, items_with, inputs_with, items_left, inputs_left, no_future, sequence_left}
 use Rattle.cap_tools.specs.Machine.{finish_at}
 
 abbrev pub At : InputPast → InputView → Type 0
@@ -95,31 +94,31 @@ finish-here (a ∷ us) vs s i bytes packets place = rw (← place) (ap (λ (l : 
 -- ---- what has come, when one input goes on
 
 -- For each future behind the change there is one before it: the whole is the same, and what is left begins with the new events.
-pub record Carries (s s' : InputPast) (xs ys : List InputView) (h h' : InputView) (schedule schedule' : Schedule) (new : List Event) (f' : Future) : Type 0 where
+pub record Carries (s s' : InputPast) (xs ys : List InputView) (h h' : InputView) (order : PacketOrder) (new : List Event) (f' : Future) : Type 0 where
   pub future : Future
   pub fit : Fit h future
   pub same : items_with s h future ≡ items_with s' h' f'
-  pub left_is : (fs gs : List Future) → AreFutures xs fs → AreFutures ys gs → sequence_left schedule (inputs_left xs fs ++ items_left h future ∷ inputs_left ys gs) ≡ with_front new (sequence_left schedule' (inputs_left xs fs ++ items_left h' f' ∷ inputs_left ys gs))
+  pub left_is : (fs gs : List Future) → AreFutures xs fs → AreFutures ys gs → sequence_left order (xs ++ h ∷ ys) (inputs_left xs fs ++ items_left h future ∷ inputs_left ys gs) ≡ with_front new (sequence_left order (xs ++ h' ∷ ys) (inputs_left xs fs ++ items_left h' f' ∷ inputs_left ys gs))
 
-pub come-on : (us vs : List InputPast) (s s' : InputPast) (xs ys : List InputView) (h h' : InputView) (schedule schedule' : Schedule) (es new : List Event) → ordering_of schedule' ≡ ordering_of schedule → AreInputsBehind us xs
-    → AreSettled (us ++ s ∷ vs) (record { cursors = xs ++ h ∷ ys; schedule = schedule }) es
-    → ((f' : Future) → Fit h' f' → Carries s s' xs ys h h' schedule schedule' new f')
-    → AreSettled (us ++ s' ∷ vs) (record { cursors = xs ++ h' ∷ ys; schedule = schedule' }) (es ++ new)
-come-on us vs s s' xs ys h h' schedule schedule' es new order st come carries fs fits =
+pub come-on : (us vs : List InputPast) (s s' : InputPast) (xs ys : List InputView) (h h' : InputView) (order : PacketOrder) (es new : List Event) → AreInputsBehind us xs
+    → AreSettled (us ++ s ∷ vs) (record { order = order; cursors = xs ++ h ∷ ys }) es
+    → ((f' : Future) → Fit h' f' → Carries s s' xs ys h h' order new f')
+    → AreSettled (us ++ s' ∷ vs) (record { order = order; cursors = xs ++ h' ∷ ys }) (es ++ new)
+come-on us vs s s' xs ys h h' order es new st come carries fs fits =
     let split = fits-split xs ys h' fs fits in
     let c = carries split.here split.fit in
     let was = come (split.front ++ c.future ∷ split.back) (fits-join xs ys h split.front split.back c.future split.before c.fit split.behind) in
-    rw (split.is, order)
-    (ap (sequence_of (ordering_of schedule))
+    rw split.is
+    (ap (sequence_of order)
     (wholes-join us vs s' xs ys h' split.front split.back split.here st split.before
     ∙ ap (λ (r : InputItems). inputs_with us xs split.front ++ r ∷ inputs_with vs ys split.back) (sym c.same)
     ∙ sym (wholes-join us vs s xs ys h split.front split.back c.future st split.before))
     ∙ was
-    ∙ ap (λ (l : List InputItems). with_front es (sequence_left schedule l)) (rests-join xs ys h split.front split.back c.future split.before)
+    ∙ ap (λ (l : List InputItems). with_front es (sequence_left order (xs ++ h ∷ ys) l)) (rests-join xs ys h split.front split.back c.future split.before)
     ∙ ap (with_front es) (c.left_is split.front split.back split.before split.behind)
-    ∙ ap (λ (l : List Event). record { events = l; end = (sequence_left schedule' (inputs_left xs split.front ++ items_left h' split.here ∷ inputs_left ys split.back)).end })
-    (append-back es new (sequence_left schedule' (inputs_left xs split.front ++ items_left h' split.here ∷ inputs_left ys split.back)).events)
-    ∙ ap (λ (l : List InputItems). with_front (es ++ new) (sequence_left schedule' l)) (sym (rests-join xs ys h' split.front split.back split.here split.before)))
+    ∙ ap (λ (l : List Event). record { events = l; end = (sequence_left order (xs ++ h' ∷ ys) (inputs_left xs split.front ++ items_left h' split.here ∷ inputs_left ys split.back)).end })
+    (append-back es new (sequence_left order (xs ++ h' ∷ ys) (inputs_left xs split.front ++ items_left h' split.here ∷ inputs_left ys split.back)).events)
+    ∙ ap (λ (l : List InputItems). with_front (es ++ new) (sequence_left order (xs ++ h' ∷ ys) l)) (sym (rests-join xs ys h' split.front split.back split.here split.before)))
   where
     append-back : (xs ys zs : List Event) → xs ++ (ys ++ zs) ≡ (xs ++ ys) ++ zs
     append-back [] ys zs = refl

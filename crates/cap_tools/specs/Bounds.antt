@@ -1,5 +1,5 @@
 -- The bounds of a step, whatever the devices: what it reads, how many steps were made, and what the job holds.
-use Rattle.std.specs.Prelude.{◌≡◌, ℕ, ◌+◌, ◌*◌, ◌-◌, ◌≤◌, ◌&&◌, Bool, IsTrue, true, false, List, [], ◌∷◌, length, map, Option, None, Some, Result, Ok, Err}
+use Rattle.std.specs.Prelude.{◌≡◌, ℕ, ◌+◌, ◌*◌, ◌≤◌, ◌&&◌, Bool, IsTrue, true, false, List, [], ◌∷◌, length, map, Option, None, Some, Result, Ok, Err}
 use Rattle.std.specs.List.{All}
 use Rattle.cap_octet.specs.declared.fault.Fault.{Fault}
 use Rattle.cap_io.specs.Capture.{Declared, Nothing, PcapFile, PcapngFile}
@@ -8,7 +8,7 @@ use Rattle.cap_io.specs.Source.{HasFew, behind}
 use Rattle.cap_io.specs.Text.{AreFew, most_output_interfaces}
 use Rattle.cap_tools.specs.declared.step.JobEnd.{JobEnd}
 use Rattle.cap_tools.specs.Output.{Target, Capture, Text, Lines}
-use Rattle.cap_inputs.specs.Inputs.{InputView, InputsView, IsInput, ReadsInput, ReadSteps, MarksDecided, is_clean_end, ordering_of, schedule_left, waiting_total, weight_of}
+use Rattle.cap_inputs.specs.Inputs.{InputView, InputsView, IsInput, ReadsInput, ReadSteps, MarksDecided, is_clean_end, owed_by}
 use Rattle.cap_octet.specs.Packet.{Captured}
 use Rattle.cap_filter.specs.Programs.{spent_in}
 use Rattle.cap_tools.specs.Selector.{most_spent, places, spent_by_verdict, window_of}
@@ -24,7 +24,7 @@ pub record ReadsOn (tells : Bool) (old : JobView) (input : ℕ) (answer : Result
   -- where the input tells its bytes: its next packet, its clean end or its fault, and no more
   pub told : IsTrue tells → ReadsInput old.machine.inputs input answer new.machine.inputs
   pub decided : new.machine.decided ≡ old.machine.decided
-  pub output : (is_clean_end answer && asks_report (ordering_of old.machine.inputs.schedule) old.machine.policy) ≡ false → new.machine.output ≡ old.machine.output
+  pub output : (is_clean_end answer && asks_report old.machine.inputs.order old.machine.policy) ≡ false → new.machine.output ≡ old.machine.output
   pub programs : new.programs ≡ old.programs
 
 -- an input's current packet, which isn't decided yet
@@ -81,10 +81,13 @@ abbrev pub reads_of : List InputView → ℕ
 reads_of [] = 0
 reads_of (h ∷ hs) = behind h.source + reads_of hs
 
--- the steps that follow without a byte more: each current packet is decided, and each input closed; a merge reads behind
--- each packet that it decides
+-- the steps that follow without a byte more
+abbrev pub owed_in : List InputView → ℕ
+owed_in [] = 0
+owed_in (h ∷ hs) = owed_by h + owed_in hs
+
 abbrev pub owed : InputsView → ℕ
-owed f = schedule_left f.schedule (length f.cursors) + (weight_of f.schedule - 1) * waiting_total f.cursors
+owed f = owed_in f.cursors
 
 -- two steps for each byte, one for each input, and one that reads a filter
 abbrev pub most_turns : InputsView → ℕ

@@ -10,7 +10,7 @@ use Rattle.cap_tools.specs.Output.{JobOutputView, target_at}
 use Rattle.cap_tools.specs.Start.{Assignment, Preparing}
 use Rattle.cap_tools.specs.Selector.{HavePrograms, SelectorView, state_with}
 use Rattle.cap_tools.specs.Reports.{name_at, nothing_counted}
-use Rattle.cap_inputs.specs.Inputs.{InputView, InputsView, InputPast, most_steps, ordering_of, offset_at}
+use Rattle.cap_inputs.specs.Inputs.{InputView, InputsView, InputPast, most_steps, offset_at}
 use Rattle.cap_inputs.specs.Fresh.{fresh_inputs}
 use Rattle.cap_tools.specs.Call.{Call, RunResult}
 use Rattle.flt_bpf.specs.Content.{Content}
@@ -126,7 +126,7 @@ pub record IsUnderWay (ss : List InputPast) (before : List ℕ) (first j : JobVi
   pub form : form_of j.machine ≡ form_of first.machine
   pub output : failures_by j.machine ≡ failures_by first.machine
   pub names : j.machine.output.names ≡ first.machine.output.names
-  pub order : ordering_of j.machine.inputs.schedule ≡ ordering_of first.machine.inputs.schedule
+  pub order : j.machine.inputs.order ≡ first.machine.inputs.order
   -- an input that never fails is cut short by no failure
   pub never : never_failing j.machine.inputs.cursors ≡ never_failing first.machine.inputs.cursors
 

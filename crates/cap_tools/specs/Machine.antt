@@ -21,7 +21,7 @@ use Rattle.cap_tools.specs.Verdict.{Policy, SelectorState, Verdict, Pass, PassLa
 use Rattle.cap_tools.specs.Selector.{PolicyState, SelectorView, IsWithin, emptied, is_count, most_spent, spent_by_verdict}
 use Rattle.cap_tools.specs.Selector as selecting
 use Rattle.cap_tools.specs.Outcome.{Form, Progress, Work, ComeFirst, IsNextEvent, AreAllEvents, cut_at, no_progress, apply_events, final_progress, final_text, output_text, closing_text, first_link, packet_bytes, report_bytes, form_refuses}
-use Rattle.cap_inputs.specs.Inputs.{InputsView, InputView, InputPast, AreInputsBehind, KnowGreatest, AreSettled, IsInput, EndedBefore, ReadsInput, IsNext, input_after, ordering_of, never_failing}
+use Rattle.cap_inputs.specs.Inputs.{InputsView, InputView, InputPast, AreInputsBehind, KnowGreatest, AreSettled, IsInput, ReadsInput, IsNext, input_after, never_failing}
 
 -- ---- the view
 
@@ -39,7 +39,7 @@ form_of m = form_at m.output
 
 -- in which order its packets come, how they are judged, and in which form they are written
 abbrev pub work_of : MachineState → Work
-work_of m = record { order = ordering_of m.inputs.schedule; policy = m.policy; form = form_of m }
+work_of m = record { order = m.inputs.order; policy = m.policy; form = form_of m }
 
 abbrev pub written_by : MachineState → List ℕ
 written_by m = written_to m.output.target
@@ -67,7 +67,7 @@ pub record PacketsDecided (ss : List InputPast) (before : List ℕ) (m : Machine
   pub greatest : KnowGreatest ss m.inputs.cursors
   pub events : List Event
   -- the events are the first of the order of the whole inputs, and they stay the first whatever follows what was read
-  pub first : ComeFirst (sequence_of (ordering_of m.inputs.schedule) (wholes_of ss)) events
+  pub first : ComeFirst (sequence_of m.inputs.order (wholes_of ss)) events
   pub come : AreSettled ss m.inputs events
   pub packets : List Captured
   pub reports : List Report
@@ -75,7 +75,6 @@ pub record PacketsDecided (ss : List InputPast) (before : List ℕ) (m : Machine
   pub output : HasWritten before m.output packets reports
   pub passed : m.state.passed ≤ m.decided
   pub counted : IsWithin m.decided m.state.tally
-  pub ended : EndedBefore m.inputs.schedule m.inputs.cursors
 
 -- ---- the parts of a step
 
@@ -149,7 +148,7 @@ ClosesBy true input cursor old r new = ReportsOn input cursor old r new
 pub record Closes (inputs : InputsView) (input : ℕ) (old : Sieve JobOutputView) (r : Option JobEnd) (new : Sieve JobOutputView) : Type 0 where
   pub cursor : InputView
   pub among : IsInput inputs.cursors input cursor
-  pub by : ClosesBy (asks_report (ordering_of inputs.schedule) old.selector.policy) input cursor old r new
+  pub by : ClosesBy (asks_report inputs.order old.selector.policy) input cursor old r new
 
 abbrev pub unwritten : ℕ → Fault → JobEnd
 unwritten input WriteFailed = end.OutputFailed
@@ -195,12 +194,12 @@ pub record GoesOn {ss : List InputPast} {before : List ℕ} {old : MachineState}
   -- the output's device didn't fail
   pub output : failures_by new ≡ failures_by old
   pub names : new.output.names ≡ old.output.names
-  pub order : ordering_of new.inputs.schedule ≡ ordering_of old.inputs.schedule
+  pub order : new.inputs.order ≡ old.inputs.order
   pub never : never_failing new.inputs.cursors ≡ never_failing old.inputs.cursors
 
 -- how far a job comes over inputs with these items
 abbrev pub progress_over : MachineState → List InputItems → Progress
-progress_over m rs = final_progress m.policy (form_of m) (sequence_of (ordering_of m.inputs.schedule) rs)
+progress_over m rs = final_progress m.policy (form_of m) (sequence_of m.inputs.order rs)
 
 -- the output is all that the job writes of inputs with these items, and they end so
 pub record Comes {ss : List InputPast} {before : List ℕ} {old : MachineState} (rs : List InputItems) (d : PacketsDecided ss before old) (new : MachineState) (close : SequenceEnd) : Type 0 where
@@ -222,7 +221,7 @@ pub record EndsByCut {ss : List InputPast} {before : List ℕ} {old : MachineSta
   pub cut : IsCutShort past.text fault held
   pub cursor : InputView
   pub cursor_is : IsInput old.inputs.cursors input cursor
-  pub next : IsNext old.inputs.schedule old.inputs.cursors (next.Read input)
+  pub next : IsNext old.inputs (next.Read input)
   pub advances : Advances cursor.source.phase cursor.source (Err fault) after
   pub why : ((fault ≡ ReadFailed) × (cursor.source.failures < after.failures) × (cursor.source.never_fails ≡ false)) ⊎ (fault ≡ NoMemory)
   pub comes : Comes (cut_at (wholes_of ss) input held) d new (FaultIn input fault after.offset)
@@ -230,7 +229,7 @@ pub record EndsByCut {ss : List InputPast} {before : List ℕ} {old : MachineSta
 -- There was no memory to write the current packet of this input, which is the next of the order and begins where `after`
 -- stands: the output stays.
 pub record WantsMemory {ss : List InputPast} {before : List ℕ} {old : MachineState} (d : PacketsDecided ss before old) (new : MachineState) (input : ℕ) (fault : Fault) (after : SourceView) : Type 0 where
-  pub next : IsNext old.inputs.schedule old.inputs.cursors (next.Decide input)
+  pub next : IsNext old.inputs (next.Decide input)
   pub packet : Placed
   pub comes : IsNextEvent (work_of old) (wholes_of ss) d.events (Packet input packet)
   pub place : after.offset ≡ packet.offset
@@ -249,7 +248,7 @@ PassesAs (Refuse fault) q = ⊥
 -- next is the current packet of an input, which passes; this is what it adds
 pub record NextPacket {ss : List InputPast} {before : List ℕ} {old : MachineState} (d : PacketsDecided ss before old) (new : MachineState) (bytes : List ℕ) : Type 0 where
   pub input : ℕ
-  pub next : IsNext old.inputs.schedule old.inputs.cursors (next.Decide input)
+  pub next : IsNext old.inputs (next.Decide input)
   pub cursor : InputView
   pub among : IsInput old.inputs.cursors input cursor
   pub packet : Captured
@@ -264,15 +263,15 @@ pub record NextPacket {ss : List InputPast} {before : List ℕ} {old : MachineSt
 -- next is an input that is read to its end in this step, and reported; this is its report
 pub record NextReport {ss : List InputPast} {before : List ℕ} {old : MachineState} (d : PacketsDecided ss before old) (new : MachineState) (bytes : List ℕ) : Type 0 where
   pub input : ℕ
-  pub next : IsNext old.inputs.schedule old.inputs.cursors (next.Read input)
+  pub next : IsNext old.inputs (next.Read input)
   pub fetches : ReadsInput old.inputs input (Ok false) new.inputs
   pub comes : IsNextEvent (work_of old) (wholes_of ss) d.events (InputEnd input (kind_of fetches.source.declared) fetches.source.offset)
-  pub policy : asks_report (ordering_of old.inputs.schedule) old.policy ≡ true
+  pub policy : asks_report old.inputs.order old.policy ≡ true
   pub bytes_are : bytes ≡ report_bytes (form_of old) (report_at input (input_after fetches.cursor (Ok false) fetches.source) old.state.tally)
 
 -- all inputs were read; this is what a clean end adds
 pub record NextClosing {ss : List InputPast} {before : List ℕ} {old : MachineState} (d : PacketsDecided ss before old) (new : MachineState) (bytes : List ℕ) : Type 0 where
-  pub next : IsNext old.inputs.schedule old.inputs.cursors next.Finish
+  pub next : IsNext old.inputs next.Finish
   pub comes : AreAllEvents (work_of old) (wholes_of ss) d.events
   pub bytes_are : bytes ≡ closing_text (form_of old) (first_link (wholes_of ss)) d.packets
   pub inputs : new.inputs ≡ old.inputs

@@ -273,8 +273,7 @@ impl<I: Input, O: Output, E: Output, A: Allocator + Copy + Drop> Job<I, O, E, A>
     /// Decides the current packet of an input.
     fn decide_next(&mut self, input: usize) -> Option<JobEnd>
         requires prepared { self.old.preparing ≡ None }
-        requires next { input_spec.IsNext self.old.machine.inputs.schedule
-            self.old.machine.inputs.cursors (Next.Decide input) }
+        requires next { input_spec.IsNext self.old.machine.inputs (Next.Decide input) }
         requires within { input < length self.old.machine.inputs.cursors }
         ensures { IsStep I.tells O.tells self.old result self.new }
     {
@@ -297,8 +296,7 @@ impl<I: Input, O: Output, E: Output, A: Allocator + Copy + Drop> Job<I, O, E, A>
     /// Reads an input on.
     fn read_input(&mut self, input: usize) -> Option<JobEnd>
         requires prepared { self.old.preparing ≡ None }
-        requires next { input_spec.IsNext self.old.machine.inputs.schedule
-            self.old.machine.inputs.cursors (Next.Read input) }
+        requires next { input_spec.IsNext self.old.machine.inputs (Next.Read input) }
         requires within { input < length self.old.machine.inputs.cursors }
         ensures { IsStep I.tells O.tells self.old result self.new }
     {
@@ -322,8 +320,7 @@ impl<I: Input, O: Output, E: Output, A: Allocator + Copy + Drop> Job<I, O, E, A>
     /// Ends the output.
     fn finish(&mut self) -> Option<JobEnd>
         requires prepared { self.old.preparing ≡ None }
-        requires next { input_spec.IsNext self.old.machine.inputs.schedule
-            self.old.machine.inputs.cursors Next.Finish }
+        requires next { input_spec.IsNext self.old.machine.inputs Next.Finish }
         ensures { IsStep I.tells O.tells self.old result self.new }
     {
         let first = self.inputs.first_link();

@@ -2,7 +2,7 @@
 ghost use Rattle.std.specs.Prelude.{◌≡◌, ◌<◌, ◌≤◌, IsTrue, false, length, true};
 ghost use Rattle.cap_octet.specs.Packet.{captured};
 ghost use Rattle.cap_tools.specs.Bounds.{HasFewInterfaces};
-ghost use Rattle.cap_inputs.specs.Inputs.{most_steps, ordering_of};
+ghost use Rattle.cap_inputs.specs.Inputs.{most_steps};
 ghost use Rattle.cap_tools.specs.Output.{output_at};
 ghost use Rattle.cap_tools.specs.Selector.{GrowsByOne, HasFewMarks, IsWithin, policy_state};
 ghost use Rattle.cap_tools.specs.Machine.{Closes, Decides, Offers, Spends, asks_report};
@@ -90,7 +90,7 @@ pub(crate) fn close<I: Input, O: Output, E: Output, A: Allocator>(
     ensures marks { HasFewMarks selector.old.policy selector.old.state
         → HasFewMarks selector.new.policy selector.new.state }
     ensures few { HasFewInterfaces output.old → HasFewInterfaces output.new }
-    ensures kept { asks_report (ordering_of inputs.now.schedule) selector.old.policy ≡ false
+    ensures kept { asks_report inputs.now.order selector.old.policy ≡ false
         → output.new ≡ output.old }
 {
     let cursor = inputs.cursor(input);

@@ -1,29 +1,40 @@
 use Rattle.std.proofs.Common.{◌<◌, ◌∙◌, length, ap, sym, subst}
 use Rattle.std.specs.List.{slice_set}
 use Rattle.cap_inputs.specs.declared.inputs.Schedule.{Schedule}
-use Rattle.cap_inputs.specs.Inputs.{InputsView, InputView, HoldsQueue, MarksDecided, IsNext, input_behind}
 use Rattle.cap_inputs.specs.declared.inputs.Next.TheVariants as next
+use Rattle.cap_inputs.specs.Cursor.{HoldsQueue, IsNextAt, IsPlaced, ordering_of}
+use Rattle.cap_inputs.specs.Sequence.{PacketOrder}
+use Rattle.cap_inputs.specs.Inputs.{InputsView, InputView, MarksDecided, IsNext, input_behind, with_cursor}
+use Rattle.cap_inputs.proofs.Cursors.{behind-order, get-among}
 use Rattle.cap_inputs.proofs.Leasts.{settled-in}
-use Rattle.cap_inputs.proofs.Cursors.{get-among}
+use Rattle.cap_inputs.proofs.Placed.{decide-at, decided-waits, placed-decided}
 use Rattle.cap_inputs.proofs.inputs.Inputs.mark_decided.Goals as goal
 
 pub returns : goal.returns
 returns g c =
-    let new : InputsView = record { cursors = slice_set c.self.inside.cursors.items c.args.input c.mark_decided.new.self; schedule = c.go_back.new.schedule } in
+    let old : InputsView = record { order = ordering_of c.self.inside.schedule; cursors = c.self.inside.cursors.items } in
+    let made : PacketOrder → InputsView = λ o. record { order = o; cursors = slice_set c.self.inside.cursors.items c.args.input c.mark_decided.new.self } in
     let W : InputsView → Type 0 = λ v. c.args.input < length v.cursors in
-    let P : InputsView → Type 0 = λ v. MarksDecided v c.args.input new in
+    let P : InputsView → Type 0 = λ v. MarksDecided v c.args.input (made (ordering_of c.go_back.new.schedule)) in
     subst P c.self.view_is (record {
       cursor = c.index_mut.result.now;
       among = get-among c.self.inside.cursors.items c.args.input c.index_mut.result.now c.index_mut.result.now (subst W (sym c.self.view_is) c.requires.within) c.index_mut.ensures.value;
-      is =
-          ap (λ (h : InputView). record { cursors = slice_set c.self.inside.cursors.items c.args.input h; schedule = c.go_back.new.schedule }) c.mark_decided.ensures
-          ∙ ap (λ (p : Schedule). record { cursors = slice_set c.self.inside.cursors.items c.args.input (input_behind c.index_mut.result.now); schedule = p }) c.go_back.ensures.schedule;
+      is = ap made (ap ordering_of c.go_back.ensures.schedule ∙ behind-order c.self.inside.schedule c.args.input) ∙ ap (with_cursor old c.args.input) c.mark_decided.ensures.behind;
     })
 
 pub invariant_of-self : goal.invariant_of-self
 invariant_of-self g c =
-    let T : InputsView → Type 0 = λ v. IsNext v.schedule v.cursors (next.Decide c.args.input) in
+    let W : InputsView → Type 0 = λ v. c.args.input < length v.cursors in
+    let T : InputsView → Type 0 = λ v. IsNext v (next.Decide c.args.input) in
+    let a = get-among c.self.inside.cursors.items c.args.input c.index_mut.result.now c.index_mut.result.now (subst W (sym c.self.view_is) c.requires.within) c.index_mut.ensures.value in
+    let at : IsNextAt c.self.inside.schedule c.self.inside.cursors.items (next.Decide c.args.input) = decide-at c.self.inside.schedule c.self.inside.cursors.items c.args.input c.self.invariant.1 (subst T (sym c.self.view_is) c.requires.next) in
+    let reading = c.mark_decided.ensures.reading (decided-waits c.self.inside.schedule c.self.inside.cursors.items c.args.input c.index_mut.result.now a at) in
     let P : Schedule → Type 0 = λ p. HoldsQueue p (slice_set c.self.inside.cursors.items c.args.input c.mark_decided.new.self) c.go_back.new.queue in
-    subst P (sym c.go_back.ensures.schedule)
-    (settled-in c.self.inside.schedule c.self.inside.cursors.items c.args.input c.mark_decided.new.self c.self.inside.queue c.go_back.new.queue
-    (subst T (sym c.self.view_is) c.requires.next) (ap (λ (h : InputView). h.waiting) c.mark_decided.ensures) c.go_back.ensures.queue c.self.invariant)
+    let S : InputView → Type 0 = λ h. IsPlaced c.go_back.new.schedule (slice_set c.self.inside.cursors.items c.args.input h) in (
+      subst P (sym c.go_back.ensures.schedule)
+          (settled-in c.self.inside.schedule c.self.inside.cursors.items c.args.input c.mark_decided.new.self c.self.inside.queue c.go_back.new.queue
+          at (ap (λ (h : InputView). h.waiting) c.mark_decided.ensures.behind) c.go_back.ensures.queue c.self.invariant.0),
+      subst S (sym c.mark_decided.ensures.behind)
+          (let R : Schedule → Type 0 = λ p. IsPlaced p (slice_set c.self.inside.cursors.items c.args.input (input_behind c.index_mut.result.now)) in
+          subst R (sym c.go_back.ensures.schedule) (placed-decided c.self.inside.schedule c.self.inside.cursors.items c.args.input c.index_mut.result.now a at reading c.self.invariant.1)),
+    )

@@ -1,9 +1,11 @@
 use Rattle.std.proofs.Common.{◌≡◌, ◌≤◌, IsTrue, List, [], length, ap, ◌∙◌, refl, arith}
 use Rattle.cap_inputs.specs.Inputs.{InputView}
-use Rattle.cap_inputs.specs.Fresh.{fresh_view, fresh_input, first_schedule}
+use Rattle.cap_inputs.specs.Cursor.{first_schedule}
+use Rattle.cap_inputs.specs.Fresh.{fresh_view, fresh_input}
 use Rattle.cap_inputs.specs.Sequence.{order_of}
 use Rattle.cap_inputs.proofs.Fresh.{first-inputs}
 use Rattle.cap_inputs.proofs.Leasts.{holds-first}
+use Rattle.cap_inputs.proofs.Placed.{placed-first}
 use Rattle.cap_inputs.proofs.inputs.Inputs.new.Goals as goal
 
 pub returns : goal.returns
@@ -12,7 +14,10 @@ returns g c =
     (c.schedule_at_first-schedule.ensures ∙ ap (λ (l : List InputView). first_schedule (order_of c.args.merges) (length l)) c.deref.ensures.value)
 
 pub invariant_of-result : goal.invariant_of-result
-invariant_of-result g c =
-    let found : (c.in_ok-queue.queue.waiting ≡ []) × (IsTrue c.args.merges → c.len.result ≤ c.in_ok-queue.queue.room) = c.in_ok-queue.ensures in
-    holds-first (λ input. fresh_view (fresh_input g.I.Input input)) c.args.inputs.items c.in_ok-cursors.cursors.items c.args.merges c.schedule_at_first-schedule.result c.in_ok-queue.queue
-    (λ input. refl) c.in_ok-cursors.ensures (c.schedule_at_first-schedule.ensures ∙ ap (λ (l : List InputView). first_schedule (order_of c.args.merges) (length l)) c.deref.ensures.value) (found.0, λ merges. (let fits = found.1 merges in omega (arith, fits, c.len.ensures, c.in_ok-cursors.cursors.ok.0)))
+invariant_of-result g c = (
+  let found : (c.in_ok-queue.queue.waiting ≡ []) × (IsTrue c.args.merges → c.len.result ≤ c.in_ok-queue.queue.room) = c.in_ok-queue.ensures in
+      holds-first (λ input. fresh_view (fresh_input g.I.Input input)) c.args.inputs.items c.in_ok-cursors.cursors.items c.args.merges c.schedule_at_first-schedule.result c.in_ok-queue.queue
+      (λ input. refl) c.in_ok-cursors.ensures (c.schedule_at_first-schedule.ensures ∙ ap (λ (l : List InputView). first_schedule (order_of c.args.merges) (length l)) c.deref.ensures.value) (found.0, λ merges. (let fits = found.1 merges in omega (arith, fits, c.len.ensures, c.in_ok-cursors.cursors.ok.0))),
+  placed-first (λ input. fresh_view (fresh_input g.I.Input input)) c.args.inputs.items c.in_ok-cursors.cursors.items (order_of c.args.merges) c.schedule_at_first-schedule.result
+      (λ input. refl) (λ input. refl) c.in_ok-cursors.ensures (c.schedule_at_first-schedule.ensures ∙ ap (λ (l : List InputView). first_schedule (order_of c.args.merges) (length l)) c.deref.ensures.value),
+)

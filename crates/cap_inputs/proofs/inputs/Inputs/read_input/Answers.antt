@@ -1,47 +1,62 @@
-use Rattle.std.proofs.Common.{◌<◌, ◌&&◌, ℕ, sym, subst, length}
+use Rattle.std.proofs.Common.{◌<◌, ◌&&◌, ℕ, ap, sym, ◌∙◌, subst, length}
 use Rattle.std.specs.List.{slice_set}
 use Rattle.cap_inputs.specs.declared.inputs.Schedule.{Schedule}
 use Rattle.cap_inputs.specs.declared.inputs.Next.TheVariants as next
-use Rattle.cap_inputs.specs.Inputs.{Enters, InputsView, ReadsInput, ReadSteps, InputView, HoldsQueue, IsNext, is_merge}
-use Rattle.cap_inputs.proofs.Cursors.{get-among, fetches-by, read_input-steps-by}
-use Rattle.cap_inputs.proofs.Leasts.{schedule-for, fetched}
+use Rattle.cap_inputs.specs.Cursor.{Enters, HoldsQueue, IsNextAt, IsPlaced, is_merge, ordering_of}
+use Rattle.cap_inputs.specs.Sequence.{PacketOrder}
+use Rattle.cap_inputs.specs.Inputs.{InputsView, ReadsInput, ReadSteps, InputView, IsNext, is_packet_found}
+use Rattle.cap_inputs.proofs.Cursors.{get-among, fetches-by, read_input-steps-by, schedule-order}
+use Rattle.cap_inputs.proofs.Leasts.{queue-read, room-for}
+use Rattle.cap_inputs.proofs.Placed.{placed-read, read-at}
 use Rattle.cap_inputs.proofs.inputs.Inputs.read_input.Goals as goal
 
 pub returns-clause-told : goal.returns-clause-told
 returns-clause-told g c = λ ti.
-    let old : InputsView = record { cursors = c.self.inside.cursors.items; schedule = c.self.inside.schedule } in
-    let new : InputsView = record { cursors = slice_set c.self.inside.cursors.items c.args.input c.advance-result.new.self; schedule = c.go_on.new.schedule } in
-    let P : InputsView → Type 0 = λ v. ReadsInput v c.args.input c.advance-result.result new in
+    let old : InputsView = record { order = ordering_of c.self.inside.schedule; cursors = c.self.inside.cursors.items } in
+    let made : PacketOrder → InputsView = λ o. record { order = o; cursors = slice_set c.self.inside.cursors.items c.args.input c.advance-result.new.self } in
+    let P : InputsView → Type 0 = λ v. ReadsInput v c.args.input c.advance-result.result (made (ordering_of c.go_on.new.schedule)) in
+    let O : PacketOrder → Type 0 = λ o. ReadsInput old c.args.input c.advance-result.result (made o) in
     let W : InputsView → Type 0 = λ v. c.args.input < length v.cursors in
     subst P c.self.view_is
-    (fetches-by old c.args.input c.advance-result.result c.index_mut-cursor.result.now c.advance-result.new.self c.go_on.new.schedule c.is_end.result
-    (subst W (sym c.self.view_is) c.requires.within) c.index_mut-cursor.ensures.value (c.advance-result.ensures.told ti) c.advance-result.ensures.steps c.advance-result.ensures.is c.go_on.ensures.schedule c.is_end.ensures)
+    (subst O (sym (ap ordering_of c.go_on.ensures.schedule ∙ schedule-order c.self.inside.schedule c.args.input c.advance-result.result))
+    (fetches-by old c.args.input c.advance-result.result c.index_mut-cursor.result.now c.advance-result.new.self
+    (subst W (sym c.self.view_is) c.requires.within) c.index_mut-cursor.ensures.value (c.advance-result.ensures.told ti) c.advance-result.ensures.steps c.advance-result.ensures.is))
 
 pub returns-clause-steps : goal.returns-clause-steps
 returns-clause-steps g c =
-    let old : InputsView = record { cursors = c.self.inside.cursors.items; schedule = c.self.inside.schedule } in
-    let new : InputsView = record { cursors = slice_set c.self.inside.cursors.items c.args.input c.advance-result.new.self; schedule = c.go_on.new.schedule } in
-    let P : InputsView → Type 0 = λ v. ReadSteps v c.args.input c.advance-result.result new in
+    let old : InputsView = record { order = ordering_of c.self.inside.schedule; cursors = c.self.inside.cursors.items } in
+    let made : PacketOrder → InputsView = λ o. record { order = o; cursors = slice_set c.self.inside.cursors.items c.args.input c.advance-result.new.self } in
+    let P : InputsView → Type 0 = λ v. ReadSteps v c.args.input c.advance-result.result (made (ordering_of c.go_on.new.schedule)) in
+    let O : PacketOrder → Type 0 = λ o. ReadSteps old c.args.input c.advance-result.result (made o) in
     let W : InputsView → Type 0 = λ v. c.args.input < length v.cursors in
     subst P c.self.view_is
-    (read_input-steps-by old c.args.input c.advance-result.result c.index_mut-cursor.result.now c.advance-result.new.self c.go_on.new.schedule c.is_end.result
-    (subst W (sym c.self.view_is) c.requires.within) c.index_mut-cursor.ensures.value c.advance-result.ensures.steps c.advance-result.ensures.few c.advance-result.ensures.is c.go_on.ensures.schedule c.is_end.ensures)
+    (subst O (sym (ap ordering_of c.go_on.ensures.schedule ∙ schedule-order c.self.inside.schedule c.args.input c.advance-result.result))
+    (read_input-steps-by old c.args.input c.advance-result.result c.index_mut-cursor.result.now c.advance-result.new.self
+    (subst W (sym c.self.view_is) c.requires.within) c.index_mut-cursor.ensures.value c.advance-result.ensures.steps c.advance-result.ensures.phase c.advance-result.ensures.few c.advance-result.ensures.is))
 
 pub go_on-requires-clause-room : goal.go_on-requires-clause-room
 go_on-requires-clause-room g c =
     let W : InputsView → Type 0 = λ v. c.args.input < length v.cursors in
-    let T : InputsView → Type 0 = λ v. IsNext v.schedule v.cursors (next.Read c.args.input) in
+    let T : InputsView → Type 0 = λ v. IsNext v (next.Read c.args.input) in
     let a = get-among c.self.inside.cursors.items c.args.input c.index_mut-cursor.result.now c.index_mut-cursor.result.now (subst W (sym c.self.view_is) c.requires.within) c.index_mut-cursor.ensures.value in
-    schedule-for c.self.inside.schedule c.self.inside.cursors.items c.args.input c.index_mut-cursor.result.now _ c.self.inside.queue a (subst T (sym c.self.view_is) c.requires.next) c.self.invariant
+    let at : IsNextAt c.self.inside.schedule c.self.inside.cursors.items (next.Read c.args.input) = read-at c.self.inside.schedule c.self.inside.cursors.items c.args.input c.self.invariant.1 (subst T (sym c.self.view_is) c.requires.next) in
+    room-for c.self.inside.schedule c.self.inside.cursors.items c.args.input c.index_mut-cursor.result.now _ c.self.inside.queue a at c.self.invariant.0
 
 pub invariant_of-self : goal.invariant_of-self
 invariant_of-self g c =
     let W : InputsView → Type 0 = λ v. c.args.input < length v.cursors in
-    let T : InputsView → Type 0 = λ v. IsNext v.schedule v.cursors (next.Read c.args.input) in
+    let T : InputsView → Type 0 = λ v. IsNext v (next.Read c.args.input) in
     let a = get-among c.self.inside.cursors.items c.args.input c.index_mut-cursor.result.now c.index_mut-cursor.result.now (subst W (sym c.self.view_is) c.requires.within) c.index_mut-cursor.ensures.value in
-    let E : InputView → Type 0 = λ h. Enters (h.waiting && is_merge c.self.inside.schedule) (record { time = c.key.result; input = c.args.input }) c.self.inside.queue c.go_on.new.queue in
-    let K : ℕ → Type 0 = λ n. Enters (c.advance-result.new.self.waiting && is_merge c.self.inside.schedule) (record { time = n; input = c.args.input }) c.self.inside.queue c.go_on.new.queue in
-    let P : Schedule → Type 0 = λ p. HoldsQueue p (slice_set c.self.inside.cursors.items c.args.input c.advance-result.new.self) c.go_on.new.queue in
-    subst P (sym c.go_on.ensures.schedule)
-    (fetched c.self.inside.schedule c.self.inside.cursors.items c.args.input c.index_mut-cursor.result.now c.advance-result.new.self c.is_end.result c.self.inside.queue c.go_on.new.queue
-    a (subst T (sym c.self.view_is) c.requires.next) (subst K c.key.ensures (subst E c.cursor.view_is c.go_on.ensures.queue)) c.self.invariant)
+    let at : IsNextAt c.self.inside.schedule c.self.inside.cursors.items (next.Read c.args.input) = read-at c.self.inside.schedule c.self.inside.cursors.items c.args.input c.self.invariant.1 (subst T (sym c.self.view_is) c.requires.next) in
+    let waits = ap (λ (h : InputView). h.waiting) c.advance-result.ensures.is in
+    let K : ℕ → Type 0 = λ n. Enters (is_packet_found c.advance-result.result && is_merge c.self.inside.schedule) (record { time = n; input = c.args.input }) c.self.inside.queue c.go_on.new.queue in
+    let cursors' = slice_set c.self.inside.cursors.items c.args.input c.advance-result.new.self in
+    let P : Schedule → Type 0 = λ p. HoldsQueue p cursors' c.go_on.new.queue in
+    let Q : Schedule → Type 0 = λ p. IsPlaced p cursors' in (
+      subst P (sym c.go_on.ensures.schedule)
+          (queue-read c.self.inside.schedule c.self.inside.cursors.items c.args.input c.index_mut-cursor.result.now c.advance-result.new.self c.advance-result.result c.self.inside.queue c.go_on.new.queue
+          a at waits (subst K c.key.ensures c.go_on.ensures.queue) c.self.invariant.0),
+      subst Q (sym c.go_on.ensures.schedule)
+          (placed-read c.self.inside.schedule c.self.inside.cursors.items c.args.input c.index_mut-cursor.result.now c.advance-result.new.self c.advance-result.result
+          a at waits (ap (λ (h : InputView). h.source.phase) c.advance-result.ensures.is ∙ c.advance-result.ensures.phase) c.self.invariant.1),
+    )

@@ -1,11 +1,10 @@
 use Rattle.std.proofs.Common.{◌≡◌, ◌+◌, Ok, Err, IsTrue, List, ℕ, subst, sym, ◌∙◌, ap, arith, Bool, refl, Option, None, Some}
-use Rattle.std.specs.List.{slice_set}
 use Rattle.cap_filter.specs.Outcome.{OutputView}
 use Rattle.cap_tools.specs.declared.step.JobEnd.{JobEnd}
 use Rattle.cap_tools.specs.Output.{output_at}
 use Rattle.cap_inputs.specs.declared.inputs.Next.TheVariants as next
 use Rattle.cap_tools.specs.declared.step.JobEnd.TheVariants as end
-use Rattle.cap_inputs.specs.Inputs.{InputsView, InputView, InputPast, input_behind, schedule_behind}
+use Rattle.cap_inputs.specs.Inputs.{InputsView, InputView, InputPast, input_behind, with_cursor}
 use Rattle.cap_inputs.specs.Inputs as input_spec
 use Rattle.cap_tools.specs.Verdict.{Policy}
 use Rattle.cap_tools.specs.Selector.{SelectorView, policy_state}
@@ -17,24 +16,23 @@ use Rattle.cap_tools.specs.Bounds.{decides_one, leaves_one}
 use Rattle.cap_tools.specs.Step.{IsStep}
 use Rattle.cap_tools.proofs.Answers.{answer-leaves, AnswerLeaves}
 use Rattle.cap_tools.proofs.Fetches.{mk, among-same}
-use Rattle.cap_tools.proofs.Held.{answer-waits, held}
+use Rattle.cap_tools.proofs.Held.{held}
 use Rattle.cap_tools.proofs.Kept.{counted-kept, few-kept}
-use Rattle.cap_tools.proofs.Lefts.{mark_decided-less}
+use Rattle.cap_tools.proofs.Lefts.{mark_decided-less, mark_decided-paid, to-decide}
 use Rattle.cap_tools.proofs.Preparing.{ready-none}
 use Rattle.cap_tools.proofs.Programs.{have-decided}
-use Rattle.cap_tools.proofs.Turns.{mark_decided-paid}
 use Rattle.cap_tools.proofs.Weights.{is-light, mark_decided-small}
 use Rattle.cap_tools.proofs.job.Job.decide_next.Goals as goal
 use Rattle.cap_tools.proofs.job.Job.decide_next.Goals.{then-last, else-last}
 
 pub decide-requires : goal.decide-requires
 decide-requires g c =
-    let N : JobView → Type 0 = λ v. input_spec.IsNext v.machine.inputs.schedule v.machine.inputs.cursors (next.Decide c.args.input) in
-    answer-waits c.self.inside.inputs.schedule c.self.inside.inputs.cursors c.args.input c.cursor.result.now (subst N (sym c.self.view_is) c.requires.next) c.cursor.ensures
+    let N : JobView → Type 0 = λ v. input_spec.IsNext v.machine.inputs (next.Decide c.args.input) in
+    to-decide c.self.inside.inputs.order c.self.inside.inputs.cursors c.args.input c.cursor.result.now (subst N (sym c.self.view_is) c.requires.next) c.cursor.ensures
 
 pub invariant_of-self : goal.invariant_of-self
 invariant_of-self g c =
-    let N : JobView → Type 0 = λ v. input_spec.IsNext v.machine.inputs.schedule v.machine.inputs.cursors (next.Decide c.args.input) in
+    let N : JobView → Type 0 = λ v. input_spec.IsNext v.machine.inputs (next.Decide c.args.input) in
     let tells = subst N (sym c.self.view_is) c.requires.next in
     let less = mark_decided-less c.self.inside.inputs c.mark_decided.new.self c.args.input tells c.mark_decided.ensures in
     let paid = mark_decided-paid c.self.inside.inputs c.mark_decided.new.self c.args.input tells c.mark_decided.ensures in
@@ -67,7 +65,7 @@ returns-in-Err g c =
     let err : OutputView = c.self.inside.messages.device in
     let left : Policy → MachineState = λ k. record { inputs = c.self.inside.inputs; policy = k; state = j.state; output = output_at c.self.inside.messages.names c.decide.new.output; decided = c.self.inside.decided } in
     let new : JobView = record { preparing = preparing; machine = left j.policy; programs = j.programs; err = err; turns = c.self.inside.turns; done = c.self.inside.done } in
-    let N : JobView → Type 0 = λ v. input_spec.IsNext v.machine.inputs.schedule v.machine.inputs.cursors (next.Decide c.args.input) in
+    let N : JobView → Type 0 = λ v. input_spec.IsNext v.machine.inputs (next.Decide c.args.input) in
     let tells = subst N (sym c.self.view_is) c.requires.next in
     let h = held c.cursor.result.now.source.packet c.self.inside.selector (c.self.inside.decided + 1) c.decide.new.selector c.decide.ensures.spends in
     let P : JobView → Type 0 = λ v. IsStep g.I.Input.tells g.O.Output.tells v (Some (unwritten c.args.input c.in-Err.fault)) new in
@@ -75,10 +73,10 @@ returns-in-Err g c =
       told = λ ti to ss before d.
           let K : Policy → Type 0 = λ k. EndLeaves d (unwritten c.args.input c.in-Err.fault) (left k) in
           subst K (sym c.in-Err.ensures.policy)
-          (answer-leaves ss before m.inputs.cursors m.inputs.schedule m.policy m.state m.output m.decided c.args.input (Err c.in-Err.fault) c.cursor.result.now (policy_state j) (output_at c.self.inside.messages.names c.decide.new.output) refl tells c.cursor.ensures c.in-Err.ensures.policy c.in-Err.ensures.passed c.in-Err.ensures.counted (let i = c.self.invariant.0 in omega (arith, i)) (c.in-Err.ensures.told to) d);
+          (answer-leaves ss before m.inputs.cursors m.inputs.order m.policy m.state m.output m.decided c.args.input (Err c.in-Err.fault) c.cursor.result.now (policy_state j) (output_at c.self.inside.messages.names c.decide.new.output) refl tells c.cursor.ensures c.in-Err.ensures.policy c.in-Err.ensures.passed c.in-Err.ensures.counted (let i = c.self.invariant.0 in omega (arith, i)) (c.in-Err.ensures.told to) d);
       reads = leaves_one c.args.input refl (record {
         packet = h.packet;
-        holds = record { cursor = c.cursor.result.now; among = c.cursor.ensures; waits = answer-waits m.inputs.schedule m.inputs.cursors c.args.input c.cursor.result.now tells c.cursor.ensures; held = h.is };
+        holds = record { cursor = c.cursor.result.now; among = c.cursor.ensures; waits = to-decide m.inputs.order m.inputs.cursors c.args.input c.cursor.result.now tells c.cursor.ensures; held = h.is };
         inputs = refl;
         decided = refl;
         programs = h.spends;
@@ -105,24 +103,24 @@ returns-after-last g c =
     let left : InputsView → Policy → MachineState = λ f k. record { inputs = f; policy = k; state = j.state; output = output_at c.self.inside.messages.names c.decide.new.output; decided = c.self.inside.decided + 1 } in
     let was : JobView = record { preparing = preparing; machine = m; programs = c.self.inside.selector.programs; err = err; turns = c.self.inside.turns; done = c.self.inside.done } in
     let new : JobView = record { preparing = preparing; machine = left c.mark_decided.new.self j.policy; programs = j.programs; err = err; turns = c.self.inside.turns; done = c.self.inside.done } in
-    let N : JobView → Type 0 = λ v. input_spec.IsNext v.machine.inputs.schedule v.machine.inputs.cursors (next.Decide c.args.input) in
+    let N : JobView → Type 0 = λ v. input_spec.IsNext v.machine.inputs (next.Decide c.args.input) in
     let tells = subst N (sym c.self.view_is) c.requires.next in
-    let behind : InputView → InputsView = λ v. record { cursors = slice_set m.inputs.cursors c.args.input (input_behind v); schedule = schedule_behind m.inputs.schedule c.args.input } in
+    let behind : InputView → InputsView = λ v. with_cursor m.inputs c.args.input (input_behind v) in
     let same = among-same m.inputs.cursors c.args.input c.cursor.result.now c.mark_decided.ensures.cursor c.cursor.ensures c.mark_decided.ensures.among in
     let inputs : c.mark_decided.new.self ≡ behind c.cursor.result.now = c.mark_decided.ensures.is ∙ ap behind (sym same) in
-    let failed : MachineState = mk m.inputs.cursors m.inputs.schedule m.policy j.state (output_at c.self.inside.messages.names c.decide.new.output) m.decided in
+    let failed : MachineState = mk m.inputs.cursors m.inputs.order m.policy j.state (output_at c.self.inside.messages.names c.decide.new.output) m.decided in
     let all : (ss : List InputPast) (before : List ℕ) (d : PacketsDecided ss before m) → IsTrue g.O.Output.tells → AnswerLeaves d c.args.input (Ok c.in-Ok.last) (left c.mark_decided.new.self j.policy) failed = λ ss before d to.
     let NF : InputsView → Type 0 = λ f. AnswerLeaves d c.args.input (Ok c.in-Ok.last) (left f m.policy) failed in
     let NK : Policy → Type 0 = λ k. AnswerLeaves d c.args.input (Ok c.in-Ok.last) (left c.mark_decided.new.self k) failed in
     subst NK (sym c.in-Ok.ensures.policy) (subst NF (sym inputs)
-    (answer-leaves ss before m.inputs.cursors m.inputs.schedule m.policy m.state m.output m.decided c.args.input (Ok c.in-Ok.last) c.cursor.result.now (policy_state j) (output_at c.self.inside.messages.names c.decide.new.output) refl tells c.cursor.ensures c.in-Ok.ensures.policy c.in-Ok.ensures.passed c.in-Ok.ensures.counted (let i = c.self.invariant.0 in omega (arith, i)) (c.in-Ok.ensures.told to) d)) in
+    (answer-leaves ss before m.inputs.cursors m.inputs.order m.policy m.state m.output m.decided c.args.input (Ok c.in-Ok.last) c.cursor.result.now (policy_state j) (output_at c.self.inside.messages.names c.decide.new.output) refl tells c.cursor.ensures c.in-Ok.ensures.policy c.in-Ok.ensures.passed c.in-Ok.ensures.counted (let i = c.self.invariant.0 in omega (arith, i)) (c.in-Ok.ensures.told to) d)) in
     let h = held c.cursor.result.now.source.packet c.self.inside.selector (c.self.inside.decided + 1) c.decide.new.selector c.decide.ensures.spends in
     let S : Option JobEnd → JobView → Type 0 = λ r v. IsStep g.I.Input.tells g.O.Output.tells v r new in
     let step : (r : Option JobEnd) → (IsTrue g.O.Output.tells → StepGives m r new.machine) → S r was = λ r told. record {
       told = λ ti to. told to;
       reads = decides_one c.args.input (record {
         packet = h.packet;
-        holds = record { cursor = c.cursor.result.now; among = c.cursor.ensures; waits = answer-waits m.inputs.schedule m.inputs.cursors c.args.input c.cursor.result.now tells c.cursor.ensures; held = h.is };
+        holds = record { cursor = c.cursor.result.now; among = c.cursor.ensures; waits = to-decide m.inputs.order m.inputs.cursors c.args.input c.cursor.result.now tells c.cursor.ensures; held = h.is };
         settles = c.mark_decided.ensures;
         decided = refl;
         programs = h.spends;

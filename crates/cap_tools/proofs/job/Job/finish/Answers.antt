@@ -25,11 +25,11 @@ returns g c =
     let err : OutputView = c.self.inside.messages.device in
     let left : MachineState = record { inputs = c.self.inside.inputs; policy = c.self.inside.selector.policy; state = c.self.inside.selector.state; output = output_at c.self.inside.messages.names c.finish.new.self; decided = c.self.inside.decided } in
     let new : JobView = record { preparing = preparing; machine = left; programs = c.self.inside.selector.programs; err = err; turns = c.self.inside.turns; done = c.self.inside.done } in
-    let N : JobView → Type 0 = λ v. input_spec.IsNext v.machine.inputs.schedule v.machine.inputs.cursors next.Finish in
+    let N : JobView → Type 0 = λ v. input_spec.IsNext v.machine.inputs next.Finish in
     let tells = subst N (sym c.self.view_is) c.requires.next in
     let F : Option ℕ → Type 0 = λ o. Finishes o m.output.target c.finish.result left.output.target in
     let all : (ss : List InputPast) (before : List ℕ) (d : PacketsDecided ss before m) → IsTrue g.O.Output.tells → FinishLeaves d c.finish.result left = λ ss before d to.
-    finish-leaves ss before m.inputs.cursors m.inputs.schedule m.policy m.state m.output m.decided c.finish.result left tells refl (subst F c.first_link-first.ensures (c.finish.ensures.told to)) d in
+    finish-leaves ss before m.inputs.cursors m.inputs.order m.policy m.state m.output m.decided c.finish.result left tells refl (subst F c.first_link-first.ensures (c.finish.ensures.told to)) d in
     let S : JobEnd → JobView → Type 0 = λ e v. IsStep g.I.Input.tells g.O.Output.tells v (Some e) new in
     let step : (e : JobEnd) → ((ss : List InputPast) (before : List ℕ) (d : PacketsDecided ss before m) → IsTrue g.O.Output.tells → EndLeaves d e left) → S e c.args.self.now = λ e told.
     let Q : JobView → Type 0 = λ v. S e v in

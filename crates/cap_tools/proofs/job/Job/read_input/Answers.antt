@@ -1,11 +1,10 @@
-use Rattle.std.proofs.Common.{◌≡◌, ◌<◌, ◌∙◌, ◌&&◌, length, Bool, true, false, Result, Ok, Some, refl, sym, ap, arith, subst, Option, None}
+use Rattle.std.proofs.Common.{◌≡◌, ◌∙◌, ◌&&◌, Bool, true, false, Result, Ok, Some, refl, sym, ap, arith, subst, Option, None}
 use Rattle.cap_octet.specs.declared.fault.Fault.{Fault}
 use Rattle.cap_filter.specs.Outcome.{OutputView}
 use Rattle.cap_tools.specs.Output.{output_at}
 use Rattle.cap_inputs.specs.declared.inputs.Next.TheVariants as next
 use Rattle.cap_tools.specs.declared.step.JobEnd.TheVariants as end
-use Rattle.cap_inputs.specs.Sequence.{PacketOrder}
-use Rattle.cap_inputs.specs.Inputs.{InputsView, is_clean_end, ordering_of}
+use Rattle.cap_inputs.specs.Inputs.{InputsView, is_clean_end}
 use Rattle.cap_inputs.specs.Inputs as input_spec
 use Rattle.cap_tools.specs.Verdict.{Policy}
 use Rattle.cap_tools.specs.Selector.{SelectorView, policy_state}
@@ -15,24 +14,20 @@ use Rattle.std.specs.Option.{option_map}
 use Rattle.cap_tools.specs.Jobs.{machine_at, JobView}
 use Rattle.cap_tools.specs.Bounds.{reads_on, is_fault}
 use Rattle.cap_tools.specs.Step.{IsStep}
-use Rattle.cap_tools.proofs.Laws.{after-order}
 use Rattle.cap_tools.proofs.Preparing.{ready-none}
 use Rattle.cap_tools.proofs.Programs.{have-kept}
 use Rattle.cap_tools.proofs.Fetches.{Follows, FetchLeaves, read_input-leaves}
 use Rattle.cap_tools.proofs.Kept.{counted-kept, counted-turns, few-kept}
-use Rattle.cap_tools.proofs.Lefts.{Goes, read_input-kept, read_input-less}
-use Rattle.cap_tools.proofs.Turns.{read_input-paid}
+use Rattle.cap_tools.proofs.Lefts.{Goes, read_input-kept, read_input-less, read_input-paid}
 use Rattle.cap_tools.proofs.Weights.{read_input-small, is-light}
 use Rattle.cap_tools.proofs.job.Job.read_input.Goals as goal
 
 pub invariant_of-self : goal.invariant_of-self
 invariant_of-self g c =
-    let N : JobView → Type 0 = λ v. input_spec.IsNext v.machine.inputs.schedule v.machine.inputs.cursors (next.Read c.args.input) in
-    let W : JobView → Type 0 = λ v. c.args.input < length v.machine.inputs.cursors in
+    let N : JobView → Type 0 = λ v. input_spec.IsNext v.machine.inputs (next.Read c.args.input) in
     let tells = subst N (sym c.self.view_is) c.requires.next in
-    let within = subst W (sym c.self.view_is) c.requires.within in
-    let less = read_input-kept c.self.inside.inputs c.read_input.new.self c.args.input c.read_input.result tells within c.read_input.ensures.steps in
-    let paid = read_input-paid c.self.inside.inputs c.read_input.new.self c.args.input c.read_input.result tells within c.read_input.ensures.steps (subst Goes (sym c.in-Ok-true.is) tt) in
+    let less = read_input-kept c.self.inside.inputs c.read_input.new.self c.args.input c.read_input.result tells c.read_input.ensures.steps in
+    let paid = read_input-paid c.self.inside.inputs c.read_input.new.self c.args.input c.read_input.result tells c.read_input.ensures.steps (subst Goes (sym c.in-Ok-true.is) tt) in
     let was = c.self.invariant.0 in (
       omega (arith, less, was),
       (read_input-small c.self.inside.inputs c.read_input.new.self c.args.input c.read_input.result c.read_input.ensures.steps c.self.invariant.1.0, c.self.invariant.1.1),
@@ -45,12 +40,10 @@ invariant_of-self g c =
 
 pub invariant_of-self-in-Ok-false : goal.invariant_of-self-in-Ok-false
 invariant_of-self-in-Ok-false g c =
-    let N : JobView → Type 0 = λ v. input_spec.IsNext v.machine.inputs.schedule v.machine.inputs.cursors (next.Read c.args.input) in
-    let W : JobView → Type 0 = λ v. c.args.input < length v.machine.inputs.cursors in
+    let N : JobView → Type 0 = λ v. input_spec.IsNext v.machine.inputs (next.Read c.args.input) in
     let tells = subst N (sym c.self.view_is) c.requires.next in
-    let within = subst W (sym c.self.view_is) c.requires.within in
-    let less = read_input-kept c.self.inside.inputs c.read_input.new.self c.args.input c.read_input.result tells within c.read_input.ensures.steps in
-    let paid = read_input-paid c.self.inside.inputs c.read_input.new.self c.args.input c.read_input.result tells within c.read_input.ensures.steps (subst Goes (sym c.in-Ok-false.is) tt) in
+    let less = read_input-kept c.self.inside.inputs c.read_input.new.self c.args.input c.read_input.result tells c.read_input.ensures.steps in
+    let paid = read_input-paid c.self.inside.inputs c.read_input.new.self c.args.input c.read_input.result tells c.read_input.ensures.steps (subst Goes (sym c.in-Ok-false.is) tt) in
     let was = c.self.invariant.0 in (
       omega (arith, less, was),
       (read_input-small c.self.inside.inputs c.read_input.new.self c.args.input c.read_input.result c.read_input.ensures.steps c.self.invariant.1.0, c.close.ensures.few c.self.invariant.1.1),
@@ -63,11 +56,9 @@ invariant_of-self-in-Ok-false g c =
 
 pub invariant_of-self-in-Err : goal.invariant_of-self-in-Err
 invariant_of-self-in-Err g c =
-    let N : JobView → Type 0 = λ v. input_spec.IsNext v.machine.inputs.schedule v.machine.inputs.cursors (next.Read c.args.input) in
-    let W : JobView → Type 0 = λ v. c.args.input < length v.machine.inputs.cursors in
+    let N : JobView → Type 0 = λ v. input_spec.IsNext v.machine.inputs (next.Read c.args.input) in
     let tells = subst N (sym c.self.view_is) c.requires.next in
-    let within = subst W (sym c.self.view_is) c.requires.within in
-    let less = read_input-kept c.self.inside.inputs c.read_input.new.self c.args.input c.read_input.result tells within c.read_input.ensures.steps in
+    let less = read_input-kept c.self.inside.inputs c.read_input.new.self c.args.input c.read_input.result tells c.read_input.ensures.steps in
     let was = c.self.invariant.0 in (
       omega (arith, less, was),
       (read_input-small c.self.inside.inputs c.read_input.new.self c.args.input c.read_input.result c.read_input.ensures.steps c.self.invariant.1.0, c.self.invariant.1.1),
@@ -86,10 +77,8 @@ returns-in-Ok-true g c =
     let err : OutputView = c.self.inside.messages.device in
     let left : MachineState = record { inputs = c.read_input.new.self; policy = j.policy; state = j.state; output = output_at c.self.inside.messages.names c.self.inside.output; decided = c.self.inside.decided } in
     let new : JobView = record { preparing = preparing; machine = left; programs = j.programs; err = err; turns = c.self.inside.turns; done = c.self.inside.done } in
-    let N : JobView → Type 0 = λ v. input_spec.IsNext v.machine.inputs.schedule v.machine.inputs.cursors (next.Read c.args.input) in
-    let W : JobView → Type 0 = λ v. c.args.input < length v.machine.inputs.cursors in
+    let N : JobView → Type 0 = λ v. input_spec.IsNext v.machine.inputs (next.Read c.args.input) in
     let tells = subst N (sym c.self.view_is) c.requires.next in
-    let within = subst W (sym c.self.view_is) c.requires.within in
     let found : c.read_input.result ≡ Ok true = c.in-Ok-true.is ∙ ap Ok c.in-Ok-true.field-0-test in
     let F : Result Bool Fault → Type 0 = λ a. Follows a c.read_input.new.self c.args.input (policy_state j) m.output None (policy_state j) m.output in
     let P : JobView → Type 0 = λ v. IsStep g.I.Input.tells g.O.Output.tells v None new in
@@ -97,10 +86,10 @@ returns-in-Ok-true g c =
       told = λ ti to ss before d.
           let L : Result Bool Fault → Type 0 = λ a. FetchLeaves d c.args.input a None left in
           subst L found
-          (read_input-leaves ss before m.inputs.cursors m.inputs.schedule m.policy m.state m.output m.decided c.args.input c.read_input.result c.read_input.new.self None (policy_state j) m.output tells (c.read_input.ensures.told ti) d (subst F (sym found) (refl, refl)));
+          (read_input-leaves ss before m.inputs.cursors m.inputs.order m.policy m.state m.output m.decided c.args.input c.read_input.result c.read_input.new.self None (policy_state j) m.output tells (c.read_input.ensures.told ti) d (subst F (sym found) (refl, refl)));
       reads = reads_on c.args.input c.read_input.result (λ on. ap is_fault c.in-Ok-true.is) (record { fetches = c.read_input.ensures.steps; told = c.read_input.ensures.told; decided = refl; programs = refl; output = λ on. refl });
-      progress = λ more. read_input-less c.self.inside.inputs c.read_input.new.self c.args.input c.read_input.result tells within c.read_input.ensures.steps (subst Goes (sym c.in-Ok-true.is) tt);
-      paid = λ more. read_input-paid c.self.inside.inputs c.read_input.new.self c.args.input c.read_input.result tells within c.read_input.ensures.steps (subst Goes (sym c.in-Ok-true.is) tt);
+      progress = λ more. read_input-less c.self.inside.inputs c.read_input.new.self c.args.input c.read_input.result tells c.read_input.ensures.steps (subst Goes (sym c.in-Ok-true.is) tt);
+      paid = λ more. read_input-paid c.self.inside.inputs c.read_input.new.self c.args.input c.read_input.result tells c.read_input.ensures.steps (subst Goes (sym c.in-Ok-true.is) tt);
       light = is-light left (read_input-small c.self.inside.inputs c.read_input.new.self c.args.input c.read_input.result c.read_input.ensures.steps c.self.invariant.1.0, c.self.invariant.1.1) c.self.invariant.2;
       sound = c.self.invariant.3;
       policy = refl;
@@ -120,10 +109,8 @@ returns-in-Ok-false g c =
     let err : OutputView = c.self.inside.messages.device in
     let left : Policy → MachineState = λ k. record { inputs = c.read_input.new.self; policy = k; state = j'.state; output = output_at c.self.inside.messages.names c.close.new.output; decided = c.self.inside.decided } in
     let new : JobView = record { preparing = preparing; machine = left j'.policy; programs = j'.programs; err = err; turns = c.self.inside.turns; done = c.self.inside.done } in
-    let N : JobView → Type 0 = λ v. input_spec.IsNext v.machine.inputs.schedule v.machine.inputs.cursors (next.Read c.args.input) in
-    let W : JobView → Type 0 = λ v. c.args.input < length v.machine.inputs.cursors in
+    let N : JobView → Type 0 = λ v. input_spec.IsNext v.machine.inputs (next.Read c.args.input) in
     let tells = subst N (sym c.self.view_is) c.requires.next in
-    let within = subst W (sym c.self.view_is) c.requires.within in
     let found : c.read_input.result ≡ Ok false = c.in-Ok-false.is ∙ ap Ok c.in-Ok-false.field-0-test in
     let F : Result Bool Fault → Type 0 = λ a. Follows a c.read_input.new.self c.args.input (policy_state j) m.output c.close.result (policy_state j') (output_at c.self.inside.messages.names c.close.new.output) in
     let P : JobView → Type 0 = λ v. IsStep g.I.Input.tells g.O.Output.tells v c.close.result new in
@@ -132,7 +119,7 @@ returns-in-Ok-false g c =
           let L : Result Bool Fault → Type 0 = λ a. FetchLeaves d c.args.input a c.close.result (left m.policy) in
           let K : Policy → Type 0 = λ k. StepLeaves d c.close.result (left k) in
           subst K (sym c.close.ensures.policy) (subst L found
-          (read_input-leaves ss before m.inputs.cursors m.inputs.schedule m.policy m.state m.output m.decided c.args.input c.read_input.result c.read_input.new.self c.close.result (policy_state j') (output_at c.self.inside.messages.names c.close.new.output) tells (c.read_input.ensures.told ti) d (subst F (sym found) (c.close.ensures.told to))));
+          (read_input-leaves ss before m.inputs.cursors m.inputs.order m.policy m.state m.output m.decided c.args.input c.read_input.result c.read_input.new.self c.close.result (policy_state j') (output_at c.self.inside.messages.names c.close.new.output) tells (c.read_input.ensures.told ti) d (subst F (sym found) (c.close.ensures.told to))));
       reads = reads_on c.args.input c.read_input.result (λ on. ap is_fault c.in-Ok-false.is) (record {
         fetches = c.read_input.ensures.steps;
         told = c.read_input.ensures.told;
@@ -140,13 +127,12 @@ returns-in-Ok-false g c =
         programs = c.close.ensures.programs;
         output = λ none.
             let closed : is_clean_end c.read_input.result ≡ true = ap is_clean_end found in
-            let K : Bool → Type 0 = λ b. (b && asks_report (ordering_of c.self.inside.inputs.schedule) c.self.inside.selector.policy) ≡ false in
-            ap (output_at c.self.inside.messages.names) (c.close.ensures.kept (ap (λ (f : InputsView). asks_report (ordering_of f.schedule) c.self.inside.selector.policy) c.read_input.ensures.steps.is
-            ∙ ap (λ (o : PacketOrder). asks_report o c.self.inside.selector.policy) (after-order c.self.inside.inputs.schedule c.args.input (is_clean_end c.read_input.result))
+            let K : Bool → Type 0 = λ b. (b && asks_report c.self.inside.inputs.order c.self.inside.selector.policy) ≡ false in
+            ap (output_at c.self.inside.messages.names) (c.close.ensures.kept (ap (λ (f : InputsView). asks_report f.order c.self.inside.selector.policy) c.read_input.ensures.steps.is
             ∙ subst K closed none));
       });
-      progress = λ more. read_input-less c.self.inside.inputs c.read_input.new.self c.args.input c.read_input.result tells within c.read_input.ensures.steps (subst Goes (sym c.in-Ok-false.is) tt);
-      paid = λ more. read_input-paid c.self.inside.inputs c.read_input.new.self c.args.input c.read_input.result tells within c.read_input.ensures.steps (subst Goes (sym c.in-Ok-false.is) tt);
+      progress = λ more. read_input-less c.self.inside.inputs c.read_input.new.self c.args.input c.read_input.result tells c.read_input.ensures.steps (subst Goes (sym c.in-Ok-false.is) tt);
+      paid = λ more. read_input-paid c.self.inside.inputs c.read_input.new.self c.args.input c.read_input.result tells c.read_input.ensures.steps (subst Goes (sym c.in-Ok-false.is) tt);
       light = is-light (left j'.policy) (read_input-small c.self.inside.inputs c.read_input.new.self c.args.input c.read_input.result c.read_input.ensures.steps c.self.invariant.1.0, c.close.ensures.few c.self.invariant.1.1) (c.close.ensures.marks c.self.invariant.2);
       sound = have-kept j j' c.close.ensures.programs c.close.ensures.policy c.self.invariant.3;
       policy = c.close.ensures.policy;
@@ -165,17 +151,15 @@ returns-in-Err g c =
     let err : OutputView = c.self.inside.messages.device in
     let left : MachineState = record { inputs = c.read_input.new.self; policy = j.policy; state = j.state; output = output_at c.self.inside.messages.names c.self.inside.output; decided = c.self.inside.decided } in
     let new : JobView = record { preparing = preparing; machine = left; programs = j.programs; err = err; turns = c.self.inside.turns; done = Some 1 } in
-    let N : JobView → Type 0 = λ v. input_spec.IsNext v.machine.inputs.schedule v.machine.inputs.cursors (next.Read c.args.input) in
-    let W : JobView → Type 0 = λ v. c.args.input < length v.machine.inputs.cursors in
+    let N : JobView → Type 0 = λ v. input_spec.IsNext v.machine.inputs (next.Read c.args.input) in
     let tells = subst N (sym c.self.view_is) c.requires.next in
-    let within = subst W (sym c.self.view_is) c.requires.within in
     let F : Result Bool Fault → Type 0 = λ a. Follows a c.read_input.new.self c.args.input (policy_state j) m.output None (policy_state j) m.output in
     let P : JobView → Type 0 = λ v. IsStep g.I.Input.tells g.O.Output.tells v (Some (end.FaultIn c.args.input c.in-Err.fault)) new in
     subst P c.self.view_is (record {
       told = λ ti to ss before d.
           let L : Result Bool Fault → Type 0 = λ a. FetchLeaves d c.args.input a None left in
           subst L c.in-Err.is
-          (read_input-leaves ss before m.inputs.cursors m.inputs.schedule m.policy m.state m.output m.decided c.args.input c.read_input.result c.read_input.new.self None (policy_state j) m.output tells (c.read_input.ensures.told ti) d (subst F (sym c.in-Err.is) (refl, refl)));
+          (read_input-leaves ss before m.inputs.cursors m.inputs.order m.policy m.state m.output m.decided c.args.input c.read_input.result c.read_input.new.self None (policy_state j) m.output tells (c.read_input.ensures.told ti) d (subst F (sym c.in-Err.is) (refl, refl)));
       reads = reads_on c.args.input c.read_input.result (λ on. (cc)) (record { fetches = c.read_input.ensures.steps; told = c.read_input.ensures.told; decided = refl; programs = refl; output = λ on. refl });
       progress = λ more. (cc);
       paid = λ more. (cc);
