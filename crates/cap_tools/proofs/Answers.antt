@@ -29,7 +29,7 @@ use Rattle.cap_tools.specs.declared.step.JobEnd.TheVariants as end
 use Rattle.cap_inputs.specs.declared.inputs.Next.TheVariants as next
 use Rattle.cap_tools.specs.Reports.{Tally}
 use Rattle.cap_inputs.specs.Sequence.{InputItems, Event, Packet, SequenceEnd, Complete, FaultIn, Sequence, sequence_of, with_front, PacketOrder}
-use Rattle.cap_tools.specs.Verdict.{Policy, Edit, Filter, KeepAll, Count, EditRule, SelectorState, Verdict, Pass, PassLast, Skip, Refuse, judge}
+use Rattle.cap_tools.specs.Verdict.{Policy, Edit, Filter, KeepAll, Count, EditRule, SelectorState, Verdict, Pass, PassLast, PassesAs, Skip, Refuse, judge}
 use Rattle.cap_window.specs.Marks.{mark_of, has_same}
 use Rattle.cap_tools.specs.Verdict as judged_spec
 use Rattle.cap_tools.specs.Selector.{PolicyState, GrowsByOne, IsWithin, IsVerdict}
@@ -40,7 +40,7 @@ use Rattle.cap_tools.specs.Outcome as course_spec
 use Rattle.cap_tools.specs.Output.{JobOutputView, Target, Capture, Text, Lines, HasWritten, Puts, form_at, form_to, output_at, written_to, failures_to}
 use Rattle.cap_inputs.specs.Inputs.{InputView, InputsView, Future, InputPast, AreInputsBehind, AreSettled, IsInput, input_behind, actual_future, inputs_with, items_left, inputs_left, sequence_left, most_steps}
 use Rattle.cap_inputs.specs.Inputs as input_spec
-use Rattle.cap_tools.specs.Machine.{MachineState, PacketsDecided, GoesOn, Comes, Decides, Offers, StopsWriting, NextPacket, PassesAs, EndLeaves, progress_at, progress_of, progress_over, form_of, wholes_of, work_of, written_by, unwritten, sieve}
+use Rattle.cap_tools.specs.Machine.{MachineState, PacketsDecided, GoesOn, Comes, Decides, Offers, StopsWriting, NextPacket, EndLeaves, progress_at, progress_of, progress_over, form_of, wholes_of, work_of, written_by, unwritten, sieve}
 use Rattle.cap_tools.proofs.Splits.{At, stands-split, stands-join, stands-length, rests-join, finish-here, come-on}
 use Rattle.cap_tools.proofs.Coming.{carries-decided, come-first, true-wholes, true-fit, true-fits}
 use Rattle.cap_tools.proofs.Outputs.{drained-text, PutOk, put-ok, WhyUnput, lines-more, unput, closing-some}
@@ -329,12 +329,12 @@ unput-capture : (ss : List InputPast) (before : List ℕ) (cursors : List InputV
     → (d : PacketsDecided ss before (mk cursors order policy state (record { names = names; target = Capture sink }) decided)) → Ahead ss cursors order d.events (Packet turn x)
     → apply_event policy (AsCapture sink.format) (progress_of d) (Packet turn x) ≡ decide_unless (refused sink.format d.packets q) (progress_of d) turn x state' q o
     → input_spec.IsNext (inputs_at order cursors) (next.Decide turn) → new.inputs ≡ record { order = order; cursors = cursors } → (cursor : InputView) → IsInput new.inputs.cursors turn cursor → cursor.source.offset ≡ x.offset
-    → AnswersNext d new q → WhyUnput fault sink d.packets q sink' → new.output.target ≡ Capture sink'
+    → PassesAs (judge policy state (decided + 1) x.packet).verdict q → AnswersNext d new q → WhyUnput fault sink d.packets q sink' → new.output.target ≡ Capture sink'
     → EndLeaves d (unwritten turn fault) new
-unput-capture ss before cursors order turn policy state state' names sink sink' decided new x q o WriteFailed d ahead went tells same_feed cursor among offset answers why is =
+unput-capture ss before cursors order turn policy state state' names sink sink' decided new x q o WriteFailed d ahead went tells same_feed cursor among offset passes answers why is =
     stops-writing ss before cursors order policy state state' names sink sink' decided new (Packet turn x) q o d ahead
     (went ∙ ap (λ (f : Option Fault). decide_unless f (progress_of d) turn x state' q o) why.0) answers why is
-unput-capture ss before cursors order turn policy state state' names sink sink' decided new x q o NoMemory d ahead went tells same_feed cursor among offset answers why is =
+unput-capture ss before cursors order turn policy state state' names sink sink' decided new x q o NoMemory d ahead went tells same_feed cursor among offset passes answers why is =
     record {
       cursor = cursor;
       among = among;
@@ -343,13 +343,15 @@ unput-capture ss before cursors order turn policy state state' names sink sink' 
         packet = x;
         comes = is-next ss before cursors order policy state (record { names = names; target = Capture sink }) decided (Packet turn x) d ahead;
         place = offset;
+        kept = q;
+        passes = passes;
         inputs = same_feed;
         why = refl;
         written = ap written_to is ∙ why.0;
         device = ap failures_to is ∙ why.1;
       }));
     }
-unput-capture ss before cursors order turn policy state state' names sink sink' decided new x q o fault d ahead went tells same_feed cursor among offset answers why is =
+unput-capture ss before cursors order turn policy state state' names sink sink' decided new x q o fault d ahead went tells same_feed cursor among offset passes answers why is =
     let m : MachineState = mk cursors order policy state (record { names = names; target = Capture sink }) decided in
     let w : Progress = progress_of d in
     let stop : final_progress policy (AsCapture sink.format) (sequence_of order (wholes_of ss)) ≡ end_with w (FaultIn turn fault x.offset) =
@@ -365,13 +367,13 @@ unput-leaves : (ss : List InputPast) (before : List ℕ) (cursors : List InputVi
     → (d : PacketsDecided ss before (mk cursors order policy state (record { names = names; target = target }) decided)) → Ahead ss cursors order d.events (Packet turn x)
     → apply_event policy (form_to names target) (progress_of d) (Packet turn x) ≡ decide_unless (form_refuses (form_to names target) d.packets q) (progress_of d) turn x state' q o
     → input_spec.IsNext (inputs_at order cursors) (next.Decide turn) → new.inputs ≡ record { order = order; cursors = cursors } → (cursor : InputView) → IsInput new.inputs.cursors turn cursor → cursor.source.offset ≡ x.offset
-    → AnswersNext d new q → Puts q target (Err fault) new.output.target
+    → PassesAs (judge policy state (decided + 1) x.packet).verdict q → AnswersNext d new q → Puts q target (Err fault) new.output.target
     → EndLeaves d (unwritten turn fault) new
-unput-leaves ss before cursors order turn policy state state' names (Capture sink) decided new x q o fault d ahead went tells same_feed cursor among offset answers puts =
-    unput-capture ss before cursors order turn policy state state' names sink puts.sink decided new x q o fault d ahead went tells same_feed cursor among offset answers
+unput-leaves ss before cursors order turn policy state state' names (Capture sink) decided new x q o fault d ahead went tells same_feed cursor among offset passes answers puts =
+    unput-capture ss before cursors order turn policy state state' names sink puts.sink decided new x q o fault d ahead went tells same_feed cursor among offset passes answers
     (unput before d.packets q sink puts.sink fault d.output puts.puts puts.writes) puts.is
-unput-leaves ss before cursors order turn policy state state' names (Text bytes failures room) decided new x q o fault d ahead went tells same_feed cursor among offset answers puts = absurd (let e = puts.0 in cc)
-unput-leaves ss before cursors order turn policy state state' names (Lines options bytes failures room) decided new x q o fault d ahead went tells same_feed cursor among offset answers puts =
+unput-leaves ss before cursors order turn policy state state' names (Text bytes failures room) decided new x q o fault d ahead went tells same_feed cursor among offset passes answers puts = absurd (let e = puts.0 in cc)
+unput-leaves ss before cursors order turn policy state state' names (Lines options bytes failures room) decided new x q o fault d ahead went tells same_feed cursor among offset passes answers puts =
     let L : Fault → Type 0 = λ f. EndLeaves d (unwritten turn f) new in
     subst L (sym puts.fault)
     (stops-line ss before cursors order policy state state' names options bytes puts.after failures room decided new (Packet turn x) q o d ahead went answers puts.appends puts.is)
@@ -547,10 +549,10 @@ answer-core us vs s before xs ys h order turn policy state state' output output'
     by_verdict_of : (v : code.Verdict) (q : Captured) → IsVerdict (judge policy state (decided + 1) p) (Ok v) q state' → Offers v q output.target (Err fault) output'.target → EndLeaves d (unwritten turn fault) failed
     by_verdict_of code_verdict.Pass q told offers =
         unput-leaves (us ++ s ∷ vs) before (xs ++ h ∷ ys) order turn policy state state' output.names output.target decided failed x q None fault d ahead
-        (goes-by policy (form_at output) w turn x (Pass q) state' told.0 told.1) tells refl h here refl (answers q (let A : Verdict → Type 0 = λ v. PassesAs v q in subst A told.0 refl)) offers
+        (goes-by policy (form_at output) w turn x (Pass q) state' told.0 told.1) tells refl h here refl (let A : Verdict → Type 0 = λ v. PassesAs v q in subst A told.0 refl) (answers q (let A : Verdict → Type 0 = λ v. PassesAs v q in subst A told.0 refl)) offers
     by_verdict_of code_verdict.PassLast q told offers =
         unput-leaves (us ++ s ∷ vs) before (xs ++ h ∷ ys) order turn policy state state' output.names output.target decided failed x q (Some Complete) fault d ahead
-        (goes-by policy (form_at output) w turn x (PassLast q) state' told.0 told.1) tells refl h here refl (answers q (let A : Verdict → Type 0 = λ v. PassesAs v q in subst A told.0 refl)) offers
+        (goes-by policy (form_at output) w turn x (PassLast q) state' told.0 told.1) tells refl h here refl (let A : Verdict → Type 0 = λ v. PassesAs v q in subst A told.0 refl) (answers q (let A : Verdict → Type 0 = λ v. PassesAs v q in subst A told.0 refl)) offers
     by_verdict_of code_verdict.Skip q told offers = absurd (let e = offers.0 in cc)
 
 pub answer-leaves : (ss : List InputPast) (before : List ℕ) (cursors : List InputView) (order : PacketOrder) (policy : Policy) (state : SelectorState) (output : JobOutputView) (decided i : ℕ) (r : Result Bool Fault) (h : InputView) (selector' : PolicyState) (output' : JobOutputView)

@@ -30,16 +30,16 @@ use Rattle.cap_tools.specs.Jobs.{JobView, JobRuns, end_status, end_text, first_j
 use Rattle.cap_tools.specs.declared.step.JobEnd.{JobEnd}
 use Rattle.cap_tools.specs.declared.step.JobEnd.TheVariants as end
 use Rattle.cap_io.specs.Source.{SourceView}
-use Rattle.cap_tools.specs.Machine.{MachineState, PacketsDecided, Comes, EndLeaves, EndsByCut, NextPacket, NextReport, NextClosing, PassesAs, StopsWriting, WantsMemory, asks_report, failures_by, form_of, progress_of, texts, wholes_of, work_of, written_by}
+use Rattle.cap_tools.specs.Machine.{MachineState, PacketsDecided, Comes, EndLeaves, EndsByCut, NextPacket, NextReport, NextClosing, StopsWriting, WantsMemory, asks_report, failures_by, form_of, progress_of, texts, wholes_of, work_of, written_by}
 use Rattle.cap_tools.specs.Outcome.{Form, Outcome, Progress, Work, IsNextEvent, apply_event, apply_verdict, closing_text, end_input, cut_at, decide_unless, first_link, form_refuses, message, outcome, packet_bytes, report_bytes, status, text_behind, text_of_progress}
 use Rattle.cap_tools.specs.Output.{failures_to, form_to, target_at, written_to}
 use Rattle.cap_tools.specs.Reports.{name_at}
-use Rattle.cap_tools.specs.Run.{CommandRuns, HasCutInput, HasLackedMemory, HasLeft, HasLostOutput, IsNextAnswer, IsPolicy, IsRefused, IsWork, by_end, by_event, ends, form_asked, input_cut, listing_answer, listing_outcome, no_memory, of_listing, of_packets, of_refusal, output_failed, packets_answer, refusal_outcome, whole_inputs}
+use Rattle.cap_tools.specs.Run.{CommandRuns, HasCutInput, HasLackedMemory, HasLeft, HasLostOutput, IsNextAnswer, IsPolicy, IsRefused, IsWork, by_end, by_event, ends, form_asked, input_cut, listing_answer, listing_outcome, next_judgement, no_memory, of_listing, of_packets, of_refusal, output_failed, packets_answer, refusal_outcome, whole_inputs}
 use Rattle.cap_tools.specs.Start.{Assignment, Preparing, ReadsFilter, Compiles}
 use Rattle.cap_filter.specs.FilterRules.{Rule}
 use Rattle.flt_bpf.specs.Content.{Content}
 use Rattle.cap_io.specs.declared.source.Kind.{Kind}
-use Rattle.cap_tools.specs.Verdict.{Policy, Edit, Filter, KeepAll, Count, SelectorState, Verdict, Pass, PassLast, Skip, Refuse, judge}
+use Rattle.cap_tools.specs.Verdict.{Policy, Edit, Filter, KeepAll, Count, SelectorState, Verdict, Pass, PassLast, PassesAs, Skip, Refuse, judge}
 use Rattle.cap_tools.proofs.Ends.{offset-here, same-work}
 use Rattle.cap_tools.proofs.Once.{packet-more, report-more}
 use Rattle.cap_tools.proofs.Outcomes.{progress-next}
@@ -294,11 +294,15 @@ packets-run asked call first r b runs = by_end runs.end refl runs.leaves
         let e : Event = Packet input wants.packet in
         let V : Work → Type 0 = λ v. IsNextEvent v (wholes_of runs.progress.past) d.events e in
         let L : List InputItems → Type 0 = λ l. IsNextEvent w l d.events e in
+        let G : Progress → Type 0 = λ v. PassesAs (judge old.policy v.state (v.decided + 1) wants.packet.packet).verdict wants.kept in
+        let J : Work → Type 0 = λ v. PassesAs (next_judgement v d.events wants.packet.packet).verdict wants.kept in
         record {
           events = d.events;
           input = input;
           packet = wants.packet;
           next = subst L wholes-are (subst V work-is wants.comes);
+          kept = wants.kept;
+          passes = subst J work-is (subst G (sym d.progress) wants.passes);
           output = runs.written ∙ wants.written ∙ so-far;
           failures = runs.failures ∙ wants.device ∙ unfailed;
           message = reported (says input fault wants.packet.offset is (place ∙ wants.place)

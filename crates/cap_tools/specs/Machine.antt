@@ -17,7 +17,7 @@ use Rattle.cap_tools.specs.declared.step.JobEnd.TheVariants as end
 use Rattle.cap_tools.specs.Reports.{Report, Tally, report_text}
 use Rattle.cap_tools.specs.Output.{JobOutputView, Target, HasWritten, Puts, Reports, form_at, written_to, failures_to}
 use Rattle.cap_inputs.specs.Sequence.{Event, Packet, InputEnd, SequenceEnd, Complete, FaultIn, InputItems, PacketOrder, InTurn, ByTime, sequence_of, whole_input}
-use Rattle.cap_tools.specs.Verdict.{Policy, SelectorState, Verdict, Pass, PassLast, Skip, Refuse, judge}
+use Rattle.cap_tools.specs.Verdict.{Policy, SelectorState, PassesAs, judge}
 use Rattle.cap_tools.specs.Selector.{PolicyState, SelectorView, IsWithin, emptied, is_count, most_spent, spent_by_verdict}
 use Rattle.cap_tools.specs.Selector as selecting
 use Rattle.cap_tools.specs.Outcome.{Form, Progress, Work, ComeFirst, IsNextEvent, AreAllEvents, cut_at, no_progress, apply_events, final_progress, final_text, output_text, closing_text, first_link, packet_bytes, report_bytes, form_refuses}
@@ -226,24 +226,19 @@ pub record EndsByCut {ss : List InputPast} {before : List ℕ} {old : MachineSta
   pub why : ((fault ≡ ReadFailed) × (cursor.source.failures < after.failures) × (cursor.source.never_fails ≡ false)) ⊎ (fault ≡ NoMemory)
   pub comes : Comes (cut_at (wholes_of ss) input held) d new (FaultIn input fault after.offset)
 
--- There was no memory to write the current packet of this input, which is the next of the order and begins where `after`
--- stands: the output stays.
+-- There was no memory to write the current packet of this input, which is the next of the order, begins where `after` stands
+-- and is kept: the output stays.
 pub record WantsMemory {ss : List InputPast} {before : List ℕ} {old : MachineState} (d : PacketsDecided ss before old) (new : MachineState) (input : ℕ) (fault : Fault) (after : SourceView) : Type 0 where
   pub next : IsNext old.inputs (next.Decide input)
   pub packet : Placed
   pub comes : IsNextEvent (work_of old) (wholes_of ss) d.events (Packet input packet)
   pub place : after.offset ≡ packet.offset
+  pub kept : Captured
+  pub passes : PassesAs (judge old.policy old.state (old.decided + 1) packet.packet).verdict kept
   pub inputs : new.inputs ≡ old.inputs
   pub why : fault ≡ NoMemory
   pub written : written_by new ≡ written_by old
   pub device : failures_by new ≡ failures_by old
-
--- a packet passes, maybe changed
-abbrev pub PassesAs : Verdict → Captured → Type 0
-PassesAs (Pass p) q = p ≡ q
-PassesAs (PassLast p) q = p ≡ q
-PassesAs Skip q = ⊥
-PassesAs (Refuse fault) q = ⊥
 
 -- next is the current packet of an input, which passes; this is what it adds
 pub record NextPacket {ss : List InputPast} {before : List ℕ} {old : MachineState} (d : PacketsDecided ss before old) (new : MachineState) (bytes : List ℕ) : Type 0 where

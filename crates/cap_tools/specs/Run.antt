@@ -25,7 +25,8 @@ use Rattle.cap_tools.specs.Call.{Call, RunResult}
 use Rattle.cap_tools.specs.Outcome.{Form, AsCapture, AsReports, AsLines, Outcome, Work, IsNextEvent, AreAllEvents, closing_text, cut_at, first_link, outcome, progress_behind, text_behind}
 use Rattle.cap_tools.specs.Reports.{name_at}
 use Rattle.cap_tools.specs.Start.{Assignment, Preparing, ReadsFilter, Compiles}
-use Rattle.cap_tools.specs.Verdict.{Policy, Filter}
+use Rattle.cap_octet.specs.Packet.{Captured}
+use Rattle.cap_tools.specs.Verdict.{Policy, Filter, Judgement, PassesAs, judge}
 
 -- ---- the work that a command asks
 
@@ -99,12 +100,18 @@ pub record HasCutInput (call : Call) (work : Work) (r : RunResult) : Type 0 wher
 
 -- ---- memory runs out
 
--- behind these events there was no memory to write the next packet
+-- what becomes of a packet that comes behind these events
+abbrev pub next_judgement : Work → List Event → Captured → Judgement
+next_judgement work es p = judge work.policy (progress_behind work es).state ((progress_behind work es).decided + 1) p
+
+-- behind these events there was no memory to write the next packet, which is kept
 pub record HasLackedMemory (call : Call) (work : Work) (r : RunResult) : Type 0 where
   pub events : List Event
   pub input : ℕ
   pub packet : Placed
   pub next : IsNextEvent work (whole_inputs call) events (Packet input packet)
+  pub kept : Captured
+  pub passes : PassesAs (next_judgement work events packet.packet).verdict kept
   pub output : r.output.written ≡ call.output.written ++ text_behind work events
   pub failures : r.output.failures ≡ call.output.failures
   pub message : IsTold call.tells call.messages (fault_message (name_at call.names input) packet.offset NoMemory) r.messages

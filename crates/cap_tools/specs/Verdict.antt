@@ -1,5 +1,5 @@
 -- What becomes of each packet of a job: by its policy, by what was met so far, and by its number and the packet.
-use Rattle.std.specs.Prelude.{ℕ, ◌+◌, ◌-◌, ◌^◌, ◌==◌, ◌&&◌, Bool, true, false, if◌then◌else◌, nat_lt, nat_le, List, [], ◌∷◌, ◌++◌, length, take, drop, Option, None, Some}
+use Rattle.std.specs.Prelude.{◌≡◌, ℕ, ◌+◌, ◌-◌, ◌^◌, ◌==◌, ◌&&◌, Bool, true, false, if◌then◌else◌, nat_lt, nat_le, List, [], ◌∷◌, ◌++◌, length, take, drop, Option, None, Some}
 use Rattle.cap_octet.specs.Packet.{Captured}
 use Rattle.cap_octet.specs.declared.fault.Fault.{Fault}
 use Rattle.cap_octet.specs.declared.fault.Fault.TheVariants.{TimeOutOfRange, TooManyPackets}
@@ -167,3 +167,10 @@ is_too_many policy number = nat_le (2 ^ 63) number
 
 abbrev pub judge : Policy → SelectorState → ℕ → Captured → Judgement
 judge policy state number p = if is_too_many policy number then refuses state TooManyPackets else judge_by policy state number p
+
+-- a packet passes, maybe changed
+abbrev pub PassesAs : Verdict → Captured → Type 0
+PassesAs (Pass p) q = p ≡ q
+PassesAs (PassLast p) q = p ≡ q
+PassesAs Skip q = ⊥
+PassesAs (Refuse fault) q = ⊥
