@@ -345,10 +345,12 @@ unput-capture ss before cursors order turn policy state state' names sink sink' 
         place = offset;
         kept = q;
         passes = passes;
+        taken = why.0;
+        takes = why.1;
         inputs = same_feed;
         why = refl;
-        written = ap written_to is ∙ why.0;
-        device = ap failures_to is ∙ why.1;
+        written = ap written_to is ∙ why.2;
+        device = ap failures_to is ∙ why.3;
       }));
     }
 unput-capture ss before cursors order turn policy state state' names sink sink' decided new x q o fault d ahead went tells same_feed cursor among offset passes answers why is =

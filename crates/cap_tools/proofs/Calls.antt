@@ -31,10 +31,10 @@ use Rattle.cap_tools.specs.declared.step.JobEnd.{JobEnd}
 use Rattle.cap_tools.specs.declared.step.JobEnd.TheVariants as end
 use Rattle.cap_io.specs.Source.{SourceView}
 use Rattle.cap_tools.specs.Machine.{MachineState, PacketsDecided, Comes, EndLeaves, EndsByCut, NextPacket, NextReport, NextClosing, StopsWriting, WantsMemory, asks_report, failures_by, form_of, progress_of, texts, wholes_of, work_of, written_by}
-use Rattle.cap_tools.specs.Outcome.{Form, Outcome, Progress, Work, IsNextEvent, apply_event, apply_verdict, closing_text, end_input, cut_at, decide_unless, first_link, form_refuses, message, outcome, packet_bytes, report_bytes, status, text_behind, text_of_progress}
+use Rattle.cap_tools.specs.Outcome.{Form, Outcome, Progress, Work, IsNextEvent, apply_event, apply_verdict, closing_text, end_input, cut_at, decide_unless, first_link, form_refuses, form_takes_memory, message, outcome, packet_bytes, progress_behind, report_bytes, status, text_behind, text_of_progress}
 use Rattle.cap_tools.specs.Output.{failures_to, form_to, target_at, written_to}
 use Rattle.cap_tools.specs.Reports.{name_at}
-use Rattle.cap_tools.specs.Run.{CommandRuns, HasCutInput, HasLackedMemory, HasLeft, HasLostOutput, IsNextAnswer, IsPolicy, IsRefused, IsWork, by_end, by_event, ends, form_asked, input_cut, listing_answer, listing_outcome, next_judgement, no_memory, of_listing, of_packets, of_refusal, output_failed, packets_answer, refusal_outcome, whole_inputs}
+use Rattle.cap_tools.specs.Run.{CommandRuns, HasCutInput, HasLackedMemory, HasLeft, HasLostOutput, IsNextAnswer, IsPolicy, IsWhyRefused, IsWork, by_end, by_event, ends, form_asked, input_cut, listing_answer, listing_outcome, next_judgement, no_memory, of_listing, of_packets, of_refusal, output_failed, packets_answer, refusal_outcome, whole_inputs}
 use Rattle.cap_tools.specs.Start.{Assignment, Preparing, ReadsFilter, Compiles}
 use Rattle.cap_filter.specs.FilterRules.{Rule}
 use Rattle.flt_bpf.specs.Content.{Content}
@@ -295,6 +295,10 @@ packets-run asked call first r b runs = by_end runs.end refl runs.leaves
         let V : Work → Type 0 = λ v. IsNextEvent v (wholes_of runs.progress.past) d.events e in
         let L : List InputItems → Type 0 = λ l. IsNextEvent w l d.events e in
         let G : Progress → Type 0 = λ v. PassesAs (judge old.policy v.state (v.decided + 1) wants.packet.packet).verdict wants.kept in
+        let F : Progress → Type 0 = λ v. form_refuses (form_of old) v.packets wants.kept ≡ None in
+        let R : Work → Type 0 = λ v. form_refuses v.form (progress_behind v d.events).packets wants.kept ≡ None in
+        let M : Progress → Type 0 = λ v. form_takes_memory (form_of old) v.packets wants.kept ≡ true in
+        let T : Work → Type 0 = λ v. form_takes_memory v.form (progress_behind v d.events).packets wants.kept ≡ true in
         let J : Work → Type 0 = λ v. PassesAs (next_judgement v d.events wants.packet.packet).verdict wants.kept in
         record {
           events = d.events;
@@ -303,6 +307,8 @@ packets-run asked call first r b runs = by_end runs.end refl runs.leaves
           next = subst L wholes-are (subst V work-is wants.comes);
           kept = wants.kept;
           passes = subst J work-is (subst G (sym d.progress) wants.passes);
+          taken = subst R work-is (subst F (sym d.progress) wants.taken);
+          takes = subst T work-is (subst M (sym d.progress) wants.takes);
           output = runs.written ∙ wants.written ∙ so-far;
           failures = runs.failures ∙ wants.device ∙ unfailed;
           message = reported (says input fault wants.packet.offset is (place ∙ wants.place)
@@ -350,7 +356,7 @@ packets-run asked call first r b runs = by_end runs.end refl runs.leaves
 
 -- ---- a job that is refused, or lists a program
 
-refused-run : (asked : Assignment) (call : Call) (r : RunResult) (why : Refusal) → IsRefused asked.preparing why → r.status ≡ refusal_status why → r.output ≡ output_of (first_job asked call) → IsTold call.tells call.messages (refusal_message why) r.messages → CommandRuns asked call r
+refused-run : (asked : Assignment) (call : Call) (r : RunResult) (why : Refusal) → IsWhyRefused asked.preparing why → r.status ≡ refusal_status why → r.output ≡ output_of (first_job asked call) → IsTold call.tells call.messages (refusal_message why) r.messages → CommandRuns asked call r
 refused-run asked call r why refused status same told = ends (refusal_outcome why) (of_refusal why refused) (record {
   output = ap (λ (o : OutputView). o.written) (same ∙ first-output asked call) ∙ sym (append-nil call.output.written);
   failures = ap (λ (o : OutputView). o.failures) (same ∙ first-output asked call);
@@ -382,7 +388,7 @@ compile-run asked call r words link is runs =
         })
       ]
       | inr fails ↦
-          let P : Option Preparing → Type 0 = λ p. IsRefused p (refusal.Expression fails.fault) in
+          let P : Option Preparing → Type 0 = λ p. IsWhyRefused p (refusal.Expression fails.fault) in
           refused-run asked call r (refusal.Expression fails.fault) (subst P (sym is) fails.why) fails.tells.answered fails.tells.output (told fails.tells.told)
     ]
   where
@@ -435,7 +441,7 @@ call-runs asked call r runs = by_preparing asked.preparing refl runs
               packets-run asked call (filtering filtered.rule filter.count filtered.programs (first_job asked call)) r
               (filter-begins asked call filtered.rule filter.count filtered.programs (subst P (sym is) (filtered.rule, filtered.is, refl))) filtered.runs
           | inr refused ↦
-              let P : Option Preparing → Type 0 = λ p. IsRefused p refused.refusal in
+              let P : Option Preparing → Type 0 = λ p. IsWhyRefused p refused.refusal in
               refused-run asked call r refused.refusal (subst P (sym is) refused.why) refused.status_is refused.same refused.told
         ]
     by_preparing (Some (Compiles words link)) is runs = compile-run asked call r words link is runs

@@ -9,7 +9,7 @@ use Rattle.cap_tools.specs.Reports.{name_at, nothing_counted}
 use Rattle.cap_tools.specs.Machine.{MachineState, written_by}
 use Rattle.cap_tools.specs.Messages.{MessagesView}
 use Rattle.std.proofs.lemmas.Bool.{and_parts, eqb-true, leb-true}
-use Rattle.cap_filter.specs.Command.{is_proper, is_proper_edit, is_proper_print}
+use Rattle.cap_filter.specs.Command.{is_proper, is_proper_edit, is_proper_print, most_inputs}
 use Rattle.cap_filter.specs.declared.command.Command.{Command}
 use Rattle.cap_filter.specs.declared.command.Command.TheVariants as command
 use Rattle.cap_filter.specs.Compilation.{IsCompiled, ListingLeaves}
@@ -22,7 +22,7 @@ use Rattle.cap_tools.specs.declared.output.Writing.TheVariants as writing
 use Rattle.cap_inputs.specs.Sequence.{InTurn}
 use Rattle.cap_tools.specs.Verdict.{Count, KeepAll}
 use Rattle.cap_tools.specs.Call.{Call, RunResult}
-use Rattle.cap_tools.specs.Jobs.{JobView, first_job, machine_at, most_inputs, end_text}
+use Rattle.cap_tools.specs.Jobs.{JobView, first_job, machine_at, end_text}
 use Rattle.cap_inputs.specs.Fresh.{fresh_inputs, nothing_done}
 use Rattle.cap_inputs.specs.Sequence.{order_of}
 use Rattle.cap_tools.specs.declared.step.JobEnd.TheVariants as end

@@ -26,7 +26,7 @@ few-kept (Some status) turns inputs inputs' paid few = tt
 -- a step reads what it read, whatever becomes of its messages and of the count of steps
 pub reads-kept : (tells goes : Bool) (old mid : JobView) (p : Option Preparing) (err : OutputView) (turns : ℕ) (ended : Option ℕ) → StepReads tells goes old mid
     → StepReads tells goes old (record { preparing = p; machine = mid.machine; programs = mid.programs; err = err; turns = turns; done = ended })
-reads-kept tells goes old mid p err turns ended (reads_on i answer on reads) = reads_on i answer on (record { fetches = reads.fetches; told = reads.told; decided = reads.decided; output = reads.output; programs = reads.programs })
-reads-kept tells goes old mid p err turns ended (decides_one i one) = decides_one i (record { packet = one.packet; holds = one.holds; settles = one.settles; decided = one.decided; programs = one.programs; cost = one.cost })
-reads-kept tells goes old mid p err turns ended (leaves_one i ends one) = leaves_one i ends (record { packet = one.packet; holds = one.holds; inputs = one.inputs; decided = one.decided; programs = one.programs; cost = one.cost })
+reads-kept tells goes old mid p err turns ended (reads_on i answer on reads) = reads_on i answer on (record { next = reads.next; fetches = reads.fetches; told = reads.told; decided = reads.decided; output = reads.output; programs = reads.programs })
+reads-kept tells goes old mid p err turns ended (decides_one i one) = decides_one i (record { next = one.next; packet = one.packet; holds = one.holds; settles = one.settles; decided = one.decided; programs = one.programs; cost = one.cost })
+reads-kept tells goes old mid p err turns ended (leaves_one i ends one) = leaves_one i ends (record { next = one.next; packet = one.packet; holds = one.holds; inputs = one.inputs; decided = one.decided; programs = one.programs; cost = one.cost })
 reads-kept tells goes old mid p err turns ended (reads_nothing ends none) = reads_nothing ends (record { inputs = none.inputs; decided = none.decided; programs = none.programs })

@@ -1,5 +1,5 @@
 -- Where a job writes, from one call to the next.
-use Rattle.std.proofs.Common.{◌≡◌, inl, inr, ℕ, ◌+◌, Bool, List, [], ◌∷◌, ◌++◌, length, Option, None, Some, Ok, Err, refl, sym, ◌∙◌, ap, add-zero}
+use Rattle.std.proofs.Common.{◌≡◌, inl, inr, ℕ, ◌+◌, Bool, List, [], ◌∷◌, ◌++◌, length, Option, None, Some, Ok, Err, refl, sym, ◌∙◌, ap, add-zero, true}
 use Rattle.std.proofs.lemmas.List.{append_assoc, append-nil}
 use Rattle.cap_octet.specs.Device.{Stops}
 use Rattle.cap_octet.specs.Packet.{Captured}
@@ -88,6 +88,11 @@ not-refused format ps p fault none answer = by_refusal (refused format ps p) ref
     by_refusal None is answer = is
     by_refusal (Some refusal) is answer = absurd (none (is ∙ ap Some (sym answer)))
 
+-- there is no memory only where some is taken
+memory-taken : (refusal : Option Fault) (takes : Bool) → refusal ≡ None → IsPutAnswer refusal takes (Err NoMemory) → takes ≡ true
+memory-taken None takes is answer = elim answer [ inl failed ↦ (cc) | inr memory ↦ memory.1 ]
+memory-taken (Some refusal) takes is answer = (cc)
+
 stopped-within : (refusal : Option Fault) (bytes output_text output_text' : List ℕ) → refusal ≡ None → WritesPacket refusal bytes output_text (Err WriteFailed) output_text' → Stops output_text bytes output_text'
 stopped-within None bytes output_text output_text' is writes = writes
 stopped-within (Some fault) bytes output_text output_text' is writes = (cc)
@@ -99,7 +104,7 @@ stayed-written (Some fault) bytes output_text output_text' is writes = writes
 -- why a packet that passes isn't put into a capture: the format refuses it; there was no memory; or the device failed
 abbrev pub WhyUnput : Fault → SinkView → List Captured → Captured → SinkView → Type 0
 WhyUnput WriteFailed old ps q new = (refused old.format ps q ≡ None) × (new.failures ≡ old.failures + 1) × Stops old.written (added old.format ps q) new.written
-WhyUnput NoMemory old ps q new = (new.written ≡ old.written) × (new.failures ≡ old.failures)
+WhyUnput NoMemory old ps q new = (refused old.format ps q ≡ None) × (takes_memory old.format ps q ≡ true) × (new.written ≡ old.written) × (new.failures ≡ old.failures)
 WhyUnput fault old ps q new = (refused old.format ps q ≡ Some fault) × (new.written ≡ old.written) × (new.failures ≡ old.failures)
 
 pub unput : (before : List ℕ) (ps : List Captured) (q : Captured) (old new : SinkView) (fault : Fault) → HasPackets before old ps
@@ -111,7 +116,7 @@ unput before ps q old new WriteFailed has puts writes =
 unput before ps q old new NoMemory has puts writes =
     let after : PutsAfter ps old q (Err NoMemory) new = put-answers before ps old q (Err NoMemory) new has puts in
     let none = not-refused old.format ps q NoMemory (refused-no_memory old.format ps q) after.answer in
-    (stayed-written (refused old.format ps q) (added old.format ps q) old.written new.written none (put-writes before ps old q (Err NoMemory) new has writes), after.failures ∙ add-zero old.failures)
+    (none, memory-taken (refused old.format ps q) (takes_memory old.format ps q) none after.answer, stayed-written (refused old.format ps q) (added old.format ps q) old.written new.written none (put-writes before ps old q (Err NoMemory) new has writes), after.failures ∙ add-zero old.failures)
 unput before ps q old new fault has puts writes =
     let after : PutsAfter ps old q (Err fault) new = put-answers before ps old q (Err fault) new has puts in
     let is = refusal-is (refused old.format ps q) (takes_memory old.format ps q) fault after.answer (λ same. (cc)) (λ same. (cc)) in

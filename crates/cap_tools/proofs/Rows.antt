@@ -9,7 +9,7 @@ use Rattle.cap_filter.specs.FilterRules.{by_reading}
 use Rattle.cap_inputs.specs.Sequence.{InputItems, InTurn, ByTime, sequence_of, Packet, Complete, FaultIn, whole_input}
 use Rattle.cap_filter.specs.declared.command.Shift.TheVariants as shift
 use Rattle.cap_tools.specs.Verdict.{Edit, Filter, Count}
-use Rattle.cap_tools.specs.Outcome.{AsCapture, AsReports, Progress, Work, outcome_of_texts, final_progress}
+use Rattle.cap_tools.specs.Outcome.{AsCapture, AsReports, Outcome, Progress, Work, outcome, final_progress}
 use Rattle.cap_io.specs.declared.source.Kind.TheVariants as kind
 use Rattle.cap_octet.specs.Calendar.{day_from_epoch}
 use Rattle.cap_octet.specs.Date.{date_text}
@@ -156,6 +156,10 @@ earlier = record {
   policy = Edit (record { ranges = []; keep = false; start = None; stop = None; chop_start = 0; chop_end = 0; snap = None; shift = shift.Earlier 2000000000; window = None });
   form = AsCapture Pcap;
 }
+
+-- what comes of inputs with these bytes
+abbrev outcome_of_texts : Work → List (List ℕ) → List (List ℕ) → Outcome
+outcome_of_texts work names texts = outcome work names (map whole_input texts)
 
 shift-and-full-output : outcome_of_texts earlier (codes "in" ∷ codes "out" ∷ []) ((header ++ four 3 (0 ∷ 0 ∷ 0 ∷ 0 ∷ []) ++ four 1 (0 ∷ 0 ∷ 0 ∷ 0 ∷ [])) ∷ [])
     ≡ record { output = header ++ four 1 (0 ∷ 0 ∷ 0 ∷ 0 ∷ []); messages = fault_message (codes "in") 44 TimeOutOfRange; status = 1 }

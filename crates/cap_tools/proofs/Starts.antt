@@ -1,4 +1,5 @@
 -- A job of which nothing is done.
+use Rattle.cap_filter.specs.Command.{most_inputs}
 use Rattle.std.proofs.Common.{◌≡◌, ℕ, suc, ◌+◌, ◌*◌, ◌^◌, ◌<◌, ◌≤◌, List, [], ◌∷◌, map, drop, length, refl, sym, ◌∙◌, ap, arith}
 use Rattle.cap_tools.specs.declared.output.Writing.{Writing}
 use Rattle.cap_tools.specs.declared.output.Writing.TheVariants as writing
@@ -9,7 +10,6 @@ use Rattle.cap_io.proofs.Standing.{IsAt-start}
 use Rattle.cap_io.proofs.Texts.{HasPackets-none}
 use Rattle.cap_inputs.specs.Sequence.{InputItems, sequence_in_turn, sequence_by_time, PacketOrder, InTurn, ByTime}
 use Rattle.cap_tools.specs.Verdict.{Policy}
-use Rattle.cap_tools.specs.Jobs.{most_inputs}
 use Rattle.cap_inputs.specs.Fresh.{FreshInput, fresh_view, nothing_done, fresh_inputs}
 use Rattle.cap_tools.specs.Selector.{state_with}
 use Rattle.cap_inputs.specs.Inputs.{Future, AreInputsBehind, KnowGreatest, AreFutures, AreSettled, ended_count, inputs_with, inputs_left, items_with, steps_left_in, steps_left, most_steps}

@@ -8,7 +8,8 @@ use Rattle.cap_io.specs.Source.{HasFew, behind}
 use Rattle.cap_io.specs.Text.{AreFew, most_output_interfaces}
 use Rattle.cap_tools.specs.declared.step.JobEnd.{JobEnd}
 use Rattle.cap_tools.specs.Output.{Target, Capture, Text, Lines}
-use Rattle.cap_inputs.specs.Inputs.{InputView, InputsView, IsInput, ReadsInput, ReadSteps, MarksDecided, is_clean_end, owed_by}
+use Rattle.cap_inputs.specs.declared.inputs.Next.TheVariants as next
+use Rattle.cap_inputs.specs.Inputs.{InputView, InputsView, IsInput, IsNext, ReadsInput, ReadSteps, MarksDecided, is_clean_end, owed_by}
 use Rattle.cap_octet.specs.Packet.{Captured}
 use Rattle.cap_filter.specs.Programs.{spent_in}
 use Rattle.cap_tools.specs.Selector.{most_spent, places, spent_by_verdict, window_of}
@@ -17,9 +18,10 @@ use Rattle.cap_tools.specs.Jobs.{JobView}
 
 -- ---- what a step reads
 
--- One input was read on, to its next packet and no further. No packet is decided, and nothing is written unless the
+-- The input that is next was read on, to its next packet and no further. No packet is decided, and nothing is written unless the
 -- input was read to its end and is to be reported.
 pub record ReadsOn (tells : Bool) (old : JobView) (input : ℕ) (answer : Result Bool Fault) (new : JobView) : Type 0 where
+  pub next : IsNext old.machine.inputs (next.Read input)
   pub fetches : ReadSteps old.machine.inputs input answer new.machine.inputs
   -- where the input tells its bytes: its next packet, its clean end or its fault, and no more
   pub told : IsTrue tells → ReadsInput old.machine.inputs input answer new.machine.inputs
@@ -34,8 +36,9 @@ pub record Holds (cursors : List InputView) (input : ℕ) (p : Captured) : Type 
   pub waits : cursor.waiting ≡ true
   pub held : cursor.source.packet ≡ Some p
 
--- The current packet of one input was decided, and nothing is read. It cost one run of a program at most.
+-- The packet that is next was decided, and nothing is read. It cost one run of a program at most.
 pub record DecidesOne (old : JobView) (input : ℕ) (new : JobView) : Type 0 where
+  pub next : IsNext old.machine.inputs (next.Decide input)
   pub packet : Captured
   pub holds : Holds old.machine.inputs.cursors input packet
   pub settles : MarksDecided old.machine.inputs input new.machine.inputs
@@ -45,6 +48,7 @@ pub record DecidesOne (old : JobView) (input : ℕ) (new : JobView) : Type 0 whe
 
 -- it is refused, or wasn't written
 pub record LeavesOne (old : JobView) (input : ℕ) (new : JobView) : Type 0 where
+  pub next : IsNext old.machine.inputs (next.Decide input)
   pub packet : Captured
   pub holds : Holds old.machine.inputs.cursors input packet
   pub inputs : new.machine.inputs ≡ old.machine.inputs

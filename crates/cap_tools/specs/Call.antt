@@ -10,7 +10,7 @@ abbrev pub device_view : {O : Type 0} → output.Ghosts O → O → OutputView
 device_view device o = seen (device.written o) (device.failures o)
 
 -- A call, beside its command: the names of the inputs, then of the output; the inputs; the output, with how many bytes it
--- takes in all before it fails; and the messages' device, with whether it tells its bytes.
+-- takes at least before it fails; and the messages' device, with whether it tells its bytes.
 pub record Call : Type 0 where
   pub names : List (List ℕ)
   pub inputs : List FreshInput

@@ -1,5 +1,5 @@
 -- The steps of a command's job, from the first one on, and its run.
-use Rattle.std.specs.Prelude.{◌≡◌, ◌⊎◌, ℕ, ◌+◌, ◌<◌, ◌≤◌, Bool, true, List, Option, None, Some}
+use Rattle.std.specs.Prelude.{◌≡◌, ◌⊎◌, ℕ, ◌+◌, ◌<◌, ◌≤◌, Bool, true, List, Option, None, Some, IsTrue}
 use Rattle.flt_gen.specs.declared.link.Link.{Link}
 use Rattle.flt_bpf.specs.declared.insn.Insn.{Insn}
 use Rattle.flt_bpf.specs.Content.{Content}
@@ -72,6 +72,12 @@ abbrev pub Prepares : Preparing → Bool → JobView → Turn → JobView → Ty
 Prepares (ReadsFilter asked) tells old r new = FilterGives asked tells old r new
 Prepares (Compiles words link) tells old r new = CompileGives words link tells old r new
 
+-- what is prepared first, of any device; a listing is told where the output tells its bytes
+abbrev pub PreparesBy : Option Preparing → (output_tells tells : Bool) → JobView → Turn → JobView → Type 0
+PreparesBy None output_tells tells old r new = Unit {0}
+PreparesBy (Some (ReadsFilter asked)) output_tells tells old r new = FilterGives asked tells old r new
+PreparesBy (Some (Compiles words link)) output_tells tells old r new = IsTrue output_tells → CompileGives words link tells old r new
+
 -- ---- a step
 
 abbrev pub GivesBy : Option Preparing → Bool → JobView → Turn → JobView → Type 0
@@ -97,6 +103,7 @@ pub record KeepsFirst (old : JobView) (r : Turn) (new : JobView) : Type 0 where
   pub sound : HavePrograms new.machine.policy new.programs
   pub inputs : new.machine.inputs ≡ old.machine.inputs
   pub names : new.machine.output.names ≡ old.machine.output.names
+  pub quiet : r ≡ turn.More → new.err ≡ old.err
 
 -- What every step of a job keeps, whatever the devices: it prepares no more, its end is known, a step is counted where it
 -- was under way, and what it holds is bounded.
@@ -110,6 +117,8 @@ pub record Keeps (old : JobView) (r : Turn) (new : JobView) : Type 0 where
   pub sound : HavePrograms new.machine.policy new.programs
   pub left : r ≡ turn.More → job_left new < job_left old
   pub names : new.machine.output.names ≡ old.machine.output.names
+  -- a step that goes on sends no message
+  pub quiet : r ≡ turn.More → new.err ≡ old.err
   -- a filter changes what is asked
   pub policy : old.preparing ≡ None → new.machine.policy ≡ old.machine.policy
 

@@ -36,9 +36,6 @@ pub record JobView : Type 0 where
 abbrev pub machine_at : InputsView → SelectorView → JobOutputView → ℕ → MachineState
 machine_at inputs selector output decided = record { inputs = inputs; policy = selector.policy; state = selector.state; output = output; decided = decided }
 
-abbrev pub most_inputs : ℕ
-most_inputs = 256
-
 -- a job of which nothing is done
 abbrev pub first_job : Assignment → Call → JobView
 first_job a call = record {

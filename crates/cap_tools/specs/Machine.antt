@@ -20,7 +20,7 @@ use Rattle.cap_inputs.specs.Sequence.{Event, Packet, InputEnd, SequenceEnd, Comp
 use Rattle.cap_tools.specs.Verdict.{Policy, SelectorState, PassesAs, judge}
 use Rattle.cap_tools.specs.Selector.{PolicyState, SelectorView, IsWithin, emptied, is_count, most_spent, spent_by_verdict}
 use Rattle.cap_tools.specs.Selector as selecting
-use Rattle.cap_tools.specs.Outcome.{Form, Progress, Work, ComeFirst, IsNextEvent, AreAllEvents, cut_at, no_progress, apply_events, final_progress, final_text, output_text, closing_text, first_link, packet_bytes, report_bytes, form_refuses}
+use Rattle.cap_tools.specs.Outcome.{Form, Progress, Work, ComeFirst, IsNextEvent, AreAllEvents, cut_at, no_progress, apply_events, final_progress, final_text, output_text, closing_text, first_link, packet_bytes, report_bytes, form_refuses, form_takes_memory}
 use Rattle.cap_inputs.specs.Inputs.{InputsView, InputView, InputPast, AreInputsBehind, KnowGreatest, AreSettled, IsInput, ReadsInput, IsNext, input_after, never_failing}
 
 -- ---- the view
@@ -235,6 +235,8 @@ pub record WantsMemory {ss : List InputPast} {before : List ℕ} {old : MachineS
   pub place : after.offset ≡ packet.offset
   pub kept : Captured
   pub passes : PassesAs (judge old.policy old.state (old.decided + 1) packet.packet).verdict kept
+  pub taken : form_refuses (form_of old) d.packets kept ≡ None
+  pub takes : form_takes_memory (form_of old) d.packets kept ≡ true
   pub inputs : new.inputs ≡ old.inputs
   pub why : fault ≡ NoMemory
   pub written : written_by new ≡ written_by old

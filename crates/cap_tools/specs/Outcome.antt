@@ -1,5 +1,5 @@
 -- What a job makes of the packets that come: the output, the message and the status.
-use Rattle.std.specs.Prelude.{◌≡◌, ℕ, zero, suc, ◌+◌, List, [], ◌∷◌, ◌++◌, map, Option, None, Some, unwrap_or}
+use Rattle.std.specs.Prelude.{◌≡◌, ℕ, zero, suc, ◌+◌, List, [], ◌∷◌, ◌++◌, Option, None, Some, unwrap_or, Bool, false}
 use Rattle.std.specs.List.{flat_map}
 use Rattle.std.specs.Option.{option_or}
 use Rattle.cap_octet.specs.Packet.{Captured}
@@ -7,11 +7,12 @@ use Rattle.cap_octet.specs.declared.fault.Fault.{Fault}
 use Rattle.cap_octet.specs.declared.format.Format.{Format}
 use Rattle.cap_io.specs.declared.source.Kind.{Kind}
 use Rattle.cap_io.specs.Capture.{Placed, Items, first_link_of}
+use Rattle.cap_io.specs.Sink.{takes_memory}
 use Rattle.cap_io.specs.Text.{added, heading, text, refused}
 use Rattle.cap_print.specs.declared.print.Options.{Options}
 use Rattle.cap_print.specs.Rendering.{printed}
 use Rattle.cap_filter.specs.Messages.{fault_message}
-use Rattle.cap_inputs.specs.Sequence.{Event, Packet, InputEnd, SequenceEnd, Complete, FaultIn, Sequence, InputItems, PacketOrder, sequence_of, whole_input, with_front}
+use Rattle.cap_inputs.specs.Sequence.{Event, Packet, InputEnd, SequenceEnd, Complete, FaultIn, Sequence, InputItems, PacketOrder, sequence_of, with_front}
 use Rattle.cap_tools.specs.Verdict.{Policy, Count, SelectorState, initial_state, Verdict, Pass, PassLast, Skip, Refuse, judge}
 use Rattle.cap_tools.specs.Reports.{Report, nothing_counted, report_text, reports_text, name_at}
 
@@ -30,6 +31,12 @@ abbrev pub form_refuses : Form → List Captured → Captured → Option Fault
 form_refuses (AsCapture format) ps p = refused format ps p
 form_refuses (AsReports names) ps p = None
 form_refuses (AsLines options) ps p = None
+
+-- whether memory is taken to write a packet that comes behind these: that of an interface which a pcapng file hasn't had yet
+abbrev pub form_takes_memory : Form → List Captured → Captured → Bool
+form_takes_memory (AsCapture format) ps p = takes_memory format ps p
+form_takes_memory (AsReports names) ps p = false
+form_takes_memory (AsLines options) ps p = false
 
 -- ---- the fold
 
@@ -180,10 +187,6 @@ outcome_at work names rs w = record {
 -- what comes of inputs with these items
 abbrev pub outcome : Work → List (List ℕ) → List InputItems → Outcome
 outcome work names rs = outcome_at work names rs (final_progress work.policy work.form (sequence_of work.order rs))
-
--- what comes of inputs with these bytes
-abbrev pub outcome_of_texts : Work → List (List ℕ) → List (List ℕ) → Outcome
-outcome_of_texts work names texts = outcome work names (map whole_input texts)
 
 -- these items in place of one input's
 abbrev pub cut_at : List InputItems → ℕ → Items → List InputItems

@@ -1,6 +1,6 @@
 -- What a run of a command leaves: its outcome on the whole inputs; or what it leaves where a device fails, or memory runs out.
 -- All of it is said by the call, and by what the run hands back.
-use Rattle.std.specs.Prelude.{◌≡◌, ◌⊎◌, ℕ, ◌+◌, false, List, [], ◌∷◌, ◌++◌, length, map, Option, None, Some}
+use Rattle.std.specs.Prelude.{◌≡◌, ◌⊎◌, ℕ, ◌+◌, false, List, [], ◌∷◌, ◌++◌, length, map, Option, None, Some, true}
 use Rattle.std.specs.List.{slice_get}
 use Rattle.cap_octet.specs.Device.{Stops}
 use Rattle.cap_octet.specs.declared.fault.Fault.{Fault}
@@ -22,7 +22,7 @@ use Rattle.cap_inputs.specs.Sequence.{Event, Packet, InputItems, whole_input}
 use Rattle.cap_tools.specs.declared.output.Writing.{Writing}
 use Rattle.cap_tools.specs.declared.output.Writing.TheVariants as writing
 use Rattle.cap_tools.specs.Call.{Call, RunResult}
-use Rattle.cap_tools.specs.Outcome.{Form, AsCapture, AsReports, AsLines, Outcome, Work, IsNextEvent, AreAllEvents, closing_text, cut_at, first_link, outcome, progress_behind, text_behind}
+use Rattle.cap_tools.specs.Outcome.{Form, AsCapture, AsReports, AsLines, Outcome, Work, IsNextEvent, AreAllEvents, closing_text, cut_at, first_link, form_refuses, form_takes_memory, outcome, progress_behind, text_behind}
 use Rattle.cap_tools.specs.Reports.{name_at}
 use Rattle.cap_tools.specs.Start.{Assignment, Preparing, ReadsFilter, Compiles}
 use Rattle.cap_octet.specs.Packet.{Captured}
@@ -54,11 +54,11 @@ whole_inputs call = map (λ (input : FreshInput). whole_input input.text) call.i
 -- ---- the outcome of a command
 
 -- why the filter of a print, or the expression of a compilation, is refused
-abbrev pub IsRefused : Option Preparing → Refusal → Type 0
-IsRefused None why = ⊥
-IsRefused (Some (ReadsFilter filter)) why = IsWhy filter.words filter.code why
-IsRefused (Some (Compiles words link)) (refusal.Expression fault) = IsReasonFor words fault
-IsRefused (Some (Compiles words link)) why = ⊥
+abbrev pub IsWhyRefused : Option Preparing → Refusal → Type 0
+IsWhyRefused None why = ⊥
+IsWhyRefused (Some (ReadsFilter filter)) why = IsWhy filter.words filter.code why
+IsWhyRefused (Some (Compiles words link)) (refusal.Expression fault) = IsReasonFor words fault
+IsWhyRefused (Some (Compiles words link)) why = ⊥
 
 abbrev pub refusal_outcome : Refusal → Outcome
 refusal_outcome why = record { output = []; messages = refusal_message why; status = refusal_status why }
@@ -66,10 +66,10 @@ refusal_outcome why = record { output = []; messages = refusal_message why; stat
 abbrev pub listing_outcome : List Insn → Outcome
 listing_outcome prog = record { output = listing prog; messages = []; status = 0 }
 
--- what a command leaves where no device fails and there is memory
+-- what a command defines; or no memory for its filter or its expression
 pub data IsOutcome (asked : Assignment) (call : Call) : Outcome → Type 0 where
   of_packets : (work : Work) → IsWork asked call work → IsOutcome asked call (outcome work call.names (whole_inputs call))
-  of_refusal : (why : Refusal) → IsRefused asked.preparing why → IsOutcome asked call (refusal_outcome why)
+  of_refusal : (why : Refusal) → IsWhyRefused asked.preparing why → IsOutcome asked call (refusal_outcome why)
   of_listing : (words : List ℕ) (link : Link) (prog : List Insn) → asked.preparing ≡ Some (Compiles words link) → IsCompiled words link prog → IsOutcome asked call (listing_outcome prog)
 
 -- The outcome is written behind what the output held, and reported. The output's device didn't fail.
@@ -83,7 +83,7 @@ pub record HasLeft (call : Call) (o : Outcome) (r : RunResult) : Type 0 where
 
 -- ---- an input is cut short
 
--- its device failed, and it is one that may fail; or there was no memory for its next unit
+-- a read failed, which only a device that may fail does; or there was no memory for its next unit
 abbrev pub IsWhyCut : Fault → FreshInput → Type 0
 IsWhyCut fault input = ((fault ≡ ReadFailed) × (input.never_fails ≡ false)) ⊎ (fault ≡ NoMemory)
 
@@ -104,7 +104,7 @@ pub record HasCutInput (call : Call) (work : Work) (r : RunResult) : Type 0 wher
 abbrev pub next_judgement : Work → List Event → Captured → Judgement
 next_judgement work es p = judge work.policy (progress_behind work es).state ((progress_behind work es).decided + 1) p
 
--- behind these events there was no memory to write the next packet, which is kept
+-- behind these events there was no memory to write the next packet, which is kept, and takes some
 pub record HasLackedMemory (call : Call) (work : Work) (r : RunResult) : Type 0 where
   pub events : List Event
   pub input : ℕ
@@ -112,6 +112,8 @@ pub record HasLackedMemory (call : Call) (work : Work) (r : RunResult) : Type 0 
   pub next : IsNextEvent work (whole_inputs call) events (Packet input packet)
   pub kept : Captured
   pub passes : PassesAs (next_judgement work events packet.packet).verdict kept
+  pub taken : form_refuses work.form (progress_behind work events).packets kept ≡ None
+  pub takes : form_takes_memory work.form (progress_behind work events).packets kept ≡ true
   pub output : r.output.written ≡ call.output.written ++ text_behind work events
   pub failures : r.output.failures ≡ call.output.failures
   pub message : IsTold call.tells call.messages (fault_message (name_at call.names input) packet.offset NoMemory) r.messages

@@ -108,7 +108,8 @@ impl<I: Input, O: Output, E: Output, A: Allocator + Copy + Drop> Job<I, O, E, A>
     ghost use Rattle.cap_filter.specs.Filters.{AreNew, programs_of, rule_of};
     ghost use Rattle.cap_filter.specs.Messages.{refusal_status};
     ghost use Rattle.cap_tools.specs.Commands.{CompileGives, DecidedBy, FilterGives, GivesBy};
-    ghost use Rattle.cap_tools.specs.Commands.{Keeps, KeepsFirst, PreparesOnly, StepReadsBy};
+    ghost use Rattle.cap_tools.specs.Commands.{Keeps, KeepsFirst, PreparesBy, PreparesOnly};
+    ghost use Rattle.cap_tools.specs.Commands.{StepReadsBy};
     ghost use Rattle.cap_tools.specs.FirstStep.{EndsList, IsFresh, Refuses, filtering, is_text};
     ghost use Rattle.cap_tools.specs.Jobs.{IsStatus, JobGives, done_by, first_job};
     ghost use Rattle.cap_inputs.specs.Fresh.{fresh_input};
@@ -174,6 +175,7 @@ impl<I: Input, O: Output, E: Output, A: Allocator + Copy + Drop> Job<I, O, E, A>
             × (self.new ≡ self.old) }
         ensures told { IsTrue I.tells → IsTrue O.tells → self.old.done ≡ None
             → GivesBy self.old.preparing E.tells self.old result self.new }
+        ensures prepares { PreparesBy self.old.preparing O.tells E.tells self.old result self.new }
         ensures keeps { Keeps self.old result self.new }
         ensures reads { StepReadsBy self.old.preparing I.tells (turn_goes_on result)
             self.old self.new }
@@ -239,6 +241,7 @@ impl<I: Input, O: Output, E: Output, A: Allocator + Copy + Drop> Job<I, O, E, A>
             self.new }
         ensures light { IsLight self.new.machine }
         ensures sound { HavePrograms self.new.machine.policy self.new.programs }
+        ensures quiet { result ≡ Turn.More → self.new.err ≡ self.old.err }
         ensures left { result ≡ Turn.More → (self.new.turns ≡ self.old.turns + 1)
             × (steps_left self.new.machine.inputs < steps_left self.old.machine.inputs) }
         ensures kept { (self.new.machine.output.names ≡ self.old.machine.output.names)
@@ -396,6 +399,7 @@ impl<I: Input, O: Output, E: Output, A: Allocator + Copy + Drop> Job<I, O, E, A>
         ensures light { IsLight self.new.machine }
         ensures sound { HavePrograms self.new.machine.policy self.new.programs }
         ensures names { self.new.machine.output.names ≡ self.old.machine.output.names }
+        ensures ends { result ≡ Turn.More → ⊥ }
     {
         match self.output.list(program) {
             Ok(()) => self.end(JobEnd::Complete),

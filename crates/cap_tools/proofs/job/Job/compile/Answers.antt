@@ -22,4 +22,5 @@ returns-in-Ok-clause-keeps g c =
       sound = c.list.ensures.sound;
       inputs = c.list.ensures.inputs;
       names = c.list.ensures.names;
+      quiet = λ more. absurd (c.list.ensures.ends more);
     }

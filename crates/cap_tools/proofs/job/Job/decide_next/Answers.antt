@@ -75,6 +75,7 @@ returns-in-Err g c =
           subst K (sym c.in-Err.ensures.policy)
           (answer-leaves ss before m.inputs.cursors m.inputs.order m.policy m.state m.output m.decided c.args.input (Err c.in-Err.fault) c.cursor.result.now (policy_state j) (output_at c.self.inside.messages.names c.decide.new.output) refl tells c.cursor.ensures c.in-Err.ensures.policy c.in-Err.ensures.passed c.in-Err.ensures.counted (let i = c.self.invariant.0 in omega (arith, i)) (c.in-Err.ensures.told to) d);
       reads = leaves_one c.args.input refl (record {
+        next = tells;
         packet = h.packet;
         holds = record { cursor = c.cursor.result.now; among = c.cursor.ensures; waits = to-decide m.inputs.order m.inputs.cursors c.args.input c.cursor.result.now tells c.cursor.ensures; held = h.is };
         inputs = refl;
@@ -119,6 +120,7 @@ returns-after-last g c =
     let step : (r : Option JobEnd) → (IsTrue g.O.Output.tells → StepGives m r new.machine) → S r was = λ r told. record {
       told = λ ti to. told to;
       reads = decides_one c.args.input (record {
+        next = tells;
         packet = h.packet;
         holds = record { cursor = c.cursor.result.now; among = c.cursor.ensures; waits = to-decide m.inputs.order m.inputs.cursors c.args.input c.cursor.result.now tells c.cursor.ensures; held = h.is };
         settles = c.mark_decided.ensures;

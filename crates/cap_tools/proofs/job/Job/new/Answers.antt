@@ -1,3 +1,4 @@
+use Rattle.cap_filter.specs.Command.{most_inputs}
 use Rattle.std.proofs.Common.{◌≡◌, ◌≤◌, List, map, length, string_bytes, sym, ap, subst, ◌∙◌, arith}
 use Rattle.std.specs.List.{All}
 use Rattle.std.specs.Option.{option_map}
@@ -10,7 +11,7 @@ use Rattle.cap_tools.specs.Selector.{HasFewMarks, HavePrograms, SelectorView, po
 use Rattle.cap_inputs.specs.Sequence.{PacketOrder, order_of}
 use Rattle.cap_tools.specs.Start.{Assignment, preparing_of}
 use Rattle.cap_tools.specs.Call.{Call, call_of}
-use Rattle.cap_tools.specs.Jobs.{JobView, most_inputs}
+use Rattle.cap_tools.specs.Jobs.{JobView}
 use Rattle.cap_inputs.specs.Fresh.{fresh_input, fresh_inputs, nothing_done}
 use Rattle.cap_tools.specs.Commands.{DecidedBy, IsReadyIf}
 use Rattle.cap_tools.proofs.CommandStarts.{few-inputs, first-decided, first-made, first-ready}

@@ -87,7 +87,7 @@ returns-in-Ok-true g c =
           let L : Result Bool Fault → Type 0 = λ a. FetchLeaves d c.args.input a None left in
           subst L found
           (read_input-leaves ss before m.inputs.cursors m.inputs.order m.policy m.state m.output m.decided c.args.input c.read_input.result c.read_input.new.self None (policy_state j) m.output tells (c.read_input.ensures.told ti) d (subst F (sym found) (refl, refl)));
-      reads = reads_on c.args.input c.read_input.result (λ on. ap is_fault c.in-Ok-true.is) (record { fetches = c.read_input.ensures.steps; told = c.read_input.ensures.told; decided = refl; programs = refl; output = λ on. refl });
+      reads = reads_on c.args.input c.read_input.result (λ on. ap is_fault c.in-Ok-true.is) (record { next = tells; fetches = c.read_input.ensures.steps; told = c.read_input.ensures.told; decided = refl; programs = refl; output = λ on. refl });
       progress = λ more. read_input-less c.self.inside.inputs c.read_input.new.self c.args.input c.read_input.result tells c.read_input.ensures.steps (subst Goes (sym c.in-Ok-true.is) tt);
       paid = λ more. read_input-paid c.self.inside.inputs c.read_input.new.self c.args.input c.read_input.result tells c.read_input.ensures.steps (subst Goes (sym c.in-Ok-true.is) tt);
       light = is-light left (read_input-small c.self.inside.inputs c.read_input.new.self c.args.input c.read_input.result c.read_input.ensures.steps c.self.invariant.1.0, c.self.invariant.1.1) c.self.invariant.2;
@@ -121,6 +121,7 @@ returns-in-Ok-false g c =
           subst K (sym c.close.ensures.policy) (subst L found
           (read_input-leaves ss before m.inputs.cursors m.inputs.order m.policy m.state m.output m.decided c.args.input c.read_input.result c.read_input.new.self c.close.result (policy_state j') (output_at c.self.inside.messages.names c.close.new.output) tells (c.read_input.ensures.told ti) d (subst F (sym found) (c.close.ensures.told to))));
       reads = reads_on c.args.input c.read_input.result (λ on. ap is_fault c.in-Ok-false.is) (record {
+        next = tells;
         fetches = c.read_input.ensures.steps;
         told = c.read_input.ensures.told;
         decided = refl;
@@ -160,7 +161,7 @@ returns-in-Err g c =
           let L : Result Bool Fault → Type 0 = λ a. FetchLeaves d c.args.input a None left in
           subst L c.in-Err.is
           (read_input-leaves ss before m.inputs.cursors m.inputs.order m.policy m.state m.output m.decided c.args.input c.read_input.result c.read_input.new.self None (policy_state j) m.output tells (c.read_input.ensures.told ti) d (subst F (sym c.in-Err.is) (refl, refl)));
-      reads = reads_on c.args.input c.read_input.result (λ on. (cc)) (record { fetches = c.read_input.ensures.steps; told = c.read_input.ensures.told; decided = refl; programs = refl; output = λ on. refl });
+      reads = reads_on c.args.input c.read_input.result (λ on. (cc)) (record { next = tells; fetches = c.read_input.ensures.steps; told = c.read_input.ensures.told; decided = refl; programs = refl; output = λ on. refl });
       progress = λ more. (cc);
       paid = λ more. (cc);
       light = is-light left (read_input-small c.self.inside.inputs c.read_input.new.self c.args.input c.read_input.result c.read_input.ensures.steps c.self.invariant.1.0, c.self.invariant.1.1) c.self.invariant.2;
