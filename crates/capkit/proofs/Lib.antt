@@ -1,5 +1,6 @@
 mod Enters
 mod FileNames
+mod Folds
 pub mod Getters
 mod Joining
 mod LocalOptions
