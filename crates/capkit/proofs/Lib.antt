@@ -7,6 +7,7 @@ mod LocalOptions
 mod Numbers
 mod OptionValues
 mod Parses
+mod PrintReady
 mod RangeWords
 mod Saying
 mod WrittenRanges
