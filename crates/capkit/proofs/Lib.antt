@@ -1,11 +1,13 @@
 mod Enters
 mod FileNames
+mod Folds
 pub mod Getters
 mod Joining
 mod LocalOptions
 mod Numbers
 mod OptionValues
 mod Parses
+mod PrintReady
 mod RangeWords
 mod Saying
 mod WrittenRanges

@@ -1,14 +1,21 @@
 -- The command line as clap parses it.
-use Rattle.std.specs.Prelude.{◌≡◌, ℕ, List, [], ◌∷◌, Option, Some, true, codes, if◌then◌else◌, map, pos}
+use Rattle.std.specs.Prelude.{◌≡◌, ℕ, List, [], ◌∷◌, Option, Some, true, codes, if◌then◌else◌, fold, map, pos}
 use Rattle.std.specs.Str.{bytes_eq}
-use Rattle.clap.specs.Words.{App, HasKind, Row, Rule, Text, fault_of, is_simple, is_simple_and_free, kind_of, new_app, new_rule, subcommand_of, takes, with_rule, with_subcommand}
+use Rattle.clap.specs.Words.{App, HasKind, Row, Rule, Shape, Text, fault_of, is_simple, is_simple_and_free, kind_of, new_app, new_rule, subcommand_of, takes, with_rule, with_subcommand}
 use Rattle.clap.specs.declared.builder.action.ArgAction.TheVariants.{SetTrue}
 use Rattle.clap.specs.declared.builder.value_parser.ValueParser.{ValueParser}
 use Rattle.clap.specs.declared.builder.value_parser.ValueParser.TheVariants as parser
 use Rattle.clap.specs.declared.error.Error.{Error}
 use Rattle.clap.specs.declared.error.kind.ErrorKind.TheVariants.{OutOfMemory}
+use Rattle.capkit.specs.declared.arguments.Choices.{Choices}
 use Rattle.capkit.specs.declared.arguments.Subcommand.{Subcommand}
 use Rattle.capkit.specs.declared.arguments.Subcommand.TheVariants as sub
+use Rattle.capkit.specs.declared.options.Argument.{Argument}
+use Rattle.capkit.specs.declared.options.CommandRow.{CommandRow}
+use Rattle.capkit.specs.declared.options.Name.{Name}
+use Rattle.capkit.specs.declared.options.Name.TheVariants as name
+use Rattle.capkit.specs.declared.options.Value.{Value}
+use Rattle.capkit.specs.declared.options.Value.TheVariants as value
 
 -- ---- arguments
 
@@ -115,55 +122,51 @@ many_rule id = record (new_rule id) { range = Some (record { start_inclusive = 0
 
 -- ---- commands
 
--- the options that select packets: `[-r] [-A T] [-B T]`
-abbrev pub selecting : App → App
-selecting app = with_rule (with_rule (with_rule app keep_rule) start_rule) stop_rule
-
--- the options that shorten packets: `[--chop-start N] [--chop-end N] [-s N]`
-abbrev pub shortening : App → App
-shortening app = with_rule (with_rule (with_rule app chop_start_rule) chop_end_rule) snap_rule
-
--- the options that shift times, and the one that leaves out duplicates: `[--later S] [--earlier S] [-D N]`
-abbrev pub shifting : App → App
-shifting app = with_rule (with_rule (with_rule app later_rule) earlier_rule) window_rule
+-- with these arguments behind its own
+abbrev pub with_rules : App → List Rule → App
+with_rules = fold with_rule
 
 -- `edit [-r] [-A T] [-B T] [--chop-start N] [--chop-end N] [-s N] [--later S] [--earlier S] [-D N] [-F FORMAT] IN OUT [RANGE..]`
 abbrev pub edit_app : ValueParser → App
-edit_app formats = with_rule (with_rule (with_rule (with_rule (shifting (shortening (selecting (new_app (codes "edit")))))
-    (format_rule formats)) (file_rule (codes "IN"))) (file_rule (codes "OUT"))) (many_rule (codes "RANGE"))
+edit_app formats = with_rules (new_app (codes "edit"))
+    (keep_rule ∷ start_rule ∷ stop_rule ∷ chop_start_rule ∷ chop_end_rule ∷ snap_rule ∷ later_rule ∷ earlier_rule
+    ∷ window_rule ∷ format_rule formats ∷ file_rule (codes "IN") ∷ file_rule (codes "OUT") ∷ many_rule (codes "RANGE") ∷ [])
 
 -- `merge [-a] [-F FORMAT] -w OUT FILE [MORE..]`
 abbrev pub merge_app : ValueParser → App
-merge_app formats = with_rule (with_rule (with_rule (with_rule (with_rule (new_app (codes "merge"))
-    append_rule) (format_rule formats)) output_rule) (file_rule (codes "FILE"))) (many_rule (codes "MORE"))
+merge_app formats = with_rules (new_app (codes "merge"))
+    (append_rule ∷ format_rule formats ∷ output_rule ∷ file_rule (codes "FILE") ∷ many_rule (codes "MORE") ∷ [])
 
 -- `infos FILE [MORE..]`
 abbrev pub infos_app : App
-infos_app = with_rule (with_rule (new_app (codes "infos")) (file_rule (codes "FILE"))) (many_rule (codes "MORE"))
-
--- the options of lines: `[-c N] [-e] [-x]`
-abbrev pub lining : App → App
-lining app = with_rule (with_rule (with_rule app count_rule) link_header_rule) bytes_rule
+infos_app = with_rules (new_app (codes "infos")) (file_rule (codes "FILE") ∷ many_rule (codes "MORE") ∷ [])
 
 -- `print [-c N] [-e] [-x] [-w OUT] [--format FORMAT] [--code LISTING] FILE [WORD..]`
 abbrev pub print_app : ValueParser → App
-print_app formats = with_rule (with_rule (with_rule (with_rule (with_rule (lining (new_app (codes "print")))
-    capture_rule) (long_format_rule formats)) listing_rule) (file_rule (codes "FILE"))) (many_rule (codes "WORD"))
+print_app formats = with_rules (new_app (codes "print"))
+    (count_rule ∷ link_header_rule ∷ bytes_rule ∷ capture_rule ∷ long_format_rule formats ∷ listing_rule
+    ∷ file_rule (codes "FILE") ∷ many_rule (codes "WORD") ∷ [])
 
 -- `compile [--link LINK] [WORD..]`
 abbrev pub compile_app : ValueParser → App
-compile_app links = with_rule (with_rule (new_app (codes "compile")) (link_rule links)) (many_rule (codes "WORD"))
+compile_app links = with_rules (new_app (codes "compile")) (link_rule links ∷ many_rule (codes "WORD") ∷ [])
+
+-- with these subcommands behind its own
+abbrev pub with_shapes : App → List Shape → App
+with_shapes = fold with_subcommand
 
 abbrev pub bare_line : App
 bare_line =
     let app = new_app (codes "capkit") in
     record app { top = record app.top { has_version = true; subcommand_required = true; disable_help_subcommand = true } }
 
+abbrev pub line_shapes : (formats links : ValueParser) → List Shape
+line_shapes formats links =
+    (edit_app formats).top ∷ (merge_app formats).top ∷ infos_app.top ∷ (print_app formats).top ∷ (compile_app links).top ∷ []
+
 -- the whole line, with `--version` and no subcommand `help`
 abbrev pub line_app : (formats links : ValueParser) → App
-line_app formats links =
-    with_subcommand (with_subcommand (with_subcommand (with_subcommand (with_subcommand bare_line
-    (edit_app formats).top) (merge_app formats).top) infos_app.top) (print_app formats).top) (compile_app links).top
+line_app formats links = with_shapes bare_line (line_shapes formats links)
 
 -- what clap states of a parse, it states of simple commands, and why one fails, of simple and free ones: the line is both
 abbrev pub LineIsSimple : Type 0
@@ -171,6 +174,38 @@ LineIsSimple = (formats links : ValueParser) → is_simple (line_app formats lin
 
 abbrev pub LineIsFree : Type 0
 LineIsFree = (formats links : ValueParser) → is_simple_and_free (line_app formats links) ≡ true
+
+-- ---- tables of arguments
+
+abbrev pub named : Name → Rule → Rule
+named name.Place rule = rule
+named (name.Letter letter) rule = record rule { short = Some letter }
+named (name.Long long) rule = record rule { long = Some long.now }
+
+abbrev pub with_value : Choices → Value → Rule → Rule
+with_value choices value.Flag rule = record rule { action = Some SetTrue }
+with_value choices (value.Text shown) rule = record rule { value_names = 1 }
+with_value choices (value.Number shown least most) rule =
+    record rule { value_names = 1; parser = Some (parser.Signed least most) }
+with_value choices (value.Wide shown least most) rule =
+    record rule { value_names = 1; parser = Some (parser.Unsigned least most) }
+with_value choices value.Format rule = record rule { parser = Some (parser.Names choices.formats) }
+with_value choices value.Link rule = record rule { parser = Some (parser.Names choices.links) }
+with_value choices value.File rule = rule
+with_value choices value.NeededFile rule = record rule { required = true }
+with_value choices value.Words rule =
+    record rule { range = Some (record { start_inclusive = 0; end_inclusive = 18446744073709551615 }) }
+
+-- the rule of an argument's row
+abbrev pub rule_by : Choices → Argument → Rule
+rule_by choices argument =
+    with_value choices argument.value (named argument.name (new_rule argument.id.now))
+
+abbrev pub app_by : Choices → CommandRow → App
+app_by choices row = with_rules (new_app row.name.now) (map (rule_by choices) row.arguments.now)
+
+abbrev pub shape_by : Choices → CommandRow → Shape
+shape_by choices row = (app_by choices row).top
 
 -- ---- names to choose from
 

@@ -1,22 +1,15 @@
 //! The command line as clap parses it.
 ghost use Rattle.std.specs.Prelude.{◌≡◌, IfOk, IfErr, map, false, string_bytes};
-ghost use Rattle.clap.specs.Words.{app_of, subcommand_rows_of};
+ghost use Rattle.clap.specs.Words.{app_of, rule_of, subcommand_rows_of};
 ghost use Rattle.clap.specs.declared.builder.command.Command.TheViews.{out-Command as fields_of};
-ghost use Rattle.clap.specs.declared.builder.value_parser.ValueParser.TheVariants.{Names};
-ghost use Rattle.capkit.specs.Arguments.{edit_app, merge_app, infos_app, print_app, compile_app};
-ghost use Rattle.capkit.specs.Arguments.{line_app, lining, selecting, shifting, shortening};
 ghost use Rattle.capkit.specs.Arguments.{AreChoices, Takes, Refuses, format_names, link_names};
-ghost use Rattle.capkit.specs.Arguments.{subcommand_named};
+ghost use Rattle.capkit.specs.Arguments.{app_by, line_app, named, rule_by, shape_by};
+ghost use Rattle.capkit.specs.Arguments.{subcommand_named, with_rules, with_shapes};
 
-use crate::examples::{
-    COMPILE_HELP, EDIT_HELP, INFOS_HELP, LINE_HELP, MERGE_HELP, PRINT_HELP, VERSION,
-};
-use crate::options::{
-    append_arg, bytes_arg, capture_arg, chop_end_arg, chop_start_arg, count_arg, earlier_arg,
-    file_arg, format_arg, keep_arg, later_arg, link_arg, link_header_arg, listing_arg,
-    long_format_arg, many_arg, output_arg, snap_arg, start_arg, stop_arg, window_arg,
-};
-use clap::{ArgMatches, Command, Error};
+use crate::examples::{LINE_HELP, VERSION};
+use crate::options::{Argument, COMMANDS, CommandRow, Name, Value};
+use clap::builder::ValueParser;
+use clap::{Arg, ArgAction, ArgMatches, Command, Error};
 use std::alloc::{AllocError, Global};
 
 /// The names of the formats that can be written.
@@ -26,7 +19,7 @@ static FORMATS: [&str; 3] = ["pcap", "nsecpcap", "pcapng"];
 static LINKS: [&str; 3] = ["ether", "raw", "cooked"];
 
 /// What a line asks for.
-#[derive(Clone, Copy, Debug, PartialEq, Eq)]
+#[derive(Clone, Copy)]
 pub enum Subcommand {
     Edit,
     Merge,
@@ -48,144 +41,96 @@ pub fn subcommand_named(name: &str) -> Subcommand
     }
 }
 
-/// What an input is.
-const FILE_HELP: &str = "The capture that is read, or - for standard input";
+/// The names that arguments choose from.
+#[derive(Clone, Copy)]
+pub struct Choices<'a> {
+    formats: &'a [&'a str],
+    links: &'a [&'a str],
+}
 
-/// What the output is.
-const OUTPUT_HELP: &str = "The capture that is written, or - for standard output";
+fn named<'a>(arg: Arg<'a>, name: Name) -> Arg<'a>
+    ensures rule { rule_of result ≡ named name (rule_of arg.entry) }
+    ensures local { result.global ≡ arg.entry.global }
+{
+    match name {
+        Name::Place => arg,
+        Name::Letter(letter) => arg.short(letter),
+        Name::Long(name) => arg.long(name),
+    }
+}
 
-/// What the ranges are.
-const RANGE_HELP: &str = "Packets by their numbers from 1 on: N, or N-M from N to M";
+/// The argument of clap's that a row of a table describes.
+fn arg_of<'a>(alloc: Global, argument: Argument, choices: Choices<'a>) -> Arg<'a>
+    ensures rule { rule_of result ≡ rule_by choices.entry argument }
+    ensures local { result.global ≡ false }
+{
+    let arg = named(Arg::new(alloc, argument.id), argument.name).help(argument.help);
+    match argument.value {
+        Value::Flag => arg.action(ArgAction::SetTrue),
+        Value::Text(name) => arg.value_name(name),
+        Value::Number(name, least, most) => arg
+            .value_name(name)
+            .value_parser(ValueParser::Signed(least, most)),
+        Value::Wide(name, least, most) => arg
+            .value_name(name)
+            .value_parser(ValueParser::Unsigned(least, most)),
+        Value::Format => arg.value_parser(choices.formats),
+        Value::Link => arg.value_parser(choices.links),
+        Value::File => arg,
+        Value::NeededFile => arg.required(true),
+        Value::Words => arg.num_args(0..),
+    }
+}
 
-/// What the other inputs are.
-const MORE_HELP: &str = "More captures";
-
-/// What the words of an expression are.
-const WORD_HELP: &str = "The words of an expression, as in pcap-filter(7)";
-
-/// With the options that select packets.
-fn selecting<'a>(alloc: Global, command: Command<'a>) -> Result<Command<'a>, AllocError>
-    ensures shape { IfOk result (λ after. app_of after ≡ selecting (app_of command.entry)) }
+/// The command with these arguments behind its own.
+fn with_arguments<'a>(
+    alloc: Global,
+    command: Command<'a>,
+    arguments: &[Argument],
+    choices: Choices<'a>,
+) -> Result<Command<'a>, AllocError>
+    ensures shape { IfOk result (λ after. app_of after ≡ with_rules (app_of command.entry)
+        (map (rule_by choices.entry) arguments.now)) }
     ensures local { IfOk result (λ after. (fields_of after).has_globals
         ≡ (fields_of command.entry).has_globals) }
 {
-    let after = command
-        .arg(keep_arg(alloc))?
-        .arg(start_arg(alloc))?
-        .arg(stop_arg(alloc))?;
-    Ok(after)
-}
-
-/// With the options that shorten packets.
-fn shortening<'a>(alloc: Global, command: Command<'a>) -> Result<Command<'a>, AllocError>
-    ensures shape { IfOk result (λ after. app_of after ≡ shortening (app_of command.entry)) }
-    ensures local { IfOk result (λ after. (fields_of after).has_globals
-        ≡ (fields_of command.entry).has_globals) }
-{
-    let after = command
-        .arg(chop_start_arg(alloc))?
-        .arg(chop_end_arg(alloc))?
-        .arg(snap_arg(alloc))?;
-    Ok(after)
-}
-
-/// With the options that shift times, and the one that leaves out duplicates.
-fn shifting<'a>(alloc: Global, command: Command<'a>) -> Result<Command<'a>, AllocError>
-    ensures shape { IfOk result (λ after. app_of after ≡ shifting (app_of command.entry)) }
-    ensures local { IfOk result (λ after. (fields_of after).has_globals
-        ≡ (fields_of command.entry).has_globals) }
-{
-    let after = command
-        .arg(later_arg(alloc))?
-        .arg(earlier_arg(alloc))?
-        .arg(window_arg(alloc))?;
-    Ok(after)
-}
-
-/// With the options of lines.
-fn lining<'a>(alloc: Global, command: Command<'a>) -> Result<Command<'a>, AllocError>
-    ensures shape { IfOk result (λ after. app_of after ≡ lining (app_of command.entry)) }
-    ensures local { IfOk result (λ after. (fields_of after).has_globals
-        ≡ (fields_of command.entry).has_globals) }
-{
-    let after = command
-        .arg(count_arg(alloc))?
-        .arg(link_header_arg(alloc))?
-        .arg(bytes_arg(alloc))?;
-    Ok(after)
-}
-
-fn edit_command<'a>(alloc: Global, formats: &'a [&'a str]) -> Result<Command<'a>, AllocError>
-    ensures shape { IfOk result (λ command. app_of command ≡ edit_app (Names formats.entry)) }
-    ensures local { IfOk result (λ command. (fields_of command).has_globals ≡ false) }
-{
-    let bare = Command::new(alloc, "edit")
-        .about("Select packets of a capture, change them, and leave out duplicates")
-        .after_help(EDIT_HELP);
-    let selected = selecting(alloc, bare)?;
-    let shortened = shortening(alloc, selected)?;
-    let shifted = shifting(alloc, shortened)?;
-    let command = shifted
-        .arg(format_arg(alloc, formats))?
-        .arg(file_arg(alloc, "IN", FILE_HELP))?
-        .arg(file_arg(alloc, "OUT", OUTPUT_HELP))?
-        .arg(many_arg(alloc, "RANGE", RANGE_HELP))?;
+    let mut command = command;
+    for argument in arguments {
+        command = command.arg(arg_of(alloc, *argument, choices))?;
+    }
     Ok(command)
 }
 
-fn merge_command<'a>(alloc: Global, formats: &'a [&'a str]) -> Result<Command<'a>, AllocError>
-    ensures shape { IfOk result (λ command. app_of command ≡ merge_app (Names formats.entry)) }
+/// The subcommand that a row of the table describes.
+fn command_by<'a>(
+    alloc: Global,
+    row: &CommandRow,
+    choices: Choices<'a>,
+) -> Result<Command<'a>, AllocError>
+    ensures shape { IfOk result (λ command. app_of command ≡ app_by choices.entry row.now) }
     ensures local { IfOk result (λ command. (fields_of command).has_globals ≡ false) }
 {
-    let command = Command::new(alloc, "merge")
-        .about("Write the packets of captures as one capture, by time")
-        .after_help(MERGE_HELP)
-        .arg(append_arg(alloc))?
-        .arg(format_arg(alloc, formats))?
-        .arg(output_arg(alloc))?
-        .arg(file_arg(alloc, "FILE", FILE_HELP))?
-        .arg(many_arg(alloc, "MORE", MORE_HELP))?;
+    let bare = Command::new(alloc, row.name)
+        .about(row.about)
+        .after_help(row.examples);
+    let command = with_arguments(alloc, bare, row.arguments, choices)?;
     Ok(command)
 }
 
-fn infos_command<'a>(alloc: Global) -> Result<Command<'a>, AllocError>
-    ensures shape { IfOk result (λ command. app_of command ≡ infos_app) }
-    ensures local { IfOk result (λ command. (fields_of command).has_globals ≡ false) }
+/// The command with these subcommands behind its own.
+fn with_commands<'a>(
+    alloc: Global,
+    command: Command<'a>,
+    rows: &[CommandRow],
+    choices: Choices<'a>,
+) -> Result<Command<'a>, AllocError>
+    ensures { IfOk result (λ after. app_of after ≡ with_shapes (app_of command.entry)
+        (map (shape_by choices.entry) rows.now)) }
 {
-    let command = Command::new(alloc, "infos")
-        .about("Write a report on each capture")
-        .after_help(INFOS_HELP)
-        .arg(file_arg(alloc, "FILE", FILE_HELP))?
-        .arg(many_arg(alloc, "MORE", MORE_HELP))?;
-    Ok(command)
-}
-
-fn print_command<'a>(alloc: Global, formats: &'a [&'a str]) -> Result<Command<'a>, AllocError>
-    ensures shape { IfOk result (λ command. app_of command ≡ print_app (Names formats.entry)) }
-    ensures local { IfOk result (λ command. (fields_of command).has_globals ≡ false) }
-{
-    let bare = Command::new(alloc, "print")
-        .about("Print or write the packets that match an expression or a listing")
-        .after_help(PRINT_HELP);
-    let lined = lining(alloc, bare)?;
-    let command = lined
-        .arg(capture_arg(alloc))?
-        .arg(long_format_arg(alloc, formats))?
-        .arg(listing_arg(alloc))?
-        .arg(file_arg(alloc, "FILE", FILE_HELP))?
-        .arg(many_arg(alloc, "WORD", WORD_HELP))?;
-    Ok(command)
-}
-
-fn compile_command<'a>(alloc: Global, links: &'a [&'a str]) -> Result<Command<'a>, AllocError>
-    ensures shape { IfOk result (λ command. app_of command ≡ compile_app (Names links.entry)) }
-    ensures local { IfOk result (λ command. (fields_of command).has_globals ≡ false) }
-{
-    let command = Command::new(alloc, "compile")
-        .about("Write the listing of a program that an expression compiles to")
-        .after_help(COMPILE_HELP)
-        .arg(link_arg(alloc, links))?
-        .arg(many_arg(alloc, "WORD", WORD_HELP))?;
+    let mut command = command;
+    for row in rows {
+        command = command.subcommand(command_by(alloc, row, choices)?)?;
+    }
     Ok(command)
 }
 
@@ -194,24 +139,17 @@ fn line_command<'a>(alloc: Global) -> Result<Command<'a>, AllocError>
         × AreChoices link_names links
         × (app_of command ≡ line_app formats links)) }
 {
-    let formats = FORMATS.as_slice();
-    let links = LINKS.as_slice();
-    let edit = edit_command(alloc, formats)?;
-    let with_edit = Command::new(alloc, "capkit")
+    let choices = Choices {
+        formats: FORMATS.as_slice(),
+        links: LINKS.as_slice(),
+    };
+    let bare = Command::new(alloc, "capkit")
         .about("A workbench for saved packet captures")
         .after_help(LINE_HELP)
         .version(VERSION)
         .subcommand_required(true)
-        .disable_help_subcommand(true)
-        .subcommand(edit)?;
-    let merge = merge_command(alloc, formats)?;
-    let with_merge = with_edit.subcommand(merge)?;
-    let infos = infos_command(alloc)?;
-    let with_infos = with_merge.subcommand(infos)?;
-    let print = print_command(alloc, formats)?;
-    let with_print = with_infos.subcommand(print)?;
-    let compile = compile_command(alloc, links)?;
-    let command = with_print.subcommand(compile)?;
+        .disable_help_subcommand(true);
+    let command = with_commands(alloc, bare, &COMMANDS, choices)?;
     Ok(command)
 }
 

@@ -11,7 +11,7 @@ fn is_among(names: &[&str], wanted: &str) -> bool
     ensures { result ≡ list_any (λ name. bytes_eq name wanted.now)
         (map (λ name. name.now) names.now) }
 {
-    names.iter().any(|name| *name == wanted)
+    names.contains(&wanted)
 }
 
 /// How many of the names are those of a standard stream.

@@ -1,244 +1,271 @@
-//! The arguments of the command line.
-ghost use Rattle.std.specs.Prelude.{◌≡◌, false};
-ghost use Rattle.clap.specs.Words.{rule_of};
-ghost use Rattle.clap.specs.declared.builder.value_parser.ValueParser.TheVariants.{Names};
-ghost use Rattle.capkit.specs.Arguments.{append_rule, bytes_rule, capture_rule, chop_end_rule};
-ghost use Rattle.capkit.specs.Arguments.{chop_start_rule, count_rule, earlier_rule, file_rule};
-ghost use Rattle.capkit.specs.Arguments.{flag_rule, format_rule, keep_rule, later_rule};
-ghost use Rattle.capkit.specs.Arguments.{letter_rule, link_header_rule, link_rule, listing_rule};
-ghost use Rattle.capkit.specs.Arguments.{long_format_rule, many_rule, name_rule, output_rule};
-ghost use Rattle.capkit.specs.Arguments.{snap_rule, start_rule, stop_rule, window_rule};
+//! The subcommands and their arguments, as tables.
 
-use clap::builder::ValueParser;
-use clap::{Arg, ArgAction};
-use std::alloc::Global;
+use crate::examples::{COMPILE_HELP, EDIT_HELP, INFOS_HELP, MERGE_HELP, PRINT_HELP};
 
-/// What the option of a format is for. `{n}` ends a line of help, which has 80 columns at most.
-const FORMAT_HELP: &str = "Format to write, pcapng if none is given{n}";
+/// How an argument is named.
+#[derive(Clone, Copy)]
+pub enum Name {
+    /// By its place.
+    Place,
+    /// `-LETTER`
+    Letter(char),
+    /// `--NAME`
+    Long(&'static str),
+}
+
+/// What an argument takes. A text with it is what help calls the value.
+#[derive(Clone, Copy)]
+pub enum Value {
+    /// Nothing: it is a flag.
+    Flag,
+    /// One text.
+    Text(&'static str),
+    /// A number within these bounds, which are below 2^63.
+    Number(&'static str, i64, i64),
+    /// A number of 64 bits within these bounds.
+    Wide(&'static str, u64, u64),
+    /// The name of a format.
+    Format,
+    /// The name of a link.
+    Link,
+    /// The name of a file.
+    File,
+    /// The name of a file, which the command needs.
+    NeededFile,
+    /// As many words as there are. It is the last argument of its command.
+    Words,
+}
+
+/// An argument of a subcommand.
+#[derive(Clone, Copy)]
+pub struct Argument {
+    /// By this its value is read back.
+    pub id: &'static str,
+    pub name: Name,
+    pub value: Value,
+    /// What help says of it. `{n}` ends a line of help, which has 80 columns at most.
+    pub help: &'static str,
+}
+
+/// A subcommand.
+#[derive(Clone, Copy)]
+pub struct CommandRow {
+    pub name: &'static str,
+    /// What help says of it.
+    pub about: &'static str,
+    /// What stands below the options in help.
+    pub examples: &'static str,
+    pub arguments: &'static [Argument],
+}
 
 /// The greatest number of 32 bits.
 const MOST: i64 = 4_294_967_295;
 
-/// `-LETTER`
-fn flag_arg<'a>(alloc: Global, id: &'a str, letter: char, help: &'a str) -> Arg<'a>
-    ensures rule { rule_of result ≡ flag_rule id.entry.now letter }
-    ensures local { result.global ≡ false }
-{
-    Arg::new(alloc, id)
-        .short(letter)
-        .action(ArgAction::SetTrue)
-        .help(help)
-}
+const FORMAT_HELP: &str = "Format to write, pcapng if none is given{n}";
 
-/// `-LETTER VALUE`
-fn letter_arg<'a>(alloc: Global, id: &'a str, letter: char, value: &'a str) -> Arg<'a>
-    ensures rule { rule_of result ≡ letter_rule id.entry.now letter }
-    ensures local { result.global ≡ false }
-{
-    Arg::new(alloc, id).short(letter).value_name(value)
-}
+const FILE: Argument = Argument {
+    id: "FILE",
+    name: Name::Place,
+    value: Value::NeededFile,
+    help: "The capture that is read, or - for standard input",
+};
 
-/// `--NAME VALUE`
-fn name_arg<'a>(alloc: Global, id: &'a str, name: &'a str, value: &'a str) -> Arg<'a>
-    ensures rule { rule_of result ≡ name_rule id.entry.now name.entry.now }
-    ensures local { result.global ≡ false }
-{
-    Arg::new(alloc, id).long(name).value_name(value)
-}
+const MORE: Argument = Argument {
+    id: "MORE",
+    name: Name::Place,
+    value: Value::Words,
+    help: "More captures",
+};
 
-pub fn keep_arg<'a>(alloc: Global) -> Arg<'a>
-    ensures rule { rule_of result ≡ keep_rule }
-    ensures local { result.global ≡ false }
-{
-    flag_arg(
-        alloc,
-        "keep",
-        'r',
-        "Keep the packets of the ranges, and no others",
-    )
-}
+const WORD: Argument = Argument {
+    id: "WORD",
+    name: Name::Place,
+    value: Value::Words,
+    help: "The words of an expression, as in pcap-filter(7)",
+};
 
-pub fn start_arg<'a>(alloc: Global) -> Arg<'a>
-    ensures rule { rule_of result ≡ start_rule }
-    ensures local { result.global ≡ false }
-{
-    letter_arg(alloc, "start", 'A', "T").help(
-        "Keep times from T on: 2026-01-31T12:00:00Z, or seconds",
-    )
-}
+const EDIT: CommandRow = CommandRow {
+    name: "edit",
+    about: "Select packets of a capture, change them, and leave out duplicates",
+    examples: EDIT_HELP,
+    arguments: &[
+        Argument {
+            id: "keep",
+            name: Name::Letter('r'),
+            value: Value::Flag,
+            help: "Keep the packets of the ranges, and no others",
+        },
+        Argument {
+            id: "start",
+            name: Name::Letter('A'),
+            value: Value::Text("T"),
+            help: "Keep times from T on: 2026-01-31T12:00:00Z, or seconds",
+        },
+        Argument {
+            id: "stop",
+            name: Name::Letter('B'),
+            value: Value::Text("T"),
+            help: "Keep times before T",
+        },
+        Argument {
+            id: "chop_start",
+            name: Name::Long("chop-start"),
+            value: Value::Number("N", 0, MOST),
+            help: "Remove the first N captured bytes of each packet",
+        },
+        Argument {
+            id: "chop_end",
+            name: Name::Long("chop-end"),
+            value: Value::Number("N", 0, MOST),
+            help: "Remove the last N captured bytes, after --chop-start",
+        },
+        Argument {
+            id: "snap",
+            name: Name::Letter('s'),
+            value: Value::Number("N", 1, MOST),
+            help: "Keep at most N captured bytes, after the chops",
+        },
+        Argument {
+            id: "later",
+            name: Name::Long("later"),
+            value: Value::Text("S"),
+            help: "Move times S seconds later, as 0.000000001",
+        },
+        Argument {
+            id: "earlier",
+            name: Name::Long("earlier"),
+            value: Value::Text("S"),
+            help: "Move times S seconds earlier",
+        },
+        Argument {
+            id: "window",
+            name: Name::Letter('D'),
+            value: Value::Number("N", 2, 1_000_000),
+            help: "Leave out duplicates within N packets, 2 to 1000000",
+        },
+        Argument {
+            id: "FORMAT",
+            name: Name::Letter('F'),
+            value: Value::Format,
+            help: FORMAT_HELP,
+        },
+        Argument {
+            id: "IN",
+            name: Name::Place,
+            value: Value::NeededFile,
+            help: "The capture that is read, or - for standard input",
+        },
+        Argument {
+            id: "OUT",
+            name: Name::Place,
+            value: Value::NeededFile,
+            help: "The capture that is written, or - for standard output",
+        },
+        Argument {
+            id: "RANGE",
+            name: Name::Place,
+            value: Value::Words,
+            help: "Packets by their numbers from 1 on: N, or N-M from N to M",
+        },
+    ],
+};
 
-pub fn stop_arg<'a>(alloc: Global) -> Arg<'a>
-    ensures rule { rule_of result ≡ stop_rule }
-    ensures local { result.global ≡ false }
-{
-    letter_arg(alloc, "stop", 'B', "T").help("Keep times before T")
-}
+const MERGE: CommandRow = CommandRow {
+    name: "merge",
+    about: "Write the packets of captures as one capture, by time",
+    examples: MERGE_HELP,
+    arguments: &[
+        Argument {
+            id: "append",
+            name: Name::Letter('a'),
+            value: Value::Flag,
+            help: "Join the captures, one behind another, and don't merge by time",
+        },
+        Argument {
+            id: "FORMAT",
+            name: Name::Letter('F'),
+            value: Value::Format,
+            help: FORMAT_HELP,
+        },
+        Argument {
+            id: "OUT",
+            name: Name::Letter('w'),
+            value: Value::NeededFile,
+            help: "The capture that is written, or - for standard output",
+        },
+        FILE,
+        MORE,
+    ],
+};
 
-pub fn chop_start_arg<'a>(alloc: Global) -> Arg<'a>
-    ensures rule { rule_of result ≡ chop_start_rule }
-    ensures local { result.global ≡ false }
-{
-    name_arg(alloc, "chop_start", "chop-start", "N")
-        .value_parser(ValueParser::Signed(0, MOST))
-        .help("Remove the first N captured bytes of each packet")
-}
+const INFOS: CommandRow = CommandRow {
+    name: "infos",
+    about: "Write a report on each capture",
+    examples: INFOS_HELP,
+    arguments: &[FILE, MORE],
+};
 
-pub fn chop_end_arg<'a>(alloc: Global) -> Arg<'a>
-    ensures rule { rule_of result ≡ chop_end_rule }
-    ensures local { result.global ≡ false }
-{
-    name_arg(alloc, "chop_end", "chop-end", "N")
-        .value_parser(ValueParser::Signed(0, MOST))
-        .help("Remove the last N captured bytes, after --chop-start")
-}
+/// Without `-w` a print writes lines.
+const PRINT: CommandRow = CommandRow {
+    name: "print",
+    about: "Print or write the packets that match an expression or a listing",
+    examples: PRINT_HELP,
+    arguments: &[
+        Argument {
+            id: "count",
+            name: Name::Letter('c'),
+            value: Value::Wide("N", 1, u64::MAX),
+            help: "End after N packets that match, 1 or more",
+        },
+        Argument {
+            id: "link",
+            name: Name::Letter('e'),
+            value: Value::Flag,
+            help: "Print the link header of each packet too",
+        },
+        Argument {
+            id: "bytes",
+            name: Name::Letter('x'),
+            value: Value::Flag,
+            help: "Print the bytes behind the link header too",
+        },
+        Argument {
+            id: "OUT",
+            name: Name::Letter('w'),
+            value: Value::File,
+            help: "Write the packets to OUT (- is standard output) instead",
+        },
+        Argument {
+            id: "FORMAT",
+            name: Name::Long("format"),
+            value: Value::Format,
+            help: FORMAT_HELP,
+        },
+        Argument {
+            id: "LISTING",
+            name: Name::Long("code"),
+            value: Value::File,
+            help: "Program to match by, in place of an expression",
+        },
+        FILE,
+        WORD,
+    ],
+};
 
-pub fn snap_arg<'a>(alloc: Global) -> Arg<'a>
-    ensures rule { rule_of result ≡ snap_rule }
-    ensures local { result.global ≡ false }
-{
-    letter_arg(alloc, "snap", 's', "N")
-        .value_parser(ValueParser::Signed(1, MOST))
-        .help("Keep at most N captured bytes, after the chops")
-}
+const COMPILE: CommandRow = CommandRow {
+    name: "compile",
+    about: "Write the listing of a program that an expression compiles to",
+    examples: COMPILE_HELP,
+    arguments: &[
+        Argument {
+            id: "LINK",
+            name: Name::Long("link"),
+            value: Value::Link,
+            help: "What packets begin with, ether if none is given{n}",
+        },
+        WORD,
+    ],
+};
 
-pub fn later_arg<'a>(alloc: Global) -> Arg<'a>
-    ensures rule { rule_of result ≡ later_rule }
-    ensures local { result.global ≡ false }
-{
-    name_arg(alloc, "later", "later", "S").help("Move times S seconds later, as 0.000000001")
-}
-
-pub fn earlier_arg<'a>(alloc: Global) -> Arg<'a>
-    ensures rule { rule_of result ≡ earlier_rule }
-    ensures local { result.global ≡ false }
-{
-    name_arg(alloc, "earlier", "earlier", "S").help("Move times S seconds earlier")
-}
-
-pub fn window_arg<'a>(alloc: Global) -> Arg<'a>
-    ensures rule { rule_of result ≡ window_rule }
-    ensures local { result.global ≡ false }
-{
-    letter_arg(alloc, "window", 'D', "N")
-        .value_parser(ValueParser::Signed(2, 1_000_000))
-        .help("Leave out duplicates within N packets, 2 to 1000000")
-}
-
-pub fn count_arg<'a>(alloc: Global) -> Arg<'a>
-    ensures rule { rule_of result ≡ count_rule }
-    ensures local { result.global ≡ false }
-{
-    letter_arg(alloc, "count", 'c', "N")
-        .value_parser(ValueParser::Unsigned(1, u64::MAX))
-        .help("End after N packets that match, 1 or more")
-}
-
-pub fn link_header_arg<'a>(alloc: Global) -> Arg<'a>
-    ensures rule { rule_of result ≡ link_header_rule }
-    ensures local { result.global ≡ false }
-{
-    flag_arg(
-        alloc,
-        "link",
-        'e',
-        "Print the link header of each packet too",
-    )
-}
-
-pub fn bytes_arg<'a>(alloc: Global) -> Arg<'a>
-    ensures rule { rule_of result ≡ bytes_rule }
-    ensures local { result.global ≡ false }
-{
-    flag_arg(
-        alloc,
-        "bytes",
-        'x',
-        "Print the bytes behind the link header too",
-    )
-}
-
-pub fn append_arg<'a>(alloc: Global) -> Arg<'a>
-    ensures rule { rule_of result ≡ append_rule }
-    ensures local { result.global ≡ false }
-{
-    flag_arg(
-        alloc,
-        "append",
-        'a',
-        "Join the captures, one behind another, and don't merge by time",
-    )
-}
-
-pub fn format_arg<'a>(alloc: Global, formats: &'a [&'a str]) -> Arg<'a>
-    ensures rule { rule_of result ≡ format_rule (Names formats.entry) }
-    ensures local { result.global ≡ false }
-{
-    Arg::new(alloc, "FORMAT")
-        .short('F')
-        .value_parser(formats)
-        .help(FORMAT_HELP)
-}
-
-pub fn long_format_arg<'a>(alloc: Global, formats: &'a [&'a str]) -> Arg<'a>
-    ensures rule { rule_of result ≡ long_format_rule (Names formats.entry) }
-    ensures local { result.global ≡ false }
-{
-    Arg::new(alloc, "FORMAT")
-        .long("format")
-        .value_parser(formats)
-        .help(FORMAT_HELP)
-}
-
-pub fn file_arg<'a>(alloc: Global, id: &'a str, help: &'a str) -> Arg<'a>
-    ensures rule { rule_of result ≡ file_rule id.entry.now }
-    ensures local { result.global ≡ false }
-{
-    Arg::new(alloc, id).required(true).help(help)
-}
-
-pub fn output_arg<'a>(alloc: Global) -> Arg<'a>
-    ensures rule { rule_of result ≡ output_rule }
-    ensures local { result.global ≡ false }
-{
-    Arg::new(alloc, "OUT")
-        .short('w')
-        .required(true)
-        .help("The capture that is written, or - for standard output")
-}
-
-/// `-w OUT`, without which a print writes lines.
-pub fn capture_arg<'a>(alloc: Global) -> Arg<'a>
-    ensures rule { rule_of result ≡ capture_rule }
-    ensures local { result.global ≡ false }
-{
-    Arg::new(alloc, "OUT")
-        .short('w')
-        .help("Write the packets to OUT (- is standard output) instead")
-}
-
-pub fn listing_arg<'a>(alloc: Global) -> Arg<'a>
-    ensures rule { rule_of result ≡ listing_rule }
-    ensures local { result.global ≡ false }
-{
-    Arg::new(alloc, "LISTING")
-        .long("code")
-        .help("Program to match by, in place of an expression")
-}
-
-pub fn link_arg<'a>(alloc: Global, links: &'a [&'a str]) -> Arg<'a>
-    ensures rule { rule_of result ≡ link_rule (Names links.entry) }
-    ensures local { result.global ≡ false }
-{
-    Arg::new(alloc, "LINK")
-        .long("link")
-        .value_parser(links)
-        .help("What packets begin with, ether if none is given{n}")
-}
-
-/// The last argument of a command, of as many words as there are.
-pub fn many_arg<'a>(alloc: Global, id: &'a str, help: &'a str) -> Arg<'a>
-    ensures rule { rule_of result ≡ many_rule id.entry.now }
-    ensures local { result.global ≡ false }
-{
-    Arg::new(alloc, id).num_args(0..).help(help)
-}
+/// The subcommands, in the order in which help lists them.
+pub const COMMANDS: [CommandRow; 5] = [EDIT, MERGE, INFOS, PRINT, COMPILE];

@@ -1,7 +1,8 @@
-use Rattle.std.proofs.Common.{◌≡◌, ◌∙◌, ap₂, ap, codes, map, true}
+use Rattle.std.proofs.Common.{◌≡◌, ◌∙◌, ap, codes, map, true}
 use Rattle.clap.specs.Simple.{app_of_fields}
-use Rattle.clap.specs.Words.{App, app_of, new_app, with_subcommand}
-use Rattle.capkit.specs.Arguments.{bare_line}
+use Rattle.clap.specs.Words.{App, app_of, new_app}
+use Rattle.clap.specs.declared.builder.value_parser.ValueParser.TheVariants.{Names}
+use Rattle.capkit.specs.Arguments.{bare_line, line_shapes, with_shapes}
 use Rattle.capkit.proofs.arguments.line_command.Goals as goal
 
 abbrev versioned : App → App
@@ -24,20 +25,13 @@ returns c =
     ap app_of_fields c.version.ensures ∙ ap versioned helped in
     let required : app_of c.subcommand_required.result ≡ requiring (versioned named) =
     ap app_of_fields c.subcommand_required.ensures ∙ ap requiring numbered in
-    let alone : app_of c.disable_help_subcommand.result ≡ bare_line =
-    ap app_of_fields c.disable_help_subcommand.ensures ∙ ap without_help required in (
-      _,
-      _,
-      ap (map (λ name. name.now)) c.as_slice-formats.ensures,
-      ap (map (λ name. name.now)) c.as_slice-links.ensures,
-      c.in_ok-command.ensures.shape c.in_ok-compile.ensures.local
-          ∙ ap₂ with_subcommand (c.in_ok-with_print.ensures.shape c.in_ok-print.ensures.local
-          ∙ ap₂ with_subcommand (c.in_ok-with_infos.ensures.shape c.in_ok-infos.ensures.local
-          ∙ ap₂ with_subcommand (c.in_ok-with_merge.ensures.shape c.in_ok-merge.ensures.local
-          ∙ ap₂ with_subcommand (c.in_ok-with_edit.ensures.shape c.in_ok-edit.ensures.local
-          ∙ ap₂ with_subcommand alone (ap (λ (a : App). a.top) c.in_ok-edit.ensures.shape))
-          (ap (λ (a : App). a.top) c.in_ok-merge.ensures.shape))
-          (ap (λ (a : App). a.top) c.in_ok-infos.ensures.shape))
-          (ap (λ (a : App). a.top) c.in_ok-print.ensures.shape))
-          (ap (λ (a : App). a.top) c.in_ok-compile.ensures.shape),
+    let alone : app_of c.disable_help_subcommand-bare.result ≡ bare_line =
+    ap app_of_fields c.disable_help_subcommand-bare.ensures ∙ ap without_help required in
+    let formats = Names c.as_slice.result in
+    let links = Names c.as_slice-2.result in (
+      formats,
+      links,
+      ap (map (λ name. name.now)) c.as_slice.ensures,
+      ap (map (λ name. name.now)) c.as_slice-2.ensures,
+      c.in_ok-command.ensures ∙ ap (λ (a : App). with_shapes a (line_shapes formats links)) alone,
     )

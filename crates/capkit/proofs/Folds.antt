@@ -1,0 +1,10 @@
+-- One more row of a table, and then those behind it.
+use Rattle.std.proofs.Common.{◌≡◌, ◌∙◌, ◌∷◌, ◌+◌, ◌<◌, ap, sym, add-one, drop-cons, ℕ, List, length, drop, map, slice_index_or}
+use Rattle.std.specs.Prelude.{fold}
+
+pub one_more : {A B X : Type 0} (step : A → B → A) (f : X → B) (xs : List X) (i : ℕ) (d : X) (old new : A) (made : B) → i < length xs
+    → new ≡ step old made → made ≡ f (slice_index_or xs i d)
+    → fold step new (map f (drop (i + 1) xs)) ≡ fold step old (map f (drop i xs))
+one_more step f xs i d old new made within adds is =
+    let here : drop i xs ≡ slice_index_or xs i d ∷ drop (i + 1) xs = rw add-one (drop-cons xs i d within) in
+    ap (λ a. fold step a (map f (drop (i + 1) xs))) (adds ∙ ap (step old) is) ∙ ap (λ rest. fold step old (map f rest)) (sym here)

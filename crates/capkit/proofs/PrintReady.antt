@@ -1,0 +1,59 @@
+-- The line of a print without a fault may be run.
+use Rattle.std.proofs.Common.{◌≡◌, ◌∙◌, ap, arith, refl, codes, Bool, true, false, List, [], ◌∷◌, length, Option, Some, None, String, string_bytes, vec_len}
+use Rattle.std.specs.Prelude.{◌&&◌, ◌||◌, is_none, is_some, nat_eq, nat_lt, not, option_map, if◌then◌else◌}
+use Rattle.std.specs.Global.{Global}
+use Rattle.std.specs.List.{join_by}
+use Rattle.std.specs.Option.{option_map_or}
+use Rattle.std.proofs.lemmas.Bool.{and_from, eq-eqb, lt-ltb}
+use Rattle.cap_octet.specs.declared.format.Format.{Format}
+use Rattle.cap_filter.specs.Command.{has_one_filter, has_one_output, is_at_least_one, is_proper}
+use Rattle.clap.specs.Words.{Row, Text, first_of}
+use Rattle.capkit.specs.Line.{IsPrintOf, flag_in, format_in, has_exclusion, has_expression, has_two_filters, has_two_outputs, is_ready, or_else, print_fault, texts_in}
+use Rattle.capkit.specs.declared.line.Line.{Line}
+use Rattle.capkit.specs.declared.usage.Usage.{Usage}
+use Rattle.capkit.specs.declared.usage.Usage.TheVariants.{OptionsExclude}
+
+no_exclusion : (exclude : Bool) (next : Option Usage) → or_else (if exclude then Some OptionsExclude else None) next ≡ None → exclude ≡ false
+no_exclusion true next none = cc
+no_exclusion false next none = refl
+
+neither : (a b : Bool) → (a || b) ≡ false → (a ≡ false) × (b ≡ false)
+neither true b is = cc
+neither false b is = (refl, is)
+
+or_true : (b : Bool) → (b || true) ≡ true
+or_true true = refl
+or_true false = refl
+
+-- beside a listing there is no word, and so no expression
+one_filter : (listing : Option Text) (code : Option (String Global)) (words : List Text) (expr : Text) → option_map string_bytes code ≡ listing
+    → expr ≡ join_by (λ (word : Text). word) (codes " ") words → (is_some listing && nat_lt 0 (length words)) ≡ false
+    → (is_none code || not (nat_lt 0 (length expr))) ≡ true
+one_filter listing None words expr named is none = refl
+one_filter None (Some code) words expr named is none = cc
+one_filter (Some name) (Some code) [] expr named is none = ap (λ (text : Text). not (nat_lt 0 (length text))) is
+one_filter (Some name) (Some code) (word ∷ words) expr named is none =
+    let some : nat_lt 0 (length (word ∷ words)) ≡ true = lt-ltb 0 (length (word ∷ words)) (omega arith) in
+    cc
+
+-- beside a capture that is written no lines are asked for
+one_output : (output : Option Text) (format : Format) (write : Option Format) (link bytes : Bool) → write ≡ option_map (λ name. format) output
+    → (is_some output && (link || bytes)) ≡ false → has_one_output link bytes write ≡ true
+one_output None format write link bytes is none = ap (has_one_output link bytes) is
+one_output (Some name) format write link bytes is none = ap (has_one_output link bytes) is ∙ ap not none
+
+pub ready : (matches : List Row) (line : Line) (is : IsPrintOf matches line) → print_fault matches ≡ None → vec_len line.inputs ≡ 1
+    → option_map_or is_at_least_one is.print.count true ≡ true → is_ready line ≡ true
+ready matches line is none one count =
+    let print = is.print in
+    let filters = neither (has_two_filters matches) _ (no_exclusion (has_exclusion matches) _ none) in
+    let outputs = neither (has_two_outputs matches) _ filters.1 in
+    let unread : has_one_filter (string_bytes print.expr) print.code ≡ true =
+    ap (has_one_filter (string_bytes print.expr)) is.unread ∙ or_true (nat_eq (length (string_bytes print.expr)) 0) in
+    let output : has_one_output print.link print.bytes print.write ≡ true =
+    one_output (first_of (codes "OUT") matches) (format_in (codes "FORMAT") matches) print.write print.link print.bytes is.write
+    (ap (λ link. is_some (first_of (codes "OUT") matches) && (link || print.bytes)) is.link
+    ∙ ap (λ bytes. is_some (first_of (codes "OUT") matches) && (flag_in (codes "link") matches || bytes)) is.bytes ∙ outputs.0) in
+    ap (λ command. is_proper command (vec_len line.inputs) && (is_none line.code || not (has_expression command))) is.command
+    ∙ and_from _ _ (and_from _ _ (eq-eqb _ 1 one) (and_from _ _ unread (and_from _ _ output count)))
+    (one_filter (first_of (codes "LISTING") matches) line.code (texts_in (codes "WORD") matches) (string_bytes print.expr) is.code is.expr filters.0)
