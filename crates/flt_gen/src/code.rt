@@ -114,6 +114,7 @@ impl<A: Allocator> Code<A> {
     }
 
     /// A test that goes on at one of two places, a far one by a jump right behind it.
+    #[tactic(auto, unfolding(crate::specs::Code::branch_before))]
     pub fn put_branch(
         &mut self,
         test: Test,
