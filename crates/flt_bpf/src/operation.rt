@@ -6,7 +6,7 @@ ghost use Rattle.flt_bpf.specs.Instructions.{code_of, operation_of};
 ghost use Rattle.flt_bpf.specs.Machine.{size_of};
 
 /// A register of 32 bits.
-#[derive(Clone, Copy, PartialEq, Eq, Debug)]
+#[derive(Clone, Copy)]
 pub enum Register {
     /// A, which arithmetic and tests work on.
     Accumulator,
@@ -15,7 +15,7 @@ pub enum Register {
 }
 
 /// How many bytes of the packet a load takes: 4, 2 or 1.
-#[derive(Clone, Copy, PartialEq, Eq, Debug)]
+#[derive(Clone, Copy)]
 pub enum Width {
     Word,
     HalfWord,
@@ -37,7 +37,7 @@ impl Width {
 }
 
 /// What a register is loaded with, where it isn't bytes of the packet.
-#[derive(Clone, Copy, PartialEq, Eq, Debug)]
+#[derive(Clone, Copy)]
 pub enum Source {
     /// The number k.
     Immediate,
@@ -48,7 +48,7 @@ pub enum Source {
 }
 
 /// What arithmetic does with A and an operand, modulo 2^32.
-#[derive(Clone, Copy, PartialEq, Eq, Debug)]
+#[derive(Clone, Copy)]
 pub enum AluOperation {
     Add,
     Subtract,
@@ -67,7 +67,7 @@ pub enum AluOperation {
 }
 
 /// What a conditional jump asks of A and an operand.
-#[derive(Clone, Copy, PartialEq, Eq, Debug)]
+#[derive(Clone, Copy)]
 pub enum Test {
     Equal,
     Greater,
@@ -77,7 +77,7 @@ pub enum Test {
 }
 
 /// The second operand of arithmetic and of a test.
-#[derive(Clone, Copy, PartialEq, Eq, Debug)]
+#[derive(Clone, Copy)]
 pub enum Operand {
     /// The number k.
     Constant,
@@ -86,7 +86,7 @@ pub enum Operand {
 }
 
 /// What an instruction does.
-#[derive(Clone, Copy, PartialEq, Eq, Debug)]
+#[derive(Clone, Copy)]
 pub enum Operation {
     /// A = bytes of the packet at k.
     LoadAbsolute(Width),

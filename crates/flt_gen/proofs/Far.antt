@@ -153,6 +153,7 @@ needed_choice t o k hit miss c h false false false ea eb ed =
     needed_two c t o k hit miss far_hit far_miss h
 
 branch_needed : (t : Test) (o : Operand) (k hit miss : ℕ) (c : List Insn) → JumpsAreNeeded c → JumpsAreNeeded (branch_before t o k hit miss c)
+unfolding branch_before
 branch_needed t o k hit miss c h = needed_choice t o k hit miss c h _ _ _ refl refl refl
 
 field_needed : (place : Place) (w : Width) (c : List Insn) → JumpsAreNeeded c → JumpsAreNeeded (field_before place w c)

@@ -175,6 +175,7 @@ grows_on c d f m m' a b =
     record { sound = b.sound; longer = omega (arith, a.longer, b.longer); shorter = omega (arith, a.shorter, b.shorter); ends = b.ends }
 
 branch_grows : (t : Test) (operand : Operand) (k hit miss : ℕ) (c : List Insn) → IsFaultless c → ends_in_return c ≡ true → 0 < hit → hit ≤ length c → 0 < miss → miss ≤ length c → Grows c (branch_before t operand k hit miss c) 3
+unfolding branch_before
 branch_grows t operand k hit miss c s e ph lh pm lm =
     let none = grows_none c s e in
     let one_hit = grows_put c c 0 1 (plain Jump (length c - hit)) none (jump_fine (length c - hit) (length c) (omega arith)) (omega arith) in

@@ -6,15 +6,16 @@ use Rattle.flt_bpf.specs.declared.insn.Insn.{Insn}
 use Rattle.flt_words.specs.declared.token.Protocol.{Protocol}
 use Rattle.flt_words.specs.declared.token.Protocol.TheVariants.{Ip, Arp, Rarp}
 use Rattle.flt_words.specs.declared.token.ValueType.{ValueType}
-use Rattle.flt_words.specs.declared.token.ValueType.TheVariants.{Port}
+use Rattle.flt_words.specs.declared.token.ValueType.TheVariants.{Host, Port}
 use Rattle.flt_gen.specs.declared.link.Link.{Link}
 use Rattle.flt_gen.specs.declared.elementary.Elementary.{Elementary}
+use Rattle.flt_gen.specs.declared.elementary.Hosts.{Hosts}
 use Rattle.flt_gen.specs.declared.elementary.Hosts.TheVariants as hosts
 use Rattle.flt_gen.specs.declared.elementary.NetTest.{NetTest}
 use Rattle.flt_gen.specs.declared.elementary.PortTest.{PortTest}
 use Rattle.flt_gen.specs.declared.elementary.Ports.TheVariants.{One, Several}
 use Rattle.flt_gen.specs.Numbers.{accessor_tests}
-use Rattle.flt_gen.specs.Primitives.{net_formula, port_test, port_formula}
+use Rattle.flt_gen.specs.Primitives.{net_test, net_formula, port_test, port_formula}
 use Rattle.flt_gen.specs.Group.{Group, hosts_formula, one_formula, several_formula, formula_by, group_formula}
 use Rattle.flt_gen.specs.Formula.{Formula, all_of, guarded, checked}
 use Rattle.flt_gen.specs.declared.follow.Knowledge.{Knowledge}
@@ -61,6 +62,28 @@ several_ports link group p numbers k l e f =
     several = ap (λ (t : ValueType). several_formula link t group.protocol group.direction group.first group.numbers) k
 
     by_number : (ns : List ℕ) → (length ns ≡ 1 → ⊥) → formula_by link group ns ≡ port_formula link (port_test group.protocol group.direction (Several group.first)) group.numbers
+    by_number [] l = several
+    by_number (n ∷ []) l = absurd (l refl)
+    by_number (n ∷ m ∷ ns) l = several
+
+-- the formula of a group of hosts
+pub one_host : (link : Link) (group : Group) (protocol : Option Protocol) (net : NetTest) → group.value_type ≡ Host → length group.numbers ≡ 1 → protocol ≡ group.protocol → net ≡ net_test group.direction None group.first → group_formula link group ≡ net_formula link protocol net
+one_host link group protocol net k l p e =
+    by_number group.numbers l ∙ ap (λ (q : NetTest). net_formula link group.protocol q) (sym e) ∙ ap (λ (o : Option Protocol). net_formula link o net) (sym p)
+  where
+    by_number : (ns : List ℕ) → length ns ≡ 1 → formula_by link group ns ≡ net_formula link group.protocol (net_test group.direction None group.first)
+    by_number [] l = cc
+    by_number (n ∷ []) l = ap (λ (t : ValueType). one_formula link t group.protocol group.direction group.first) k
+    by_number (n ∷ m ∷ ns) l = absurd (omega arith)
+
+pub several_hosts : (link : Link) (group : Group) (protocol : Option Protocol) (h : Hosts) (numbers : List ℕ) → group.value_type ≡ Host → (length group.numbers ≡ 1 → ⊥) → protocol ≡ group.protocol → h ≡ hosts.Several group.direction group.first → numbers ≡ group.numbers → group_formula link group ≡ hosts_formula link protocol h numbers
+several_hosts link group protocol h numbers k l p e f =
+    by_number group.numbers l ∙ ap (λ (q : Hosts). hosts_formula link group.protocol q group.numbers) (sym e) ∙ ap (λ ns. hosts_formula link group.protocol h ns) (sym f) ∙ ap (λ (o : Option Protocol). hosts_formula link o h numbers) (sym p)
+  where
+    several : several_formula link group.value_type group.protocol group.direction group.first group.numbers ≡ hosts_formula link group.protocol (hosts.Several group.direction group.first) group.numbers
+    several = ap (λ (t : ValueType). several_formula link t group.protocol group.direction group.first group.numbers) k
+
+    by_number : (ns : List ℕ) → (length ns ≡ 1 → ⊥) → formula_by link group ns ≡ hosts_formula link group.protocol (hosts.Several group.direction group.first) group.numbers
     by_number [] l = several
     by_number (n ∷ []) l = absurd (l refl)
     by_number (n ∷ m ∷ ns) l = several

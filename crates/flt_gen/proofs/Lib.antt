@@ -4,6 +4,7 @@ pub mod Tails
 pub mod Search
 pub mod Ascending
 pub mod Onward
+pub mod Following
 pub mod Exclusive
 pub mod Numbers
 pub mod Runs

@@ -87,6 +87,7 @@ module _ (p : List ℕ) (n : ℕ) where
   past_jump tested c i to v s long ready l h = (let more : length c + 1 - to ≡ suc (length c - to) = omega arith in ap (λ k. answer_of (i ∷ c) p n k s) more) ∙ h.by s long ready
 
   branch_runs : (tested : Place) (t : Test) (operand : Operand) (k hit miss v w : ℕ) (c : List Insn) (s : State) → length s.memory ≡ 16 → Ready p n tested s.index → hit ≤ length c → miss ≤ length c → LeadsReady p n tested c hit v → LeadsReady p n tested c miss w → answer_of (branch_before t operand k hit miss c) p n 0 s ≡ Some (if holds t s.accumulator (value_of operand k s.index) then v else w)
+  unfolding branch_before
   branch_runs tested t operand k hit miss v w c s long ready lh lm h m =
       one_of_four Fine (nat_le (length c - hit) NEAR && nat_le (length c - miss) NEAR) (nat_le (length c + 1 - miss) NEAR) (nat_le (length c + 1 - hit) NEAR) _ _ _ _
       (run_branch p n t operand k (length c - hit) (length c - miss) c s ∙ two_ways c _ _ v w s truth (h.by s long ready) (m.by s long ready))
@@ -108,6 +109,7 @@ module _ (p : List ℕ) (n : ℕ) where
   past_at c i to v s l h = (let more : length c + 1 - to ≡ suc (length c - to) = omega arith in ap (λ k. answer_of (i ∷ c) p n k s) more) ∙ h
 
   branch_at : (t : Test) (operand : Operand) (k hit miss v w : ℕ) (c : List Insn) (s : State) → hit ≤ length c → miss ≤ length c → answer_of c p n (length c - hit) s ≡ Some v → answer_of c p n (length c - miss) s ≡ Some w → answer_of (branch_before t operand k hit miss c) p n 0 s ≡ Some (if holds t s.accumulator (value_of operand k s.index) then v else w)
+  unfolding branch_before
   branch_at t operand k hit miss v w c s lh lm h m =
       one_of_four Fine (nat_le (length c - hit) NEAR && nat_le (length c - miss) NEAR) (nat_le (length c + 1 - miss) NEAR) (nat_le (length c + 1 - hit) NEAR) _ _ _ _
       (run_branch p n t operand k (length c - hit) (length c - miss) c s ∙ two_ways c _ _ v w s truth h m)
@@ -296,6 +298,7 @@ module _ (p : List ℕ) (n : ℕ) where
   test_no_mask test.AnyBit IndexRegister = λ e. absurd (omega arith)
 
   branch_settled : (t : Test) (operand : Operand) (k hit miss : ℕ) (c : List Insn) → Calm c → Calm (branch_before t operand k hit miss c)
+  unfolding branch_before
   branch_settled t operand k hit miss c z =
       one_of_four (λ d. Calm d) (nat_le (length c - hit) NEAR && nat_le (length c - miss) NEAR) (nat_le (length c + 1 - miss) NEAR) (nat_le (length c + 1 - hit) NEAR) _ _ _ _
       (settled_put c _ (test_no_load t operand) z)
@@ -309,6 +312,7 @@ module _ (p : List ℕ) (n : ℕ) where
     masked : MaskedBranches p n c
 
   branch_behind : (t : Test) (operand : Operand) (k hit miss v w : ℕ) (c : List Insn) → hit ≤ length c → miss ≤ length c → Leads p n c hit v → Leads p n c miss w → Behind (branch_before t operand k hit miss c)
+  unfolding branch_before
   branch_behind t operand k hit miss v w c lh lm h m =
       one_of_four (λ d. Behind d) (nat_le (length c - hit) NEAR && nat_le (length c - miss) NEAR) (nat_le (length c + 1 - miss) NEAR) (nat_le (length c + 1 - hit) NEAR) _ _ _ _
       (record { branches = λ e. (settles_at c hit v h, settles_at c miss w m); masked = λ e. absurd (test_no_mask t operand e) })
@@ -398,6 +402,7 @@ module _ (p : List ℕ) (n : ℕ) where
 
   -- a test that isn't one for equality
   other_behind : (k hit miss : ℕ) (c : List Insn) → Behind (branch_before test.AtLeast Constant k hit miss c)
+  unfolding branch_before
   other_behind k hit miss c =
       one_of_four (λ d. Behind d) (nat_le (length c - hit) NEAR && nat_le (length c - miss) NEAR) (nat_le (length c + 1 - miss) NEAR) (nat_le (length c + 1 - hit) NEAR) _ _ _ _
       (record { branches = λ e. absurd (omega arith); masked = λ e. absurd (omega arith) })

@@ -50,6 +50,7 @@ slim_more : (c d : List Insn) (m m' : ℕ) → m ≤ m' → Slim c d m → Slim 
 slim_more c d m m' l s = record { none = s.none; longer = s.longer; shorter = omega (arith, s.shorter) }
 
 near_branch : (t : Test) (o : Operand) (k hit miss : ℕ) (c : List Insn) → length c ≤ 255 → branch_before t o k hit miss c ≡ branch_insn t o k (length c - hit) (length c - miss) ∷ c
+unfolding branch_before
 near_branch t o k hit miss c l =
     let h : nat_le (length c - hit) NEAR ≡ true = grind (arith, nat_tests) in
     let m : nat_le (length c - miss) NEAR ≡ true = grind (arith, nat_tests) in

@@ -65,6 +65,7 @@ one_of_four P false false true w x y z pw px py pz = py
 one_of_four P false false false w x y z pw px py pz = pz
 
 pub branch_extends : (t : Test) (operand : Operand) (k hit miss : ℕ) (c : List Insn) → Extends c (branch_before t operand k hit miss c)
+unfolding branch_before
 branch_extends t operand k hit miss c =
     let none = extends_none c in
     let one_hit = extends_put c c (plain Jump (length c - hit)) none in

@@ -85,7 +85,7 @@ abbrev pub jump_before : ℕ → List Insn → List Insn
 jump_before to c = plain Jump (length c - to) ∷ c
 
 -- a test that goes on at one of two places; a place that is too far is reached by a jump right behind the test
-abbrev pub branch_before : Test → Operand → ℕ → ℕ → ℕ → List Insn → List Insn
+unfoldable pub branch_before : Test → Operand → ℕ → ℕ → ℕ → List Insn → List Insn
 branch_before test operand k hit miss c =
     if nat_le (length c - hit) NEAR && nat_le (length c - miss) NEAR
     then branch_insn test operand k (length c - hit) (length c - miss) ∷ c

@@ -7,7 +7,7 @@ ghost use Rattle.flt_gen.specs.Follow.{followed, entered_at, target};
 ghost use Rattle.flt_gen.specs.Code.{plain, jump_before, branch_before};
 ghost use Rattle.flt_gen.specs.Puts.{HasRoom};
 
-use crate::elementary::{Fact, Place};
+use crate::elementary::{Elementary, Fact, Place};
 use crate::follow::{Knowledge, onward, past_index};
 use flt_bpf::insn::Insn;
 use flt_bpf::operation::{Operand, Operation, Test};
@@ -114,6 +114,7 @@ impl<A: Allocator> Code<A> {
     }
 
     /// A test that goes on at one of two places, a far one by a jump right behind it.
+    #[tactic(auto, unfolding(crate::specs::Code::branch_before))]
     pub fn put_branch(
         &mut self,
         test: Test,
@@ -193,6 +194,10 @@ impl<A: Allocator> Code<A> {
         ensures { result ≡ followed self.now known own place }
     {
         let (latest, earlier, earliest) = (known.latest, known.earlier, known.earliest);
+        // Of two tests of which the link decides one nothing is known.
+        if let Elementary::Known(_) = known.either.first {
+            return self.eight_on(&[own, latest, earlier, earliest], place);
+        }
         let first = Fact {
             test: known.either.first,
             truth: true,

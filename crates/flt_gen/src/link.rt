@@ -1,7 +1,7 @@
 //! The links whose packets expressions can be read on.
 
 /// The link that packets were captured on.
-#[derive(Clone, Copy, Debug, PartialEq, Eq)]
+#[derive(Clone, Copy)]
 pub enum Link {
     /// Ethernet, link type 1: a header of 14 bytes stands before the network header.
     Ether,

@@ -121,15 +121,15 @@ impl<A: Allocator> Shortening<'_, A> {
 
     /// One test of bits for the mask at a place, if a test for 0 is next and A isn't read behind it.
     fn bits_at(&self, at: usize) -> Option<Insn> {
-        let (mask, test) = (self.insn_at(at)?, self.insn_at(behind(at, 0))?);
+        let mask = self.insn_at(at)?;
+        if mask.code != Operation::Compute(AluOperation::And, Operand::Constant).code() {
+            return None;
+        }
+        let test = self.insn_at(behind(at, 0))?;
         let equal = Operation::JumpIf(Test::Equal, Operand::Constant).code();
         let zero = self.landing_at(behind(at, 1 + usize::from(test.jt)));
         let other = self.landing_at(behind(at, 1 + usize::from(test.jf)));
-        let and = Operation::Compute(AluOperation::And, Operand::Constant).code();
-        if mask.code != and || test.code != equal || test.k != 0 {
-            return None;
-        }
-        if zero.accumulator || other.accumulator {
+        if test.code != equal || test.k != 0 || zero.accumulator || other.accumulator {
             return None;
         }
         let code = Operation::JumpIf(Test::AnyBit, Operand::Constant).code();
@@ -143,10 +143,12 @@ impl<A: Allocator> Shortening<'_, A> {
 
     /// One load for the number at a place, if it is only added to the place of a load.
     fn load_at(&self, at: usize) -> Option<Insn> {
-        let (number, copy) = (self.insn_at(at)?, self.insn_at(behind(at, 0))?);
-        let load = self.insn_at(behind(at, 1))?;
-        let immediate = Operation::Load(Register::Accumulator, Source::Immediate).code();
-        let is_index = number.code == immediate && copy.code == Operation::CopyToIndex.code();
+        let number = self.insn_at(at)?;
+        if number.code != Operation::Load(Register::Accumulator, Source::Immediate).code() {
+            return None;
+        }
+        let (copy, load) = (self.insn_at(behind(at, 0))?, self.insn_at(behind(at, 1))?);
+        let is_index = copy.code == Operation::CopyToIndex.code();
         match decode(load.code) {
             Some(Operation::LoadIndirect(width)) => {
                 if is_index && !self.landing_at(behind(at, 2)).index {

@@ -1,6 +1,6 @@
 -- What the loop of the parser needs of the machine.
-use Rattle.std.proofs.Common.{◌≡◌, ℕ, ◌+◌, ◌-◌, ◌<◌, List, [], ◌∷◌, length, take, drop, get_or, reverse, sym, ap, ◌∙◌, subst, arith, Some, None, one-add}
-use Rattle.std.proofs.lemmas.List.{drop-map}
+use Rattle.std.proofs.Common.{◌≡◌, ℕ, ◌+◌, ◌-◌, ◌<◌, List, [], ◌∷◌, length, take, drop, get_or, reverse, sym, ap, ◌∙◌, subst, arith, Option, Some, None, one-add}
+use Rattle.std.proofs.lemmas.List.{drop-map, drop-drop, take_rest}
 use Rattle.flt_words.specs.declared.token.Token.{Token}
 use Rattle.flt_words.specs.declared.token.TokenKind.{TokenKind}
 use Rattle.flt_lang.specs.declared.node.Node.{Node}
@@ -28,6 +28,12 @@ pub run_begins_on : (ts : List Token) (t : Token) (fs : List Frame) (d : List No
 run_begins_on [] t fs d k s h e = absurd (omega arith)
 run_begins_on (u ∷ ts) t fs d k s h e = rw (one-add, ← drop-map) (run_begins (kinds_of (u ∷ ts)) fs d k s (omega arith) e)
 
+-- a step reads what is left as it reads what the step leaves
+pub runs_on : (ts : List Token) (at used : ℕ) (fs gs : List Frame) (x y : Option Operand) (d e : List Node) (all : Option (List Node)) → run (kinds_of (take (length ts - at) (drop at ts))) 0 fs x d ≡ run (kinds_of (drop used (take (length ts - at) (drop at ts)))) 0 gs y e → run (kinds_of (drop at ts)) 0 fs x d ≡ all → run (kinds_of (drop (at + used) ts)) 0 gs y e ≡ all
+runs_on ts at used fs gs x y d e all step before =
+    let left : drop used (take (length ts - at) (drop at ts)) ≡ drop (at + used) ts = ap (drop used) (take_rest ts at) ∙ drop-drop used at ts in
+    ap (λ us. run (kinds_of us) 0 gs y e) (sym left) ∙ sym step ∙ ap (λ us. run (kinds_of us) 0 fs x d) (take_rest ts at) ∙ before
+
 -- where the machine fails there is no tree
 pub no_tree : (tokens : List TokenKind) → all_run tokens ≡ None → (tree : Expression) → Reads tokens tree → ⊥
 no_tree tokens h tree reads = let e = complete reads in cc
@@ -48,6 +54,3 @@ found_reads tokens nodes h =
     let (tree, reads, same) = tree_found tokens nodes h in
     let is : tree ≡ tree_of (reverse nodes) = sym (tree_back tree) ∙ ap tree_of (sym same) in
     subst (Reads tokens) is reads
-
--- what a run says of the tokens
-pub ruleset parsing = (no_tree, found_is_tree, found_reads)

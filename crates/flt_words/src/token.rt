@@ -53,7 +53,7 @@ pub enum Cast {
 }
 
 /// `=` or `==`, `!=`, `<`, `<=`, `>`, `>=`.
-#[derive(Clone, Copy, Debug, PartialEq, Eq)]
+#[derive(Clone, Copy, PartialEq, Eq)]
 pub enum Comparison {
     Equal,
     NotEqual,

@@ -32,7 +32,7 @@ pub fn parse<A: Allocator + Clone>(alloc: A, tokens: &[Token]) -> Result<Expr<A>
 }
 
 /// The tree of the tokens.
-#[tactic(auto, using(crate::proofs::Parsing::parsing))]
+#[tactic(auto, using(crate::proofs::Parsing::no_tree))]
 fn read<A: Allocator + Clone>(alloc: A, tokens: &[Token]) -> Result<Expr<A>, ExprFault>
     ensures ok { IfOk result (λ tree. Reads (kinds_of tokens.now) tree) }
     ensures none { result ≡ Err ExprFault.NotAnExpression

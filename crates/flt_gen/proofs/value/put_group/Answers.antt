@@ -1,12 +1,15 @@
--- The formula of ports, one or several, is that of their group.
-use Rattle.std.proofs.Common.{◌≡◌, ◌∙◌, sym, ap, [], length, arith}
+-- The formula of hosts or ports, one or several, is that of their group.
+use Rattle.std.proofs.Common.{◌≡◌, ◌∙◌, sym, ap, refl, [], length, None, arith}
 use Rattle.std.proofs.lemmas.Grind.{common_steps}
-use Rattle.flt_words.specs.declared.token.ValueType.TheVariants.{Port}
+use Rattle.flt_words.specs.declared.token.ValueType.TheVariants.{Host, Port}
+use Rattle.flt_gen.specs.declared.elementary.Hosts.{Hosts}
+use Rattle.flt_gen.specs.declared.elementary.Hosts.TheVariants as hosts
+use Rattle.flt_gen.specs.declared.elementary.NetTest.{NetTest}
 use Rattle.flt_gen.specs.declared.elementary.PortTest.{PortTest}
 use Rattle.flt_gen.specs.declared.elementary.Ports.TheVariants.{One, Several}
-use Rattle.flt_gen.specs.Primitives.{port_test, port_formula}
-use Rattle.flt_gen.specs.Group.{group_formula}
-use Rattle.flt_gen.proofs.Joined.{one_port, several_ports, formula_put}
+use Rattle.flt_gen.specs.Primitives.{net_test, net_formula, port_test, port_formula}
+use Rattle.flt_gen.specs.Group.{group_formula, hosts_formula}
+use Rattle.flt_gen.proofs.Joined.{one_host, several_hosts, one_port, several_ports, formula_put}
 use Rattle.flt_gen.proofs.value.put_group.Goals as goal
 use Rattle.flt_gen.proofs.value.put_group.Goals.{then-numbers-lt1, else-numbers-lt1+else-numbers-lt2}
 
@@ -36,4 +39,34 @@ returns-in_default-Port g c =
     record {
       code = formula_put c.put_ports-in_default-Port.result a.context.link a.context.known (group_formula a.context.link group) (port_formula a.context.link p numbers) a.context.to.yes a.context.to.no a.code.now c.put_ports-in_default-Port.new.code (several_ports a.context.link group p numbers is_port not_alone same c.numbers.ensures) c.put_ports-in_default-Port.ensures.code;
       room = grind (arith, common_steps, c.put_ports-in_default-Port.ensures.room);
+    }
+
+pub returns-in-len1-Host : goal.returns-in-len1-Host
+returns-in-len1-Host g c =
+    let a = c.args in
+    let group = a.group.now in
+    let protocol = c.protocol-protocol.result in
+    let net : NetTest = c.new-net.result in
+    let is_host : group.value_type ≡ Host = sym c.value_type.ensures ∙ c.in-len1-Host.is-1 in
+    let alone : length group.numbers ≡ 1 = (let l = c.in-len1-Host.len_at_least in let m = c.in-len1-Host.len_below in omega (arith, ap length c.numbers.ensures)) in
+    let same : net ≡ net_test group.direction None group.first = cc (c.new-net.ensures, c.direction-direction.ensures, c.first-first.ensures) in
+    record {
+      code = formula_put c.put_net.result a.context.link a.context.known (group_formula a.context.link group) (net_formula a.context.link protocol net) a.context.to.yes a.context.to.no a.code.now c.put_net.new.code (one_host a.context.link group protocol net is_host alone c.protocol-protocol.ensures same) c.put_net.ensures.code;
+      room = grind (arith, common_steps, c.put_net.ensures.room);
+    }
+
+pub returns-in_default-Host : goal.returns-in_default-Host
+returns-in_default-Host g c =
+    let a = c.args in
+    let group = a.group.now in
+    let protocol = c.protocol-protocol.result in
+    let numbers = c.numbers.result.now in
+    let h : Hosts = hosts.Several c.direction-direction.result c.first-first.result in
+    let is_host : group.value_type ≡ Host = sym c.value_type.ensures ∙ c.in_default-Host.is-1 in
+    let more : length numbers ≡ 1 → ⊥ = elim c.if-numbers-lt1.branch [ then-numbers-lt1 w ↦ λ e. grind arith | else-numbers-lt1+else-numbers-lt2 w ↦ λ e. grind arith ] in
+    let not_alone : length group.numbers ≡ 1 → ⊥ = λ e. more (ap length c.numbers.ensures ∙ e) in
+    let same : h ≡ hosts.Several group.direction group.first = cc (c.direction-direction.ensures, c.first-first.ensures) in
+    record {
+      code = formula_put c.put_hosts.result a.context.link a.context.known (group_formula a.context.link group) (hosts_formula a.context.link protocol h numbers) a.context.to.yes a.context.to.no a.code.now c.put_hosts.new.code (several_hosts a.context.link group protocol h numbers is_host not_alone c.protocol-protocol.ensures same c.numbers.ensures) c.put_hosts.ensures.code;
+      room = grind (arith, common_steps, c.put_hosts.ensures.room);
     }
