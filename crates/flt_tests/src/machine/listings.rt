@@ -164,10 +164,10 @@ fn a_wrong_line_is_named(rt: HostRuntime) -> Result<(), Fail> {
     Ok(())
 }
 
-/// Whether a program is written as this text, by so many bytes a call.
-fn is_written_as(program: &Program<Global>, text: &[u8], piece: usize) -> bool {
+/// Whether a program is written as this text, by seven bytes a call.
+fn is_written_as(program: &Program<Global>, text: &[u8]) -> bool {
     let mut bytes = [0u8; 64];
-    let mut output = TrialOutput::new(&mut bytes, piece);
+    let mut output = TrialOutput::new(&mut bytes, 7);
     write_listing(program, &mut output).is_ok() && output.written() == text
 }
 
@@ -186,7 +186,7 @@ fn programs_are_written(rt: HostRuntime) -> Result<(), Fail> {
 fn the_longest_line_is_written(rt: HostRuntime) -> Result<(), Fail> {
     let text = b"2\n22 255 255 4294967295\n22 255 255 4294967295\n";
     let program = program_of(rt.alloc(), text)?;
-    assert!(rt; is_written_as(&program, text, 7));
+    assert!(rt; is_written_as(&program, text));
     Ok(())
 }
 
