@@ -2,11 +2,10 @@
 
 use crate::case::{Case, Kind};
 use crate::runs::{Outcome, WHOLE, for_listing, run_line, sound};
-use crate::shown::outcome_text;
+use crate::shown::Difference;
 use crate::sweeps;
 use capkit::{Line, Usage, command_of};
 use std::alloc::{AllocError, Global};
-use std::test::Fail;
 
 /// Where a pcap file header has its link type.
 const LINK_OFFSET: usize = 20;
@@ -16,9 +15,6 @@ const RAW: u8 = 101;
 
 /// The link type of Linux cooked captures, as LINKTYPE_LINUX_SLL.
 const COOKED: u8 = 113;
-
-/// What came in place of what a case states; nothing where it holds.
-pub type Found = Option<String>;
 
 /// What main reports of words that are no line, and its status.
 fn refusal_of(alloc: Global, usage: &Usage) -> Result<(String, u8), AllocError> {
@@ -32,8 +28,8 @@ fn refusal_of(alloc: Global, usage: &Usage) -> Result<(String, u8), AllocError> 
     }
 }
 
-/// The line of these words.
-fn line_of(alloc: Global, first: &[&str], more: &[String]) -> Result<Line, Usage> {
+/// The words of a line, one text behind another.
+fn words_of(alloc: Global, first: &[&str], more: &[String]) -> Result<Vec<String>, AllocError> {
     let mut words = Vec::new(alloc);
     for word in first {
         words.push(String::from_str(alloc, word)?)?;
@@ -41,84 +37,87 @@ fn line_of(alloc: Global, first: &[&str], more: &[String]) -> Result<Line, Usage
     for word in more {
         words.push(String::from_str(alloc, word)?)?;
     }
-    command_of(alloc, words)
+    Ok(words)
 }
 
-/// The line of these words, if they are accepted.
-fn accepted(alloc: Global, first: &[&str], more: &[String]) -> Option<Line> {
-    line_of(alloc, first, more).ok()
+/// The line of these words, which are to be accepted.
+fn accepted(alloc: Global, first: &[&str], more: &[String]) -> Result<Line, Difference> {
+    match command_of(alloc, words_of(alloc, first, more)?) {
+        Ok(line) => Ok(line),
+        Err(_) => Err(Difference::Text("the words are refused")),
+    }
 }
 
-/// What is found where the words of a run are refused.
-fn refused(alloc: Global) -> Result<Found, Fail> {
-    Ok(Some(String::from_str(alloc, "  the words are refused\n")?))
-}
-
-/// What runs of the line do that the case doesn't state, by whole pieces and by one byte a call.
-fn found_in_runs(alloc: Global, case: &Case<'_>, line: &Line) -> Result<Found, Fail> {
+/// Runs the line by whole pieces and by one byte a call.
+fn check_runs(alloc: Global, case: &Case<'_>, line: &Line) -> Result<(), Difference> {
     for piece in [WHOLE, 1] {
         let outcome = run_line(alloc, line, case, sound(case, piece))?;
         if !outcome.is_of(case) {
-            return Ok(Some(outcome_text(alloc, &outcome)?));
+            return Err(Difference::Outcome(outcome));
         }
     }
-    Ok(None)
+    Ok(())
 }
 
-/// Whether the outcome is a listing of at most so many instructions.
-fn is_listing(outcome: &Outcome, most: Option<usize>) -> bool {
+/// How many lines there are.
+fn count_lines(bytes: &[u8]) -> usize {
     let mut lines = 0usize;
-    for byte in outcome.written.iter() {
+    for byte in bytes {
         if *byte == b'\n' {
             lines = lines.saturating_add(1);
         }
     }
+    lines
+}
+
+/// Whether the outcome is a listing of at most so many instructions.
+fn is_listing(outcome: &Outcome, most: Option<usize>) -> bool {
+    let lines = count_lines(&outcome.written);
     let most = match most {
         Some(most) => most.saturating_add(1),
         None => usize::MAX,
     };
-    outcome.status == Some(0) && outcome.messages.is_empty() && 1 < lines && lines <= most
+    outcome.is_clean() && 1 < lines && lines <= most
 }
 
-/// What runs of a line that writes a listing do that the case doesn't state; what the first one
-/// writes is what the case states from then on.
-fn found_in_listing(alloc: Global, case: &mut Case<'_>, line: &Line) -> Result<Found, Fail> {
+/// Runs a line that writes a listing. What the first run writes is what the case states from then
+/// on.
+fn check_listing(alloc: Global, case: &mut Case<'_>, line: &Line) -> Result<(), Difference> {
     let outcome = run_line(alloc, line, case, for_listing(case))?;
     if !is_listing(&outcome, case.most) {
-        return Ok(Some(outcome_text(alloc, &outcome)?));
+        return Err(Difference::Outcome(outcome));
     }
     case.written = outcome.written;
-    found_in_runs(alloc, case, line)
+    check_runs(alloc, case, line)
 }
 
-/// Takes the listing that the case's line writes.
-fn compile_listing(alloc: Global, case: &mut Case<'_>) -> Result<Found, Fail> {
-    let Some(line) = accepted(alloc, &[], &case.compiled) else {
-        return refused(alloc);
-    };
+/// Takes the listing that the case's line writes, if it has such a line.
+fn compile_listing(alloc: Global, case: &mut Case<'_>) -> Result<(), Difference> {
+    if case.compiled.is_empty() {
+        return Ok(());
+    }
+    let line = accepted(alloc, &[], &case.compiled)?;
     case.listing = run_line(alloc, &line, case, for_listing(case))?.written;
-    Ok(None)
+    Ok(())
 }
 
-/// What runs of the case's words do that it doesn't state.
-fn found_in_words(alloc: Global, case: &mut Case<'_>) -> Result<Found, Fail> {
-    if !case.compiled.is_empty() {
-        let found = compile_listing(alloc, case)?;
-        if found.is_some() {
-            return Ok(found);
-        }
+/// Runs the case's line.
+fn check_line(alloc: Global, case: &mut Case<'_>, line: &Line) -> Result<(), Difference> {
+    match case.most {
+        Some(_) => check_listing(alloc, case, line)?,
+        None => check_runs(alloc, case, line)?,
     }
-    let Some(line) = accepted(alloc, &[], &case.words) else {
-        return refused(alloc);
-    };
-    let found = match case.most {
-        Some(_) => found_in_listing(alloc, case, &line)?,
-        None => found_in_runs(alloc, case, &line)?,
-    };
-    match (found, case.sweep) {
-        (None, Some(sweep)) => sweeps::found(alloc, case, &line, sweep),
-        (found, _) => Ok(found),
+    match case.sweep {
+        Some(sweep) => sweeps::check(alloc, case, line, sweep),
+        None => Ok(()),
     }
+}
+
+/// Runs the case's words.
+fn check_words(alloc: Global, case: &mut Case<'_>) -> Result<(), Difference> {
+    compile_listing(alloc, case)?;
+    let line = accepted(alloc, &[], &case.words)?;
+    check_line(alloc, case, &line)
 }
 
 /// The name of the link that the case's input states.
@@ -130,60 +129,68 @@ fn link_name(case: &Case<'_>) -> &'static str {
     }
 }
 
-/// What a compilation of the case's expression does that it doesn't state, and a print by its
-/// listing.
-fn found_by_listing(alloc: Global, case: &mut Case<'_>) -> Result<Found, Fail> {
+/// What a compilation of the case's expression leaves.
+fn compile(alloc: Global, case: &Case<'_>) -> Result<Outcome, Difference> {
     let first = ["capkit", "compile", "--link", link_name(case)];
-    let Some(compile) = accepted(alloc, &first, &case.words) else {
-        return refused(alloc);
-    };
-    let compiled = run_line(alloc, &compile, case, for_listing(case))?;
-    if case.status == 2 && compiled.is_of(case) {
-        return Ok(None);
-    }
-    if !is_listing(&compiled, case.most) {
-        return Ok(Some(outcome_text(alloc, &compiled)?));
-    }
-    case.listing = compiled.written;
+    let line = accepted(alloc, &first, &case.words)?;
+    Ok(run_line(alloc, &line, case, for_listing(case))?)
+}
+
+/// Prints by the case's listing.
+fn check_code(alloc: Global, case: &Case<'_>) -> Result<(), Difference> {
     let print = [
         "capkit", "print", "-w", "out", "--format", "pcap", "--code", "listing", "in",
     ];
-    let Some(line) = accepted(alloc, &print, &[]) else {
-        return refused(alloc);
-    };
-    found_in_runs(alloc, case, &line)
+    let line = accepted(alloc, &print, &[])?;
+    check_runs(alloc, case, &line)
 }
 
-/// What prints by the case's expression and by its listing do that it doesn't state.
-fn found_in_filter(alloc: Global, case: &mut Case<'_>) -> Result<Found, Fail> {
-    let print = ["capkit", "print", "-w", "out", "--format", "pcap", "in"];
-    let Some(line) = accepted(alloc, &print, &case.words) else {
-        return refused(alloc);
-    };
-    let found = found_in_runs(alloc, case, &line)?;
-    if found.is_some() {
-        return Ok(found);
+/// Compiles the case's expression, and prints by its listing.
+fn check_by_listing(alloc: Global, case: &mut Case<'_>) -> Result<(), Difference> {
+    let compiled = compile(alloc, case)?;
+    if case.status == 2 && compiled.is_of(case) {
+        return Ok(());
     }
-    found_by_listing(alloc, case)
+    if !is_listing(&compiled, case.most) {
+        return Err(Difference::Outcome(compiled));
+    }
+    case.listing = compiled.written;
+    check_code(alloc, case)
 }
 
-/// What main reports of the case's words that the case doesn't state.
-fn found_in_usage(alloc: Global, case: &Case<'_>) -> Result<Found, AllocError> {
-    let Err(usage) = line_of(alloc, &[], &case.words) else {
-        return Ok(Some(String::from_str(alloc, "  accepted\n")?));
-    };
+/// Prints by the case's expression.
+fn check_by_words(alloc: Global, case: &Case<'_>) -> Result<(), Difference> {
+    let print = ["capkit", "print", "-w", "out", "--format", "pcap", "in"];
+    let line = accepted(alloc, &print, &case.words)?;
+    check_runs(alloc, case, &line)
+}
+
+/// Why the case's words are no line.
+fn usage_of(alloc: Global, case: &Case<'_>) -> Result<Usage, Difference> {
+    match command_of(alloc, words_of(alloc, &[], &case.words)?) {
+        Ok(_) => Err(Difference::Text("accepted")),
+        Err(usage) => Ok(usage),
+    }
+}
+
+/// Compares what main reports of the case's words.
+fn check_usage(alloc: Global, case: &Case<'_>) -> Result<(), Difference> {
+    let usage = usage_of(alloc, case)?;
     let (text, status) = refusal_of(alloc, &usage)?;
     if text.as_bytes() == case.messages.as_slice() && status == case.status {
-        return Ok(None);
+        return Ok(());
     }
-    Ok(Some(text))
+    Err(Difference::Report(text))
 }
 
-/// What came in place of what the case states.
-pub fn found(alloc: Global, case: &mut Case<'_>) -> Result<Found, Fail> {
+/// Runs the case. An error is what came in place of what it states.
+pub fn check(alloc: Global, case: &mut Case<'_>) -> Result<(), Difference> {
     match case.kind {
-        Kind::Run => found_in_words(alloc, case),
-        Kind::Filter => found_in_filter(alloc, case),
-        Kind::Usage => Ok(found_in_usage(alloc, case)?),
+        Kind::Run => check_words(alloc, case),
+        Kind::Filter => {
+            check_by_words(alloc, case)?;
+            check_by_listing(alloc, case)
+        }
+        Kind::Usage => check_usage(alloc, case),
     }
 }

@@ -1,14 +1,12 @@
 //! Runs of a command line over memory.
-ghost use Rattle.std.specs.Prelude.{◌≡◌, true, vec_len};
-ghost use Rattle.cap_filter.specs.Command.{is_proper};
 
 use crate::case::Case;
-use cap_octet::{Input, Output, TrialInput, TrialOutput};
+use crate::shown::Difference;
+use cap_octet::{TrialInput, TrialOutput};
 use cap_tools::{Command, Compile, Edit, Job, Print, Turn, run};
 use cap_trial::Trial;
 use capkit::Line;
-use std::alloc::{AllocError, Allocator, Global};
-use std::test::Fail;
+use std::alloc::{AllocError, Global};
 
 /// More than any call moves.
 pub const WHOLE: usize = 4_000_000;
@@ -27,6 +25,18 @@ const MESSAGES: usize = 1_000;
 
 /// An allocator that counts what is asked of it, and fails where it is told to.
 type Memory = Trial<Global>;
+
+/// The names of a run and its inputs.
+type Ends<'d, 'm> = (
+    Vec<String<&'m Memory>, &'m Memory>,
+    Vec<TrialInput<'d>, &'m Memory>,
+);
+
+/// A job over memory.
+type TrialJob<'d, 'm> = Job<TrialInput<'d>, TrialOutput<'d>, TrialOutput<'d>, &'m Memory>;
+
+/// What a run leaves: its status, if it came to its end, and its devices.
+type Left<'d> = (Option<u8>, TrialOutput<'d>, TrialOutput<'d>);
 
 /// What devices over memory do.
 #[derive(Clone, Copy)]
@@ -217,13 +227,7 @@ fn inputs_over<'m, 'c>(
 }
 
 /// Makes so many steps, closes the job, and returns the status of the last step.
-fn step_on<I, O, E, A>(mut job: Job<I, O, E, A>, steps: u64) -> (Option<u8>, O, E)
-where
-    I: Input + Drop,
-    O: Output,
-    E: Output,
-    A: Allocator + Copy + Drop,
-{
+fn step_on<'d>(mut job: TrialJob<'d, '_>, steps: u64) -> Left<'d> {
     let mut status = None;
     for _ in 0..steps {
         status = match job.step() {
@@ -235,31 +239,40 @@ where
     (status, out, err)
 }
 
-/// Runs the command for so many steps, or to its end.
-fn run_for<I, O, E, A>(
-    alloc: A,
-    command: Command<A>,
-    names: Vec<String<A>, A>,
-    inputs: Vec<I, A>,
-    out: O,
-    err: E,
+/// Runs the command for so many steps, or to its end. None where it may not be run.
+fn run_for<'d, 'm>(
+    memory: &'m Memory,
+    command: Command<&'m Memory>,
+    names: Vec<String<&'m Memory>, &'m Memory>,
+    inputs: Vec<TrialInput<'d>, &'m Memory>,
+    (out, err): (TrialOutput<'d>, TrialOutput<'d>),
     steps: Option<u64>,
-) -> (Option<u8>, O, E)
-where
-    I: Input + Drop,
-    O: Output,
-    E: Output,
-    A: Allocator + Copy + Drop,
-    requires proper { is_proper command (vec_len inputs) ≡ true }
-{
-    let Some(steps) = steps else {
-        let (status, out, err) = run(alloc, command, names, inputs, out, err);
-        return (Some(status), out, err);
-    };
-    match Job::new(alloc, command, names, inputs, out, err) {
-        Ok(job) => step_on(job, steps),
-        Err((out, err)) => (Some(1), out, err),
+) -> Option<Left<'d>> {
+    if !command.is_proper(inputs.len()) {
+        return None;
     }
+    let Some(steps) = steps else {
+        let (status, out, err) = run(memory, command, names, inputs, out, err);
+        return Some((Some(status), out, err));
+    };
+    match Job::new(memory, command, names, inputs, out, err) {
+        Ok(job) => Some(step_on(job, steps)),
+        Err(left) => {
+            let (out, err) = left;
+            Some((Some(1), out, err))
+        }
+    }
+}
+
+/// The names and the inputs of the line.
+fn ends_over<'d, 'm>(
+    memory: &'m Memory,
+    line: &Line,
+    case: &'d Case<'_>,
+    devices: Devices,
+) -> Result<Ends<'d, 'm>, AllocError> {
+    let names = names_over(memory, line)?;
+    Ok((names, inputs_over(memory, line, case, devices)?))
 }
 
 /// Runs the line's command, and returns its status and how many bytes it wrote and reported.
@@ -269,19 +282,19 @@ fn run_in(
     case: &Case<'_>,
     devices: Devices,
     (output, messages): (&mut [u8], &mut [u8]),
-) -> Result<(Option<u8>, usize, usize), Fail> {
+) -> Result<(Option<u8>, usize, usize), Difference> {
     let command = command_over(memory, line, case)?;
-    let names = names_over(memory, line)?;
-    let inputs = inputs_over(memory, line, case, devices)?;
-    if !command.is_proper(inputs.len()) || names.len() != inputs.len() + 1 {
-        return Err(Fail::from("the command may not be run"));
-    }
+    let (names, inputs) = ends_over(memory, line, case, devices)?;
     let piece = devices.piece.max(1);
-    let out = TrialOutput::new(output, piece);
-    let err = TrialOutput::new(messages, piece);
+    let room = (
+        TrialOutput::new(output, piece),
+        TrialOutput::new(messages, piece),
+    );
     memory.refuse(devices.failed_allocation);
-    let (status, out, err) = run_for(memory, command, names, inputs, out, err, devices.steps);
-    Ok((status, out.written().len(), err.written().len()))
+    match run_for(memory, command, names, inputs, room, devices.steps) {
+        Some((status, out, err)) => Ok((status, out.written().len(), err.written().len())),
+        None => Err(Difference::Text("the command may not be run")),
+    }
 }
 
 /// Runs the line's command over devices, with the case's inputs and listing.
@@ -290,7 +303,7 @@ pub fn run_line(
     line: &Line,
     case: &Case<'_>,
     devices: Devices,
-) -> Result<Outcome, Fail> {
+) -> Result<Outcome, Difference> {
     let mut written = vec![in alloc; 0u8; devices.output]?;
     let mut messages = vec![in alloc; 0u8; devices.messages]?;
     let memory = Trial::new(alloc);

@@ -1,12 +1,10 @@
 //! Runs that are closed after each number of steps.
 
 use crate::case::Case;
-use crate::check::Found;
 use crate::runs::{Outcome, run_line, sound};
-use crate::shown::outcome_text;
+use crate::shown::Difference;
 use capkit::Line;
 use std::alloc::Global;
-use std::test::Fail;
 
 /// How many steps are made at most.
 const MOST_STEPS: u64 = 10_000;
@@ -35,18 +33,17 @@ fn stop_of(case: &Case<'_>, outcome: &Outcome, last: usize) -> Option<usize> {
     None
 }
 
-/// What is wrong at the end of a run whose last stop has this number: it may be one before the
-/// last.
-fn found_at_end(alloc: Global, case: &Case<'_>, last: usize) -> Result<Found, Fail> {
+/// The end of a run whose last stop has this number: it may be one before the last.
+fn check_end(case: &Case<'_>, last: usize) -> Result<(), Difference> {
     if last.saturating_add(2) < case.stops.len() {
-        return Ok(Some(String::from_str(alloc, "  a stop is not met\n")?));
+        return Err(Difference::Text("a stop is not met"));
     }
-    Ok(None)
+    Ok(())
 }
 
-/// What a job that is closed after each number of steps does that the case doesn't state: the stops
-/// are met in order, each step goes on by one at most, and after the end all stays.
-pub fn found(alloc: Global, case: &Case<'_>, line: &Line, piece: usize) -> Result<Found, Fail> {
+/// Closes the job after each number of steps: the stops are met in order, each step goes on by one
+/// at most, and after the end all stays.
+pub fn check(alloc: Global, case: &Case<'_>, line: &Line, piece: usize) -> Result<(), Difference> {
     let mut devices = sound(case, piece);
     let mut last = 0usize;
     let mut ended = 0usize;
@@ -55,15 +52,15 @@ pub fn found(alloc: Global, case: &Case<'_>, line: &Line, piece: usize) -> Resul
         let outcome = run_line(alloc, line, case, devices)?;
         if outcome.is_of(case) {
             ended = ended.saturating_add(1);
-            if ended == AFTER {
-                return found_at_end(alloc, case, last);
+        } else {
+            match stop_of(case, &outcome, last) {
+                Some(stop) if ended == 0 => last = stop,
+                _ => return Err(Difference::Outcome(outcome)),
             }
-            continue;
         }
-        match stop_of(case, &outcome, last) {
-            Some(stop) if ended == 0 => last = stop,
-            _ => return Ok(Some(outcome_text(alloc, &outcome)?)),
+        if ended == AFTER {
+            return check_end(case, last);
         }
     }
-    Ok(Some(String::from_str(alloc, "  steps without an end\n")?))
+    Err(Difference::Text("steps without an end"))
 }

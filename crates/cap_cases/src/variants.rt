@@ -2,12 +2,10 @@
 
 use crate::bytes::number;
 use crate::case::Case;
-use crate::check::Found;
 use crate::runs::{Outcome, WHOLE, run_line, sound};
-use crate::shown::outcome_text;
+use crate::shown::Difference;
 use capkit::Line;
 use std::alloc::{AllocError, Global};
-use std::test::Fail;
 
 /// How many bits a byte has.
 const BITS: u32 = 8;
@@ -18,52 +16,52 @@ const MOST_POWER: u32 = 32;
 /// How often each message of the case was met.
 type Counts = Vec<usize>;
 
-/// The number of the case's message that an outcome has, where nothing was written.
-fn message_of(
-    alloc: Global,
-    case: &Case<'_>,
-    outcome: &Outcome,
-) -> Result<Option<usize>, AllocError> {
-    for (place, tally) in case.tallies.iter().enumerate() {
-        let text = tally.message;
-        let message = format!(in alloc; "capkit: {text}\n")?;
-        if outcome.is(&[], message.as_bytes(), 1) {
-            return Ok(Some(place));
-        }
-    }
-    Ok(None)
+/// Whether nothing was written, and this message was met.
+fn has_met(alloc: Global, outcome: &Outcome, text: &str) -> Result<bool, AllocError> {
+    let message = format!(in alloc; "capkit: {text}\n")?;
+    Ok(outcome.is(&[], message.as_bytes(), 1))
 }
 
-/// Runs the line, and counts its message. Found is an outcome that is neither clean nor a message
-/// of the case.
+/// Counts the message of an outcome that isn't clean. An error is an outcome that has no message of
+/// the case.
+fn count_message(
+    alloc: Global,
+    case: &Case<'_>,
+    outcome: Outcome,
+    counts: &mut Counts,
+) -> Result<(), Difference> {
+    for (tally, count) in case.tallies.iter().zip(counts.iter_mut()) {
+        if has_met(alloc, &outcome, tally.message)? {
+            *count = count.saturating_add(1);
+            return Ok(());
+        }
+    }
+    Err(Difference::Outcome(outcome))
+}
+
+/// Runs the line, and counts its message.
 fn count_run(
     alloc: Global,
     case: &Case<'_>,
     line: &Line,
     counts: &mut Counts,
-) -> Result<Found, Fail> {
+) -> Result<(), Difference> {
     let outcome = run_line(alloc, line, case, sound(case, WHOLE))?;
     if outcome.is_clean() {
-        return Ok(None);
+        return Ok(());
     }
-    if let Some(place) = message_of(alloc, case, &outcome)? {
-        if let Some(count) = counts.get_mut(place) {
-            *count = count.saturating_add(1);
-            return Ok(None);
-        }
-    }
-    Ok(Some(outcome_text(alloc, &outcome)?))
+    count_message(alloc, case, outcome, counts)
 }
 
-/// The message that was met more or less often than the case states.
-fn found_in_counts(alloc: Global, case: &Case<'_>, counts: &Counts) -> Result<Found, AllocError> {
+/// Each message was met as often as the case states.
+fn check_counts(alloc: Global, case: &Case<'_>, counts: &Counts) -> Result<(), Difference> {
     for (tally, count) in case.tallies.iter().zip(counts.iter()) {
         if tally.count != *count {
-            let text = tally.message;
-            return Ok(Some(format!(in alloc; "  {count} times {text}\n")?));
+            let message = String::from_str(alloc, tally.message)?;
+            return Err(Difference::Met(*count, message));
         }
     }
-    Ok(None)
+    Ok(())
 }
 
 /// No count for each of the case's messages.
@@ -71,22 +69,28 @@ fn no_counts(alloc: Global, case: &Case<'_>) -> Result<Counts, AllocError> {
     vec![in alloc; 0usize; case.tallies.len()]
 }
 
-/// What is reported that the case doesn't state, where each bit of the input in turn is the other
-/// one.
-pub fn found_in_bits(alloc: Global, case: &mut Case<'_>, line: &Line) -> Result<Found, Fail> {
-    let mut counts = no_counts(alloc, case)?;
-    let size = case.input.len();
-    for place in 0..size {
-        for bit in 0..BITS {
-            flip(&mut case.input, place, bit);
-            let found = count_run(alloc, case, line, &mut counts)?;
-            flip(&mut case.input, place, bit);
-            if found.is_some() {
-                return Ok(found);
-            }
-        }
+/// Turns each bit of the byte at a place in turn into the other one.
+fn count_bits(
+    alloc: Global,
+    case: &mut Case<'_>,
+    line: &Line,
+    (place, counts): (usize, &mut Counts),
+) -> Result<(), Difference> {
+    for bit in 0..BITS {
+        flip(&mut case.input, place, bit);
+        count_run(alloc, case, line, counts)?;
+        flip(&mut case.input, place, bit);
     }
-    Ok(found_in_counts(alloc, case, &counts)?)
+    Ok(())
+}
+
+/// Turns each bit of the input in turn into the other one.
+pub fn check_bits(alloc: Global, case: &mut Case<'_>, line: &Line) -> Result<(), Difference> {
+    let mut counts = no_counts(alloc, case)?;
+    for place in 0..case.input.len() {
+        count_bits(alloc, case, line, (place, &mut counts))?;
+    }
+    check_counts(alloc, case, &counts)
 }
 
 /// Turns a bit of a byte into the other one.
@@ -97,13 +101,11 @@ fn flip(bytes: &mut [u8], place: usize, bit: u32) {
 }
 
 /// The place and the size of a number, as `44 4`.
-fn number_place(about: &str) -> Result<(usize, usize), Fail> {
-    let Some((place, size)) = about.split_once(" ") else {
-        return Err(Fail::from("no place of a number"));
-    };
+fn number_place(about: &str) -> Result<(usize, usize), Difference> {
+    let (place, size) = about.split_once(" ").unwrap_or(("", ""));
     match (number(place), number(size)) {
         (Ok(place), Ok(size)) => Ok((place, size)),
-        _ => Err(Fail::from("no place of a number")),
+        _ => Err(Difference::Text("no place of a number")),
     }
 }
 
@@ -115,22 +117,27 @@ fn set_number(bytes: &mut [u8], (place, size): (usize, usize), value: u64) {
     }
 }
 
-/// What is reported that the case doesn't state, where a number in the input is each power of two
-/// up to 2^32 and those beside it, as far as it has bytes for them.
-pub fn found_in_numbers(alloc: Global, case: &mut Case<'_>, line: &Line) -> Result<Found, Fail> {
+/// Makes the number at a place a power of two, one less and one more, as far as it has bytes.
+fn count_near(
+    alloc: Global,
+    case: &mut Case<'_>,
+    line: &Line,
+    (place, power, counts): ((usize, usize), u32, &mut Counts),
+) -> Result<(), Difference> {
+    let value = 1u64.checked_shl(power).unwrap_or(0);
+    for value in [value.saturating_sub(1), value, value.saturating_add(1)] {
+        set_number(&mut case.input, place, value);
+        count_run(alloc, case, line, counts)?;
+    }
+    Ok(())
+}
+
+/// Makes a number in the input each power of two up to 2^32, and those beside it.
+pub fn check_numbers(alloc: Global, case: &mut Case<'_>, line: &Line) -> Result<(), Difference> {
     let place = number_place(case.about)?;
     let mut counts = no_counts(alloc, case)?;
-    let before = case.input.clone()?;
     for power in 0..=MOST_POWER {
-        let value = 1u64.checked_shl(power).unwrap_or(0);
-        for value in [value.saturating_sub(1), value, value.saturating_add(1)] {
-            set_number(&mut case.input, place, value);
-            let found = count_run(alloc, case, line, &mut counts)?;
-            if found.is_some() {
-                return Ok(found);
-            }
-        }
+        count_near(alloc, case, line, (place, power, &mut counts))?;
     }
-    case.input = before;
-    Ok(found_in_counts(alloc, case, &counts)?)
+    check_counts(alloc, case, &counts)
 }

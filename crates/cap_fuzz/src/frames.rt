@@ -1,7 +1,6 @@
 //! Captured bytes of packets, half of them real.
 
 use crate::random::Random;
-use std::alloc::{AllocError, Global};
 
 /// How many bytes a packet has at most.
 pub const MOST_BYTES: usize = 128;
@@ -125,13 +124,35 @@ fn write_heads(random: &mut Random, frame: &mut [u8], link: u16) {
     }
 }
 
-/// The captured bytes of a packet: whole, or cut anywhere.
-pub fn frame(alloc: Global, random: &mut Random, link: u16) -> Result<Vec<u8>, AllocError> {
-    let mut frame = vec![in alloc; 0u8; MOST_BYTES]?;
-    random.fill(&mut frame);
-    write_heads(random, &mut frame, link);
-    if random.one_in(3) {
-        frame.truncate(random.place(MOST_BYTES));
+/// The captured bytes of a packet.
+#[derive(Clone, Copy)]
+pub struct Frame {
+    bytes: [u8; MOST_BYTES],
+    /// How many of them it has.
+    size: usize,
+}
+
+impl Frame {
+    /// Whole, or cut anywhere.
+    pub fn new(random: &mut Random, link: u16) -> Self {
+        let mut bytes = [0u8; MOST_BYTES];
+        random.fill(&mut bytes);
+        write_heads(random, &mut bytes, link);
+        let size = if random.one_in(3) {
+            random.place(MOST_BYTES)
+        } else {
+            MOST_BYTES
+        };
+        Frame { bytes, size }
     }
-    Ok(frame)
+
+    /// Its bytes.
+    pub fn data(&self) -> &[u8] {
+        self.bytes.get(..self.size).unwrap_or_default()
+    }
+
+    /// Leaves at most so many bytes.
+    pub fn cut(&mut self, size: usize) {
+        self.size = self.size.min(size);
+    }
 }

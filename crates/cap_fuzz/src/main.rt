@@ -53,6 +53,9 @@ fn main(rt: HostRuntime) -> Result<ExitCode, Fail> {
     let mut fuzzer = Fuzzer::new(&rt)?;
     for round in 0..rounds {
         compare_round(&mut fuzzer, seed.wrapping_add(round))?;
+        if let Some(failure) = fuzzer.failure {
+            return Err(Fail::from(failure));
+        }
     }
     for (name, count) in NAMES.iter().zip(fuzzer.counts.iter()) {
         rt.println(format_args!("{name}: {count}"))?;

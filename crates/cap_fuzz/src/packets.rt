@@ -27,6 +27,16 @@ pub struct Packets<'b> {
     pub is_whole: bool,
 }
 
+impl Packets<'_> {
+    /// No packets.
+    pub fn none(alloc: Global) -> Self {
+        Packets {
+            list: Vec::new(alloc),
+            is_whole: false,
+        }
+    }
+}
+
 /// The little-endian number at a place.
 fn number(bytes: &[u8], place: usize) -> Option<u32> {
     match bytes.get(place..place.saturating_add(4))? {
@@ -89,6 +99,16 @@ impl<'b> Packet<'b> {
     }
 }
 
+/// The packet of a block, if its interface was described.
+fn packet_of<'b>(block: &'b [u8], interfaces: &[&'b [u8]]) -> Option<Packet<'b>> {
+    let place = number(block, BEFORE_BODY)? as usize;
+    let interface = interfaces.get(place)?;
+    Some(Packet {
+        interface: *interface,
+        block,
+    })
+}
+
 /// The packets of a file.
 pub fn packets_of<'b>(alloc: Global, bytes: &'b [u8]) -> Result<Packets<'b>, AllocError> {
     let mut list = Vec::new(alloc);
@@ -103,16 +123,10 @@ pub fn packets_of<'b>(alloc: Global, bytes: &'b [u8]) -> Result<Packets<'b>, All
         match number(first, 0) {
             Some(0x0A0D_0D0A) => {}
             Some(1) => interfaces.push(first)?,
-            Some(6) => {
-                let place = number(first, BEFORE_BODY).unwrap_or(u32::MAX) as usize;
-                match interfaces.get(place) {
-                    Some(interface) => list.push(Packet {
-                        interface: *interface,
-                        block: first,
-                    })?,
-                    None => is_whole = false,
-                }
-            }
+            Some(6) => match packet_of(first, &interfaces) {
+                Some(packet) => list.push(packet)?,
+                None => is_whole = false,
+            },
             _ => is_whole = false,
         }
     }

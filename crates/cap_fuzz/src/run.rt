@@ -1,5 +1,6 @@
 //! Runs of commands over memory, and comparisons of what comes of them.
 
+use crate::packets::{Packets, packets_of};
 use crate::random::Random;
 use cap_octet::{Format, MemInput, MemOutput};
 use cap_tools::{Command, Compile, Edit, Print, Shift, run};
@@ -7,7 +8,6 @@ use flt_gen::Link;
 use std::alloc::{AllocError, Global};
 use std::fmt::Write;
 use std::str;
-use std::test::Fail;
 
 /// How many bytes an output takes: more than any run of a round writes.
 const ROOM: usize = 1_000_000;
@@ -17,6 +17,9 @@ const MESSAGES: usize = 1_000;
 
 /// How many bytes of each side of a comparison are shown.
 const SHOWN: usize = 300;
+
+/// Why rounds end where memory runs out.
+pub const MEMORY: &str = "out of memory";
 
 /// What is compared.
 #[derive(Clone, Copy)]
@@ -68,6 +71,8 @@ pub struct Fuzzer<'r> {
     pub counts: [u64; PROPERTIES],
     /// How many of them differed.
     pub differing: u64,
+    /// Why nothing can be compared from then on.
+    pub failure: Option<&'static str>,
     output: Vec<u8>,
     messages: Vec<u8>,
 }
@@ -124,6 +129,7 @@ impl<'r> Fuzzer<'r> {
             seed: 0,
             counts: [0; PROPERTIES],
             differing: 0,
+            failure: None,
             output: vec![in alloc; 0u8; ROOM]?,
             messages: vec![in alloc; 0u8; MESSAGES]?,
         })
@@ -135,72 +141,122 @@ impl<'r> Fuzzer<'r> {
         self.random = Random::new(seed);
     }
 
+    /// Tells the round of a comparison that differs, and both sides.
+    fn tell(&mut self, place: usize, (left, right): (&[u8], &[u8])) {
+        let name = NAMES.get(place).copied().unwrap_or("");
+        let left = self.or_empty(shown(self.alloc, left));
+        let right = self.or_empty(shown(self.alloc, right));
+        let seed = self.seed;
+        let text = format_args!("DIFFERS seed {seed}: {name}\n  {left}\n  {right}");
+        if self.rt.println(text).is_err() {
+            self.failure = Some("standard output can't be written");
+        }
+    }
+
     /// Counts a comparison; where it differs its round is told, and both sides.
-    pub fn compare(
-        &mut self,
-        property: Property,
-        is_met: bool,
-        (left, right): (&[u8], &[u8]),
-    ) -> Result<(), Fail> {
+    pub fn compare(&mut self, property: Property, is_met: bool, sides: (&[u8], &[u8])) {
         let place = property as usize;
         if let Some(count) = self.counts.get_mut(place) {
             *count = count.saturating_add(1);
         }
-        if is_met {
-            return Ok(());
+        if !is_met {
+            self.differing = self.differing.saturating_add(1);
+            self.tell(place, sides);
         }
-        self.differing = self.differing.saturating_add(1);
-        let name = NAMES.get(place).copied().unwrap_or("");
-        let (left, right) = (shown(self.alloc, left)?, shown(self.alloc, right)?);
-        let seed = self.seed;
-        self.rt.println(format_args!("DIFFERS seed {seed}: {name}\n  {left}\n  {right}"))?;
-        Ok(())
     }
 
     /// Compares bytes.
-    pub fn same(&mut self, property: Property, left: &[u8], right: &[u8]) -> Result<(), Fail> {
-        self.compare(property, left == right, (left, right))
+    pub fn same(&mut self, property: Property, left: &[u8], right: &[u8]) {
+        self.compare(property, left == right, (left, right));
     }
 
     /// Compares outcomes.
-    pub fn same_outcome(
-        &mut self,
-        property: Property,
-        left: &Outcome,
-        right: &Outcome,
-    ) -> Result<(), Fail> {
-        self.same(property, &left.written, &right.written)?;
-        self.same(property, &left.messages, &right.messages)?;
-        self.same(property, &[left.status], &[right.status])
+    pub fn same_outcome(&mut self, property: Property, left: &Outcome, right: &Outcome) {
+        self.same(property, &left.written, &right.written);
+        self.same(property, &left.messages, &right.messages);
+        self.same(property, &[left.status], &[right.status]);
     }
 
-    /// Runs a command on inputs of the name `in`.
-    pub fn run(&mut self, command: Command, inputs: &[&[u8]]) -> Result<Outcome, Fail> {
-        let alloc = self.alloc;
-        let mut names = Vec::new(alloc);
-        let mut devices = Vec::new(alloc);
-        let mut size = 0usize;
-        for bytes in inputs {
-            names.push(String::from_str(alloc, "in")?)?;
-            devices.push(MemInput::new(bytes))?;
-            size = size.max(bytes.len());
+    /// The text; where memory ran out it is empty, and that is a failure.
+    pub fn or_empty(&mut self, text: Result<String, AllocError>) -> String {
+        match text {
+            Ok(text) => text,
+            Err(AllocError) => {
+                self.failure = Some(MEMORY);
+                String::new(self.alloc)
+            }
         }
-        names.push(String::from_str(alloc, "out")?)?;
+    }
+
+    /// The packets of a file; none where memory runs out, which is a failure.
+    pub fn packets<'b>(&mut self, bytes: &'b [u8]) -> Packets<'b> {
+        match packets_of(self.alloc, bytes) {
+            Ok(packets) => packets,
+            Err(AllocError) => {
+                self.failure = Some(MEMORY);
+                Packets::none(self.alloc)
+            }
+        }
+    }
+
+    /// Nothing is left of a run that can't be made, which is a failure.
+    fn nothing(&mut self, failure: &'static str) -> Outcome {
+        self.failure = Some(failure);
+        Outcome {
+            status: 0,
+            written: Vec::new(self.alloc),
+            messages: Vec::new(self.alloc),
+        }
+    }
+
+    /// Runs a command, if it may be run.
+    fn run_over(
+        &mut self,
+        command: Command,
+        names: Vec<String>,
+        devices: Vec<MemInput<'_>>,
+    ) -> Result<Option<Outcome>, AllocError> {
         if !command.is_proper(devices.len()) {
-            return Err(Fail::from("the command may not be run"));
+            return Ok(None);
         }
         let out = MemOutput::new(&mut self.output);
         let err = MemOutput::new(&mut self.messages);
-        let (status, out, err) = run(alloc, command, names, devices, out, err);
-        let outcome = Outcome {
-            status,
-            written: Vec::from_slice(alloc, out.written())?,
-            messages: Vec::from_slice(alloc, err.written())?,
-        };
-        let is_met = is_ended(&outcome, size);
+        let (status, out, err) = run(self.alloc, command, names, devices, out, err);
+        let outcome = outcome_of(self.alloc, status, (out.written(), err.written()))?;
+        Ok(Some(outcome))
+    }
+
+    /// Runs a command on inputs of the name `in`, if it may be run.
+    fn try_run(
+        &mut self,
+        command: Command,
+        inputs: &[&[u8]],
+    ) -> Result<Option<Outcome>, AllocError> {
+        let names = names_of(self.alloc, inputs.len())?;
+        let devices = devices_of(self.alloc, inputs)?;
+        self.run_over(command, names, devices)
+    }
+
+    /// Compares the end of a run with what ends are like.
+    fn compare_end(&mut self, outcome: &Outcome, inputs: &[&[u8]]) {
+        let mut size = 0usize;
+        for bytes in inputs {
+            size = size.max(bytes.len());
+        }
         let sides = (outcome.messages.as_slice(), outcome.written.as_slice());
-        self.compare(Property::Ended, is_met, sides)?;
-        Ok(outcome)
+        self.compare(Property::Ended, is_ended(outcome, size), sides);
+    }
+
+    /// Runs a command on inputs of the name `in`.
+    pub fn run(&mut self, command: Command, inputs: &[&[u8]]) -> Outcome {
+        match self.try_run(command, inputs) {
+            Ok(Some(outcome)) => {
+                self.compare_end(&outcome, inputs);
+                outcome
+            }
+            Ok(None) => self.nothing("the command may not be run"),
+            Err(AllocError) => self.nothing(MEMORY),
+        }
     }
 
     /// Runs an edit of these ranges: they are kept alone, or deleted.
@@ -210,24 +266,15 @@ impl<'r> Fuzzer<'r> {
         format: Format,
         ranges: &[(u64, u64)],
         keep: bool,
-    ) -> Result<Outcome, Fail> {
-        let edit = Edit {
-            ranges: Vec::from_slice(self.alloc, ranges)?,
-            keep,
-            start: None,
-            stop: None,
-            chop_start: 0,
-            chop_end: 0,
-            snap: None,
-            shift: Shift::None,
-            window: None,
-            format,
-        };
-        self.run(Command::Edit(edit), &[bytes])
+    ) -> Outcome {
+        match edit_command(self.alloc, format, ranges, keep) {
+            Ok(command) => self.run(command, &[bytes]),
+            Err(AllocError) => self.nothing(MEMORY),
+        }
     }
 
     /// Runs an edit that changes nothing but the format.
-    pub fn copy(&mut self, bytes: &[u8], format: Format) -> Result<Outcome, Fail> {
+    pub fn copy(&mut self, bytes: &[u8], format: Format) -> Outcome {
         self.edit(bytes, format, &[], false)
     }
 
@@ -238,25 +285,92 @@ impl<'r> Fuzzer<'r> {
         expr: &str,
         code: Option<&[u8]>,
         write: Option<Format>,
-    ) -> Result<Outcome, Fail> {
-        let code = match code {
-            Some(listing) => Some(Vec::from_slice(self.alloc, listing)?),
-            None => None,
-        };
-        let print = Print {
-            expr: String::from_str(self.alloc, expr)?,
-            code,
-            count: None,
-            link: false,
-            bytes: false,
-            write,
-        };
-        self.run(Command::Print(print), &[bytes])
+    ) -> Outcome {
+        match print_command(self.alloc, expr, code, write) {
+            Ok(command) => self.run(command, &[bytes]),
+            Err(AllocError) => self.nothing(MEMORY),
+        }
     }
 
     /// Compiles an expression.
-    pub fn compile(&mut self, expr: &str, link: Link) -> Result<Outcome, Fail> {
-        let expr = String::from_str(self.alloc, expr)?;
-        self.run(Command::Compile(Compile { expr, link }), &[])
+    pub fn compile(&mut self, expr: &str, link: Link) -> Outcome {
+        match String::from_str(self.alloc, expr) {
+            Ok(expr) => self.run(Command::Compile(Compile { expr, link }), &[]),
+            Err(AllocError) => self.nothing(MEMORY),
+        }
     }
+}
+
+/// An edit of these ranges.
+fn edit_command(
+    alloc: Global,
+    format: Format,
+    ranges: &[(u64, u64)],
+    keep: bool,
+) -> Result<Command, AllocError> {
+    Ok(Command::Edit(Edit {
+        ranges: Vec::from_slice(alloc, ranges)?,
+        keep,
+        start: None,
+        stop: None,
+        chop_start: 0,
+        chop_end: 0,
+        snap: None,
+        shift: Shift::None,
+        window: None,
+        format,
+    }))
+}
+
+/// A print by an expression or a listing.
+fn print_command(
+    alloc: Global,
+    expr: &str,
+    code: Option<&[u8]>,
+    write: Option<Format>,
+) -> Result<Command, AllocError> {
+    let code = match code {
+        Some(listing) => Some(Vec::from_slice(alloc, listing)?),
+        None => None,
+    };
+    Ok(Command::Print(Print {
+        expr: String::from_str(alloc, expr)?,
+        code,
+        count: None,
+        link: false,
+        bytes: false,
+        write,
+    }))
+}
+
+/// The names of so many inputs, and of the output.
+fn names_of(alloc: Global, inputs: usize) -> Result<Vec<String>, AllocError> {
+    let mut names = Vec::new(alloc);
+    for _ in 0..inputs {
+        names.push(String::from_str(alloc, "in")?)?;
+    }
+    names.push(String::from_str(alloc, "out")?)?;
+    Ok(names)
+}
+
+/// The inputs over these bytes.
+fn devices_of<'b>(alloc: Global, inputs: &[&'b [u8]]) -> Result<Vec<MemInput<'b>>, AllocError> {
+    let mut devices = Vec::new(alloc);
+    for bytes in inputs {
+        devices.push(MemInput::new(bytes))?;
+    }
+    Ok(devices)
+}
+
+/// What a run leaves.
+fn outcome_of(
+    alloc: Global,
+    status: u8,
+    (written, messages): (&[u8], &[u8]),
+) -> Result<Outcome, AllocError> {
+    Ok(Outcome {
+        status,
+        written: Vec::from_slice(alloc, written)?,
+        messages: Vec::from_slice(alloc, messages)?,
+    })
 }

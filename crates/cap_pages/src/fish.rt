@@ -1,85 +1,67 @@
 //! The completion for fish.
 
 use crate::help::{Entry, Help};
-use crate::help_text;
-use std::alloc::{AllocError, Global};
-use std::test::Fail;
+use crate::page::{Page, Quoting};
 
-/// The text as it stands between single quotes.
-fn escaped(alloc: Global, text: &str) -> Result<String, AllocError> {
-    let mut escaped = String::new(alloc);
-    for sign in text.chars() {
-        if sign == '\'' || sign == '\\' {
-            escaped.push('\\')?;
-        }
-        escaped.push(sign)?;
-    }
-    Ok(escaped)
-}
-
-/// How an option is named to `complete`, and what stands behind it.
-fn words_of(alloc: Global, option: &Entry<'_>) -> Result<String, AllocError> {
-    let mut words = String::new(alloc);
+/// Puts how an option is named to `complete`, and what stands behind it.
+fn put_words(page: &mut Page, option: &Entry<'_>) {
     if let Some(short) = option.short() {
-        words.push_str(" -s ")?;
-        words.push_str(short.strip_prefix("-").unwrap_or(short))?;
+        page.put_all(&[" -s ", short.strip_prefix("-").unwrap_or(short)]);
     }
     if let Some(long) = option.long() {
-        words.push_str(" -l ")?;
-        words.push_str(long.strip_prefix("--").unwrap_or(long))?;
+        page.put_all(&[" -l ", long.strip_prefix("--").unwrap_or(long)]);
     }
     if option.is_file() {
-        words.push_str(" -r -F")?;
+        page.put(" -r -F");
     } else if option.value().is_some() {
-        let choices = option.choices.replace(alloc, ",", "")?;
-        words.push_str(" -x -a '")?;
-        words.push_str(&choices)?;
-        words.push_str("'")?;
+        page.put(" -x -a '");
+        page.put_choices(option.choices);
+        page.put("'");
     }
-    Ok(words)
 }
 
-/// Writes the words of one command.
-fn write_command(rt: &HostRuntime, name: &str) -> Result<(), Fail> {
-    let text = help_text(rt.alloc(), name)?;
-    let help = Help::of_text(rt.alloc(), &text)?;
-    let place = format!(in rt.alloc();
-        "complete -c capkit -n '__fish_seen_subcommand_from {name}'"
-    )?;
+/// Puts what a name is for, at the end of its line.
+fn put_description(page: &mut Page, text: &str) {
+    page.put(" -d '");
+    page.put_quoted(text, Quoting::Fish);
+    page.put("'\n");
+}
+
+/// Puts the place of the words of a command.
+fn put_place(page: &mut Page, name: &str) {
+    let place = "complete -c capkit -n '__fish_seen_subcommand_from ";
+    page.put_all(&[place, name, "'"]);
+}
+
+/// Puts the words of one command.
+fn put_command(page: &mut Page, help: &Help<'_>) {
     for option in &help.options {
-        let words = words_of(rt.alloc(), option)?;
-        let text = escaped(rt.alloc(), option.text)?;
-        rt.println(format_args!("{place}{words} -d '{text}'"))?;
+        put_place(page, help.name);
+        put_words(page, option);
+        put_description(page, option.text);
     }
-    if help.arguments.iter().any(|argument| argument.is_file()) {
-        rt.println(format_args!("{place} -F"))?;
+    if help.has_files() {
+        put_place(page, help.name);
+        page.put(" -F\n");
     }
-    Ok(())
 }
 
-/// Writes the options that stand in place of a command.
-fn write_program_options(rt: &HostRuntime, program: &Help<'_>) -> Result<(), Fail> {
+/// The place of what stands where a command does.
+const FIRST: &str = "complete -c capkit -n __fish_use_subcommand";
+
+/// Puts the completion.
+pub fn put_completion(page: &mut Page, program: &Help<'_>, commands: &[Help<'_>]) {
+    page.put("# Completion of capkit for fish.\ncomplete -c capkit -f\n");
     for option in &program.options {
-        let words = words_of(rt.alloc(), option)?;
-        let text = escaped(rt.alloc(), option.text)?;
-        let place = "complete -c capkit -n __fish_use_subcommand";
-        rt.println(format_args!("{place}{words} -d '{text}'"))?;
-    }
-    Ok(())
-}
-
-/// Writes the completion.
-pub fn write_completion(rt: &HostRuntime, program: &Help<'_>) -> Result<(), Fail> {
-    rt.println(format_args!("# Completion of capkit for fish.\ncomplete -c capkit -f"))?;
-    write_program_options(rt, program)?;
-    for command in &program.commands {
-        let text = escaped(rt.alloc(), command.text)?;
-        let name = command.form;
-        let place = "complete -c capkit -n __fish_use_subcommand";
-        rt.println(format_args!("{place} -a {name} -d '{text}'"))?;
+        page.put(FIRST);
+        put_words(page, option);
+        put_description(page, option.text);
     }
     for command in &program.commands {
-        write_command(rt, command.form)?;
+        page.put_all(&[FIRST, " -a ", command.form]);
+        put_description(page, command.text);
     }
-    Ok(())
+    for command in commands {
+        put_command(page, command);
+    }
 }

@@ -73,6 +73,13 @@ impl<'a> Entry<'a> {
         Some(value.strip_suffix(">").unwrap_or(value))
     }
 
+    /// The name of its value in brackets, as `<FORMAT>` or `[MORE]...`, alone.
+    pub fn argument(&self) -> &'a str {
+        let form = self.form.trim_start_matches(['<', '[']);
+        let end = form.find([']', '>']).unwrap_or(form.len());
+        form.get(..end).unwrap_or(form)
+    }
+
     /// Whether the value, or the argument, names a file.
     pub fn is_file(&self) -> bool {
         let name = self.value().unwrap_or(self.form);
@@ -81,7 +88,7 @@ impl<'a> Entry<'a> {
 }
 
 /// The part of help that a line belongs to. An empty line ends a part.
-#[derive(Clone, Copy, PartialEq, Eq)]
+#[derive(Clone, Copy)]
 enum Part {
     About,
     Commands,
@@ -91,9 +98,23 @@ enum Part {
     Other,
 }
 
+/// The part that a line begins; an empty one ends a part.
+fn part_of(line: &str) -> Option<Part> {
+    match line {
+        "" => Some(Part::Other),
+        "Commands:" => Some(Part::Commands),
+        "Arguments:" => Some(Part::Arguments),
+        "Options:" => Some(Part::Options),
+        "Examples:" => Some(Part::Examples),
+        _ => None,
+    }
+}
+
 /// The parts of help.
 #[derive(Drop)]
 pub struct Help<'a> {
+    /// The command; empty: the program.
+    pub name: &'a str,
     /// What the command does.
     pub about: &'a str,
     /// What a line has behind the options that may be left out, as `-w <OUT> <FILE> [MORE]...`.
@@ -106,25 +127,27 @@ pub struct Help<'a> {
 }
 
 impl<'a> Help<'a> {
-    /// The parts of this text.
-    pub fn of_text(alloc: Global, text: &'a str) -> Result<Help<'a>, AllocError> {
-        let mut help = Help {
+    /// No parts.
+    fn empty(alloc: Global, name: &'a str) -> Help<'a> {
+        Help {
+            name,
             about: "",
             usage: "",
             commands: Vec::new(alloc),
             arguments: Vec::new(alloc),
             options: Vec::new(alloc),
             examples: Vec::new(alloc),
-        };
+        }
+    }
+
+    /// The parts of this text, the help of the command of that name.
+    pub fn of_text(alloc: Global, name: &'a str, text: &'a str) -> Result<Help<'a>, AllocError> {
+        let mut help = Help::empty(alloc, name);
         let mut part = Part::About;
         for line in text.lines() {
-            match line {
-                "" => part = Part::Other,
-                "Commands:" => part = Part::Commands,
-                "Arguments:" => part = Part::Arguments,
-                "Options:" => part = Part::Options,
-                "Examples:" => part = Part::Examples,
-                line => help.read(part, line)?,
+            match part_of(line) {
+                Some(next) => part = next,
+                None => help.read(part, line)?,
             }
         }
         Ok(help)
@@ -150,15 +173,23 @@ impl<'a> Help<'a> {
     /// Reads an option, or the values of the one above.
     fn read_option(&mut self, line: &'a str) -> Result<(), AllocError> {
         let Some(choices) = line.trim().strip_prefix(CHOICES) else {
-            return self
-                .options
-                .push(Entry::of_line(line))
-                .map_err(|_| AllocError);
+            self.options.push(Entry::of_line(line))?;
+            return Ok(());
         };
         if let Some(option) = self.options.last_mut() {
             option.choices = without_bracket(choices);
         }
         Ok(())
+    }
+
+    /// Whether some argument names a file.
+    pub fn has_files(&self) -> bool {
+        for argument in &self.arguments {
+            if argument.is_file() {
+                return true;
+            }
+        }
+        false
     }
 
     /// Whether a line has to have the option.

@@ -2,170 +2,142 @@
 //! lines with `@`.
 
 use crate::help::{Entry, Help};
-use crate::version_text;
-use std::alloc::{AllocError, Global};
-use std::fs;
-use std::test::Fail;
-
-/// The text with the signs that roff would change written as such.
-fn escaped(alloc: Global, text: &str) -> Result<String, AllocError> {
-    let mut escaped = String::new(alloc);
-    for sign in text.chars() {
-        match sign {
-            '\\' => escaped.push_str("\\e")?,
-            '\'' => escaped.push_str("\\(aq")?,
-            '-' => escaped.push_str("\\-")?,
-            sign => escaped.push(sign)?,
-        }
-    }
-    Ok(escaped)
-}
+use crate::page::{Page, Quoting};
 
 /// The name of an option behind its first hyphen.
 fn behind_hyphen(name: &str) -> &str {
     name.strip_prefix("-").unwrap_or(name)
 }
 
-/// The mdoc words of an option: its names and its value.
-fn option_words(alloc: Global, option: &Entry<'_>) -> Result<String, AllocError> {
-    let mut words = String::new(alloc);
-    if let Some(short) = option.short() {
-        words.push_str("Fl ")?;
-        words.push_str(behind_hyphen(short))?;
+/// Puts the mdoc words of an option: its names and its value.
+fn put_option(page: &mut Page, option: &Entry<'_>) {
+    let short = option.short();
+    if let Some(short) = short {
+        page.put_all(&["Fl ", behind_hyphen(short)]);
     }
     if let Some(long) = option.long() {
-        words.push_str(if words.is_empty() { "Fl " } else { " , Fl " })?;
-        words.push_str(behind_hyphen(long))?;
+        page.put(if short.is_none() { "Fl " } else { " , Fl " });
+        page.put(behind_hyphen(long));
     }
     if let Some(value) = option.value() {
-        words.push_str(" Ar ")?;
-        words.push_str(value)?;
+        page.put_all(&[" Ar ", value]);
     }
-    Ok(words)
 }
 
-/// Writes a word of the usage: the name of an option, `<VALUE>` or `[VALUE]...`.
-fn write_usage_word(rt: &HostRuntime, word: &str) -> Result<(), Fail> {
+/// Puts a word of the usage: the name of an option, `<VALUE>` or `[VALUE]...`.
+fn put_usage_word(page: &mut Page, word: &str) {
     if let Some(name) = word.strip_prefix("-") {
-        rt.println(format_args!(".Fl {name}"))?;
+        page.put_line(&[".Fl ", name]);
     } else if let Some(value) = word.strip_prefix("<") {
-        let value = value.strip_suffix(">").unwrap_or(value);
-        rt.println(format_args!(".Ar {value}"))?;
+        page.put_line(&[".Ar ", value.strip_suffix(">").unwrap_or(value)]);
     } else if let Some(value) = word.strip_prefix("[") {
         let (value, more) = value.split_once("]").unwrap_or((value, ""));
         let dots = if more.is_empty() { "" } else { " ..." };
-        rt.println(format_args!(".Op Ar {value}{dots}"))?;
+        page.put_line(&[".Op Ar ", value, dots]);
     }
-    Ok(())
 }
 
-/// Writes what may and must be in a line of the command.
-fn write_synopsis(rt: &HostRuntime, name: &str, help: &Help<'_>) -> Result<(), Fail> {
-    let command = name.strip_prefix("capkit-").unwrap_or("");
-    if command.is_empty() {
-        rt.println(format_args!(".Nm capkit"))?;
-        rt.println(format_args!(".Ar command"))?;
-        rt.println(format_args!(".Op Ar argument ..."))?;
-        return Ok(());
-    }
-    rt.println(format_args!(".Nm capkit {command}"))?;
+/// Puts the options that may be in a line of the command, and need not.
+fn put_free_options(page: &mut Page, help: &Help<'_>) {
     for option in &help.options {
         if !help.needs(option) && !option.form.ends_with("--help") {
-            let words = option_words(rt.alloc(), option)?;
-            rt.println(format_args!(".Op {words}"))?;
+            page.put(".Op ");
+            put_option(page, option);
+            page.put("\n");
         }
     }
+}
+
+/// Puts what may and must be in a line of the command.
+fn put_synopsis(page: &mut Page, help: &Help<'_>) {
+    if help.name.is_empty() {
+        page.put(".Nm capkit\n.Ar command\n.Op Ar argument ...\n");
+        return;
+    }
+    page.put_line(&[".Nm capkit ", help.name]);
+    put_free_options(page, help);
     for word in help.usage.split_ascii_whitespace() {
-        write_usage_word(rt, word)?;
+        put_usage_word(page, word);
     }
-    Ok(())
 }
 
-/// Writes the text of an entry as a sentence, and its choices as another.
-fn write_text(rt: &HostRuntime, entry: &Entry<'_>) -> Result<(), Fail> {
-    let text = escaped(rt.alloc(), entry.text)?;
-    rt.println(format_args!("{text}."))?;
+/// Puts the text of an entry as a sentence, and its choices as another.
+fn put_text(page: &mut Page, entry: &Entry<'_>) {
+    page.put_quoted(entry.text, Quoting::Roff);
+    page.put(".\n");
     if !entry.choices.is_empty() {
-        rt.println(format_args!("The values are {}.", entry.choices))?;
+        page.put_line(&["The values are ", entry.choices, "."]);
     }
-    Ok(())
 }
 
-/// Writes a list of arguments, or of commands.
-fn write_values(rt: &HostRuntime, kind: &str, entries: &[Entry<'_>]) -> Result<(), Fail> {
-    rt.println(format_args!(".Bl -tag -width Ds"))?;
+/// Puts a list of arguments, or of commands.
+fn put_values(page: &mut Page, kind: &str, entries: &[Entry<'_>]) {
+    page.put(".Bl -tag -width Ds\n");
     for entry in entries {
-        let form = entry.form.trim_start_matches(['<', '[']);
-        let end = form.find([']', '>']).unwrap_or(form.len());
-        let name = form.get(..end).unwrap_or(form);
-        rt.println(format_args!(".It {kind} {name}"))?;
-        write_text(rt, entry)?;
+        page.put_line(&[".It ", kind, " ", entry.argument()]);
+        put_text(page, entry);
     }
-    rt.println(format_args!(".El"))?;
-    Ok(())
+    page.put(".El\n");
 }
 
-/// Writes the list of options.
-fn write_options(rt: &HostRuntime, help: &Help<'_>) -> Result<(), Fail> {
-    rt.println(format_args!(".Bl -tag -width Ds"))?;
+/// Puts the list of options.
+fn put_options(page: &mut Page, help: &Help<'_>) {
+    page.put(".Bl -tag -width Ds\n");
     for option in &help.options {
-        let words = option_words(rt.alloc(), option)?;
-        rt.println(format_args!(".It {words}"))?;
-        write_text(rt, option)?;
+        page.put(".It ");
+        put_option(page, option);
+        page.put("\n");
+        put_text(page, option);
     }
-    rt.println(format_args!(".El"))?;
-    Ok(())
+    page.put(".El\n");
 }
 
-/// Writes the examples of help: descriptions, and command lines, which stand deeper.
-fn write_examples(rt: &HostRuntime, help: &Help<'_>) -> Result<(), Fail> {
-    let mut is_command = false;
+/// What stands between a line of the examples and the one above.
+fn between(was_command: bool, is_command: bool) -> &'static str {
+    match (was_command, is_command) {
+        (true, false) => ".Ed\n.Pp\n",
+        (false, true) => ".Bd -literal -offset indent\n",
+        _ => "",
+    }
+}
+
+/// Puts the examples of help: descriptions, and command lines, which stand deeper.
+fn put_examples(page: &mut Page, help: &Help<'_>) {
+    let mut was_command = false;
     for line in &help.examples {
-        let text = escaped(rt.alloc(), line.trim())?;
-        let was_command = is_command;
-        is_command = line.starts_with("    ");
-        if was_command && !is_command {
-            rt.println(format_args!(".Ed\n.Pp"))?;
-        } else if is_command && !was_command {
-            rt.println(format_args!(".Bd -literal -offset indent"))?;
-        }
-        rt.println(format_args!("{text}"))?;
+        let is_command = line.starts_with("    ");
+        page.put(between(was_command, is_command));
+        page.put_quoted(line.trim(), Quoting::Roff);
+        page.put("\n");
+        was_command = is_command;
     }
-    if is_command {
-        rt.println(format_args!(".Ed"))?;
+    if was_command {
+        page.put(".Ed\n");
     }
-    Ok(())
 }
 
-/// Writes the version of the program.
-fn write_version(rt: &HostRuntime) -> Result<(), Fail> {
-    let text = version_text(rt.alloc())?;
-    let version = escaped(rt.alloc(), text.trim())?;
-    rt.println(format_args!("{version}."))?;
-    Ok(())
+/// Puts the version of the program.
+fn put_version(page: &mut Page, version: &str) {
+    page.put_quoted(version, Quoting::Roff);
+    page.put(".\n");
 }
 
-/// Writes what a line of the prose means.
-fn write_line(rt: &HostRuntime, name: &str, help: &Help<'_>, line: &str) -> Result<(), Fail> {
+/// Puts what a line of the prose means.
+fn put_prose(page: &mut Page, version: &str, help: &Help<'_>, line: &str) {
     match line {
-        "@synopsis" => write_synopsis(rt, name, help),
-        "@commands" => write_values(rt, "Cm", &help.commands),
-        "@arguments" => write_values(rt, "Ar", &help.arguments),
-        "@options" => write_options(rt, help),
-        "@examples" => write_examples(rt, help),
-        "@version" => write_version(rt),
-        line => {
-            rt.println(format_args!("{line}"))?;
-            Ok(())
-        }
+        "@synopsis" => put_synopsis(page, help),
+        "@commands" => put_values(page, "Cm", &help.commands),
+        "@arguments" => put_values(page, "Ar", &help.arguments),
+        "@options" => put_options(page, help),
+        "@examples" => put_examples(page, help),
+        "@version" => put_version(page, version),
+        line => page.put_line(&[line]),
     }
 }
 
-/// Writes the manual page of that name, whose prose is the file of that name.
-pub fn write_page(rt: &HostRuntime, name: &str, help: &Help<'_>) -> Result<(), Fail> {
-    let prose = fs::read_to_string(rt, name)?;
+/// Puts the manual page of this prose.
+pub fn put_page(page: &mut Page, version: &str, help: &Help<'_>, prose: &str) {
     for line in prose.lines() {
-        write_line(rt, name, help, line)?;
+        put_prose(page, version, help, line);
     }
-    Ok(())
 }

@@ -1,112 +1,107 @@
 //! The completion for zsh.
 
 use crate::help::{Entry, Help};
-use crate::help_text;
-use std::alloc::{AllocError, Global};
-use std::test::Fail;
+use crate::page::{Page, Quoting};
 
-/// The text as it stands between single quotes, where brackets and colons have a meaning of their
-/// own.
-fn escaped(alloc: Global, text: &str) -> Result<String, AllocError> {
-    let mut escaped = String::new(alloc);
-    for sign in text.chars() {
-        match sign {
-            '\'' => escaped.push_str("'\\''")?,
-            '[' | ']' | ':' | '\\' => {
-                escaped.push('\\')?;
-                escaped.push(sign)?;
-            }
-            sign => escaped.push(sign)?,
-        }
-    }
-    Ok(escaped)
-}
-
-/// What completes a value: its choices, files or nothing.
-fn action(alloc: Global, entry: &Entry<'_>) -> Result<String, AllocError> {
+/// Puts what completes a value: its choices, files or nothing.
+fn put_action(page: &mut Page, entry: &Entry<'_>) {
     if entry.is_file() {
-        return String::from_str(alloc, "_files");
-    }
-    let choices = entry.choices.replace(alloc, ",", "")?;
-    if choices.is_empty() {
-        return String::from_str(alloc, " ");
-    }
-    format!(in alloc; "({choices})")
-}
-
-/// Writes an option under one of its names. A value may also be part of that word, behind `=` if
-/// the name is a long one.
-fn write_option(rt: &HostRuntime, option: &Entry<'_>, name: &str) -> Result<(), Fail> {
-    let text = escaped(rt.alloc(), option.text)?;
-    match option.value() {
-        Some(value) => {
-            let action = action(rt.alloc(), option)?;
-            let joint = if name.starts_with("--") { "=" } else { "+" };
-            rt.println(format_args!("            '{name}{joint}[{text}]:{value}:{action}' \\"))?;
-        }
-        None => rt.println(format_args!("            '{name}[{text}]' \\"))?,
-    }
-    Ok(())
-}
-
-/// Writes an argument: the last one takes as many words as there are where its form ends with dots.
-fn write_argument(rt: &HostRuntime, argument: &Entry<'_>) -> Result<(), Fail> {
-    let many = if argument.form.ends_with("...") {
-        "*"
+        page.put("_files");
+    } else if entry.choices.is_empty() {
+        page.put(" ");
     } else {
-        ""
-    };
-    let text = escaped(rt.alloc(), argument.text)?;
-    let action = action(rt.alloc(), argument)?;
-    rt.println(format_args!("            '{many}:{text}:{action}' \\"))?;
-    Ok(())
+        page.put("(");
+        page.put_choices(entry.choices);
+        page.put(")");
+    }
 }
 
-/// Writes the words of one command.
-fn write_command(rt: &HostRuntime, name: &str) -> Result<(), Fail> {
-    let text = help_text(rt.alloc(), name)?;
-    let help = Help::of_text(rt.alloc(), &text)?;
-    rt.println(format_args!("    {name})\n        _arguments \\"))?;
+/// What stands between a name and its value: a value may also be part of that word, behind `=` if
+/// the name is a long one.
+fn joint(name: &str) -> &'static str {
+    if name.starts_with("--") { "=" } else { "+" }
+}
+
+/// Puts an option under one of its names.
+fn put_option(page: &mut Page, option: &Entry<'_>, name: &str) {
+    page.put_all(&["            '", name]);
+    if option.value().is_some() {
+        page.put(joint(name));
+    }
+    page.put("[");
+    page.put_quoted(option.text, Quoting::Zsh);
+    page.put("]");
+    if let Some(value) = option.value() {
+        page.put_all(&[":", value, ":"]);
+        put_action(page, option);
+    }
+    page.put("' \\\n");
+}
+
+/// Puts an argument: the last one takes as many words as there are where its form ends with dots.
+fn put_argument(page: &mut Page, argument: &Entry<'_>) {
+    let is_many = argument.form.ends_with("...");
+    page.put(if is_many {
+        "            '*:"
+    } else {
+        "            ':"
+    });
+    page.put_quoted(argument.text, Quoting::Zsh);
+    page.put(":");
+    put_action(page, argument);
+    page.put("' \\\n");
+}
+
+/// Puts the words of one command.
+fn put_command(page: &mut Page, help: &Help<'_>) {
+    page.put_all(&["    ", help.name, ")\n        _arguments \\\n"]);
     for option in &help.options {
-        for name in [option.short(), option.long()].into_iter().flatten() {
-            write_option(rt, option, name)?;
+        if let Some(name) = option.short() {
+            put_option(page, option, name);
+        }
+        if let Some(name) = option.long() {
+            put_option(page, option, name);
         }
     }
     for argument in &help.arguments {
-        write_argument(rt, argument)?;
+        put_argument(page, argument);
     }
-    rt.println(format_args!("            && return\n        ;;"))?;
-    Ok(())
+    page.put("            && return\n        ;;\n");
 }
 
-/// Writes the commands, and the options that stand in place of one.
-fn write_first(rt: &HostRuntime, program: &Help<'_>) -> Result<(), Fail> {
-    rt.println(format_args!("    commands=("))?;
+/// Puts a name and what it is for.
+fn put_described(page: &mut Page, name: &str, text: &str) {
+    page.put_all(&["        '", name, ":"]);
+    page.put_quoted(text, Quoting::Zsh);
+    page.put("'\n");
+}
+
+/// Puts the commands, and the options that stand in place of one.
+fn put_first(page: &mut Page, program: &Help<'_>) {
+    page.put("    commands=(\n");
     for command in &program.commands {
-        let text = escaped(rt.alloc(), command.text)?;
-        rt.println(format_args!("        '{}:{text}'", command.form))?;
+        put_described(page, command.form, command.text);
     }
-    rt.println(format_args!("    )\n    options=("))?;
+    page.put("    )\n    options=(\n");
     for option in &program.options {
-        let text = escaped(rt.alloc(), option.text)?;
-        for name in [option.short(), option.long()].into_iter().flatten() {
-            rt.println(format_args!("        '{name}:{text}'"))?;
+        if let Some(name) = option.short() {
+            put_described(page, name, option.text);
+        }
+        if let Some(name) = option.long() {
+            put_described(page, name, option.text);
         }
     }
-    rt.println(format_args!("    )"))?;
-    Ok(())
+    page.put("    )\n");
 }
 
-/// Writes the completion.
-pub fn write_completion(rt: &HostRuntime, program: &Help<'_>) -> Result<(), Fail> {
-    rt.println(format_args!(
-        "#compdef capkit
-_capkit() {{
-    local -a commands options"
-    ))?;
-    write_first(rt, program)?;
-    rt.println(format_args!(
-        "    if (( CURRENT == 2 )); then
+/// What stands before the commands.
+const HEAD: &str = "#compdef capkit
+_capkit() {
+    local -a commands options
+";
+
+/// What stands between the commands and their words.
+const BODY: &str = "    if (( CURRENT == 2 )); then
         if [[ $PREFIX == -* ]]; then
             _describe -o option options
         else
@@ -117,11 +112,16 @@ _capkit() {{
     local command=$words[2]
     shift words
     (( CURRENT-- ))
-    case $command in"
-    ))?;
-    for command in &program.commands {
-        write_command(rt, command.form)?;
+    case $command in
+";
+
+/// Puts the completion.
+pub fn put_completion(page: &mut Page, program: &Help<'_>, commands: &[Help<'_>]) {
+    page.put(HEAD);
+    put_first(page, program);
+    page.put(BODY);
+    for command in commands {
+        put_command(page, command);
     }
-    rt.println(format_args!("    esac\n}}\n_capkit \"$@\""))?;
-    Ok(())
+    page.put("    esac\n}\n_capkit \"$@\"\n");
 }

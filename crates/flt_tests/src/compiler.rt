@@ -11,11 +11,9 @@ use flt_gen::{Link, generate};
 use flt_lang::{Checked, check, parse, resolve};
 use flt_words::{ExprFault, lex};
 use std::alloc::{Allocator, Global};
-use std::process::Abort;
-use std::test::Fail;
 
 /// The tree of a text.
-fn checked<A: Allocator + Clone>(alloc: A, text: &str) -> Result<Checked<A>, ExprFault> {
+pub fn checked<A: Allocator + Clone>(alloc: A, text: &str) -> Result<Checked<A>, ExprFault> {
     let tokens = lex(alloc.clone()?, text)?;
     let tree = parse(alloc, &tokens)?;
     check(resolve(tree)?)
@@ -27,18 +25,24 @@ fn compiled(alloc: Global, text: &str, link: Link) -> Result<Program<Global>, Ex
     Ok(generate(alloc, &expr, link)?)
 }
 
-/// Whether an expression matches some packets, in turn.
-fn expect(
-    rt: &(impl Abort + AllocGlobal),
+/// Whether an expression matches these packets and no others of them.
+fn matches(
+    alloc: Global,
     link: Link,
     text: &str,
-    packets: &[Packet<'_>],
-    wanted: &[bool],
-) -> Result<(), Fail> {
-    let mut program = compiled(rt.alloc(), text, link)?;
+    (packets, wanted): (&[Packet<'_>], &[bool]),
+) -> Result<bool, ExprFault> {
+    let mut program = compiled(alloc, text, link)?;
+    Ok(accepts(&mut program, packets, wanted))
+}
+
+/// Whether a program accepts these packets and no others of them.
+fn accepts(program: &mut Program<Global>, packets: &[Packet<'_>], wanted: &[bool]) -> bool {
     for (packet, wanted) in packets.iter().zip(wanted) {
-        let (answer, _) = run(&mut program, packet.bytes, packet.len);
-        assert_eq!(rt; answer != 0, *wanted, "{text} on {}", packet.name);
+        let (answer, _) = run(program, packet.bytes, packet.len);
+        if (answer != 0) != *wanted {
+            return false;
+        }
     }
-    Ok(())
+    true
 }

@@ -3,9 +3,10 @@ ghost use Rattle.std.specs.Prelude.{◌≤◌};
 
 use crate::devices::marked::Manner;
 use std::io::ErrorKind;
+use std::process::Abort;
 
 /// So many bytes go through a buffer of this capacity, in calls of these sizes by turns.
-#[derive(Clone, Copy, Debug)]
+#[derive(Clone, Copy)]
 pub struct Course {
     pub len: usize,
     pub capacity: usize,
@@ -40,6 +41,23 @@ impl Course {
                 kind: ErrorKind::TimedOut,
             },
         }
+    }
+
+    /// The same, with reads and writes that a signal interrupts.
+    pub fn interrupted(capacity: usize, piece: usize, failing: usize) -> Self {
+        let mut course = Course::small(capacity, piece, failing);
+        course.manner.kind = ErrorKind::Interrupted;
+        course
+    }
+
+    /// Names the course on which something doesn't hold.
+    pub fn expect(&self, rt: &impl Abort, holds: bool) {
+        let Manner { piece, failing, .. } = self.manner;
+        assert!(rt;
+            holds,
+            "capacity {}, {piece} a call, failing {failing}",
+            self.capacity
+        );
     }
 
     /// How many bytes the call of this turn is for, where there is room for so many.

@@ -28,7 +28,7 @@ pub fn are_marks(place: usize, bytes: &[u8]) -> bool {
 }
 
 /// What a reader or a writer did so far.
-#[derive(Clone, Copy, Debug)]
+#[derive(Clone, Copy)]
 pub struct Counts {
     /// Every call but those to flush.
     pub calls: usize,
@@ -54,7 +54,7 @@ impl Counts {
 
 /// What a call moves: at most `piece` bytes. Each call whose number is a multiple of `failing`
 /// fails by this kind of error, none where that is 0.
-#[derive(Clone, Copy, Debug)]
+#[derive(Clone, Copy)]
 pub struct Manner {
     pub piece: usize,
     pub failing: usize,

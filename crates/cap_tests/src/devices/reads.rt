@@ -4,7 +4,7 @@ use crate::devices::marked::{Counts, MarkedReader, are_marks};
 use cap_octet::{DeviceFault, Input, StdInput, read_full};
 use std::alloc::AllocGlobal;
 use std::cell::Cell;
-use std::io::{BufReader, ErrorKind, Result as IoResult};
+use std::io::{BufReader, Result as IoResult};
 use std::process::Abort;
 use std::test::Fail;
 
@@ -41,111 +41,151 @@ fn is_the_readers(
         && are_marks(given, &buf[..count])
 }
 
-/// Reads to the end, and compares what each read returns with what the reader did.
-fn check_reads(
-    rt: &(impl Abort + AllocGlobal),
-    course: &Course,
-    room: &mut [u8],
-) -> Result<(), Fail> {
-    let counts = Cell::new(Counts::new());
-    let mut input = input_of(rt, course, &counts)?;
-    let mut given = 0usize;
-    for turn in 0..usize::MAX {
-        let size = course.size(turn, room.len());
-        let buf = &mut room[..size];
-        let old = counts.get();
-        let returned = input.read(buf);
-        assert!(rt;
-            is_the_readers(returned, buf, given, old, counts.get()),
-            "{course:?} at {given}"
-        );
-        given = given.wrapping_add(returned.unwrap_or(0));
-        if returned == Ok(0) {
-            break;
+/// How an input is read.
+#[derive(Clone, Copy)]
+enum Way {
+    /// By single reads.
+    Single,
+    /// By reads that fill a buffer.
+    Full,
+    /// By taking what is at hand between reads.
+    AtHand,
+}
+
+/// What a turn took, and whether the end was met.
+type Turn = (usize, bool);
+
+/// A read, if it returned what the reader did.
+fn read_once(
+    input: &mut StdInput<MarkedReader<'_>>,
+    counts: &Cell<Counts>,
+    buf: &mut [u8],
+    given: usize,
+) -> Option<Turn> {
+    let old = counts.get();
+    let returned = input.read(buf);
+    if !is_the_readers(returned, buf, given, old, counts.get()) {
+        return None;
+    }
+    Some((returned.unwrap_or(0), returned == Ok(0)))
+}
+
+/// Whether these are zeros alone.
+fn are_zeros(bytes: &[u8]) -> bool {
+    for byte in bytes {
+        if *byte != 0 {
+            return false;
         }
     }
-    assert!(rt; given == course.len, "{course:?}");
-    Ok(())
+    true
 }
 
 /// Whether a buffer of zeros has so many bytes of the stream at its start, and no others.
 fn is_filled(buf: &[u8], given: usize, count: usize) -> bool {
-    count <= buf.len()
-        && are_marks(given, &buf[..count])
-        && buf[count..].iter().all(|byte| *byte == 0)
+    count <= buf.len() && are_marks(given, &buf[..count]) && are_zeros(&buf[count..])
 }
 
-/// Fills buffers to the end, and compares what each call returns with what the reader did. A buffer
-/// is full but at the end, or where the reader failed: then it has all that the reader gave.
-fn check_full_reads(
-    rt: &(impl Abort + AllocGlobal),
+/// A read that fills a buffer, if it returned what the reader did. A buffer is full but at the end,
+/// or where the reader failed: then it has all that the reader gave.
+fn fill_once(
+    input: &mut StdInput<MarkedReader<'_>>,
+    counts: &Cell<Counts>,
+    buf: &mut [u8],
+    (given, len): (usize, usize),
+) -> Option<Turn> {
+    buf.fill(0);
+    let old = counts.get();
+    let returned = read_full(input, buf);
+    let new = counts.get();
+    let (count, fits) = match returned {
+        Ok(count) => (count, count == buf.len().min(len.wrapping_sub(given))),
+        Err(DeviceFault) => {
+            let count = new.bytes.wrapping_sub(given);
+            (count, count < buf.len())
+        }
+    };
+    let failures = old.failures.wrapping_add(usize::from(returned.is_err()));
+    if !fits || new.failures != failures || !is_filled(buf, given, count) {
+        return None;
+    }
+    Some((count, returned == Ok(0)))
+}
+
+/// Takes half of what is at hand, and now and then more than that, which can't be taken; if these
+/// are the bytes from here on, and no reader is called for them.
+fn take_at_hand(
+    input: &mut StdInput<MarkedReader<'_>>,
+    counts: &Cell<Counts>,
+    turn: usize,
+    given: usize,
+) -> Option<usize> {
+    let hand = input.at_hand();
+    if !are_marks(given, hand) {
+        return None;
+    }
+    let there = hand.len();
+    let count = if turn % 5 == 4 { there + 1 } else { there / 2 };
+    let old = counts.get();
+    let passed = input.pass(count);
+    if passed != (count <= there) || counts.get().calls != old.calls {
+        return None;
+    }
+    Some(if passed { count } else { 0 })
+}
+
+/// Takes what is at hand, and then reads, if all bytes came once and in their order.
+fn take_and_read(
+    input: &mut StdInput<MarkedReader<'_>>,
+    counts: &Cell<Counts>,
+    buf: &mut [u8],
+    (turn, given): (usize, usize),
+) -> Option<Turn> {
+    let taken = take_at_hand(input, counts, turn, given)?;
+    let returned = input.read(buf);
+    let came = returned.unwrap_or(0);
+    if came > buf.len() || !are_marks(given.wrapping_add(taken), &buf[..came]) {
+        return None;
+    }
+    Some((taken.wrapping_add(came), returned == Ok(0)))
+}
+
+/// Reads to the end. Whether each call returned what the reader did, and all bytes came.
+fn reads_hold(
+    rt: &impl AllocGlobal,
     course: &Course,
+    way: Way,
     room: &mut [u8],
-) -> Result<(), Fail> {
+) -> Result<bool, Fail> {
     let counts = Cell::new(Counts::new());
     let mut input = input_of(rt, course, &counts)?;
     let mut given = 0usize;
     for turn in 0..usize::MAX {
         let size = course.size(turn, room.len());
         let buf = &mut room[..size];
-        buf.fill(0);
-        let old = counts.get();
-        let returned = read_full(&mut input, buf);
-        let new = counts.get();
-        let (count, fits) = match returned {
-            Ok(count) => (count, count == size.min(course.len.wrapping_sub(given))),
-            Err(DeviceFault) => {
-                let count = new.bytes.wrapping_sub(given);
-                (count, count < size)
-            }
+        let took = match way {
+            Way::Single => read_once(&mut input, &counts, buf, given),
+            Way::Full => fill_once(&mut input, &counts, buf, (given, course.len)),
+            Way::AtHand => take_and_read(&mut input, &counts, buf, (turn, given)),
         };
-        let failures = old.failures.wrapping_add(usize::from(returned.is_err()));
-        assert!(rt; fits && new.failures == failures, "{course:?} at {given}");
-        assert!(rt; is_filled(buf, given, count), "{course:?} at {given}");
+        let Some((count, is_end)) = took else {
+            return Ok(false);
+        };
         given = given.wrapping_add(count);
-        if returned == Ok(0) {
+        if is_end {
             break;
         }
     }
-    assert!(rt; given == course.len, "{course:?}");
-    Ok(())
+    Ok(given == course.len)
 }
 
-/// Takes half of what is at hand between reads, and now and then more than that: all bytes come
-/// once and in their order, and no reader is called for those at hand.
-fn check_bytes_at_hand(
+/// Reads to the end, and compares what each call returns with what the reader did.
+fn check_reads(
     rt: &(impl Abort + AllocGlobal),
     course: &Course,
+    way: Way,
     room: &mut [u8],
 ) -> Result<(), Fail> {
-    let counts = Cell::new(Counts::new());
-    let mut input = input_of(rt, course, &counts)?;
-    let mut given = 0usize;
-    for turn in 0..usize::MAX {
-        let hand = input.at_hand();
-        assert!(rt; are_marks(given, hand), "{course:?} at {given}");
-        let there = hand.len();
-        let count = if turn % 5 == 4 { there + 1 } else { there / 2 };
-        let old = counts.get();
-        let passed = input.pass(count);
-        assert!(rt;
-            passed == (count <= there) && counts.get().calls == old.calls,
-            "{course:?} at {given}"
-        );
-        given = given.wrapping_add(if passed { count } else { 0 });
-        let size = course.size(turn, room.len());
-        let returned = input.read(&mut room[..size]);
-        let came = returned.unwrap_or(0);
-        assert!(rt;
-            came <= size && are_marks(given, &room[..came]),
-            "{course:?} at {given}"
-        );
-        given = given.wrapping_add(came);
-        if returned == Ok(0) {
-            break;
-        }
-    }
-    assert!(rt; given == course.len, "{course:?}");
+    course.expect(rt, reads_hold(rt, course, way, room)?);
     Ok(())
 }
 
@@ -154,7 +194,7 @@ fn reads_past_4_mib_are_the_readers(rt: HostRuntime) -> Result<(), Fail> {
     let mut room = vec![in rt.alloc(); 0; LARGEST]?;
     for (capacity, piece, failing, large) in LONG {
         let course = Course::long(capacity, piece, failing, large);
-        check_reads(&rt, &course, &mut room)?;
+        check_reads(&rt, &course, Way::Single, &mut room)?;
     }
     Ok(())
 }
@@ -166,9 +206,9 @@ fn reads_over_small_buffers_are_the_readers(rt: HostRuntime) -> Result<(), Fail>
         for piece in PIECES {
             for failing in FAILING {
                 let course = Course::small(capacity, piece, failing);
-                check_reads(&rt, &course, &mut room)?;
-                check_full_reads(&rt, &course, &mut room)?;
-                check_bytes_at_hand(&rt, &course, &mut room)?;
+                check_reads(&rt, &course, Way::Single, &mut room)?;
+                check_reads(&rt, &course, Way::Full, &mut room)?;
+                check_reads(&rt, &course, Way::AtHand, &mut room)?;
             }
         }
     }
@@ -178,11 +218,11 @@ fn reads_over_small_buffers_are_the_readers(rt: HostRuntime) -> Result<(), Fail>
 /// A read that a signal interrupts is a failure as any other. The next one goes on.
 #[test]
 fn an_interrupted_read_fails(rt: HostRuntime) -> Result<(), Fail> {
-    for capacity in [0, 1, 7] {
-        let mut course = Course::small(capacity, 2, 2);
-        course.manner.kind = ErrorKind::Interrupted;
-        check_reads(&rt, &course, &mut [0; 20])?;
-        check_full_reads(&rt, &course, &mut [0; 20])?;
+    let mut room = [0; 20];
+    for capacity in &[0, 1, 7] {
+        let course = Course::interrupted(*capacity, 2, 2);
+        check_reads(&rt, &course, Way::Single, &mut room)?;
+        check_reads(&rt, &course, Way::Full, &mut room)?;
     }
     Ok(())
 }

@@ -29,24 +29,19 @@ fn is_the_writers(fails: bool, taken: usize, capacity: usize, old: Counts, new: 
         && taken - new.bytes <= capacity
 }
 
-/// Flushes until the writer took the remainder, and checks that it took every byte once, and that
-/// the device reports why it failed.
-fn check_end(
-    rt: &impl Abort,
-    course: &Course,
-    output: StdOutput<MarkedWriter<'_>>,
-    counts: &Cell<Counts>,
-) {
+/// Flushes until the writer took the remainder. Whether it took every byte once, and the device
+/// reports why it failed.
+fn ends_well(course: &Course, output: StdOutput<MarkedWriter<'_>>, counts: &Cell<Counts>) -> bool {
     let failed = counts.get().failures > 0;
     let (mut writer, cause) = output.into_inner();
-    assert!(rt; cause == failed.then_some(course.manner.kind), "{course:?}");
     for _ in 0..course.len {
         if writer.flush().is_ok() {
             break;
         }
     }
     let end = counts.get();
-    assert!(rt; end.in_order && end.bytes == course.len, "{course:?}");
+    let is_cause = cause == failed.then_some(course.manner.kind);
+    is_cause && end.in_order && end.bytes == course.len
 }
 
 /// Writes once, or until all is written or a write fails. Returns how many bytes were written, and
@@ -64,14 +59,14 @@ fn write_by(output: &mut impl Output, whole: bool, buf: &[u8]) -> (usize, bool) 
     }
 }
 
-/// Writes marked bytes, in single writes or whole ones, and compares what each returns with what
-/// the writer did.
-fn check_writes(
-    rt: &(impl Abort + AllocGlobal),
+/// Writes marked bytes, in single writes or whole ones. Whether each returned what the writer did,
+/// and all bytes came.
+fn writes_hold(
+    rt: &impl AllocGlobal,
     course: &Course,
     whole: bool,
     room: &mut [u8],
-) -> Result<(), Fail> {
+) -> Result<bool, Fail> {
     let counts = Cell::new(Counts::new());
     let mut output = output_of(rt, course, &counts)?;
     let mut taken = 0usize;
@@ -86,13 +81,21 @@ fn check_writes(
         let old = counts.get();
         let (written, fails) = write_by(&mut output, whole, buf);
         taken = taken.wrapping_add(written);
-        let new = counts.get();
-        assert!(rt;
-            is_the_writers(fails, taken, course.capacity, old, new),
-            "{course:?} at {taken}"
-        );
+        if !is_the_writers(fails, taken, course.capacity, old, counts.get()) {
+            return Ok(false);
+        }
     }
-    check_end(rt, course, output, &counts);
+    Ok(ends_well(course, output, &counts))
+}
+
+/// Writes marked bytes, and compares what each call returns with what the writer did.
+fn check_writes(
+    rt: &(impl Abort + AllocGlobal),
+    course: &Course,
+    whole: bool,
+    room: &mut [u8],
+) -> Result<(), Fail> {
+    course.expect(rt, writes_hold(rt, course, whole, room)?);
     Ok(())
 }
 
@@ -125,8 +128,7 @@ fn writes_over_small_buffers_come_to_the_writer(rt: HostRuntime) -> Result<(), F
 /// buffer fails, as at any other failure.
 #[test]
 fn an_interrupted_write_fails_past_the_buffer(rt: HostRuntime) -> Result<(), Fail> {
-    let mut course = Course::small(4, usize::MAX, 2);
-    course.manner.kind = ErrorKind::Interrupted;
+    let course = Course::interrupted(4, usize::MAX, 2);
     let counts = Cell::new(Counts::new());
     let mut output = output_of(&rt, &course, &counts)?;
     for (size, result, calls) in [

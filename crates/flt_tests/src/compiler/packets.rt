@@ -1,9 +1,8 @@
 //! The packets that expressions are read on.
 
-/// A packet with its name in messages.
+/// A packet.
 #[derive(Clone, Copy)]
 pub struct Packet<'a> {
-    pub name: &'a str,
     /// The captured bytes.
     pub bytes: &'a [u8],
     /// The original length.

@@ -1,58 +1,64 @@
 //! Which packets match.
 
-use super::{compiled, expect};
+use super::{compiled, matches};
 use crate::compiler::packets::{Packet, SYN, SYN_OF_IP6, fragment, tcp};
 use flt_bpf::{Program, run};
 use flt_gen::Link;
 use std::alloc::{AllocError, Global};
 use std::test::Fail;
 
-fn packet<'a>(name: &'a str, bytes: &'a [u8], len: u32) -> Packet<'a> {
-    Packet { name, bytes, len }
+fn packet(bytes: &[u8], len: u32) -> Packet<'_> {
+    Packet { bytes, len }
 }
 
 const YES: bool = true;
 
 const NO: bool = false;
 
+/// Expressions, and whether they match the packets `SYN`, a fragment, `SYN_OF_IP6` and `SYN` cut.
+const ON_ETHERNET: &[(&str, [bool; 4])] = &[
+    ("", [YES, YES, YES, YES]),
+    ("port 80 or 443", [YES, NO, YES, YES]),
+    ("not tcp[13] & 2 != 0", [NO, YES, YES, NO]),
+    ("-len & 0xff = 202", [YES, YES, NO, YES]),
+    ("ether[len - 1] = 0", [YES, YES, YES, NO]),
+    ("1 << 32 = 0", [YES, YES, YES, YES]),
+    ("src net fe80::/10", [NO, NO, YES, NO]),
+];
+
 #[test]
 fn on_ethernet(rt: HostRuntime) -> Result<(), Fail> {
     let fragment = fragment();
     let packets = [
-        packet("syn", &SYN, 54),
-        packet("fragment", &fragment, 54),
-        packet("syn over IPv6", &SYN_OF_IP6, 74),
-        packet("cut", &SYN[..40], 54),
+        packet(&SYN, 54),
+        packet(&fragment, 54),
+        packet(&SYN_OF_IP6, 74),
+        packet(&SYN[..40], 54),
     ];
-    let rows = [
-        ("", [YES, YES, YES, YES]),
-        ("port 80 or 443", [YES, NO, YES, YES]),
-        ("not tcp[13] & 2 != 0", [NO, YES, YES, NO]),
-        ("-len & 0xff = 202", [YES, YES, NO, YES]),
-        ("ether[len - 1] = 0", [YES, YES, YES, NO]),
-        ("1 << 32 = 0", [YES, YES, YES, YES]),
-        ("src net fe80::/10", [NO, NO, YES, NO]),
-    ];
-    for (text, wanted) in rows {
-        expect(&rt, Link::Ether, text, &packets, &wanted)?;
+    for (text, wanted) in ON_ETHERNET {
+        assert!(rt;
+            matches(rt.alloc(), Link::Ether, text, (&packets, wanted))?,
+            "{text}"
+        );
     }
     Ok(())
 }
 
+/// Expressions, and whether they match `SYN`, one byte and nothing.
+const ON_RAW_IP: &[(&str, [bool; 3])] = &[
+    ("port 80", [YES, NO, NO]),
+    ("not ip", [NO, NO, NO]),
+    ("not arp", [YES, YES, YES]),
+];
+
 #[test]
 fn on_raw_ip(rt: HostRuntime) -> Result<(), Fail> {
-    let packets = [
-        packet("syn", &SYN[14..], 40),
-        packet("one byte", &[0x45], 1),
-        packet("nothing", &[], 0),
-    ];
-    let rows = [
-        ("port 80", [YES, NO, NO]),
-        ("not ip", [NO, NO, NO]),
-        ("not arp", [YES, YES, YES]),
-    ];
-    for (text, wanted) in rows {
-        expect(&rt, Link::Raw, text, &packets, &wanted)?;
+    let packets = [packet(&SYN[14..], 40), packet(&[0x45], 1), packet(&[], 0)];
+    for (text, wanted) in ON_RAW_IP {
+        assert!(rt;
+            matches(rt.alloc(), Link::Raw, text, (&packets, wanted))?,
+            "{text}"
+        );
     }
     Ok(())
 }
@@ -80,12 +86,9 @@ fn forty_ports(rt: HostRuntime) -> Result<(), Fail> {
     let text = forty_ports_text(rt.alloc())?;
     let mut program = compiled(rt.alloc(), &text, Link::Ether)?;
     for port in 0..200u8 {
-        let wanted = (1..41).contains(&port);
-        assert_eq!(rt;
-            port_matches(&mut program, port),
-            (wanted, wanted),
-            "port {port}"
-        );
+        let wanted = 1 <= port && port < 41;
+        let (to, from) = port_matches(&mut program, port);
+        assert!(rt; to == wanted && from == wanted, "port {port}");
     }
     Ok(())
 }

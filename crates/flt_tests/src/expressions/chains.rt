@@ -1,7 +1,6 @@
 //! Counts of long chains.
 
-use super::compile;
-use flt_lang::{bound, nodes, tests};
+use super::counts_of;
 use std::alloc::{AllocError, Global};
 use std::test::Fail;
 
@@ -18,10 +17,10 @@ fn repeated(alloc: Global, part: &str, times: usize, end: &str) -> Result<String
 #[test]
 fn counts_along_chains(rt: HostRuntime) -> Result<(), Fail> {
     let ports = repeated(rt.alloc(), "port 1 or ", 39, "port 2")?;
-    let checked = compile(rt.alloc(), &ports)?;
-    assert!(rt; (tests(&checked), nodes(&checked), bound(&checked)) == (440, 0, 2642));
+    let (tests, nodes, _, bound) = counts_of(rt.alloc(), &ports)?;
+    assert!(rt; (tests, nodes, bound) == (440, 0, 2642));
     let protocols = repeated(rt.alloc(), "ip proto 6 or ", 29, "-len = 1")?;
-    let checked = compile(rt.alloc(), &protocols)?;
-    assert!(rt; (tests(&checked), nodes(&checked)) == (59, 3));
+    let (tests, nodes, _, _) = counts_of(rt.alloc(), &protocols)?;
+    assert!(rt; (tests, nodes) == (59, 3));
     Ok(())
 }

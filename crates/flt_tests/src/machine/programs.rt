@@ -2,7 +2,8 @@
 
 use super::{IPV4, insn, program_of};
 use flt_bpf::operation::{Operation, decode};
-use flt_bpf::{CheckFault, Insn, check, read_listing, run};
+use flt_bpf::{CheckFault, ListingFault, check, read_listing, run};
+use std::alloc::Global;
 use std::process::Abort;
 use std::test::Fail;
 
@@ -11,244 +12,244 @@ fn ethernet_type_is_tested(rt: HostRuntime) -> Result<(), Fail> {
     let mut program = program_of(rt.alloc(), IPV4)?;
     let mut packet = [0u8; 14];
     packet[12] = 8;
-    assert_eq!(rt; program.spent(), 0);
-    assert_eq!(rt; run(&mut program, &packet, 14), (262_144, 3));
+    assert!(rt; program.spent() == 0);
+    assert!(rt; run(&mut program, &packet, 14) == (262_144, 3));
     packet[13] = 6;
-    assert_eq!(rt; run(&mut program, &packet, 14), (0, 3));
-    assert_eq!(rt; run(&mut program, &packet[..13], 14), (0, 1));
-    assert_eq!(rt; program.spent(), 7);
-    assert_eq!(rt; program.insns().len(), 4);
+    assert!(rt; run(&mut program, &packet, 14) == (0, 3));
+    assert!(rt; run(&mut program, &packet[..13], 14) == (0, 1));
+    assert!(rt; program.spent() == 7);
+    assert!(rt; program.insns().len() == 4);
     Ok(())
 }
 
-// The answer and the count of instructions of a listing's program on a packet.
-fn answers(
-    rt: &(impl Abort + AllocGlobal),
-    listing: &[u8],
-    packet: &[u8],
-    len: u32,
-    expected: (u32, u32),
-) -> Result<(), Fail> {
-    let mut program = program_of(rt.alloc(), listing)?;
-    assert_eq!(rt; run(&mut program, packet, len), expected);
+/// A listing, the captured bytes and the length of a packet, and the answer and the count of
+/// instructions of a run.
+type Row = (&'static str, &'static [u8], u32, (u32, u32));
+
+/// The answer and the count of instructions of a listing's program on a packet.
+fn answer(alloc: Global, listing: &str, packet: &[u8], len: u32) -> Result<(u32, u32), Fail> {
+    let mut program = program_of(alloc, listing.as_bytes())?;
+    Ok(run(&mut program, packet, len))
+}
+
+/// Each run answers as its row says.
+fn expect_answers(rt: &(impl Abort + AllocGlobal), rows: &[Row]) -> Result<(), Fail> {
+    for (listing, packet, len, expected) in rows {
+        assert!(rt;
+            answer(rt.alloc(), listing, packet, *len)? == *expected,
+            "{listing}"
+        );
+    }
     Ok(())
 }
+
+/// Indexed loads.
+const INDEXED: &[Row] = &[
+    ("3\n1 0 0 4294967295\n80 0 0 1\n22 0 0 0\n", &[7], 1, (7, 3)),
+    (
+        "3\n1 0 0 4294967295\n72 0 0 1\n22 0 0 0\n",
+        &[7, 9],
+        2,
+        (1801, 3),
+    ),
+];
 
 #[test]
 fn indexed_loads_wrap(rt: HostRuntime) -> Result<(), Fail> {
-    let byte = b"3\n1 0 0 4294967295\n80 0 0 1\n22 0 0 0\n";
-    answers(&rt, byte, &[7], 1, (7, 3))?;
-    let half_word = b"3\n1 0 0 4294967295\n72 0 0 1\n22 0 0 0\n";
-    answers(&rt, half_word, &[7, 9], 2, (1801, 3))
+    expect_answers(&rt, INDEXED)
 }
+
+/// Loads at the end of a packet.
+const LOADS: &[Row] = &[
+    (
+        "2\n32 0 0 1\n22 0 0 0\n",
+        &[1, 2, 3, 4, 5],
+        5,
+        (0x0203_0405, 2),
+    ),
+    ("2\n32 0 0 2\n22 0 0 0\n", &[1, 2, 3, 4, 5], 5, (0, 1)),
+    ("2\n40 0 0 3\n22 0 0 0\n", &[1, 2, 3, 4, 5], 5, (0x0405, 2)),
+    ("2\n40 0 0 4\n22 0 0 0\n", &[1, 2, 3, 4, 5], 5, (0, 1)),
+    ("2\n48 0 0 4\n22 0 0 0\n", &[1, 2, 3, 4, 5], 5, (5, 2)),
+    ("2\n48 0 0 5\n22 0 0 0\n", &[1, 2, 3, 4, 5], 5, (0, 1)),
+    (
+        "2\n32 0 0 4294967295\n22 0 0 0\n",
+        &[1, 2, 3, 4, 5],
+        5,
+        (0, 1),
+    ),
+    (
+        "3\n177 0 0 4\n135 0 0 0\n22 0 0 0\n",
+        &[1, 2, 3, 4, 5],
+        5,
+        (20, 3),
+    ),
+    (
+        "3\n177 0 0 5\n135 0 0 0\n22 0 0 0\n",
+        &[1, 2, 3, 4, 5],
+        5,
+        (0, 1),
+    ),
+];
 
 #[test]
 fn loads_need_all_their_bytes(rt: HostRuntime) -> Result<(), Fail> {
-    let packet = [1, 2, 3, 4, 5];
-    answers(
-        &rt,
-        b"2\n32 0 0 1\n22 0 0 0\n",
-        &packet,
-        5,
-        (0x0203_0405, 2),
-    )?;
-    answers(&rt, b"2\n32 0 0 2\n22 0 0 0\n", &packet, 5, (0, 1))?;
-    answers(&rt, b"2\n40 0 0 3\n22 0 0 0\n", &packet, 5, (0x0405, 2))?;
-    answers(&rt, b"2\n40 0 0 4\n22 0 0 0\n", &packet, 5, (0, 1))?;
-    answers(&rt, b"2\n48 0 0 4\n22 0 0 0\n", &packet, 5, (5, 2))?;
-    answers(&rt, b"2\n48 0 0 5\n22 0 0 0\n", &packet, 5, (0, 1))?;
-    answers(&rt, b"2\n32 0 0 4294967295\n22 0 0 0\n", &packet, 5, (0, 1))?;
-    answers(
-        &rt,
-        b"3\n177 0 0 4\n135 0 0 0\n22 0 0 0\n",
-        &packet,
-        5,
-        (20, 3),
-    )?;
-    answers(
-        &rt,
-        b"3\n177 0 0 5\n135 0 0 0\n22 0 0 0\n",
-        &packet,
-        5,
-        (0, 1),
-    )
+    expect_answers(&rt, LOADS)
 }
 
-#[test]
-fn shifts_and_divisions_by_the_index_register(rt: HostRuntime) -> Result<(), Fail> {
-    answers(
-        &rt,
-        b"4\n0 0 0 1\n1 0 0 32\n108 0 0 0\n22 0 0 0\n",
+/// Shifts and divisions.
+const SHIFTS: &[Row] = &[
+    (
+        "4\n0 0 0 1\n1 0 0 32\n108 0 0 0\n22 0 0 0\n",
         &[],
         0,
         (0, 4),
-    )?;
-    answers(
-        &rt,
-        b"4\n0 0 0 1\n1 0 0 31\n108 0 0 0\n22 0 0 0\n",
+    ),
+    (
+        "4\n0 0 0 1\n1 0 0 31\n108 0 0 0\n22 0 0 0\n",
         &[],
         0,
         (0x8000_0000, 4),
-    )?;
-    answers(
-        &rt,
-        b"4\n0 0 0 9\n1 0 0 32\n124 0 0 0\n22 0 0 0\n",
+    ),
+    (
+        "4\n0 0 0 9\n1 0 0 32\n124 0 0 0\n22 0 0 0\n",
         &[],
         0,
         (0, 4),
-    )?;
-    answers(&rt, b"2\n60 0 0 0\n6 0 0 1\n", &[], 0, (0, 1))?;
-    answers(
-        &rt,
-        b"4\n0 0 0 9\n1 0 0 4\n60 0 0 0\n22 0 0 0\n",
-        &[],
-        0,
-        (2, 4),
-    )
-}
+    ),
+    ("2\n60 0 0 0\n6 0 0 1\n", &[], 0, (0, 1)),
+    ("4\n0 0 0 9\n1 0 0 4\n60 0 0 0\n22 0 0 0\n", &[], 0, (2, 4)),
+];
 
 #[test]
-fn remainders_and_exclusive_or(rt: HostRuntime) -> Result<(), Fail> {
-    answers(
-        &rt,
-        b"4\n128 0 0 0\n1 0 0 255\n172 0 0 0\n22 0 0 0\n",
+fn shifts_and_divisions_by_the_index_register(rt: HostRuntime) -> Result<(), Fail> {
+    expect_answers(&rt, SHIFTS)
+}
+
+/// Remainders and exclusive or.
+const REMAINDERS: &[Row] = &[
+    (
+        "4\n128 0 0 0\n1 0 0 255\n172 0 0 0\n22 0 0 0\n",
         &[],
         60,
         (195, 4),
-    )?;
-    answers(
-        &rt,
-        b"3\n128 0 0 0\n164 0 0 5\n22 0 0 0\n",
-        &[],
-        60,
-        (57, 3),
-    )?;
-    answers(&rt, b"3\n128 0 0 0\n148 0 0 7\n22 0 0 0\n", &[], 60, (4, 3))?;
-    answers(
-        &rt,
-        b"4\n128 0 0 0\n1 0 0 8\n156 0 0 0\n22 0 0 0\n",
+    ),
+    ("3\n128 0 0 0\n164 0 0 5\n22 0 0 0\n", &[], 60, (57, 3)),
+    ("3\n128 0 0 0\n148 0 0 7\n22 0 0 0\n", &[], 60, (4, 3)),
+    (
+        "4\n128 0 0 0\n1 0 0 8\n156 0 0 0\n22 0 0 0\n",
         &[],
         60,
         (4, 4),
-    )?;
-    answers(&rt, b"2\n156 0 0 0\n6 0 0 1\n", &[], 0, (0, 1))
-}
+    ),
+    ("2\n156 0 0 0\n6 0 0 1\n", &[], 0, (0, 1)),
+];
 
 #[test]
-fn arithmetic_wraps(rt: HostRuntime) -> Result<(), Fail> {
-    answers(
-        &rt,
-        b"3\n0 0 0 4294967295\n4 0 0 3\n22 0 0 0\n",
-        &[],
-        0,
-        (2, 3),
-    )?;
-    answers(
-        &rt,
-        b"3\n0 0 0 1\n20 0 0 3\n22 0 0 0\n",
-        &[],
-        0,
-        (0xffff_fffe, 3),
-    )?;
-    answers(
-        &rt,
-        b"3\n0 0 0 65536\n36 0 0 65537\n22 0 0 0\n",
+fn remainders_and_exclusive_or(rt: HostRuntime) -> Result<(), Fail> {
+    expect_answers(&rt, REMAINDERS)
+}
+
+/// Sums, differences, products and bits.
+const ARITHMETIC: &[Row] = &[
+    ("3\n0 0 0 4294967295\n4 0 0 3\n22 0 0 0\n", &[], 0, (2, 3)),
+    ("3\n0 0 0 1\n20 0 0 3\n22 0 0 0\n", &[], 0, (0xffff_fffe, 3)),
+    (
+        "3\n0 0 0 65536\n36 0 0 65537\n22 0 0 0\n",
         &[],
         0,
         (65_536, 3),
-    )?;
-    answers(
-        &rt,
-        b"3\n0 0 0 1\n132 0 0 0\n22 0 0 0\n",
+    ),
+    (
+        "3\n0 0 0 1\n132 0 0 0\n22 0 0 0\n",
         &[],
         0,
         (0xffff_ffff, 3),
-    )?;
-    answers(
-        &rt,
-        b"4\n128 0 0 0\n68 0 0 256\n84 0 0 260\n22 0 0 0\n",
+    ),
+    (
+        "4\n128 0 0 0\n68 0 0 256\n84 0 0 260\n22 0 0 0\n",
         &[],
         4,
         (260, 4),
-    )
+    ),
+];
+
+#[test]
+fn arithmetic_wraps(rt: HostRuntime) -> Result<(), Fail> {
+    expect_answers(&rt, ARITHMETIC)
 }
+
+/// Moves between words and registers.
+const STORES: &[Row] = &[
+    (
+        "8\n0 0 0 5\n2 0 0 15\n129 0 0 0\n3 0 0 0\n96 0 0 15\n97 0 0 0\n12 0 0 0\n22 0 0 0\n",
+        &[],
+        100,
+        (105, 8),
+    ),
+    ("4\n0 0 0 5\n7 0 0 0\n28 0 0 0\n22 0 0 0\n", &[], 0, (0, 4)),
+];
 
 #[test]
 fn words_and_registers_keep_numbers(rt: HostRuntime) -> Result<(), Fail> {
-    let listing =
-        b"8\n0 0 0 5\n2 0 0 15\n129 0 0 0\n3 0 0 0\n96 0 0 15\n97 0 0 0\n12 0 0 0\n22 0 0 0\n";
-    answers(&rt, listing, &[], 100, (105, 8))?;
-    answers(
-        &rt,
-        b"4\n0 0 0 5\n7 0 0 0\n28 0 0 0\n22 0 0 0\n",
-        &[],
-        0,
-        (0, 4),
-    )
+    expect_answers(&rt, STORES)
 }
 
-#[test]
-fn tests_choose_the_way(rt: HostRuntime) -> Result<(), Fail> {
-    answers(
-        &rt,
-        b"4\n0 0 0 5\n37 1 0 4\n6 0 0 1\n6 0 0 2\n",
-        &[],
-        0,
-        (2, 3),
-    )?;
-    answers(
-        &rt,
-        b"4\n0 0 0 5\n37 1 0 5\n6 0 0 1\n6 0 0 2\n",
-        &[],
-        0,
-        (1, 3),
-    )?;
-    answers(
-        &rt,
-        b"4\n0 0 0 5\n53 1 0 5\n6 0 0 1\n6 0 0 2\n",
-        &[],
-        0,
-        (2, 3),
-    )?;
-    answers(
-        &rt,
-        b"4\n0 0 0 5\n69 1 0 2\n6 0 0 1\n6 0 0 2\n",
-        &[],
-        0,
-        (1, 3),
-    )?;
-    answers(
-        &rt,
-        b"5\n0 0 0 5\n1 0 0 5\n29 1 0 0\n6 0 0 1\n6 0 0 2\n",
+/// Tests and jumps.
+const TESTS: &[Row] = &[
+    ("4\n0 0 0 5\n37 1 0 4\n6 0 0 1\n6 0 0 2\n", &[], 0, (2, 3)),
+    ("4\n0 0 0 5\n37 1 0 5\n6 0 0 1\n6 0 0 2\n", &[], 0, (1, 3)),
+    ("4\n0 0 0 5\n53 1 0 5\n6 0 0 1\n6 0 0 2\n", &[], 0, (2, 3)),
+    ("4\n0 0 0 5\n69 1 0 2\n6 0 0 1\n6 0 0 2\n", &[], 0, (1, 3)),
+    (
+        "5\n0 0 0 5\n1 0 0 5\n29 1 0 0\n6 0 0 1\n6 0 0 2\n",
         &[],
         0,
         (2, 4),
-    )?;
-    answers(
-        &rt,
-        b"4\n5 0 0 2\n6 0 0 1\n6 0 0 2\n6 0 0 3\n",
-        &[],
-        0,
-        (3, 2),
-    )
+    ),
+    ("4\n5 0 0 2\n6 0 0 1\n6 0 0 2\n6 0 0 3\n", &[], 0, (3, 2)),
+];
+
+#[test]
+fn tests_choose_the_way(rt: HostRuntime) -> Result<(), Fail> {
+    expect_answers(&rt, TESTS)
 }
+
+/// Tests for equality, one behind another.
+const CHAINS: &[Row] = &[
+    (
+        "7\n48 0 0 0\n21 3 0 4\n21 0 1 5\n6 0 0 1\n6 0 0 2\n21 0 0 4\n6 0 0 3\n",
+        &[4],
+        1,
+        (3, 4),
+    ),
+    (
+        "7\n48 0 0 0\n21 3 0 4\n21 0 1 5\n6 0 0 1\n6 0 0 2\n21 0 0 4\n6 0 0 3\n",
+        &[5],
+        1,
+        (1, 4),
+    ),
+    (
+        "7\n48 0 0 0\n21 3 0 4\n21 0 1 5\n6 0 0 1\n6 0 0 2\n21 0 0 4\n6 0 0 3\n",
+        &[6],
+        1,
+        (2, 4),
+    ),
+];
 
 #[test]
 fn tests_for_equality_follow_one_another(rt: HostRuntime) -> Result<(), Fail> {
-    let listing = b"7\n48 0 0 0\n21 3 0 4\n21 0 1 5\n6 0 0 1\n6 0 0 2\n21 0 0 4\n6 0 0 3\n";
-    answers(&rt, listing, &[4], 1, (3, 4))?;
-    answers(&rt, listing, &[5], 1, (1, 4))?;
-    answers(&rt, listing, &[6], 1, (2, 4))
+    expect_answers(&rt, CHAINS)
 }
 
 #[test]
 fn codes_stand_for_their_operations(rt: HostRuntime) {
     for code in 0..=255u16 {
         if let Some(operation) = decode(code) {
-            assert_eq!(rt; operation.code(), code);
+            assert!(rt; operation.code() == code);
         }
     }
-    assert_eq!(rt; Operation::Negate.code(), 132);
+    assert!(rt; Operation::Negate.code() == 132);
 }
 
 #[test]
@@ -259,114 +260,99 @@ fn a_longest_program_of_jumps_ends(rt: HostRuntime) -> Result<(), Fail> {
     }
     insns.push(insn(6, 0, 0, 1))?;
     let mut program = check(insns)?;
-    assert_eq!(rt; run(&mut program, &[], 0), (1, 32_768));
-    assert_eq!(rt; run(&mut program, &[], 0), (1, 32_768));
-    assert_eq!(rt; program.spent(), 65_536);
+    assert!(rt; run(&mut program, &[], 0) == (1, 32_768));
+    assert!(rt; run(&mut program, &[], 0) == (1, 32_768));
+    assert!(rt; program.spent() == 65_536);
     Ok(())
 }
 
-// The rule that these instructions break first, and where.
-fn refused(
+/// The rule that a listing's instructions break first, and where.
+fn broken_rule(alloc: Global, listing: &str) -> Result<Option<(CheckFault, usize)>, ListingFault> {
+    let insns = read_listing(alloc, listing.as_bytes())?;
+    Ok(check(insns).err())
+}
+
+/// Listings, the rule that each breaks first, and where.
+const BROKEN: &[(&str, CheckFault, usize)] = &[
+    ("0", CheckFault::Empty, 0),
+    ("3\n6 0 0 1\n180 0 0 1\n6 0 0 1", CheckFault::UnknownCode, 1),
+    ("2\n5 0 0 4294967295\n6 0 0 1", CheckFault::JumpOut, 0),
+    ("2\n5 0 0 1\n6 0 0 1", CheckFault::JumpOut, 0),
+    ("2\n21 1 0 0\n6 0 0 1", CheckFault::JumpOut, 0),
+    ("2\n21 0 1 0\n6 0 0 1", CheckFault::JumpOut, 0),
+    ("3\n6 0 0 1\n3 0 0 16\n6 0 0 1", CheckFault::NoSuchWord, 1),
+    ("2\n97 0 0 16\n6 0 0 1", CheckFault::NoSuchWord, 0),
+    ("2\n52 0 0 0\n6 0 0 1", CheckFault::DivisionByZero, 0),
+    (
+        "3\n128 0 0 0\n148 0 0 0\n22 0 0 0",
+        CheckFault::DivisionByZero,
+        1,
+    ),
+    ("2\n116 0 0 32\n6 0 0 1", CheckFault::ShiftTooFar, 0),
+    ("2\n6 0 0 1\n0 0 0 0", CheckFault::NoReturn, 0),
+];
+
+/// Listings that break several rules.
+const BROKEN_TWICE: &[(&str, CheckFault, usize)] = &[
+    ("2\n2 0 0 16\n9 0 0 0", CheckFault::NoSuchWord, 0),
+    ("2\n5 0 0 0\n5 0 0 0", CheckFault::JumpOut, 1),
+];
+
+/// Each listing breaks the rule of its row.
+fn expect_broken(
     rt: &(impl Abort + AllocGlobal),
-    insns: &[Insn],
-    expected: (CheckFault, usize),
+    rows: &[(&str, CheckFault, usize)],
 ) -> Result<(), Fail> {
-    match check(insns.to_vec(rt.alloc())?) {
-        Ok(_) => assert!(rt; false, "accepted"),
-        Err(fault) => assert_eq!(rt; fault, expected),
+    for (listing, fault, index) in rows {
+        let broken = broken_rule(rt.alloc(), listing)?;
+        assert!(rt; broken == Some((*fault, *index)), "{listing}");
     }
     Ok(())
 }
 
 #[test]
 fn each_rule_is_kept(rt: HostRuntime) -> Result<(), Fail> {
-    let end = insn(6, 0, 0, 1);
-    refused(&rt, &[], (CheckFault::Empty, 0))?;
-    refused(
-        &rt,
-        &[end, insn(180, 0, 0, 1), end],
-        (CheckFault::UnknownCode, 1),
-    )?;
-    refused(
-        &rt,
-        &[insn(5, 0, 0, 0xffff_ffff), end],
-        (CheckFault::JumpOut, 0),
-    )?;
-    refused(&rt, &[insn(5, 0, 0, 1), end], (CheckFault::JumpOut, 0))?;
-    refused(&rt, &[insn(21, 1, 0, 0), end], (CheckFault::JumpOut, 0))?;
-    refused(&rt, &[insn(21, 0, 1, 0), end], (CheckFault::JumpOut, 0))?;
-    refused(
-        &rt,
-        &[end, insn(3, 0, 0, 16), end],
-        (CheckFault::NoSuchWord, 1),
-    )?;
-    refused(&rt, &[insn(97, 0, 0, 16), end], (CheckFault::NoSuchWord, 0))?;
-    refused(
-        &rt,
-        &[insn(52, 0, 0, 0), end],
-        (CheckFault::DivisionByZero, 0),
-    )?;
-    refused(
-        &rt,
-        &[insn(128, 0, 0, 0), insn(148, 0, 0, 0), insn(22, 0, 0, 0)],
-        (CheckFault::DivisionByZero, 1),
-    )?;
-    refused(
-        &rt,
-        &[insn(116, 0, 0, 32), end],
-        (CheckFault::ShiftTooFar, 0),
-    )?;
-    refused(&rt, &[end, insn(0, 0, 0, 0)], (CheckFault::NoReturn, 0))
+    expect_broken(&rt, BROKEN)
 }
 
 #[test]
 fn the_first_broken_rule_is_told(rt: HostRuntime) -> Result<(), Fail> {
-    let jump = insn(5, 0, 0, 0);
-    refused(
-        &rt,
-        &[insn(2, 0, 0, 16), insn(9, 0, 0, 0)],
-        (CheckFault::NoSuchWord, 0),
-    )?;
-    refused(&rt, &[jump, jump], (CheckFault::JumpOut, 1))?;
+    expect_broken(&rt, BROKEN_TWICE)?;
     let mut insns = Vec::new(rt.alloc());
     for _ in 0..32_769 {
         insns.push(insn(9, 0, 0, 0))?;
     }
-    refused(&rt, &insns, (CheckFault::TooLong, 0))
+    assert!(rt; check(insns).err() == Some((CheckFault::TooLong, 0)));
+    Ok(())
 }
 
 #[test]
 fn fields_that_are_not_used_are_not_checked(rt: HostRuntime) -> Result<(), Fail> {
-    let insns = [insn(7, 255, 255, 99), insn(60, 9, 9, 0), insn(22, 1, 1, 77)];
-    let mut program = check(insns.to_vec(rt.alloc())?)?;
-    assert_eq!(rt; run(&mut program, &[], 0), (0, 2));
+    let listing = "3\n7 255 255 99\n60 9 9 0\n22 1 1 77";
+    assert!(rt; answer(rt.alloc(), listing, &[], 0)? == (0, 2));
     Ok(())
 }
 
 #[test]
 fn an_empty_listing_is_an_empty_program(rt: HostRuntime) -> Result<(), Fail> {
-    match check(read_listing(rt.alloc(), b"0")?) {
-        Ok(_) => assert!(rt; false, "accepted"),
-        Err(fault) => assert_eq!(rt; fault, (CheckFault::Empty, 0)),
-    }
+    assert!(rt; broken_rule(rt.alloc(), "0")? == Some((CheckFault::Empty, 0)));
     Ok(())
+}
+
+/// The message of the rule that a listing breaks.
+fn message(alloc: Global, listing: &str) -> Result<String, Fail> {
+    let Some((fault, index)) = broken_rule(alloc, listing)? else {
+        return Err(Fail::from("accepted"));
+    };
+    Ok(format!(in alloc; "{fault} at {index}")?)
 }
 
 #[test]
 fn a_broken_rule_is_named(rt: HostRuntime) -> Result<(), Fail> {
-    let insns = read_listing(
-        rt.alloc(),
-        b"4\n40 0 0 12\n21 0 2 2048\n6 0 0 262144\n6 0 0 0\n",
-    )?;
-    match check(insns) {
-        Ok(_) => assert!(rt; false, "accepted"),
-        Err((fault, index)) => {
-            let message = format!(in rt.alloc(); "{fault} at {index}")?;
-            assert_eq!(rt; message.as_str(), "jump out at 1");
-            assert!(rt; fault.has_index());
-        }
-    }
-    assert_eq!(rt; CheckFault::NoReturn.text(), "no return at the end");
+    let listing = "4\n40 0 0 12\n21 0 2 2048\n6 0 0 262144\n6 0 0 0\n";
+    assert!(rt; message(rt.alloc(), listing)?.as_str() == "jump out at 1");
+    assert!(rt; CheckFault::JumpOut.has_index());
+    assert!(rt; CheckFault::NoReturn.text() == "no return at the end");
     assert!(rt; !CheckFault::Empty.has_index());
     Ok(())
 }
