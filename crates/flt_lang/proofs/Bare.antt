@@ -8,7 +8,7 @@ use Rattle.flt_lang.specs.declared.node.Node.TheVariants as node
 use Rattle.flt_lang.specs.declared.reading.frame.Frame.{Frame}
 use Rattle.flt_lang.specs.declared.reading.frame.Operand.TheVariants as operand
 use Rattle.flt_lang.specs.Values.{ReadsValue}
-use Rattle.flt_lang.specs.Machine.{◌>>=◌, reach, begin, run, with_frames, bare_of}
+use Rattle.flt_lang.specs.Machine.{◌>>=◌, next_precedence, begin, run, with_frames, bare_of}
 use Rattle.flt_lang.proofs.ValuesBack.{value_back}
 use Rattle.flt_lang.proofs.Valued.{value_suffix, value_some, run_begins}
 
@@ -30,7 +30,7 @@ begin_value (token.Range a b ∷ ts) fs d h = refl
 begin_value _ fs d h = cc
 
 -- such a value is read
-pub value_runs : {ts rest : List TokenKind} {v : Value} → ReadsValue ts v rest → is_value_front ts ≡ true → (fs : List Frame) (d : List Node) → 6 ≤ reach rest → run ts 0 fs None d ≡ run rest 0 fs (Some operand.Truth) (node.Bare v ∷ d)
+pub value_runs : {ts rest : List TokenKind} {v : Value} → ReadsValue ts v rest → is_value_front ts ≡ true → (fs : List Frame) (d : List Node) → 6 ≤ next_precedence rest → run ts 0 fs None d ≡ run rest 0 fs (Some operand.Truth) (node.Bare v ∷ d)
 value_runs {ts = ts} {rest = rest} {v = v} vs is fs d h =
     let found : bare_of ts d ≡ Some (length ts - length rest - 1, Some operand.Truth, node.Bare v ∷ d) = ap (λ o. o >>= λ r. Some (length ts - length r.1 - 1, Some operand.Truth, node.Bare r.0 ∷ d)) (value_back vs h).0 in
     let begun : begin ts fs d ≡ Some (length ts - length rest - 1, (fs, Some operand.Truth, node.Bare v ∷ d)) = begin_value ts fs d is ∙ ap (λ o. with_frames fs o) found in
@@ -45,7 +45,7 @@ abbrev pub IsNoMask : List TokenKind → Type 0
 IsNoMask (token.Mask ∷ ts) = ⊥
 IsNoMask _ = Unit {0}
 
-pub no_mask_at : (ts : List TokenKind) → 2 ≤ reach ts → IsNoMask ts
+pub no_mask_at : (ts : List TokenKind) → 2 ≤ next_precedence ts → IsNoMask ts
 no_mask_at (token.Mask ∷ ts) h = absurd (omega arith)
 no_mask_at _ h = tt
 

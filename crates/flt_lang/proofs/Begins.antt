@@ -16,7 +16,7 @@ use Rattle.flt_lang.specs.declared.reading.frame.Operand.TheVariants as operand
 use Rattle.flt_lang.specs.Tree.{len, named, TruthTree, check, cast, sized, bare, valued}
 use Rattle.flt_lang.specs.Values.{quals_of, value_of, is_written}
 use Rattle.flt_lang.specs.Grammar.{is_accessor, is_check, has_casts, of_len, of_name, Truth, of_check, of_cast, of_protocol_cast, of_sized, of_valued, of_bare}
-use Rattle.flt_lang.specs.Machine.{truth_onto, room, Begun, begin, valued_of, valued_or, check_of, primitive, bare_of, with_frames}
+use Rattle.flt_lang.specs.Machine.{truth_onto, operand_precedence, Begun, begin, valued_of, valued_or, check_of, primitive, bare_of, with_frames}
 use Rattle.flt_lang.proofs.Valued.{quals_sound, value_sound, side_written, left_behind}
 use Rattle.flt_lang.proofs.Bare.{value_left}
 use Rattle.flt_lang.proofs.Stacked.{some_first, some_then, Stacked, Behind}
@@ -116,7 +116,7 @@ begin_sound (token.Mac a) ts fs d start r stacked h = bare_sound (token.Mac a) t
 begin_sound (token.Range a b) ts fs d start r stacked h = bare_sound (token.Range a b) ts fs d start r stacked h
 begin_sound token.Len ts fs d start r stacked h = begun ts start (0, (fs, Some operand.Number, node.Len ∷ d)) r (d, (token.Len ∷ ts), stacked, (0, len, zero-le, zero-le, zero-le, of_len, refl)) h
 begin_sound (token.Name n) ts fs d start r stacked h = begun ts start (0, (fs, Some operand.Number, node.Named n ∷ d)) r (d, (token.Name n ∷ ts), stacked, (0, named n, zero-le, zero-le, zero-le, of_name, refl)) h
-begin_sound token.Not ts fs d start r stacked h = begun ts start (0, (frame.Not ∷ fs, None, d)) r stacked (some_then (nat_le 6 (room fs)) (Some (0, (frame.Not ∷ fs, None, d))) r h).1
+begin_sound token.Not ts fs d start r stacked h = begun ts start (0, (frame.Not ∷ fs, None, d)) r stacked (some_then (nat_le 6 (operand_precedence fs)) (Some (0, (frame.Not ∷ fs, None, d))) r h).1
 begin_sound (token.Operator Subtract) ts fs d start r stacked h = begun ts start (0, (frame.Negate ∷ fs, None, d)) r stacked h
 begin_sound token.Open ts fs d start r stacked h = begun ts start (0, (frame.Open ∷ fs, None, d)) r stacked h
 begin_sound _ ts fs d start r stacked h = cc

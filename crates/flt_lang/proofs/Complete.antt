@@ -18,35 +18,35 @@ use Rattle.flt_lang.specs.declared.reading.frame.Operand.TheVariants as operand
 use Rattle.flt_lang.specs.Tree.{NumberTree, literal, TruthTree, bare, Expression}
 use Rattle.flt_lang.specs.Values.{no_mask, prefix, dotted_mask, ReadsValue, number, dotted, ip6, ip6_prefix, mac, range}
 use Rattle.flt_lang.specs.Grammar.{level, is_accessor, is_check, has_casts, Number, of_literal, of_len, of_name, enclosed, of_load, of_sized_load, minus, single, chain, Truth, of_check, of_cast, of_protocol_cast, of_sized, of_valued, of_bare, relation, denial, enclosed_truth, term, terms, Reads, no_tokens, all_tokens}
-use Rattle.flt_lang.specs.Machine.{◌>>=◌, number_onto, truth_onto, expr_onto, looseness, room, reach_of, reach, as_number, as_truth, fill, run, all_run, enclosed_operand, prefix_len, next_of, go_on, IsLoose}
-use Rattle.flt_lang.proofs.Settling.{le_true, le_false, settle_stays}
+use Rattle.flt_lang.specs.Machine.{◌>>=◌, number_onto, truth_onto, expr_onto, precedence, operand_precedence, token_precedence, next_precedence, as_number, as_truth, fill, run, all_run, enclosed_operand, prefix_len, next_of, after_operand, IsLoose}
+use Rattle.flt_lang.proofs.Reducing.{le_true, le_false, reduce_stays}
 use Rattle.flt_lang.proofs.ValuesBack.{level_small}
 use Rattle.flt_lang.proofs.Valued.{valued_runs}
 use Rattle.flt_lang.proofs.Bare.{value_runs, IsNoMask, no_mask_at, plain_runs}
 
 -- a frame as tight as a division has no room for one
-tight_room : (f : Frame) (fs : List Frame) → looseness f ≤ 1 → room (f ∷ fs) < 1
-tight_room frame.Negate fs h = omega arith
-tight_room (frame.Apply o) fs h = omega arith
-tight_room (frame.Compare c) fs h = absurd (omega arith)
-tight_room frame.Not fs h = absurd (omega arith)
-tight_room (frame.Join j) fs h = absurd (omega arith)
-tight_room frame.Open fs h = absurd (omega arith)
-tight_room (frame.Load p) fs h = absurd (omega arith)
+tight_operand : (f : Frame) (fs : List Frame) → precedence f ≤ 1 → operand_precedence (f ∷ fs) < 1
+tight_operand frame.Negate fs h = omega arith
+tight_operand (frame.Apply o) fs h = omega arith
+tight_operand (frame.Compare c) fs h = absurd (omega arith)
+tight_operand frame.Not fs h = absurd (omega arith)
+tight_operand (frame.Join j) fs h = absurd (omega arith)
+tight_operand frame.Open fs h = absurd (omega arith)
+tight_operand (frame.Load p) fs h = absurd (omega arith)
 
 -- behind a frame that the next token makes take its operand, no value goes on
-no_prefix : (x : Operand) (ts : List TokenKind) (f : Frame) (fs : List Frame) (d : List Node) → looseness f ≤ reach ts → go_on ts (f ∷ fs) x d ≡ next_of ts (f ∷ fs) x d
-no_prefix (operand.Plain n) (token.Operator Divide ∷ token.Number m ∷ ts) f fs d h = rw (le_false 1 (room (f ∷ fs)) (tight_room f fs h)) refl
+no_prefix : (x : Operand) (ts : List TokenKind) (f : Frame) (fs : List Frame) (d : List Node) → precedence f ≤ next_precedence ts → after_operand ts (f ∷ fs) x d ≡ next_of ts (f ∷ fs) x d
+no_prefix (operand.Plain n) (token.Operator Divide ∷ token.Number m ∷ ts) f fs d h = rw (le_false 1 (operand_precedence (f ∷ fs)) (tight_operand f fs h)) refl
 no_prefix _ _ f fs d h = refl
 
 -- a frame that binds as tightly as the next token takes the operand
-take_frame : (f : Frame) (fs : List Frame) (x y : Operand) (d e : List Node) (ts : List TokenKind) → looseness f ≤ reach ts → fill f x d ≡ Some (y, e) → prefix_len y ts ≡ None → run ts 0 (f ∷ fs) (Some x) d ≡ run ts 0 fs (Some y) e
-take_frame f fs x y d e [] h filled other = rw (le_true (looseness f) 8 h, filled)
+take_frame : (f : Frame) (fs : List Frame) (x y : Operand) (d e : List Node) (ts : List TokenKind) → precedence f ≤ next_precedence ts → fill f x d ≡ Some (y, e) → prefix_len y ts ≡ None → run ts 0 (f ∷ fs) (Some x) d ≡ run ts 0 fs (Some y) e
+take_frame f fs x y d e [] h filled other = rw (le_true (precedence f) 8 h, filled)
 take_frame f fs x y d e (t ∷ ts) h filled other =
-    ap (λ r. r >>= λ r. run ts r.0 r.1.0 r.1.1 r.1.2) (no_prefix x (t ∷ ts) f fs d h) ∙ rw (le_true (looseness f) (reach_of t) h, filled, other) refl
+    ap (λ r. r >>= λ r. run ts r.0 r.1.0 r.1.1 r.1.2) (no_prefix x (t ∷ ts) f fs d h) ∙ rw (le_true (precedence f) (token_precedence t) h, filled, other) refl
 
 -- frames with room for an operand as loose as m are looser; no token is as loose as a denial
-loose : (m : ℕ) (fs : List Frame) → 1 ≤ m → m ≢ 6 → m ≤ room fs → IsLoose m fs
+loose : (m : ℕ) (fs : List Frame) → 1 ≤ m → m ≢ 6 → m ≤ operand_precedence fs → IsLoose m fs
 loose m [] some other h = tt
 loose m (frame.Negate ∷ fs) some other h = absurd (omega arith)
 loose m (frame.Apply p ∷ fs) some other h = omega arith
@@ -56,10 +56,10 @@ loose m (frame.Join j ∷ fs) some other h = omega arith
 loose m (frame.Open ∷ fs) some other h = omega arith
 loose m (frame.Load p ∷ fs) some other h = omega arith
 
-operator_step : (o : Operator) (ts : List TokenKind) (fs : List Frame) (x : Operand) (d e : List Node) → level o + 1 ≤ room fs → as_number x d ≡ Some e → prefix_len x (token.Operator o ∷ ts) ≡ None → run (token.Operator o ∷ ts) 0 fs (Some x) d ≡ run ts 0 (frame.Apply o ∷ fs) None e
+operator_step : (o : Operator) (ts : List TokenKind) (fs : List Frame) (x : Operand) (d e : List Node) → level o + 1 ≤ operand_precedence fs → as_number x d ≡ Some e → prefix_len x (token.Operator o ∷ ts) ≡ None → run (token.Operator o ∷ ts) 0 fs (Some x) d ≡ run ts 0 (frame.Apply o ∷ fs) None e
 operator_step o ts fs x d e h is_num other =
     let is_loose = loose (level o + 1) fs (omega arith) (λ e. absurd (omega (arith, level_small o))) h in
-    rw (other, settle_stays (level o + 1) fs x d is_loose, le_true (level o + 1) (room fs) h, is_num)
+    rw (other, reduce_stays (level o + 1) fs x d is_loose, le_true (level o + 1) (operand_precedence fs) h, is_num)
 
 -- only an operator makes a value go on
 abbrev IsNoOperator : TokenKind → Type 0
@@ -71,13 +71,13 @@ no_prefix_at (token.Operator o) ts (operand.Plain n) h = absurd h
 no_prefix_at _ ts (operand.Plain n) h = refl
 no_prefix_at t ts _ h = refl
 
-comparison_step : (c : Comparison) (ts : List TokenKind) (fs : List Frame) (x : Operand) (d e : List Node) → 6 ≤ room fs → as_number x d ≡ Some e → run (token.Comparison c ∷ ts) 0 fs (Some x) d ≡ run ts 0 (frame.Compare c ∷ fs) None e
+comparison_step : (c : Comparison) (ts : List TokenKind) (fs : List Frame) (x : Operand) (d e : List Node) → 6 ≤ operand_precedence fs → as_number x d ≡ Some e → run (token.Comparison c ∷ ts) 0 fs (Some x) d ≡ run ts 0 (frame.Compare c ∷ fs) None e
 comparison_step c ts fs x d e h is_num =
-    rw (no_prefix_at (token.Comparison c) ts x tt, settle_stays 5 fs x d (loose 5 fs (lit≤ tt) (λ e. absurd (omega arith)) (omega arith)), le_true 5 (room fs) (omega arith), is_num)
+    rw (no_prefix_at (token.Comparison c) ts x tt, reduce_stays 5 fs x d (loose 5 fs (lit≤ tt) (λ e. absurd (omega arith)) (omega arith)), le_true 5 (operand_precedence fs) (omega arith), is_num)
 
-join_step : (j : Join) (ts : List TokenKind) (fs : List Frame) (x : Operand) (d e : List Node) → 7 ≤ room fs → as_truth x d ≡ Some e → run (token.Join j ∷ ts) 0 fs (Some x) d ≡ run ts 0 (frame.Join j ∷ fs) None e
+join_step : (j : Join) (ts : List TokenKind) (fs : List Frame) (x : Operand) (d e : List Node) → 7 ≤ operand_precedence fs → as_truth x d ≡ Some e → run (token.Join j ∷ ts) 0 fs (Some x) d ≡ run ts 0 (frame.Join j ∷ fs) None e
 join_step j ts fs x d e h truth =
-    rw (no_prefix_at (token.Join j) ts x tt, settle_stays 7 fs x d (loose 7 fs (lit≤ tt) (λ e. absurd (omega arith)) h), le_true 7 (room fs) h, truth)
+    rw (no_prefix_at (token.Join j) ts x tt, reduce_stays 7 fs x d (loose 7 fs (lit≤ tt) (λ e. absurd (omega arith)) h), le_true 7 (operand_precedence fs) h, truth)
 
 -- the machine comes from the tokens ts with nothing read to rest with an operand that is the number, or the truth
 record ReadsNumber (ts : List TokenKind) (fs : List Frame) (d : List Node) (e : List Node) (rest : List TokenKind) : Type 0 where
@@ -146,11 +146,11 @@ literal_first (minus inner) m here unary tokens = cc
 literal_first (single inner) m here unary tokens = absurd (omega arith)
 literal_first (chain left at_level right) m here unary tokens = absurd (omega arith)
 
-prefix_step : (n m : ℕ) (ts : List TokenKind) (fs : List Frame) (d : List Node) → 1 ≤ room fs → run (token.Operator Divide ∷ token.Number m ∷ ts) 0 fs (Some (operand.Plain n)) d ≡ run ts 0 fs (Some (operand.Either n (Some m))) d
-prefix_step n m ts fs d h = rw (le_true 1 (room fs) h)
+prefix_step : (n m : ℕ) (ts : List TokenKind) (fs : List Frame) (d : List Node) → 1 ≤ operand_precedence fs → run (token.Operator Divide ∷ token.Number m ∷ ts) 0 fs (Some (operand.Plain n)) d ≡ run ts 0 fs (Some (operand.Either n (Some m))) d
+prefix_step n m ts fs d h = rw (le_true 1 (operand_precedence fs) h)
 
 -- a number and a length behind it, read as a value
-as_prefix : (o : Operator) (ts mid rest : List TokenKind) (fs : List Frame) (d e nodes : List Node) (x : Operand) (b : NumberTree) → run ts 0 fs None d ≡ run (token.Operator o ∷ mid) 0 fs (Some x) nodes → as_number x nodes ≡ Some e → Number (level o) mid b rest → 1 ≤ room fs → IsPrefix o mid x → ReadsNumber ts fs d (node.Apply o ∷ number_onto b e) rest
+as_prefix : (o : Operator) (ts mid rest : List TokenKind) (fs : List Frame) (d e nodes : List Node) (x : Operand) (b : NumberTree) → run ts 0 fs None d ≡ run (token.Operator o ∷ mid) 0 fs (Some x) nodes → as_number x nodes ≡ Some e → Number (level o) mid b rest → 1 ≤ operand_precedence fs → IsPrefix o mid x → ReadsNumber ts fs d (node.Apply o ∷ number_onto b e) rest
 as_prefix o ts mid rest fs d e nodes x b runs is_num right roomy is =
     let unary : level o ≡ 0 = ap level is.divides in
     let lit = literal_first right is.len_of is.rest unary is.tokens in
@@ -165,7 +165,7 @@ as_prefix o ts mid rest fs d e nodes x b runs is_num right roomy is =
       is_number = cc (front, whole, is.divides);
     }
 
-reads_number : {k : ℕ} {ts rest : List TokenKind} {a : NumberTree} → Number k ts a rest → (fs : List Frame) (d : List Node) → k ≤ room fs → k ≤ reach rest → IsNoMask rest → ReadsNumber ts fs d (number_onto a d) rest
+reads_number : {k : ℕ} {ts rest : List TokenKind} {a : NumberTree} → Number k ts a rest → (fs : List Frame) (d : List Node) → k ≤ operand_precedence fs → k ≤ next_precedence rest → IsNoMask rest → ReadsNumber ts fs d (number_onto a d) rest
 reads_number (of_literal {n = n} {rest = rest}) fs d roomy reaches unmasked = record { operand = operand.Plain n; nodes = d; runs = plain_runs n rest fs d unmasked; is_number = refl }
 reads_number of_len fs d roomy reaches unmasked = record { operand = operand.Number; nodes = node.Len ∷ d; runs = refl; is_number = refl }
 reads_number of_name fs d roomy reaches unmasked = record { operand = operand.Number; nodes = node.Named _ ∷ d; runs = refl; is_number = refl }
@@ -196,7 +196,7 @@ reads_number (chain {k = k} {ts = ts} {mid = mid} {rest = rest} {a = a} {b = b} 
     (prefix_or_not o mid l.operand)
 
 -- a protocol with what may follow a truth behind it is a check
-check_runs : (p : Protocol) (rest : List TokenKind) (fs : List Frame) (d : List Node) → is_check p ≡ true → 6 ≤ reach rest → run (token.Protocol p ∷ rest) 0 fs None d ≡ run rest 0 fs (Some operand.Truth) (node.Check p ∷ d)
+check_runs : (p : Protocol) (rest : List TokenKind) (fs : List Frame) (d : List Node) → is_check p ≡ true → 6 ≤ next_precedence rest → run (token.Protocol p ∷ rest) 0 fs None d ≡ run rest 0 fs (Some operand.Truth) (node.Check p ∷ d)
 check_runs p [] fs d is h = rw is refl
 check_runs p (token.Join j ∷ ts) fs d is h = rw is refl
 check_runs p (token.Close ∷ ts) fs d is h = rw is refl
@@ -208,13 +208,13 @@ check_runs p (_ ∷ ts) fs d is h = absurd (omega arith)
 cast_runs : (p : Protocol) (c : Cast) (rest : List TokenKind) (fs : List Frame) (d : List Node) → has_casts p ≡ true → run (token.Protocol p ∷ token.Cast c ∷ rest) 0 fs None d ≡ run rest 0 fs (Some operand.Truth) (node.Cast (Some p) c ∷ d)
 cast_runs p c rest fs d is = rw is refl
 
-not_step : (ts : List TokenKind) (fs : List Frame) (d : List Node) → 6 ≤ room fs → run (token.Not ∷ ts) 0 fs None d ≡ run ts 0 (frame.Not ∷ fs) None d
-not_step ts fs d h = rw (le_true 6 (room fs) h)
+not_step : (ts : List TokenKind) (fs : List Frame) (d : List Node) → 6 ≤ operand_precedence fs → run (token.Not ∷ ts) 0 fs None d ≡ run ts 0 (frame.Not ∷ fs) None d
+not_step ts fs d h = rw (le_true 6 (operand_precedence fs) h)
 
 whole_truth : {ts rest : List TokenKind} {fs : List Frame} {d e : List Node} → run ts 0 fs None d ≡ run rest 0 fs (Some operand.Truth) e → ReadsTruth ts fs d e rest
 whole_truth runs = record { operand = operand.Truth; nodes = _; runs = runs; is_truth = refl }
 
-reads_bare : {ts rest : List TokenKind} {v : Value} → ReadsValue ts v rest → (fs : List Frame) (d : List Node) → 6 ≤ room fs → 6 ≤ reach rest → ReadsTruth ts fs d (truth_onto (bare v) d) rest
+reads_bare : {ts rest : List TokenKind} {v : Value} → ReadsValue ts v rest → (fs : List Frame) (d : List Node) → 6 ≤ operand_precedence fs → 6 ≤ next_precedence rest → ReadsTruth ts fs d (truth_onto (bare v) d) rest
 reads_bare (number {n = n} {rest = rest} no_mask) fs d roomy reaches = record { operand = operand.Plain n; nodes = d; runs = plain_runs n rest fs d (no_mask_at rest (omega arith)); is_truth = refl }
 reads_bare (number {n = n} {rest = rest} (prefix {m = m})) fs d roomy reaches = record { operand = operand.Either n (Some m); nodes = d; runs = prefix_step n m rest fs d (omega arith); is_truth = refl }
 reads_bare (number dotted_mask) fs d roomy reaches = whole_truth (value_runs (number dotted_mask) refl fs d reaches)
@@ -224,7 +224,7 @@ reads_bare ip6_prefix fs d roomy reaches = whole_truth (value_runs ip6_prefix re
 reads_bare mac fs d roomy reaches = whole_truth (value_runs mac refl fs d reaches)
 reads_bare range fs d roomy reaches = whole_truth (value_runs range refl fs d reaches)
 
-reads_truth : {k : ℕ} {ts rest : List TokenKind} {a : TruthTree} → Truth k ts a rest → (fs : List Frame) (d : List Node) → k + 6 ≤ room fs → k + 6 ≤ reach rest → ReadsTruth ts fs d (truth_onto a d) rest
+reads_truth : {k : ℕ} {ts rest : List TokenKind} {a : TruthTree} → Truth k ts a rest → (fs : List Frame) (d : List Node) → k + 6 ≤ operand_precedence fs → k + 6 ≤ next_precedence rest → ReadsTruth ts fs d (truth_onto a d) rest
 reads_truth (of_check {p = p} {rest = rest} is) fs d roomy reaches = whole_truth (check_runs p rest fs d is reaches)
 reads_truth of_cast fs d roomy reaches = whole_truth refl
 reads_truth (of_protocol_cast {p = p} {c = c} {rest = rest} is) fs d roomy reaches = whole_truth (cast_runs p c rest fs d is)

@@ -1,5 +1,5 @@
 pub mod Fronts
-pub mod Settling
+pub mod Reducing
 pub mod NodesBack
 pub mod ValuesBack
 pub mod Valued

@@ -9,7 +9,7 @@ use Rattle.flt_lang.specs.declared.reading.frame.Operand.{Operand}
 use Rattle.flt_lang.specs.Tree.{Expression}
 use Rattle.flt_lang.specs.Nodes.{expr_nodes, tree_of, tree_back, IsTree}
 use Rattle.flt_lang.specs.Grammar.{Reads, kinds_of}
-use Rattle.flt_lang.specs.Machine.{State, run, all_run, go_on, begin_at}
+use Rattle.flt_lang.specs.Machine.{State, run, all_run, after_operand, begin_at}
 use Rattle.flt_lang.proofs.Fronts.{first_and_rest}
 use Rattle.flt_lang.proofs.Valued.{run_begins, run_skip}
 use Rattle.flt_lang.proofs.Complete.{complete}
@@ -17,10 +17,10 @@ use Rattle.flt_lang.proofs.Sound.{sound}
 use Rattle.flt_lang.proofs.NodesBack.{expr_turned}
 
 -- what comes behind an operand
-pub run_goes_on : (ts : List Token) (t : Token) (fs : List Frame) (x : Operand) (d : List Node) (k : ℕ) (s : State) → 0 < length ts → go_on ((get_or ts 0 t).kind ∷ kinds_of (take (length ts - 1) (drop 1 ts))) fs x d ≡ Some (k, s) → run (kinds_of ts) 0 fs (Some x) d ≡ run (kinds_of (drop (1 + k) ts)) 0 s.0 s.1 s.2
+pub run_goes_on : (ts : List Token) (t : Token) (fs : List Frame) (x : Operand) (d : List Node) (k : ℕ) (s : State) → 0 < length ts → after_operand ((get_or ts 0 t).kind ∷ kinds_of (take (length ts - 1) (drop 1 ts))) fs x d ≡ Some (k, s) → run (kinds_of ts) 0 fs (Some x) d ≡ run (kinds_of (drop (1 + k) ts)) 0 s.0 s.1 s.2
 run_goes_on [] t fs x d k s h e = absurd (omega arith)
 run_goes_on (u ∷ ts) t fs x d k s h e =
-    let goes : go_on (kinds_of (u ∷ ts)) fs x d ≡ Some (k, s) = ap (λ us. go_on us fs x d) (sym (first_and_rest (u ∷ ts) t h)) ∙ e in
+    let goes : after_operand (kinds_of (u ∷ ts)) fs x d ≡ Some (k, s) = ap (λ us. after_operand us fs x d) (sym (first_and_rest (u ∷ ts) t h)) ∙ e in
     rw (goes, one-add, ← drop-map) (run_skip (kinds_of ts) k s.0 s.1 s.2)
 
 -- where an operand begins

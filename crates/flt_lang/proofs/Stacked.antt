@@ -15,7 +15,7 @@ use Rattle.flt_lang.specs.declared.reading.frame.Operand.TheVariants as operand
 use Rattle.flt_lang.specs.Tree.{NumberTree, literal, negated, applied, TruthTree, bare, compared, denied, joined}
 use Rattle.flt_lang.specs.Values.{no_mask, number}
 use Rattle.flt_lang.specs.Grammar.{level, is_accessor, Number, of_literal, minus, single, chain, Truth, of_bare, relation, denial, term, terms}
-use Rattle.flt_lang.specs.Machine.{◌>>=◌, number_onto, truth_onto, looseness, room, prefix_mask, as_number, as_truth, Read, fill, Settled, settle}
+use Rattle.flt_lang.specs.Machine.{◌>>=◌, number_onto, truth_onto, precedence, operand_precedence, prefix_mask, as_number, as_truth, Read, fill, Reduced, reduce}
 use Rattle.flt_lang.proofs.ValuesBack.{level_small}
 
 -- a chain of steps that succeeds has a first step that does
@@ -41,10 +41,10 @@ widened k (suc j) ts rest a h n =
 abbrev pub Stacked : List Frame → List Node → List TokenKind → List TokenKind → Type 0
 Stacked [] d start here = (start ≡ here) × (d ≡ [])
 Stacked (frame.Negate ∷ fs) d start here = Stacked fs d start (token.Operator Subtract ∷ here)
-Stacked (frame.Apply o ∷ fs) d start here = (e : List Node) × (mid : List TokenKind) × (a : NumberTree) × Stacked fs e start mid × (d ≡ number_onto a e) × Number (suc (level o)) mid a (token.Operator o ∷ here) × (level o + 1 ≤ room fs)
+Stacked (frame.Apply o ∷ fs) d start here = (e : List Node) × (mid : List TokenKind) × (a : NumberTree) × Stacked fs e start mid × (d ≡ number_onto a e) × Number (suc (level o)) mid a (token.Operator o ∷ here) × (level o + 1 ≤ operand_precedence fs)
 Stacked (frame.Compare c ∷ fs) d start here = (e : List Node) × (mid : List TokenKind) × (a : NumberTree) × Stacked fs e start mid × (d ≡ number_onto a e) × Number 4 mid a (token.Comparison c ∷ here)
 Stacked (frame.Not ∷ fs) d start here = Stacked fs d start (token.Not ∷ here)
-Stacked (frame.Join j ∷ fs) d start here = (e : List Node) × (mid : List TokenKind) × (a : TruthTree) × Stacked fs e start mid × (d ≡ truth_onto a e) × Truth 1 mid a (token.Join j ∷ here) × (7 ≤ room fs)
+Stacked (frame.Join j ∷ fs) d start here = (e : List Node) × (mid : List TokenKind) × (a : TruthTree) × Stacked fs e start mid × (d ≡ truth_onto a e) × Truth 1 mid a (token.Join j ∷ here) × (7 ≤ operand_precedence fs)
 Stacked (frame.Open ∷ fs) d start here = Stacked fs d start (token.Open ∷ here)
 Stacked (frame.Load p ∷ fs) d start here = (is_accessor p ≡ true) × Stacked fs d start (token.Protocol p ∷ token.OpenBracket ∷ here)
 
@@ -65,24 +65,24 @@ Between m r (operand.Plain n) d e mid rest = (mid ≡ token.Number n ∷ rest) �
 Between m r (operand.Either n l) d e mid rest = (k : ℕ) × (k ≤ m) × (k ≤ r) × (k ≤ 4) × Number k mid (either_number n l) rest × Truth 0 mid (either_truth n l) rest × (e ≡ d)
 
 pub record NumberBetween (m r : ℕ) (d e : List Node) (mid rest : List TokenKind) : Type 0 where
-  pub looseness_of : ℕ
+  pub precedence_of : ℕ
   pub tree : NumberTree
-  pub in_reach : looseness_of ≤ m
-  pub in_room : looseness_of ≤ r
-  pub small : looseness_of ≤ 4
-  pub reads : Number looseness_of mid tree rest
+  pub in_reach : precedence_of ≤ m
+  pub in_room : precedence_of ≤ r
+  pub small : precedence_of ≤ 4
+  pub reads : Number precedence_of mid tree rest
   pub nodes : e ≡ number_onto tree d
 
 pub number_between : (m r : ℕ) (x : Operand) (d e f : List Node) (mid rest : List TokenKind) → Between m r x d e mid rest → as_number x e ≡ Some f → NumberBetween m r d f mid rest
 number_between m r operand.Truth d e f mid rest b h = cc
 number_between m r operand.Number d e f mid rest (k, a, in_reach, in_room, small, reads, nodes) h =
-    record { looseness_of = k; tree = a; in_reach = in_reach; in_room = in_room; small = small; reads = reads; nodes = cc }
+    record { precedence_of = k; tree = a; in_reach = in_reach; in_room = in_room; small = small; reads = reads; nodes = cc }
 number_between m r (operand.Plain n) d e f mid rest (is, nodes) h =
-    record { looseness_of = 0; tree = literal n; in_reach = omega arith; in_room = omega arith; small = omega arith; reads = subst (λ ts. Number 0 ts (literal n) rest) (sym is) of_literal; nodes = cc }
+    record { precedence_of = 0; tree = literal n; in_reach = omega arith; in_room = omega arith; small = omega arith; reads = subst (λ ts. Number 0 ts (literal n) rest) (sym is) of_literal; nodes = cc }
 number_between m r (operand.Either n None) d e f mid rest (k, in_reach, in_room, small, reads, reads_truth, nodes) h =
-    record { looseness_of = k; tree = literal n; in_reach = in_reach; in_room = in_room; small = small; reads = reads; nodes = cc }
+    record { precedence_of = k; tree = literal n; in_reach = in_reach; in_room = in_room; small = small; reads = reads; nodes = cc }
 number_between m r (operand.Either n (Some l)) d e f mid rest (k, in_reach, in_room, small, reads, reads_truth, nodes) h =
-    record { looseness_of = k; tree = applied Divide (literal n) (literal l); in_reach = in_reach; in_room = in_room; small = small; reads = reads; nodes = cc }
+    record { precedence_of = k; tree = applied Divide (literal n) (literal l); in_reach = in_reach; in_room = in_room; small = small; reads = reads; nodes = cc }
 
 pub record TruthBetween (m r : ℕ) (d e : List Node) (mid rest : List TokenKind) : Type 0 where
   pub tree : TruthTree
@@ -104,7 +104,7 @@ chain_of reads = ⊎_elim (λ t. term t) (λ (_, _, t). t) reads
 
 -- an operand behind some frames
 abbrev pub Behind : ℕ → List Frame → Operand → List Node → List TokenKind → List TokenKind → Type 0
-Behind m fs x e start rest = (d : List Node) × (mid : List TokenKind) × Stacked fs d start mid × Between m (room fs) x d e mid rest
+Behind m fs x e start rest = (d : List Node) × (mid : List TokenKind) × Stacked fs d start mid × Between m (operand_precedence fs) x d e mid rest
 
 moved : (m : ℕ) (fs : List Frame) (start rest : List TokenKind) (y z : Operand) (g h : List Node) → Behind m fs y g start rest → ◌≡◌ {A = Option Read} (Some (y, g)) (Some (z, h)) → Behind m fs z h start rest
 moved m fs start rest y z g h b same =
@@ -113,20 +113,20 @@ moved m fs start rest y z g h b same =
     subst P pairs b
 
 -- a frame with its operand is an operand
-fill_sound : (m : ℕ) (f : Frame) (fs : List Frame) (x y : Operand) (e g : List Node) (start rest : List TokenKind) → looseness f ≤ m → Behind m (f ∷ fs) x e start rest → fill f x e ≡ Some (y, g) → Behind m fs y g start rest
+fill_sound : (m : ℕ) (f : Frame) (fs : List Frame) (x y : Operand) (e g : List Node) (start rest : List TokenKind) → precedence f ≤ m → Behind m (f ∷ fs) x e start rest → fill f x e ≡ Some (y, g) → Behind m fs y g start rest
 fill_sound m frame.Negate fs x y e g start rest h (d, mid, stacked, between) filled =
     let (i, is_number, is_rest) = some_first (as_number x e) (λ i. Some (operand.Number, node.Negate ∷ i)) (y, g) filled in
     let n = number_between m 0 x d e i mid rest between is_number in
-    moved m fs start rest operand.Number y (node.Negate ∷ i) g (d, (token.Operator Subtract ∷ mid), stacked, (0, negated n.tree, zero-le, zero-le, zero-le, minus (widened n.looseness_of 0 mid rest n.tree n.in_room n.reads), ap (λ l. node.Negate ∷ l) n.nodes)) is_rest
+    moved m fs start rest operand.Number y (node.Negate ∷ i) g (d, (token.Operator Subtract ∷ mid), stacked, (0, negated n.tree, zero-le, zero-le, zero-le, minus (widened n.precedence_of 0 mid rest n.tree n.in_room n.reads), ap (λ l. node.Negate ∷ l) n.nodes)) is_rest
 fill_sound m (frame.Apply o) fs x y e g start rest h (d, mid, (d', mid', a, stacked, d_is, left, roomy), between) filled =
     let (i, is_number, is_rest) = some_first (as_number x e) (λ i. Some (operand.Number, node.Apply o ∷ i)) (y, g) filled in
     let n = number_between m (level o) x d e i mid rest between is_number in
-    let right = widened n.looseness_of (level o) mid rest n.tree n.in_room n.reads in
+    let right = widened n.precedence_of (level o) mid rest n.tree n.in_room n.reads in
     moved m fs start rest operand.Number y (node.Apply o ∷ i) g (d', mid', stacked, (suc (level o), applied o a n.tree, omega arith, omega arith, omega (arith, level_small o), chain left refl right, ap (λ l. node.Apply o ∷ l) (n.nodes ∙ ap (λ l. number_onto n.tree l) d_is))) is_rest
 fill_sound m (frame.Compare c) fs x y e g start rest h (d, mid, (d', mid', a, stacked, d_is, left), between) filled =
     let (i, is_number, is_rest) = some_first (as_number x e) (λ i. Some (operand.Truth, node.Compare c ∷ i)) (y, g) filled in
     let n = number_between m 4 x d e i mid rest between is_number in
-    let right = widened n.looseness_of 4 mid rest n.tree n.small n.reads in
+    let right = widened n.precedence_of 4 mid rest n.tree n.small n.reads in
     moved m fs start rest operand.Truth y (node.Compare c ∷ i) g (d', mid', stacked, (compared c a n.tree, inl (relation left right), ap (λ l. node.Compare c ∷ l) (n.nodes ∙ ap (λ l. number_onto n.tree l) d_is))) is_rest
 fill_sound m frame.Not fs x y e g start rest h (d, mid, stacked, between) filled =
     let (i, is_truth, is_rest) = some_first (as_truth x e) (λ i. Some (operand.Truth, node.Not ∷ i)) (y, g) filled in
@@ -139,22 +139,22 @@ fill_sound m (frame.Join j) fs x y e g start rest h (d, mid, (d', mid', a, stack
 fill_sound m frame.Open fs x y e g start rest h b filled = cc
 fill_sound m (frame.Load p) fs x y e g start rest h b filled = cc
 
-settle_one : (m : ℕ) (f : Frame) (fs : List Frame) (x : Operand) (e : List Node) (start rest : List TokenKind) (s : Settled) (q : Bool) → nat_le (looseness f) m ≡ q → Behind m (f ∷ fs) x e start rest → ((y : Operand) (g : List Node) → Behind m fs y g start rest → settle m fs y g ≡ Some s → Behind m s.0 s.1 s.2 start rest) → (if q then (fill f x e >>= λ r. settle m fs r.0 r.1) else Some (f ∷ fs, x, e)) ≡ Some s → Behind m s.0 s.1 s.2 start rest
-settle_one m f fs x e start rest s true is_tight b others h =
-    let (r, filled, settles) = some_first (fill f x e) (λ r. settle m fs r.0 r.1) s h in
+reduce_one : (m : ℕ) (f : Frame) (fs : List Frame) (x : Operand) (e : List Node) (start rest : List TokenKind) (s : Reduced) (q : Bool) → nat_le (precedence f) m ≡ q → Behind m (f ∷ fs) x e start rest → ((y : Operand) (g : List Node) → Behind m fs y g start rest → reduce m fs y g ≡ Some s → Behind m s.0 s.1 s.2 start rest) → (if q then (fill f x e >>= λ r. reduce m fs r.0 r.1) else Some (f ∷ fs, x, e)) ≡ Some s → Behind m s.0 s.1 s.2 start rest
+reduce_one m f fs x e start rest s true is_tight b others h =
+    let (r, filled, settles) = some_first (fill f x e) (λ r. reduce m fs r.0 r.1) s h in
     others r.0 r.1 (fill_sound m f fs x r.0 e r.1 start rest (leb-true _ _ is_tight) b filled) settles
-settle_one m f fs x e start rest s false is_loose b others h =
-    let P : Settled → Type 0 = λ s. Behind m s.0 s.1 s.2 start rest in
-    let same : ◌≡◌ {A = Settled} (f ∷ fs, x, e) s = cc in
+reduce_one m f fs x e start rest s false is_loose b others h =
+    let P : Reduced → Type 0 = λ s. Behind m s.0 s.1 s.2 start rest in
+    let same : ◌≡◌ {A = Reduced} (f ∷ fs, x, e) s = cc in
     subst P same b
 
-pub settle_sound : (m : ℕ) (fs : List Frame) (x : Operand) (e : List Node) (start rest : List TokenKind) (s : Settled) → Behind m fs x e start rest → settle m fs x e ≡ Some s → Behind m s.0 s.1 s.2 start rest
-settle_sound m [] x e start rest s b settled =
-    let P : Settled → Type 0 = λ s. Behind m s.0 s.1 s.2 start rest in
-    let same : ◌≡◌ {A = Settled} ([], x, e) s = cc in
+pub reduce_sound : (m : ℕ) (fs : List Frame) (x : Operand) (e : List Node) (start rest : List TokenKind) (s : Reduced) → Behind m fs x e start rest → reduce m fs x e ≡ Some s → Behind m s.0 s.1 s.2 start rest
+reduce_sound m [] x e start rest s b reduced =
+    let P : Reduced → Type 0 = λ s. Behind m s.0 s.1 s.2 start rest in
+    let same : ◌≡◌ {A = Reduced} ([], x, e) s = cc in
     subst P same b
-settle_sound m (f ∷ fs) x e start rest s b settled =
-    settle_one m f fs x e start rest s (nat_le (looseness f) m) refl b (λ y g c h. settle_sound m fs y g start rest s c h) settled
+reduce_sound m (f ∷ fs) x e start rest s b reduced =
+    reduce_one m f fs x e start rest s (nat_le (precedence f) m) refl b (λ y g c h. reduce_sound m fs y g start rest s c h) reduced
 
 pub loosened : (m r : ℕ) (x : Operand) (d e : List Node) (mid rest : List TokenKind) → 1 ≤ m → Between 1 r x d e mid rest → Between m r x d e mid rest
 loosened m r operand.Number d e mid rest h (k, a, in_reach, in_room, small, reads, nodes) = (k, a, omega arith, in_room, small, reads, nodes)

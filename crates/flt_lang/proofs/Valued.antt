@@ -19,7 +19,7 @@ use Rattle.flt_lang.specs.declared.reading.frame.Frame.{Frame}
 use Rattle.flt_lang.specs.declared.reading.frame.Operand.{Operand}
 use Rattle.flt_lang.specs.declared.reading.frame.Operand.TheVariants as operand
 use Rattle.flt_lang.specs.Values.{ReadsProtocol, no_protocol, protocol, ReadsDirection, no_direction, one_side, source_first, destination_first, ReadsType, no_type, of_type, ReadsQuals, quals, is_written, ReadsMask, no_mask, prefix, dotted_mask, ReadsValue, number, dotted, ip6, ip6_prefix, mac, range, starts_value, protocol_of, direction_of, type_of, quals_of, mask_of, value_of}
-use Rattle.flt_lang.specs.Machine.{◌>>=◌, reach, State, begin, run, valued_of, valued_or, primitive, with_frames}
+use Rattle.flt_lang.specs.Machine.{◌>>=◌, next_precedence, State, begin, run, valued_of, valued_or, primitive, with_frames}
 use Rattle.flt_lang.proofs.ValuesBack.{type_back, direction_back, quals_back, ends_protocol, value_back}
 
 -- rest is what is left of ts
@@ -115,7 +115,7 @@ value_some ip6_prefix = omega arith
 value_some mac = omega arith
 value_some range = omega arith
 
-pub valued_runs : {ts mid rest : List TokenKind} {q : Quals} {v : Value} → ReadsQuals ts q mid → is_written q ≡ true → ReadsValue mid v rest → (fs : List Frame) (d : List Node) → 6 ≤ reach rest → run ts 0 fs None d ≡ run rest 0 fs (Some operand.Truth) (node.Valued q v ∷ d)
+pub valued_runs : {ts mid rest : List TokenKind} {q : Quals} {v : Value} → ReadsQuals ts q mid → is_written q ≡ true → ReadsValue mid v rest → (fs : List Frame) (d : List Node) → 6 ≤ next_precedence rest → run ts 0 fs None d ≡ run rest 0 fs (Some operand.Truth) (node.Valued q v ∷ d)
 valued_runs {ts = ts} {mid = mid} {rest = rest} {q = q} {v = v} qs w vs fs d h =
     let value_is = value_back vs h in
     let quals_are = quals_back qs value_is.1 in

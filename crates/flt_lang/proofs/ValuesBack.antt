@@ -15,7 +15,7 @@ use Rattle.flt_lang.specs.declared.value.NetMask.{NetMask}
 use Rattle.flt_lang.specs.declared.value.Value.{Value}
 use Rattle.flt_lang.specs.Values.{ReadsProtocol, no_protocol, protocol, ReadsDirection, no_direction, one_side, source_first, destination_first, ReadsType, no_type, of_type, ReadsQuals, quals, ReadsMask, no_mask, prefix, dotted_mask, ReadsValue, number, dotted, ip6, ip6_prefix, mac, range, starts_value, protocol_of, direction_of, type_of, quals_of, mask_of, value_of}
 use Rattle.flt_lang.specs.Grammar.{level}
-use Rattle.flt_lang.specs.Machine.{reach}
+use Rattle.flt_lang.specs.Machine.{next_precedence}
 
 pub level_small : (o : Operator) → level o ≤ 3
 level_small operator.Multiply = lit≤ tt
@@ -86,14 +86,14 @@ quals_back (quals p d k) h =
     let f = protocol_back p e.1 in
     rw (f, e.0, t.0) refl
 
-mask_back : {ts rest : List TokenKind} {m : NetMask} → ReadsMask ts m rest → 6 ≤ reach rest → mask_of ts ≡ (m, rest)
+mask_back : {ts rest : List TokenKind} {m : NetMask} → ReadsMask ts m rest → 6 ≤ next_precedence rest → mask_of ts ≡ (m, rest)
 mask_back (no_mask {ts = token.Operator o ∷ ts}) h = absurd (omega (arith, level_small o))
 mask_back (no_mask {ts = token.Mask ∷ ts}) h = absurd (omega arith)
 mask_back (no_mask {ts = _}) h = refl
 mask_back prefix h = refl
 mask_back dotted_mask h = refl
 
-pub value_back : {ts rest : List TokenKind} {v : Value} → ReadsValue ts v rest → 6 ≤ reach rest → (value_of ts ≡ Some (v, rest)) × (starts_value ts ≡ true)
+pub value_back : {ts rest : List TokenKind} {v : Value} → ReadsValue ts v rest → 6 ≤ next_precedence rest → (value_of ts ≡ Some (v, rest)) × (starts_value ts ≡ true)
 value_back (number m) h = (rw (mask_back m h) refl, refl)
 value_back (dotted m) h = (rw (mask_back m h) refl, refl)
 value_back (ip6 {rest = token.Operator o ∷ ts}) h = absurd (omega (arith, level_small o))

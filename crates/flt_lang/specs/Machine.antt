@@ -59,39 +59,39 @@ expr_onto empty = []
 expr_onto (truth a) = truth_onto a []
 
 -- how loosely a frame binds its operand
-abbrev pub looseness : Frame → ℕ
-looseness frame.Negate = 0
-looseness (frame.Apply o) = level o + 1
-looseness (frame.Compare c) = 5
-looseness frame.Not = 6
-looseness (frame.Join j) = 7
-looseness frame.Open = 9
-looseness (frame.Load p) = 9
+abbrev pub precedence : Frame → ℕ
+precedence frame.Negate = 0
+precedence (frame.Apply o) = level o + 1
+precedence (frame.Compare c) = 5
+precedence frame.Not = 6
+precedence (frame.Join j) = 7
+precedence frame.Open = 9
+precedence (frame.Load p) = 9
 
 -- the loosest operand that the latest frame takes
-abbrev pub room : List Frame → ℕ
-room [] = 7
-room (frame.Negate ∷ fs) = 0
-room (frame.Apply o ∷ fs) = level o
-room (frame.Compare c ∷ fs) = 4
-room (frame.Not ∷ fs) = 6
-room (frame.Join j ∷ fs) = 6
-room (frame.Open ∷ fs) = 7
-room (frame.Load p ∷ fs) = 4
+abbrev pub operand_precedence : List Frame → ℕ
+operand_precedence [] = 7
+operand_precedence (frame.Negate ∷ fs) = 0
+operand_precedence (frame.Apply o ∷ fs) = level o
+operand_precedence (frame.Compare c ∷ fs) = 4
+operand_precedence (frame.Not ∷ fs) = 6
+operand_precedence (frame.Join j ∷ fs) = 6
+operand_precedence (frame.Open ∷ fs) = 7
+operand_precedence (frame.Load p ∷ fs) = 4
 
 -- how loosely the next token binds the operand before it
-abbrev pub reach_of : TokenKind → ℕ
-reach_of (token.Operator o) = level o + 1
-reach_of (token.Comparison c) = 5
-reach_of (token.Join j) = 7
-reach_of token.Close = 8
-reach_of token.CloseBracket = 8
-reach_of token.Colon = 8
-reach_of _ = 1
+abbrev pub token_precedence : TokenKind → ℕ
+token_precedence (token.Operator o) = level o + 1
+token_precedence (token.Comparison c) = 5
+token_precedence (token.Join j) = 7
+token_precedence token.Close = 8
+token_precedence token.CloseBracket = 8
+token_precedence token.Colon = 8
+token_precedence _ = 1
 
-abbrev pub reach : List TokenKind → ℕ
-reach [] = 8
-reach (t ∷ ts) = reach_of t
+abbrev pub next_precedence : List TokenKind → ℕ
+next_precedence [] = 8
+next_precedence (t ∷ ts) = token_precedence t
 
 -- the mask of a number that means a network
 abbrev pub prefix_mask : Option ℕ → NetMask
@@ -147,18 +147,18 @@ node_of (frame.Load p) = None
 abbrev pub fill : Frame → Operand → List Node → Option Read
 fill f x d = node_of f >>= λ w. written w.1 w.0 (as_sort (sort_of f) x d)
 
-abbrev pub Settled : Type 0
-Settled = List Frame × Operand × List Node
+abbrev pub Reduced : Type 0
+Reduced = List Frame × Operand × List Node
 
 -- the frames that bind at least as tightly as m take the operand
-abbrev pub settle : ℕ → List Frame → Operand → List Node → Option Settled
-settle m [] x d = Some ([], x, d)
-settle m (f ∷ fs) x d = if nat_le (looseness f) m then (fill f x d >>= λ r. settle m fs r.0 r.1) else Some (f ∷ fs, x, d)
+abbrev pub reduce : ℕ → List Frame → Operand → List Node → Option Reduced
+reduce m [] x d = Some ([], x, d)
+reduce m (f ∷ fs) x d = if nat_le (precedence f) m then (fill f x d >>= λ r. reduce m fs r.0 r.1) else Some (f ∷ fs, x, d)
 
 -- the latest frame binds more loosely than m
 abbrev pub IsLoose : ℕ → List Frame → Type 0
 IsLoose m [] = Unit {0}
-IsLoose m (f ∷ fs) = m < looseness f
+IsLoose m (f ∷ fs) = m < precedence f
 
 -- the frames, the operand that is read, and the nodes
 abbrev pub State : Type 0
@@ -174,41 +174,41 @@ enclosed_operand (operand.Plain n) = operand.Either n None
 enclosed_operand x = x
 
 -- a frame that waits for its right operand, behind its left one of the same sort
-abbrev pub waits : Frame → List Frame → Operand → List Node → Option Begun
-waits f fs x d = if nat_le (looseness f) (room fs) then (as_sort (sort_of f) x d >>= λ e. Some (0, (f ∷ fs, None, e))) else None
+abbrev pub after_operator : Frame → List Frame → Operand → List Node → Option Begun
+after_operator f fs x d = if nat_le (precedence f) (operand_precedence fs) then (as_sort (sort_of f) x d >>= λ e. Some (0, (f ∷ fs, None, e))) else None
 
 -- the load that waits takes its index and reads so many bytes; so many tokens more than one are used up
-abbrev pub load_ends : ℕ → ℕ → List Frame → Operand → List Node → Option Begun
-load_ends more size (frame.Load p ∷ fs) x d = as_number x d >>= λ e. Some (more, (fs, Some operand.Number, node.Load p size ∷ e))
-load_ends more size _ x d = None
+abbrev pub after_load : ℕ → ℕ → List Frame → Operand → List Node → Option Begun
+after_load more size (frame.Load p ∷ fs) x d = as_number x d >>= λ e. Some (more, (fs, Some operand.Number, node.Load p size ∷ e))
+after_load more size _ x d = None
 
 -- the size of an accessor behind its colon
 abbrev pub size_of : List TokenKind → Option ℕ
 size_of (token.Number n ∷ token.CloseBracket ∷ ts) = Some n
 size_of _ = None
 
-abbrev pub sized_load_ends : Option ℕ → List Frame → Operand → List Node → Option Begun
-sized_load_ends (Some n) fs x d = load_ends 2 n fs x d
-sized_load_ends None fs x d = None
+abbrev pub after_sized_load : Option ℕ → List Frame → Operand → List Node → Option Begun
+after_sized_load (Some n) fs x d = after_load 2 n fs x d
+after_sized_load None fs x d = None
 
 -- a parenthesis takes its operand
-abbrev pub closes : List Frame → Operand → List Node → Option Begun
-closes (frame.Open ∷ fs) x d = Some (0, (fs, Some (enclosed_operand x), d))
-closes _ x d = None
+abbrev pub after_close : List Frame → Operand → List Node → Option Begun
+after_close (frame.Open ∷ fs) x d = Some (0, (fs, Some (enclosed_operand x), d))
+after_close _ x d = None
 
 -- a token behind an operand, and what comes after the token
-abbrev pub place_at : TokenKind → List TokenKind → List Frame → Operand → List Node → Option Begun
-place_at (token.Operator o) ts fs x d = waits (frame.Apply o) fs x d
-place_at (token.Comparison c) ts fs x d = waits (frame.Compare c) fs x d
-place_at (token.Join j) ts fs x d = waits (frame.Join j) fs x d
-place_at token.Close ts fs x d = closes fs x d
-place_at token.CloseBracket ts fs x d = load_ends 0 1 fs x d
-place_at token.Colon ts fs x d = sized_load_ends (size_of ts) fs x d
-place_at _ ts fs x d = None
+abbrev pub after_token_at : TokenKind → List TokenKind → List Frame → Operand → List Node → Option Begun
+after_token_at (token.Operator o) ts fs x d = after_operator (frame.Apply o) fs x d
+after_token_at (token.Comparison c) ts fs x d = after_operator (frame.Compare c) fs x d
+after_token_at (token.Join j) ts fs x d = after_operator (frame.Join j) fs x d
+after_token_at token.Close ts fs x d = after_close fs x d
+after_token_at token.CloseBracket ts fs x d = after_load 0 1 fs x d
+after_token_at token.Colon ts fs x d = after_sized_load (size_of ts) fs x d
+after_token_at _ ts fs x d = None
 
-abbrev pub place : List TokenKind → List Frame → Operand → List Node → Option Begun
-place [] fs x d = None
-place (t ∷ ts) fs x d = place_at t ts fs x d
+abbrev pub after_token : List TokenKind → List Frame → Operand → List Node → Option Begun
+after_token [] fs x d = None
+after_token (t ∷ ts) fs x d = after_token_at t ts fs x d
 
 abbrev pub Primitive : Type 0
 Primitive = ℕ × Option Operand × List Node
@@ -274,7 +274,7 @@ begin_at (token.Mac a) ts fs d = with_frames fs (bare_of ts d)
 begin_at (token.Range a b) ts fs d = with_frames fs (bare_of ts d)
 begin_at token.Len ts fs d = Some (0, (fs, Some operand.Number, node.Len ∷ d))
 begin_at (token.Name n) ts fs d = Some (0, (fs, Some operand.Number, node.Named n ∷ d))
-begin_at token.Not ts fs d = if nat_le 6 (room fs) then Some (0, (frame.Not ∷ fs, None, d)) else None
+begin_at token.Not ts fs d = if nat_le 6 (operand_precedence fs) then Some (0, (frame.Not ∷ fs, None, d)) else None
 begin_at (token.Operator Subtract) ts fs d = Some (0, (frame.Negate ∷ fs, None, d))
 begin_at token.Open ts fs d = Some (0, (frame.Open ∷ fs, None, d))
 begin_at _ ts fs d = None
@@ -290,14 +290,14 @@ prefix_len _ _ = None
 
 -- the tokens behind an operand, once the tight frames have taken it
 abbrev pub next_of : List TokenKind → List Frame → Operand → List Node → Option Begun
-next_of ts fs x d = settle (reach ts) fs x d >>= λ r. place ts r.0 r.1 r.2
+next_of ts fs x d = reduce (next_precedence ts) fs x d >>= λ r. after_token ts r.0 r.1 r.2
 
 abbrev pub prefixed : Option (ℕ × ℕ) → List TokenKind → List Frame → Operand → List Node → Option Begun
-prefixed (Some p) ts fs x d = if nat_le 1 (room fs) then Some (1, (fs, Some (operand.Either p.0 (Some p.1)), d)) else next_of ts fs x d
+prefixed (Some p) ts fs x d = if nat_le 1 (operand_precedence fs) then Some (1, (fs, Some (operand.Either p.0 (Some p.1)), d)) else next_of ts fs x d
 prefixed None ts fs x d = next_of ts fs x d
 
-abbrev pub go_on : List TokenKind → List Frame → Operand → List Node → Option Begun
-go_on ts fs x d = prefixed (prefix_len x ts) ts fs x d
+abbrev pub after_operand : List TokenKind → List Frame → Operand → List Node → Option Begun
+after_operand ts fs x d = prefixed (prefix_len x ts) ts fs x d
 
 abbrev pub whole : List Frame → Operand → List Node → Option (List Node)
 whole [] x d = as_truth x d
@@ -305,14 +305,14 @@ whole (f ∷ fs) x d = None
 
 abbrev pub finish : Option Operand → List Frame → List Node → Option (List Node)
 finish None fs d = None
-finish (Some x) fs d = settle 8 fs x d >>= λ r. whole r.0 r.1 r.2
+finish (Some x) fs d = reduce 8 fs x d >>= λ r. whole r.0 r.1 r.2
 
 -- the nodes of the whole, if it can be read; k tokens are used up already
 abbrev pub run : List TokenKind → ℕ → List Frame → Option Operand → List Node → Option (List Node)
 run [] k fs x d = finish x fs d
 run (t ∷ ts) (suc k) fs x d = run ts k fs x d
 run (t ∷ ts) zero fs None d = begin (t ∷ ts) fs d >>= λ r. run ts r.0 r.1.0 r.1.1 r.1.2
-run (t ∷ ts) zero fs (Some x) d = go_on (t ∷ ts) fs x d >>= λ r. run ts r.0 r.1.0 r.1.1 r.1.2
+run (t ∷ ts) zero fs (Some x) d = after_operand (t ∷ ts) fs x d >>= λ r. run ts r.0 r.1.0 r.1.1 r.1.2
 
 -- no tokens have no nodes
 abbrev pub all_run : List TokenKind → Option (List Node)

@@ -2,16 +2,12 @@
 //! range.
 
 ghost use Rattle.std.specs.Prelude.{◌≡◌};
-ghost use Rattle.flt_lang.specs.Filled.{full, type_or_host, completed_node};
 ghost use Rattle.flt_lang.specs.Fits.{is_of_ip4, is_of_ip6, is_of_ports, is_of_ips, is_of_ether};
 ghost use Rattle.flt_lang.specs.Fits.{is_net_mask, is_ip4_len, is_ip6_len, fit_if, fit_of};
-ghost use Rattle.flt_lang.specs.Fits.{is_either, is_cast_misfit};
-ghost use Rattle.flt_lang.specs.Resolved.{is_misfit_node, is_out_of_range_node, has_past_bits_node};
+ghost use Rattle.flt_lang.specs.Fits.{is_cast_misfit};
 
-use crate::node::Node;
-use crate::quals::{Direction, FullQuals, Quals};
 use crate::value::{NetMask, Value};
-use flt_words::{Cast, Join, Protocol, ValueType};
+use flt_words::{Cast, Protocol, ValueType};
 
 /// Whether a value goes with a type and a protocol, and then whether its numbers are in range.
 #[derive(Clone, Copy, PartialEq, Eq)]
@@ -32,7 +28,7 @@ fn fit_if(fits: bool, in_range: bool) -> Fit
 }
 
 /// The table.
-fn fit_of(value_type: ValueType, value: Value, protocol: Option<Protocol>) -> Fit
+pub(crate) fn fit_of(value_type: ValueType, value: Value, protocol: Option<Protocol>) -> Fit
     ensures { result ≡ fit_of value_type value protocol }
 {
     match value_type {
@@ -157,93 +153,11 @@ fn is_ip6_len(len: Option<u32>) -> bool
     }
 }
 
-fn is_cast_misfit(protocol: Option<Protocol>, cast: Cast) -> bool
+pub(crate) fn is_cast_misfit(protocol: Option<Protocol>, cast: Cast) -> bool
     ensures { result ≡ is_cast_misfit protocol cast }
 {
     matches!(
         (protocol, cast),
         (Some(Protocol::Ip | Protocol::Ip6), Cast::Broadcast)
     )
-}
-
-impl Quals {
-    fn type_or_host(self) -> ValueType
-        ensures { result ≡ type_or_host self }
-    {
-        self.value_type.unwrap_or(ValueType::Host)
-    }
-
-    /// What is left out is filled in: the type `host`, the direction `src or dst`.
-    pub(crate) fn full(self) -> FullQuals
-        ensures { result ≡ full self }
-    {
-        FullQuals {
-            protocol: self.protocol,
-            direction: self.direction.unwrap_or(Direction::Both(Join::Or)),
-            value_type: self.type_or_host(),
-        }
-    }
-}
-
-impl Node {
-    /// Whether what is written before a value, or before `broadcast`, does not go with it.
-    pub(crate) fn is_misfit(self) -> bool
-        ensures { result ≡ is_misfit_node self }
-    {
-        match self {
-            Node::Cast(protocol, cast) => is_cast_misfit(protocol, cast),
-            Node::Valued(quals, value) => {
-                let value_type = quals.type_or_host();
-                fit_of(value_type, value, quals.protocol) == Fit::Misfit
-                    || value_type == ValueType::Proto && quals.direction.is_some()
-            }
-            Node::Qualified(quals, value) => {
-                fit_of(quals.value_type, value, quals.protocol) == Fit::Misfit
-                    || quals.value_type == ValueType::Proto
-                        && quals.direction != Direction::Both(Join::Or)
-            }
-            _ => false,
-        }
-    }
-
-    /// Whether a number of a value, or the size of an accessor, is out of range.
-    pub(crate) fn is_out_of_range(self) -> bool
-        ensures { result ≡ is_out_of_range_node self }
-    {
-        match self {
-            Node::Valued(quals, value) => {
-                fit_of(quals.type_or_host(), value, quals.protocol) == Fit::OutOfRange
-            }
-            Node::Qualified(quals, value) => {
-                fit_of(quals.value_type, value, quals.protocol) == Fit::OutOfRange
-            }
-            Node::Load(_, size) => !matches!(size, 1 | 2 | 4),
-            _ => false,
-        }
-    }
-
-    /// Whether the address of a network has bits that its mask leaves out.
-    pub(crate) fn has_past_bits(self) -> bool
-        ensures { result ≡ has_past_bits_node self }
-    {
-        match self {
-            Node::Valued(quals, value) => {
-                quals.type_or_host() == ValueType::Net && value.is_past_mask()
-            }
-            Node::Qualified(quals, value) => {
-                quals.value_type == ValueType::Net && value.is_past_mask()
-            }
-            _ => false,
-        }
-    }
-
-    /// The node with what is left out before its value filled in.
-    pub(crate) fn completed(self) -> Node
-        ensures { result ≡ completed_node self }
-    {
-        match self {
-            Node::Valued(quals, value) => Node::Qualified(quals.full(), value),
-            _ => self,
-        }
-    }
 }

@@ -22,7 +22,7 @@ fn opens(token: &Token) -> bool
 }
 
 #[tactic(auto, unfolding(crate::specs::Nesting::is_closing))]
-fn closes(token: &Token) -> bool
+fn after_close(token: &Token) -> bool
     ensures { result ≡ is_closing token.now }
 {
     matches!(token.kind, TokenKind::Close | TokenKind::CloseBracket)
@@ -47,7 +47,7 @@ fn has_deep_front(tokens: &[Token]) -> bool
         if opens(token) {
             opened += 1;
         }
-        if closes(token) {
+        if after_close(token) {
             closed += 1;
         }
         if opened > closed.saturating_add(100) {

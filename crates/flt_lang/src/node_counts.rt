@@ -1,17 +1,13 @@
 //! What a node adds to the counts of an expression.
 
-ghost use Rattle.std.specs.Prelude.{◌≡◌, ◌≤◌, ◌<◌, ◌^◌};
+ghost use Rattle.std.specs.Prelude.{◌≡◌, ◌≤◌};
 ghost use Rattle.flt_lang.specs.Counts.{side_tests, proto_tests, check_tests, ether_tests};
 ghost use Rattle.flt_lang.specs.Counts.{cast_tests, ip4_tests, ip6_tests, transport_tests};
 ghost use Rattle.flt_lang.specs.Counts.{port_tests, address_tests, value_tests, accessor_tests};
-ghost use Rattle.flt_lang.specs.Counts.{node_tests, node_size};
-ghost use Rattle.flt_lang.specs.Heights.{height_after, peak};
-ghost use Rattle.flt_lang.specs.Checks.{is_zero_node, is_division_node};
 
-use crate::node::Node;
 use crate::quals::{Direction, FullQuals};
 use crate::value::Value;
-use flt_words::{Cast, Operator, Protocol, Side, ValueType};
+use flt_words::{Cast, Protocol, Side, ValueType};
 
 fn side_tests(direction: Direction, tests: u8) -> u8
     requires { tests ≤ 4 }
@@ -34,7 +30,7 @@ fn proto_tests(protocol: Option<Protocol>) -> u8
     }
 }
 
-fn check_tests(protocol: Protocol) -> u8
+pub(crate) fn check_tests(protocol: Protocol) -> u8
     ensures count { result ≡ check_tests protocol }
     ensures few { result ≤ 4 }
 {
@@ -53,7 +49,7 @@ fn ether_tests(direction: Direction) -> u8
     1 + side_tests(direction, 2)
 }
 
-fn cast_tests(cast: Cast) -> u8
+pub(crate) fn cast_tests(cast: Cast) -> u8
     ensures count { result ≡ cast_tests cast }
     ensures few { result ≤ 9 }
 {
@@ -105,7 +101,7 @@ fn address_tests(protocol: Option<Protocol>, direction: Direction, value: Value)
     }
 }
 
-fn value_tests(quals: FullQuals, value: Value) -> u8
+pub(crate) fn value_tests(quals: FullQuals, value: Value) -> u8
     ensures count { result ≡ value_tests quals value }
     ensures few { result ≤ 27 }
 {
@@ -117,82 +113,12 @@ fn value_tests(quals: FullQuals, value: Value) -> u8
     }
 }
 
-fn accessor_tests(protocol: Protocol) -> u8
+pub(crate) fn accessor_tests(protocol: Protocol) -> u8
     ensures count { result ≡ accessor_tests protocol }
     ensures few { result ≤ 3 }
 {
     match protocol {
         Protocol::Tcp | Protocol::Udp | Protocol::Icmp => 3,
         _ => 1,
-    }
-}
-
-impl Node {
-    /// How many tests it counts as.
-    pub(crate) fn tests(self) -> u8
-        ensures count { result ≡ node_tests self }
-        ensures few { result ≤ 27 }
-    {
-        match self {
-            Node::Check(protocol) => check_tests(protocol),
-            Node::Cast(_, cast) => cast_tests(cast),
-            Node::Qualified(quals, value) => value_tests(quals, value),
-            Node::Sized(_, _) | Node::Compare(_) => 1,
-            Node::Load(protocol, _) => accessor_tests(protocol),
-            _ => 0,
-        }
-    }
-
-    /// How many nodes of arithmetic it counts as.
-    pub(crate) fn size(self) -> u8
-        ensures count { result ≡ node_size self }
-        ensures few { result ≤ 2 }
-    {
-        match self {
-            Node::Sized(_, _) => 2,
-            Node::Literal(_)
-            | Node::Named(_)
-            | Node::Len
-            | Node::Load(_, _)
-            | Node::Negate
-            | Node::Apply(_) => 1,
-            _ => 0,
-        }
-    }
-
-    /// How many numbers wait behind it, where so many wait in front of it.
-    pub(crate) fn height_after(self, height: usize) -> usize
-        requires { height < 2 ^ 63 }
-        ensures { result ≡ height_after height self }
-    {
-        match self {
-            Node::Literal(_) | Node::Named(_) | Node::Len => height + 1,
-            Node::Apply(_) => height.saturating_sub(1),
-            Node::Compare(_) => height.saturating_sub(2),
-            _ => height,
-        }
-    }
-
-    /// The most that wait at once.
-    pub(crate) fn peak(self, height: usize) -> usize
-        requires { height < 2 ^ 63 }
-        ensures { result ≡ peak height self }
-    {
-        match self {
-            Node::Sized(_, _) => height + 2,
-            _ => self.height_after(height),
-        }
-    }
-
-    pub(crate) fn is_zero(self) -> bool
-        ensures { result ≡ is_zero_node self }
-    {
-        matches!(self, Node::Literal(0))
-    }
-
-    pub(crate) fn is_division(self) -> bool
-        ensures { result ≡ is_division_node self }
-    {
-        matches!(self, Node::Apply(Operator::Divide | Operator::Remainder))
     }
 }

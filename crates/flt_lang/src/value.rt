@@ -1,7 +1,7 @@
 //! Values, as they are written.
 
 /// An IPv4 address or its first parts.
-#[derive(Clone, Copy, PartialEq, Eq)]
+#[derive(Clone, Copy)]
 pub struct Dotted {
     /// The parts from the highest byte on, missing ones 0.
     pub address: u32,
@@ -10,7 +10,7 @@ pub struct Dotted {
 }
 
 /// What stands behind a number or an IPv4 address to say how long a network's address is.
-#[derive(Clone, Copy, PartialEq, Eq)]
+#[derive(Clone, Copy)]
 pub enum NetMask {
     /// Nothing: the mask is as long as the parts that are written.
     Unwritten,
@@ -21,7 +21,7 @@ pub enum NetMask {
 }
 
 /// A value, as it is written.
-#[derive(Clone, Copy, PartialEq, Eq)]
+#[derive(Clone, Copy)]
 pub enum Value {
     /// A number: a port, a protocol, or the first byte of a network.
     Number(u32, NetMask),

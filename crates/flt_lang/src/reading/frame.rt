@@ -1,10 +1,10 @@
 //! What the parser keeps: frames that wait for an operand, and the operand that was just read.
-//! Three numbers rule it: how loosely a frame or a token binds, how far the next token reaches, and
-//! the room of the latest frame.
+//! Three precedences rule it, of which the greater binds more loosely: that of a frame, that of the
+//! next token, and that of the loosest operand which the latest frame takes.
 
 ghost use Rattle.std.specs.Prelude.{◌≡◌, reverse};
 ghost use Rattle.flt_lang.specs.Grammar.{level};
-ghost use Rattle.flt_lang.specs.Machine.{looseness, room, reach_of, enclosed_operand};
+ghost use Rattle.flt_lang.specs.Machine.{precedence, operand_precedence, token_precedence, enclosed_operand};
 ghost use Rattle.flt_lang.specs.Machine.{sort_of, node_of};
 
 use crate::node::Node;
@@ -53,9 +53,9 @@ impl Operand {
 }
 
 impl Frame {
-    /// How loosely it binds its operand.
-    pub fn looseness(self) -> u8
-        ensures { result ≡ looseness self }
+    /// How loosely it binds its operand: 0 is the tightest.
+    pub fn precedence(self) -> u8
+        ensures { result ≡ precedence self }
     {
         match self {
             Frame::Negate => 0,
@@ -106,8 +106,8 @@ pub fn level(operator: Operator) -> u8
 }
 
 /// How loosely a token binds the operand before it.
-pub fn reach_of(token: TokenKind) -> u8
-    ensures { result ≡ reach_of token }
+pub fn token_precedence(token: TokenKind) -> u8
+    ensures { result ≡ token_precedence token }
 {
     match token {
         TokenKind::Operator(operator) => level(operator) + 1,
@@ -119,8 +119,8 @@ pub fn reach_of(token: TokenKind) -> u8
 }
 
 /// The loosest operand that the latest frame takes.
-pub fn room(frames: &[Frame]) -> u8
-    ensures { result ≡ room (reverse frames.now) }
+pub fn operand_precedence(frames: &[Frame]) -> u8
+    ensures { result ≡ operand_precedence (reverse frames.now) }
 {
     match frames.last() {
         None | Some(Frame::Open) => 7,
