@@ -1,29 +1,15 @@
--- A number is read in a word of 64 bits, and nothing is lost by that.
-use Rattle.std.proofs.Common.{◌≡◌, ℕ, ◌+◌, ◌-◌, ◌*◌, ◌^◌, ◌<◌, ◌≤◌, inl, inr, Bool, true, false, nat_lt, nat_le, ◌&&◌, ◌==◌, not, List, [], ◌∷◌, length, Option, Some, None, refl, sym, ap, ◌∙◌, arith, if◌then◌else◌, take, drop, length-take}
-use Rattle.std.proofs.Math.Nat.{one-le-pow, mul-le-mul_right, pow-le-pow_right}
+-- A number of seconds is read in a word of 64 bits, and nothing is lost by that.
+use Rattle.std.proofs.Common.{◌≡◌, ℕ, ◌+◌, ◌-◌, ◌*◌, ◌^◌, ◌<◌, ◌≤◌, inl, inr, Bool, true, false, nat_le, ◌&&◌, ◌==◌, not, List, length, Option, Some, None, refl, sym, ap, ◌∙◌, arith, if◌then◌else◌, take, drop, length-take}
+use Rattle.std.proofs.Math.Nat.{one-le-pow, mul-le-mul_right}
 use Rattle.std.proofs.lemmas.Nat.{pow-add}
 use Rattle.std.proofs.lemmas.Bool.{cases_order, lt-ltb, le-ltb}
-use Rattle.std.proofs.lemmas.Bool.Decides.{nat_tests}
-use Rattle.std.proofs.lemmas.Int.Digits.{digits_value-lt}
-use Rattle.std.specs.Char.{digit_value}
-use Rattle.std.specs.Str.Parse.{AllDigits, digits_value}
+use Rattle.std.specs.Str.Parse.{digits_value}
 use Rattle.cap_octet.specs.Date.{NANOS_PER_SECOND}
 use Rattle.std.specs.Option.{option_and_then}
-use Rattle.cap_octet.specs.Seconds.{are_digits, number_of, in_u64, span_with, fraction_of}
+use Rattle.cap_octet.proofs.Numerals.{below_ten_to, both, few_in_u64}
+use Rattle.cap_octet.specs.Digits.{are_digits, number_of, in_u64}
+use Rattle.cap_octet.specs.Seconds.{span_with, fraction_of}
 use Rattle.cap_octet.specs.Timestamp.{number_at}
-
-both : (a b : Bool) → a && b ≡ true → (a ≡ true) × (b ≡ true)
-both true b h = (refl, h)
-both false b h = absurd (cc)
-
-digits_from_test : (ds : List ℕ) → are_digits ds ≡ true → AllDigits 10 ds
-digits_from_test [] pass = tt
-digits_from_test (d ∷ ds) pass =
-    let parts = both (nat_lt (digit_value d) 10) (are_digits ds) pass in
-    (grind (arith, nat_tests), digits_from_test ds parts.1)
-
-below_ten_to : (ds : List ℕ) → are_digits ds ≡ true → digits_value 10 ds < 10 ^ length ds
-below_ten_to ds pass = digits_value-lt 10 ds (digits_from_test ds pass)
 
 -- a number of a digits, moved to nine
 nine : (a v : ℕ) → a ≤ 9 → v < 10 ^ a → v * 10 ^ (9 - a) < 1000000000
@@ -35,25 +21,14 @@ nine a v h lt =
     let split : (v + 1) * 10 ^ (9 - a) ≡ v * 10 ^ (9 - a) + 10 ^ (9 - a) = omega arith in
     omega (arith, there, some, up, split)
 
-tests_in : (b : Bool) (v : ℕ) → (b ≡ true → v < 2 ^ 64) → in_u64 (if b then Some v else None) ≡ (if b then Some v else None)
-tests_in true v h = rw (lt-ltb v (2 ^ 64) (h refl)) refl
-tests_in false v h = refl
-
 tests_bound : (b : Bool) (v n m : ℕ) → (b ≡ true → v < m) → (if b then Some v else None) ≡ Some n → n < m
 tests_bound true v n m h e = (let same : v ≡ n = cc in let below = h refl in omega arith)
 tests_bound false v n m h e = absurd (cc)
 
--- up to nine digits write less than 2^64
-pub few_in_u64 : (ds : List ℕ) → length ds ≤ 9 → in_u64 (number_of ds) ≡ number_of ds
-few_in_u64 ds few = tests_in (not (length ds == 0) && are_digits ds) (digits_value 10 ds)
-    (λ pass. (let some = below_ten_to ds (both (not (length ds == 0)) (are_digits ds) pass).1 in
-    let most : 10 ^ length ds ≤ 10 ^ 9 = pow-le-pow_right (omega arith) few in
-    let nine_digits : 10 ^ length ds ≤ 1000000000 = most in omega arith))
-
 -- moved to nine digits they are less than a second
 pub part_below : (ds : List ℕ) (n : ℕ) → length ds ≤ 9 → number_of ds ≡ Some n → n * 10 ^ (9 - length ds) < 1000000000
 part_below ds n few e =
-    let below = tests_bound (not (length ds == 0) && are_digits ds) (digits_value 10 ds) n (10 ^ length ds) (λ pass. below_ten_to ds (both (not (length ds == 0)) (are_digits ds) pass).1) e in
+    let below = tests_bound (not (length ds == 0) && are_digits 10 ds) (digits_value 10 ds) n (10 ^ length ds) (λ pass. below_ten_to ds (both (not (length ds == 0)) (are_digits 10 ds) pass).1) e in
     nine (length ds) n few below
 
 -- a number past the word is past the times

@@ -1,9 +1,13 @@
 -- Times as printed dates. A time is nanoseconds since 1970-01-01 00:00:00 UTC.
-use Rattle.std.specs.Prelude.{ℕ, zero, suc, ◌+◌, ◌/◌, ◌%◌, List, [], ◌∷◌, ◌++◌}
+use Rattle.std.specs.Prelude.{ℕ, zero, suc, ◌+◌, ◌/◌, ◌%◌, ◌^◌, List, [], ◌∷◌, ◌++◌}
 use Rattle.cap_octet.specs.Calendar.{Day, day_from_epoch}
 
 abbrev pub NANOS_PER_SECOND : ℕ
 NANOS_PER_SECOND = 1_000_000_000
+
+-- times are below this
+abbrev pub TIME_END : ℕ
+TIME_END = 2 ^ 63
 
 abbrev pub NANOS_PER_DAY : ℕ
 NANOS_PER_DAY = 86_400_000_000_000

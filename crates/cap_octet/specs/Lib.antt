@@ -1,9 +1,12 @@
+pub mod Assigned
 pub mod Calendar
 pub mod Checks
 pub mod Date
 pub mod Device
+pub mod Digits
 pub mod Fault
 pub mod Laws
+pub mod NetworkHeader
 pub mod Number
 pub mod Packet
 pub mod Seconds

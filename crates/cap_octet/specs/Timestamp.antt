@@ -3,7 +3,8 @@ use Rattle.std.specs.Prelude.{ℕ, ◌+◌, ◌-◌, ◌*◌, nat_lt, nat_le, �
 use Rattle.std.specs.Option.{option_and_then}
 use Rattle.jiff_core.specs.Calendar.{days_in_month, days_from_civil}
 use Rattle.cap_octet.specs.Date.{NANOS_PER_SECOND}
-use Rattle.cap_octet.specs.Seconds.{number_of, fraction_of, time_within, span_value}
+use Rattle.cap_octet.specs.Digits.{number_of}
+use Rattle.cap_octet.specs.Seconds.{fraction_of, time_within, span_value}
 
 -- how many days after 1970-01-01 a day comes, if the calendar has it; from 1970 to 9999
 abbrev pub day_number : ℕ → ℕ → ℕ → Option ℕ

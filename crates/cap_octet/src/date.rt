@@ -8,6 +8,9 @@ use crate::calendar::{CalendarDay, calendar_day};
 /// Nanoseconds in a second.
 pub const NANOS_PER_SECOND: u64 = 1_000_000_000;
 
+/// Times are below this, in nanoseconds since 1970-01-01 00:00:00 UTC: it comes in April 2262.
+pub const TIME_END: u64 = 1 << 63;
+
 /// Seconds in a day.
 const SECONDS_PER_DAY: u64 = 86_400;
 

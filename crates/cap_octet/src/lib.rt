@@ -3,14 +3,17 @@
 //! Nothing here takes memory.
 #![tactic(auto)]
 
+pub mod assigned;
 mod calendar;
 pub mod date;
 mod device;
+pub mod digits;
 mod failures;
 mod fault;
 mod format;
 pub mod laws;
 mod memory;
+mod network;
 mod number;
 mod packet;
 mod seconds;
@@ -25,6 +28,7 @@ pub use device::{
 pub use fault::Fault;
 pub use format::Format;
 pub use memory::{MemInput, MemOutput};
+pub use network::{NetworkHeader, NetworkKind, link_header_length, network_header};
 pub use number::{Order, u16_at, u32_at};
 pub use packet::Packet;
 pub use seconds::span_of;

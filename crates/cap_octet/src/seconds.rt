@@ -1,60 +1,9 @@
 //! Numbers of seconds that are read as nanoseconds.
-ghost use Rattle.std.specs.Prelude.{◌≡◌, ◌<◌, ◌≤◌, ◌^◌, ◌+◌, ◌*◌, ◌==◌, IfSome, IfNone, length};
-ghost use Rattle.std.specs.Prelude.{position, true, nat_lt};
-ghost use Rattle.std.specs.Char.{digit_value};
-ghost use Rattle.std.specs.Str.Parse.{digits_value};
-ghost use Rattle.cap_octet.specs.Seconds.{are_digits, number_of, fraction_of, span_with};
-ghost use Rattle.cap_octet.specs.Seconds.{span_value, in_u64, time_within};
+ghost use Rattle.std.specs.Prelude.{◌≡◌, ◌<◌, ◌==◌, IfSome, length, position};
+ghost use Rattle.cap_octet.specs.Seconds.{fraction_of, span_with, span_value, time_within};
 
-use crate::date::NANOS_PER_SECOND;
-
-/// Times end before 2^63 nanoseconds.
-const END_OF_TIMES: u64 = 1 << 63;
-
-fn is_digit(byte: u8) -> bool
-    ensures { result ≡ nat_lt (digit_value byte) 10 }
-{
-    (byte as char).is_digit(10)
-}
-
-fn are_digits(text: &[u8]) -> bool
-    ensures { result ≡ are_digits text.now }
-{
-    text.iter().all(|byte| is_digit(*byte))
-}
-
-fn with_digit(number: u64, byte: u8) -> Option<u64>
-    requires { digit_value byte < 10 }
-    ensures value { IfSome result (λ n. n ≡ number * 10 + digit_value byte) }
-    ensures large { IfNone result (2 ^ 64 ≤ number * 10 + digit_value byte) }
-{
-    let digit = (byte as char).to_digit(10)?;
-    number.checked_mul(10)?.checked_add(digit as u64)
-}
-
-/// The number that digits write, if it is below 2^64.
-#[tactic(auto, using(crate::proofs::Digits::whole_grows))]
-fn digits_number(digits: &[u8]) -> Option<u64>
-    requires { are_digits digits.now ≡ true }
-    ensures value { IfSome result (λ n. n ≡ digits_value 10 digits.now) }
-    ensures large { IfNone result (2 ^ 64 ≤ digits_value 10 digits.now) }
-{
-    let mut number: u64 = 0;
-    for byte in digits {
-        number = with_digit(number, *byte)?;
-    }
-    Some(number)
-}
-
-/// The number that one digit or more write, if it is below 2^64.
-pub fn number_of(text: &[u8]) -> Option<u64>
-    ensures { result ≡ in_u64 (number_of text.now) }
-{
-    if text.is_empty() || !are_digits(text) {
-        return None;
-    }
-    digits_number(text)
-}
+use crate::date::{NANOS_PER_SECOND, TIME_END};
+use crate::digits::number_of;
 
 /// The nanoseconds that 1 to 9 digits behind the point write.
 pub fn fraction_of(text: &[u8]) -> Option<u64>
@@ -71,7 +20,7 @@ pub fn fraction_of(text: &[u8]) -> Option<u64>
 pub fn time_within(nanos: u64) -> Option<u64>
     ensures { result ≡ time_within nanos }
 {
-    (nanos < END_OF_TIMES).then_some(nanos)
+    (nanos < TIME_END).then_some(nanos)
 }
 
 fn span_with(seconds: Option<u64>, fraction: Option<u64>) -> Option<u64>

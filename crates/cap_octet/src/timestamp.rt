@@ -5,7 +5,8 @@ ghost use Rattle.cap_octet.specs.Timestamp.{time_with, number_at, optional_fract
 ghost use Rattle.cap_octet.specs.Timestamp.{date_time_value, time_value};
 
 use crate::date::NANOS_PER_SECOND;
-use crate::seconds::{fraction_of, number_of, span_of, time_within};
+use crate::digits::number_of;
+use crate::seconds::{fraction_of, span_of, time_within};
 use jiff_core::civil;
 use jiff_core::civil::Date;
 

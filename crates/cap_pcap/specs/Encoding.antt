@@ -1,6 +1,7 @@
 -- Pcap savefiles as they are written: the headers, and which packets they hold.
 use Rattle.std.specs.Prelude.{ℕ, ◌^◌, ◌/◌, ◌%◌, Bool, List, [], ◌∷◌, ◌++◌, length, nat_lt, nat_le}
 use Rattle.byteorder.specs.Endian.{little_bytes}
+use Rattle.cap_octet.specs.Date.{NANOS_PER_SECOND}
 use Rattle.cap_octet.specs.Packet.{Captured}
 use Rattle.cap_octet.specs.declared.fault.Fault.{Fault}
 use Rattle.cap_octet.specs.declared.fault.Fault.TheVariants.{TooLong, TimeOutOfRange}
@@ -32,12 +33,12 @@ heading resolution link =
 -- what is in front of a packet's data: seconds, the part of a second, captured length, original length
 abbrev pub record_heading : Resolution → Captured → List ℕ
 record_heading resolution p =
-    little_bytes 4 (p.time / 1000000000) ++ little_bytes 4 (p.time % 1000000000 / nanoseconds_of_part resolution)
+    little_bytes 4 (p.time / NANOS_PER_SECOND) ++ little_bytes 4 (p.time % NANOS_PER_SECOND / nanoseconds_of_part resolution)
     ++ little_bytes 4 (length p.bytes) ++ little_bytes 4 p.orig
 
 -- the checks of a packet that is to be written, in order
 abbrev pub fit_checks : Captured → List (Bool × Fault)
 fit_checks p =
     (nat_le (length p.bytes) most_captured, TooLong)
-    ∷ (nat_lt (p.time / 1000000000) (2 ^ 32), TimeOutOfRange)
+    ∷ (nat_lt (p.time / NANOS_PER_SECOND) (2 ^ 32), TimeOutOfRange)
     ∷ []

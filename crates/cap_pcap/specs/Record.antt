@@ -1,6 +1,7 @@
 -- A record of a pcap savefile: its checks, in order, and its packet (draft-ietf-opsawg-pcap, "Packet Record").
 use Rattle.std.specs.Prelude.{◌≡◌, ℕ, ◌+◌, ◌*◌, Bool, List, [], ◌∷◌, ◌++◌, length, drop, nat_lt, nat_le, Option, None}
 use Rattle.cap_octet.specs.Checks.{first_failing}
+use Rattle.cap_octet.specs.Date.{NANOS_PER_SECOND}
 use Rattle.cap_octet.specs.Number.{u32_in}
 use Rattle.cap_octet.specs.Packet.{Captured}
 use Rattle.cap_octet.specs.declared.fault.Fault.{Fault}
@@ -17,7 +18,7 @@ most_captured = 262144
 -- how many parts of a second make a whole one, and how many nanoseconds one part is
 abbrev pub parts_of_second : Resolution → ℕ
 parts_of_second Microseconds = 1000000
-parts_of_second Nanoseconds = 1000000000
+parts_of_second Nanoseconds = NANOS_PER_SECOND
 
 abbrev pub nanoseconds_of_part : Resolution → ℕ
 nanoseconds_of_part Microseconds = 1000
@@ -52,7 +53,7 @@ record_fault head text = first_failing (record_checks head text)
 -- nanoseconds since 1970
 abbrev pub time_in : Head → List ℕ → ℕ
 time_in head text =
-    u32_in head.order text 0 * 1000000000 + u32_in head.order text 4 * nanoseconds_of_part head.resolution
+    u32_in head.order text 0 * NANOS_PER_SECOND + u32_in head.order text 4 * nanoseconds_of_part head.resolution
 
 -- the original length
 abbrev pub orig_in : Head → List ℕ → ℕ

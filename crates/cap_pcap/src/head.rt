@@ -5,6 +5,7 @@ ghost use Rattle.cap_pcap.specs.Header.{form_in, head_fault, head_in, magic};
 ghost use Rattle.cap_pcap.specs.Record.{field_checks, most_captured, nanoseconds_of_part};
 ghost use Rattle.cap_pcap.specs.Record.{parts_of_second, record_head_in};
 
+use cap_octet::date::NANOS_PER_SECOND;
 use cap_octet::{Fault, Order, u16_at, u32_at};
 
 /// The magic number of a savefile with microseconds.
@@ -15,9 +16,6 @@ const NANOSECOND_MAGIC: u32 = 0xa1b2_3c4d;
 
 /// The greatest number of captured bytes in a record.
 pub(crate) const MOST_CAPTURED: u32 = 262_144;
-
-/// Nanoseconds in a second.
-pub(crate) const SECOND: u64 = 1_000_000_000;
 
 /// The parts of a second in which a savefile counts.
 #[derive(Clone, Copy, Debug, PartialEq, Eq)]
@@ -66,7 +64,7 @@ impl Resolution {
     {
         match self {
             Resolution::Microseconds => 1_000_000,
-            Resolution::Nanoseconds => 1_000_000_000,
+            Resolution::Nanoseconds => NANOS_PER_SECOND as u32,
         }
     }
 
@@ -186,7 +184,7 @@ fn read_fields(head: &Head, bytes: &[u8; 16]) -> Result<RecordHead, Fault>
     }
     let seconds = u64::from(u32_at(head.order, bytes, 0));
     Ok(RecordHead {
-        time: seconds * SECOND + u64::from(part) * head.resolution.nanoseconds(),
+        time: seconds * NANOS_PER_SECOND + u64::from(part) * head.resolution.nanoseconds(),
         captured,
         orig: u32_at(head.order, bytes, 12),
     })

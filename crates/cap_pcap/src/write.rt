@@ -6,8 +6,9 @@ ghost use Rattle.cap_pcap.specs.Header.{magic};
 ghost use Rattle.cap_pcap.specs.Encoding.{IsPcap, heading, record_heading, resolution_of};
 ghost use Rattle.cap_pcap.specs.Encoding.{fit_checks};
 
-use crate::head::{MOST_CAPTURED, Resolution, SECOND};
+use crate::head::{MOST_CAPTURED, Resolution};
 use byteorder::{ByteOrder, LittleEndian};
+use cap_octet::date::NANOS_PER_SECOND;
 use cap_octet::{Fault, Format, Packet};
 
 /// The resolution that a pcap form writes.
@@ -32,7 +33,7 @@ pub fn fits(_format: Format, packet: &Packet<'_>) -> Result<(), Fault>
     if packet.bytes.len() > MOST_CAPTURED as usize {
         return Err(Fault::TooLong);
     }
-    if packet.time / SECOND > 0xffff_ffff {
+    if packet.time / NANOS_PER_SECOND > 0xffff_ffff {
         return Err(Fault::TimeOutOfRange);
     }
     Ok(())
@@ -60,9 +61,9 @@ pub fn record_bytes(format: Format, packet: &Packet<'_>) -> [u8; 16]
     requires fits { first_failing (fit_checks (captured packet.now)) ≡ None }
     ensures { result ≡ record_heading (resolution_of format) (captured packet.now) }
 {
-    let part = written_resolution(format).whole_parts(packet.time % SECOND);
+    let part = written_resolution(format).whole_parts(packet.time % NANOS_PER_SECOND);
     let mut bytes = [0; 16];
-    LittleEndian::write_u32(&mut bytes, (packet.time / SECOND) as u32);
+    LittleEndian::write_u32(&mut bytes, (packet.time / NANOS_PER_SECOND) as u32);
     LittleEndian::write_u32(&mut bytes[4..], part as u32);
     LittleEndian::write_u32(&mut bytes[8..], packet.bytes.len() as u32);
     LittleEndian::write_u32(&mut bytes[12..], packet.orig);

@@ -18,7 +18,8 @@ use Rattle.cap_octet.specs.Packet.{Captured}
 use Rattle.cap_pcapng.specs.Interface.{Described}
 use Rattle.cap_pcapng.specs.Laws.{InterfaceBack, PacketBack, SectionBack, ReadsAs, written_interface, written_section}
 use Rattle.cap_pcapng.specs.Padding.{padded}
-use Rattle.cap_pcapng.specs.Time.{second, time_by, time_in}
+use Rattle.cap_octet.specs.Date.{NANOS_PER_SECOND}
+use Rattle.cap_pcapng.specs.Time.{time_by, time_in}
 use Rattle.cap_pcapng.specs.Unit.{Section, checks_among, frame_behind, interfaces_before, most_interfaces, order_before, packet_by, section_by, unit_fault}
 use Rattle.cap_pcapng.specs.Encoding.{block_text, comment_text, end_text, fit_checks, interface_body, name_text, packet_body, padded_text, resolution_text}
 use Rattle.cap_pcapng.proofs.Numerals.{number_at}
@@ -145,9 +146,9 @@ packet_parts number p number_fits time_fits orig_fits few =
     rw (number_is, high_is, low_is, captured_is, orig_is, same_time p.time) refl
 
 -- nanoseconds are the time itself
-nanoseconds_back : (time : ℕ) → time < 2 ^ 63 → time_in time second (pos 0) ≡ Some time
+nanoseconds_back : (time : ℕ) → time < 2 ^ 63 → time_in time NANOS_PER_SECOND (pos 0) ≡ Some time
 nanoseconds_back time few =
-    let same : time * second / second + 0 ≡ time = omega arith in
+    let same : time * NANOS_PER_SECOND / NANOS_PER_SECOND + 0 ≡ time = omega arith in
     ap (λ n. time_by (pos n)) same ∙ (rw (lt-ltb time (2 ^ 63) few) refl)
 
 padded_size : (bytes : List ℕ) → length (padded_text bytes) ≡ padded (length bytes)

@@ -2,10 +2,10 @@
 use Rattle.std.specs.Prelude.{◌≡◌, ℕ, ◌^◌, ◌<◌, ◌≤◌, pos, List, [], ◌∷◌, ◌++◌, length, Option, Some, None}
 use Rattle.std.specs.List.{slice_get}
 use Rattle.cap_octet.specs.Checks.{first_failing}
+use Rattle.cap_octet.specs.Date.{NANOS_PER_SECOND}
 use Rattle.cap_octet.specs.Packet.{Captured}
 use Rattle.cap_octet.specs.declared.number.Order.TheVariants.{Little}
 use Rattle.cap_pcapng.specs.Interface.{Described}
-use Rattle.cap_pcapng.specs.Time.{second}
 use Rattle.cap_pcapng.specs.Unit.{IsBlock, Section, most_interfaces, packets_in, section_after}
 use Rattle.cap_pcapng.specs.Encoding.{fit_checks, interface_text, packet_text, section_text}
 
@@ -21,7 +21,7 @@ written_section interfaces = record { order = Little; interfaces = interfaces }
 
 -- an interface as it is written: its ticks are nanoseconds
 abbrev pub written_interface : (link snap : ℕ) → (name : List ℕ) → Described
-written_interface link snap name = record { link = link; snap = snap; name = name; units = second; offset = pos 0 }
+written_interface link snap name = record { link = link; snap = snap; name = name; units = NANOS_PER_SECOND; offset = pos 0 }
 
 -- a section header begins a section
 abbrev pub SectionBack : Type 0

@@ -4,9 +4,7 @@ ghost use Rattle.std.specs.Option.{ok_or};
 ghost use Rattle.cap_pcapng.specs.Time.{is_resolution, time_in, units_by};
 
 use cap_octet::Fault;
-
-/// Nanoseconds in a second.
-const SECOND: u32 = 1_000_000_000;
+use cap_octet::date::{NANOS_PER_SECOND, TIME_END};
 
 /// The bit of a resolution that tells a power of two.
 const POWER_OF_TWO: u8 = 128;
@@ -48,9 +46,9 @@ impl Clock {
             Fault.TimeOutOfRange }
         ensures in_range { IfOk result (λ time. time < 2 ^ 63) }
     {
-        let whole = u128::from(ticks) * u128::from(SECOND) / u128::from(self.units);
-        let time = whole as i128 + i128::from(self.offset) * i128::from(SECOND);
-        if time < 0 || time >= 1 << 63 {
+        let whole = u128::from(ticks) * u128::from(NANOS_PER_SECOND) / u128::from(self.units);
+        let time = whole as i128 + i128::from(self.offset) * i128::from(NANOS_PER_SECOND);
+        if time < 0 || time >= i128::from(TIME_END) {
             return Err(Fault::TimeOutOfRange);
         }
         Ok(time as u64)

@@ -1,11 +1,7 @@
 -- The bytes of a packet in hexadecimal, 16 a row.
-use Rattle.std.specs.Prelude.{ℕ, zero, suc, ◌+◌, ◌*◌, ◌/◌, ◌==◌, if◌then◌else◌, List, [], ◌∷◌, ◌++◌, length, take, drop, codes}
+use Rattle.std.specs.Prelude.{ℕ, zero, suc, ◌+◌, ◌*◌, ◌/◌, List, [], ◌∷◌, ◌++◌, length, take, drop, codes}
+use Rattle.cap_octet.specs.NetworkHeader.{link_header_length}
 use Rattle.cap_print.specs.Hexadecimal.{hex_two, hex_place}
-use Rattle.cap_print.specs.Network.{ETHERNET, LINUX_COOKED}
-
--- how many bytes the header of a link has
-abbrev pub link_header_length : ℕ → ℕ
-link_header_length link = if link == ETHERNET then 14 else if link == LINUX_COOKED then 16 else 0
 
 -- the captured bytes after the link header
 abbrev pub payload : ℕ → List ℕ → List ℕ

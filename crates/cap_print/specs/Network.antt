@@ -1,114 +1,101 @@
--- What a line says of a packet's network header. p are the captured bytes.
-use Rattle.std.specs.Prelude.{ℕ, ◌+◌, ◌*◌, ◌/◌, ◌%◌, nat_lt, nat_le, ◌==◌, ◌&&◌, ◌||◌, not, Bool, if◌then◌else◌, List, ◌++◌, length, slice_index, decimal, Option, Some, None, codes}
+-- What a line says of a packet's network header. p are the captured bytes, in which the header begins at place l.
+use Rattle.std.specs.Prelude.{ℕ, ◌+◌, ◌*◌, ◌%◌, nat_lt, nat_le, ◌==◌, ◌&&◌, ◌||◌, not, Bool, false, if◌then◌else◌, List, ◌++◌, ◌∷◌, length, slice_index, decimal, Option, Some, None, codes}
+use Rattle.std.specs.Option.{option_map}
+use Rattle.cap_octet.specs.Assigned.{IPPROTO_ICMP, IPPROTO_TCP, IPPROTO_UDP, IPPROTO_ICMPV6}
+use Rattle.cap_octet.specs.NetworkHeader.{link_header_length, network_header}
+use Rattle.cap_octet.specs.declared.network.NetworkHeader.{NetworkHeader}
+use Rattle.cap_octet.specs.declared.network.NetworkHeader.TheVariants.{Known, OtherType, OtherVersion, OtherLink, Short}
+use Rattle.cap_octet.specs.declared.network.NetworkKind.TheVariants.{Ipv4, Ipv6, Arp, Rarp}
 use Rattle.cap_print.specs.Addresses.{u16_of, ipv4_text, ipv6_text, port_text}
 use Rattle.cap_print.specs.Hexadecimal.{hex_four}
+use Rattle.cap_print.specs.declared.network.Ip.{Ip}
+use Rattle.cap_print.specs.declared.network.Ip.TheVariants.{V4, V6}
+use Rattle.cap_print.specs.declared.network.Layout.{Layout}
 
--- link types
+-- where a header of IP has its protocol and its two addresses, and how long they are (RFC 791, section 3.1; RFC 8200, section 3)
+abbrev pub layout_of : Ip → Layout
+layout_of V4 = record { protocol = 9; addresses = 12; address_length = 4 }
+layout_of V6 = record { protocol = 6; addresses = 8; address_length = 16 }
 
-abbrev pub ETHERNET : ℕ
-ETHERNET = 1
+-- where its addresses end
+abbrev pub least_end : Ip → ℕ → ℕ
+least_end ip l = l + (layout_of ip).addresses + 2 * (layout_of ip).address_length
 
-abbrev pub RAW : ℕ
-RAW = 101
+abbrev pub ip_name : Ip → List ℕ
+ip_name V4 = codes "IP"
+ip_name V6 = codes "IP6"
 
-abbrev pub LINUX_COOKED : ℕ
-LINUX_COOKED = 113
+-- the version's own ICMP
+abbrev pub icmp : Ip → ℕ
+icmp V4 = IPPROTO_ICMP
+icmp V6 = IPPROTO_ICMPV6
 
--- types of network headers
+abbrev pub icmp_name : Ip → List ℕ
+icmp_name V4 = codes "ICMP"
+icmp_name V6 = codes "ICMP6"
 
-abbrev pub IPV4 : ℕ
-IPV4 = 0x0800
+-- the name of a protocol
+unfoldable pub protocol_text : Ip → ℕ → List ℕ
+protocol_text ip n =
+    if n == IPPROTO_TCP then codes "TCP"
+    else if n == IPPROTO_UDP then codes "UDP"
+    else if n == icmp ip then icmp_name ip
+    else codes "proto " ++ decimal n
 
-abbrev pub IPV6 : ℕ
-IPV6 = 0x86dd
+abbrev pub address_text : Ip → List ℕ → ℕ → List ℕ
+address_text V4 p at = ipv4_text p at
+address_text V6 p at = ipv6_text p at
 
-abbrev pub ARP : ℕ
-ARP = 0x0806
+-- `IP A > B: ` or `IP6 A > B: `, each address with its port, where there are ports
+unfoldable pub ip_ends : Ip → ℕ → List ℕ → Option (ℕ × ℕ) → List ℕ
+ip_ends ip l p ports =
+    ip_name ip ++ (32 ∷ (address_text ip p (l + (layout_of ip).addresses) ++ (port_text (option_map (λ both. both.0) ports)
+    ++ (codes " > " ++ (address_text ip p (l + (layout_of ip).addresses + (layout_of ip).address_length)
+    ++ (port_text (option_map (λ both. both.1) ports) ++ codes ": "))))))
 
-abbrev pub RARP : ℕ
-RARP = 0x8035
+-- a later fragment of IPv4: its offset isn't 0
+abbrev pub is_later_fragment : Ip → ℕ → List ℕ → Bool
+is_later_fragment V4 l p = not (u16_of p (l + 6) % 8192 == 0)
+is_later_fragment V6 l p = false
 
--- protocols
-
-abbrev pub TCP : ℕ
-TCP = 6
-
-abbrev pub UDP : ℕ
-UDP = 17
-
--- the name of a protocol behind an IPv4 header
-unfoldable pub ipv4_protocol : ℕ → List ℕ
-ipv4_protocol n =
-    if n == TCP then codes "TCP" else if n == UDP then codes "UDP" else if n == 1 then codes "ICMP" else codes "proto " ++ decimal n
-
--- and behind an IPv6 header
-unfoldable pub ipv6_protocol : ℕ → List ℕ
-ipv6_protocol n =
-    if n == TCP then codes "TCP" else if n == UDP then codes "UDP" else if n == 58 then codes "ICMP6" else codes "proto " ++ decimal n
-
--- `IP A > B: `, each address with its port, where there is one; the header begins at place l
-unfoldable pub ipv4_ends : ℕ → List ℕ → Option ℕ → Option ℕ → List ℕ
-ipv4_ends l p source destination =
-    codes "IP " ++ (ipv4_text p (l + 12) ++ (port_text source ++ (codes " > " ++ (ipv4_text p (l + 16) ++ (port_text destination ++ codes ": ")))))
-
-unfoldable pub ipv6_ends : ℕ → List ℕ → Option ℕ → Option ℕ → List ℕ
-ipv6_ends l p source destination =
-    codes "IP6 " ++ (ipv6_text p (l + 8) ++ (port_text source ++ (codes " > " ++ (ipv6_text p (l + 24) ++ (port_text destination ++ codes ": ")))))
+-- where the header ends: that of IPv4 says so, that of IPv6 has 40 bytes
+abbrev pub header_end : Ip → ℕ → List ℕ → ℕ
+header_end V4 l p = 4 * (slice_index p l % 16) + l
+header_end V6 l p = least_end V6 l
 
 -- TCP and UDP, whose headers begin with the two ports
 abbrev pub has_ports : ℕ → Bool
-has_ports n = (n == TCP) || (n == UDP)
+has_ports n = (n == IPPROTO_TCP) || (n == IPPROTO_UDP)
 
--- a later fragment: its offset isn't 0
-abbrev pub is_later_fragment : ℕ → List ℕ → Bool
-is_later_fragment l p = not (u16_of p (l + 6) % 8192 == 0)
+-- the two ports from a place, where they are captured
+abbrev pub ports_at : ℕ → ℕ → List ℕ → Option (ℕ × ℕ)
+ports_at n at p = if has_ports n && nat_le (at + 4) (length p) then Some (u16_of p at, u16_of p (at + 2)) else None
 
--- where the IPv4 header that begins at place l ends
-abbrev pub ipv4_end : ℕ → List ℕ → ℕ
-ipv4_end l p = 4 * (slice_index p l % 16) + l
+-- of the header of IP
+unfoldable pub ip_part : Ip → ℕ → List ℕ → List ℕ
+ip_part ip l p =
+    if nat_lt (length p) (least_end ip l) then ip_name ip ++ codes " [short]"
+    else if is_later_fragment ip l p then ip_ends ip l p None ++ codes "fragment"
+    else ip_ends ip l p (ports_at (slice_index p (l + (layout_of ip).protocol)) (header_end ip l p) p)
+    ++ protocol_text ip (slice_index p (l + (layout_of ip).protocol))
 
-unfoldable pub ipv4_part : ℕ → List ℕ → List ℕ
-ipv4_part l p =
-    if nat_lt (length p) (l + 20) then codes "IP [short]"
-    else if is_later_fragment l p then ipv4_ends l p None None ++ codes "fragment"
-    else if has_ports (slice_index p (l + 9)) && nat_le (ipv4_end l p + 4) (length p) then
-    ipv4_ends l p (Some (u16_of p (ipv4_end l p))) (Some (u16_of p (ipv4_end l p + 2))) ++ ipv4_protocol (slice_index p (l + 9))
-    else ipv4_ends l p None None ++ ipv4_protocol (slice_index p (l + 9))
-
--- of the IPv6 header at place l, which has 40 bytes
-unfoldable pub ipv6_part : ℕ → List ℕ → List ℕ
-ipv6_part l p =
-    if nat_lt (length p) (l + 40) then codes "IP6 [short]"
-    else if has_ports (slice_index p (l + 6)) && nat_le (l + 44) (length p) then
-    ipv6_ends l p (Some (u16_of p (l + 40))) (Some (u16_of p (l + 42))) ++ ipv6_protocol (slice_index p (l + 6))
-    else ipv6_ends l p None None ++ ipv6_protocol (slice_index p (l + 6))
-
--- of the ARP or RARP header at place l, after its name
+-- of the ARP or RARP header, after its name
 unfoldable pub arp_part : ℕ → List ℕ → List ℕ
 arp_part l p =
     if nat_lt (length p) (l + 28) then codes " [short]"
     else codes " op " ++ (decimal (u16_of p (l + 6)) ++ (codes " " ++ (ipv4_text p (l + 14) ++ (codes " > " ++ ipv4_text p (l + 24)))))
 
--- of the header of this type at place l
-unfoldable pub typed_part : ℕ → ℕ → List ℕ → List ℕ
-typed_part type l p =
-    if type == IPV4 then ipv4_part l p
-    else if type == IPV6 then ipv6_part l p
-    else if type == ARP then codes "ARP" ++ arp_part l p
-    else if type == RARP then codes "RARP" ++ arp_part l p
-    else codes "type 0x" ++ hex_four type
+-- of this header
+unfoldable pub header_part : NetworkHeader → ℕ → List ℕ → List ℕ
+header_part (Known Ipv4) l p = ip_part V4 l p
+header_part (Known Ipv6) l p = ip_part V6 l p
+header_part (Known Arp) l p = codes "ARP" ++ arp_part l p
+header_part (Known Rarp) l p = codes "RARP" ++ arp_part l p
+header_part (OtherType type) l p = codes "type 0x" ++ hex_four type
+header_part (OtherVersion version) l p = codes "version " ++ decimal version
+header_part (OtherLink link) l p = codes "link " ++ decimal link
+header_part Short l p = codes "[short]"
 
--- of a packet without a link header, whose first four bits are the version of IP
-unfoldable pub raw_part : List ℕ → List ℕ
-raw_part p =
-    if slice_index p 0 / 16 == 4 then ipv4_part 0 p
-    else if slice_index p 0 / 16 == 6 then ipv6_part 0 p
-    else codes "version " ++ decimal (slice_index p 0 / 16)
-
--- by the link type of the packet
+-- of the header that a packet has by its link type
 unfoldable pub network_part : ℕ → List ℕ → List ℕ
-network_part link p =
-    if link == ETHERNET then (if nat_lt (length p) 14 then codes "[short]" else typed_part (u16_of p 12) 14 p)
-    else if link == RAW then (if length p == 0 then codes "[short]" else raw_part p)
-    else if link == LINUX_COOKED then (if nat_lt (length p) 16 then codes "[short]" else typed_part (u16_of p 14) 16 p)
-    else codes "link " ++ decimal link
+network_part link p = header_part (network_header link p) (link_header_length link) p

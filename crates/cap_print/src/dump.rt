@@ -1,23 +1,13 @@
 //! The bytes of a packet in hexadecimal, 16 a row.
 ghost use Rattle.std.specs.Prelude.{◌≡◌, ◌+◌, ◌*◌, ◌≤◌, ◌<◌, ◌++◌, length};
-ghost use Rattle.cap_print.specs.Dump.{link_header_length, pairs, payload, row, row_count};
+ghost use Rattle.cap_print.specs.Dump.{pairs, payload, row, row_count};
 
 use crate::hexadecimal::{push_hex_place, push_hex_two};
-use crate::network::{ETHERNET, LINUX_COOKED};
 use crate::text::Text;
+use cap_octet::link_header_length;
 
 /// How many bytes a row has.
 const ROW_BYTES: usize = 16;
-
-fn link_header_length(link: u16) -> usize
-    ensures { result ≡ link_header_length link }
-{
-    match link {
-        ETHERNET => 14,
-        LINUX_COOKED => 16,
-        _ => 0,
-    }
-}
 
 /// The captured bytes after the link header.
 pub fn payload(link: u16, bytes: &[u8]) -> &[u8]

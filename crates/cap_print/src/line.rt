@@ -5,9 +5,13 @@ ghost use Rattle.cap_print.specs.Line.{cooked_part, ethernet_part, line, link_pa
 
 use crate::address::{push_mac, u16_of};
 use crate::hexadecimal::push_hex_four;
-use crate::network::{ETHERNET, LINUX_COOKED, RAW, push_network_part};
+use crate::network::push_network_part;
 use crate::text::Text;
 use cap_octet::Packet;
+use cap_octet::assigned::{
+    ETHERNET_HEADER_LENGTH, ETHERNET_TYPE_OFFSET, LINKTYPE_ETHERNET, LINKTYPE_LINUX_SLL,
+    LINKTYPE_RAW, LINUX_SLL_HEADER_LENGTH, LINUX_SLL_TYPE_OFFSET,
+};
 
 /// Appends the type of the network header.
 #[tactic(auto, unfolding(crate::specs::Line::type_text))]
@@ -28,14 +32,14 @@ fn push_ethernet_part(text: &mut Text, bytes: &[u8])
     ensures value { text.new ≡ text.old ++ ethernet_part bytes.now }
     ensures bound { length text.new ≤ length text.old + 60 }
 {
-    if bytes.len() < 14 {
+    if bytes.len() < ETHERNET_HEADER_LENGTH {
         text.push_all(b"ether [short], ");
         return;
     }
     push_mac(text, bytes, 6);
     text.push_all(b" > ");
     push_mac(text, bytes, 0);
-    push_type(text, u16_of(bytes, 12));
+    push_type(text, u16_of(bytes, ETHERNET_TYPE_OFFSET));
 }
 
 /// Appends what is said of the header of a Linux cooked capture.
@@ -45,12 +49,12 @@ fn push_cooked_part(text: &mut Text, bytes: &[u8])
     ensures value { text.new ≡ text.old ++ cooked_part bytes.now }
     ensures bound { length text.new ≤ length text.old + 60 }
 {
-    if bytes.len() < 16 {
+    if bytes.len() < LINUX_SLL_HEADER_LENGTH {
         text.push_all(b"cooked [short], ");
         return;
     }
     text.push_all(b"cooked");
-    push_type(text, u16_of(bytes, 14));
+    push_type(text, u16_of(bytes, LINUX_SLL_TYPE_OFFSET));
 }
 
 /// Appends what is said of the link header.
@@ -61,9 +65,9 @@ fn push_link_part(text: &mut Text, link: u16, bytes: &[u8])
     ensures bound { length text.new ≤ length text.old + 60 }
 {
     match link {
-        ETHERNET => push_ethernet_part(text, bytes),
-        RAW => text.push_all(b"raw, "),
-        LINUX_COOKED => push_cooked_part(text, bytes),
+        LINKTYPE_ETHERNET => push_ethernet_part(text, bytes),
+        LINKTYPE_RAW => text.push_all(b"raw, "),
+        LINKTYPE_LINUX_SLL => push_cooked_part(text, bytes),
         _ => {
             text.push_all(b"link ");
             text.push_decimal(link as u32);

@@ -1,48 +1,81 @@
 //! What a line says of a packet's network header.
-ghost use Rattle.std.specs.Prelude.{◌≡◌, ◌+◌, ◌≤◌, ◌<◌, ◌++◌, length};
-ghost use Rattle.cap_print.specs.Network.{arp_part, has_ports, ipv4_ends, ipv4_part, ipv4_protocol};
-ghost use Rattle.cap_print.specs.Network.{ipv6_ends, ipv6_part, ipv6_protocol, network_part};
-ghost use Rattle.cap_print.specs.Network.{raw_part, typed_part};
+ghost use Rattle.std.specs.Prelude.{◌≡◌, ◌+◌, ◌*◌, ◌≤◌, ◌<◌, ◌++◌, length};
+ghost use Rattle.cap_print.specs.Network.{address_text, arp_part, has_ports, header_end};
+ghost use Rattle.cap_print.specs.Network.{header_part, ip_ends, ip_name, ip_part};
+ghost use Rattle.cap_print.specs.Network.{is_later_fragment, layout_of, least_end, network_part};
+ghost use Rattle.cap_print.specs.Network.{ports_at, protocol_text};
 
 use crate::address::{push_ipv4, push_ipv6, push_port, u16_of};
 use crate::hexadecimal::push_hex_four;
 use crate::text::Text;
+use cap_octet::assigned::{IPPROTO_ICMP, IPPROTO_ICMPV6, IPPROTO_TCP, IPPROTO_UDP};
+use cap_octet::{NetworkHeader, NetworkKind, link_header_length, network_header};
 
-// Link types (tcpdump.org's list of LINKTYPE_ values).
-pub const ETHERNET: u16 = 1;
+/// A version of IP.
+#[derive(Clone, Copy)]
+pub(crate) enum Ip {
+    V4,
+    V6,
+}
 
-pub const RAW: u16 = 101;
+/// Where a header of IP has what a line says of it, in bytes from its start.
+#[derive(Clone, Copy)]
+pub(crate) struct Layout {
+    protocol: usize,
+    /// The source's address, which the destination's follows.
+    addresses: usize,
+    /// How many bytes an address has.
+    address_length: usize,
+}
 
-pub const LINUX_COOKED: u16 = 113;
+fn layout_of(ip: Ip) -> Layout
+    ensures { result ≡ layout_of ip }
+{
+    match ip {
+        Ip::V4 => Layout {
+            protocol: 9,
+            addresses: 12,
+            address_length: 4,
+        },
+        Ip::V6 => Layout {
+            protocol: 6,
+            addresses: 8,
+            address_length: 16,
+        },
+    }
+}
 
-// Types of network headers (IANA's EtherType numbers).
-const IPV4: u16 = 0x0800;
+/// Where the addresses of the header at place `l` end, and the header if it has no options.
+fn least_end(ip: Ip, l: usize) -> usize
+    requires { l ≤ 16 }
+    ensures { result ≡ least_end ip l }
+{
+    let header = layout_of(ip);
+    l + header.addresses + 2 * header.address_length
+}
 
-const IPV6: u16 = 0x86dd;
+fn push_name(text: &mut Text, ip: Ip)
+    requires { length text.old + 3 ≤ 256 }
+    ensures value { text.new ≡ text.old ++ ip_name ip }
+    ensures bound { length text.new ≤ length text.old + 3 }
+{
+    match ip {
+        Ip::V4 => text.push_all(b"IP"),
+        Ip::V6 => text.push_all(b"IP6"),
+    }
+}
 
-const ARP: u16 = 0x0806;
-
-const RARP: u16 = 0x8035;
-
-// Protocols (IANA's protocol numbers).
-const ICMP: u8 = 1;
-
-const TCP: u8 = 6;
-
-const UDP: u8 = 17;
-
-const ICMPV6: u8 = 58;
-
-#[tactic(auto, unfolding(crate::specs::Network::ipv4_protocol))]
-fn push_ipv4_protocol(text: &mut Text, protocol: u8)
+#[tactic(auto, unfolding(crate::specs::Network::protocol_text))]
+fn push_protocol(text: &mut Text, ip: Ip, protocol: u8)
     requires { length text.old + 16 ≤ 256 }
-    ensures value { text.new ≡ text.old ++ ipv4_protocol protocol }
+    ensures value { text.new ≡ text.old ++ protocol_text ip protocol }
     ensures bound { length text.new ≤ length text.old + 16 }
 {
-    match protocol {
-        TCP => text.push_all(b"TCP"),
-        UDP => text.push_all(b"UDP"),
-        ICMP => text.push_all(b"ICMP"),
+    match (ip, protocol) {
+        (_, IPPROTO_TCP) => text.push_all(b"TCP"),
+        (_, IPPROTO_UDP) => text.push_all(b"UDP"),
+        (Ip::V4, IPPROTO_ICMP) => text.push_all(b"ICMP"),
+        (Ip::V6, IPPROTO_ICMPV6) => text.push_all(b"ICMP6"),
         _ => {
             text.push_all(b"proto ");
             text.push_decimal(protocol as u32);
@@ -50,127 +83,111 @@ fn push_ipv4_protocol(text: &mut Text, protocol: u8)
     }
 }
 
-#[tactic(auto, unfolding(crate::specs::Network::ipv6_protocol))]
-fn push_ipv6_protocol(text: &mut Text, protocol: u8)
-    requires { length text.old + 16 ≤ 256 }
-    ensures value { text.new ≡ text.old ++ ipv6_protocol protocol }
-    ensures bound { length text.new ≤ length text.old + 16 }
+fn push_address(text: &mut Text, ip: Ip, bytes: &[u8], at: usize)
+    requires room { length text.old + 43 ≤ 256 }
+    requires there { at + (layout_of ip).address_length ≤ length bytes.now }
+    ensures value { text.new ≡ text.old ++ address_text ip bytes.now at }
+    ensures bound { length text.new ≤ length text.old + 43 }
 {
-    match protocol {
-        TCP => text.push_all(b"TCP"),
-        UDP => text.push_all(b"UDP"),
-        ICMPV6 => text.push_all(b"ICMP6"),
-        _ => {
-            text.push_all(b"proto ");
-            text.push_decimal(protocol as u32);
-        }
+    match ip {
+        Ip::V4 => push_ipv4(text, bytes, at),
+        Ip::V6 => push_ipv6(text, bytes, at),
     }
 }
 
-/// Appends `IP A > B: ` of the header at place `l`, each address with its port if there is one.
-#[tactic(auto, unfolding(crate::specs::Network::ipv4_ends))]
-fn push_ipv4_ends(
-    text: &mut Text,
-    bytes: &[u8],
-    l: usize,
-    source: Option<u16>,
-    destination: Option<u16>,
-)
-    requires room { length text.old + 116 ≤ 256 }
-    requires there { (l ≤ 16) × (l + 20 ≤ length bytes.now) }
-    ensures value { text.new ≡ text.old ++ ipv4_ends l bytes.now source destination }
-    ensures bound { length text.new ≤ length text.old + 116 }
+/// Appends `IP A > B: ` or `IP6 A > B: ` of the header at place `l`, each address with its port if
+/// there are ports.
+#[tactic(auto, unfolding(crate::specs::Network::ip_ends))]
+fn push_ends(text: &mut Text, ip: Ip, bytes: &[u8], l: usize, ports: Option<(u16, u16)>)
+    requires room { length text.old + 117 ≤ 256 }
+    requires there { (l ≤ 16) × (least_end ip l ≤ length bytes.now) }
+    ensures value { text.new ≡ text.old ++ ip_ends ip l bytes.now ports }
+    ensures bound { length text.new ≤ length text.old + 117 }
 {
-    text.push_all(b"IP ");
-    push_ipv4(text, bytes, l + 12);
-    push_port(text, source);
+    let header = layout_of(ip);
+    let source = l + header.addresses;
+    let (from, to) = match ports {
+        Some((from, to)) => (Some(from), Some(to)),
+        None => (None, None),
+    };
+    push_name(text, ip);
+    text.push(b' ');
+    push_address(text, ip, bytes, source);
+    push_port(text, from);
     text.push_all(b" > ");
-    push_ipv4(text, bytes, l + 16);
-    push_port(text, destination);
+    push_address(text, ip, bytes, source + header.address_length);
+    push_port(text, to);
     text.push_all(b": ");
 }
 
-/// Appends `IP6 A > B: ` of the header at place `l`, each address with its port if there is one.
-#[tactic(auto, unfolding(crate::specs::Network::ipv6_ends))]
-fn push_ipv6_ends(
-    text: &mut Text,
-    bytes: &[u8],
-    l: usize,
-    source: Option<u16>,
-    destination: Option<u16>,
-)
-    requires room { length text.old + 116 ≤ 256 }
-    requires there { (l ≤ 16) × (l + 40 ≤ length bytes.now) }
-    ensures value { text.new ≡ text.old ++ ipv6_ends l bytes.now source destination }
-    ensures bound { length text.new ≤ length text.old + 116 }
+/// Whether an IPv4 packet is a fragment but the first. Those of IPv6 are told by a header of their
+/// own, which isn't read.
+fn is_later_fragment(ip: Ip, bytes: &[u8], l: usize) -> bool
+    requires place { l ≤ 16 }
+    requires there { least_end ip l ≤ length bytes.now }
+    ensures { result ≡ is_later_fragment ip l bytes.now }
 {
-    text.push_all(b"IP6 ");
-    push_ipv6(text, bytes, l + 8);
-    push_port(text, source);
-    text.push_all(b" > ");
-    push_ipv6(text, bytes, l + 24);
-    push_port(text, destination);
-    text.push_all(b": ");
+    match ip {
+        // The lower 13 bits are the fragment's offset.
+        Ip::V4 => u16_of(bytes, l + 6) % 8192 != 0,
+        Ip::V6 => false,
+    }
+}
+
+/// Where the header at place `l` ends.
+fn header_end(ip: Ip, bytes: &[u8], l: usize) -> usize
+    requires place { l ≤ 16 }
+    requires there { least_end ip l ≤ length bytes.now }
+    ensures value { result ≡ header_end ip l bytes.now }
+    ensures bound { result ≤ 76 }
+{
+    match ip {
+        Ip::V4 => 4 * (bytes[l] as usize % 16) + l,
+        Ip::V6 => least_end(ip, l),
+    }
 }
 
 /// Whether the headers of a protocol begin with two ports.
 fn has_ports(protocol: u8) -> bool
     ensures { result ≡ has_ports protocol }
 {
-    protocol == TCP || protocol == UDP
+    protocol == IPPROTO_TCP || protocol == IPPROTO_UDP
 }
 
-/// Appends what is said of the IPv4 header at place `l`.
-#[tactic(auto, unfolding(crate::specs::Network::ipv4_part))]
-fn push_ipv4_part(text: &mut Text, bytes: &[u8], l: usize)
-    requires room { length text.old + 132 ≤ 256 }
-    requires place { l ≤ 16 }
-    ensures value { text.new ≡ text.old ++ ipv4_part l bytes.now }
-    ensures bound { length text.new ≤ length text.old + 132 }
+/// The two ports from a place, if a header of the protocol is there and they are captured.
+fn ports_at(protocol: u8, bytes: &[u8], at: usize) -> Option<(u16, u16)>
+    requires { at ≤ 76 }
+    ensures { result ≡ ports_at protocol at bytes.now }
 {
-    if bytes.len() < l + 20 {
-        text.push_all(b"IP [short]");
+    if has_ports(protocol) && at + 4 <= bytes.len() {
+        Some((u16_of(bytes, at), u16_of(bytes, at + 2)))
+    } else {
+        None
+    }
+}
+
+/// Appends what is said of the header of IP at place `l`.
+#[tactic(auto, unfolding(crate::specs::Network::ip_part))]
+fn push_ip_part(text: &mut Text, ip: Ip, bytes: &[u8], l: usize)
+    requires room { length text.old + 133 ≤ 256 }
+    requires place { l ≤ 16 }
+    ensures value { text.new ≡ text.old ++ ip_part ip l bytes.now }
+    ensures bound { length text.new ≤ length text.old + 133 }
+{
+    if bytes.len() < least_end(ip, l) {
+        push_name(text, ip);
+        text.push_all(b" [short]");
         return;
     }
-    // The lower 13 bits are the fragment's offset.
-    if u16_of(bytes, l + 6) % 8192 != 0 {
-        push_ipv4_ends(text, bytes, l, None, None);
+    if is_later_fragment(ip, bytes, l) {
+        push_ends(text, ip, bytes, l, None);
         text.push_all(b"fragment");
         return;
     }
-    let protocol = bytes[l + 9];
-    let end = 4 * (bytes[l] as usize % 16) + l;
-    if has_ports(protocol) && end + 4 <= bytes.len() {
-        let (source, destination) = (u16_of(bytes, end), u16_of(bytes, end + 2));
-        push_ipv4_ends(text, bytes, l, Some(source), Some(destination));
-        push_ipv4_protocol(text, protocol);
-        return;
-    }
-    push_ipv4_ends(text, bytes, l, None, None);
-    push_ipv4_protocol(text, protocol);
-}
-
-/// Appends what is said of the IPv6 header at place `l`.
-#[tactic(auto, unfolding(crate::specs::Network::ipv6_part))]
-fn push_ipv6_part(text: &mut Text, bytes: &[u8], l: usize)
-    requires room { length text.old + 132 ≤ 256 }
-    requires place { l ≤ 16 }
-    ensures value { text.new ≡ text.old ++ ipv6_part l bytes.now }
-    ensures bound { length text.new ≤ length text.old + 132 }
-{
-    if bytes.len() < l + 40 {
-        text.push_all(b"IP6 [short]");
-        return;
-    }
-    let protocol = bytes[l + 6];
-    if has_ports(protocol) && l + 44 <= bytes.len() {
-        let (source, destination) = (u16_of(bytes, l + 40), u16_of(bytes, l + 42));
-        push_ipv6_ends(text, bytes, l, Some(source), Some(destination));
-        push_ipv6_protocol(text, protocol);
-        return;
-    }
-    push_ipv6_ends(text, bytes, l, None, None);
-    push_ipv6_protocol(text, protocol);
+    let protocol = bytes[l + layout_of(ip).protocol];
+    let ports = ports_at(protocol, bytes, header_end(ip, bytes, l));
+    push_ends(text, ip, bytes, l, ports);
+    push_protocol(text, ip, protocol);
 }
 
 /// Appends what is said of the ARP or RARP header at place `l`, after its name.
@@ -193,68 +210,48 @@ fn push_arp_part(text: &mut Text, bytes: &[u8], l: usize)
     push_ipv4(text, bytes, l + 24);
 }
 
-/// Appends what is said of the network header of this type at place `l`.
-#[tactic(auto, unfolding(crate::specs::Network::typed_part))]
-fn push_typed_part(text: &mut Text, kind: u16, bytes: &[u8], l: usize)
-    requires room { length text.old + 132 ≤ 256 }
+/// Appends what is said of a packet with this network header, which begins at place `l`.
+#[tactic(auto, unfolding(crate::specs::Network::header_part))]
+fn push_header_part(text: &mut Text, header: NetworkHeader, bytes: &[u8], l: usize)
+    requires room { length text.old + 133 ≤ 256 }
     requires place { l ≤ 16 }
-    ensures value { text.new ≡ text.old ++ typed_part kind l bytes.now }
-    ensures bound { length text.new ≤ length text.old + 132 }
+    ensures value { text.new ≡ text.old ++ header_part header l bytes.now }
+    ensures bound { length text.new ≤ length text.old + 133 }
 {
-    match kind {
-        IPV4 => push_ipv4_part(text, bytes, l),
-        IPV6 => push_ipv6_part(text, bytes, l),
-        ARP => {
+    match header {
+        NetworkHeader::Known(NetworkKind::Ipv4) => push_ip_part(text, Ip::V4, bytes, l),
+        NetworkHeader::Known(NetworkKind::Ipv6) => push_ip_part(text, Ip::V6, bytes, l),
+        NetworkHeader::Known(NetworkKind::Arp) => {
             text.push_all(b"ARP");
             push_arp_part(text, bytes, l);
         }
-        RARP => {
+        NetworkHeader::Known(NetworkKind::Rarp) => {
             text.push_all(b"RARP");
             push_arp_part(text, bytes, l);
         }
-        _ => {
+        NetworkHeader::OtherType(ethertype) => {
             text.push_all(b"type 0x");
-            push_hex_four(text, kind);
+            push_hex_four(text, ethertype);
         }
-    }
-}
-
-/// Appends what is said of a packet without a link header.
-#[tactic(auto, unfolding(crate::specs::Network::raw_part))]
-fn push_raw_part(text: &mut Text, bytes: &[u8])
-    requires room { length text.old + 132 ≤ 256 }
-    requires there { 0 < length bytes.now }
-    ensures value { text.new ≡ text.old ++ raw_part bytes.now }
-    ensures bound { length text.new ≤ length text.old + 132 }
-{
-    let version = bytes[0] / 16;
-    match version {
-        4 => push_ipv4_part(text, bytes, 0),
-        6 => push_ipv6_part(text, bytes, 0),
-        _ => {
+        NetworkHeader::OtherVersion(version) => {
             text.push_all(b"version ");
             text.push_decimal(version as u32);
         }
+        NetworkHeader::OtherLink(link) => {
+            text.push_all(b"link ");
+            text.push_decimal(link as u32);
+        }
+        NetworkHeader::Short => text.push_all(b"[short]"),
     }
 }
 
 /// Appends what is said of the captured bytes behind the link header.
 #[tactic(auto, unfolding(crate::specs::Network::network_part))]
 pub fn push_network_part(text: &mut Text, link: u16, bytes: &[u8])
-    requires { length text.old + 132 ≤ 256 }
+    requires { length text.old + 133 ≤ 256 }
     ensures value { text.new ≡ text.old ++ network_part link bytes.now }
-    ensures bound { length text.new ≤ length text.old + 132 }
+    ensures bound { length text.new ≤ length text.old + 133 }
 {
-    match link {
-        ETHERNET if bytes.len() < 14 => text.push_all(b"[short]"),
-        ETHERNET => push_typed_part(text, u16_of(bytes, 12), bytes, 14),
-        RAW if bytes.is_empty() => text.push_all(b"[short]"),
-        RAW => push_raw_part(text, bytes),
-        LINUX_COOKED if bytes.len() < 16 => text.push_all(b"[short]"),
-        LINUX_COOKED => push_typed_part(text, u16_of(bytes, 14), bytes, 16),
-        _ => {
-            text.push_all(b"link ");
-            text.push_decimal(link as u32);
-        }
-    }
+    let header = network_header(link, bytes);
+    push_header_part(text, header, bytes, link_header_length(link));
 }

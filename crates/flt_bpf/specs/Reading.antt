@@ -2,6 +2,7 @@
 use Rattle.std.specs.Prelude.{◌≡◌, ℕ, zero, suc, ◌+◌, ◌-◌, ◌*◌, ◌^◌, ◌≤◌, nat_lt, nat_le, ◌==◌, ◌&&◌, if◌then◌else◌, List, [], ◌∷◌, length, Option, Some, None, Result, Ok, Err}
 use Rattle.std.specs.List.{slice_split}
 use Rattle.std.specs.Borrow.{Bor}
+use Rattle.cap_octet.specs.Digits.{number_of}
 use Rattle.flt_bpf.specs.declared.insn.Insn.{Insn}
 use Rattle.flt_bpf.specs.declared.fault.ListingFault.{ListingFault}
 use Rattle.flt_bpf.specs.declared.fault.ListingFault.TheVariants.{NotListing, Memory}
@@ -13,15 +14,9 @@ abbrev pub pieces_after : ℕ → Option (Bor (List ℕ)) → List (List ℕ)
 pieces_after stop None = []
 pieces_after stop (Some rest) = slice_split (λ b. b == stop) rest.now
 
--- the number that digits write behind those that write v
-abbrev pub digits_from : ℕ → List ℕ → Option ℕ
-digits_from v [] = Some v
-digits_from v (b ∷ bs) = if nat_le 48 b && nat_le b 57 then digits_from (10 * v + (b - 48)) bs else None
-
 -- the number that 1 to 10 digits write
 abbrev pub numeral : List ℕ → Option ℕ
-numeral [] = None
-numeral (b ∷ bs) = if nat_lt 10 (length (b ∷ bs)) then None else digits_from 0 (b ∷ bs)
+numeral ds = if nat_lt 10 (length ds) then None else number_of ds
 
 -- a number before others
 abbrev pub after : Option ℕ → Option (List ℕ) → Option (List ℕ)

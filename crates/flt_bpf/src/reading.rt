@@ -12,6 +12,7 @@ ghost use Rattle.flt_bpf.specs.Reading.{read, IsFaultOf};
 use crate::fault::ListingFault;
 use crate::insn::Insn;
 use crate::program::MOST_INSTRUCTIONS;
+use cap_octet::digits::number_of;
 use std::alloc::Allocator;
 
 /// How many bytes a listing may have.
@@ -54,17 +55,10 @@ fn cut_at(text: &[u8], stop: u8) -> Cut<'_>
 fn number(digits: &[u8]) -> Option<u64>
     ensures { result ≡ numeral digits.now }
 {
-    if digits.is_empty() || digits.len() > 10 {
+    if digits.len() > 10 {
         return None;
     }
-    let mut value = 0u64;
-    for digit in digits {
-        if !digit.is_ascii_digit() {
-            return None;
-        }
-        value = 10 * value + u64::from(*digit - b'0');
-    }
-    Some(value)
+    number_of(digits)
 }
 
 /// A number, and what stands behind it and the blanks after it.

@@ -6,6 +6,7 @@ pub mod Ascending
 pub mod Onward
 pub mod Following
 pub mod Exclusive
+pub mod NetworkKinds
 pub mod Numbers
 pub mod Runs
 pub mod Grows

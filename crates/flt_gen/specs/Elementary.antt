@@ -1,5 +1,8 @@
 -- The elementary tests, as a table for both links, and what they read of a packet.
 use Rattle.std.specs.Prelude.{ℕ, ◌+◌, ◌%◌, ◌^◌, ◌==◌, not, nat_lt, nat_le, Bool, true, false, List, Option, Some, None, bit_and}
+use Rattle.cap_octet.specs.Assigned.{LINKTYPE_ETHERNET, LINKTYPE_RAW, LINKTYPE_LINUX_SLL}
+use Rattle.cap_octet.specs.Assigned.{ETHERTYPE_IPV4, ETHERTYPE_IPV6, ETHERTYPE_ARP, ETHERTYPE_RARP}
+use Rattle.cap_octet.specs.Assigned.{ETHERNET_TYPE_OFFSET, ETHERNET_HEADER_LENGTH, LINUX_SLL_TYPE_OFFSET, LINUX_SLL_HEADER_LENGTH}
 use Rattle.flt_bpf.specs.declared.operation.Width.{Width}
 use Rattle.flt_bpf.specs.declared.operation.Width.TheVariants.{HalfWord, Byte}
 use Rattle.flt_bpf.specs.Machine.{field, header_length}
@@ -72,29 +75,35 @@ is_masked at width mask value = Field (record { place = At at; width = width; ma
 abbrev pub compares_at : Place → Width → Comparison → ℕ → Elementary
 compares_at place width comparison value = Field (record { place = place; width = width; mask = None; comparison = comparison; value = value })
 
+-- the link type of a link
+abbrev pub link_type : Link → ℕ
+link_type Ether = LINKTYPE_ETHERNET
+link_type Raw = LINKTYPE_RAW
+link_type Cooked = LINKTYPE_LINUX_SLL
+
 -- where the network header begins
 abbrev pub network : Link → ℕ
-network Ether = 14
+network Ether = ETHERNET_HEADER_LENGTH
 network Raw = 0
-network Cooked = 16
+network Cooked = LINUX_SLL_HEADER_LENGTH
 
 -- a frame is of a kind: by the type in its Ethernet header, else by the version in its first byte
 abbrev pub kind_test : Link → FrameKind → Elementary
 kind_test Ether Ethernet = Known true
-kind_test Ether Ip = is_at 12 HalfWord 0x0800
-kind_test Ether Ip6 = is_at 12 HalfWord 0x86dd
-kind_test Ether Arp = is_at 12 HalfWord 0x0806
-kind_test Ether Rarp = is_at 12 HalfWord 0x8035
+kind_test Ether Ip = is_at ETHERNET_TYPE_OFFSET HalfWord ETHERTYPE_IPV4
+kind_test Ether Ip6 = is_at ETHERNET_TYPE_OFFSET HalfWord ETHERTYPE_IPV6
+kind_test Ether Arp = is_at ETHERNET_TYPE_OFFSET HalfWord ETHERTYPE_ARP
+kind_test Ether Rarp = is_at ETHERNET_TYPE_OFFSET HalfWord ETHERTYPE_RARP
 kind_test Raw Ethernet = Known false
 kind_test Raw Ip = is_masked 0 Byte 0xf0 0x40
 kind_test Raw Ip6 = is_masked 0 Byte 0xf0 0x60
 kind_test Raw Arp = Known false
 kind_test Raw Rarp = Known false
 kind_test Cooked Ethernet = Known false
-kind_test Cooked Ip = is_at 14 HalfWord 0x0800
-kind_test Cooked Ip6 = is_at 14 HalfWord 0x86dd
-kind_test Cooked Arp = is_at 14 HalfWord 0x0806
-kind_test Cooked Rarp = is_at 14 HalfWord 0x8035
+kind_test Cooked Ip = is_at LINUX_SLL_TYPE_OFFSET HalfWord ETHERTYPE_IPV4
+kind_test Cooked Ip6 = is_at LINUX_SLL_TYPE_OFFSET HalfWord ETHERTYPE_IPV6
+kind_test Cooked Arp = is_at LINUX_SLL_TYPE_OFFSET HalfWord ETHERTYPE_ARP
+kind_test Cooked Rarp = is_at LINUX_SLL_TYPE_OFFSET HalfWord ETHERTYPE_RARP
 
 -- an IPv4 packet is no fragment but the first
 abbrev pub first_fragment : Link → Elementary

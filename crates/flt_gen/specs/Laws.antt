@@ -1,8 +1,17 @@
 -- Laws of the table of primitives.
-use Rattle.std.specs.Prelude.{◌≡◌, ℕ, ◌-◌, ◌^◌, map, Option, unwrap_or}
+use Rattle.std.specs.Prelude.{◌≡◌, ◌↔◌, ℕ, ◌-◌, ◌^◌, ◌<◌, Bool, true, false, List, All, map, Option, unwrap_or}
 use Rattle.std.specs.Int.Digits.{number_from_digits}
 use Rattle.flt_lang.specs.Nets.{ip6_mask}
+use Rattle.cap_octet.specs.NetworkHeader.{network_header}
+use Rattle.cap_octet.specs.declared.network.NetworkHeader.TheVariants.{Known, Short}
+use Rattle.cap_octet.specs.declared.network.NetworkKind.{NetworkKind}
+use Rattle.cap_octet.specs.declared.network.NetworkKind.TheVariants as network
 use Rattle.flt_gen.specs.declared.elementary.Elementary.{Elementary}
+use Rattle.flt_gen.specs.declared.elementary.FrameKind.{FrameKind}
+use Rattle.flt_gen.specs.declared.elementary.FrameKind.TheVariants as frame
+use Rattle.flt_gen.specs.declared.link.Link.{Link}
+use Rattle.flt_gen.specs.declared.link.Link.TheVariants.{Raw}
+use Rattle.flt_gen.specs.Elementary.{Yes, Rejected, elementary_reads, kind_test, link_type}
 use Rattle.flt_gen.specs.declared.elementary.Elementary.TheVariants.{Known, Field}
 use Rattle.flt_gen.specs.Primitives.{ip6_tests}
 
@@ -14,3 +23,28 @@ word_mask (Field t) = unwrap_or t.mask (2 ^ 32 - 1)
 -- joined, the masks of the tests of an IPv6 address or network are its mask
 abbrev pub MasksJoin : Type 0
 MasksJoin = (prefix : Option ℕ) (address at : ℕ) → number_from_digits (2 ^ 32) (map word_mask (ip6_tests prefix address at)) ≡ ip6_mask prefix
+
+-- ---- an expression means by IPv4, IPv6, ARP and RARP what a line does, which goes by `network_header`
+
+-- the frames of a kind of network header
+abbrev pub frame_kind : NetworkKind → FrameKind
+frame_kind network.Ipv4 = frame.Ip
+frame_kind network.Ipv6 = frame.Ip6
+frame_kind network.Arp = frame.Arp
+frame_kind network.Rarp = frame.Rarp
+
+-- raw IP has neither ARP nor RARP
+abbrev pub carries : Link → NetworkKind → Bool
+carries Raw network.Arp = false
+carries Raw network.Rarp = false
+carries link kind = true
+
+-- the test of a kind matches exactly the packets whose network header is of that kind
+abbrev pub MatchesKind : Type 0
+MatchesKind = (link : Link) (kind : NetworkKind) (p : List ℕ) → All (λ b. b < 2 ^ 8) p
+    → (elementary_reads (kind_test link (frame_kind kind)) p ≡ Yes) ↔ (network_header (link_type link) p ≡ Known kind)
+
+-- where the link has the kind, it rejects exactly those of which too little is captured; else it rejects none
+abbrev pub RejectsShort : Type 0
+RejectsShort = (link : Link) (kind : NetworkKind) (p : List ℕ) → All (λ b. b < 2 ^ 8) p
+    → (elementary_reads (kind_test link (frame_kind kind)) p ≡ Rejected) ↔ ((network_header (link_type link) p ≡ Short) × (carries link kind ≡ true))

@@ -1,5 +1,6 @@
 -- The value of arithmetic on a packet.
 use Rattle.std.specs.Prelude.{ℕ, ◌+◌, ◌-◌, ◌*◌, ◌/◌, ◌%◌, ◌^◌, ◌==◌, nat_lt, if◌then◌else◌, List, [], ◌∷◌, Option, Some, None, bit_and, bit_or, bit_xor}
+use Rattle.cap_octet.specs.Assigned.{IPPROTO_ICMP, IPPROTO_TCP, IPPROTO_UDP}
 use Rattle.flt_bpf.specs.declared.operation.Width.{Width}
 use Rattle.flt_bpf.specs.declared.operation.Width.TheVariants.{Word, HalfWord, Byte}
 use Rattle.flt_bpf.specs.Machine.{field}
@@ -56,9 +57,9 @@ accessor_tests link Ip = kind_test link kind.Ip ∷ []
 accessor_tests link Ip6 = kind_test link kind.Ip6 ∷ []
 accessor_tests link Arp = kind_test link kind.Arp ∷ []
 accessor_tests link Rarp = kind_test link kind.Rarp ∷ []
-accessor_tests link Tcp = kind_test link kind.Ip ∷ has_ip_proto link 6 ∷ first_fragment link ∷ []
-accessor_tests link Udp = kind_test link kind.Ip ∷ has_ip_proto link 17 ∷ first_fragment link ∷ []
-accessor_tests link Icmp = kind_test link kind.Ip ∷ has_ip_proto link 1 ∷ first_fragment link ∷ []
+accessor_tests link Tcp = kind_test link kind.Ip ∷ has_ip_proto link IPPROTO_TCP ∷ first_fragment link ∷ []
+accessor_tests link Udp = kind_test link kind.Ip ∷ has_ip_proto link IPPROTO_UDP ∷ first_fragment link ∷ []
+accessor_tests link Icmp = kind_test link kind.Ip ∷ has_ip_proto link IPPROTO_ICMP ∷ first_fragment link ∷ []
 accessor_tests link Icmp6 = kind_test link kind.Ip6 ∷ []
 
 -- the protocols of the accessors of arithmetic, in the order of their words, and then the rest

@@ -1,5 +1,6 @@
 -- The table of primitives: each is a formula of elementary tests.
 use Rattle.std.specs.Prelude.{ℕ, ◌+◌, ◌-◌, ◌*◌, ◌/◌, ◌%◌, ◌^◌, min, max, false, List, [], ◌∷◌, Option, Some, None}
+use Rattle.cap_octet.specs.Assigned.{IPPROTO_ICMP, IPPROTO_TCP, IPPROTO_UDP, IPPROTO_ICMPV6, ETHERNET_TYPE_OFFSET, LINUX_SLL_TYPE_OFFSET}
 use Rattle.std.specs.Option.{option_map}
 use Rattle.flt_bpf.specs.declared.operation.Width.{Width}
 use Rattle.flt_bpf.specs.declared.operation.Width.TheVariants.{Word, HalfWord, Byte}
@@ -52,8 +53,8 @@ abbrev pub any_proto : Link → ℕ → Formula
 any_proto link n = Choose (kind_test link Ip) (Single (has_ip_proto link n)) (ip6_proto link n)
 
 abbrev pub ether_proto : Link → ℕ → Formula
-ether_proto Cooked n = Single (is_at 14 HalfWord n)
-ether_proto link n = all_of (kind_test link Ethernet ∷ is_at 12 HalfWord n ∷ [])
+ether_proto Cooked n = Single (is_at LINUX_SLL_TYPE_OFFSET HalfWord n)
+ether_proto link n = all_of (kind_test link Ethernet ∷ is_at ETHERNET_TYPE_OFFSET HalfWord n ∷ [])
 
 abbrev pub check_formula : Link → Protocol → Formula
 check_formula link protocol.Ether = Single (kind_test link Ethernet)
@@ -61,10 +62,10 @@ check_formula link protocol.Ip = Single (kind_test link Ip)
 check_formula link protocol.Ip6 = Single (kind_test link Ip6)
 check_formula link protocol.Arp = Single (kind_test link Arp)
 check_formula link protocol.Rarp = Single (kind_test link Rarp)
-check_formula link protocol.Tcp = any_proto link 6
-check_formula link protocol.Udp = any_proto link 17
-check_formula link protocol.Icmp = ip_proto link 1
-check_formula link protocol.Icmp6 = ip6_proto link 58
+check_formula link protocol.Tcp = any_proto link IPPROTO_TCP
+check_formula link protocol.Udp = any_proto link IPPROTO_UDP
+check_formula link protocol.Icmp = ip_proto link IPPROTO_ICMP
+check_formula link protocol.Icmp6 = ip6_proto link IPPROTO_ICMPV6
 
 abbrev pub proto_formula : Link → Option Protocol → ℕ → Formula
 proto_formula link (Some protocol.Ip) n = ip_proto link n
@@ -194,8 +195,8 @@ transport_ports header wanted numbers = transport wanted.protocol header.tcp hea
 -- behind an IPv4 header, which has no fixed length; no later fragment has ports
 abbrev pub ip_transport : Link → Transport
 ip_transport link = record {
-  tcp = has_ip_proto link 6;
-  udp = has_ip_proto link 17;
+  tcp = has_ip_proto link IPPROTO_TCP;
+  udp = has_ip_proto link IPPROTO_UDP;
   whole = Some (first_fragment link);
   source = Past (network link) (network link);
   destination = Past (network link) (network link + 2);
@@ -204,8 +205,8 @@ ip_transport link = record {
 -- behind an IPv6 header
 abbrev pub ip6_transport : Link → Transport
 ip6_transport link = record {
-  tcp = has_ip6_proto link 6;
-  udp = has_ip6_proto link 17;
+  tcp = has_ip6_proto link IPPROTO_TCP;
+  udp = has_ip6_proto link IPPROTO_UDP;
   whole = None;
   source = At (network link + 40);
   destination = At (network link + 42);

@@ -1,8 +1,14 @@
 //! Laws of the table of primitives.
 
-ghost use Rattle.flt_gen.specs.Laws.{MasksJoin};
+ghost use Rattle.flt_gen.specs.Laws.{MasksJoin, MatchesKind, RejectsShort};
 
 /// The masks of the four words of an IPv6 address or network, joined, are its mask.
 pub fn masks_join()
     ensures { MasksJoin }
+{}
+
+/// By IPv4, IPv6, ARP and RARP an expression means the network headers that a line names so.
+pub fn kinds_agree()
+    ensures kind { MatchesKind }
+    ensures short { RejectsShort }
 {}

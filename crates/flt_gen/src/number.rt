@@ -14,6 +14,7 @@ use crate::elementary::FrameKind;
 use crate::link::Link;
 use crate::put::put_all;
 use crate::table::{first_fragment, has_ip_proto, kind_test, network};
+use cap_octet::assigned::{IPPROTO_ICMP, IPPROTO_TCP, IPPROTO_UDP};
 use flt_bpf::operation::{AluOperation, Operand, Operation, Register, Source, Width};
 use flt_words::{Operator, Protocol};
 use std::alloc::{AllocError, Allocator};
@@ -136,9 +137,21 @@ fn put_accessor_tests<A: Allocator>(
         ),
         Protocol::Arp => put_all(code, context, &[kind_test(link, FrameKind::Arp)]),
         Protocol::Rarp => put_all(code, context, &[kind_test(link, FrameKind::Rarp)]),
-        Protocol::Tcp => put_all(code, context, &[ip, has_ip_proto(link, 6), first]),
-        Protocol::Udp => put_all(code, context, &[ip, has_ip_proto(link, 17), first]),
-        Protocol::Icmp => put_all(code, context, &[ip, has_ip_proto(link, 1), first]),
+        Protocol::Tcp => put_all(
+            code,
+            context,
+            &[ip, has_ip_proto(link, IPPROTO_TCP.into()), first],
+        ),
+        Protocol::Udp => put_all(
+            code,
+            context,
+            &[ip, has_ip_proto(link, IPPROTO_UDP.into()), first],
+        ),
+        Protocol::Icmp => put_all(
+            code,
+            context,
+            &[ip, has_ip_proto(link, IPPROTO_ICMP.into()), first],
+        ),
     }
 }
 

@@ -14,6 +14,7 @@ use crate::elementary::{Elementary, FrameKind, Place, PortTest, Ports, Sides, Tr
 use crate::link::Link;
 use crate::put::{put_elementary, put_fork, put_sides};
 use crate::table::{compares_at, first_fragment, has_ip_proto, has_ip6_proto, kind_test, network};
+use cap_octet::assigned::{IPPROTO_TCP, IPPROTO_UDP};
 use flt_bpf::operation::Width;
 use flt_words::{Comparison, Protocol};
 use std::alloc::{AllocError, Allocator};
@@ -163,8 +164,8 @@ fn ip_transport(link: Link) -> Transport
 {
     let start = network(link);
     Transport {
-        tcp: has_ip_proto(link, 6),
-        udp: has_ip_proto(link, 17),
+        tcp: has_ip_proto(link, IPPROTO_TCP.into()),
+        udp: has_ip_proto(link, IPPROTO_UDP.into()),
         whole: Some(first_fragment(link)),
         source: Place::Past(start, start),
         destination: Place::Past(start, start + 2),
@@ -176,8 +177,8 @@ fn ip6_transport(link: Link) -> Transport
 {
     let start = network(link);
     Transport {
-        tcp: has_ip6_proto(link, 6),
-        udp: has_ip6_proto(link, 17),
+        tcp: has_ip6_proto(link, IPPROTO_TCP.into()),
+        udp: has_ip6_proto(link, IPPROTO_UDP.into()),
         whole: None,
         source: Place::At(start + 40),
         destination: Place::At(start + 42),

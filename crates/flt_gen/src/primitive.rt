@@ -14,6 +14,10 @@ use crate::elementary::{Elementary, FieldTest, FrameKind, Place};
 use crate::link::Link;
 use crate::put::{put_all, put_elementary, put_sides};
 use crate::table::{compares_at, has_ip_proto, has_ip6_proto, is_at, kind_test, network};
+use cap_octet::assigned::{
+    ETHERNET_TYPE_OFFSET, IPPROTO_ICMP, IPPROTO_ICMPV6, IPPROTO_TCP, IPPROTO_UDP,
+    LINUX_SLL_TYPE_OFFSET,
+};
 use flt_bpf::operation::Width;
 use flt_lang::Direction;
 use flt_words::{Cast, Comparison, Protocol, Side};
@@ -83,9 +87,12 @@ fn put_ether_proto<A: Allocator>(
     ensures { Emits 12 result context (ether_proto context.link protocol) code.old code.new }
 {
     match context.link {
-        Link::Cooked => put_elementary(code, context, is_at(14, Width::HalfWord, protocol)),
+        Link::Cooked => {
+            let has_type = is_at(LINUX_SLL_TYPE_OFFSET as u32, Width::HalfWord, protocol);
+            put_elementary(code, context, has_type)
+        }
         link => {
-            let has_type = is_at(12, Width::HalfWord, protocol);
+            let has_type = is_at(ETHERNET_TYPE_OFFSET as u32, Width::HalfWord, protocol);
             put_all(
                 code,
                 context,
@@ -121,10 +128,10 @@ pub fn put_check<A: Allocator>(
         Protocol::Ip6 => put_kind(code, context, FrameKind::Ip6),
         Protocol::Arp => put_kind(code, context, FrameKind::Arp),
         Protocol::Rarp => put_kind(code, context, FrameKind::Rarp),
-        Protocol::Tcp => put_any_proto(code, context, 6),
-        Protocol::Udp => put_any_proto(code, context, 17),
-        Protocol::Icmp => put_ip_proto(code, context, 1),
-        Protocol::Icmp6 => put_ip6_proto(code, context, 58),
+        Protocol::Tcp => put_any_proto(code, context, IPPROTO_TCP.into()),
+        Protocol::Udp => put_any_proto(code, context, IPPROTO_UDP.into()),
+        Protocol::Icmp => put_ip_proto(code, context, IPPROTO_ICMP.into()),
+        Protocol::Icmp6 => put_ip6_proto(code, context, IPPROTO_ICMPV6.into()),
     }
 }
 

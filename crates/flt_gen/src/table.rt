@@ -6,6 +6,10 @@ ghost use Rattle.flt_gen.specs.Elementary.{first_fragment, has_ip_proto, has_ip6
 
 use crate::elementary::{Elementary, FieldTest, FrameKind, Place};
 use crate::link::Link;
+use cap_octet::assigned::{
+    ETHERNET_HEADER_LENGTH, ETHERNET_TYPE_OFFSET, ETHERTYPE_ARP, ETHERTYPE_IPV4, ETHERTYPE_IPV6,
+    ETHERTYPE_RARP, LINUX_SLL_HEADER_LENGTH, LINUX_SLL_TYPE_OFFSET,
+};
 use flt_bpf::operation::Width;
 use flt_words::Comparison;
 
@@ -15,9 +19,9 @@ pub fn network(link: Link) -> u32
     ensures near { result ≤ 16 }
 {
     match link {
-        Link::Ether => 14,
+        Link::Ether => ETHERNET_HEADER_LENGTH as u32,
         Link::Raw => 0,
-        Link::Cooked => 16,
+        Link::Cooked => LINUX_SLL_HEADER_LENGTH as u32,
     }
 }
 
@@ -54,26 +58,34 @@ pub fn compares_at(place: Place, width: Width, comparison: Comparison, value: u3
     })
 }
 
+/// The link header has this EtherType at a place.
+fn has_type(at: usize, ethertype: u16) -> Elementary
+    requires { at ≤ 16 }
+    ensures { result ≡ is_at at Width.HalfWord ethertype }
+{
+    is_at(at as u32, Width::HalfWord, u32::from(ethertype))
+}
+
 /// A frame is of a kind: by the type in its Ethernet header, else by the version in its first byte.
 pub fn kind_test(link: Link, kind: FrameKind) -> Elementary
     ensures { result ≡ kind_test link kind }
 {
     match (link, kind) {
         (Link::Ether, FrameKind::Ethernet) => Elementary::Known(true),
-        (Link::Ether, FrameKind::Ip) => is_at(12, Width::HalfWord, 0x0800),
-        (Link::Ether, FrameKind::Ip6) => is_at(12, Width::HalfWord, 0x86dd),
-        (Link::Ether, FrameKind::Arp) => is_at(12, Width::HalfWord, 0x0806),
-        (Link::Ether, FrameKind::Rarp) => is_at(12, Width::HalfWord, 0x8035),
+        (Link::Ether, FrameKind::Ip) => has_type(ETHERNET_TYPE_OFFSET, ETHERTYPE_IPV4),
+        (Link::Ether, FrameKind::Ip6) => has_type(ETHERNET_TYPE_OFFSET, ETHERTYPE_IPV6),
+        (Link::Ether, FrameKind::Arp) => has_type(ETHERNET_TYPE_OFFSET, ETHERTYPE_ARP),
+        (Link::Ether, FrameKind::Rarp) => has_type(ETHERNET_TYPE_OFFSET, ETHERTYPE_RARP),
         (Link::Raw, FrameKind::Ip) => is_masked(0, Width::Byte, 0xf0, 0x40),
         (Link::Raw, FrameKind::Ip6) => is_masked(0, Width::Byte, 0xf0, 0x60),
         (Link::Raw, FrameKind::Ethernet | FrameKind::Arp | FrameKind::Rarp) => Elementary::Known(
             false,
         ),
         (Link::Cooked, FrameKind::Ethernet) => Elementary::Known(false),
-        (Link::Cooked, FrameKind::Ip) => is_at(14, Width::HalfWord, 0x0800),
-        (Link::Cooked, FrameKind::Ip6) => is_at(14, Width::HalfWord, 0x86dd),
-        (Link::Cooked, FrameKind::Arp) => is_at(14, Width::HalfWord, 0x0806),
-        (Link::Cooked, FrameKind::Rarp) => is_at(14, Width::HalfWord, 0x8035),
+        (Link::Cooked, FrameKind::Ip) => has_type(LINUX_SLL_TYPE_OFFSET, ETHERTYPE_IPV4),
+        (Link::Cooked, FrameKind::Ip6) => has_type(LINUX_SLL_TYPE_OFFSET, ETHERTYPE_IPV6),
+        (Link::Cooked, FrameKind::Arp) => has_type(LINUX_SLL_TYPE_OFFSET, ETHERTYPE_ARP),
+        (Link::Cooked, FrameKind::Rarp) => has_type(LINUX_SLL_TYPE_OFFSET, ETHERTYPE_RARP),
     }
 }
 

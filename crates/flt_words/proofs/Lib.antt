@@ -1,4 +1,3 @@
-pub mod Numerals
 pub mod Digits
 pub mod Answering
 pub mod Radices

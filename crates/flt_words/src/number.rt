@@ -1,12 +1,10 @@
 //! Numbers in words, and the range of two.
 
-ghost use Rattle.std.specs.Prelude.{◌≡◌, ◌≤◌, ◌<◌, ◌^◌, ◌+◌, ◌*◌, ◌&&◌, ◌==◌};
-ghost use Rattle.std.specs.Prelude.{IfSome, IfNone, position, true, nat_lt};
-ghost use Rattle.std.specs.Char.{digit_value};
-ghost use Rattle.std.specs.List.{list_all};
-ghost use Rattle.std.specs.Str.Parse.{digits_value};
+ghost use Rattle.std.specs.Prelude.{◌≡◌, ◌≤◌, ◌&&◌, ◌==◌, position};
 ghost use Rattle.flt_words.specs.Numbers.{Answers, IsNumber, IsRange, Writes};
 ghost use Rattle.flt_words.specs.Numbers.{WritesDecimal, both, is_word_sized};
+
+use cap_octet::digits::{are_digits, digits_number};
 
 /// Why a word has no value.
 #[derive(Clone, Copy)]
@@ -17,62 +15,19 @@ pub(crate) enum WordFault {
     TooLarge,
 }
 
-fn is_digit(radix: u32, byte: u8) -> bool
-    requires low { 2 ≤ radix }
-    requires high { radix ≤ 16 }
-    ensures { result ≡ nat_lt (digit_value byte) radix }
-{
-    (byte as char).is_digit(radix)
-}
-
-fn all_digits(radix: u32, digits: &[u8]) -> bool
-    requires low { 2 ≤ radix }
-    requires high { radix ≤ 16 }
-    ensures { result ≡ list_all (λ b. nat_lt (digit_value b) radix) digits.now }
-{
-    digits.iter().all(|byte| is_digit(radix, *byte))
-}
-
-/// The number with one more digit, if it is below 2^32.
-fn with_digit(number: u32, radix: u32, byte: u8) -> Option<u32>
-    requires low { 2 ≤ radix }
-    requires high { radix ≤ 16 }
-    requires digit { digit_value byte < radix }
-    ensures value { IfSome result (λ n. n ≡ number * radix + digit_value byte) }
-    ensures large { IfNone result (2 ^ 32 ≤ number * radix + digit_value byte) }
-{
-    let digit = (byte as char).to_digit(radix)?;
-    number.checked_mul(radix)?.checked_add(digit)
-}
-
-/// The number that digits write, if it is below 2^32.
-#[tactic(auto, using(crate::proofs::Numerals::whole_grows))]
-fn small_number(radix: u32, digits: &[u8]) -> Option<u32>
-    requires low { 2 ≤ radix }
-    requires high { radix ≤ 16 }
-    requires digits { list_all (λ b. nat_lt (digit_value b) radix) digits.now ≡ true }
-    ensures value { IfSome result (λ n. n ≡ digits_value radix digits.now) }
-    ensures large { IfNone result (2 ^ 32 ≤ digits_value radix digits.now) }
-{
-    let mut number: u32 = 0;
-    for byte in digits {
-        number = with_digit(number, radix, *byte)?;
-    }
-    Some(number)
-}
-
 /// The number that digits write.
 pub(crate) fn numeral(radix: u32, digits: &[u8]) -> Result<u32, WordFault>
     requires low { 2 ≤ radix }
     requires high { radix ≤ 16 }
     ensures { Answers (Writes radix digits.now) is_word_sized result }
 {
-    if digits.is_empty() || !all_digits(radix, digits) {
+    if digits.is_empty() || !are_digits(radix, digits) {
         return Err(WordFault::Unknown);
     }
-    match small_number(radix, digits) {
-        Some(number) => Ok(number),
+    match digits_number(radix, digits) {
         None => Err(WordFault::TooLarge),
+        Some(number) if number > 0xffff_ffff => Err(WordFault::TooLarge),
+        Some(number) => Ok(number as u32),
     }
 }
 

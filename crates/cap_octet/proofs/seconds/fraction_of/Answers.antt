@@ -1,6 +1,7 @@
 use Rattle.std.proofs.Common.{◌≡◌, ◌∙◌, sym, arith, Some, None}
-use Rattle.cap_octet.specs.Seconds.{number_of}
-use Rattle.cap_octet.proofs.Spans.{few_in_u64, part_below, part_none}
+use Rattle.cap_octet.specs.Digits.{number_of}
+use Rattle.cap_octet.proofs.Numerals.{few_in_u64}
+use Rattle.cap_octet.proofs.Spans.{part_below, part_none}
 use Rattle.cap_octet.proofs.seconds.fraction_of.Goals as goal
 
 pub returns-in_err-number : goal.returns-in_err-number

@@ -1,7 +1,8 @@
 use Rattle.std.proofs.Common.{◌≡◌, ◌∙◌, sym, Some, None, ◌==◌, ◌+◌, take, drop}
 use Rattle.std.specs.Prelude.{position}
 use Rattle.std.proofs.lemmas.List.{take_rest}
-use Rattle.cap_octet.specs.Seconds.{span_value, number_of, fraction_of}
+use Rattle.cap_octet.specs.Digits.{number_of}
+use Rattle.cap_octet.specs.Seconds.{span_value, fraction_of}
 use Rattle.cap_octet.proofs.Spans.{span_with_in_u64}
 use Rattle.cap_octet.proofs.seconds.span_of.Goals as goal
 

@@ -1,0 +1,58 @@
+-- What digits write: more digits make it no less, and few digits less than 2^64.
+use Rattle.std.proofs.Common.{◌≡◌, ℕ, ◌+◌, ◌*◌, ◌^◌, ◌<◌, ◌≤◌, Bool, true, false, nat_lt, ◌&&◌, ◌==◌, not, List, [], ◌∷◌, length, drop, get_or, Some, None, refl, arith, if◌then◌else◌}
+use Rattle.std.proofs.Math.Nat.{mul-le-mul_left, pow-le-pow_right}
+use Rattle.std.proofs.lemmas.Bool.{lt-ltb}
+use Rattle.std.proofs.lemmas.Bool.Decides.{nat_tests}
+use Rattle.std.proofs.lemmas.Int.Digits.{digits_value-lt}
+use Rattle.std.proofs.lemmas.List.{at_drop_more}
+use Rattle.std.specs.Char.{digit_value}
+use Rattle.std.specs.Str.Parse.{AllDigits, digits_value_after, digits_value}
+use Rattle.cap_octet.specs.Digits.{are_digits, number_of, in_u64}
+
+pub grows : (radix n : ℕ) (cs : List ℕ) → 1 ≤ radix → n ≤ digits_value_after radix n cs
+grows radix n [] h = omega arith
+grows radix n (c ∷ cs) h =
+    let more = grows radix (n * radix + digit_value c) cs h in
+    omega (arith, more, mul-le-mul_left n h)
+
+-- the whole is at least the number with the digit at i
+pub whole_grows : (radix n i : ℕ) (cs : List ℕ) → 1 ≤ radix → i < length cs → digits_value_after radix n (drop i cs) ≡ digits_value radix cs → n * radix + digit_value (get_or cs i 0) ≤ digits_value radix cs
+whole_grows radix n i cs h within rest =
+    let step = at_drop_more (digits_value_after radix n) cs i 0 within in
+    let more = grows radix (n * radix + digit_value (get_or cs i 0)) (drop (i + 1) cs) h in
+    omega (arith, more, step, rest)
+
+pub both : (a b : Bool) → a && b ≡ true → (a ≡ true) × (b ≡ true)
+both true b h = (refl, h)
+both false b h = absurd (cc)
+
+below : (m n : ℕ) → nat_lt m n ≡ true → m < n
+below m n h = grind (arith, nat_tests)
+
+-- bytes are digits where the test says so
+pub digits_from_test : (radix : ℕ) (ds : List ℕ) → are_digits radix ds ≡ true → AllDigits radix ds
+digits_from_test radix [] pass = tt
+digits_from_test radix (d ∷ ds) pass =
+    let parts = both (nat_lt (digit_value d) radix) (are_digits radix ds) pass in
+    (below (digit_value d) radix parts.0, digits_from_test radix ds parts.1)
+
+pub digits_pass : (radix : ℕ) (ds : List ℕ) → AllDigits radix ds → are_digits radix ds ≡ true
+digits_pass radix [] all = refl
+digits_pass radix (d ∷ ds) all = pass_more (digit_value d) radix (are_digits radix ds) all.0 (digits_pass radix ds all.1)
+  where
+    pass_more : (m n : ℕ) (rest : Bool) → m < n → rest ≡ true → nat_lt m n && rest ≡ true
+    pass_more m n rest h more = rw more (grind (arith, nat_tests))
+
+pub below_ten_to : (ds : List ℕ) → are_digits 10 ds ≡ true → digits_value 10 ds < 10 ^ length ds
+below_ten_to ds pass = digits_value-lt 10 ds (digits_from_test 10 ds pass)
+
+tests_in : (b : Bool) (v : ℕ) → (b ≡ true → v < 2 ^ 64) → in_u64 (if b then Some v else None) ≡ (if b then Some v else None)
+tests_in true v h = rw (lt-ltb v (2 ^ 64) (h refl)) refl
+tests_in false v h = refl
+
+-- up to 19 digits write less than 2^64
+pub few_in_u64 : (ds : List ℕ) → length ds ≤ 19 → in_u64 (number_of ds) ≡ number_of ds
+few_in_u64 ds few = tests_in (not (length ds == 0) && are_digits 10 ds) (digits_value 10 ds)
+    (λ pass. (let some = below_ten_to ds (both (not (length ds == 0)) (are_digits 10 ds) pass).1 in
+    let most : 10 ^ length ds ≤ 10 ^ 19 = pow-le-pow_right (omega arith) few in
+    let in_full : 10 ^ length ds ≤ 10000000000000000000 = most in omega arith))

@@ -1,7 +1,0 @@
--- The number so far, followed by the digits that are left, is the whole.
-use Rattle.std.proofs.Common.{◌≡◌, drop}
-use Rattle.std.specs.Str.Parse.{digits_value, digits_value_after}
-use Rattle.flt_words.proofs.number.small_number.Given as goal
-
-abbrev pub invariant-loop-byte : goal.invariant-loop-byte
-invariant-loop-byte l = digits_value_after l.radix l.number (drop l.byte-index l.digits) ≡ digits_value l.radix l.digits
