@@ -24,7 +24,8 @@ use Rattle.flt_bpf.specs.Instructions.{operation_of, code_of}
 use Rattle.flt_gen.specs.Elementary.{network}
 use Rattle.flt_gen.specs.Numbers.{width_of}
 use Rattle.flt_gen.specs.Formula.{Formula, Single, Compare, Both, Either, Except, Guard, Fork, Choose, Among}
-use Rattle.flt_gen.specs.Code.{plain, computation, constant, constant_operand, branch_insn, jump_before, branch_before, comparison_before, field_before, mask_before, base_before, transport_before, accessor_before, number_before, Entered, at_top, chain_before, search_before, LEVELS, elementary_before, fork_before, emitted, NEAR}
+use Rattle.flt_gen.specs.declared.code.Reach.TheVariants.{Near, YesFar, NoFar, BothFar}
+use Rattle.flt_gen.specs.Code.{plain, computation, constant, constant_operand, branch_insn, jump_before, branch_before, branch_by, comparison_before, field_before, mask_before, base_before, transport_before, accessor_before, number_before, Entered, at_top, chain_before, search_before, LEVELS, elementary_before, fork_before, emitted, NEAR}
 use Rattle.flt_gen.specs.declared.follow.Knowledge.{Knowledge}
 use Rattle.flt_gen.specs.Follow.{and_fork, load_code, fact, always, and_fact, target}
 use Rattle.flt_gen.specs.declared.elementary.Elementary.{Elementary}
@@ -139,7 +140,7 @@ needed_two c t o k hit miss far_hit far_miss h = record { each = at }
         record { from = 0; branch = branch_insn t o k 0 1; there = refl; branches = branch_tests t o k 0 1; leads = inr refl; far = omega arith }
     at (suc (suc (suc place))) jump g e = one_later _ _ (suc (suc place)) jump (one_later _ _ (suc place) jump (one_later c _ place jump (h.each place jump g e)))
 
-needed_choice : (t : Test) (o : Operand) (k hit miss : ℕ) (c : List Insn) → JumpsAreNeeded c → (a b d : Bool) → a ≡ (nat_le (length c - hit) NEAR && nat_le (length c - miss) NEAR) → b ≡ nat_le (length c + 1 - miss) NEAR → d ≡ nat_le (length c + 1 - hit) NEAR → JumpsAreNeeded (if a then branch_insn t o k (length c - hit) (length c - miss) ∷ c else (if b then branch_insn t o k 0 (length c + 1 - miss) ∷ jump_before hit c else (if d then branch_insn t o k (length c + 1 - hit) 0 ∷ jump_before miss c else branch_insn t o k 0 1 ∷ jump_before hit (jump_before miss c))))
+needed_choice : (t : Test) (o : Operand) (k hit miss : ℕ) (c : List Insn) → JumpsAreNeeded c → (a b d : Bool) → a ≡ (nat_le (length c - hit) NEAR && nat_le (length c - miss) NEAR) → b ≡ nat_le (length c + 1 - miss) NEAR → d ≡ nat_le (length c + 1 - hit) NEAR → JumpsAreNeeded (branch_by (if a then Near else (if b then YesFar else (if d then NoFar else BothFar))) t o k hit miss c)
 needed_choice t o k hit miss c h true b d ea eb ed = needed_put c _ (branch_no_jump t o) h
 needed_choice t o k hit miss c h false true d ea eb ed =
     let far : NEAR < length c - hit = grind (arith, nat_tests) in

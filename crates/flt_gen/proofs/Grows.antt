@@ -1,6 +1,6 @@
 -- The code of a formula has no fault, and no more instructions than its bound.
 use Rattle.std.proofs.Common.{◌≡◌, ℕ, zero, suc, ◌+◌, ◌-◌, ◌*◌, ◌/◌, ◌<◌, ◌≤◌, List, [], ◌∷◌, length, take, drop, get_or, Bool, true, false, Option, Some, None, refl, ap, ◌∙◌, arith, length-drop, length-take}
-use Rattle.std.specs.Prelude.{nat_lt, nat_le, ◌==◌, not, ◌&&◌, if◌then◌else◌}
+use Rattle.std.specs.Prelude.{nat_lt, ◌==◌, not, ◌&&◌, if◌then◌else◌}
 use Rattle.std.proofs.lemmas.Bool.Decides.{nat_tests}
 use Rattle.flt_bpf.specs.declared.insn.Insn.{Insn}
 use Rattle.flt_bpf.specs.declared.operation.Width.{Width}
@@ -29,13 +29,13 @@ use Rattle.flt_gen.specs.Numbers.{width_of}
 use Rattle.flt_gen.specs.Formula.{Formula, Single, Compare, Both, Either, Except, Guard, Fork, Choose, Among}
 use Rattle.flt_lang.specs.Counts.{number_words, number_size}
 use Rattle.flt_gen.specs.Counts.{words, nodes, tests}
-use Rattle.flt_gen.specs.Code.{plain, computation, takes, constant, constant_operand, branch_insn, jump_before, branch_before, comparison_before, field_before, mask_before, base_before, transport_before, accessor_before, number_before, Entered, at_top, chain_before, search_before, LEVELS, elementary_before, fork_before, emitted, NEAR}
+use Rattle.flt_gen.specs.Code.{plain, computation, takes, constant, constant_operand, branch_insn, jump_before, branch_before, reach, comparison_before, field_before, mask_before, base_before, transport_before, accessor_before, number_before, Entered, at_top, chain_before, search_before, LEVELS, elementary_before, fork_before, emitted}
 use Rattle.flt_gen.specs.declared.follow.Knowledge.{Knowledge}
 use Rattle.flt_gen.specs.Follow.{and_fork, fact, always, and_fact, target}
 use Rattle.flt_gen.specs.declared.elementary.Elementary.{Elementary}
 use Rattle.flt_gen.proofs.Onward.{target_inside}
 use Rattle.flt_bpf.proofs.Suffix.{IsFaultless}
-use Rattle.flt_gen.proofs.Tails.{one_of_four, by_test, by_right}
+use Rattle.flt_gen.proofs.Tails.{by_reach, by_test, by_right}
 use Rattle.flt_gen.proofs.Numbers.{operand_is}
 use Rattle.flt_bpf.specs.declared.operation.Operation.TheVariants.{LoadAbsolute, LoadIndirect, Load, LoadHeaderLength, Store, Compute, Negate, Jump, CopyToIndex}
 use Rattle.flt_bpf.specs.declared.operation.Register.TheVariants.{Accumulator}
@@ -182,7 +182,7 @@ branch_grows t operand k hit miss c s e ph lh pm lm =
     let one_miss = grows_put c c 0 1 (plain Jump (length c - miss)) none (jump_fine (length c - miss) (length c) (omega arith)) (omega arith) in
     let j = plain Jump (length c - miss) in
     let two = grows_put c (j ∷ c) 1 2 (plain Jump (length (j ∷ c) - hit)) one_miss (jump_fine (length (j ∷ c) - hit) (length (j ∷ c)) (omega arith)) (omega arith) in
-    one_of_four (λ d. Grows c d 3) (nat_le (length c - hit) NEAR && nat_le (length c - miss) NEAR) (nat_le (length c + 1 - miss) NEAR) (nat_le (length c + 1 - hit) NEAR) _ _ _ _
+    by_reach (λ d. Grows c d 3) (reach hit miss c) t operand k hit miss c
     (grows_put c c 0 3 _ none (branch_fine t operand k (length c - hit) (length c - miss) (length c) (omega arith) (omega arith)) (omega arith))
     (grows_put c (jump_before hit c) 1 3 _ one_hit (branch_fine t operand k 0 (length c + 1 - miss) (length (jump_before hit c)) (omega arith) (omega arith)) (omega arith))
     (grows_put c (jump_before miss c) 1 3 _ one_miss (branch_fine t operand k (length c + 1 - hit) 0 (length (jump_before miss c)) (omega arith) (omega arith)) (omega arith))

@@ -19,7 +19,7 @@ use Rattle.flt_gen.specs.declared.elementary.Elementary.TheVariants.{Known, Fiel
 use Rattle.flt_gen.specs.declared.elementary.Fact.{Fact}
 use Rattle.flt_gen.specs.Elementary.{Reading, Yes, No, Rejected, reading_of, with, compares, field_at, masked, elementary_reads}
 use Rattle.flt_gen.specs.declared.follow.Knowledge.{Knowledge}
-use Rattle.flt_gen.specs.Follow.{load_code, same_mask, same_place, is_equal, says_value, test_says, first_of, looks_at, decided, chosen, past_mask, past_load, onward, one_on, two_on, four_on, eight_on, fact, facts_of, agreed, followed, past_index, target}
+use Rattle.flt_gen.specs.Follow.{load_code, same_mask, same_place, is_equal, says_value, test_says, first_of, looks_at, decided, chosen, past_mask, past_load, onward, step_from, follow, MOST_STEPS, fact, facts_of, agreed, followed, past_index, target}
 use Rattle.flt_bpf.proofs.Suffix.{answer_of, answer_after, answer_drop}
 use Rattle.flt_gen.proofs.Tails.{tail, Extends, extends_none, extends_put, extends_on}
 
@@ -324,7 +324,7 @@ module _ (p : List ℕ) (n : ℕ) where
         same = λ r k. (let m : length c - r ≡ (length c - place) + (place - r) = omega arith in ap (λ j. drop j c) m) ∙ sym (drop-drop (place - r) (length c - place) c) ∙ (let m : place - r ≡ length (tail c place) - r = omega arith in ap (λ j. drop j (tail c place)) m);
       }
 
-  one_leads : (c : List Insn) (facts : List Fact) (u place : ℕ) → Settled c → place ≤ length c → Leads c place u → Onward c facts u (one_on c facts place)
+  one_leads : (c : List Insn) (facts : List Fact) (u place : ℕ) → Settled c → place ≤ length c → Leads c place u → Onward c facts u (step_from c facts place)
   one_leads c facts u place s l h =
       let d = tail c place in
       let x = tail_extends c place l in
@@ -337,20 +337,12 @@ module _ (p : List ℕ) (n : ℕ) where
   then_leads : (c : List Insn) (facts : List Fact) (u r r' : ℕ) (o : Onward c facts u r) → Onward c facts o.v r' → Onward c facts u r'
   then_leads c facts u r r' o o' = record { v = o'.v; leads = o'.leads; inside = o'.inside; right = λ f. o'.right f ∙ o.right f }
 
-  two_leads : (c : List Insn) (facts : List Fact) (u place : ℕ) → Settled c → place ≤ length c → Leads c place u → Onward c facts u (two_on c facts place)
-  two_leads c facts u place s l h =
+  follow_leads : (k : ℕ) (c : List Insn) (facts : List Fact) (u place : ℕ) → Settled c → place ≤ length c → Leads c place u → Onward c facts u (follow k c facts place)
+  unfolding follow
+  follow_leads zero c facts u place s l h = record { v = u; leads = h; inside = l; right = λ f. refl }
+  follow_leads (suc k) c facts u place s l h =
       let o = one_leads c facts u place s l h in
-      then_leads c facts u _ _ o (one_leads c facts o.v _ s o.inside o.leads)
-
-  four_leads : (c : List Insn) (facts : List Fact) (u place : ℕ) → Settled c → place ≤ length c → Leads c place u → Onward c facts u (four_on c facts place)
-  four_leads c facts u place s l h =
-      let o = two_leads c facts u place s l h in
-      then_leads c facts u _ _ o (two_leads c facts o.v _ s o.inside o.leads)
-
-  eight_leads : (c : List Insn) (facts : List Fact) (u place : ℕ) → Settled c → place ≤ length c → Leads c place u → Onward c facts u (eight_on c facts place)
-  eight_leads c facts u place s l h =
-      let o = four_leads c facts u place s l h in
-      then_leads c facts u _ _ o (four_leads c facts o.v _ s o.inside o.leads)
+      then_leads c facts u _ _ o (follow_leads k c facts o.v _ s o.inside o.leads)
 
   -- what is known at a place holds of the packet
   pub record KnowledgeHolds (known : Knowledge) : Type 0 where
@@ -382,7 +374,7 @@ module _ (p : List ℕ) (n : ℕ) where
   pub followed_leads : (c : List Insn) (known : Knowledge) (own : Fact) (u place : ℕ) → Settled c → place ≤ length c → Leads c place u → Followed c known own u (followed c known own place)
   unfolding followed
   followed_leads c known own u place s l h =
-      agreed_followed c known own u _ _ _ (eight_leads c _ u place s l h) (eight_leads c _ u place s l h) (eight_leads c _ u place s l h)
+      agreed_followed c known own u _ _ _ (follow_leads MOST_STEPS c _ u place s l h) (follow_leads MOST_STEPS c _ u place s l h) (follow_leads MOST_STEPS c _ u place s l h)
 
   -- X is ready for code behind a test at a place: past a header it holds that header's length
   abbrev pub Ready : Place → ℕ → Type 0
@@ -489,28 +481,24 @@ onward_inside facts place (i ∷ is) p l =
     (λ e. (omega arith, omega arith))
     (λ e. past_load_inside facts place i.code i.k is p (omega arith))
 
-one_inside : (c : List Insn) (facts : List Fact) (place : ℕ) → 0 < place → place ≤ length c → Inside (length c) (one_on c facts place)
+one_inside : (c : List Insn) (facts : List Fact) (place : ℕ) → 0 < place → place ≤ length c → Inside (length c) (step_from c facts place)
 one_inside c facts place p l =
     let long_is = length-drop (length c - place) c in
     let i = onward_inside facts place (drop (length c - place) c) p (omega arith) in
     let j = i.1 in
     (i.0, omega arith)
 
-two_inside : (c : List Insn) (facts : List Fact) (place : ℕ) → 0 < place → place ≤ length c → Inside (length c) (two_on c facts place)
-two_inside c facts place p l = let i = one_inside c facts place p l in one_inside c facts _ i.0 i.1
-
-four_inside : (c : List Insn) (facts : List Fact) (place : ℕ) → 0 < place → place ≤ length c → Inside (length c) (four_on c facts place)
-four_inside c facts place p l = let i = two_inside c facts place p l in two_inside c facts _ i.0 i.1
-
-eight_inside : (c : List Insn) (facts : List Fact) (place : ℕ) → 0 < place → place ≤ length c → Inside (length c) (eight_on c facts place)
-eight_inside c facts place p l = let i = four_inside c facts place p l in four_inside c facts _ i.0 i.1
+follow_inside : (k : ℕ) (c : List Insn) (facts : List Fact) (place : ℕ) → 0 < place → place ≤ length c → Inside (length c) (follow k c facts place)
+unfolding follow
+follow_inside zero c facts place p l = (p, l)
+follow_inside (suc k) c facts place p l = let i = one_inside c facts place p l in follow_inside k c facts _ i.0 i.1
 
 pub followed_inside : (c : List Insn) (known : Knowledge) (own : Fact) (place : ℕ) → 0 < place → place ≤ length c → Inside (length c) (followed c known own place)
 unfolding followed
 followed_inside c known own place p l =
-    let a = eight_on c (own ∷ fact known.either.first true ∷ facts_of known) place in
-    let b = eight_on c (own ∷ fact known.either.second true ∷ facts_of known) place in
-    by_bool (λ r. Inside (length c) r) (a == b) _ _ (λ e. eight_inside c (own ∷ fact known.either.first true ∷ facts_of known) place p l) (λ e. eight_inside c (own ∷ facts_of known) place p l)
+    let a = follow MOST_STEPS c (own ∷ fact known.either.first true ∷ facts_of known) place in
+    let b = follow MOST_STEPS c (own ∷ fact known.either.second true ∷ facts_of known) place in
+    by_bool (λ r. Inside (length c) r) (a == b) _ _ (λ e. follow_inside MOST_STEPS c (own ∷ fact known.either.first true ∷ facts_of known) place p l) (λ e. follow_inside MOST_STEPS c (own ∷ facts_of known) place p l)
 
 index_inside : (tested : Place) (place : ℕ) (d : List Insn) → 0 < place → length d ≤ place → Inside place (past_index tested place d)
 index_inside (At a) place d p l = (p, omega arith)

@@ -1,6 +1,6 @@
 -- The code of a formula goes on where the formula's reading says.
 use Rattle.std.proofs.Common.{◌≡◌, ℕ, zero, suc, ◌+◌, ◌-◌, ◌/◌, ◌%◌, ◌^◌, ◌<◌, ◌≤◌, List, [], ◌∷◌, length, take, drop, get_or, Bool, true, false, Option, Some, None, refl, sym, ap, ◌∙◌, arith, ◌⊎◌, inl, inr}
-use Rattle.std.specs.Prelude.{◌≢◌, nat_le, nat_lt, ◌==◌, not, ◌&&◌, ◌||◌, if◌then◌else◌, bit_and}
+use Rattle.std.specs.Prelude.{◌≢◌, nat_le, nat_lt, ◌==◌, not, ◌||◌, if◌then◌else◌, bit_and}
 use Rattle.std.specs.Option.{option_map}
 use Rattle.std.proofs.lemmas.Bool.Decides.{nat_tests}
 use Rattle.flt_bpf.specs.Instructions.{code_of}
@@ -39,9 +39,9 @@ use Rattle.flt_gen.specs.Numbers.{number}
 use Rattle.flt_gen.specs.Formula.{Formula, Single, Compare, Both, Either, Except, Guard, Fork, Choose, Among, is_one_of, among_reads, relation_reads, both, either, negated as exchanged, reads}
 use Rattle.flt_lang.specs.Counts.{number_words}
 use Rattle.flt_gen.specs.Counts.{words}
-use Rattle.flt_gen.specs.Code.{plain, computation, constant, constant_operand, base_before, transport_before, accessor_before, elementary_before, jump_before, branch_before, comparison_before, field_before, mask_before, test_before, operands_before, number_before, relation_before, Entered, at_top, chain_before, search_before, LEVELS, among_before, emitted, NEAR}
+use Rattle.flt_gen.specs.Code.{plain, computation, constant, constant_operand, base_before, transport_before, accessor_before, elementary_before, jump_before, branch_before, reach, comparison_before, field_before, mask_before, test_before, operands_before, number_before, relation_before, Entered, at_top, chain_before, search_before, LEVELS, among_before, emitted}
 use Rattle.flt_bpf.proofs.Suffix.{answer_of, answer_after}
-use Rattle.flt_gen.proofs.Tails.{Extends, extends_none, extends_put, extends_on, branch_extends, field_extends, mask_extends, one_of_four, by_test, by_right, test_extends, relation_extends, search_extends}
+use Rattle.flt_gen.proofs.Tails.{Extends, extends_none, extends_put, extends_on, branch_extends, field_extends, mask_extends, by_reach, by_test, by_right, test_extends, relation_extends, search_extends}
 use Rattle.flt_gen.proofs.Ascending.{Ascending, Searchable, searchable_ascends, ascending_take, ascending_drop, lower_half, upper_half}
 use Rattle.flt_gen.specs.declared.elementary.MaskedField.{MaskedField}
 use Rattle.flt_bpf.proofs.Suffix.{answer_drop}
@@ -89,7 +89,7 @@ module _ (p : List ℕ) (n : ℕ) where
   branch_runs : (tested : Place) (t : Test) (operand : Operand) (k hit miss v w : ℕ) (c : List Insn) (s : State) → length s.memory ≡ 16 → Ready p n tested s.index → hit ≤ length c → miss ≤ length c → LeadsReady p n tested c hit v → LeadsReady p n tested c miss w → answer_of (branch_before t operand k hit miss c) p n 0 s ≡ Some (if holds t s.accumulator (value_of operand k s.index) then v else w)
   unfolding branch_before
   branch_runs tested t operand k hit miss v w c s long ready lh lm h m =
-      one_of_four Fine (nat_le (length c - hit) NEAR && nat_le (length c - miss) NEAR) (nat_le (length c + 1 - miss) NEAR) (nat_le (length c + 1 - hit) NEAR) _ _ _ _
+      by_reach Fine (reach hit miss c) t operand k hit miss c
       (run_branch p n t operand k (length c - hit) (length c - miss) c s ∙ two_ways c _ _ v w s truth (h.by s long ready) (m.by s long ready))
       (run_branch p n t operand k 0 (length c + 1 - miss) (jump_before hit c) s ∙ two_ways (jump_before hit c) _ _ v w s truth (jump_top tested c hit v s long ready h) (past_jump tested c _ miss w s long ready lm m))
       (run_branch p n t operand k (length c + 1 - hit) 0 (jump_before miss c) s ∙ two_ways (jump_before miss c) _ _ v w s truth (past_jump tested c _ hit v s long ready lh h) (jump_top tested c miss w s long ready m))
@@ -111,7 +111,7 @@ module _ (p : List ℕ) (n : ℕ) where
   branch_at : (t : Test) (operand : Operand) (k hit miss v w : ℕ) (c : List Insn) (s : State) → hit ≤ length c → miss ≤ length c → answer_of c p n (length c - hit) s ≡ Some v → answer_of c p n (length c - miss) s ≡ Some w → answer_of (branch_before t operand k hit miss c) p n 0 s ≡ Some (if holds t s.accumulator (value_of operand k s.index) then v else w)
   unfolding branch_before
   branch_at t operand k hit miss v w c s lh lm h m =
-      one_of_four Fine (nat_le (length c - hit) NEAR && nat_le (length c - miss) NEAR) (nat_le (length c + 1 - miss) NEAR) (nat_le (length c + 1 - hit) NEAR) _ _ _ _
+      by_reach Fine (reach hit miss c) t operand k hit miss c
       (run_branch p n t operand k (length c - hit) (length c - miss) c s ∙ two_ways c _ _ v w s truth h m)
       (run_branch p n t operand k 0 (length c + 1 - miss) (jump_before hit c) s ∙ two_ways (jump_before hit c) _ _ v w s truth (run_jump p n (length c - hit) c s ∙ h) (past_at c _ miss w s lm m))
       (run_branch p n t operand k (length c + 1 - hit) 0 (jump_before miss c) s ∙ two_ways (jump_before miss c) _ _ v w s truth (past_at c _ hit v s lh h) (run_jump p n (length c - miss) c s ∙ m))
@@ -300,7 +300,7 @@ module _ (p : List ℕ) (n : ℕ) where
   branch_settled : (t : Test) (operand : Operand) (k hit miss : ℕ) (c : List Insn) → Calm c → Calm (branch_before t operand k hit miss c)
   unfolding branch_before
   branch_settled t operand k hit miss c z =
-      one_of_four (λ d. Calm d) (nat_le (length c - hit) NEAR && nat_le (length c - miss) NEAR) (nat_le (length c + 1 - miss) NEAR) (nat_le (length c + 1 - hit) NEAR) _ _ _ _
+      by_reach (λ d. Calm d) (reach hit miss c) t operand k hit miss c
       (settled_put c _ (test_no_load t operand) z)
       (settled_put (jump_before hit c) _ (test_no_load t operand) (settled_put c _ refl z))
       (settled_put (jump_before miss c) _ (test_no_load t operand) (settled_put c _ refl z))
@@ -314,7 +314,7 @@ module _ (p : List ℕ) (n : ℕ) where
   branch_behind : (t : Test) (operand : Operand) (k hit miss v w : ℕ) (c : List Insn) → hit ≤ length c → miss ≤ length c → Leads p n c hit v → Leads p n c miss w → Behind (branch_before t operand k hit miss c)
   unfolding branch_before
   branch_behind t operand k hit miss v w c lh lm h m =
-      one_of_four (λ d. Behind d) (nat_le (length c - hit) NEAR && nat_le (length c - miss) NEAR) (nat_le (length c + 1 - miss) NEAR) (nat_le (length c + 1 - hit) NEAR) _ _ _ _
+      by_reach (λ d. Behind d) (reach hit miss c) t operand k hit miss c
       (record { branches = λ e. (settles_at c hit v h, settles_at c miss w m); masked = λ e. absurd (test_no_mask t operand e) })
       (record { branches = λ e. (settles_jump c hit v h, settles_past c (plain Jump (length c - hit)) miss w lm m); masked = λ e. absurd (test_no_mask t operand e) })
       (record { branches = λ e. (settles_past c (plain Jump (length c - miss)) hit v lh h, settles_jump c miss w m); masked = λ e. absurd (test_no_mask t operand e) })
@@ -404,7 +404,7 @@ module _ (p : List ℕ) (n : ℕ) where
   other_behind : (k hit miss : ℕ) (c : List Insn) → Behind (branch_before test.AtLeast Constant k hit miss c)
   unfolding branch_before
   other_behind k hit miss c =
-      one_of_four (λ d. Behind d) (nat_le (length c - hit) NEAR && nat_le (length c - miss) NEAR) (nat_le (length c + 1 - miss) NEAR) (nat_le (length c + 1 - hit) NEAR) _ _ _ _
+      by_reach (λ d. Behind d) (reach hit miss c) test.AtLeast Constant k hit miss c
       (record { branches = λ e. absurd (omega arith); masked = λ e. absurd (omega arith) })
       (record { branches = λ e. absurd (omega arith); masked = λ e. absurd (omega arith) })
       (record { branches = λ e. absurd (omega arith); masked = λ e. absurd (omega arith) })

@@ -1,6 +1,6 @@
 -- Code that grew in front still stands at its end.
 use Rattle.std.proofs.Common.{◌≡◌, ℕ, zero, suc, ◌+◌, ◌-◌, ◌/◌, ◌≤◌, List, [], ◌∷◌, length, take, drop, get_or, Bool, true, false, Option, Some, None, refl, ap, ◌∙◌, arith}
-use Rattle.std.specs.Prelude.{nat_le, nat_lt, ◌&&◌, if◌then◌else◌}
+use Rattle.std.specs.Prelude.{nat_lt, if◌then◌else◌}
 use Rattle.flt_bpf.specs.declared.insn.Insn.{Insn}
 use Rattle.flt_bpf.specs.declared.operation.Width.{Width}
 use Rattle.flt_bpf.specs.declared.operation.Test.{Test}
@@ -21,7 +21,9 @@ use Rattle.flt_gen.specs.declared.elementary.Elementary.TheVariants.{Known, Fiel
 use Rattle.flt_gen.specs.Elementary.{network}
 use Rattle.flt_gen.specs.Numbers.{width_of, accessor_tests}
 use Rattle.flt_gen.specs.Formula.{Formula, Single, Compare, Both, Either, Except, Guard, Fork, Choose, Among}
-use Rattle.flt_gen.specs.Code.{plain, branch_before, comparison_before, field_before, mask_before, test_before, accessor_before, constant, constant_operand, right_before, number_before, relation_before, Entered, chain_before, search_before, LEVELS, elementary_before, fork_before, emitted, all_before, accessors_before, base_before, transport_before, NEAR}
+use Rattle.flt_gen.specs.declared.code.Reach.{Reach}
+use Rattle.flt_gen.specs.declared.code.Reach.TheVariants.{Near, YesFar, NoFar, BothFar}
+use Rattle.flt_gen.specs.Code.{plain, branch_before, branch_by, reach, comparison_before, field_before, mask_before, test_before, accessor_before, constant, constant_operand, right_before, number_before, relation_before, Entered, chain_before, search_before, LEVELS, elementary_before, fork_before, emitted, all_before, accessors_before, base_before, transport_before}
 use Rattle.flt_gen.specs.declared.follow.Knowledge.{Knowledge}
 use Rattle.flt_gen.specs.Follow.{and_fork, fact, always, nothing, and_fact, target}
 use Rattle.flt_bpf.specs.declared.operation.Operation.TheVariants.{Store, Negate, Jump}
@@ -58,11 +60,12 @@ extends_on c d f a b =
       same = λ place l. b.same place (omega (arith, a.longer)) ∙ a.same place l;
     }
 
-pub one_of_four : (P : List Insn → Type 0) (a b c : Bool) (w x y z : List Insn) → P w → P x → P y → P z → P (if a then w else (if b then x else (if c then y else z)))
-one_of_four P true b c w x y z pw px py pz = pw
-one_of_four P false true c w x y z pw px py pz = px
-one_of_four P false false true w x y z pw px py pz = py
-one_of_four P false false false w x y z pw px py pz = pz
+-- a test's code, whichever way it reaches its places
+pub by_reach : (P : List Insn → Type 0) (r : Reach) (t : Test) (o : Operand) (k hit miss : ℕ) (c : List Insn) → P (branch_by Near t o k hit miss c) → P (branch_by YesFar t o k hit miss c) → P (branch_by NoFar t o k hit miss c) → P (branch_by BothFar t o k hit miss c) → P (branch_by r t o k hit miss c)
+by_reach P Near t o k hit miss c w x y z = w
+by_reach P YesFar t o k hit miss c w x y z = x
+by_reach P NoFar t o k hit miss c w x y z = y
+by_reach P BothFar t o k hit miss c w x y z = z
 
 pub branch_extends : (t : Test) (operand : Operand) (k hit miss : ℕ) (c : List Insn) → Extends c (branch_before t operand k hit miss c)
 unfolding branch_before
@@ -70,7 +73,7 @@ branch_extends t operand k hit miss c =
     let none = extends_none c in
     let one_hit = extends_put c c (plain Jump (length c - hit)) none in
     let one_miss = extends_put c c (plain Jump (length c - miss)) none in
-    one_of_four (λ d. Extends c d) (nat_le (length c - hit) NEAR && nat_le (length c - miss) NEAR) (nat_le (length c + 1 - miss) NEAR) (nat_le (length c + 1 - hit) NEAR) _ _ _ _
+    by_reach (λ d. Extends c d) (reach hit miss c) t operand k hit miss c
     (extends_put c c _ none) (extends_put c _ _ one_hit) (extends_put c _ _ one_miss) (extends_put c _ _ (extends_put c _ _ one_miss))
 
 pub field_extends : (place : Place) (width : Width) (c d : List Insn) → Extends c d → Extends c (field_before place width d)

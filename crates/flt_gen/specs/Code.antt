@@ -14,6 +14,8 @@ use Rattle.flt_words.specs.declared.token.Protocol.{Protocol}
 use Rattle.flt_words.specs.declared.token.Protocol.TheVariants.{Ether, Tcp, Udp, Icmp}
 use Rattle.flt_lang.specs.Tree.{NumberTree, literal, len, named, load, negated, applied, Expression, empty, truth}
 use Rattle.flt_gen.specs.declared.link.Link.{Link}
+use Rattle.flt_gen.specs.declared.code.Reach.{Reach}
+use Rattle.flt_gen.specs.declared.code.Reach.TheVariants.{Near, YesFar, NoFar, BothFar}
 use Rattle.flt_gen.specs.declared.follow.Knowledge.{Knowledge}
 use Rattle.flt_gen.specs.declared.elementary.Place.{Place}
 use Rattle.flt_gen.specs.declared.elementary.Place.TheVariants.{At, Past}
@@ -84,16 +86,26 @@ branch_insn test operand k jt jf = record { code = code_of (JumpIf test operand)
 abbrev pub jump_before : ℕ → List Insn → List Insn
 jump_before to c = plain Jump (length c - to) ∷ c
 
--- a test that goes on at one of two places; a place that is too far is reached by a jump right behind the test
+-- how a test reaches its two places: one that is too far by a jump right behind the test
+abbrev pub reach : ℕ → ℕ → List Insn → Reach
+reach hit miss c =
+    if nat_le (length c - hit) NEAR && nat_le (length c - miss) NEAR then Near
+    else (if nat_le (length c + 1 - miss) NEAR then YesFar
+    else (if nat_le (length c + 1 - hit) NEAR then NoFar else BothFar))
+
+abbrev pub branch_by : Reach → Test → Operand → ℕ → ℕ → ℕ → List Insn → List Insn
+branch_by Near test operand k hit miss c =
+    branch_insn test operand k (length c - hit) (length c - miss) ∷ c
+branch_by YesFar test operand k hit miss c =
+    branch_insn test operand k 0 (length c + 1 - miss) ∷ jump_before hit c
+branch_by NoFar test operand k hit miss c =
+    branch_insn test operand k (length c + 1 - hit) 0 ∷ jump_before miss c
+branch_by BothFar test operand k hit miss c =
+    branch_insn test operand k 0 1 ∷ jump_before hit (jump_before miss c)
+
+-- a test that goes on at one of two places
 unfoldable pub branch_before : Test → Operand → ℕ → ℕ → ℕ → List Insn → List Insn
-branch_before test operand k hit miss c =
-    if nat_le (length c - hit) NEAR && nat_le (length c - miss) NEAR
-    then branch_insn test operand k (length c - hit) (length c - miss) ∷ c
-    else (if nat_le (length c + 1 - miss) NEAR
-    then branch_insn test operand k 0 (length c + 1 - miss) ∷ jump_before hit c
-    else (if nat_le (length c + 1 - hit) NEAR
-    then branch_insn test operand k (length c + 1 - hit) 0 ∷ jump_before miss c
-    else branch_insn test operand k 0 1 ∷ jump_before hit (jump_before miss c)))
+branch_before test operand k hit miss c = branch_by (reach hit miss c) test operand k hit miss c
 
 -- the machine has three of the six comparisons; the others exchange the places
 abbrev pub comparison_before : Comparison → Operand → ℕ → ℕ → ℕ → List Insn → List Insn

@@ -1,5 +1,5 @@
 -- Where a jump may go on at once, since what is known of the packet decides the test at its target.
-use Rattle.std.specs.Prelude.{ℕ, ◌-◌, ◌==◌, max, Bool, true, false, if◌then◌else◌, ◌&&◌, List, [], ◌∷◌, length, drop, Option, Some, None}
+use Rattle.std.specs.Prelude.{ℕ, zero, suc, ◌-◌, ◌==◌, max, Bool, true, false, if◌then◌else◌, ◌&&◌, List, [], ◌∷◌, length, drop, Option, Some, None}
 use Rattle.flt_bpf.specs.declared.insn.Insn.{Insn}
 use Rattle.flt_bpf.specs.declared.operation.Width.{Width}
 use Rattle.flt_bpf.specs.declared.operation.Operation.TheVariants.{LoadAbsolute, LoadHeaderLength, Compute, JumpIf}
@@ -88,18 +88,18 @@ abbrev pub onward : List Fact → ℕ → List Insn → ℕ
 onward facts place [] = place
 onward facts place (i ∷ is) = if i.code == JUMP then max 1 (length is - i.k) else past_load facts place i.code i.k is
 
--- one step from a place, two, four, eight
-abbrev pub one_on : List Insn → List Fact → ℕ → ℕ
-one_on c facts place = onward facts place (drop (length c - place) c)
+-- one step from a place
+abbrev pub step_from : List Insn → List Fact → ℕ → ℕ
+step_from c facts place = onward facts place (drop (length c - place) c)
 
-abbrev pub two_on : List Insn → List Fact → ℕ → ℕ
-two_on c facts place = one_on c facts (one_on c facts place)
+-- so many steps from a place
+unfoldable pub follow : ℕ → List Insn → List Fact → ℕ → ℕ
+follow zero c facts place = place
+follow (suc k) c facts place = follow k c facts (step_from c facts place)
 
-abbrev pub four_on : List Insn → List Fact → ℕ → ℕ
-four_on c facts place = two_on c facts (two_on c facts place)
-
-abbrev pub eight_on : List Insn → List Fact → ℕ → ℕ
-eight_on c facts place = four_on c facts (four_on c facts place)
+-- how many steps a jump's target is followed at most
+abbrev pub MOST_STEPS : ℕ
+MOST_STEPS = 8
 
 abbrev pub fact : Elementary → Bool → Fact
 fact t b = record { test = t; truth = b }
@@ -133,9 +133,9 @@ agreed a b other = if a == b then a else other
 -- alternatives lead apart, only as far as the facts lead
 unfoldable pub followed : List Insn → Knowledge → Fact → ℕ → ℕ
 followed c known own place =
-    agreed (eight_on c (own ∷ fact known.either.first true ∷ facts_of known) place)
-    (eight_on c (own ∷ fact known.either.second true ∷ facts_of known) place)
-    (eight_on c (own ∷ facts_of known) place)
+    agreed (follow MOST_STEPS c (own ∷ fact known.either.first true ∷ facts_of known) place)
+    (follow MOST_STEPS c (own ∷ fact known.either.second true ∷ facts_of known) place)
+    (follow MOST_STEPS c (own ∷ facts_of known) place)
 
 -- behind a test past a header X holds the header's length: code that begins by loading it is entered past that load
 abbrev pub past_index : Place → ℕ → List Insn → ℕ

@@ -1,6 +1,5 @@
 -- Hosts or ports that are looked for together, since they stand one after the other between or.
-use Rattle.std.specs.Prelude.{ℕ, ◌+◌, nat_lt, Bool, true, false, ◌&&◌, if◌then◌else◌, List, [], ◌∷◌, length, Option, Some, None}
-use Rattle.flt_bpf.specs.declared.operation.Width.TheVariants.{Word}
+use Rattle.std.specs.Prelude.{ℕ, nat_lt, Bool, true, false, ◌&&◌, if◌then◌else◌, List, [], ◌∷◌, length, Option, Some, None}
 use Rattle.flt_words.specs.declared.token.Protocol.{Protocol}
 use Rattle.flt_words.specs.declared.token.Protocol.TheVariants.{Ip, Arp, Rarp, Tcp, Udp}
 use Rattle.flt_words.specs.declared.token.Side.TheVariants.{Source, Destination}
@@ -16,15 +15,13 @@ use Rattle.flt_lang.specs.Tree.{TruthTree, qualified, denied, joined}
 use Rattle.flt_gen.specs.declared.link.Link.{Link}
 use Rattle.flt_gen.specs.declared.elementary.FrameKind.{FrameKind}
 use Rattle.flt_gen.specs.declared.elementary.FrameKind.TheVariants as kind
-use Rattle.flt_gen.specs.declared.elementary.Place.TheVariants.{At}
 use Rattle.flt_gen.specs.declared.elementary.Ports.TheVariants.{One, Several}
 use Rattle.flt_gen.specs.declared.elementary.Hosts.{Hosts}
 use Rattle.flt_gen.specs.declared.elementary.Hosts.TheVariants as hosts
-use Rattle.flt_gen.specs.declared.elementary.Sides.{Sides}
 use Rattle.flt_gen.specs.declared.elementary.Elementary.TheVariants.{Known}
-use Rattle.flt_gen.specs.Elementary.{network, kind_test}
+use Rattle.flt_gen.specs.Elementary.{kind_test}
 use Rattle.flt_gen.specs.Formula.{Formula, Single, Both, Either, Except, Guard, Choose}
-use Rattle.flt_gen.specs.Primitives.{source_offset, destination_offset, net_test, net_sides, net_formula, any_sides, port_test, port_formula, qualified_formula}
+use Rattle.flt_gen.specs.Primitives.{address_places, net_test, net_sides, net_formula, any_sides, port_test, port_formula, qualified_formula}
 use Rattle.flt_gen.specs.Reading.{formula}
 
 -- the type of its members, the protocol and the direction that are asked for; the address or port that stands first, and
@@ -93,10 +90,6 @@ abbrev pub larger_group : FullQuals → Value → Group → Option Group
 larger_group q v group = group_and q group (member_number q.value_type v)
 
 -- hosts of IPv4: those of a network, or several, whose addresses are passed beside
-
-abbrev pub address_places : Link → FrameKind → Sides
-address_places link kind =
-    record { width = Word; source = At (network link + source_offset kind); destination = At (network link + destination_offset kind) }
 
 abbrev pub hosts_sides : Link → FrameKind → Hosts → List ℕ → Formula
 hosts_sides link kind (hosts.Net net) numbers = net_sides link kind net

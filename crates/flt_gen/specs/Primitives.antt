@@ -98,8 +98,9 @@ cast_formula link (Some _) Multicast = Single (Known false)
 
 -- IPv4 addresses and networks
 
-abbrev pub address_test : Option ℕ → ℕ → ℕ → Elementary
-address_test mask address at = Field (record { place = At at; width = Word; mask = mask; comparison = Equal; value = address })
+abbrev pub address_test : Option ℕ → ℕ → Place → Elementary
+address_test mask address place =
+    Field (record { place = place; width = Word; mask = mask; comparison = Equal; value = address })
 
 -- how far behind the network header's start the addresses stand
 abbrev pub source_offset : FrameKind → ℕ
@@ -110,9 +111,20 @@ abbrev pub destination_offset : FrameKind → ℕ
 destination_offset Ip = 16
 destination_offset _ = 24
 
+abbrev pub address_places : Link → FrameKind → Sides
+address_places link kind = record {
+  width = Word;
+  source = At (network link + source_offset kind);
+  destination = At (network link + destination_offset kind);
+}
+
+abbrev pub net_tests : Sides → NetTest → Formula
+net_tests at net =
+    sides net.direction (address_test net.mask net.address at.source ∷ [])
+    (address_test net.mask net.address at.destination ∷ [])
+
 abbrev pub net_sides : Link → FrameKind → NetTest → Formula
-net_sides link kind net =
-    sides net.direction (address_test net.mask net.address (network link + source_offset kind) ∷ []) (address_test net.mask net.address (network link + destination_offset kind) ∷ [])
+net_sides link kind net = net_tests (address_places link kind) net
 
 abbrev pub net_of_kind : Link → FrameKind → NetTest → Formula
 net_of_kind link kind net = Guard (kind_test link kind) (net_sides link kind net)
@@ -132,7 +144,8 @@ net_test direction mask address = record { direction = direction; mask = mask; a
 
 abbrev pub ip6_test : Option ℕ → ℕ → ℕ → ℕ → Elementary
 ip6_test prefix address at word =
-    address_test (option_map (λ bits. first_bits 32 (bits - 32 * word)) prefix) (address / 2 ^ (96 - 32 * word) % 2 ^ 32) (at + 4 * word)
+    address_test (option_map (λ bits. first_bits 32 (bits - 32 * word)) prefix)
+    (address / 2 ^ (96 - 32 * word) % 2 ^ 32) (At (at + 4 * word))
 
 abbrev pub ip6_tests : Option ℕ → ℕ → ℕ → List Elementary
 ip6_tests prefix address at =

@@ -13,7 +13,10 @@ joined Unreached other = other
 joined Unknown other = Unknown
 joined (Field code k) Unreached = Field code k
 joined (Field code k) Unknown = Unknown
-joined (Field code k) (Field other_code other_k) = if code == other_code && k == other_k then Field code k else Unknown
+joined (Field code k) (Field other_code other_k) =
+    if code == other_code && k == other_k
+    then Field code k
+    else Unknown
 
 -- an instruction would load what A holds
 abbrev pub loads : Held → Insn → Bool
@@ -38,7 +41,8 @@ turned _ h i is = i
 abbrev pub raised : List Held → ℕ → Held → List Held
 raised hs at h = slice_set hs at (joined (slice_index_or hs at Unknown) h)
 
-abbrev pub passed_on : ℕ → Option Operation → Held → Insn → List Insn → List Held → List Held
+abbrev pub passed_on : ℕ → Option Operation → Held → Insn → List Insn →
+    List Held → List Held
 passed_on from (Some (JumpIf test operand)) h i is hs = raised (raised hs (from + moved h is i.jt) h) (from + moved h is i.jf) h
 passed_on from (Some Jump) h i is hs = raised hs (from + i.k) h
 passed_on from (Some (LoadAbsolute width)) h i is hs = raised hs from (Field i.code i.k)

@@ -4,9 +4,9 @@ ghost use Rattle.std.specs.Prelude.{◌≡◌, ◌+◌, ◌*◌, ◌≤◌, leng
 ghost use Rattle.flt_lang.specs.Nets.{first_bits};
 ghost use Rattle.flt_gen.specs.Elementary.{kind_test};
 ghost use Rattle.flt_gen.specs.Puts.{HasRoom, Emits, PutsBehind};
-ghost use Rattle.flt_gen.specs.Group.{address_places, hosts_sides, any_hosts, hosts_formula};
-ghost use Rattle.flt_gen.specs.Primitives.{address_test, source_offset, destination_offset};
-ghost use Rattle.flt_gen.specs.Primitives.{net_formula, ip6_test, ip6_tests, ip6_formula};
+ghost use Rattle.flt_gen.specs.Group.{hosts_sides, any_hosts, hosts_formula};
+ghost use Rattle.flt_gen.specs.Primitives.{address_test, address_places, net_formula};
+ghost use Rattle.flt_gen.specs.Primitives.{ip6_test, ip6_tests, ip6_formula};
 
 use crate::among::put_any_sides;
 use crate::code::Code;
@@ -21,11 +21,11 @@ use flt_words::{Comparison, Protocol};
 use std::alloc::{AllocError, Allocator};
 
 /// The word at a place is an address, as far as the mask goes.
-fn address_test(mask: Option<u32>, address: u32, at: u32) -> Elementary
-    ensures { result ≡ address_test mask address at }
+fn address_test(mask: Option<u32>, address: u32, place: Place) -> Elementary
+    ensures { result ≡ address_test mask address place }
 {
     Elementary::Field(FieldTest {
-        place: Place::At(at),
+        place,
         width: Width::Word,
         mask,
         comparison: Comparison::Equal,
@@ -33,35 +33,19 @@ fn address_test(mask: Option<u32>, address: u32, at: u32) -> Elementary
     })
 }
 
-/// How far behind the network header's start the source address stands (RFC 791, RFC 826).
-fn source_offset(kind: FrameKind) -> u32
-    ensures offset { result ≡ source_offset kind }
-    ensures near { result ≤ 14 }
-{
-    match kind {
-        FrameKind::Ip => 12,
-        _ => 14,
-    }
-}
-
-fn destination_offset(kind: FrameKind) -> u32
-    ensures offset { result ≡ destination_offset kind }
-    ensures near { result ≤ 24 }
-{
-    match kind {
-        FrameKind::Ip => 16,
-        _ => 24,
-    }
-}
-
+/// Where both addresses of a header of a kind stand (RFC 791, RFC 826).
 fn address_places(link: Link, kind: FrameKind) -> Sides
     ensures { result ≡ address_places link kind }
 {
+    let (source, destination) = match kind {
+        FrameKind::Ip => (12, 16),
+        _ => (14, 24),
+    };
     let start = network(link);
     Sides {
         width: Width::Word,
-        source: Place::At(start + source_offset(kind)),
-        destination: Place::At(start + destination_offset(kind)),
+        source: Place::At(start + source),
+        destination: Place::At(start + destination),
     }
 }
 
@@ -77,15 +61,14 @@ fn put_host_sides<A: Allocator>(
     ensures { Emits (12 * length numbers.now + 18) result context
         (hosts_sides context.link kind wanted numbers.now) code.old code.new }
 {
-    let start = network(context.link);
+    let at = address_places(context.link, kind);
     match wanted {
         Hosts::Net(net) => {
-            let source = address_test(net.mask, net.address, start + source_offset(kind));
-            let destination = address_test(net.mask, net.address, start + destination_offset(kind));
+            let source = address_test(net.mask, net.address, at.source);
+            let destination = address_test(net.mask, net.address, at.destination);
             put_sides(code, context, net.direction, &[source], &[destination])
         }
         Hosts::Several(direction, first) => {
-            let at = address_places(context.link, kind);
             put_any_sides(code, context, direction, at, first, numbers)
         }
     }
@@ -190,7 +173,7 @@ fn ip6_test(prefix: Option<u32>, address: u128, at: u32, word: u32) -> Elementar
         Some(bits) => Some(prefix_mask(bits.saturating_sub(32 * word))),
     };
     let part = address / 2u128.pow(96 - 32 * word) % 0x1_0000_0000;
-    address_test(mask, part as u32, at + 4 * word)
+    address_test(mask, part as u32, Place::At(at + 4 * word))
 }
 
 fn ip6_tests(prefix: Option<u32>, address: u128, at: u32) -> [Elementary; 4]

@@ -2,9 +2,8 @@
 
 ghost use Rattle.std.specs.Prelude.{◌≡◌, ◌+◌, ◌-◌, ◌^◌, ◌<◌, ◌≤◌, List};
 ghost use Rattle.std.specs.Prelude.{[], ◌∷◌, length, drop, OnOk};
-ghost use Rattle.flt_gen.specs.Follow.{one_on, two_on, four_on, eight_on};
-ghost use Rattle.flt_gen.specs.Follow.{followed, entered_at, target};
-ghost use Rattle.flt_gen.specs.Code.{plain, jump_before, branch_before};
+ghost use Rattle.flt_gen.specs.Follow.{step_from, follow, followed, entered_at, target};
+ghost use Rattle.flt_gen.specs.Code.{plain, jump_before, reach, branch_before};
 ghost use Rattle.flt_gen.specs.Puts.{HasRoom};
 
 use crate::elementary::{Elementary, Fact, Place};
@@ -16,6 +15,18 @@ use std::marker::Model;
 
 /// The greatest offset of a conditional jump.
 const NEAR: usize = 255;
+
+/// How many steps a jump's target is followed at most.
+const MOST_STEPS: usize = 8;
+
+/// How a test reaches its two targets: a far one by a jump right behind the test.
+#[derive(Clone, Copy)]
+pub enum Reach {
+    Near,
+    YesFar,
+    NoFar,
+    BothFar,
+}
 
 /// The code from some place to the end. A place is named by the number of instructions from there
 /// on.
@@ -113,7 +124,24 @@ impl<A: Allocator> Code<A> {
         self.put_plain(Operation::Jump, offset)
     }
 
-    /// A test that goes on at one of two places, a far one by a jump right behind it.
+    /// Which targets are too far for a test that comes next.
+    fn reach(&self, to: Targets) -> Reach
+        requires { length self.now < 2 ^ 32 }
+        ensures { result ≡ reach to.yes to.no self.now }
+    {
+        let (yes, no) = (self.distance(to.yes), self.distance(to.no));
+        if yes <= NEAR && no <= NEAR {
+            Reach::Near
+        } else if self.distance_past(to.no) <= NEAR {
+            Reach::YesFar
+        } else if self.distance_past(to.yes) <= NEAR {
+            Reach::NoFar
+        } else {
+            Reach::BothFar
+        }
+    }
+
+    /// A test that goes on at one of two places.
     #[tactic(auto, unfolding(crate::specs::Code::branch_before))]
     pub fn put_branch(
         &mut self,
@@ -126,65 +154,50 @@ impl<A: Allocator> Code<A> {
         ensures code { OnOk result (self.new ≡ branch_before test operand k to.yes to.no self.old) }
         ensures room { OnOk result (length self.new ≤ length self.old + 3) }
     {
-        let code = Operation::JumpIf(test, operand).code();
-        let (yes, no) = (self.distance(to.yes), self.distance(to.no));
-        let (past_yes, past_no) = (self.distance_past(to.yes), self.distance_past(to.no));
-        if yes <= NEAR && no <= NEAR {
-            let (jt, jf) = (yes as u8, no as u8);
-            self.put(Insn { code, jt, jf, k })
-        } else if past_no <= NEAR {
-            self.put_jump(to.yes)?;
-            let jf = past_no as u8;
-            self.put(Insn { code, jt: 0, jf, k })
-        } else if past_yes <= NEAR {
-            self.put_jump(to.no)?;
-            let jt = past_yes as u8;
-            self.put(Insn { code, jt, jf: 0, k })
-        } else {
-            self.put_jump(to.no)?;
-            self.put_jump(to.yes)?;
-            let (jt, jf) = (0, 1);
-            self.put(Insn { code, jt, jf, k })
-        }
+        let (yes_offset, no_offset) = match self.reach(to) {
+            Reach::Near => (self.distance(to.yes), self.distance(to.no)),
+            Reach::YesFar => {
+                self.put_jump(to.yes)?;
+                (0, self.distance(to.no))
+            }
+            Reach::NoFar => {
+                self.put_jump(to.no)?;
+                (self.distance(to.yes), 0)
+            }
+            Reach::BothFar => {
+                self.put_jump(to.no)?;
+                self.put_jump(to.yes)?;
+                (0, 1)
+            }
+        };
+        self.put(Insn {
+            code: Operation::JumpIf(test, operand).code(),
+            jt: yes_offset as u8,
+            jf: no_offset as u8,
+            k,
+        })
     }
 
     /// One step from a place.
-    fn one_on(&self, facts: &[Fact], place: usize) -> usize
-        ensures { result ≡ one_on self.now facts.now place }
+    fn step_from(&self, facts: &[Fact], place: usize) -> usize
+        ensures { result ≡ step_from self.now facts.now place }
     {
         let within = place.min(self.top());
         onward(&self.backwards[..within], facts, place)
     }
 
-    // Most places lead nowhere, and one look shows it.
-    fn two_on(&self, facts: &[Fact], place: usize) -> usize
-        ensures { result ≡ two_on self.now facts.now place }
+    /// Where a jump to a place goes on: as many steps as are allowed, or as lead anywhere.
+    fn follow(&self, facts: &[Fact], mut place: usize) -> usize
+        ensures { result ≡ follow MOST_STEPS self.now facts.now place }
     {
-        let next = self.one_on(facts, place);
-        if next == place {
-            return place;
+        for _ in 0..MOST_STEPS {
+            let next = self.step_from(facts, place);
+            if next == place {
+                return place;
+            }
+            place = next;
         }
-        self.one_on(facts, next)
-    }
-
-    fn four_on(&self, facts: &[Fact], place: usize) -> usize
-        ensures { result ≡ four_on self.now facts.now place }
-    {
-        let next = self.two_on(facts, place);
-        if next == place {
-            return place;
-        }
-        self.two_on(facts, next)
-    }
-
-    fn eight_on(&self, facts: &[Fact], place: usize) -> usize
-        ensures { result ≡ eight_on self.now facts.now place }
-    {
-        let next = self.four_on(facts, place);
-        if next == place {
-            return place;
-        }
-        self.four_on(facts, next)
+        place
     }
 
     /// The target of a jump that is taken where a fact holds, followed as far as what is known
@@ -196,7 +209,7 @@ impl<A: Allocator> Code<A> {
         let (latest, earlier, earliest) = (known.latest, known.earlier, known.earliest);
         // Of two tests of which the link decides one nothing is known.
         if let Elementary::Known(_) = known.either.first {
-            return self.eight_on(&[own, latest, earlier, earliest], place);
+            return self.follow(&[own, latest, earlier, earliest], place);
         }
         let first = Fact {
             test: known.either.first,
@@ -206,12 +219,12 @@ impl<A: Allocator> Code<A> {
             test: known.either.second,
             truth: true,
         };
-        let one = self.eight_on(&[own, first, latest, earlier, earliest], place);
-        let other = self.eight_on(&[own, second, latest, earlier, earliest], place);
+        let one = self.follow(&[own, first, latest, earlier, earliest], place);
+        let other = self.follow(&[own, second, latest, earlier, earliest], place);
         if one == other {
             one
         } else {
-            self.eight_on(&[own, latest, earlier, earliest], place)
+            self.follow(&[own, latest, earlier, earliest], place)
         }
     }
 

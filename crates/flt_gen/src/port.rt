@@ -1,7 +1,6 @@
 //! The code of ports.
 
 ghost use Rattle.std.specs.Prelude.{◌≡◌, ◌+◌, ◌*◌, length};
-ghost use Rattle.flt_gen.specs.Formula.{Guard};
 ghost use Rattle.flt_gen.specs.Puts.{HasRoom, Emits, PutsBehind};
 ghost use Rattle.flt_gen.specs.Primitives.{port_is, port_between, port_places, port_sides};
 ghost use Rattle.flt_gen.specs.Primitives.{ports_behind, transport_ports, ip_transport};
@@ -97,23 +96,6 @@ fn put_ports_behind<A: Allocator>(
     }
 }
 
-/// The same behind one protocol.
-fn put_ports_of_protocol<A: Allocator>(
-    code: &mut Code<A>,
-    context: Context,
-    protocol: Elementary,
-    header: Transport,
-    wanted: PortTest,
-    numbers: &[u32],
-) -> Result<usize, AllocError>
-    requires { HasRoom (12 * length numbers.now + 36) code.old }
-    ensures { Emits (12 * length numbers.now + 36) result context
-        (Guard protocol (ports_behind header wanted numbers.now)) code.old code.new }
-{
-    let yes = put_ports_behind(code, context.behind(protocol), header, wanted, numbers)?;
-    put_elementary(code, context.going_to(yes, context.to.no), protocol)
-}
-
 /// The same behind the protocol that is asked for, or else TCP or UDP.
 fn put_transport_ports<A: Allocator>(
     code: &mut Code<A>,
@@ -126,17 +108,19 @@ fn put_transport_ports<A: Allocator>(
     ensures { Emits (12 * length numbers.now + 42) result context
         (transport_ports header wanted numbers.now) code.old code.new }
 {
-    let (tcp, udp) = (header.tcp, header.udp);
-    match wanted.protocol {
-        Some(Protocol::Tcp) => put_ports_of_protocol(code, context, tcp, header, wanted, numbers),
-        Some(Protocol::Udp) => put_ports_of_protocol(code, context, udp, header, wanted, numbers),
-        Some(_) => Ok(context.to.no),
+    let (tcp, udp, no) = (header.tcp, header.udp, context.to.no);
+    let protocol = match wanted.protocol {
+        Some(Protocol::Tcp) => tcp,
+        Some(Protocol::Udp) => udp,
+        Some(_) => return Ok(no),
         None => {
             let behind = context.behind_one_of(tcp, udp);
             let yes = put_ports_behind(code, behind, header, wanted, numbers)?;
-            put_fork(code, context.going_to(yes, context.to.no), tcp, udp)
+            return put_fork(code, context.going_to(yes, no), tcp, udp);
         }
-    }
+    };
+    let yes = put_ports_behind(code, context.behind(protocol), header, wanted, numbers)?;
+    put_elementary(code, context.going_to(yes, no), protocol)
 }
 
 /// The same behind a header of a kind. A frame of another kind goes on at `other`.

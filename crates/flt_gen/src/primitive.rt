@@ -4,9 +4,8 @@ ghost use Rattle.std.specs.Prelude.{◌≡◌, ◌≤◌};
 ghost use Rattle.flt_gen.specs.Elementary.{kind_test};
 ghost use Rattle.flt_gen.specs.Formula.{Single};
 ghost use Rattle.flt_gen.specs.Puts.{HasRoom, Emits, PutsBehind};
-ghost use Rattle.flt_gen.specs.Primitives.{ip_proto, ip6_proto, any_proto, ether_proto};
-ghost use Rattle.flt_gen.specs.Primitives.{check_formula, proto_formula, ether_host, mac_tests};
-ghost use Rattle.flt_gen.specs.Primitives.{is_group_address, cast_formula};
+ghost use Rattle.flt_gen.specs.Primitives.{ether_proto, check_formula, proto_formula};
+ghost use Rattle.flt_gen.specs.Primitives.{ether_host, mac_tests, is_group_address, cast_formula};
 
 use crate::code::Code;
 use crate::context::Context;
@@ -32,46 +31,6 @@ fn put_proto_behind<A: Allocator>(
 {
     let yes = put_elementary(code, context.behind(kind), has_proto)?;
     put_elementary(code, context.going_to(yes, other), kind)
-}
-
-fn put_ip_proto<A: Allocator>(
-    code: &mut Code<A>,
-    context: Context,
-    protocol: u32,
-) -> Result<usize, AllocError>
-    requires { HasRoom 12 code.old }
-    ensures { Emits 12 result context (ip_proto context.link protocol) code.old code.new }
-{
-    let kind = kind_test(context.link, FrameKind::Ip);
-    let has_proto = has_ip_proto(context.link, protocol);
-    put_proto_behind(code, context, kind, has_proto, context.to.no)
-}
-
-fn put_ip6_proto<A: Allocator>(
-    code: &mut Code<A>,
-    context: Context,
-    protocol: u32,
-) -> Result<usize, AllocError>
-    requires { HasRoom 12 code.old }
-    ensures { Emits 12 result context (ip6_proto context.link protocol) code.old code.new }
-{
-    let kind = kind_test(context.link, FrameKind::Ip6);
-    let has_proto = has_ip6_proto(context.link, protocol);
-    put_proto_behind(code, context, kind, has_proto, context.to.no)
-}
-
-fn put_any_proto<A: Allocator>(
-    code: &mut Code<A>,
-    context: Context,
-    protocol: u32,
-) -> Result<usize, AllocError>
-    requires { HasRoom 24 code.old }
-    ensures { Emits 24 result context (any_proto context.link protocol) code.old code.new }
-{
-    let kind = kind_test(context.link, FrameKind::Ip);
-    let other = put_ip6_proto(code, context.elsewhere(kind), protocol)?;
-    let has_proto = has_ip_proto(context.link, protocol);
-    put_proto_behind(code, context, kind, has_proto, other)
 }
 
 fn put_ether_proto<A: Allocator>(
@@ -121,10 +80,10 @@ pub fn put_check<A: Allocator>(
         Protocol::Ip6 => put_kind(code, context, FrameKind::Ip6),
         Protocol::Arp => put_kind(code, context, FrameKind::Arp),
         Protocol::Rarp => put_kind(code, context, FrameKind::Rarp),
-        Protocol::Tcp => put_any_proto(code, context, 6),
-        Protocol::Udp => put_any_proto(code, context, 17),
-        Protocol::Icmp => put_ip_proto(code, context, 1),
-        Protocol::Icmp6 => put_ip6_proto(code, context, 58),
+        Protocol::Tcp => put_proto(code, context, None, 6),
+        Protocol::Udp => put_proto(code, context, None, 17),
+        Protocol::Icmp => put_proto(code, context, Some(Protocol::Ip), 1),
+        Protocol::Icmp6 => put_proto(code, context, Some(Protocol::Ip6), 58),
     }
 }
 
@@ -139,12 +98,21 @@ pub fn put_proto<A: Allocator>(
     ensures { Emits 24 result context (proto_formula context.link below protocol)
         code.old code.new }
 {
+    let (link, no) = (context.link, context.to.no);
+    let (ip, has_ip) = (kind_test(link, FrameKind::Ip), has_ip_proto(link, protocol));
+    let (ip6, has_ip6) = (
+        kind_test(link, FrameKind::Ip6),
+        has_ip6_proto(link, protocol),
+    );
     match below {
-        Some(Protocol::Ip) => put_ip_proto(code, context, protocol),
-        Some(Protocol::Ip6) => put_ip6_proto(code, context, protocol),
+        Some(Protocol::Ip) => put_proto_behind(code, context, ip, has_ip, no),
+        Some(Protocol::Ip6) => put_proto_behind(code, context, ip6, has_ip6, no),
         Some(Protocol::Ether) => put_ether_proto(code, context, protocol),
-        None => put_any_proto(code, context, protocol),
-        Some(_) => Ok(context.to.no),
+        None => {
+            let other = put_proto_behind(code, context.elsewhere(ip), ip6, has_ip6, no)?;
+            put_proto_behind(code, context, ip, has_ip, other)
+        }
+        Some(_) => Ok(no),
     }
 }
 

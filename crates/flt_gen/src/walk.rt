@@ -20,7 +20,7 @@ use crate::number::{computation, put_accessor, put_accessors, put_operands, take
 use crate::primitive::{put_cast, put_check};
 use crate::put::put_comparison;
 use crate::value::{put_group, put_qualified, put_sized};
-use crate::waiting::{LeftTruth, Numbers, Truths, Waiting};
+use crate::waiting::{LeftTruth, Stack, Waiting};
 use flt_bpf::insn::Insn;
 use flt_bpf::operation::{Operand, Operation, Register, Source};
 use flt_lang::{FullQuals, Node, Value};
@@ -39,8 +39,8 @@ pub struct Walk<A: Allocator> {
     to: Targets,
     /// The word for the next left operand.
     slot: u32,
-    truths: Truths<A>,
-    numbers: Numbers<A>,
+    truths: Stack<LeftTruth, A>,
+    numbers: Stack<Waiting, A>,
     /// The protocols of the relation's accessors, that of the last word first.
     accessors: Vec<Protocol, A>,
     /// Hosts or ports that are tested in front of the code, and whose code isn't there yet.
@@ -371,8 +371,8 @@ impl<A: Allocator + Clone> Walk<A> {
     pub fn new(alloc: A) -> Result<Self, AllocError>
         ensures { IfOk result (λ walk. walk ≡ start) }
     {
-        let truths = Truths::new(alloc.clone()?);
-        let numbers = Numbers::new(alloc.clone()?);
+        let truths = Stack::new(alloc.clone()?);
+        let numbers = Stack::new(alloc.clone()?);
         let accessors = Vec::new(alloc.clone()?);
         let group = Group::new(alloc.clone()?);
         let mut code = Code::new(alloc);

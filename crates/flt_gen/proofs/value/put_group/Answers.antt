@@ -1,5 +1,5 @@
 -- The formula of hosts or ports, one or several, is that of their group.
-use Rattle.std.proofs.Common.{◌≡◌, ◌∙◌, sym, ap, refl, [], length, None, arith}
+use Rattle.std.proofs.Common.{◌≡◌, ◌∙◌, sym, ap, [], length, None, arith}
 use Rattle.std.proofs.lemmas.Grind.{common_steps}
 use Rattle.flt_words.specs.declared.token.ValueType.TheVariants.{Host, Port}
 use Rattle.flt_gen.specs.declared.elementary.Hosts.{Hosts}

@@ -4,4 +4,4 @@ use Rattle.flt_gen.proofs.Following.{followed_alone}
 use Rattle.flt_gen.proofs.code.Code.followed.Goals as goal
 
 pub returns-in-Known : goal.returns-in-Known
-returns-in-Known g c = c.eight_on.ensures ∙ followed_alone c.args.self.now c.args.known c.args.own c.args.place _ c.in-Known.is
+returns-in-Known g c = c.follow.ensures ∙ followed_alone c.args.self.now c.args.known c.args.own c.args.place _ c.in-Known.is
