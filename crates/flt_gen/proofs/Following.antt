@@ -5,7 +5,7 @@ use Rattle.flt_bpf.specs.declared.insn.Insn.{Insn}
 use Rattle.flt_gen.specs.declared.elementary.Elementary.TheVariants.{Known}
 use Rattle.flt_gen.specs.declared.elementary.Fact.{Fact}
 use Rattle.flt_gen.specs.declared.follow.Knowledge.{Knowledge}
-use Rattle.flt_gen.specs.Follow.{fact, facts_of, onward, step_from, follow, MOST_STEPS, agreed, followed}
+use Rattle.flt_gen.specs.Follow.{fact, facts_of, onward, step_from, follow, MOST_STEPS, agreed_place, followed_place}
 
 onward_alone : (own : Fact) (b : Bool) (fs : List Fact) (place : ℕ) (c : List Insn) → onward (own ∷ fact (Known b) true ∷ fs) place c ≡ onward (own ∷ fs) place c
 onward_alone own b fs place [] = refl
@@ -20,7 +20,7 @@ follow_alone (suc n) c own b fs place =
     ap (follow n c (own ∷ fact (Known b) true ∷ fs)) (onward_alone own b fs place (drop (length c - place) c))
     ∙ follow_alone n c own b fs (step_from c (own ∷ fs) place)
 
-agreed_self : (a b : ℕ) → agreed a b a ≡ a
+agreed_self : (a b : ℕ) → agreed_place a b a ≡ a
 agreed_self a b = same (a == b)
   where
     same : (t : Bool) → (if t then a else a) ≡ a
@@ -28,13 +28,13 @@ agreed_self a b = same (a == b)
     same false = refl
 
 -- where the first alternative is decided by the link, the facts alone lead on
-pub followed_alone : (c : List Insn) (known : Knowledge) (own : Fact) (place : ℕ) (b : Bool) → known.either.first ≡ Known b → follow MOST_STEPS c (own ∷ facts_of known) place ≡ followed c known own place
-unfolding followed
+pub followed_alone : (c : List Insn) (known : Knowledge) (own : Fact) (place : ℕ) (b : Bool) → known.either.first ≡ Known b → follow MOST_STEPS c (own ∷ facts_of known) place ≡ followed_place c known own place
+unfolding followed_place
 followed_alone c known own place b e =
     let alone = follow MOST_STEPS c (own ∷ facts_of known) place in
     let second = follow MOST_STEPS c (own ∷ fact known.either.second true ∷ facts_of known) place in
     let first_is : follow MOST_STEPS c (own ∷ fact known.either.first true ∷ facts_of known) place ≡ alone = ap (λ t. follow MOST_STEPS c (own ∷ fact t true ∷ facts_of known) place) e ∙ follow_alone MOST_STEPS c own b (facts_of known) place in
-    sym (ap (λ a. agreed a second alone) first_is ∙ agreed_self alone second)
+    sym (ap (λ a. agreed_place a second alone) first_is ∙ agreed_self alone second)
 
 -- where a step leads nowhere, no more steps lead on
 pub follow_stays : (n : ℕ) (c : List Insn) (facts : List Fact) (place : ℕ) → step_from c facts place ≡ place → follow n c facts place ≡ place

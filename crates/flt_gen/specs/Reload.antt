@@ -26,7 +26,8 @@ loads (Field code k) i = i.code == code && i.k == k
 
 abbrev pub past_load_at : Held → List Insn → ℕ → Option Insn → ℕ
 past_load_at h is to None = to
-past_load_at h is to (Some i) = if nat_lt to 255 && (nat_lt (to + 1) (length is) && loads h i) then to + 1 else to
+past_load_at h is to (Some i) =
+    if nat_lt to 255 && (nat_lt (to + 1) (length is) && loads h i) then to + 1 else to
 
 -- the offset of a conditional jump, past the load at its target if A holds that load's field
 abbrev pub moved : Held → List Insn → ℕ → ℕ
@@ -43,7 +44,8 @@ raised hs at h = slice_set hs at (joined (slice_index_or hs at Unknown) h)
 
 abbrev pub passed_on : ℕ → Option Operation → Held → Insn → List Insn →
     List Held → List Held
-passed_on from (Some (JumpIf test operand)) h i is hs = raised (raised hs (from + moved h is i.jt) h) (from + moved h is i.jf) h
+passed_on from (Some (JumpIf test operand)) h i is hs =
+    raised (raised hs (from + moved h is i.jt) h) (from + moved h is i.jf) h
 passed_on from (Some Jump) h i is hs = raised hs (from + i.k) h
 passed_on from (Some (LoadAbsolute width)) h i is hs = raised hs from (Field i.code i.k)
 passed_on from (Some (LoadIndirect width)) h i is hs = raised hs from (Field i.code i.k)
@@ -56,11 +58,13 @@ abbrev pub passed : ℕ → Option Operation → Held → Insn → List Insn →
 passed from op Unreached i is hs = hs
 passed from op h i is hs = passed_on from op h i is hs
 
--- the code with its offsets past loads, where A holds so much as the runs come to each instruction from the code in front
+-- the code with its offsets past loads, where A holds so much as the runs come to each instruction
+-- from the code in front
 abbrev pub flow : List Held → List Insn → List Insn
 flow hs [] = []
 flow [] (i ∷ is) = i ∷ is
-flow (h ∷ hs) (i ∷ is) = turned (operation_of i.code) h i is ∷ flow (passed 0 (operation_of i.code) h i is hs) is
+flow (h ∷ hs) (i ∷ is) =
+    turned (operation_of i.code) h i is ∷ flow (passed 0 (operation_of i.code) h i is hs) is
 
 -- the same of a whole program
 abbrev pub without_reloads : List Insn → List Insn

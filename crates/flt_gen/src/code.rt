@@ -2,9 +2,9 @@
 
 ghost use Rattle.std.specs.Prelude.{◌≡◌, ◌+◌, ◌-◌, ◌^◌, ◌<◌, ◌≤◌, List};
 ghost use Rattle.std.specs.Prelude.{[], ◌∷◌, length, drop, OnOk};
-ghost use Rattle.flt_gen.specs.Follow.{step_from, follow, followed, entered_at, target};
-ghost use Rattle.flt_gen.specs.Code.{plain, jump_before, reach, branch_before};
-ghost use Rattle.flt_gen.specs.Puts.{HasRoom};
+ghost use Rattle.flt_gen.specs.Follow.{step_from, follow, followed_place, entry_at, target};
+ghost use Rattle.flt_gen.specs.Code.{plain, emit_jump, reach, emit_branch};
+ghost use Rattle.flt_gen.specs.Emits.{HasRoom};
 
 use crate::elementary::{Elementary, Fact, Place};
 use crate::follow::{Knowledge, onward, past_index};
@@ -96,7 +96,7 @@ impl<A: Allocator> Code<A> {
     }
 
     /// One more instruction in front.
-    pub fn put(&mut self, insn: Insn) -> Result<(), AllocError>
+    pub fn emit(&mut self, insn: Insn) -> Result<(), AllocError>
         ensures { OnOk result (self.new ≡ insn ∷ self.old) }
     {
         self.backwards.push(insn)?;
@@ -104,10 +104,10 @@ impl<A: Allocator> Code<A> {
     }
 
     /// One that isn't a test.
-    pub fn put_plain(&mut self, operation: Operation, k: u32) -> Result<(), AllocError>
+    pub fn emit_plain(&mut self, operation: Operation, k: u32) -> Result<(), AllocError>
         ensures { OnOk result (self.new ≡ plain operation k ∷ self.old) }
     {
-        self.put(Insn {
+        self.emit(Insn {
             code: operation.code(),
             jt: 0,
             jf: 0,
@@ -116,12 +116,12 @@ impl<A: Allocator> Code<A> {
     }
 
     /// A jump to a place.
-    pub fn put_jump(&mut self, to: usize) -> Result<(), AllocError>
+    pub fn emit_jump(&mut self, to: usize) -> Result<(), AllocError>
         requires { length self.old < 2 ^ 32 }
-        ensures { OnOk result (self.new ≡ jump_before to self.old) }
+        ensures { OnOk result (self.new ≡ emit_jump to self.old) }
     {
         let offset = self.distance(to) as u32;
-        self.put_plain(Operation::Jump, offset)
+        self.emit_plain(Operation::Jump, offset)
     }
 
     /// Which targets are too far for a test that comes next.
@@ -142,8 +142,8 @@ impl<A: Allocator> Code<A> {
     }
 
     /// A test that goes on at one of two places.
-    #[tactic(auto, unfolding(crate::specs::Code::branch_before))]
-    pub fn put_branch(
+    #[tactic(auto, unfolding(crate::specs::Code::emit_branch))]
+    pub fn emit_branch(
         &mut self,
         test: Test,
         operand: Operand,
@@ -151,26 +151,26 @@ impl<A: Allocator> Code<A> {
         to: Targets,
     ) -> Result<(), AllocError>
         requires { HasRoom 3 self.old }
-        ensures code { OnOk result (self.new ≡ branch_before test operand k to.yes to.no self.old) }
+        ensures code { OnOk result (self.new ≡ emit_branch test operand k to.yes to.no self.old) }
         ensures room { OnOk result (length self.new ≤ length self.old + 3) }
     {
         let (yes_offset, no_offset) = match self.reach(to) {
             Reach::Near => (self.distance(to.yes), self.distance(to.no)),
             Reach::YesFar => {
-                self.put_jump(to.yes)?;
+                self.emit_jump(to.yes)?;
                 (0, self.distance(to.no))
             }
             Reach::NoFar => {
-                self.put_jump(to.no)?;
+                self.emit_jump(to.no)?;
                 (self.distance(to.yes), 0)
             }
             Reach::BothFar => {
-                self.put_jump(to.no)?;
-                self.put_jump(to.yes)?;
+                self.emit_jump(to.no)?;
+                self.emit_jump(to.yes)?;
                 (0, 1)
             }
         };
-        self.put(Insn {
+        self.emit(Insn {
             code: Operation::JumpIf(test, operand).code(),
             jt: yes_offset as u8,
             jf: no_offset as u8,
@@ -202,9 +202,9 @@ impl<A: Allocator> Code<A> {
 
     /// The target of a jump that is taken where a fact holds, followed as far as what is known
     /// leads.
-    #[tactic(auto, unfolding(crate::specs::Follow::followed))]
-    fn followed(&self, known: Knowledge, own: Fact, place: usize) -> usize
-        ensures { result ≡ followed self.now known own place }
+    #[tactic(auto, unfolding(crate::specs::Follow::followed_place))]
+    fn followed_place(&self, known: Knowledge, own: Fact, place: usize) -> usize
+        ensures { result ≡ followed_place self.now known own place }
     {
         let (latest, earlier, earliest) = (known.latest, known.earlier, known.earliest);
         // Of two tests of which the link decides one nothing is known.
@@ -229,8 +229,8 @@ impl<A: Allocator> Code<A> {
     }
 
     /// Where code is entered behind a test at a place.
-    fn entered_at(&self, tested: Place, place: usize) -> usize
-        ensures { result ≡ entered_at tested self.now place }
+    fn entry_at(&self, tested: Place, place: usize) -> usize
+        ensures { result ≡ entry_at tested self.now place }
     {
         let within = place.min(self.top());
         past_index(&self.backwards[..within], tested, place)
@@ -242,7 +242,7 @@ impl<A: Allocator> Code<A> {
     pub fn target(&self, known: Knowledge, tested: Place, own: Fact, place: usize) -> usize
         ensures { result ≡ target self.now known tested own place }
     {
-        self.entered_at(tested, self.followed(known, own, place))
+        self.entry_at(tested, self.followed_place(known, own, place))
     }
 
     /// The instructions from a place on, in their order.

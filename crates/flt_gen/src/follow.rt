@@ -1,7 +1,7 @@
 //! Where a jump goes on at once, since what is known of the packet decides the test at its target.
 
 ghost use Rattle.std.specs.Prelude.{◌≡◌, ◌∷◌, [], length, reverse, MatchOption, true, false};
-ghost use Rattle.flt_gen.specs.Follow.{same_mask, looks_at, test_says, decided, past_mask};
+ghost use Rattle.flt_gen.specs.Follow.{same_mask, looks_at, test_says, known_outcome, past_mask};
 ghost use Rattle.flt_gen.specs.Follow.{past_load, onward, past_index, nothing, fact, and_fact};
 ghost use Rattle.flt_gen.specs.Follow.{and_fork};
 
@@ -62,14 +62,14 @@ fn says(fact: Fact, look: Look, value: u32) -> Option<bool>
     }
 }
 
-fn decided(facts: &[Fact], look: Look, value: u32) -> Option<bool>
-    ensures { result ≡ decided facts.now look.load look.at look.mask value }
+fn known_outcome(facts: &[Fact], look: Look, value: u32) -> Option<bool>
+    ensures { result ≡ known_outcome facts.now look.load look.at look.mask value }
 {
     match facts {
         [] => None,
         [first, others @ ..] => match says(*first, look, value) {
             Some(truth) => Some(truth),
-            None => decided(others, look, value),
+            None => known_outcome(others, look, value),
         },
     }
 }
@@ -160,7 +160,7 @@ fn past_mask(behind: &[Insn], facts: &[Fact], look: Look, place: usize) -> usize
         None => place,
         Some((insn, others)) => {
             if insn.code == Operation::JumpIf(Test::Equal, Operand::Constant).code() {
-                match decided(facts, look, insn.k) {
+                match known_outcome(facts, look, insn.k) {
                     None => place,
                     Some(true) => others.len().saturating_sub(insn.jt as usize).max(1),
                     Some(false) => others.len().saturating_sub(insn.jf as usize).max(1),
