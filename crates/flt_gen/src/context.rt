@@ -8,8 +8,8 @@ use crate::elementary::Elementary;
 use crate::follow::Knowledge;
 use crate::link::Link;
 
-/// What code is emitted for: the link, what is known of a packet that comes to the code, and where the
-/// packet goes on.
+/// What code is emitted for: the link, what is known of a packet that comes to the code, and where
+/// the packet goes on.
 #[derive(Clone, Copy)]
 pub struct Context {
     pub link: Link,

@@ -116,7 +116,8 @@ pub fn emit_all<A: Allocator>(
     tests: &[Elementary],
 ) -> Result<usize, AllocError>
     requires { HasRoom (6 * length tests.now) code.old }
-    ensures { EmitsFormula (6 * length tests.now) result context (all_of tests.now) code.old code.new }
+    ensures { EmitsFormula (6 * length tests.now) result context (all_of tests.now)
+        code.old code.new }
 {
     match tests {
         [] => Ok(context.to.yes),

@@ -2,8 +2,8 @@
 
 ghost use Rattle.std.specs.Prelude.{◌≡◌, ◌≤◌, if◌then◌else◌, Some, None, length, IfOk};
 ghost use Rattle.std.specs.List.{insert};
-ghost use Rattle.flt_gen.specs.Group.{no_group, insert_ascending, same_type, same_protocol, same_direction};
-ghost use Rattle.flt_gen.specs.Group.{goes_with, member_number, larger_group};
+ghost use Rattle.flt_gen.specs.Group.{no_group, insert_ascending, same_type, same_protocol};
+ghost use Rattle.flt_gen.specs.Group.{same_direction, goes_with, member_number, larger_group};
 
 use flt_lang::{Direction, FullQuals, Value};
 use flt_words::{Join, Protocol, Side, ValueType};

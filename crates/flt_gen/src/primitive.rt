@@ -60,7 +60,8 @@ fn emit_kind<A: Allocator>(
     kind: FrameKind,
 ) -> Result<usize, AllocError>
     requires { HasRoom 6 code.old }
-    ensures { EmitsFormula 6 result context (Single (kind_test context.link kind)) code.old code.new }
+    ensures { EmitsFormula 6 result context (Single (kind_test context.link kind))
+        code.old code.new }
 {
     emit_elementary(code, context, kind_test(context.link, kind))
 }
@@ -72,7 +73,8 @@ pub fn emit_check<A: Allocator>(
     protocol: Protocol,
 ) -> Result<usize, AllocError>
     requires { HasRoom 24 code.old }
-    ensures { EmitsFormula 24 result context (check_formula context.link protocol) code.old code.new }
+    ensures { EmitsFormula 24 result context (check_formula context.link protocol)
+        code.old code.new }
 {
     match protocol {
         Protocol::Ether => emit_kind(code, context, FrameKind::Ethernet),

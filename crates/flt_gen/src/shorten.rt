@@ -1,5 +1,5 @@
 //! The same program with fewer instructions: those that no run reaches are left out, a block that
-//! is there already isn't emitted again, and one instruction replaces several where it does the same.
+//! is there already isn't emitted again, and one instruction replaces several that do the same.
 
 ghost use Rattle.std.specs.Prelude.{IfOk};
 ghost use Rattle.std.specs.Option.{IfSome};

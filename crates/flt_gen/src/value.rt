@@ -49,7 +49,8 @@ fn emit_net_value<A: Allocator>(
     value: Value,
 ) -> Result<usize, AllocError>
     requires { HasRoom 72 code.old }
-    ensures { EmitsFormula 72 result context (net_value_formula context.link protocol direction value)
+    ensures { EmitsFormula 72 result context
+        (net_value_formula context.link protocol direction value)
         code.old code.new }
 {
     match value {

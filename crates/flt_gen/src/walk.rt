@@ -7,10 +7,11 @@ ghost use Rattle.std.specs.Prelude.{if◌then◌else◌};
 ghost use Rattle.flt_gen.specs.Group.{larger_group};
 ghost use Rattle.flt_gen.specs.Code.{block};
 ghost use Rattle.flt_gen.specs.Emits.{HasRoom};
-ghost use Rattle.flt_gen.specs.Walk.{start, finish_truth, finish_relation, finish_number, is_number_node};
-ghost use Rattle.flt_gen.specs.Walk.{is_truth_node, begin_operands, flush_group, finish_group, emit_value};
-ghost use Rattle.flt_gen.specs.Walk.{emit_join, emit_truth_node, emit_node, insns_of};
-ghost use Rattle.flt_gen.specs.Walk.{emit_applied, emit_compared, emit_both_nodes};
+ghost use Rattle.flt_gen.specs.Walk.{start, finish_truth, finish_relation, finish_number};
+ghost use Rattle.flt_gen.specs.Walk.{is_number_node, is_truth_node, begin_operands, flush_group};
+ghost use Rattle.flt_gen.specs.Walk.{finish_group, emit_value, emit_join, emit_truth_node};
+ghost use Rattle.flt_gen.specs.Walk.{emit_node, insns_of, emit_applied, emit_compared};
+ghost use Rattle.flt_gen.specs.Walk.{emit_both_nodes};
 
 use crate::code::{Code, Targets};
 use crate::context::Context;
@@ -194,7 +195,8 @@ impl<A: Allocator> Walk<A> {
     fn finish_group(&mut self, link: Link) -> Result<(), AllocError>
         requires room { length self.old.code < 2 ^ 30 }
         requires some { length self.old.group.numbers ≤ 4096 }
-        ensures { OnOk result (self.new ≡ finish_group link self.old self.old.group self.old.chained) }
+        ensures { OnOk result
+            (self.new ≡ finish_group link self.old self.old.group self.old.chained) }
     {
         if self.chained {
             let _ = self.truths.pop();
@@ -268,9 +270,9 @@ impl<A: Allocator> Walk<A> {
 
     /// An operator with a constant as its right operand. `false`: its instruction may not have it.
     fn emit_applied(&mut self, operator: Operator, constant: u32) -> Result<bool, AllocError>
-        ensures emitted { IfOk result (λ emitted. emit_applied operator constant self.old
-            ≡ (if emitted then Some self.new else None)) }
-        ensures same { IfOk result (λ emitted. self.new ≡ (if emitted then self.new else self.old)) }
+        ensures emits { IfOk result (λ fits. emit_applied operator constant self.old
+            ≡ (if fits then Some self.new else None)) }
+        ensures same { IfOk result (λ fits. self.new ≡ (if fits then self.new else self.old)) }
     {
         if !takes(operator, constant) {
             return Ok(false);
@@ -307,9 +309,9 @@ impl<A: Allocator> Walk<A> {
     ) -> Result<bool, AllocError>
         requires room { length self.old.code < 2 ^ 30 }
         requires some { length self.old.group.numbers ≤ 4096 }
-        ensures emitted { IfOk result (λ emitted. emit_both_nodes link self.old node.now right.now
-            ≡ (if emitted then Some self.new else None)) }
-        ensures same { IfOk result (λ emitted. self.new ≡ (if emitted then self.new else self.old)) }
+        ensures emits { IfOk result (λ fits. emit_both_nodes link self.old node.now right.now
+            ≡ (if fits then Some self.new else None)) }
+        ensures same { IfOk result (λ fits. self.new ≡ (if fits then self.new else self.old)) }
     {
         match (node, right) {
             (Node::Apply(operator), Node::Literal(n) | Node::Named(n)) => {

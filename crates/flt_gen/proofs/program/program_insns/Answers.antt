@@ -60,7 +60,7 @@ emit_node-requires-else-branch-clause-after g c =
     let node = get_or c.args.nodes.now (c.nodes.left - 1) (Check Ether) in
     let h = stands c.args.link c.args.nodes.now c.nodes.left c.nodes.walk c.requires.room c.nodes.invariant.within c.nodes.invariant.same c.nodes.invariant.low in
     let kept : c.emit_both_nodes.new.self ≡ c.nodes.walk = c.in_ok-emit_both_nodes.ensures.same ∙ ap (λ t. if t then c.emit_both_nodes.new.self else c.nodes.walk) c.if-branch.false in
-    let none = c.in_ok-emit_both_nodes.ensures.emitted ∙ ap (λ t. if t then Some c.emit_both_nodes.new.self else None) c.if-branch.false in
+    let none = c.in_ok-emit_both_nodes.ensures.emits ∙ ap (λ t. if t then Some c.emit_both_nodes.new.self else None) c.if-branch.false in
     let n = node_stands c.args.link c.args.nodes.now c.nodes.left (Check Ether) c.nodes.walk c.requires.room h (let some = c.if-left-eq0.false in omega arith) none in
     let code = n.code in
     let same = ap (λ (w : Walk). length (emit_node c.args.link w node).code) kept in
@@ -79,7 +79,7 @@ nodes-preserved-in-Continue-branch-2 g c =
 pub nodes-preserved-then-branch : goal.nodes-preserved-then-branch
 nodes-preserved-then-branch g c =
     let h = stands c.args.link c.args.nodes.now c.nodes.left c.nodes.walk c.requires.room c.nodes.invariant.within c.nodes.invariant.same c.nodes.invariant.low in
-    let both = c.in_ok-emit_both_nodes.ensures.emitted ∙ ap (λ t. if t then Some c.emit_both_nodes.new.self else None) c.if-branch.true in
+    let both = c.in_ok-emit_both_nodes.ensures.emits ∙ ap (λ t. if t then Some c.emit_both_nodes.new.self else None) c.if-branch.true in
     let n = both_stand c.args.link c.args.nodes.now c.nodes.left (Check Ether) c.nodes.walk c.emit_both_nodes.new.self c.requires.room h (let some = c.if-left-eq0.false in omega arith) both in
     record { within = n.within; same = n.same; low = n.low }
 
@@ -88,7 +88,7 @@ nodes-preserved g c =
     let node = get_or c.args.nodes.now (c.nodes.left - 1) (Check Ether) in
     let h = stands c.args.link c.args.nodes.now c.nodes.left c.nodes.walk c.requires.room c.nodes.invariant.within c.nodes.invariant.same c.nodes.invariant.low in
     let kept : c.emit_both_nodes.new.self ≡ c.nodes.walk = c.in_ok-emit_both_nodes.ensures.same ∙ ap (λ t. if t then c.emit_both_nodes.new.self else c.nodes.walk) c.if-branch.false in
-    let none = c.in_ok-emit_both_nodes.ensures.emitted ∙ ap (λ t. if t then Some c.emit_both_nodes.new.self else None) c.if-branch.false in
+    let none = c.in_ok-emit_both_nodes.ensures.emits ∙ ap (λ t. if t then Some c.emit_both_nodes.new.self else None) c.if-branch.false in
     let put : c.emit_node-else-branch.new.self ≡ emit_node c.args.link c.nodes.walk node = c.in_ok-emit_node-2.ensures ∙ ap (λ (w : Walk). emit_node c.args.link w node) kept in
     let n = subst (λ w. Stands c.args.link c.args.nodes.now (c.nodes.left - 1) w) (sym put) (node_stands c.args.link c.args.nodes.now c.nodes.left (Check Ether) c.nodes.walk c.requires.room h (let some = c.if-left-eq0.false in omega arith) none) in
     record { within = n.within; same = n.same; low = n.low }
