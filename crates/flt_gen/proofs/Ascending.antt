@@ -4,7 +4,7 @@ use Rattle.std.specs.Prelude.{nat_lt, ◌==◌, ◌||◌, if◌then◌else◌}
 use Rattle.std.specs.List.{insert}
 use Rattle.std.proofs.lemmas.Bool.Decides.{nat_tests}
 use Rattle.flt_gen.specs.Formula.{is_one_of}
-use Rattle.flt_gen.specs.Group.{inserted}
+use Rattle.flt_gen.specs.Group.{insert_ascending}
 
 -- by a test
 pub if_case : {A : Type 0} (P : A → Type 0) (b : Bool) (x y : A) → (b ≡ true → P x) → (b ≡ false → P y) → P (if b then x else y)
@@ -12,16 +12,16 @@ if_case P true x y t f = t refl
 if_case P false x y t f = f refl
 
 -- behind smaller numbers a number is put before the first that isn't smaller
-pub inserted_at : (a : ℕ) (vs : List ℕ) (at : ℕ) → at ≤ length vs → ((i : ℕ) → i < at → get_or vs i 0 < a) → (at < length vs → a ≤ get_or vs at 0) → insert vs at a ≡ inserted a vs
+pub inserted_at : (a : ℕ) (vs : List ℕ) (at : ℕ) → at ≤ length vs → ((i : ℕ) → i < at → get_or vs i 0 < a) → (at < length vs → a ≤ get_or vs at 0) → insert vs at a ≡ insert_ascending a vs
 inserted_at a [] zero l low high = refl
 inserted_at a [] (suc at) l low high = absurd (omega arith)
 inserted_at a (v ∷ vs) zero l low high =
     let h = high (omega arith) in
-    if_case (λ r. a ∷ v ∷ vs ≡ r) (nat_lt v a) (v ∷ inserted a vs) (a ∷ v ∷ vs) (λ e. absurd (let k : v < a = grind (arith, nat_tests) in omega arith)) (λ e. refl)
+    if_case (λ r. a ∷ v ∷ vs ≡ r) (nat_lt v a) (v ∷ insert_ascending a vs) (a ∷ v ∷ vs) (λ e. absurd (let k : v < a = grind (arith, nat_tests) in omega arith)) (λ e. refl)
 inserted_at a (v ∷ vs) (suc at) l low high =
     let k = low 0 (omega arith) in
     let h = inserted_at a vs at (omega arith) (λ i m. low (suc i) (omega arith)) (λ m. high (omega arith)) in
-    if_case (λ r. v ∷ insert vs at a ≡ r) (nat_lt v a) (v ∷ inserted a vs) (a ∷ v ∷ vs) (λ e. ap (λ r. v ∷ r) h) (λ e. absurd (let no : (v < a) → ⊥ = grind (arith, nat_tests) in no k))
+    if_case (λ r. v ∷ insert vs at a ≡ r) (nat_lt v a) (v ∷ insert_ascending a vs) (a ∷ v ∷ vs) (λ e. ap (λ r. v ∷ r) h) (λ e. absurd (let no : (v < a) → ⊥ = grind (arith, nat_tests) in no k))
 
 -- none of the numbers is smaller
 abbrev pub AllFrom : ℕ → List ℕ → Type 0
@@ -63,19 +63,19 @@ ascending_drop zero (v ∷ vs) l = l
 ascending_drop (suc h) [] l = tt
 ascending_drop (suc h) (v ∷ vs) l = ascending_drop h vs l.1
 
-all_from_inserted : (b a : ℕ) (vs : List ℕ) → b ≤ a → AllFrom b vs → AllFrom b (inserted a vs)
+all_from_inserted : (b a : ℕ) (vs : List ℕ) → b ≤ a → AllFrom b vs → AllFrom b (insert_ascending a vs)
 all_from_inserted b a [] l h = (l, tt)
 all_from_inserted b a (v ∷ vs) l h =
     if_case (λ xs. AllFrom b xs) (nat_lt v a) _ _ (λ e. (h.0, all_from_inserted b a vs l h.1)) (λ e. (l, h))
 
-pub ascending_inserted : (a : ℕ) (vs : List ℕ) → Ascending vs → Ascending (inserted a vs)
+pub ascending_inserted : (a : ℕ) (vs : List ℕ) → Ascending vs → Ascending (insert_ascending a vs)
 ascending_inserted a [] h = (tt, tt)
 ascending_inserted a (v ∷ vs) h =
     if_case (λ xs. Ascending xs) (nat_lt v a) _ _
     (λ e. let l : v < a = grind (arith, nat_tests) in (all_from_inserted v a vs (omega arith) h.0, ascending_inserted a vs h.1))
     (λ e. let l : a ≤ v = grind (arith, nat_tests) in ((l, all_from_less a v vs l h.0), h))
 
-pub length_inserted : (a : ℕ) (vs : List ℕ) → length (inserted a vs) ≡ length vs + 1
+pub length_inserted : (a : ℕ) (vs : List ℕ) → length (insert_ascending a vs) ≡ length vs + 1
 length_inserted a [] = refl
 length_inserted a (v ∷ vs) =
     if_case (λ xs. length xs ≡ length (v ∷ vs) + 1) (nat_lt v a) _ _ (λ e. let h = length_inserted a vs in omega arith) (λ e. omega arith)
@@ -85,7 +85,7 @@ or_swap true true c = refl
 or_swap true false c = refl
 or_swap false b c = refl
 
-pub one_of_inserted : (x a : ℕ) (vs : List ℕ) → is_one_of x (inserted a vs) ≡ (x == a || is_one_of x vs)
+pub one_of_inserted : (x a : ℕ) (vs : List ℕ) → is_one_of x (insert_ascending a vs) ≡ (x == a || is_one_of x vs)
 one_of_inserted x a [] = refl
 one_of_inserted x a (v ∷ vs) =
     if_case (λ xs. is_one_of x xs ≡ (x == a || (x == v || is_one_of x vs))) (nat_lt v a) _ _

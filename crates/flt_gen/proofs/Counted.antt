@@ -30,7 +30,7 @@ use Rattle.flt_gen.specs.declared.elementary.Sides.{Sides}
 use Rattle.flt_gen.specs.declared.elementary.Transport.{Transport}
 use Rattle.flt_gen.specs.Elementary.{has_ip_proto, has_ip6_proto}
 use Rattle.flt_gen.specs.Numbers.{accessors, accessor_tests}
-use Rattle.flt_gen.specs.Formula.{Formula, Single, Compare, Both, Either, Guard, Choose, Among, all_of, sides, checked, guarded}
+use Rattle.flt_gen.specs.Formula.{Formula, Single, Compare, Both, Either, Guard, Choose, Among, all_of, sides, checked_formula, guarded_formula}
 use Rattle.flt_gen.specs.Primitives.{any_proto, mac_tests, check_formula, cast_formula, proto_formula, net_of_kind, net_formula, net_test, ip6_formula, ether_host, port_formula, port_test, whole_field, any_sides, port_places, port_sides, ports_behind, ip_transport, ip6_transport, transport, value_formula}
 use Rattle.flt_gen.specs.Reading.{formula}
 use Rattle.flt_gen.specs.Counts.{tests, nodes, words}
@@ -185,7 +185,7 @@ value_tests_fit link PortRange p d _ = omega arith
 value_tests_fit link Proto p d (value.Number n m) = proto_tests_fit link p n
 value_tests_fit link Proto p d _ = some_proto p
 
-accessor_tests_are : (link : Link) (p : Protocol) (f : Formula) → tests (guarded (accessor_tests link p) f) ≡ count.accessor_tests p + tests f
+accessor_tests_are : (link : Link) (p : Protocol) (f : Formula) → tests (guarded_formula (accessor_tests link p) f) ≡ count.accessor_tests p + tests f
 accessor_tests_are link protocol.Ether f = refl
 accessor_tests_are link protocol.Ip f = refl
 accessor_tests_are link protocol.Ip6 f = refl
@@ -196,13 +196,13 @@ accessor_tests_are link protocol.Udp f = omega arith
 accessor_tests_are link protocol.Icmp f = omega arith
 accessor_tests_are link protocol.Icmp6 f = refl
 
-checked_tests : (link : Link) (a : NumberTree) (rest : List Protocol) (f : Formula) → tests (checked link (accessors a rest) f) ≡ count.number_tests a + tests (checked link rest f)
+checked_tests : (link : Link) (a : NumberTree) (rest : List Protocol) (f : Formula) → tests (checked_formula link (accessors a rest) f) ≡ count.number_tests a + tests (checked_formula link rest f)
 checked_tests link (literal n) rest f = omega arith
 checked_tests link (named n) rest f = omega arith
 checked_tests link len rest f = omega arith
 checked_tests link (load p s a) rest f =
     let h = checked_tests link a rest f in
-    let t = accessor_tests_are link p (checked link (accessors a rest) f) in
+    let t = accessor_tests_are link p (checked_formula link (accessors a rest) f) in
     omega arith
 checked_tests link (negated a) rest f = checked_tests link a rest f
 checked_tests link (applied o a b) rest f =
@@ -382,14 +382,14 @@ bare_value link Proto p d (value.Number n m) = bare_proto_value link p n
 bare_value link Proto p d _ = bare_one _
 
 -- the tests of accessors add neither nodes nor words
-same_sizes : (link : Link) (ps : List Protocol) (f : Formula) → (nodes (checked link ps f) ≡ nodes f) × (words (checked link ps f) ≡ words f)
+same_sizes : (link : Link) (ps : List Protocol) (f : Formula) → (nodes (checked_formula link ps f) ≡ nodes f) × (words (checked_formula link ps f) ≡ words f)
 same_sizes link [] f = (refl, refl)
 same_sizes link (p ∷ ps) f =
     let h = same_sizes link ps f in
-    let g = guarded_sizes (accessor_tests link p) (checked link ps f) in
+    let g = guarded_sizes (accessor_tests link p) (checked_formula link ps f) in
     (g.0 ∙ h.0, g.1 ∙ h.1)
   where
-    guarded_sizes : (ts : List Elementary) (f : Formula) → (nodes (guarded ts f) ≡ nodes f) × (words (guarded ts f) ≡ words f)
+    guarded_sizes : (ts : List Elementary) (f : Formula) → (nodes (guarded_formula ts f) ≡ nodes f) × (words (guarded_formula ts f) ≡ words f)
     guarded_sizes [] f = (refl, refl)
     guarded_sizes (t ∷ ts) f = let h = guarded_sizes ts f in let n = h.0 in let w = h.1 in (omega arith, omega arith)
 
@@ -420,11 +420,11 @@ words_fit link (joined And a b) = let h = words_fit link a in let k = words_fit 
 words_fit link (joined Or a b) = let h = words_fit link a in let k = words_fit link b in omega arith
 
 -- the tests of accessors leave the choices as they are
-checked_apt : (p : List ℕ) (link : Link) (ps : List Protocol) (f : Formula) → Apt p f → Apt p (checked link ps f)
+checked_apt : (p : List ℕ) (link : Link) (ps : List Protocol) (f : Formula) → Apt p f → Apt p (checked_formula link ps f)
 checked_apt p link [] f h = h
-checked_apt p link (q ∷ ps) f h = guarded_apt (accessor_tests link q) (checked link ps f) (checked_apt p link ps f h)
+checked_apt p link (q ∷ ps) f h = guarded_apt (accessor_tests link q) (checked_formula link ps f) (checked_apt p link ps f h)
   where
-    guarded_apt : (ts : List Elementary) (f : Formula) → Apt p f → Apt p (guarded ts f)
+    guarded_apt : (ts : List Elementary) (f : Formula) → Apt p f → Apt p (guarded_formula ts f)
     guarded_apt [] f h = h
     guarded_apt (t ∷ ts) f h = (tt, guarded_apt ts f h)
 

@@ -24,7 +24,8 @@ use Rattle.flt_bpf.specs.Instructions.{operation_of, code_of}
 use Rattle.flt_gen.specs.Elementary.{network}
 use Rattle.flt_gen.specs.Numbers.{width_of}
 use Rattle.flt_gen.specs.Formula.{Formula, Single, Compare, Both, Either, Except, Guard, Fork, Choose, Among}
-use Rattle.flt_gen.specs.Code.{plain, computation, constant, constant_operand, branch_insn, jump_before, branch_before, comparison_before, field_before, mask_before, base_before, transport_before, accessor_before, number_before, Entered, at_top, chain_before, search_before, LEVELS, elementary_before, fork_before, emitted, NEAR}
+use Rattle.flt_gen.specs.declared.code.Reach.TheVariants.{Near, YesFar, NoFar, BothFar}
+use Rattle.flt_gen.specs.Code.{plain, computation, constant, constant_operand, branch_insn, emit_jump, emit_branch, emit_branch_by, emit_comparison, emit_field, emit_mask, emit_base, emit_transport, emit_accessor, emit_number, Block, at_top, emit_chain, emit_search, LEVELS, emit_elementary, emit_fork, emit_formula, NEAR}
 use Rattle.flt_gen.specs.declared.follow.Knowledge.{Knowledge}
 use Rattle.flt_gen.specs.Follow.{and_fork, load_code, fact, always, and_fact, target}
 use Rattle.flt_gen.specs.declared.elementary.Elementary.{Elementary}
@@ -102,11 +103,11 @@ needed_put c i other h = record { each = at }
     at (suc place) jump g e = one_later c i place jump (h.each place jump g e)
 
 -- a test and a jump for one of its ways
-needed_one : (c : List Insn) (t : Test) (o : Operand) (k jt jf to : ℕ) → (jt ≡ 0) ⊎ (jf ≡ 0) → NEAR < length c - to → JumpsAreNeeded c → JumpsAreNeeded (branch_insn t o k jt jf ∷ jump_before to c)
+needed_one : (c : List Insn) (t : Test) (o : Operand) (k jt jf to : ℕ) → (jt ≡ 0) ⊎ (jf ≡ 0) → NEAR < length c - to → JumpsAreNeeded c → JumpsAreNeeded (branch_insn t o k jt jf ∷ emit_jump to c)
 needed_one c t o k jt jf to way far h = record { each = at }
   where
     all : List Insn
-    all = branch_insn t o k jt jf ∷ jump_before to c
+    all = branch_insn t o k jt jf ∷ emit_jump to c
 
     leads : (jt ≡ 0) ⊎ (jf ≡ 0) → (0 + 1 + jt ≡ 1) ⊎ (0 + 1 + jf ≡ 1)
     leads (inl e) = inl (omega arith)
@@ -118,20 +119,20 @@ needed_one c t o k jt jf to way far h = record { each = at }
         let same : plain Jump (length c - to) ≡ jump = cc in
         let offset : length c - to ≡ jump.k = ap (λ j. j.k) same in
         record { from = 0; branch = branch_insn t o k jt jf; there = refl; branches = branch_tests t o k jt jf; leads = leads way; far = omega arith }
-    at (suc (suc place)) jump g e = one_later (jump_before to c) _ (suc place) jump (one_later c _ place jump (h.each place jump g e))
+    at (suc (suc place)) jump g e = one_later (emit_jump to c) _ (suc place) jump (one_later c _ place jump (h.each place jump g e))
 
 -- a test and a jump for each of its ways
-needed_two : (c : List Insn) (t : Test) (o : Operand) (k hit miss : ℕ) → NEAR < length c + 1 - hit → NEAR < length c + 1 - miss → JumpsAreNeeded c → JumpsAreNeeded (branch_insn t o k 0 1 ∷ jump_before hit (jump_before miss c))
+needed_two : (c : List Insn) (t : Test) (o : Operand) (k hit miss : ℕ) → NEAR < length c + 1 - hit → NEAR < length c + 1 - miss → JumpsAreNeeded c → JumpsAreNeeded (branch_insn t o k 0 1 ∷ emit_jump hit (emit_jump miss c))
 needed_two c t o k hit miss far_hit far_miss h = record { each = at }
   where
     all : List Insn
-    all = branch_insn t o k 0 1 ∷ jump_before hit (jump_before miss c)
+    all = branch_insn t o k 0 1 ∷ emit_jump hit (emit_jump miss c)
 
     at : (place : ℕ) (jump : Insn) → slice_get all place ≡ Some jump → jump.code ≡ JUMP → IsNeeded all place jump
     at zero jump g e = let same : branch_insn t o k 0 1 ≡ jump = cc in absurd (branch_no_jump t o (ap (λ j. j.code) same ∙ e))
     at (suc zero) jump g e =
-        let same : plain Jump (length (jump_before miss c) - hit) ≡ jump = cc in
-        let offset : length (jump_before miss c) - hit ≡ jump.k = ap (λ j. j.k) same in
+        let same : plain Jump (length (emit_jump miss c) - hit) ≡ jump = cc in
+        let offset : length (emit_jump miss c) - hit ≡ jump.k = ap (λ j. j.k) same in
         record { from = 0; branch = branch_insn t o k 0 1; there = refl; branches = branch_tests t o k 0 1; leads = inl refl; far = omega arith }
     at (suc (suc zero)) jump g e =
         let same : plain Jump (length c - miss) ≡ jump = cc in
@@ -139,7 +140,7 @@ needed_two c t o k hit miss far_hit far_miss h = record { each = at }
         record { from = 0; branch = branch_insn t o k 0 1; there = refl; branches = branch_tests t o k 0 1; leads = inr refl; far = omega arith }
     at (suc (suc (suc place))) jump g e = one_later _ _ (suc (suc place)) jump (one_later _ _ (suc place) jump (one_later c _ place jump (h.each place jump g e)))
 
-needed_choice : (t : Test) (o : Operand) (k hit miss : ℕ) (c : List Insn) → JumpsAreNeeded c → (a b d : Bool) → a ≡ (nat_le (length c - hit) NEAR && nat_le (length c - miss) NEAR) → b ≡ nat_le (length c + 1 - miss) NEAR → d ≡ nat_le (length c + 1 - hit) NEAR → JumpsAreNeeded (if a then branch_insn t o k (length c - hit) (length c - miss) ∷ c else (if b then branch_insn t o k 0 (length c + 1 - miss) ∷ jump_before hit c else (if d then branch_insn t o k (length c + 1 - hit) 0 ∷ jump_before miss c else branch_insn t o k 0 1 ∷ jump_before hit (jump_before miss c))))
+needed_choice : (t : Test) (o : Operand) (k hit miss : ℕ) (c : List Insn) → JumpsAreNeeded c → (a b d : Bool) → a ≡ (nat_le (length c - hit) NEAR && nat_le (length c - miss) NEAR) → b ≡ nat_le (length c + 1 - miss) NEAR → d ≡ nat_le (length c + 1 - hit) NEAR → JumpsAreNeeded (emit_branch_by (if a then Near else (if b then YesFar else (if d then NoFar else BothFar))) t o k hit miss c)
 needed_choice t o k hit miss c h true b d ea eb ed = needed_put c _ (branch_no_jump t o) h
 needed_choice t o k hit miss c h false true d ea eb ed =
     let far : NEAR < length c - hit = grind (arith, nat_tests) in
@@ -152,19 +153,19 @@ needed_choice t o k hit miss c h false false false ea eb ed =
     let far_miss : NEAR < length c + 1 - miss = grind (arith, nat_tests) in
     needed_two c t o k hit miss far_hit far_miss h
 
-branch_needed : (t : Test) (o : Operand) (k hit miss : ℕ) (c : List Insn) → JumpsAreNeeded c → JumpsAreNeeded (branch_before t o k hit miss c)
-unfolding branch_before
+branch_needed : (t : Test) (o : Operand) (k hit miss : ℕ) (c : List Insn) → JumpsAreNeeded c → JumpsAreNeeded (emit_branch t o k hit miss c)
+unfolding emit_branch
 branch_needed t o k hit miss c h = needed_choice t o k hit miss c h _ _ _ refl refl refl
 
-field_needed : (place : Place) (w : Width) (c : List Insn) → JumpsAreNeeded c → JumpsAreNeeded (field_before place w c)
+field_needed : (place : Place) (w : Width) (c : List Insn) → JumpsAreNeeded c → JumpsAreNeeded (emit_field place w c)
 field_needed (At k) w c h = needed_put c _ (load_no_jump w) h
 field_needed (Past header k) w c h = needed_put _ _ (λ e. absurd (omega arith)) (needed_put c _ (indirect_no_jump w) h)
 
-mask_needed : (mask : Option ℕ) (c : List Insn) → JumpsAreNeeded c → JumpsAreNeeded (mask_before mask c)
+mask_needed : (mask : Option ℕ) (c : List Insn) → JumpsAreNeeded c → JumpsAreNeeded (emit_mask mask c)
 mask_needed None c h = h
 mask_needed (Some mask) c h = needed_put c _ (λ e. absurd (omega arith)) h
 
-comparison_needed : (comparison : Comparison) (o : Operand) (k hit miss : ℕ) (c : List Insn) → JumpsAreNeeded c → JumpsAreNeeded (comparison_before comparison o k hit miss c)
+comparison_needed : (comparison : Comparison) (o : Operand) (k hit miss : ℕ) (c : List Insn) → JumpsAreNeeded c → JumpsAreNeeded (emit_comparison comparison o k hit miss c)
 comparison_needed Equal o k hit miss c h = branch_needed test.Equal o k hit miss c h
 comparison_needed NotEqual o k hit miss c h = branch_needed test.Equal o k miss hit c h
 comparison_needed Less o k hit miss c h = branch_needed test.AtLeast o k miss hit c h
@@ -172,35 +173,35 @@ comparison_needed AtMost o k hit miss c h = branch_needed test.Greater o k miss 
 comparison_needed Greater o k hit miss c h = branch_needed test.Greater o k hit miss c h
 comparison_needed AtLeast o k hit miss c h = branch_needed test.AtLeast o k hit miss c h
 
-chain_needed : (vs : List ℕ) (hit miss : ℕ) (c : List Insn) → JumpsAreNeeded c → JumpsAreNeeded (chain_before vs hit miss c).code
+chain_needed : (vs : List ℕ) (hit miss : ℕ) (c : List Insn) → JumpsAreNeeded c → JumpsAreNeeded (emit_chain vs hit miss c).code
 chain_needed [] hit miss c h = h
 chain_needed (v ∷ vs) hit miss c h = branch_needed test.Equal Constant v hit _ _ (chain_needed vs hit miss c h)
 
-search_needed : (k : ℕ) (vs : List ℕ) (hit miss : ℕ) (c : List Insn) → JumpsAreNeeded c → JumpsAreNeeded (search_before k vs hit miss c).code
-unfolding search_before
+search_needed : (k : ℕ) (vs : List ℕ) (hit miss : ℕ) (c : List Insn) → JumpsAreNeeded c → JumpsAreNeeded (emit_search k vs hit miss c).code
+unfolding emit_search
 search_needed zero vs hit miss c h = chain_needed vs hit miss c h
 search_needed (suc k) vs hit miss c h =
     let half = length vs / 2 in
-    let upper = search_before k (drop half vs) hit miss c in
-    by_test (λ (e : Entered). JumpsAreNeeded e.code) (nat_lt (length vs) 2) _ _
+    let upper = emit_search k (drop half vs) hit miss c in
+    by_test (λ (e : Block). JumpsAreNeeded e.code) (nat_lt (length vs) 2) _ _
     (λ e. chain_needed vs hit miss c h)
     (λ e. branch_needed test.AtLeast Constant (get_or vs half 0) _ _ _ (search_needed k (take half vs) hit miss upper.code (search_needed k (drop half vs) hit miss c h)))
 
-base_needed : (at : ℕ) (w : Width) (c : List Insn) → JumpsAreNeeded c → JumpsAreNeeded (base_before at w c)
+base_needed : (at : ℕ) (w : Width) (c : List Insn) → JumpsAreNeeded c → JumpsAreNeeded (emit_base at w c)
 base_needed at w c h = needed_put _ _ (λ e. absurd (omega arith)) (needed_put c _ (indirect_no_jump w) h)
 
-transport_needed : (link : Link) (w : Width) (c : List Insn) → JumpsAreNeeded c → JumpsAreNeeded (transport_before link w c)
+transport_needed : (link : Link) (w : Width) (c : List Insn) → JumpsAreNeeded c → JumpsAreNeeded (emit_transport link w c)
 transport_needed link w c h =
     needed_put _ _ (λ e. absurd (omega arith)) (needed_put _ _ (λ e. absurd (omega arith)) (needed_put _ _ (λ e. absurd (omega arith)) (needed_put c _ (indirect_no_jump w) h)))
 
-accessor_needed : (link : Link) (protocol : Protocol) (w : Width) (c : List Insn) → JumpsAreNeeded c → JumpsAreNeeded (accessor_before link protocol w c)
+accessor_needed : (link : Link) (protocol : Protocol) (w : Width) (c : List Insn) → JumpsAreNeeded c → JumpsAreNeeded (emit_accessor link protocol w c)
 accessor_needed link Ether w c h = base_needed 0 w c h
 accessor_needed link Tcp w c h = transport_needed link w c h
 accessor_needed link Udp w c h = transport_needed link w c h
 accessor_needed link Icmp w c h = transport_needed link w c h
 accessor_needed link _ w c h = base_needed (network link) w c h
 
-number_needed : (link : Link) (e : NumberTree) (slot : ℕ) (c : List Insn) → JumpsAreNeeded c → JumpsAreNeeded (number_before link e slot c)
+number_needed : (link : Link) (e : NumberTree) (slot : ℕ) (c : List Insn) → JumpsAreNeeded c → JumpsAreNeeded (emit_number link e slot c)
 number_needed link (literal k) slot c h = needed_put c _ (λ e. absurd (omega arith)) h
 number_needed link (named k) slot c h = needed_put c _ (λ e. absurd (omega arith)) h
 number_needed link len slot c h = needed_put c _ (λ e. absurd (omega arith)) h
@@ -212,26 +213,26 @@ number_needed link (applied operator l r) slot c h =
     (needed_put _ _ (λ e. absurd (omega arith)) (number_needed link r (slot + 1) _ (needed_put _ _ (λ e. absurd (omega arith)) (needed_put _ _ (λ e. absurd (omega arith)) (needed_put c _ (operator_no_jump operator IndexRegister) h))))))
 
 -- the same of the code from the entry on
-pub record Needed (e : Entered) : Type 0 where
+pub record Needed (e : Block) : Type 0 where
   pub code : JumpsAreNeeded e.code
-  pub entered : JumpsAreNeeded (tail e.code e.entry)
+  pub block : JumpsAreNeeded (tail e.code e.entry)
 
 needed_top : (c : List Insn) → JumpsAreNeeded c → Needed (at_top c)
 needed_top c h =
     let none : 0 ≡ length c - length c = omega arith in
-    record { code = h; entered = subst (λ k. JumpsAreNeeded (drop k c)) none h }
+    record { code = h; block = subst (λ k. JumpsAreNeeded (drop k c)) none h }
 
 needed_on : (c d : List Insn) (place : ℕ) → place ≤ length c → Extends c d → JumpsAreNeeded (tail c place) → JumpsAreNeeded (tail d place)
 needed_on c d place l e h = subst JumpsAreNeeded (sym (e.same place l)) h
 
-pub record Placed (e : Entered) (c : List Insn) : Type 0 where
+pub record Placed (e : Block) (c : List Insn) : Type 0 where
   pub needed : Needed e
   pub inside : e.entry ≤ length e.code
   pub extends : Extends c e.code
 
-elementary_needed : (known : Knowledge) (t : Elementary) (hit miss : ℕ) (c : List Insn) → hit ≤ length c → miss ≤ length c → JumpsAreNeeded c → JumpsAreNeeded (tail c hit) → JumpsAreNeeded (tail c miss) → Placed (elementary_before known t hit miss c) c
-elementary_needed known (Known true) hit miss c lh lm n h m = record { needed = record { code = n; entered = h }; inside = lh; extends = extends_none c }
-elementary_needed known (Known false) hit miss c lh lm n h m = record { needed = record { code = n; entered = m }; inside = lm; extends = extends_none c }
+elementary_needed : (known : Knowledge) (t : Elementary) (hit miss : ℕ) (c : List Insn) → hit ≤ length c → miss ≤ length c → JumpsAreNeeded c → JumpsAreNeeded (tail c hit) → JumpsAreNeeded (tail c miss) → Placed (emit_elementary known t hit miss c) c
+elementary_needed known (Known true) hit miss c lh lm n h m = record { needed = record { code = n; block = h }; inside = lh; extends = extends_none c }
+elementary_needed known (Known false) hit miss c lh lm n h m = record { needed = record { code = n; block = m }; inside = lm; extends = extends_none c }
 elementary_needed known (Field k) hit miss c lh lm n h m =
     record {
       needed = needed_top _ (field_needed k.place k.width _ (mask_needed k.mask _ (comparison_needed k.comparison Constant k.value _ _ c n)));
@@ -239,15 +240,15 @@ elementary_needed known (Field k) hit miss c lh lm n h m =
       extends = test_extends k _ _ c;
     }
 
-fork_needed : (known : Knowledge) (t u : Elementary) (hit miss : ℕ) (c : List Insn) → hit ≤ length c → miss ≤ length c → JumpsAreNeeded c → JumpsAreNeeded (tail c hit) → JumpsAreNeeded (tail c miss) → Placed (fork_before known t u hit miss c) c
+fork_needed : (known : Knowledge) (t u : Elementary) (hit miss : ℕ) (c : List Insn) → hit ≤ length c → miss ≤ length c → JumpsAreNeeded c → JumpsAreNeeded (tail c hit) → JumpsAreNeeded (tail c miss) → Placed (emit_fork known t u hit miss c) c
 fork_needed known t u hit miss c lh lm n h m =
-    let e = elementary_before (and_fact (fact t false) known) u hit miss c in
+    let e = emit_elementary (and_fact (fact t false) known) u hit miss c in
     let pb = elementary_needed (and_fact (fact t false) known) u hit miss c lh lm n h m in
     let lh' : hit ≤ length e.code = omega (arith, pb.extends.longer) in
-    let pa = elementary_needed known t hit e.entry e.code lh' pb.inside pb.needed.code (needed_on c e.code hit lh pb.extends h) pb.needed.entered in
+    let pa = elementary_needed known t hit e.entry e.code lh' pb.inside pb.needed.code (needed_on c e.code hit lh pb.extends h) pb.needed.block in
     record { needed = pa.needed; inside = pa.inside; extends = extends_on c e.code _ pb.extends pa.extends }
 
-pub emitted_needed : (link : Link) (known : Knowledge) (f : Formula) (hit miss : ℕ) (c : List Insn) → hit ≤ length c → miss ≤ length c → JumpsAreNeeded c → JumpsAreNeeded (tail c hit) → JumpsAreNeeded (tail c miss) → Placed (emitted link known f hit miss c) c
+pub emitted_needed : (link : Link) (known : Knowledge) (f : Formula) (hit miss : ℕ) (c : List Insn) → hit ≤ length c → miss ≤ length c → JumpsAreNeeded c → JumpsAreNeeded (tail c hit) → JumpsAreNeeded (tail c miss) → Placed (emit_formula link known f hit miss c) c
 emitted_needed link known (Single t) hit miss c lh lm n h m = elementary_needed known t hit miss c lh lm n h m
 emitted_needed link known (Compare comparison l r) hit miss c lh lm n h m =
     record {
@@ -258,39 +259,39 @@ emitted_needed link known (Compare comparison l r) hit miss c lh lm n h m =
       extends = relation_extends link comparison l r hit miss c;
     }
 emitted_needed link known (Both a b) hit miss c lh lm n h m =
-    let e = emitted link known b hit miss c in
+    let e = emit_formula link known b hit miss c in
     let pb = emitted_needed link known b hit miss c lh lm n h m in
     let lm' : miss ≤ length e.code = omega (arith, pb.extends.longer) in
-    let pa = emitted_needed link known a e.entry miss e.code pb.inside lm' pb.needed.code pb.needed.entered (needed_on c e.code miss lm pb.extends m) in
+    let pa = emitted_needed link known a e.entry miss e.code pb.inside lm' pb.needed.code pb.needed.block (needed_on c e.code miss lm pb.extends m) in
     record { needed = pa.needed; inside = pa.inside; extends = extends_on c e.code _ pb.extends pa.extends }
 emitted_needed link known (Either a b) hit miss c lh lm n h m =
-    let e = emitted link known b hit miss c in
+    let e = emit_formula link known b hit miss c in
     let pb = emitted_needed link known b hit miss c lh lm n h m in
     let lh' : hit ≤ length e.code = omega (arith, pb.extends.longer) in
-    let pa = emitted_needed link known a hit e.entry e.code lh' pb.inside pb.needed.code (needed_on c e.code hit lh pb.extends h) pb.needed.entered in
+    let pa = emitted_needed link known a hit e.entry e.code lh' pb.inside pb.needed.code (needed_on c e.code hit lh pb.extends h) pb.needed.block in
     record { needed = pa.needed; inside = pa.inside; extends = extends_on c e.code _ pb.extends pa.extends }
 emitted_needed link known (Except a) hit miss c lh lm n h m = emitted_needed link known a miss hit c lm lh n m h
 emitted_needed link known (Guard t a) hit miss c lh lm n h m =
-    let e = emitted link (and_fact (fact t true) known) a hit miss c in
+    let e = emit_formula link (and_fact (fact t true) known) a hit miss c in
     let pb = emitted_needed link (and_fact (fact t true) known) a hit miss c lh lm n h m in
     let lm' : miss ≤ length e.code = omega (arith, pb.extends.longer) in
-    let pa = elementary_needed known t e.entry miss e.code pb.inside lm' pb.needed.code pb.needed.entered (needed_on c e.code miss lm pb.extends m) in
+    let pa = elementary_needed known t e.entry miss e.code pb.inside lm' pb.needed.code pb.needed.block (needed_on c e.code miss lm pb.extends m) in
     record { needed = pa.needed; inside = pa.inside; extends = extends_on c e.code _ pb.extends pa.extends }
 emitted_needed link known (Fork t u a) hit miss c lh lm n h m =
-    let e = emitted link (and_fork t u known) a hit miss c in
+    let e = emit_formula link (and_fork t u known) a hit miss c in
     let pb = emitted_needed link (and_fork t u known) a hit miss c lh lm n h m in
     let lm' : miss ≤ length e.code = omega (arith, pb.extends.longer) in
-    let pa = fork_needed known t u e.entry miss e.code pb.inside lm' pb.needed.code pb.needed.entered (needed_on c e.code miss lm pb.extends m) in
+    let pa = fork_needed known t u e.entry miss e.code pb.inside lm' pb.needed.code pb.needed.block (needed_on c e.code miss lm pb.extends m) in
     record { needed = pa.needed; inside = pa.inside; extends = extends_on c e.code _ pb.extends pa.extends }
 emitted_needed link known (Choose t a b) hit miss c lh lm n h m =
-    let e = emitted link (and_fact (fact t false) known) b hit miss c in
+    let e = emit_formula link (and_fact (fact t false) known) b hit miss c in
     let pb = emitted_needed link (and_fact (fact t false) known) b hit miss c lh lm n h m in
     let lh' : hit ≤ length e.code = omega (arith, pb.extends.longer) in
     let lm' : miss ≤ length e.code = omega (arith, pb.extends.longer) in
-    let d = emitted link (and_fact (fact t true) known) a hit miss e.code in
+    let d = emit_formula link (and_fact (fact t true) known) a hit miss e.code in
     let pa = emitted_needed link (and_fact (fact t true) known) a hit miss e.code lh' lm' pb.needed.code (needed_on c e.code hit lh pb.extends h) (needed_on c e.code miss lm pb.extends m) in
     let le : e.entry ≤ length d.code = (let l = pb.inside in omega (arith, pa.extends.longer)) in
-    let pt = elementary_needed known t d.entry e.entry d.code pa.inside le pa.needed.code pa.needed.entered (needed_on e.code d.code e.entry pb.inside pa.extends pb.needed.entered) in
+    let pt = elementary_needed known t d.entry e.entry d.code pa.inside le pa.needed.code pa.needed.block (needed_on e.code d.code e.entry pb.inside pa.extends pb.needed.block) in
     record { needed = pt.needed; inside = pt.inside; extends = extends_on c e.code _ pb.extends (extends_on e.code d.code _ pa.extends pt.extends) }
 emitted_needed link known (Among f vs) hit miss c lh lm n h m =
     record {

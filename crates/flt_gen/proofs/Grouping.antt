@@ -24,7 +24,7 @@ use Rattle.flt_gen.specs.Formula.{Formula, Both, Either, Except, is_one_of, both
 use Rattle.flt_gen.specs.Primitives.{net_test, net_formula, port_test, port_formula, qualified_formula, value_formula}
 use Rattle.flt_gen.specs.Reading.{formula}
 use Rattle.flt_gen.specs.Counts.{tests, nodes, words}
-use Rattle.flt_gen.specs.Group.{Group, no_group, inserted, with_member, same_type, same_protocol, same_direction, goes_with, member_number, group_and, larger_group, hosts_formula, one_formula, several_formula, formula_by, group_formula, or_any, or_group, truth_member, choice, grouped, MOST_TOGETHER}
+use Rattle.flt_gen.specs.Group.{Group, no_group, insert_ascending, with_member, same_type, same_protocol, same_direction, goes_with, member_number, group_and, larger_group, hosts_formula, one_formula, several_formula, formula_by, group_formula, or_any, or_group, truth_member, choice, grouped_formula, MOST_TOGETHER}
 use Rattle.flt_gen.proofs.Onward.{both_true}
 use Rattle.flt_gen.proofs.Ascending.{Ascending, Searchable, ascending_inserted, length_inserted, one_of_inserted}
 use Rattle.flt_gen.proofs.Exclusive.{Apt, ip_no_arp, ip_no_rarp, arp_no_rarp}
@@ -297,10 +297,10 @@ module _ (link : Link) (p : List ℕ) (n : ℕ) where
       ap (λ x. together link p n k protocol d f (x ∷ [])) (sym (one_address f b h)) ∙ sym (plain_together link p n k protocol d f c m)
   others_read k protocol d f b (x ∷ bs) c m h = refl
 
-  same_more : (k : ValueType) (protocol : Option Protocol) (d : Direction) (a f b : ℕ) (bs : List ℕ) → Common protocol → Merged d → is_one_of f (b ∷ bs) ≡ true → reads link (group_formula link (group_of k protocol d a (inserted a (b ∷ bs)))) p n ≡ either (reads link (one_formula link k protocol d a) p n) (reads link (group_formula link (group_of k protocol d f (b ∷ bs))) p n)
+  same_more : (k : ValueType) (protocol : Option Protocol) (d : Direction) (a f b : ℕ) (bs : List ℕ) → Common protocol → Merged d → is_one_of f (b ∷ bs) ≡ true → reads link (group_formula link (group_of k protocol d a (insert_ascending a (b ∷ bs)))) p n ≡ either (reads link (one_formula link k protocol d a) p n) (reads link (group_formula link (group_of k protocol d f (b ∷ bs))) p n)
   same_more k protocol d a f b bs c m h =
       let l = length_inserted a (b ∷ bs) in
-      ap (λ g. reads link g p n) (several_is link (group_of k protocol d a (inserted a (b ∷ bs))) (inserted a (b ∷ bs)) (omega arith))
+      ap (λ g. reads link g p n) (several_is link (group_of k protocol d a (insert_ascending a (b ∷ bs))) (insert_ascending a (b ∷ bs)) (omega arith))
       ∙ more_together link p n k protocol d a f (b ∷ bs) m h
       ∙ ap (λ r. either r (together link p n k protocol d f (b ∷ bs))) (sym (plain_together link p n k protocol d a c m))
       ∙ ap (λ r. either (reads link (one_formula link k protocol d a) p n) r) (others_read k protocol d f b bs c m h)
@@ -329,7 +329,7 @@ with_member_tests : (q : FullQuals) (a : ℕ) (k : ValueType) (protocol : Option
 with_member_tests q a k protocol d f [] g = omega arith
 with_member_tests q a k protocol d f (b ∷ bs) g =
     let s = same_quals q k protocol d (b ∷ bs) g in
-    let m = more_times (length (b ∷ bs)) (member_tests q.value_type q.protocol q.direction) (length (inserted a (b ∷ bs))) (length_inserted a (b ∷ bs)) in
+    let m = more_times (length (b ∷ bs)) (member_tests q.value_type q.protocol q.direction) (length (insert_ascending a (b ∷ bs))) (length_inserted a (b ∷ bs)) in
     let same : length (b ∷ bs) * member_tests k protocol d ≡ length (b ∷ bs) * member_tests q.value_type q.protocol q.direction =
     ap (λ x. length (b ∷ bs) * member_tests x protocol d) s.types ∙ ap (λ x. length (b ∷ bs) * member_tests q.value_type x d) s.protocols ∙ ap (λ x. length (b ∷ bs) * member_tests q.value_type q.protocol x) s.directions in
     omega arith
@@ -389,12 +389,12 @@ value_stands link q v group k u (Some more) e =
     let tt' = t.tests_fit in
     record { nodes_are = omega arith; words_are = omega arith; apt = f.0.apt; tests_fit = omega arith; reads_are = t.reads_are }
 
-denied_stands : (link : Link) (a : TruthTree) (group : Group) → Kept group → StandsBy link (grouped link no_group a) (formula link a) (count.truth_tests a) no_group → StandsBy link (or_group link (Except (grouped link no_group a)) group) (Except (formula link a)) (count.truth_tests a) group
+denied_stands : (link : Link) (a : TruthTree) (group : Group) → Kept group → StandsBy link (grouped_formula link no_group a) (formula link a) (count.truth_tests a) no_group → StandsBy link (or_group link (Except (grouped_formula link no_group a)) group) (Except (formula link a)) (count.truth_tests a) group
 denied_stands link a group k h =
-    or_stands link (Except (grouped link no_group a)) (Except (formula link a)) (count.truth_tests a) group k
+    or_stands link (Except (grouped_formula link no_group a)) (Except (formula link a)) (count.truth_tests a) group k
     (record { nodes_are = h.nodes_are; words_are = h.words_are; apt = h.apt; tests_fit = h.tests_fit; reads_are = λ p n. ap negated (h.reads_are p n) })
 
-both_stands : (link : Link) (a b : TruthTree) (group : Group) → Kept group → StandsBy link (grouped link no_group a) (formula link a) (count.truth_tests a) no_group → StandsBy link (grouped link no_group b) (formula link b) (count.truth_tests b) no_group → StandsBy link (or_group link (Both (grouped link no_group a) (grouped link no_group b)) group) (Both (formula link a) (formula link b)) (count.truth_tests a + count.truth_tests b) group
+both_stands : (link : Link) (a b : TruthTree) (group : Group) → Kept group → StandsBy link (grouped_formula link no_group a) (formula link a) (count.truth_tests a) no_group → StandsBy link (grouped_formula link no_group b) (formula link b) (count.truth_tests b) no_group → StandsBy link (or_group link (Both (grouped_formula link no_group a) (grouped_formula link no_group b)) group) (Both (formula link a) (formula link b)) (count.truth_tests a + count.truth_tests b) group
 both_stands link a b group k h g =
     let n = h.nodes_are in
     let m = g.nodes_are in
@@ -402,13 +402,13 @@ both_stands link a b group k h g =
     let w = g.words_are in
     let s = h.tests_fit in
     let t = g.tests_fit in
-    or_stands link (Both (grouped link no_group a) (grouped link no_group b)) (Both (formula link a) (formula link b)) (count.truth_tests a + count.truth_tests b) group k
+    or_stands link (Both (grouped_formula link no_group a) (grouped_formula link no_group b)) (Both (formula link a) (formula link b)) (count.truth_tests a + count.truth_tests b) group k
     (record {
       nodes_are = omega arith;
       words_are = omega arith;
       apt = λ p. (h.apt p, g.apt p);
       tests_fit = omega arith;
-      reads_are = λ p n. ap (λ r. both r (reads link (grouped link no_group b) p n)) (h.reads_are p n) ∙ ap (λ r. both (reads link (formula link a) p n) r) (g.reads_are p n);
+      reads_are = λ p n. ap (λ r. both r (reads link (grouped_formula link no_group b) p n)) (h.reads_are p n) ∙ ap (λ r. both (reads link (formula link a) p n) r) (g.reads_are p n);
     })
 
 member_taken : (link : Link) (b : TruthTree) (group more : Group) → Kept group → truth_member b group ≡ Some more → (q : FullQuals) × (v : Value) × (b ≡ qualified q v) × Taken link q v group more
@@ -422,9 +422,9 @@ member_taken link (compared x a b) group more k e = cc
 member_taken link (denied a) group more k e = cc
 member_taken link (joined j a b) group more k e = cc
 
-chain_stands : (link : Link) (a b : TruthTree) (group more : Group) (q : FullQuals) (v : Value) → b ≡ qualified q v → Taken link q v group more → StandsBy link (grouped link more a) (formula link a) (count.truth_tests a) more → StandsBy link (grouped link more a) (Either (formula link a) (formula link b)) (count.truth_tests a + count.truth_tests b) group
+chain_stands : (link : Link) (a b : TruthTree) (group more : Group) (q : FullQuals) (v : Value) → b ≡ qualified q v → Taken link q v group more → StandsBy link (grouped_formula link more a) (formula link a) (count.truth_tests a) more → StandsBy link (grouped_formula link more a) (Either (formula link a) (formula link b)) (count.truth_tests a + count.truth_tests b) group
 chain_stands link a b group more q v e t h =
-    subst (λ (x : TruthTree). StandsBy link (grouped link more a) (Either (formula link a) (formula link x)) (count.truth_tests a + count.truth_tests x) group) (sym e)
+    subst (λ (x : TruthTree). StandsBy link (grouped_formula link more a) (Either (formula link a) (formula link x)) (count.truth_tests a + count.truth_tests x) group) (sym e)
     (let n = h.nodes_are in
     let w = h.words_are in
     let s = h.tests_fit in
@@ -442,7 +442,7 @@ chain_stands link a b group more q v e t h =
           ∙ or_again group.numbers (reads link (formula link a) p n) (reads link (qualified_formula link q v) p n) (reads link (group_formula link group) p n);
     })
 
-either_stands : (link : Link) (a b : TruthTree) (group : Group) → Kept group → (o : Option Group) → truth_member b group ≡ o → StandsBy link (grouped link no_group a) (formula link a) (count.truth_tests a) no_group → StandsBy link (grouped link group b) (formula link b) (count.truth_tests b) group → ((more : Group) → Kept more → StandsBy link (grouped link more a) (formula link a) (count.truth_tests a) more) → StandsBy link (choice o (λ more. grouped link more a) (Either (grouped link no_group a) (grouped link group b))) (Either (formula link a) (formula link b)) (count.truth_tests a + count.truth_tests b) group
+either_stands : (link : Link) (a b : TruthTree) (group : Group) → Kept group → (o : Option Group) → truth_member b group ≡ o → StandsBy link (grouped_formula link no_group a) (formula link a) (count.truth_tests a) no_group → StandsBy link (grouped_formula link group b) (formula link b) (count.truth_tests b) group → ((more : Group) → Kept more → StandsBy link (grouped_formula link more a) (formula link a) (count.truth_tests a) more) → StandsBy link (choice o (λ more. grouped_formula link more a) (Either (grouped_formula link no_group a) (grouped_formula link group b))) (Either (formula link a) (formula link b)) (count.truth_tests a + count.truth_tests b) group
 either_stands link a b group k None e h g m =
     let n = h.nodes_are in
     let i = g.nodes_are in
@@ -455,7 +455,7 @@ either_stands link a b group k None e h g m =
       words_are = omega arith;
       apt = λ p. (h.apt p, g.apt p);
       tests_fit = omega arith;
-      reads_are = λ p n. ap (λ r. either r (reads link (grouped link group b) p n)) (h.reads_are p n)
+      reads_are = λ p n. ap (λ r. either r (reads link (grouped_formula link group b) p n)) (h.reads_are p n)
           ∙ ap (λ r. either (reads link (formula link a) p n) r) (g.reads_are p n)
           ∙ or_again group.numbers (reads link (formula link a) p n) (reads link (formula link b) p n) (reads link (group_formula link group) p n);
     }
@@ -464,7 +464,7 @@ either_stands link a b group k (Some more) e h g m =
     chain_stands link a b group more t.0 t.1 t.2 t.3 (m more (t.3).kept)
 
 -- members that are looked for together change neither the reading nor what is counted
-pub grouped_stands : (link : Link) (a : TruthTree) (group : Group) → Kept group → any_primitive is_unfilled a ≡ false → StandsBy link (grouped link group a) (formula link a) (count.truth_tests a) group
+pub grouped_stands : (link : Link) (a : TruthTree) (group : Group) → Kept group → any_primitive is_unfilled a ≡ false → StandsBy link (grouped_formula link group a) (formula link a) (count.truth_tests a) group
 grouped_stands link (check p) group k u = leaf_stands link (check p) group k u
 grouped_stands link (cast p c) group k u = leaf_stands link (cast p c) group k u
 grouped_stands link (sized s n) group k u = leaf_stands link (sized s n) group k u

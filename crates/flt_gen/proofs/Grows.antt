@@ -1,6 +1,6 @@
 -- The code of a formula has no fault, and no more instructions than its bound.
 use Rattle.std.proofs.Common.{◌≡◌, ℕ, zero, suc, ◌+◌, ◌-◌, ◌*◌, ◌/◌, ◌<◌, ◌≤◌, List, [], ◌∷◌, length, take, drop, get_or, Bool, true, false, Option, Some, None, refl, ap, ◌∙◌, arith, length-drop, length-take}
-use Rattle.std.specs.Prelude.{nat_lt, nat_le, ◌==◌, not, ◌&&◌, if◌then◌else◌}
+use Rattle.std.specs.Prelude.{nat_lt, ◌==◌, not, ◌&&◌, if◌then◌else◌}
 use Rattle.std.proofs.lemmas.Bool.Decides.{nat_tests}
 use Rattle.flt_bpf.specs.declared.insn.Insn.{Insn}
 use Rattle.flt_bpf.specs.declared.operation.Width.{Width}
@@ -29,13 +29,13 @@ use Rattle.flt_gen.specs.Numbers.{width_of}
 use Rattle.flt_gen.specs.Formula.{Formula, Single, Compare, Both, Either, Except, Guard, Fork, Choose, Among}
 use Rattle.flt_lang.specs.Counts.{number_words, number_size}
 use Rattle.flt_gen.specs.Counts.{words, nodes, tests}
-use Rattle.flt_gen.specs.Code.{plain, computation, takes, constant, constant_operand, branch_insn, jump_before, branch_before, comparison_before, field_before, mask_before, base_before, transport_before, accessor_before, number_before, Entered, at_top, chain_before, search_before, LEVELS, elementary_before, fork_before, emitted, NEAR}
+use Rattle.flt_gen.specs.Code.{plain, computation, takes, constant, constant_operand, branch_insn, emit_jump, emit_branch, reach, emit_comparison, emit_field, emit_mask, emit_base, emit_transport, emit_accessor, emit_number, Block, at_top, emit_chain, emit_search, LEVELS, emit_elementary, emit_fork, emit_formula}
 use Rattle.flt_gen.specs.declared.follow.Knowledge.{Knowledge}
 use Rattle.flt_gen.specs.Follow.{and_fork, fact, always, and_fact, target}
 use Rattle.flt_gen.specs.declared.elementary.Elementary.{Elementary}
 use Rattle.flt_gen.proofs.Onward.{target_inside}
 use Rattle.flt_bpf.proofs.Suffix.{IsFaultless}
-use Rattle.flt_gen.proofs.Tails.{one_of_four, by_test, by_right}
+use Rattle.flt_gen.proofs.Tails.{by_reach, by_test, by_right}
 use Rattle.flt_gen.proofs.Numbers.{operand_is}
 use Rattle.flt_bpf.specs.declared.operation.Operation.TheVariants.{LoadAbsolute, LoadIndirect, Load, LoadHeaderLength, Store, Compute, Negate, Jump, CopyToIndex}
 use Rattle.flt_bpf.specs.declared.operation.Register.TheVariants.{Accumulator}
@@ -174,29 +174,29 @@ grows_on : (c d f : List Insn) (m m' : ℕ) → Grows c d m → Grows d f m' →
 grows_on c d f m m' a b =
     record { sound = b.sound; longer = omega (arith, a.longer, b.longer); shorter = omega (arith, a.shorter, b.shorter); ends = b.ends }
 
-branch_grows : (t : Test) (operand : Operand) (k hit miss : ℕ) (c : List Insn) → IsFaultless c → ends_in_return c ≡ true → 0 < hit → hit ≤ length c → 0 < miss → miss ≤ length c → Grows c (branch_before t operand k hit miss c) 3
-unfolding branch_before
+branch_grows : (t : Test) (operand : Operand) (k hit miss : ℕ) (c : List Insn) → IsFaultless c → ends_in_return c ≡ true → 0 < hit → hit ≤ length c → 0 < miss → miss ≤ length c → Grows c (emit_branch t operand k hit miss c) 3
+unfolding emit_branch
 branch_grows t operand k hit miss c s e ph lh pm lm =
     let none = grows_none c s e in
     let one_hit = grows_put c c 0 1 (plain Jump (length c - hit)) none (jump_fine (length c - hit) (length c) (omega arith)) (omega arith) in
     let one_miss = grows_put c c 0 1 (plain Jump (length c - miss)) none (jump_fine (length c - miss) (length c) (omega arith)) (omega arith) in
     let j = plain Jump (length c - miss) in
     let two = grows_put c (j ∷ c) 1 2 (plain Jump (length (j ∷ c) - hit)) one_miss (jump_fine (length (j ∷ c) - hit) (length (j ∷ c)) (omega arith)) (omega arith) in
-    one_of_four (λ d. Grows c d 3) (nat_le (length c - hit) NEAR && nat_le (length c - miss) NEAR) (nat_le (length c + 1 - miss) NEAR) (nat_le (length c + 1 - hit) NEAR) _ _ _ _
+    by_reach (λ d. Grows c d 3) (reach hit miss c) t operand k hit miss c
     (grows_put c c 0 3 _ none (branch_fine t operand k (length c - hit) (length c - miss) (length c) (omega arith) (omega arith)) (omega arith))
-    (grows_put c (jump_before hit c) 1 3 _ one_hit (branch_fine t operand k 0 (length c + 1 - miss) (length (jump_before hit c)) (omega arith) (omega arith)) (omega arith))
-    (grows_put c (jump_before miss c) 1 3 _ one_miss (branch_fine t operand k (length c + 1 - hit) 0 (length (jump_before miss c)) (omega arith) (omega arith)) (omega arith))
-    (grows_put c (jump_before hit (jump_before miss c)) 2 3 _ two (branch_fine t operand k 0 1 (length (jump_before hit (jump_before miss c))) (omega arith) (omega arith)) (omega arith))
+    (grows_put c (emit_jump hit c) 1 3 _ one_hit (branch_fine t operand k 0 (length c + 1 - miss) (length (emit_jump hit c)) (omega arith) (omega arith)) (omega arith))
+    (grows_put c (emit_jump miss c) 1 3 _ one_miss (branch_fine t operand k (length c + 1 - hit) 0 (length (emit_jump miss c)) (omega arith) (omega arith)) (omega arith))
+    (grows_put c (emit_jump hit (emit_jump miss c)) 2 3 _ two (branch_fine t operand k 0 1 (length (emit_jump hit (emit_jump miss c))) (omega arith) (omega arith)) (omega arith))
 
-field_grows : (place : Place) (w : Width) (c d : List Insn) (m : ℕ) → Grows c d m → Grows c (field_before place w d) (m + 2)
+field_grows : (place : Place) (w : Width) (c d : List Insn) (m : ℕ) → Grows c d m → Grows c (emit_field place w d) (m + 2)
 field_grows (At k) w c d m g = grows_put c d m (m + 2) _ g (load_fine w k (length d)) (omega arith)
 field_grows (Past header k) w c d m g = grows_put c _ (m + 1) (m + 2) _ (grows_put c d m (m + 1) _ g (indirect_fine w k (length d)) (omega arith)) (header_fine header _) (omega arith)
 
-mask_grows : (mask : Option ℕ) (c d : List Insn) (m : ℕ) → Grows c d m → Grows c (mask_before mask d) (m + 1)
+mask_grows : (mask : Option ℕ) (c d : List Insn) (m : ℕ) → Grows c d m → Grows c (emit_mask mask d) (m + 1)
 mask_grows None c d m g = grows_more c d m (m + 1) (omega arith) g
 mask_grows (Some mask) c d m g = grows_put c d m (m + 1) _ g (mask_fine mask (length d)) (omega arith)
 
-comparison_grows : (comparison : Comparison) (operand : Operand) (k hit miss : ℕ) (c : List Insn) → IsFaultless c → ends_in_return c ≡ true → 0 < hit → hit ≤ length c → 0 < miss → miss ≤ length c → Grows c (comparison_before comparison operand k hit miss c) 3
+comparison_grows : (comparison : Comparison) (operand : Operand) (k hit miss : ℕ) (c : List Insn) → IsFaultless c → ends_in_return c ≡ true → 0 < hit → hit ≤ length c → 0 < miss → miss ≤ length c → Grows c (emit_comparison comparison operand k hit miss c) 3
 comparison_grows Equal operand k hit miss c s e ph lh pm lm = branch_grows test.Equal operand k hit miss c s e ph lh pm lm
 comparison_grows NotEqual operand k hit miss c s e ph lh pm lm = branch_grows test.Equal operand k miss hit c s e pm lm ph lh
 comparison_grows Less operand k hit miss c s e ph lh pm lm = branch_grows test.AtLeast operand k miss hit c s e pm lm ph lh
@@ -204,28 +204,28 @@ comparison_grows AtMost operand k hit miss c s e ph lh pm lm = branch_grows test
 comparison_grows Greater operand k hit miss c s e ph lh pm lm = branch_grows test.Greater operand k hit miss c s e ph lh pm lm
 comparison_grows AtLeast operand k hit miss c s e ph lh pm lm = branch_grows test.AtLeast operand k hit miss c s e ph lh pm lm
 
-base_grows : (at : ℕ) (w : Width) (c d : List Insn) (m : ℕ) → Grows c d m → Grows c (base_before at w d) (m + 4)
+base_grows : (at : ℕ) (w : Width) (c d : List Insn) (m : ℕ) → Grows c d m → Grows c (emit_base at w d) (m + 4)
 base_grows at w c d m g = grows_put c _ (m + 1) (m + 4) _ (grows_put c d m (m + 1) _ g (indirect_fine w at (length d)) (omega arith)) (to_x_fine 0 _) (omega arith)
 
-transport_grows : (link : Link) (w : Width) (c d : List Insn) (m : ℕ) → Grows c d m → Grows c (transport_before link w d) (m + 4)
+transport_grows : (link : Link) (w : Width) (c d : List Insn) (m : ℕ) → Grows c d m → Grows c (emit_transport link w d) (m + 4)
 transport_grows link w c d m g =
     grows_put c _ (m + 3) (m + 4) _ (grows_put c _ (m + 2) (m + 3) _ (grows_put c _ (m + 1) (m + 2) _ (grows_put c d m (m + 1) _ g (indirect_fine w (network link) (length d)) (omega arith)) (to_x_fine 0 _) (omega arith)) (add_fine 0 _) (omega arith)) (header_fine (network link) _) (omega arith)
 
-accessor_grows : (link : Link) (protocol : Protocol) (w : Width) (c d : List Insn) (m : ℕ) → Grows c d m → Grows c (accessor_before link protocol w d) (m + 4)
+accessor_grows : (link : Link) (protocol : Protocol) (w : Width) (c d : List Insn) (m : ℕ) → Grows c d m → Grows c (emit_accessor link protocol w d) (m + 4)
 accessor_grows link Ether w c d m g = base_grows 0 w c d m g
 accessor_grows link Tcp w c d m g = transport_grows link w c d m g
 accessor_grows link Udp w c d m g = transport_grows link w c d m g
 accessor_grows link Icmp w c d m g = transport_grows link w c d m g
 accessor_grows link _ w c d m g = base_grows (network link) w c d m g
 
-number_grows : (link : Link) (e : NumberTree) (slot : ℕ) (c d : List Insn) (m : ℕ) → slot + number_words e ≤ 16 → Grows c d m → Grows c (number_before link e slot d) (m + 6 * number_size e)
+number_grows : (link : Link) (e : NumberTree) (slot : ℕ) (c d : List Insn) (m : ℕ) → slot + number_words e ≤ 16 → Grows c d m → Grows c (emit_number link e slot d) (m + 6 * number_size e)
 number_grows link (literal k) slot c d m few g = grows_put c d m _ _ g (literal_fine k (length d)) (omega arith)
 number_grows link (named k) slot c d m few g = grows_put c d m _ _ g (literal_fine k (length d)) (omega arith)
 number_grows link len slot c d m few g = grows_put c d m _ _ g (length_fine 0 (length d)) (omega arith)
 number_grows link (negated a) slot c d m few g =
     grows_more c _ (m + 1 + 6 * number_size a) _ (omega arith) (number_grows link a slot c (plain Negate 0 ∷ d) (m + 1) few (grows_put c d m (m + 1) _ g (minus_fine 0 (length d)) (omega arith)))
 number_grows link (load protocol size i) slot c d m few g =
-    grows_more c _ (m + 4 + 6 * number_size i) _ (omega arith) (number_grows link i slot c (accessor_before link protocol (width_of size) d) (m + 4) few (accessor_grows link protocol (width_of size) c d m g))
+    grows_more c _ (m + 4 + 6 * number_size i) _ (omega arith) (number_grows link i slot c (emit_accessor link protocol (width_of size) d) (m + 4) few (accessor_grows link protocol (width_of size) c d m g))
 number_grows link (applied operator l r) slot c d m few g =
     let g1 = grows_put c d m (m + 1) (plain (computation operator IndexRegister) 0) g (operator_fine operator 0 (length d)) (omega arith) in
     let g2 = grows_put c _ (m + 1) (m + 2) (plain (Load Accumulator Memory) slot) g1 (word_fine slot _ (omega arith)) (omega arith) in
@@ -236,7 +236,7 @@ number_grows link (applied operator l r) slot c d m few g =
     grows_more c _ (m + 4 + 6 * number_size r + 6 * number_size l) _ (omega arith) (number_grows link l slot c _ (m + 4 + 6 * number_size r) (omega arith) g6)
 
 -- grown code, with its entry inside
-pub record Sits (e : Entered) (c : List Insn) (m : ℕ) : Type 0 where
+pub record Sits (e : Block) (c : List Insn) (m : ℕ) : Type 0 where
   pub grows : Grows c e.code m
   pub low : 0 < e.entry
   pub inside : e.entry ≤ length e.code
@@ -244,7 +244,7 @@ pub record Sits (e : Entered) (c : List Insn) (m : ℕ) : Type 0 where
 sits_top : (c d : List Insn) (m m' : ℕ) → m ≤ m' → Grows c d m → Sits (at_top d) c m'
 sits_top c d m m' l g = record { grows = grows_more c d m m' l g; low = ends_some d g.ends; inside = omega arith }
 
-elementary_sits : (known : Knowledge) (t : Elementary) (hit miss : ℕ) (c : List Insn) → IsFaultless c → ends_in_return c ≡ true → 0 < hit → hit ≤ length c → 0 < miss → miss ≤ length c → Sits (elementary_before known t hit miss c) c 6
+elementary_sits : (known : Knowledge) (t : Elementary) (hit miss : ℕ) (c : List Insn) → IsFaultless c → ends_in_return c ≡ true → 0 < hit → hit ≤ length c → 0 < miss → miss ≤ length c → Sits (emit_elementary known t hit miss c) c 6
 elementary_sits known (Known true) hit miss c s e ph lh pm lm = record { grows = grows_more c c 0 6 (omega arith) (grows_none c s e); low = ph; inside = lh }
 elementary_sits known (Known false) hit miss c s e ph lh pm lm = record { grows = grows_more c c 0 6 (omega arith) (grows_none c s e); low = pm; inside = lm }
 elementary_sits known (Field k) hit miss c s e ph lh pm lm =
@@ -253,52 +253,52 @@ elementary_sits known (Field k) hit miss c s e ph lh pm lm =
     sits_top c _ 6 _ (omega arith) (field_grows k.place k.width c _ 4 (mask_grows k.mask c _ 3 (comparison_grows k.comparison Constant k.value _ _ c s e h.0 h.1 m.0 m.1)))
 
 -- one part of the code in front of another
-sits_on : (d f : Entered) (c : List Insn) (m m' k : ℕ) → Sits d c m → Sits f d.code m' → m + m' ≤ k → Sits f c k
+sits_on : (d f : Block) (c : List Insn) (m m' k : ℕ) → Sits d c m → Sits f d.code m' → m + m' ≤ k → Sits f c k
 sits_on d f c m m' k a b l = record { grows = grows_more c f.code (m + m') k l (grows_on c d.code f.code m m' a.grows b.grows); low = b.low; inside = b.inside }
 
-fork_sits : (known : Knowledge) (t u : Elementary) (hit miss : ℕ) (c : List Insn) → IsFaultless c → ends_in_return c ≡ true → 0 < hit → hit ≤ length c → 0 < miss → miss ≤ length c → Sits (fork_before known t u hit miss c) c 12
+fork_sits : (known : Knowledge) (t u : Elementary) (hit miss : ℕ) (c : List Insn) → IsFaultless c → ends_in_return c ≡ true → 0 < hit → hit ≤ length c → 0 < miss → miss ≤ length c → Sits (emit_fork known t u hit miss c) c 12
 fork_sits known t u hit miss c s e ph lh pm lm =
-    let d = elementary_before (and_fact (fact t false) known) u hit miss c in
+    let d = emit_elementary (and_fact (fact t false) known) u hit miss c in
     let sb = elementary_sits (and_fact (fact t false) known) u hit miss c s e ph lh pm lm in
     let lh' : hit ≤ length d.code = omega (arith, sb.grows.longer) in
     let sa = elementary_sits known t hit d.entry d.code sb.grows.sound sb.grows.ends ph lh' sb.low sb.inside in
-    sits_on d (elementary_before known t hit d.entry d.code) c 6 6 12 sb sa (omega arith)
+    sits_on d (emit_elementary known t hit d.entry d.code) c 6 6 12 sb sa (omega arith)
 
-chain_sits : (vs : List ℕ) (hit miss : ℕ) (c : List Insn) → IsFaultless c → ends_in_return c ≡ true → 0 < hit → hit ≤ length c → 0 < miss → miss ≤ length c → Sits (chain_before vs hit miss c) c (3 * length vs)
+chain_sits : (vs : List ℕ) (hit miss : ℕ) (c : List Insn) → IsFaultless c → ends_in_return c ≡ true → 0 < hit → hit ≤ length c → 0 < miss → miss ≤ length c → Sits (emit_chain vs hit miss c) c (3 * length vs)
 chain_sits [] hit miss c s e ph lh pm lm = record { grows = grows_none c s e; low = pm; inside = lm }
 chain_sits (v ∷ vs) hit miss c s e ph lh pm lm =
-    let d = chain_before vs hit miss c in
+    let d = emit_chain vs hit miss c in
     let sd = chain_sits vs hit miss c s e ph lh pm lm in
     let lh' : hit ≤ length d.code = omega (arith, sd.grows.longer) in
     let g = branch_grows test.Equal Constant v hit d.entry d.code sd.grows.sound sd.grows.ends ph lh' sd.low sd.inside in
-    sits_on d (chain_before (v ∷ vs) hit miss c) c (3 * length vs) 3 _ sd (sits_top d.code _ 3 3 (omega arith) g) (omega arith)
+    sits_on d (emit_chain (v ∷ vs) hit miss c) c (3 * length vs) 3 _ sd (sits_top d.code _ 3 3 (omega arith) g) (omega arith)
 
-chain_fits : (vs : List ℕ) (hit miss : ℕ) (c : List Insn) → IsFaultless c → ends_in_return c ≡ true → 0 < hit → hit ≤ length c → 0 < miss → miss ≤ length c → Sits (chain_before vs hit miss c) c (3 + 6 * (length vs - 1))
+chain_fits : (vs : List ℕ) (hit miss : ℕ) (c : List Insn) → IsFaultless c → ends_in_return c ≡ true → 0 < hit → hit ≤ length c → 0 < miss → miss ≤ length c → Sits (emit_chain vs hit miss c) c (3 + 6 * (length vs - 1))
 chain_fits vs hit miss c s e ph lh pm lm =
     let t = chain_sits vs hit miss c s e ph lh pm lm in
     record { grows = grows_more c _ (3 * length vs) _ (omega arith) t.grows; low = t.low; inside = t.inside }
 
-search_sits : (k : ℕ) (vs : List ℕ) (hit miss : ℕ) (c : List Insn) → IsFaultless c → ends_in_return c ≡ true → 0 < hit → hit ≤ length c → 0 < miss → miss ≤ length c → Sits (search_before k vs hit miss c) c (3 + 6 * (length vs - 1))
-unfolding search_before
+search_sits : (k : ℕ) (vs : List ℕ) (hit miss : ℕ) (c : List Insn) → IsFaultless c → ends_in_return c ≡ true → 0 < hit → hit ≤ length c → 0 < miss → miss ≤ length c → Sits (emit_search k vs hit miss c) c (3 + 6 * (length vs - 1))
+unfolding emit_search
 search_sits zero vs hit miss c s e ph lh pm lm = chain_fits vs hit miss c s e ph lh pm lm
 search_sits (suc k) vs hit miss c s e ph lh pm lm =
     let h = length vs / 2 in
     let a = length-drop h vs in
     let b = length-take h vs in
-    let upper = search_before k (drop h vs) hit miss c in
-    let lower = search_before k (take h vs) hit miss upper.code in
+    let upper = emit_search k (drop h vs) hit miss c in
+    let lower = emit_search k (take h vs) hit miss upper.code in
     let su = search_sits k (drop h vs) hit miss c s e ph lh pm lm in
     let lh' : hit ≤ length upper.code = omega (arith, su.grows.longer) in
     let lm' : miss ≤ length upper.code = omega (arith, su.grows.longer) in
     let sl = search_sits k (take h vs) hit miss upper.code su.grows.sound su.grows.ends ph lh' pm lm' in
     let lu : upper.entry ≤ length lower.code = (let i = su.inside in omega (arith, sl.grows.longer)) in
     let g = branch_grows test.AtLeast Constant (get_or vs h 0) upper.entry lower.entry lower.code sl.grows.sound sl.grows.ends su.low lu sl.low sl.inside in
-    by_test (λ (d : Entered). Sits d c (3 + 6 * (length vs - 1))) (nat_lt (length vs) 2) _ _
+    by_test (λ (d : Block). Sits d c (3 + 6 * (length vs - 1))) (nat_lt (length vs) 2) _ _
     (λ few. chain_fits vs hit miss c s e ph lh pm lm)
     (λ many. let two : 2 ≤ length vs = grind (arith, nat_tests) in
     sits_on lower _ c (3 + 6 * (length (drop h vs) - 1) + (3 + 6 * (length (take h vs) - 1))) 3 _ (sits_on upper lower c _ _ _ su sl (omega arith)) (sits_top lower.code _ 3 3 (omega arith) g) (omega arith))
 
-pub emitted_sits : (link : Link) (known : Knowledge) (f : Formula) (hit miss : ℕ) (c : List Insn) → words f ≤ 16 → IsFaultless c → ends_in_return c ≡ true → 0 < hit → hit ≤ length c → 0 < miss → miss ≤ length c → Sits (emitted link known f hit miss c) c (6 * (tests f + nodes f))
+pub emitted_sits : (link : Link) (known : Knowledge) (f : Formula) (hit miss : ℕ) (c : List Insn) → words f ≤ 16 → IsFaultless c → ends_in_return c ≡ true → 0 < hit → hit ≤ length c → 0 < miss → miss ≤ length c → Sits (emit_formula link known f hit miss c) c (6 * (tests f + nodes f))
 emitted_sits link known (Single t) hit miss c few s e ph lh pm lm = elementary_sits known t hit miss c s e ph lh pm lm
 emitted_sits link known (Compare comparison l r) hit miss c few s e ph lh pm lm =
     let g0 = comparison_grows comparison IndexRegister 0 hit miss c s e ph lh pm lm in
@@ -309,40 +309,40 @@ emitted_sits link known (Compare comparison l r) hit miss c few s e ph lh pm lm 
     let g5 = by_right (λ b. Grows c b (6 + 6 * number_size r)) (constant r) 0 _ _ (λ k is. grows_more c _ 3 _ (omega arith) (comparison_grows comparison Constant k hit miss c s e ph lh pm lm)) g4 in
     sits_top c _ (6 + 6 * number_size r + 6 * number_size l) _ (omega arith) (number_grows link l 0 c _ (6 + 6 * number_size r) (omega arith) g5)
 emitted_sits link known (Both a b) hit miss c few s e ph lh pm lm =
-    let d = emitted link known b hit miss c in
+    let d = emit_formula link known b hit miss c in
     let sb = emitted_sits link known b hit miss c (omega arith) s e ph lh pm lm in
     let lm' : miss ≤ length d.code = omega (arith, sb.grows.longer) in
     let sa = emitted_sits link known a d.entry miss d.code (omega arith) sb.grows.sound sb.grows.ends sb.low sb.inside pm lm' in
     record { grows = grows_more c _ (6 * (tests b + nodes b) + 6 * (tests a + nodes a)) _ (omega arith) (grows_on c d.code _ _ _ sb.grows sa.grows); low = sa.low; inside = sa.inside }
 emitted_sits link known (Either a b) hit miss c few s e ph lh pm lm =
-    let d = emitted link known b hit miss c in
+    let d = emit_formula link known b hit miss c in
     let sb = emitted_sits link known b hit miss c (omega arith) s e ph lh pm lm in
     let lh' : hit ≤ length d.code = omega (arith, sb.grows.longer) in
     let sa = emitted_sits link known a hit d.entry d.code (omega arith) sb.grows.sound sb.grows.ends ph lh' sb.low sb.inside in
     record { grows = grows_more c _ (6 * (tests b + nodes b) + 6 * (tests a + nodes a)) _ (omega arith) (grows_on c d.code _ _ _ sb.grows sa.grows); low = sa.low; inside = sa.inside }
 emitted_sits link known (Except a) hit miss c few s e ph lh pm lm = emitted_sits link known a miss hit c few s e pm lm ph lh
 emitted_sits link known (Guard t a) hit miss c few s e ph lh pm lm =
-    let d = emitted link (and_fact (fact t true) known) a hit miss c in
+    let d = emit_formula link (and_fact (fact t true) known) a hit miss c in
     let sb = emitted_sits link (and_fact (fact t true) known) a hit miss c few s e ph lh pm lm in
     let lm' : miss ≤ length d.code = omega (arith, sb.grows.longer) in
     let sa = elementary_sits known t d.entry miss d.code sb.grows.sound sb.grows.ends sb.low sb.inside pm lm' in
-    sits_on d (elementary_before known t d.entry miss d.code) c (6 * (tests a + nodes a)) 6 _ sb sa (omega arith)
+    sits_on d (emit_elementary known t d.entry miss d.code) c (6 * (tests a + nodes a)) 6 _ sb sa (omega arith)
 emitted_sits link known (Fork t u a) hit miss c few s e ph lh pm lm =
-    let d = emitted link (and_fork t u known) a hit miss c in
+    let d = emit_formula link (and_fork t u known) a hit miss c in
     let sb = emitted_sits link (and_fork t u known) a hit miss c few s e ph lh pm lm in
     let lm' : miss ≤ length d.code = omega (arith, sb.grows.longer) in
     let sa = fork_sits known t u d.entry miss d.code sb.grows.sound sb.grows.ends sb.low sb.inside pm lm' in
-    sits_on d (fork_before known t u d.entry miss d.code) c (6 * (tests a + nodes a)) 12 _ sb sa (omega arith)
+    sits_on d (emit_fork known t u d.entry miss d.code) c (6 * (tests a + nodes a)) 12 _ sb sa (omega arith)
 emitted_sits link known (Choose t a b) hit miss c few s e ph lh pm lm =
-    let d = emitted link (and_fact (fact t false) known) b hit miss c in
+    let d = emit_formula link (and_fact (fact t false) known) b hit miss c in
     let sb = emitted_sits link (and_fact (fact t false) known) b hit miss c (omega arith) s e ph lh pm lm in
     let lh' : hit ≤ length d.code = omega (arith, sb.grows.longer) in
     let lm' : miss ≤ length d.code = omega (arith, sb.grows.longer) in
-    let f = emitted link (and_fact (fact t true) known) a hit miss d.code in
+    let f = emit_formula link (and_fact (fact t true) known) a hit miss d.code in
     let sa = emitted_sits link (and_fact (fact t true) known) a hit miss d.code (omega arith) sb.grows.sound sb.grows.ends ph lh' pm lm' in
     let ld : d.entry ≤ length f.code = (let l = sb.inside in omega (arith, sa.grows.longer)) in
     let st = elementary_sits known t f.entry d.entry f.code sa.grows.sound sa.grows.ends sa.low sa.inside sb.low ld in
-    sits_on f (elementary_before known t f.entry d.entry f.code) c (6 * (tests b + nodes b) + 6 * (tests a + nodes a)) 6 _ (sits_on d f c (6 * (tests b + nodes b)) (6 * (tests a + nodes a)) _ sb sa (omega arith)) st (omega arith)
+    sits_on f (emit_elementary known t f.entry d.entry f.code) c (6 * (tests b + nodes b) + 6 * (tests a + nodes a)) 6 _ (sits_on d f c (6 * (tests b + nodes b)) (6 * (tests a + nodes a)) _ sb sa (omega arith)) st (omega arith)
 emitted_sits link known (Among f vs) hit miss c few s e ph lh pm lm =
     let h = target_inside c known f.place always hit ph lh in
     let m = target_inside c known f.place always miss pm lm in

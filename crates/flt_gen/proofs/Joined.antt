@@ -17,25 +17,25 @@ use Rattle.flt_gen.specs.declared.elementary.Ports.TheVariants.{One, Several}
 use Rattle.flt_gen.specs.Numbers.{accessor_tests}
 use Rattle.flt_gen.specs.Primitives.{net_test, net_formula, port_test, port_formula}
 use Rattle.flt_gen.specs.Group.{Group, hosts_formula, one_formula, several_formula, formula_by, group_formula}
-use Rattle.flt_gen.specs.Formula.{Formula, all_of, guarded, checked}
+use Rattle.flt_gen.specs.Formula.{Formula, all_of, guarded_formula, checked_formula}
 use Rattle.flt_gen.specs.declared.follow.Knowledge.{Knowledge}
 use Rattle.flt_gen.specs.Follow.{nothing}
-use Rattle.flt_gen.specs.Code.{Entered, entered, elementary_before, emitted, all_before, accessors_before}
+use Rattle.flt_gen.specs.Code.{Block, block, emit_elementary, emit_formula, emit_all, emit_accessors}
 
-pub all_emitted : (link : Link) (known : Knowledge) (ts : List Elementary) (hit miss : ℕ) (c : List Insn) → emitted link known (all_of ts) hit miss c ≡ all_before known ts hit miss c
+pub all_emitted : (link : Link) (known : Knowledge) (ts : List Elementary) (hit miss : ℕ) (c : List Insn) → emit_formula link known (all_of ts) hit miss c ≡ emit_all known ts hit miss c
 all_emitted link known [] hit miss c = refl
 all_emitted link known (t ∷ []) hit miss c = refl
-all_emitted link known (t ∷ u ∷ ts) hit miss c = ap (λ (e : Entered). elementary_before known t e.entry miss e.code) (all_emitted link known (u ∷ ts) hit miss c)
+all_emitted link known (t ∷ u ∷ ts) hit miss c = ap (λ (e : Block). emit_elementary known t e.entry miss e.code) (all_emitted link known (u ∷ ts) hit miss c)
 
-guarded_emitted : (link : Link) (known : Knowledge) (ts : List Elementary) (f : Formula) (hit miss : ℕ) (c : List Insn) → emitted link known (guarded ts f) hit miss c ≡ (let e = emitted link known f hit miss c in all_before known ts e.entry miss e.code)
+guarded_emitted : (link : Link) (known : Knowledge) (ts : List Elementary) (f : Formula) (hit miss : ℕ) (c : List Insn) → emit_formula link known (guarded_formula ts f) hit miss c ≡ (let e = emit_formula link known f hit miss c in emit_all known ts e.entry miss e.code)
 guarded_emitted link known [] f hit miss c = refl
-guarded_emitted link known (t ∷ ts) f hit miss c = ap (λ (e : Entered). elementary_before known t e.entry miss e.code) (guarded_emitted link known ts f hit miss c)
+guarded_emitted link known (t ∷ ts) f hit miss c = ap (λ (e : Block). emit_elementary known t e.entry miss e.code) (guarded_emitted link known ts f hit miss c)
 
 -- the tests of accessors stand in front of the formula that they guard
-pub checked_emitted : (link : Link) (ps : List Protocol) (f : Formula) (hit miss : ℕ) (c : List Insn) → emitted link nothing (checked link ps f) hit miss c ≡ (let e = emitted link nothing f hit miss c in accessors_before link ps e.entry miss e.code)
+pub checked_emitted : (link : Link) (ps : List Protocol) (f : Formula) (hit miss : ℕ) (c : List Insn) → emit_formula link nothing (checked_formula link ps f) hit miss c ≡ (let e = emit_formula link nothing f hit miss c in emit_accessors link ps e.entry miss e.code)
 checked_emitted link [] f hit miss c = refl
 checked_emitted link (p ∷ ps) f hit miss c =
-    guarded_emitted link nothing (accessor_tests link p) (checked link ps f) hit miss c ∙ ap (λ (e : Entered). all_before nothing (accessor_tests link p) e.entry miss e.code) (checked_emitted link ps f hit miss c)
+    guarded_emitted link nothing (accessor_tests link p) (checked_formula link ps f) hit miss c ∙ ap (λ (e : Block). emit_all nothing (accessor_tests link p) e.entry miss e.code) (checked_emitted link ps f hit miss c)
 
 -- hosts of a network are the network's
 pub net_is_hosts : (link : Link) (protocol : Option Protocol) (net : NetTest) (numbers : List ℕ) → net_formula link protocol net ≡ hosts_formula link protocol (hosts.Net net) numbers
@@ -89,5 +89,5 @@ several_hosts link group protocol h numbers k l p e f =
     by_number (n ∷ m ∷ ns) l = several
 
 -- code that is that of a formula is that of one equal to it
-pub formula_put : (r : Result ℕ AllocError) (link : Link) (known : Knowledge) (f g : Formula) (hit miss : ℕ) (c new : List Insn) → f ≡ g → IfOk r (λ entry. emitted link known g hit miss c ≡ entered new entry) → IfOk r (λ entry. emitted link known f hit miss c ≡ entered new entry)
-formula_put r link known f g hit miss c new e h = subst (λ (x : Formula). IfOk r (λ entry. emitted link known x hit miss c ≡ entered new entry)) (sym e) h
+pub equal_formula_code : (r : Result ℕ AllocError) (link : Link) (known : Knowledge) (f g : Formula) (hit miss : ℕ) (c new : List Insn) → f ≡ g → IfOk r (λ entry. emit_formula link known g hit miss c ≡ block new entry) → IfOk r (λ entry. emit_formula link known f hit miss c ≡ block new entry)
+equal_formula_code r link known f g hit miss c new e h = subst (λ (x : Formula). IfOk r (λ entry. emit_formula link known x hit miss c ≡ block new entry)) (sym e) h

@@ -27,7 +27,7 @@ use Rattle.flt_gen.specs.declared.link.Link.{Link}
 use Rattle.flt_gen.specs.Elementary.{with, network}
 use Rattle.flt_gen.specs.Numbers.{width_of, base, result_of, number}
 use Rattle.flt_lang.specs.Counts.{number_words}
-use Rattle.flt_gen.specs.Code.{plain, computation, takes, constant, constant_operand, branch_insn, base_before, transport_before, accessor_before, operands_before, number_before}
+use Rattle.flt_gen.specs.Code.{plain, computation, takes, constant, constant_operand, branch_insn, emit_base, emit_transport, emit_accessor, emit_operands, emit_number}
 use Rattle.flt_gen.proofs.Tails.{by_right}
 use Rattle.flt_bpf.proofs.Suffix.{answer_of, answer_after}
 use Rattle.flt_bpf.specs.declared.operation.Operation.TheVariants.{LoadAbsolute, LoadIndirect, Load, LoadHeaderLength, Store, Compute, Negate, Jump, CopyToIndex}
@@ -186,7 +186,7 @@ module _ (p : List ℕ) (n : ℕ) where
   into_runs c' c slot s u long same None e = e
   into_runs c' c slot s u long same (Some v) e = (record u { accumulator = v }, record { long = long; kept = λ j l. ap (λ ws. slice_get ws j) same }, refl, e)
 
-  transport_runs : (link : Link) (w : Width) (c : List Insn) (slot : ℕ) (v : ℕ) (s : State) → length s.memory ≡ 16 → s.accumulator ≡ v → (o : Option ℕ) → field p (network link) Byte ≡ o → NumberRuns (transport_before link w c) c slot s (with (with (with o (λ b. Some (header_length b))) (λ x. Some (x + network link))) (λ at. field p ((at + v) % 2 ^ 32) w))
+  transport_runs : (link : Link) (w : Width) (c : List Insn) (slot : ℕ) (v : ℕ) (s : State) → length s.memory ≡ 16 → s.accumulator ≡ v → (o : Option ℕ) → field p (network link) Byte ≡ o → NumberRuns (emit_transport link w c) c slot s (with (with (with o (λ b. Some (header_length b))) (λ x. Some (x + network link))) (λ at. field p ((at + v) % 2 ^ 32) w))
   transport_runs link w c slot v s long e None f =
       run_header (network link) (plain (Compute arithmetic.Add IndexRegister) 0 ∷ plain CopyToIndex 0 ∷ plain (LoadIndirect w) (network link) ∷ c) s ∙ ap (λ o. answer_after (answer_of (plain (Compute arithmetic.Add IndexRegister) 0 ∷ plain CopyToIndex 0 ∷ plain (LoadIndirect w) (network link) ∷ c) p n) (into Index (option_map header_length o) s)) f
   transport_runs link w c slot v s long e (Some b) f =
@@ -199,15 +199,15 @@ module _ (p : List ℕ) (n : ℕ) where
       let loaded = run_indirect w l c u in
       let sum : s.accumulator + x + l ≡ x + l + v = omega (arith, e) in
       let place : ((s.accumulator + x) % 2 ^ 32 + l) % 2 ^ 32 ≡ (x + l + v) % 2 ^ 32 = mod-add-mod (s.accumulator + x) (2 ^ 32) l ∙ ap (λ m. m % 2 ^ 32) sum in
-      into_runs (transport_before link w c) c slot s u long refl (field p ((x + l + v) % 2 ^ 32) w) (to_x ∙ added ∙ moved ∙ loaded ∙ ap (λ at. answer_after (answer_of c p n) (into Accumulator (field p at w) u)) place)
+      into_runs (emit_transport link w c) c slot s u long refl (field p ((x + l + v) % 2 ^ 32) w) (to_x ∙ added ∙ moved ∙ loaded ∙ ap (λ at. answer_after (answer_of c p n) (into Accumulator (field p at w) u)) place)
 
-  base_runs : (at : ℕ) (w : Width) (c : List Insn) (slot v : ℕ) (s : State) → length s.memory ≡ 16 → s.accumulator ≡ v → NumberRuns (base_before at w c) c slot s (field p ((at + v) % 2 ^ 32) w)
+  base_runs : (at : ℕ) (w : Width) (c : List Insn) (slot v : ℕ) (s : State) → length s.memory ≡ 16 → s.accumulator ≡ v → NumberRuns (emit_base at w c) c slot s (field p ((at + v) % 2 ^ 32) w)
   base_runs at w c slot v s long e =
       let u : State = record s { index = s.accumulator } in
       let place : s.accumulator + at ≡ at + v = omega (arith, e) in
-      into_runs (base_before at w c) c slot s u long refl (field p ((at + v) % 2 ^ 32) w) (run_to_x 0 (plain (LoadIndirect w) at ∷ c) s ∙ run_indirect w at c u ∙ ap (λ b. answer_after (answer_of c p n) (into Accumulator (field p (b % 2 ^ 32) w) u)) place)
+      into_runs (emit_base at w c) c slot s u long refl (field p ((at + v) % 2 ^ 32) w) (run_to_x 0 (plain (LoadIndirect w) at ∷ c) s ∙ run_indirect w at c u ∙ ap (λ b. answer_after (answer_of c p n) (into Accumulator (field p (b % 2 ^ 32) w) u)) place)
 
-  accessor_runs : (link : Link) (protocol : Protocol) (w : Width) (c : List Insn) (slot v : ℕ) (s : State) → length s.memory ≡ 16 → s.accumulator ≡ v → NumberRuns (accessor_before link protocol w c) c slot s (with (base link protocol p) (λ at. field p ((at + v) % 2 ^ 32) w))
+  accessor_runs : (link : Link) (protocol : Protocol) (w : Width) (c : List Insn) (slot v : ℕ) (s : State) → length s.memory ≡ 16 → s.accumulator ≡ v → NumberRuns (emit_accessor link protocol w c) c slot s (with (base link protocol p) (λ at. field p ((at + v) % 2 ^ 32) w))
   accessor_runs link Ether w c slot v s long e = base_runs 0 w c slot v s long e
   accessor_runs link Tcp w c slot v s long e = transport_runs link w c slot v s long e _ refl
   accessor_runs link Udp w c slot v s long e = transport_runs link w c slot v s long e _ refl
@@ -221,7 +221,7 @@ module _ (p : List ℕ) (n : ℕ) where
   TwoRuns c' c slot s (Some x) (Some y) = (t : State) × Keeps slot s t × (t.accumulator ≡ x) × (t.index ≡ y) × (answer_of c' p n 0 s ≡ answer_of c p n 0 t)
 
   -- a number, a word for it, a second number, and both brought to A and X
-  pub two_runs : (c' cr c : List Insn) (slot : ℕ) (s : State) (ox oy : Option ℕ) → slot < 16 → NumberRuns c' (plain (Store Accumulator) slot ∷ cr) slot s ox → ((t : State) → length t.memory ≡ 16 → NumberRuns cr (operands_before slot c) (slot + 1) t oy) → TwoRuns c' c slot s ox oy
+  pub two_runs : (c' cr c : List Insn) (slot : ℕ) (s : State) (ox oy : Option ℕ) → slot < 16 → NumberRuns c' (plain (Store Accumulator) slot ∷ cr) slot s ox → ((t : State) → length t.memory ≡ 16 → NumberRuns cr (emit_operands slot c) (slot + 1) t oy) → TwoRuns c' c slot s ox oy
   two_runs c' cr c slot s None oy few rx ry = rx
   two_runs c' cr c slot s (Some x) oy few rx ry =
       second oy (ry t1 long)
@@ -244,7 +244,7 @@ module _ (p : List ℕ) (n : ℕ) where
       kept_below : (j : ℕ) → j < slot → slice_get t1.memory j ≡ slice_get s.memory j
       kept_below j l = get_set_below t.memory slot j t.accumulator l inside ∙ rx.1.kept j l
 
-      second : (o : Option ℕ) → NumberRuns cr (operands_before slot c) (slot + 1) t1 o → TwoRuns c' c slot s (Some x) o
+      second : (o : Option ℕ) → NumberRuns cr (emit_operands slot c) (slot + 1) t1 o → TwoRuns c' c slot s (Some x) o
       second None r = to_word ∙ r
       second (Some y) r =
           let u = r.0 in
@@ -271,15 +271,15 @@ module _ (p : List ℕ) (n : ℕ) where
       (record s { accumulator = (2 ^ 32 - s.accumulator) % 2 ^ 32 }, record { long = long; kept = λ j l. refl }, ap (λ m. (2 ^ 32 - m) % 2 ^ 32) e, run_minus 0 c s)
 
   -- the code of arithmetic gives its value
-  pub number_runs : (link : Link) (e : NumberTree) (slot : ℕ) (c : List Insn) (s : State) → length s.memory ≡ 16 → slot + number_words e ≤ 16 → NumberRuns (number_before link e slot c) c slot s (number link e p n)
+  pub number_runs : (link : Link) (e : NumberTree) (slot : ℕ) (c : List Insn) (s : State) → length s.memory ≡ 16 → slot + number_words e ≤ 16 → NumberRuns (emit_number link e slot c) c slot s (number link e p n)
   number_runs link (literal k) slot c s long few = (record s { accumulator = k }, record { long = long; kept = λ j l. refl }, refl, run_literal k c s)
   number_runs link (named k) slot c s long few = (record s { accumulator = k }, record { long = long; kept = λ j l. refl }, refl, run_literal k c s)
   number_runs link len slot c s long few = (record s { accumulator = n }, record { long = long; kept = λ j l. refl }, refl, run_length 0 c s)
   number_runs link (load protocol size i) slot c s long few =
-      number_then _ (accessor_before link protocol (width_of size) c) c slot s (number link i p n) _ (number_runs link i slot (accessor_before link protocol (width_of size) c) s long few) (λ v t l a. accessor_runs link protocol (width_of size) c slot v t l a)
+      number_then _ (emit_accessor link protocol (width_of size) c) c slot s (number link i p n) _ (number_runs link i slot (emit_accessor link protocol (width_of size) c) s long few) (λ v t l a. accessor_runs link protocol (width_of size) c slot v t l a)
   number_runs link (negated e) slot c s long few =
       number_then _ (plain Negate 0 ∷ c) c slot s (number link e p n) (λ v. Some ((2 ^ 32 - v) % 2 ^ 32)) (number_runs link e slot (plain Negate 0 ∷ c) s long few) (λ v t l a. minus_runs c slot v t l a)
   number_runs link (applied operator l r) slot c s long few =
-      by_right (λ d. NumberRuns (number_before link l slot d) c slot s (number link (applied operator l r) p n)) (constant_operand operator r) slot _ _
+      by_right (λ d. NumberRuns (emit_number link l slot d) c slot s (number link (applied operator l r) p n)) (constant_operand operator r) slot _ _
       (λ k is. number_then _ (plain (computation operator Constant) k ∷ c) c slot s (number link l p n) (λ x. with (number link r p n) (λ y. result_of operator x y)) (number_runs link l slot _ s long (omega arith)) (λ v t l a. constant_runs operator k c slot v t l a (number link r p n) (constant_is link r k (operand_is operator r k is).is)))
-      (binary_runs operator _ c slot s (number link l p n) (number link r p n) (two_runs _ (number_before link r (slot + 1) (operands_before slot (plain (computation operator IndexRegister) 0 ∷ c))) (plain (computation operator IndexRegister) 0 ∷ c) slot s (number link l p n) (number link r p n) (omega arith) (number_runs link l slot _ s long (omega arith)) (λ t lt. number_runs link r (slot + 1) _ t lt (omega arith))))
+      (binary_runs operator _ c slot s (number link l p n) (number link r p n) (two_runs _ (emit_number link r (slot + 1) (emit_operands slot (plain (computation operator IndexRegister) 0 ∷ c))) (plain (computation operator IndexRegister) 0 ∷ c) slot s (number link l p n) (number link r p n) (omega arith) (number_runs link l slot _ s long (omega arith)) (λ t lt. number_runs link r (slot + 1) _ t lt (omega arith))))

@@ -19,7 +19,7 @@ use Rattle.flt_gen.specs.declared.elementary.Elementary.TheVariants.{Known, Fiel
 use Rattle.flt_gen.specs.declared.elementary.Fact.{Fact}
 use Rattle.flt_gen.specs.Elementary.{Reading, Yes, No, Rejected, reading_of, with, compares, field_at, masked, elementary_reads}
 use Rattle.flt_gen.specs.declared.follow.Knowledge.{Knowledge}
-use Rattle.flt_gen.specs.Follow.{load_code, same_mask, same_place, is_equal, says_value, test_says, first_of, looks_at, decided, chosen, past_mask, past_load, onward, one_on, two_on, four_on, eight_on, fact, facts_of, agreed, followed, past_index, target}
+use Rattle.flt_gen.specs.Follow.{load_code, same_mask, same_place, is_equal, says_value, test_says, first_of, looks_at, known_outcome, outcome_place, past_mask, past_load, onward, step_from, follow, MOST_STEPS, fact, facts_of, agreed_place, followed_place, past_index, target}
 use Rattle.flt_bpf.proofs.Suffix.{answer_of, answer_after, answer_drop}
 use Rattle.flt_gen.proofs.Tails.{tail, Extends, extends_none, extends_put, extends_on}
 
@@ -103,10 +103,10 @@ test_loads (Field t) truth load at mask k b e =
     let code : load ≡ load_code t.width = grind (arith, nat_tests) in
     load_is t.width load code
 
-decided_loads : (facts : List Fact) (load at : ℕ) (mask : Option ℕ) (k : ℕ) (b : Bool) → decided facts load at mask k ≡ Some b → is_load load ≡ true
+decided_loads : (facts : List Fact) (load at : ℕ) (mask : Option ℕ) (k : ℕ) (b : Bool) → known_outcome facts load at mask k ≡ Some b → is_load load ≡ true
 decided_loads [] load at mask k b e = cc
 decided_loads (f ∷ fs) load at mask k b e =
-    one_of_two (λ g. test_loads f.test f.truth load at mask k b g) (λ g. decided_loads fs load at mask k b g) (first_case (test_says f.test f.truth load at mask k) (decided fs load at mask k) b e)
+    one_of_two (λ g. test_loads f.test f.truth load at mask k b g) (λ g. decided_loads fs load at mask k b g) (first_case (test_says f.test f.truth load at mask k) (known_outcome fs load at mask k) b e)
 
 module _ (p : List ℕ) (n : ℕ) where
   -- from a place on, whatever the state, the code gives this answer
@@ -187,10 +187,10 @@ module _ (p : List ℕ) (n : ℕ) where
   test_right (Known a) truth load at mask k b r g = cc
   test_right (Field t) truth load at mask k b r g = field_says t.comparison t.place t.width t.mask t.value truth load at mask k b g r
 
-  decided_says : (facts : List Fact) (load at : ℕ) (mask : Option ℕ) (k : ℕ) (b : Bool) → FactsHold facts → decided facts load at mask k ≡ Some b → Says load at mask k b
+  decided_says : (facts : List Fact) (load at : ℕ) (mask : Option ℕ) (k : ℕ) (b : Bool) → FactsHold facts → known_outcome facts load at mask k ≡ Some b → Says load at mask k b
   decided_says [] load at mask k b h e = cc
   decided_says (f ∷ fs) load at mask k b h e =
-      one_of_two (λ g. test_right f.test f.truth load at mask k b h.0 g) (λ g. decided_says fs load at mask k b h.1 g) (first_case (test_says f.test f.truth load at mask k) (decided fs load at mask k) b e)
+      one_of_two (λ g. test_right f.test f.truth load at mask k b h.0 g) (λ g. decided_says fs load at mask k b h.1 g) (first_case (test_says f.test f.truth load at mask k) (known_outcome fs load at mask k) b e)
 
   -- instructions by their code
   run_loads : (i : Insn) (w : Width) (c : List Insn) (s : State) → i.code ≡ load_code w → answer_of (i ∷ c) p n 0 s ≡ answer_after (answer_of c p n) (into Accumulator (field p i.k w) s)
@@ -249,7 +249,7 @@ module _ (p : List ℕ) (n : ℕ) where
       (w : Width) (x : ℕ) (s : State) → length s.memory ≡ 16 → load ≡ load_code w → field p at w ≡ Some x → answer_of d p n 0 s ≡ answer_of e p n 0 (record s { accumulator = masked mask x })
 
   -- a test that is decided
-  chosen_leads : (facts : List Fact) (load at : ℕ) (mask : Option ℕ) (j : Insn) (is d : List Insn) (u : ℕ) → Extends is d → Leads d (length d) u → (is_load load ≡ true → Settles is j.jt × Settles is j.jf) → j.code ≡ 21 → RunsInto d (j ∷ is) load at mask → (o : Option Bool) → decided facts load at mask j.k ≡ o → Onward d facts u (chosen o (length d) (length is - j.jt) (length is - j.jf))
+  chosen_leads : (facts : List Fact) (load at : ℕ) (mask : Option ℕ) (j : Insn) (is d : List Insn) (u : ℕ) → Extends is d → Leads d (length d) u → (is_load load ≡ true → Settles is j.jt × Settles is j.jf) → j.code ≡ 21 → RunsInto d (j ∷ is) load at mask → (o : Option Bool) → known_outcome facts load at mask j.k ≡ o → Onward d facts u (outcome_place o (length d) (length is - j.jt) (length is - j.jf))
   chosen_leads facts load at mask j is d u e h settles code runs None g = stays d facts u (length d) (omega arith) h
   chosen_leads facts load at mask j is d u e h settles code runs (Some b) g = by_truth b g
     where
@@ -261,7 +261,7 @@ module _ (p : List ℕ) (n : ℕ) where
       top : answer_of d p n 0 start ≡ Some u
       top = (let none : 0 ≡ length d - length d = omega arith in ap (λ k. answer_of d p n k start) none) ∙ h.by start refl
 
-      by_truth : (b : Bool) → decided facts load at mask j.k ≡ Some b → Onward d facts u (chosen (Some b) (length d) (length is - j.jt) (length is - j.jf))
+      by_truth : (b : Bool) → known_outcome facts load at mask j.k ≡ Some b → Onward d facts u (outcome_place (Some b) (length d) (length is - j.jt) (length is - j.jf))
       by_truth true g =
           let t = (settles (decided_loads facts load at mask j.k true g)).0 in
           let l = settled_inside is j.jt t in
@@ -288,7 +288,7 @@ module _ (p : List ℕ) (n : ℕ) where
   past_mask_leads facts load at mask d (j ∷ is) u x h s runs =
       by_bool (λ r. Onward d facts u r) (j.code == 21) _ _
       (λ e. let code : j.code ≡ 21 = grind (arith, nat_tests) in
-      chosen_leads facts load at mask j is d u (extends_on is (j ∷ is) d (extends_put is is j (extends_none is)) x) h (λ l. s l code) code runs (decided facts load at mask j.k) refl)
+      chosen_leads facts load at mask j is d u (extends_on is (j ∷ is) d (extends_put is is j (extends_none is)) x) h (λ l. s l code) code runs (known_outcome facts load at mask j.k) refl)
       (λ e. stays d facts u (length d) (omega arith) h)
 
   past_load_leads : (facts : List Fact) (i : Insn) (is : List Insn) (u : ℕ) → Leads (i ∷ is) (length (i ∷ is)) u → (is_load i.code ≡ true → Branches is × MaskedBranches is) → Onward (i ∷ is) facts u (past_load facts (length (i ∷ is)) i.code i.k is)
@@ -324,7 +324,7 @@ module _ (p : List ℕ) (n : ℕ) where
         same = λ r k. (let m : length c - r ≡ (length c - place) + (place - r) = omega arith in ap (λ j. drop j c) m) ∙ sym (drop-drop (place - r) (length c - place) c) ∙ (let m : place - r ≡ length (tail c place) - r = omega arith in ap (λ j. drop j (tail c place)) m);
       }
 
-  one_leads : (c : List Insn) (facts : List Fact) (u place : ℕ) → Settled c → place ≤ length c → Leads c place u → Onward c facts u (one_on c facts place)
+  one_leads : (c : List Insn) (facts : List Fact) (u place : ℕ) → Settled c → place ≤ length c → Leads c place u → Onward c facts u (step_from c facts place)
   one_leads c facts u place s l h =
       let d = tail c place in
       let x = tail_extends c place l in
@@ -337,20 +337,12 @@ module _ (p : List ℕ) (n : ℕ) where
   then_leads : (c : List Insn) (facts : List Fact) (u r r' : ℕ) (o : Onward c facts u r) → Onward c facts o.v r' → Onward c facts u r'
   then_leads c facts u r r' o o' = record { v = o'.v; leads = o'.leads; inside = o'.inside; right = λ f. o'.right f ∙ o.right f }
 
-  two_leads : (c : List Insn) (facts : List Fact) (u place : ℕ) → Settled c → place ≤ length c → Leads c place u → Onward c facts u (two_on c facts place)
-  two_leads c facts u place s l h =
+  follow_leads : (k : ℕ) (c : List Insn) (facts : List Fact) (u place : ℕ) → Settled c → place ≤ length c → Leads c place u → Onward c facts u (follow k c facts place)
+  unfolding follow
+  follow_leads zero c facts u place s l h = record { v = u; leads = h; inside = l; right = λ f. refl }
+  follow_leads (suc k) c facts u place s l h =
       let o = one_leads c facts u place s l h in
-      then_leads c facts u _ _ o (one_leads c facts o.v _ s o.inside o.leads)
-
-  four_leads : (c : List Insn) (facts : List Fact) (u place : ℕ) → Settled c → place ≤ length c → Leads c place u → Onward c facts u (four_on c facts place)
-  four_leads c facts u place s l h =
-      let o = two_leads c facts u place s l h in
-      then_leads c facts u _ _ o (two_leads c facts o.v _ s o.inside o.leads)
-
-  eight_leads : (c : List Insn) (facts : List Fact) (u place : ℕ) → Settled c → place ≤ length c → Leads c place u → Onward c facts u (eight_on c facts place)
-  eight_leads c facts u place s l h =
-      let o = four_leads c facts u place s l h in
-      then_leads c facts u _ _ o (four_leads c facts o.v _ s o.inside o.leads)
+      then_leads c facts u _ _ o (follow_leads k c facts o.v _ s o.inside o.leads)
 
   -- what is known at a place holds of the packet
   pub record KnowledgeHolds (known : Knowledge) : Type 0 where
@@ -364,7 +356,7 @@ module _ (p : List ℕ) (n : ℕ) where
     pub inside : r ≤ length c
     pub right : KnowledgeHolds known → FactHolds own → v ≡ u
 
-  agreed_followed : (c : List Insn) (known : Knowledge) (own : Fact) (u a b other : ℕ) → Onward c (own ∷ fact known.either.first true ∷ facts_of known) u a → Onward c (own ∷ fact known.either.second true ∷ facts_of known) u b → Onward c (own ∷ facts_of known) u other → Followed c known own u (agreed a b other)
+  agreed_followed : (c : List Insn) (known : Knowledge) (own : Fact) (u a b other : ℕ) → Onward c (own ∷ fact known.either.first true ∷ facts_of known) u a → Onward c (own ∷ fact known.either.second true ∷ facts_of known) u b → Onward c (own ∷ facts_of known) u other → Followed c known own u (agreed_place a b other)
   agreed_followed c known own u a b other oa ob oo =
       by_bool (λ r. Followed c known own u r) (a == b) a other
       (λ e. let same : a ≡ b = grind (arith, nat_tests) in
@@ -379,10 +371,10 @@ module _ (p : List ℕ) (n : ℕ) where
       })
       (λ e. record { v = oo.v; leads = oo.leads; inside = oo.inside; right = λ k f. oo.right (f, k.facts) })
 
-  pub followed_leads : (c : List Insn) (known : Knowledge) (own : Fact) (u place : ℕ) → Settled c → place ≤ length c → Leads c place u → Followed c known own u (followed c known own place)
-  unfolding followed
+  pub followed_leads : (c : List Insn) (known : Knowledge) (own : Fact) (u place : ℕ) → Settled c → place ≤ length c → Leads c place u → Followed c known own u (followed_place c known own place)
+  unfolding followed_place
   followed_leads c known own u place s l h =
-      agreed_followed c known own u _ _ _ (eight_leads c _ u place s l h) (eight_leads c _ u place s l h) (eight_leads c _ u place s l h)
+      agreed_followed c known own u _ _ _ (follow_leads MOST_STEPS c _ u place s l h) (follow_leads MOST_STEPS c _ u place s l h) (follow_leads MOST_STEPS c _ u place s l h)
 
   -- X is ready for code behind a test at a place: past a header it holds that header's length
   abbrev pub Ready : Place → ℕ → Type 0
@@ -440,7 +432,7 @@ module _ (p : List ℕ) (n : ℕ) where
   unfolding target
   target_leads c known tested own u place s l h =
       let f = followed_leads c known own u place s l h in
-      let r = followed c known own place in
+      let r = followed_place c known own place in
       let d = tail c r in
       let x = tail_extends c r f.inside in
       let long_is : length d ≡ r = omega (arith, length-drop (length c - r) c) in
@@ -463,7 +455,7 @@ module _ (p : List ℕ) (n : ℕ) where
 abbrev Inside : ℕ → ℕ → Type 0
 Inside m r = (0 < r) × (r ≤ m)
 
-chosen_inside : (o : Option Bool) (m place hit miss : ℕ) → Inside m place → hit ≤ m → miss ≤ m → Inside m (chosen o place hit miss)
+chosen_inside : (o : Option Bool) (m place hit miss : ℕ) → Inside m place → hit ≤ m → miss ≤ m → Inside m (outcome_place o place hit miss)
 chosen_inside None m place hit miss l lh lm = l
 chosen_inside (Some true) m place hit miss l lh lm = let k = l.0 in let j = l.1 in (omega arith, omega arith)
 chosen_inside (Some false) m place hit miss l lh lm = let k = l.0 in let j = l.1 in (omega arith, omega arith)
@@ -472,7 +464,7 @@ past_mask_inside : (facts : List Fact) (place load at : ℕ) (mask : Option ℕ)
 past_mask_inside facts place load at mask [] p l = (p, omega arith)
 past_mask_inside facts place load at mask (j ∷ is) p l =
     by_bool (λ r. Inside place r) (j.code == 21) _ _
-    (λ e. chosen_inside (decided facts load at mask j.k) place place (length is - j.jt) (length is - j.jf) (p, omega arith) (omega arith) (omega arith))
+    (λ e. chosen_inside (known_outcome facts load at mask j.k) place place (length is - j.jt) (length is - j.jf) (p, omega arith) (omega arith) (omega arith))
     (λ e. (p, omega arith))
 
 past_load_inside : (facts : List Fact) (place load at : ℕ) (e : List Insn) → 0 < place → length e ≤ place → Inside place (past_load facts place load at e)
@@ -489,28 +481,24 @@ onward_inside facts place (i ∷ is) p l =
     (λ e. (omega arith, omega arith))
     (λ e. past_load_inside facts place i.code i.k is p (omega arith))
 
-one_inside : (c : List Insn) (facts : List Fact) (place : ℕ) → 0 < place → place ≤ length c → Inside (length c) (one_on c facts place)
+one_inside : (c : List Insn) (facts : List Fact) (place : ℕ) → 0 < place → place ≤ length c → Inside (length c) (step_from c facts place)
 one_inside c facts place p l =
     let long_is = length-drop (length c - place) c in
     let i = onward_inside facts place (drop (length c - place) c) p (omega arith) in
     let j = i.1 in
     (i.0, omega arith)
 
-two_inside : (c : List Insn) (facts : List Fact) (place : ℕ) → 0 < place → place ≤ length c → Inside (length c) (two_on c facts place)
-two_inside c facts place p l = let i = one_inside c facts place p l in one_inside c facts _ i.0 i.1
+follow_inside : (k : ℕ) (c : List Insn) (facts : List Fact) (place : ℕ) → 0 < place → place ≤ length c → Inside (length c) (follow k c facts place)
+unfolding follow
+follow_inside zero c facts place p l = (p, l)
+follow_inside (suc k) c facts place p l = let i = one_inside c facts place p l in follow_inside k c facts _ i.0 i.1
 
-four_inside : (c : List Insn) (facts : List Fact) (place : ℕ) → 0 < place → place ≤ length c → Inside (length c) (four_on c facts place)
-four_inside c facts place p l = let i = two_inside c facts place p l in two_inside c facts _ i.0 i.1
-
-eight_inside : (c : List Insn) (facts : List Fact) (place : ℕ) → 0 < place → place ≤ length c → Inside (length c) (eight_on c facts place)
-eight_inside c facts place p l = let i = four_inside c facts place p l in four_inside c facts _ i.0 i.1
-
-pub followed_inside : (c : List Insn) (known : Knowledge) (own : Fact) (place : ℕ) → 0 < place → place ≤ length c → Inside (length c) (followed c known own place)
-unfolding followed
+pub followed_inside : (c : List Insn) (known : Knowledge) (own : Fact) (place : ℕ) → 0 < place → place ≤ length c → Inside (length c) (followed_place c known own place)
+unfolding followed_place
 followed_inside c known own place p l =
-    let a = eight_on c (own ∷ fact known.either.first true ∷ facts_of known) place in
-    let b = eight_on c (own ∷ fact known.either.second true ∷ facts_of known) place in
-    by_bool (λ r. Inside (length c) r) (a == b) _ _ (λ e. eight_inside c (own ∷ fact known.either.first true ∷ facts_of known) place p l) (λ e. eight_inside c (own ∷ facts_of known) place p l)
+    let a = follow MOST_STEPS c (own ∷ fact known.either.first true ∷ facts_of known) place in
+    let b = follow MOST_STEPS c (own ∷ fact known.either.second true ∷ facts_of known) place in
+    by_bool (λ r. Inside (length c) r) (a == b) _ _ (λ e. follow_inside MOST_STEPS c (own ∷ fact known.either.first true ∷ facts_of known) place p l) (λ e. follow_inside MOST_STEPS c (own ∷ facts_of known) place p l)
 
 index_inside : (tested : Place) (place : ℕ) (d : List Insn) → 0 < place → length d ≤ place → Inside place (past_index tested place d)
 index_inside (At a) place d p l = (p, omega arith)
@@ -522,7 +510,7 @@ pub target_inside : (c : List Insn) (known : Knowledge) (tested : Place) (own : 
 unfolding target
 target_inside c known tested own place p l =
     let f = followed_inside c known own place p l in
-    let r = followed c known own place in
+    let r = followed_place c known own place in
     let fi = f.1 in
     let long_is = length-drop (length c - r) c in
     let i = index_inside tested r (drop (length c - r) c) f.0 (omega arith) in

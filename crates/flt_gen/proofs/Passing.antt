@@ -11,7 +11,7 @@ use Rattle.flt_bpf.specs.Check.{fault_of, fault_if_known, unless, ends_in_return
 use Rattle.flt_gen.specs.declared.reload.Held.{Held}
 use Rattle.flt_gen.specs.declared.reload.Held.TheVariants.{Unreached, Field, Unknown}
 use Rattle.flt_gen.specs.Layout.{JUMP, is_branch, IsNeeded, JumpsAreNeeded}
-use Rattle.flt_gen.specs.Reload.{joined, loads, past_load_at, moved, turned, raised, passed_on, passed, flow, without_reloads}
+use Rattle.flt_gen.specs.Reload.{held_on_both, loads, past_load_at, offset_past_load, insn_past_loads, with_arrival, with_arrivals_by, with_arrivals, flow, without_reloads}
 use Rattle.flt_bpf.proofs.Suffix.{IsFaultless}
 use Rattle.flt_gen.proofs.Onward.{both_true}
 use Rattle.flt_gen.proofs.Tails.{by_test}
@@ -20,7 +20,7 @@ use Rattle.flt_gen.proofs.Reloads.{turned_code}
 pub length_flow : (hs : List Held) (is : List Insn) → length (flow hs is) ≡ length is
 length_flow hs [] = refl
 length_flow [] (i ∷ is) = refl
-length_flow (h ∷ hs) (i ∷ is) = ap suc (length_flow (passed 0 (operation_of i.code) h i is hs) is)
+length_flow (h ∷ hs) (i ∷ is) = ap suc (length_flow (with_arrivals 0 (operation_of i.code) h i is hs) is)
 
 -- faults
 passes : (b : Bool) (f : CheckFault) → unless b f ≡ None → b ≡ true
@@ -34,14 +34,14 @@ moved_inside h is to (Some i) l =
     (λ t. (both_true (nat_lt (to + 1) (length is)) (loads h i) (both_true (nat_lt to 255) (nat_lt (to + 1) (length is) && loads h i) t).1).0)
     (λ t. l)
 
-both_inside : (h : Held) (i : Insn) (is : List Insn) (f : CheckFault) → unless (nat_lt i.jt (length is) && nat_lt i.jf (length is)) f ≡ None → unless (nat_lt (moved h is i.jt) (length is) && nat_lt (moved h is i.jf) (length is)) f ≡ None
+both_inside : (h : Held) (i : Insn) (is : List Insn) (f : CheckFault) → unless (nat_lt i.jt (length is) && nat_lt i.jf (length is)) f ≡ None → unless (nat_lt (offset_past_load h is i.jt) (length is) && nat_lt (offset_past_load h is i.jf) (length is)) f ≡ None
 both_inside h i is f e =
     let q = both_true (nat_lt i.jt (length is)) (nat_lt i.jf (length is)) (passes _ f e) in
     let a = moved_inside h is i.jt (slice_get is i.jt) q.0 in
     let b = moved_inside h is i.jf (slice_get is i.jf) q.1 in
-    ap (λ x. unless (x && nat_lt (moved h is i.jf) (length is)) f) a ∙ ap (λ x. unless x f) b
+    ap (λ x. unless (x && nat_lt (offset_past_load h is i.jf) (length is)) f) a ∙ ap (λ x. unless x f) b
 
-turned_fault : (op : Option Operation) (h : Held) (i : Insn) (is : List Insn) → fault_if_known op i (length is) ≡ None → fault_if_known op (turned op h i is) (length is) ≡ None
+turned_fault : (op : Option Operation) (h : Held) (i : Insn) (is : List Insn) → fault_if_known op i (length is) ≡ None → fault_if_known op (insn_past_loads op h i is) (length is) ≡ None
 turned_fault None h i is e = e
 turned_fault (Some (JumpIf t o)) h i is e = both_inside h i is _ e
 turned_fault (Some Jump) h i is e = e
@@ -66,11 +66,11 @@ faultless_flow hs [] f = tt
 faultless_flow [] (i ∷ is) f = f
 faultless_flow (h ∷ hs) (i ∷ is) f =
     let op = operation_of i.code in
-    let j = turned op h i is in (
-      ap (fault_of j) (length_flow (passed 0 op h i is hs) is)
+    let j = insn_past_loads op h i is in (
+      ap (fault_of j) (length_flow (with_arrivals 0 op h i is hs) is)
           ∙ fault_is j op (length is) (ap operation_of (turned_code op h i is))
           ∙ turned_fault op h i is (sym (fault_is i op (length is) refl) ∙ f.0),
-      faultless_flow (passed 0 op h i is hs) is f.1,
+      faultless_flow (with_arrivals 0 op h i is hs) is f.1,
     )
 
 ends_behind : (i : Insn) (c : List Insn) → 0 < length c → ends_in_return (i ∷ c) ≡ ends_in_return c
@@ -82,16 +82,16 @@ ends_flow hs [] = refl
 ends_flow [] (i ∷ is) = refl
 ends_flow (h ∷ hs) (i ∷ []) = ap (λ code. is_return (operation_of code)) (turned_code (operation_of i.code) h i [])
 ends_flow (h ∷ hs) (i ∷ j ∷ is) =
-    let hs' = passed 0 (operation_of i.code) h i (j ∷ is) hs in
+    let hs' = with_arrivals 0 (operation_of i.code) h i (j ∷ is) hs in
     let long = length_flow hs' (j ∷ is) in
-    ends_behind (turned (operation_of i.code) h i (j ∷ is)) (flow hs' (j ∷ is)) (omega arith) ∙ ends_flow hs' (j ∷ is)
+    ends_behind (insn_past_loads (operation_of i.code) h i (j ∷ is)) (flow hs' (j ∷ is)) (omega arith) ∙ ends_flow hs' (j ∷ is)
 
 -- jumps
 code_at : (hs : List Held) (is : List Insn) (k : ℕ) (d : Insn) → (get_or (flow hs is) k d).code ≡ (get_or is k d).code
 code_at hs [] k d = refl
 code_at [] (i ∷ is) k d = refl
 code_at (h ∷ hs) (i ∷ is) zero d = turned_code (operation_of i.code) h i is
-code_at (h ∷ hs) (i ∷ is) (suc k) d = code_at (passed 0 (operation_of i.code) h i is hs) is k d
+code_at (h ∷ hs) (i ∷ is) (suc k) d = code_at (with_arrivals 0 (operation_of i.code) h i is hs) is k d
 
 pub no_jump_flow : (hs : List Held) (is : List Insn) → All (λ i. i.code ≢ JUMP) is → All (λ i. i.code ≢ JUMP) (flow hs is)
 no_jump_flow hs is all k d l =
@@ -108,14 +108,14 @@ abbrev NoJumps : List Held → Type 0
 NoJumps [] = Unit {0}
 NoJumps (h ∷ hs) = NoJump h × NoJumps hs
 
-joined_no : (g h : Held) → NoJump g → NoJump h → NoJump (joined g h)
+joined_no : (g h : Held) → NoJump g → NoJump h → NoJump (held_on_both g h)
 joined_no Unreached h a b = b
 joined_no Unknown h a b = tt
 joined_no (Field code k) Unreached a b = a
 joined_no (Field code k) Unknown a b = tt
 joined_no (Field code k) (Field c m) a b = by_test (λ (o : Held). NoJump o) (code == c && k == m) _ _ (λ e. a) (λ e. tt)
 
-raised_no : (hs : List Held) (k : ℕ) (h : Held) → NoJumps hs → NoJump h → NoJumps (raised hs k h)
+raised_no : (hs : List Held) (k : ℕ) (h : Held) → NoJumps hs → NoJump h → NoJumps (with_arrival hs k h)
 raised_no [] k h a b = tt
 raised_no (g ∷ hs) zero h a b = (joined_no g h a.0 b, a.1)
 raised_no (g ∷ hs) (suc k) h a b = (a.0, raised_no hs k h a.1 b)
@@ -127,7 +127,7 @@ jump_is = refl
 no_jump : (code : ℕ) (op : Operation) → operation_of code ≡ Some op → (Some op ≡ Some Jump → ⊥) → code ≢ JUMP
 no_jump code op e other = λ j. other (sym e ∙ ap operation_of j ∙ jump_is)
 
-on_no : (op : Option Operation) (h : Held) (i : Insn) (is : List Insn) (hs : List Held) → operation_of i.code ≡ op → NoJump h → NoJumps hs → NoJumps (passed_on 0 op h i is hs)
+on_no : (op : Option Operation) (h : Held) (i : Insn) (is : List Insn) (hs : List Held) → operation_of i.code ≡ op → NoJump h → NoJumps hs → NoJumps (with_arrivals_by 0 op h i is hs)
 on_no None h i is hs e b a = raised_no hs _ _ a tt
 on_no (Some (JumpIf t o)) h i is hs e b a = raised_no _ _ h (raised_no hs _ h a b) b
 on_no (Some Jump) h i is hs e b a = raised_no hs _ h a b
@@ -143,7 +143,7 @@ on_no (Some Negate) h i is hs e b a = raised_no hs _ _ a tt
 on_no (Some CopyToIndex) h i is hs e b a = raised_no hs _ _ a tt
 on_no (Some CopyToAccumulator) h i is hs e b a = raised_no hs _ _ a tt
 
-passed_no : (h : Held) (i : Insn) (is : List Insn) (hs : List Held) → NoJump h → NoJumps hs → NoJumps (passed 0 (operation_of i.code) h i is hs)
+passed_no : (h : Held) (i : Insn) (is : List Insn) (hs : List Held) → NoJump h → NoJumps hs → NoJumps (with_arrivals 0 (operation_of i.code) h i is hs)
 passed_no Unreached i is hs b a = a
 passed_no Unknown i is hs b a = on_no (operation_of i.code) Unknown i is hs refl b a
 passed_no (Field code k) i is hs b a = on_no (operation_of i.code) (Field code k) i is hs refl b a
@@ -155,7 +155,7 @@ record From (is : List Insn) (j : ℕ) (new : Insn) : Type 0 where
   code : new.code ≡ i.code
   k : new.k ≡ i.k
 
-turned_k : (op : Option Operation) (h : Held) (i : Insn) (is : List Insn) → (turned op h i is).k ≡ i.k
+turned_k : (op : Option Operation) (h : Held) (i : Insn) (is : List Insn) → (insn_past_loads op h i is).k ≡ i.k
 turned_k None h i is = refl
 turned_k (Some (JumpIf t o)) h i is = refl
 turned_k (Some Jump) h i is = refl
@@ -175,10 +175,10 @@ from_old : (hs : List Held) (is : List Insn) (j : ℕ) (new : Insn) → slice_ge
 from_old hs [] j new e = cc
 from_old [] (x ∷ is) j new e = record { i = new; there = e; code = refl; k = refl }
 from_old (h ∷ hs) (x ∷ is) zero new e =
-    let same : turned (operation_of x.code) h x is ≡ new = cc in
+    let same : insn_past_loads (operation_of x.code) h x is ≡ new = cc in
     record { i = x; there = refl; code = sym (ap (λ z. z.code) same) ∙ turned_code (operation_of x.code) h x is; k = sym (ap (λ z. z.k) same) ∙ turned_k (operation_of x.code) h x is }
 from_old (h ∷ hs) (x ∷ is) (suc j) new e =
-    let r = from_old (passed 0 (operation_of x.code) h x is hs) is j new e in
+    let r = from_old (with_arrivals 0 (operation_of x.code) h x is hs) is j new e in
     record { i = r.i; there = r.there; code = r.code; k = r.k }
 
 -- an offset to a jump stays
@@ -190,7 +190,7 @@ loads_no (Field code k) t b e l =
     let same : t.code ≡ code = grind (arith, nat_tests) in
     b (sym same ∙ e)
 
-moved_stays : (h : Held) (is : List Insn) (to : ℕ) (t : Insn) → NoJump h → slice_get is to ≡ Some t → t.code ≡ JUMP → moved h is to ≡ to
+moved_stays : (h : Held) (is : List Insn) (to : ℕ) (t : Insn) → NoJump h → slice_get is to ≡ Some t → t.code ≡ JUMP → offset_past_load h is to ≡ to
 moved_stays h is to t b g e =
     ap (past_load_at h is to) g
     ∙ by_test (λ r. r ≡ to) (nat_lt to 255 && (nat_lt (to + 1) (length is) && loads h t)) _ _
@@ -205,11 +205,11 @@ record Kept (d is : List Insn) (j : ℕ) (i : Insn) : Type 0 where
   yes : (t : Insn) → slice_get is (suc (j + i.jt)) ≡ Some t → t.code ≡ JUMP → new.jt ≡ i.jt
   no : (t : Insn) → slice_get is (suc (j + i.jf)) ≡ Some t → t.code ≡ JUMP → new.jf ≡ i.jf
 
-turned_kept : (op : Option Operation) (h : Held) (x : Insn) (is d : List Insn) → NoJump h → Kept (turned op h x is ∷ d) (x ∷ is) 0 x
+turned_kept : (op : Option Operation) (h : Held) (x : Insn) (is d : List Insn) → NoJump h → Kept (insn_past_loads op h x is ∷ d) (x ∷ is) 0 x
 turned_kept (Some (JumpIf t o)) h x is d b =
     let none_yes : x.jt ≡ 0 + x.jt = omega arith in
     let none_no : x.jf ≡ 0 + x.jf = omega arith in
-    record { new = turned (Some (JumpIf t o)) h x is; there = refl; code = refl; yes = λ z g e. moved_stays h is x.jt z b (ap (slice_get is) none_yes ∙ g) e; no = λ z g e. moved_stays h is x.jf z b (ap (slice_get is) none_no ∙ g) e }
+    record { new = insn_past_loads (Some (JumpIf t o)) h x is; there = refl; code = refl; yes = λ z g e. moved_stays h is x.jt z b (ap (slice_get is) none_yes ∙ g) e; no = λ z g e. moved_stays h is x.jf z b (ap (slice_get is) none_no ∙ g) e }
 turned_kept None h x is d b = record { new = x; there = refl; code = refl; yes = λ t g e. refl; no = λ t g e. refl }
 turned_kept (Some Jump) h x is d b = record { new = x; there = refl; code = refl; yes = λ t g e. refl; no = λ t g e. refl }
 turned_kept (Some (LoadAbsolute w)) h x is d b = record { new = x; there = refl; code = refl; yes = λ t g e. refl; no = λ t g e. refl }
@@ -229,10 +229,10 @@ kept hs [] j i a e = cc
 kept [] (x ∷ is) j i a e = record { new = i; there = e; code = refl; yes = λ t g c. refl; no = λ t g c. refl }
 kept (h ∷ hs) (x ∷ is) zero i a e =
     let same : x ≡ i = cc in
-    let hs' = passed 0 (operation_of x.code) h x is hs in
-    subst (λ z. Kept (turned (operation_of x.code) h x is ∷ flow hs' is) (x ∷ is) zero z) same (turned_kept (operation_of x.code) h x is (flow hs' is) a.0)
+    let hs' = with_arrivals 0 (operation_of x.code) h x is hs in
+    subst (λ z. Kept (insn_past_loads (operation_of x.code) h x is ∷ flow hs' is) (x ∷ is) zero z) same (turned_kept (operation_of x.code) h x is (flow hs' is) a.0)
 kept (h ∷ hs) (x ∷ is) (suc j) i a e =
-    let r = kept (passed 0 (operation_of x.code) h x is hs) is j i (passed_no h x is hs a.0 a.1) e in
+    let r = kept (with_arrivals 0 (operation_of x.code) h x is hs) is j i (passed_no h x is hs a.0 a.1) e in
     let on_yes : suc (j + i.jt) ≡ suc j + i.jt = omega arith in
     let on_no : suc (j + i.jf) ≡ suc j + i.jf = omega arith in
     record { new = r.new; there = r.there; code = r.code; yes = λ t g c. r.yes t (ap (slice_get is) on_yes ∙ g) c; no = λ t g c. r.no t (ap (slice_get is) on_no ∙ g) c }

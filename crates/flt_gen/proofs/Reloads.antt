@@ -15,12 +15,12 @@ use Rattle.flt_bpf.specs.Instructions.{operation_of}
 use Rattle.flt_bpf.specs.Machine.{Next, Goes, Ends, Lost, step, does, does_if_known, into, word_into, with_register, holds, value_of, field, computed, held}
 use Rattle.flt_gen.specs.declared.reload.Held.{Held}
 use Rattle.flt_gen.specs.declared.reload.Held.TheVariants.{Unreached, Field, Unknown}
-use Rattle.flt_gen.specs.Reload.{joined, loads, past_load_at, moved, turned, raised, passed_on, passed, flow, without_reloads}
+use Rattle.flt_gen.specs.Reload.{held_on_both, loads, past_load_at, offset_past_load, insn_past_loads, with_arrival, with_arrivals_by, with_arrivals, flow, without_reloads}
 use Rattle.flt_bpf.proofs.Suffix.{answer_of, answer_after}
 use Rattle.flt_gen.proofs.Onward.{both_true}
 use Rattle.flt_gen.proofs.Tails.{by_test}
 
-pub turned_code : (op : Option Operation) (h : Held) (i : Insn) (is : List Insn) → (turned op h i is).code ≡ i.code
+pub turned_code : (op : Option Operation) (h : Held) (i : Insn) (is : List Insn) → (insn_past_loads op h i is).code ≡ i.code
 turned_code None h i is = refl
 turned_code (Some (JumpIf t o)) h i is = refl
 turned_code (Some Jump) h i is = refl
@@ -42,7 +42,7 @@ flow_from zero hs is = flow hs is
 flow_from (suc k) hs [] = []
 flow_from (suc k) hs (i ∷ is) = i ∷ flow_from k hs is
 
-pub flow_more : (at : ℕ) (h : Held) (hs : List Held) (now : List Insn) (e : Insn) → at < length now → flow_from at (h ∷ hs) now ≡ flow_from (suc at) (passed 0 (operation_of (get_or now at e).code) h (get_or now at e) (drop (suc at) now) hs) (set now at (turned (operation_of (get_or now at e).code) h (get_or now at e) (drop (suc at) now)))
+pub flow_more : (at : ℕ) (h : Held) (hs : List Held) (now : List Insn) (e : Insn) → at < length now → flow_from at (h ∷ hs) now ≡ flow_from (suc at) (with_arrivals 0 (operation_of (get_or now at e).code) h (get_or now at e) (drop (suc at) now) hs) (set now at (insn_past_loads (operation_of (get_or now at e).code) h (get_or now at e) (drop (suc at) now)))
 flow_more at h hs [] e l = absurd (omega arith)
 flow_more zero h hs (i ∷ is) e l = refl
 flow_more (suc at) h hs (i ∷ is) e l = ap (λ c. i ∷ c) (flow_more at h hs is e (omega arith))
@@ -52,20 +52,20 @@ flow_all hs [] = refl
 flow_all hs (i ∷ is) = ap (λ c. i ∷ c) (flow_all hs is)
 
 -- what lies behind a place is raised alone
-pub raised_drop : (from k : ℕ) (hs : List Held) (h : Held) → drop from (raised hs (from + k) h) ≡ raised (drop from hs) k h
+pub raised_drop : (from k : ℕ) (hs : List Held) (h : Held) → drop from (with_arrival hs (from + k) h) ≡ with_arrival (drop from hs) k h
 raised_drop from k hs h =
-    drop-set-add from hs k (joined (get_or hs (from + k) Unknown) h) ∙ ap (λ g. set (drop from hs) k (joined g h)) (sym (get_or-drop from hs k Unknown))
+    drop-set-add from hs k (held_on_both (get_or hs (from + k) Unknown) h) ∙ ap (λ g. set (drop from hs) k (held_on_both g h)) (sym (get_or-drop from hs k Unknown))
 
-first_drop : (from : ℕ) (hs : List Held) (h : Held) → drop from (raised hs from h) ≡ raised (drop from hs) 0 h
-first_drop from hs h = (let none : from ≡ from + 0 = omega arith in ap (λ k. drop from (raised hs k h)) none) ∙ raised_drop from 0 hs h
+first_drop : (from : ℕ) (hs : List Held) (h : Held) → drop from (with_arrival hs from h) ≡ with_arrival (drop from hs) 0 h
+first_drop from hs h = (let none : from ≡ from + 0 = omega arith in ap (λ k. drop from (with_arrival hs k h)) none) ∙ raised_drop from 0 hs h
 
-later_drop : (from k : ℕ) (hs : List Held) (h : Held) → drop from (raised hs (from + k) h) ≡ raised (drop from hs) (0 + k) h
-later_drop from k hs h = raised_drop from k hs h ∙ (let none : k ≡ 0 + k = omega arith in ap (λ m. raised (drop from hs) m h) none)
+later_drop : (from k : ℕ) (hs : List Held) (h : Held) → drop from (with_arrival hs (from + k) h) ≡ with_arrival (drop from hs) (0 + k) h
+later_drop from k hs h = raised_drop from k hs h ∙ (let none : k ≡ 0 + k = omega arith in ap (λ m. with_arrival (drop from hs) m h) none)
 
-on_drop : (from : ℕ) (op : Option Operation) (h : Held) (i : Insn) (is : List Insn) (hs : List Held) → drop from (passed_on from op h i is hs) ≡ passed_on 0 op h i is (drop from hs)
+on_drop : (from : ℕ) (op : Option Operation) (h : Held) (i : Insn) (is : List Insn) (hs : List Held) → drop from (with_arrivals_by from op h i is hs) ≡ with_arrivals_by 0 op h i is (drop from hs)
 on_drop from None h i is hs = first_drop from hs Unknown
 on_drop from (Some (JumpIf t o)) h i is hs =
-    later_drop from (moved h is i.jf) (raised hs (from + moved h is i.jt) h) h ∙ ap (λ gs. raised gs (0 + moved h is i.jf) h) (later_drop from (moved h is i.jt) hs h)
+    later_drop from (offset_past_load h is i.jf) (with_arrival hs (from + offset_past_load h is i.jt) h) h ∙ ap (λ gs. with_arrival gs (0 + offset_past_load h is i.jf) h) (later_drop from (offset_past_load h is i.jt) hs h)
 on_drop from (Some Jump) h i is hs = later_drop from i.k hs h
 on_drop from (Some (LoadAbsolute w)) h i is hs = first_drop from hs _
 on_drop from (Some (LoadIndirect w)) h i is hs = first_drop from hs _
@@ -79,17 +79,17 @@ on_drop from (Some Negate) h i is hs = first_drop from hs Unknown
 on_drop from (Some CopyToIndex) h i is hs = first_drop from hs Unknown
 on_drop from (Some CopyToAccumulator) h i is hs = first_drop from hs Unknown
 
-pub passed_drop : (from : ℕ) (op : Option Operation) (h : Held) (i : Insn) (is : List Insn) (hs : List Held) → drop from (passed from op h i is hs) ≡ passed 0 op h i is (drop from hs)
+pub passed_drop : (from : ℕ) (op : Option Operation) (h : Held) (i : Insn) (is : List Insn) (hs : List Held) → drop from (with_arrivals from op h i is hs) ≡ with_arrivals 0 op h i is (drop from hs)
 passed_drop from op Unreached i is hs = refl
 passed_drop from op Unknown i is hs = on_drop from op Unknown i is hs
 passed_drop from op (Field code k) i is hs = on_drop from op (Field code k) i is hs
 
-raised_length : (hs : List Held) (k : ℕ) (h : Held) → length (raised hs k h) ≡ length hs
+raised_length : (hs : List Held) (k : ℕ) (h : Held) → length (with_arrival hs k h) ≡ length hs
 raised_length hs k h = length-set hs k _
 
-on_length : (from : ℕ) (op : Option Operation) (h : Held) (i : Insn) (is : List Insn) (hs : List Held) → length (passed_on from op h i is hs) ≡ length hs
+on_length : (from : ℕ) (op : Option Operation) (h : Held) (i : Insn) (is : List Insn) (hs : List Held) → length (with_arrivals_by from op h i is hs) ≡ length hs
 on_length from None h i is hs = raised_length hs _ _
-on_length from (Some (JumpIf t o)) h i is hs = raised_length (raised hs (from + moved h is i.jt) h) _ _ ∙ raised_length hs _ _
+on_length from (Some (JumpIf t o)) h i is hs = raised_length (with_arrival hs (from + offset_past_load h is i.jt) h) _ _ ∙ raised_length hs _ _
 on_length from (Some Jump) h i is hs = raised_length hs _ _
 on_length from (Some (LoadAbsolute w)) h i is hs = raised_length hs _ _
 on_length from (Some (LoadIndirect w)) h i is hs = raised_length hs _ _
@@ -103,13 +103,13 @@ on_length from (Some Negate) h i is hs = raised_length hs _ _
 on_length from (Some CopyToIndex) h i is hs = raised_length hs _ _
 on_length from (Some CopyToAccumulator) h i is hs = raised_length hs _ _
 
-pub passed_length : (from : ℕ) (op : Option Operation) (h : Held) (i : Insn) (is : List Insn) (hs : List Held) → length (passed from op h i is hs) ≡ length hs
+pub passed_length : (from : ℕ) (op : Option Operation) (h : Held) (i : Insn) (is : List Insn) (hs : List Held) → length (with_arrivals from op h i is hs) ≡ length hs
 passed_length from op Unreached i is hs = refl
 passed_length from op Unknown i is hs = on_length from op Unknown i is hs
 passed_length from op (Field code k) i is hs = on_length from op (Field code k) i is hs
 
 -- one more instruction is done
-pub flow_step : (at : ℕ) (held held' : List Held) (now behind : List Insn) (g : Held) (e t : Insn) → at < length now → at < length held → behind ≡ drop (at + 1) now → held' ≡ passed (at + 1) (operation_of (get_or now at e).code) (get_or held at g) (get_or now at e) behind held → t ≡ turned (operation_of (get_or now at e).code) (get_or held at g) (get_or now at e) behind → flow_from at (drop at held) now ≡ flow_from (at + 1) (drop (at + 1) held') (set now at t)
+pub flow_step : (at : ℕ) (held held' : List Held) (now behind : List Insn) (g : Held) (e t : Insn) → at < length now → at < length held → behind ≡ drop (at + 1) now → held' ≡ with_arrivals (at + 1) (operation_of (get_or now at e).code) (get_or held at g) (get_or now at e) behind held → t ≡ insn_past_loads (operation_of (get_or now at e).code) (get_or held at g) (get_or now at e) behind → flow_from at (drop at held) now ≡ flow_from (at + 1) (drop (at + 1) held') (set now at t)
 flow_step at held held' now behind g e t l m rest same turns =
     let one : suc at ≡ at + 1 = omega arith in
     let i = get_or now at e in
@@ -117,9 +117,9 @@ flow_step at held held' now behind g e t l m rest same turns =
     let op = operation_of i.code in
     ap (λ hs. flow_from at hs now) (drop_more held at g m)
     ∙ flow_more at h (drop (at + 1) held) now e l
-    ∙ ap (λ k. flow_from k (passed 0 op h i (drop k now) (drop (at + 1) held)) (set now at (turned op h i (drop k now)))) one
-    ∙ ap (λ b. flow_from (at + 1) (passed 0 op h i b (drop (at + 1) held)) (set now at (turned op h i b))) (sym rest)
-    ∙ ap (λ hs. flow_from (at + 1) hs (set now at (turned op h i behind))) (sym (passed_drop (at + 1) op h i behind held) ∙ ap (drop (at + 1)) (sym same))
+    ∙ ap (λ k. flow_from k (with_arrivals 0 op h i (drop k now) (drop (at + 1) held)) (set now at (insn_past_loads op h i (drop k now)))) one
+    ∙ ap (λ b. flow_from (at + 1) (with_arrivals 0 op h i b (drop (at + 1) held)) (set now at (insn_past_loads op h i b))) (sym rest)
+    ∙ ap (λ hs. flow_from (at + 1) hs (set now at (insn_past_loads op h i behind))) (sym (passed_drop (at + 1) op h i behind held) ∙ ap (drop (at + 1)) (sym same))
     ∙ ap (λ z. flow_from (at + 1) (drop (at + 1) held') (set now at z)) (sym turns)
 
 module _ (p : List ℕ) (n : ℕ) where
@@ -134,14 +134,14 @@ module _ (p : List ℕ) (n : ℕ) where
   HoldsAt (h ∷ hs) zero s = Holds h s
   HoldsAt (h ∷ hs) (suc k) s = HoldsAt hs k s
 
-  joined_left : (g h : Held) (s : State) → Holds g s → Holds (joined g h) s
+  joined_left : (g h : Held) (s : State) → Holds g s → Holds (held_on_both g h) s
   joined_left Unreached h s x = absurd x
   joined_left Unknown h s x = tt
   joined_left (Field code k) Unreached s x = x
   joined_left (Field code k) Unknown s x = tt
   joined_left (Field code k) (Field c m) s x = by_test (λ (o : Held). Holds o s) (code == c && k == m) _ _ (λ e. x) (λ e. tt)
 
-  joined_right : (g h : Held) (s : State) → Holds h s → Holds (joined g h) s
+  joined_right : (g h : Held) (s : State) → Holds h s → Holds (held_on_both g h) s
   joined_right Unreached h s x = x
   joined_right Unknown h s x = tt
   joined_right (Field code k) Unreached s x = absurd x
@@ -156,21 +156,21 @@ module _ (p : List ℕ) (n : ℕ) where
       λ i a b. x i (a ∙ same) (b ∙ same_k))
       (λ e. tt)
 
-  raised_at : (hs : List Held) (k : ℕ) (h : Held) (s : State) → Holds h s → HoldsAt (raised hs k h) k s
+  raised_at : (hs : List Held) (k : ℕ) (h : Held) (s : State) → Holds h s → HoldsAt (with_arrival hs k h) k s
   raised_at [] k h s x = tt
   raised_at (g ∷ hs) zero h s x = joined_right g h s x
   raised_at (g ∷ hs) (suc k) h s x = raised_at hs k h s x
 
-  raised_keeps : (hs : List Held) (k m : ℕ) (h : Held) (s : State) → HoldsAt hs m s → HoldsAt (raised hs k h) m s
+  raised_keeps : (hs : List Held) (k m : ℕ) (h : Held) (s : State) → HoldsAt hs m s → HoldsAt (with_arrival hs k h) m s
   raised_keeps [] k m h s x = tt
   raised_keeps (g ∷ hs) zero zero h s x = joined_left g h s x
   raised_keeps (g ∷ hs) zero (suc m) h s x = x
   raised_keeps (g ∷ hs) (suc k) zero h s x = x
   raised_keeps (g ∷ hs) (suc k) (suc m) h s x = raised_keeps hs k m h s x
 
-  on_keeps : (op : Option Operation) (h : Held) (i : Insn) (is : List Insn) (hs : List Held) (m : ℕ) (s : State) → HoldsAt hs m s → HoldsAt (passed_on 0 op h i is hs) m s
+  on_keeps : (op : Option Operation) (h : Held) (i : Insn) (is : List Insn) (hs : List Held) (m : ℕ) (s : State) → HoldsAt hs m s → HoldsAt (with_arrivals_by 0 op h i is hs) m s
   on_keeps None h i is hs m s x = raised_keeps hs 0 m Unknown s x
-  on_keeps (Some (JumpIf t o)) h i is hs m s x = raised_keeps _ (0 + moved h is i.jf) m h s (raised_keeps hs (0 + moved h is i.jt) m h s x)
+  on_keeps (Some (JumpIf t o)) h i is hs m s x = raised_keeps _ (0 + offset_past_load h is i.jf) m h s (raised_keeps hs (0 + offset_past_load h is i.jt) m h s x)
   on_keeps (Some Jump) h i is hs m s x = raised_keeps hs (0 + i.k) m h s x
   on_keeps (Some (LoadAbsolute w)) h i is hs m s x = raised_keeps hs 0 m _ s x
   on_keeps (Some (LoadIndirect w)) h i is hs m s x = raised_keeps hs 0 m _ s x
@@ -184,7 +184,7 @@ module _ (p : List ℕ) (n : ℕ) where
   on_keeps (Some CopyToIndex) h i is hs m s x = raised_keeps hs 0 m Unknown s x
   on_keeps (Some CopyToAccumulator) h i is hs m s x = raised_keeps hs 0 m Unknown s x
 
-  passed_keeps : (op : Option Operation) (h : Held) (i : Insn) (is : List Insn) (hs : List Held) (m : ℕ) (s : State) → HoldsAt hs m s → HoldsAt (passed 0 op h i is hs) m s
+  passed_keeps : (op : Option Operation) (h : Held) (i : Insn) (is : List Insn) (hs : List Held) (m : ℕ) (s : State) → HoldsAt hs m s → HoldsAt (with_arrivals 0 op h i is hs) m s
   passed_keeps op Unreached i is hs m s x = x
   passed_keeps op (Field code k) i is hs m s x = on_keeps op (Field code k) i is hs m s x
   passed_keeps op Unknown i is hs m s x = on_keeps op Unknown i is hs m s x
@@ -247,31 +247,31 @@ module _ (p : List ℕ) (n : ℕ) where
   abbrev Alike : List Insn → List Insn → List Held → Type 0
   Alike c d hs = (k : ℕ) (t : State) → HoldsAt hs k t → answer_of c p n k t ≡ answer_of d p n k t
 
-  loaded_same : (c d : List Insn) (hs : List Held) (i : Insn) (w : Width) (s : State) → operation_of i.code ≡ Some (LoadAbsolute w) → Alike c d (raised hs 0 (Field i.code i.k)) → (o : Option ℕ) → field p i.k w ≡ o → answer_after (answer_of c p n) (into Accumulator o s) ≡ answer_after (answer_of d p n) (into Accumulator o s)
+  loaded_same : (c d : List Insn) (hs : List Held) (i : Insn) (w : Width) (s : State) → operation_of i.code ≡ Some (LoadAbsolute w) → Alike c d (with_arrival hs 0 (Field i.code i.k)) → (o : Option ℕ) → field p i.k w ≡ o → answer_after (answer_of c p n) (into Accumulator o s) ≡ answer_after (answer_of d p n) (into Accumulator o s)
   loaded_same c d hs i w s e f None g = refl
   loaded_same c d hs i w s e f (Some v) g =
       f 0 (record s { accumulator = v }) (raised_at hs 0 (Field i.code i.k) (record s { accumulator = v }) (λ j a b. knows_step j (LoadAbsolute w) (record s { accumulator = v }) (ap operation_of a ∙ e) ∙ ap (λ k. into Accumulator (field p k w) (record s { accumulator = v })) b ∙ ap (λ o. into Accumulator o (record s { accumulator = v })) g))
 
-  indirect_same : (c d : List Insn) (hs : List Held) (i : Insn) (w : Width) (s : State) → operation_of i.code ≡ Some (LoadIndirect w) → Alike c d (raised hs 0 (Field i.code i.k)) → (o : Option ℕ) → field p ((s.index + i.k) % 2 ^ 32) w ≡ o → answer_after (answer_of c p n) (into Accumulator o s) ≡ answer_after (answer_of d p n) (into Accumulator o s)
+  indirect_same : (c d : List Insn) (hs : List Held) (i : Insn) (w : Width) (s : State) → operation_of i.code ≡ Some (LoadIndirect w) → Alike c d (with_arrival hs 0 (Field i.code i.k)) → (o : Option ℕ) → field p ((s.index + i.k) % 2 ^ 32) w ≡ o → answer_after (answer_of c p n) (into Accumulator o s) ≡ answer_after (answer_of d p n) (into Accumulator o s)
   indirect_same c d hs i w s e f None g = refl
   indirect_same c d hs i w s e f (Some v) g =
       f 0 (record s { accumulator = v }) (raised_at hs 0 (Field i.code i.k) (record s { accumulator = v }) (λ j a b. knows_step j (LoadIndirect w) (record s { accumulator = v }) (ap operation_of a ∙ e) ∙ ap (λ k. into Accumulator (field p ((s.index + k) % 2 ^ 32) w) (record s { accumulator = v })) b ∙ ap (λ o. into Accumulator o (record s { accumulator = v })) g))
 
-  anyhow : (c d : List Insn) (hs : List Held) → Alike c d (raised hs 0 Unknown) → Next0 c d
+  anyhow : (c d : List Insn) (hs : List Held) → Alike c d (with_arrival hs 0 Unknown) → Next0 c d
   anyhow c d hs f t = f 0 t (raised_at hs 0 Unknown t tt)
 
   -- one instruction, whose offsets go past loads, in front of such code
-  here : (op : Option Operation) (h : Held) (i : Insn) (is d : List Insn) (hs : List Held) (s : State) → operation_of i.code ≡ op → Holds h s → Alike d is (passed_on 0 op h i is hs) → answer_after (answer_of d p n) (does_if_known op (turned op h i is) p n s) ≡ answer_after (answer_of is p n) (does_if_known op i p n s)
+  here : (op : Option Operation) (h : Held) (i : Insn) (is d : List Insn) (hs : List Held) (s : State) → operation_of i.code ≡ op → Holds h s → Alike d is (with_arrivals_by 0 op h i is hs) → answer_after (answer_of d p n) (does_if_known op (insn_past_loads op h i is) p n s) ≡ answer_after (answer_of is p n) (does_if_known op i p n s)
   here None h i is d hs s e x f = refl
   here (Some (JumpIf t o)) h i is d hs s e x f =
-      let none_yes : 0 + moved h is i.jt ≡ moved h is i.jt = omega arith in
-      let none_no : 0 + moved h is i.jf ≡ moved h is i.jf = omega arith in
+      let none_yes : 0 + offset_past_load h is i.jt ≡ offset_past_load h is i.jt = omega arith in
+      let none_no : 0 + offset_past_load h is i.jf ≡ offset_past_load h is i.jf = omega arith in
       way_same d is (holds t s.accumulator (value_of o i.k s.index)) _ _ i.jt i.jf s
-      (f (moved h is i.jt) s (subst (λ m. HoldsAt (raised (raised hs (0 + moved h is i.jt) h) (0 + moved h is i.jf) h) m s) none_yes (raised_keeps _ (0 + moved h is i.jf) (0 + moved h is i.jt) h s (raised_at hs (0 + moved h is i.jt) h s x))) ∙ moved_same h is i.jt s x (slice_get is i.jt) refl)
-      (f (moved h is i.jf) s (subst (λ m. HoldsAt (raised (raised hs (0 + moved h is i.jt) h) (0 + moved h is i.jf) h) m s) none_no (raised_at _ (0 + moved h is i.jf) h s x)) ∙ moved_same h is i.jf s x (slice_get is i.jf) refl)
+      (f (offset_past_load h is i.jt) s (subst (λ m. HoldsAt (with_arrival (with_arrival hs (0 + offset_past_load h is i.jt) h) (0 + offset_past_load h is i.jf) h) m s) none_yes (raised_keeps _ (0 + offset_past_load h is i.jf) (0 + offset_past_load h is i.jt) h s (raised_at hs (0 + offset_past_load h is i.jt) h s x))) ∙ moved_same h is i.jt s x (slice_get is i.jt) refl)
+      (f (offset_past_load h is i.jf) s (subst (λ m. HoldsAt (with_arrival (with_arrival hs (0 + offset_past_load h is i.jt) h) (0 + offset_past_load h is i.jf) h) m s) none_no (raised_at _ (0 + offset_past_load h is i.jf) h s x)) ∙ moved_same h is i.jf s x (slice_get is i.jf) refl)
   here (Some Jump) h i is d hs s e x f =
       let none : 0 + i.k ≡ i.k = omega arith in
-      f i.k s (subst (λ m. HoldsAt (raised hs (0 + i.k) h) m s) none (raised_at hs (0 + i.k) h s x))
+      f i.k s (subst (λ m. HoldsAt (with_arrival hs (0 + i.k) h) m s) none (raised_at hs (0 + i.k) h s x))
   here (Some (LoadAbsolute w)) h i is d hs s e x f = loaded_same d is hs i w s e f (field p i.k w) refl
   here (Some (LoadIndirect w)) h i is d hs s e x f = indirect_same d is hs i w s e f (field p ((s.index + i.k) % 2 ^ 32) w) refl
   here (Some ReturnConstant) h i is d hs s e x f = refl
@@ -290,9 +290,9 @@ module _ (p : List ℕ) (n : ℕ) where
   unfolding step
   step_known j op s e = ap (λ o. does_if_known o j p n s) e
 
-  at_top : (h : Held) (i : Insn) (is d : List Insn) (hs : List Held) (s : State) → Holds h s → Alike d is (passed_on 0 (operation_of i.code) h i is hs) → answer_of (turned (operation_of i.code) h i is ∷ d) p n 0 s ≡ answer_of (i ∷ is) p n 0 s
+  at_top : (h : Held) (i : Insn) (is d : List Insn) (hs : List Held) (s : State) → Holds h s → Alike d is (with_arrivals_by 0 (operation_of i.code) h i is hs) → answer_of (insn_past_loads (operation_of i.code) h i is ∷ d) p n 0 s ≡ answer_of (i ∷ is) p n 0 s
   at_top h i is d hs s x f =
-      ap (answer_after (answer_of d p n)) (step_known (turned (operation_of i.code) h i is) (operation_of i.code) s (ap operation_of (turned_code (operation_of i.code) h i is)))
+      ap (answer_after (answer_of d p n)) (step_known (insn_past_loads (operation_of i.code) h i is) (operation_of i.code) s (ap operation_of (turned_code (operation_of i.code) h i is)))
       ∙ here (operation_of i.code) h i is d hs s refl x f
       ∙ sym (ap (answer_after (answer_of is p n)) (step_known i (operation_of i.code) s refl))
 
@@ -301,12 +301,12 @@ module _ (p : List ℕ) (n : ℕ) where
   answers_same [] hs k s x = refl
   answers_same (i ∷ is) [] k s x = refl
   answers_same (i ∷ is) (h ∷ hs) (suc k) s x =
-      answers_same is (passed 0 (operation_of i.code) h i is hs) k s (passed_keeps (operation_of i.code) h i is hs k s x)
+      answers_same is (with_arrivals 0 (operation_of i.code) h i is hs) k s (passed_keeps (operation_of i.code) h i is hs k s x)
   answers_same (i ∷ is) (Unreached ∷ hs) zero s x = absurd x
   answers_same (i ∷ is) (Unknown ∷ hs) zero s x =
-      at_top Unknown i is _ hs s x (λ k t y. answers_same is (passed_on 0 (operation_of i.code) Unknown i is hs) k t y)
+      at_top Unknown i is _ hs s x (λ k t y. answers_same is (with_arrivals_by 0 (operation_of i.code) Unknown i is hs) k t y)
   answers_same (i ∷ is) (Field code k ∷ hs) zero s x =
-      at_top (Field code k) i is _ hs s x (λ j t y. answers_same is (passed_on 0 (operation_of i.code) (Field code k) i is hs) j t y)
+      at_top (Field code k) i is _ hs s x (λ j t y. answers_same is (with_arrivals_by 0 (operation_of i.code) (Field code k) i is hs) j t y)
 
   pub reloads_answer : (is : List Insn) (s : State) → answer_of (without_reloads is) p n 0 s ≡ answer_of is p n 0 s
   reloads_answer is s = answers_same is _ 0 s (raised_at (replicate (length is) Unreached) 0 Unknown s tt)

@@ -22,8 +22,8 @@ use Rattle.flt_gen.specs.Primitives.{check_formula, cast_formula, sized_formula,
 use Rattle.flt_gen.specs.Follow.{nothing}
 use Rattle.flt_words.specs.declared.token.Operator.{Operator}
 use Rattle.flt_words.specs.declared.token.Comparison.{Comparison}
-use Rattle.flt_gen.specs.Code.{plain, computation, takes, comparison_before}
-use Rattle.flt_gen.specs.Walk.{Walk, relation_put, number_put, with_code, operands_put, formula_put, settled_by, settled, group_put, value_put, join_put, truth_node_put, is_truth_node, with_node, applied_put, compared_put, both_put, or_else, walked}
+use Rattle.flt_gen.specs.Code.{plain, computation, takes, emit_comparison}
+use Rattle.flt_gen.specs.Walk.{Walk, finish_relation, finish_number, with_code, begin_operands, finish_formula, flush_members, flush_group, finish_group, emit_value, emit_join, emit_truth_node, is_truth_node, emit_node, emit_applied, emit_compared, emit_both_nodes, or_else, emit_nodes}
 use Rattle.flt_gen.proofs.Tails.{extends_none, comparison_extends, accessor_extends, emitted_extends, accessors_extend}
 use Rattle.flt_bpf.specs.declared.operation.Operation.TheVariants.{Load, Store}
 use Rattle.flt_bpf.specs.declared.operation.Register.TheVariants.{Accumulator}
@@ -61,10 +61,10 @@ grown_on w v h l s n f =
     same_low : (ns ms : List Waiting) → ns ≡ ms → AllLow ms (length v.code) → AllLow ns (length v.code)
     same_low ns ms e a = subst (λ xs. AllLow xs (length v.code)) (sym e) a
 
-relation_grown : (link : Link) (w : Walk) → w.numbers ≡ [] → IsLow w → Grown w (relation_put link w)
-relation_grown link w e h = grown_on w (relation_put link w) h (accessors_extend link w.accessors (length w.code) w.to.no w.code).longer refl refl h.few
+relation_grown : (link : Link) (w : Walk) → w.numbers ≡ [] → IsLow w → Grown w (finish_relation link w)
+relation_grown link w e h = grown_on w (finish_relation link w) h (accessors_extend link w.accessors (length w.code) w.to.no w.code).longer refl refl h.few
 
-number_grown : (link : Link) (ns : List Waiting) (w : Walk) → w.numbers ≡ ns → IsLow w → Grown w (number_put link ns w)
+number_grown : (link : Link) (ns : List Waiting) (w : Walk) → w.numbers ≡ ns → IsLow w → Grown w (finish_number link ns w)
 number_grown link [] w e h = relation_grown link w e h
 number_grown link (Index p ∷ ns) w e h =
     let v : Walk = record w { numbers = ns; accessors = p ∷ w.accessors } in
@@ -77,19 +77,19 @@ number_grown link (Left s ∷ ns) w e h =
     record { low = record { slot = omega arith; waiting = low_more ns (length w.code) (length (plain (Store Accumulator) s ∷ w.code)) (omega arith) a.1; few = h.few }; longer = omega arith }
 
 -- code in front, and then a number is complete
-code_grown : (link : Link) (w : Walk) (c : List Insn) → length w.code ≤ length c → IsLow w → Grown w (number_put link w.numbers (with_code c w))
+code_grown : (link : Link) (w : Walk) (c : List Insn) → length w.code ≤ length c → IsLow w → Grown w (finish_number link w.numbers (with_code c w))
 code_grown link w c l h =
     let v = with_code c w in
     let a = grown_on w v h l refl refl h.few in
     let g = number_grown link w.numbers v refl a.low in
     record { low = g.low; longer = let m = g.longer in omega arith }
 
-operands_grown : (w : Walk) (slot : ℕ) (c : List Insn) → slot ≤ length w.code → length w.code ≤ length c → IsLow w → Grown w (operands_put slot c w)
+operands_grown : (w : Walk) (slot : ℕ) (c : List Insn) → slot ≤ length w.code → length w.code ≤ length c → IsLow w → Grown w (begin_operands slot c w)
 operands_grown w slot c s l h =
     record {
       low = record {
         slot = omega arith;
-        waiting = (omega arith, low_more w.numbers (length w.code) (length (operands_put slot c w).code) (omega arith) h.waiting);
+        waiting = (omega arith, low_more w.numbers (length w.code) (length (begin_operands slot c w).code) (omega arith) h.waiting);
         few = h.few;
       };
       longer = omega arith;
@@ -98,13 +98,13 @@ operands_grown w slot c s l h =
 grown_after : (u v w : Walk) → Grown u v → Grown v w → Grown u w
 grown_after u v w g h = record { low = h.low; longer = let l = g.longer in let m = h.longer in omega arith }
 
-formula_grown : (link : Link) (f : Formula) (w : Walk) → IsLow w → Grown w (formula_put link f w)
-formula_grown link f w h = grown_on w (formula_put link f w) h (emitted_extends link nothing f w.to.yes w.to.no w.code).longer refl refl h.few
+formula_grown : (link : Link) (f : Formula) (w : Walk) → IsLow w → Grown w (finish_formula link f w)
+formula_grown link f w h = grown_on w (finish_formula link f w) h (emitted_extends link nothing f w.to.yes w.to.no w.code).longer refl refl h.few
 
-settled_grown : (link : Link) (w : Walk) (bs : List ℕ) → IsLow w → Grown w (settled_by link w bs)
-settled_grown link w [] h = grown_on w (settled_by link w []) h (omega arith) refl refl (omega arith)
+settled_grown : (link : Link) (w : Walk) (bs : List ℕ) → IsLow w → Grown w (flush_members link w bs)
+settled_grown link w [] h = grown_on w (flush_members link w []) h (omega arith) refl refl (omega arith)
 settled_grown link w (b ∷ bs) h =
-    grown_on w (settled_by link w (b ∷ bs)) h (emitted_extends link nothing (group_formula link w.group) w.to.yes w.to.no w.code).longer refl refl (omega arith)
+    grown_on w (flush_members link w (b ∷ bs)) h (emitted_extends link nothing (group_formula link w.group) w.to.yes w.to.no w.code).longer refl refl (omega arith)
 
 -- with one more they are no more than the most
 pub more_few : (q : FullQuals) (v : Value) (group more : Group) → larger_group q v group ≡ Some more → length more.numbers ≤ MOST_TOGETHER
@@ -133,24 +133,24 @@ more_few q v group more e = by_address (member_number q.value_type v) e
     by_address None e = cc
     by_address (Some a) e = by_test a (goes_with q group group.numbers) refl e
 
-value_grown : (link : Link) (q : FullQuals) (v : Value) (w : Walk) → IsLow w → (o : Option Group) → larger_group q v w.group ≡ o → Grown w (value_put link q v w o)
+value_grown : (link : Link) (q : FullQuals) (v : Value) (w : Walk) → IsLow w → (o : Option Group) → larger_group q v w.group ≡ o → Grown w (emit_value link q v w o)
 value_grown link q v w h None e =
     let g = settled_grown link w w.group.numbers h in
-    grown_after w (settled link w) (value_put link q v w None) g (formula_grown link (qualified_formula link q v) (settled link w) g.low)
+    grown_after w (flush_group link w) (emit_value link q v w None) g (formula_grown link (qualified_formula link q v) (flush_group link w) g.low)
 value_grown link q v w h (Some more) e = by_chain w.chained
   where
-    by_chain : (k : Bool) → Grown w (group_put link w more k)
-    by_chain true = grown_on w (group_put link w more true) h (omega arith) refl refl (more_few q v w.group more e)
-    by_chain false = grown_on w (group_put link w more false) h (emitted_extends link nothing (group_formula link more) w.to.yes w.to.no w.code).longer refl refl (omega arith)
+    by_chain : (k : Bool) → Grown w (finish_group link w more k)
+    by_chain true = grown_on w (finish_group link w more true) h (omega arith) refl refl (more_few q v w.group more e)
+    by_chain false = grown_on w (finish_group link w more false) h (emitted_extends link nothing (group_formula link more) w.to.yes w.to.no w.code).longer refl refl (omega arith)
 
-truth_grown : (link : Link) (w : Walk) (n : Node) → is_truth_node n ≡ true → IsLow w → Grown w (truth_node_put link w n)
+truth_grown : (link : Link) (w : Walk) (n : Node) → is_truth_node n ≡ true → IsLow w → Grown w (emit_truth_node link w n)
 truth_grown link w (node.Check p) t h = formula_grown link (check_formula link p) w h
 truth_grown link w (node.Cast p c) t h = formula_grown link (cast_formula link p c) w h
 truth_grown link w (node.Sized s n) t h = formula_grown link (sized_formula s n) w h
-truth_grown link w (node.Bare v) t h = grown_on w (truth_node_put link w (node.Bare v)) h (omega arith) refl refl h.few
-truth_grown link w (node.Valued q v) t h = grown_on w (truth_node_put link w (node.Valued q v)) h (omega arith) refl refl h.few
+truth_grown link w (node.Bare v) t h = grown_on w (emit_truth_node link w (node.Bare v)) h (omega arith) refl refl h.few
+truth_grown link w (node.Valued q v) t h = grown_on w (emit_truth_node link w (node.Valued q v)) h (omega arith) refl refl h.few
 truth_grown link w (node.Compare c) t h = operands_grown w 0 _ (omega arith) (comparison_extends c IndexRegister 0 w.to.yes w.to.no w.code).longer h
-truth_grown link w node.Not t h = grown_on w (truth_node_put link w node.Not) h (omega arith) refl refl h.few
+truth_grown link w node.Not t h = grown_on w (emit_truth_node link w node.Not) h (omega arith) refl refl h.few
 truth_grown link w (node.Qualified q v) t h = cc
 truth_grown link w (node.Join j) t h = cc
 truth_grown link w (node.Literal n) t h = cc
@@ -161,19 +161,19 @@ truth_grown link w node.Negate t h = cc
 truth_grown link w (node.Apply o) t h = cc
 
 -- the group that waits comes first
-settled_truth_grown : (link : Link) (w : Walk) (n : Node) → is_truth_node n ≡ true → IsLow w → Grown w (truth_node_put link (settled link w) n)
+settled_truth_grown : (link : Link) (w : Walk) (n : Node) → is_truth_node n ≡ true → IsLow w → Grown w (emit_truth_node link (flush_group link w) n)
 settled_truth_grown link w n t h =
     let g = settled_grown link w w.group.numbers h in
-    grown_after w (settled link w) (truth_node_put link (settled link w) n) g (truth_grown link (settled link w) n t g.low)
+    grown_after w (flush_group link w) (emit_truth_node link (flush_group link w) n) g (truth_grown link (flush_group link w) n t g.low)
 
-join_grown : (link : Link) (j : Join) (w : Walk) → IsLow w → Grown w (join_put link j w)
-join_grown link Or w h = grown_on w (join_put link Or w) h (omega arith) refl refl h.few
+join_grown : (link : Link) (j : Join) (w : Walk) → IsLow w → Grown w (emit_join link j w)
+join_grown link Or w h = grown_on w (emit_join link Or w) h (omega arith) refl refl h.few
 join_grown link And w h =
     let g = settled_grown link w w.group.numbers h in
     let l = g.low in
-    grown_after w (settled link w) (join_put link And w) g (grown_on (settled link w) (join_put link And w) l (omega arith) refl refl l.few)
+    grown_after w (flush_group link w) (emit_join link And w) g (grown_on (flush_group link w) (emit_join link And w) l (omega arith) refl refl l.few)
 
-node_grown : (link : Link) (w : Walk) (n : Node) → IsLow w → Grown w (with_node link w n)
+node_grown : (link : Link) (w : Walk) (n : Node) → IsLow w → Grown w (emit_node link w n)
 node_grown link w (node.Check p) h = settled_truth_grown link w (node.Check p) refl h
 node_grown link w (node.Cast p c) h = settled_truth_grown link w (node.Cast p c) refl h
 node_grown link w (node.Sized s n) h = settled_truth_grown link w (node.Sized s n) refl h
@@ -188,15 +188,15 @@ node_grown link w (node.Named n) h = code_grown link w (plain (Load Accumulator 
 node_grown link w node.Len h = code_grown link w (plain (Load Accumulator Length) 0 ∷ w.code) (omega arith) h
 node_grown link w (node.Load p s) h =
     let l = (accessor_extends link p (width_of s) w.code w.code (extends_none w.code)).longer in
-    let v = with_node link w (node.Load p s) in
+    let v = emit_node link w (node.Load p s) in
     record { low = record { slot = let k = h.slot in omega arith; waiting = low_more w.numbers (length w.code) (length v.code) l h.waiting; few = h.few }; longer = l }
-node_grown link w node.Negate h = grown_on w (with_node link w node.Negate) h (omega arith) refl refl h.few
+node_grown link w node.Negate h = grown_on w (emit_node link w node.Negate) h (omega arith) refl refl h.few
 node_grown link w (node.Apply o) h = operands_grown w w.slot _ h.slot (omega arith) h
 
-pub node_low : (link : Link) (w : Walk) (n : Node) → IsLow w → IsLow (with_node link w n)
+pub node_low : (link : Link) (w : Walk) (n : Node) → IsLow w → IsLow (emit_node link w n)
 node_low link w n h = (node_grown link w n h).low
 
-pub node_longer : (link : Link) (w : Walk) (n : Node) → IsLow w → length w.code ≤ length (with_node link w n).code
+pub node_longer : (link : Link) (w : Walk) (n : Node) → IsLow w → length w.code ≤ length (emit_node link w n).code
 node_longer link w n h = (node_grown link w n h).longer
 
 -- the same of two nodes that are put at once
@@ -206,7 +206,7 @@ is_some u v e = cc
 only_code : (w : Walk) (c : List Insn) → length w.code ≤ length c → IsLow w → Grown w (with_code c w)
 only_code w c l h = grown_on w (with_code c w) h l refl refl h.few
 
-applied_grown : (o : Operator) (k : ℕ) (w v : Walk) → IsLow w → applied_put o k w ≡ Some v → Grown w v
+applied_grown : (o : Operator) (k : ℕ) (w v : Walk) → IsLow w → emit_applied o k w ≡ Some v → Grown w v
 applied_grown o k w v h e = by_taken (takes o k) e
   where
     c : List Insn
@@ -216,14 +216,14 @@ applied_grown o k w v h e = by_taken (takes o k) e
     by_taken true f = subst (λ u. Grown w u) (is_some (with_code c w) v f) (only_code w c (omega arith) h)
     by_taken false f = cc
 
-compared_grown : (link : Link) (c : Comparison) (k : ℕ) (w v : Walk) → IsLow w → compared_put c k (settled link w) ≡ Some v → Grown w v
+compared_grown : (link : Link) (c : Comparison) (k : ℕ) (w v : Walk) → IsLow w → emit_compared c k (flush_group link w) ≡ Some v → Grown w v
 compared_grown link c k w v h e =
-    let u = settled link w in
+    let u = flush_group link w in
     let g = settled_grown link w w.group.numbers h in
-    let d = comparison_before c Constant k u.to.yes u.to.no u.code in
+    let d = emit_comparison c Constant k u.to.yes u.to.no u.code in
     subst (λ x. Grown w x) (is_some (with_code d u) v e) (grown_after w u (with_code d u) g (only_code u d (comparison_extends c Constant k u.to.yes u.to.no u.code).longer g.low))
 
-pub both_grown : (link : Link) (w v : Walk) (n m : Node) → IsLow w → both_put link w n m ≡ Some v → Grown w v
+pub both_grown : (link : Link) (w v : Walk) (n m : Node) → IsLow w → emit_both_nodes link w n m ≡ Some v → Grown w v
 both_grown link w v (node.Apply o) (node.Literal k) h e = applied_grown o k w v h e
 both_grown link w v (node.Apply o) (node.Named k) h e = applied_grown o k w v h e
 both_grown link w v (node.Compare c) (node.Literal k) h e = compared_grown link c k w v h e
@@ -231,32 +231,32 @@ both_grown link w v (node.Compare c) (node.Named k) h e = compared_grown link c 
 both_grown link w v _ _ h e = cc
 
 -- how a walk goes on: with two nodes at once, or with one
-or_walked : (link : Link) (w u v : Walk) (o : Option Walk) (ns : List Node) → o ≡ Some v → walked link (or_else o u) ns ≡ walked link v ns
-or_walked link w u v o ns e = ap (λ x. walked link (or_else x u) ns) e
+or_walked : (link : Link) (w u v : Walk) (o : Option Walk) (ns : List Node) → o ≡ Some v → emit_nodes link (or_else o u) ns ≡ emit_nodes link v ns
+or_walked link w u v o ns e = ap (λ x. emit_nodes link (or_else x u) ns) e
 
-or_none : (link : Link) (u : Walk) (o : Option Walk) (ns : List Node) → o ≡ None → walked link (or_else o u) ns ≡ walked link u ns
-or_none link u o ns e = ap (λ x. walked link (or_else x u) ns) e
+or_none : (link : Link) (u : Walk) (o : Option Walk) (ns : List Node) → o ≡ None → emit_nodes link (or_else o u) ns ≡ emit_nodes link u ns
+or_none link u o ns e = ap (λ x. emit_nodes link (or_else x u) ns) e
 
-pub both_walked : (link : Link) (w v : Walk) (n m : Node) (ns : List Node) → both_put link w n m ≡ Some v → walked link w (n ∷ m ∷ ns) ≡ walked link v ns
+pub both_walked : (link : Link) (w v : Walk) (n m : Node) (ns : List Node) → emit_both_nodes link w n m ≡ Some v → emit_nodes link w (n ∷ m ∷ ns) ≡ emit_nodes link v ns
 both_walked link w v (node.Apply o) (node.Literal k) ns e = or_walked link w _ v _ ns e
 both_walked link w v (node.Apply o) (node.Named k) ns e = or_walked link w _ v _ ns e
-both_walked link w v (node.Compare c) (node.Literal k) ns e = ap (λ x. walked link x ns) (is_some _ v e)
-both_walked link w v (node.Compare c) (node.Named k) ns e = ap (λ x. walked link x ns) (is_some _ v e)
+both_walked link w v (node.Compare c) (node.Literal k) ns e = ap (λ x. emit_nodes link x ns) (is_some _ v e)
+both_walked link w v (node.Compare c) (node.Named k) ns e = ap (λ x. emit_nodes link x ns) (is_some _ v e)
 both_walked link w v _ _ ns e = cc
 
-pub one_walked : (link : Link) (w : Walk) (n m : Node) (ns : List Node) → both_put link w n m ≡ None → walked link w (n ∷ m ∷ ns) ≡ walked link (with_node link w n) (m ∷ ns)
+pub one_walked : (link : Link) (w : Walk) (n m : Node) (ns : List Node) → emit_both_nodes link w n m ≡ None → emit_nodes link w (n ∷ m ∷ ns) ≡ emit_nodes link (emit_node link w n) (m ∷ ns)
 one_walked link w (node.Apply o) (node.Literal k) ns e = or_none link _ _ ns e
 one_walked link w (node.Apply o) (node.Named k) ns e = or_none link _ _ ns e
 one_walked link w (node.Compare c) (node.Literal k) ns e = cc
 one_walked link w (node.Compare c) (node.Named k) ns e = cc
 one_walked link w _ _ ns e = refl
 
-pub last_walked : (link : Link) (w : Walk) (n : Node) → walked link w (n ∷ []) ≡ with_node link w n
+pub last_walked : (link : Link) (w : Walk) (n : Node) → emit_nodes link w (n ∷ []) ≡ emit_node link w n
 last_walked link w (node.Apply o) = refl
 last_walked link w (node.Compare c) = refl
 last_walked link w _ = refl
 
-longer_by : (link : Link) (w : Walk) (n m : Node) (ns : List Node) → IsLow w → ((v : Walk) → IsLow v → length v.code ≤ length (walked link v ns).code) → (IsLow (with_node link w n) → length (with_node link w n).code ≤ length (walked link (with_node link w n) (m ∷ ns)).code) → (o : Option Walk) → both_put link w n m ≡ o → length w.code ≤ length (walked link w (n ∷ m ∷ ns)).code
+longer_by : (link : Link) (w : Walk) (n m : Node) (ns : List Node) → IsLow w → ((v : Walk) → IsLow v → length v.code ≤ length (emit_nodes link v ns).code) → (IsLow (emit_node link w n) → length (emit_node link w n).code ≤ length (emit_nodes link (emit_node link w n) (m ∷ ns)).code) → (o : Option Walk) → emit_both_nodes link w n m ≡ o → length w.code ≤ length (emit_nodes link w (n ∷ m ∷ ns)).code
 longer_by link w n m ns h both one (Some v) e =
     let g = both_grown link w v n m h e in
     let l = g.longer in
@@ -270,11 +270,11 @@ longer_by link w n m ns h both one None e =
     omega arith
 
 -- the code at the end is no shorter than the code before
-pub walked_longer : (link : Link) (w : Walk) (ns : List Node) → IsLow w → length w.code ≤ length (walked link w ns).code
+pub walked_longer : (link : Link) (w : Walk) (ns : List Node) → IsLow w → length w.code ≤ length (emit_nodes link w ns).code
 walked_longer link w [] h = omega arith
 walked_longer link w (n ∷ []) h =
     let l = node_longer link w n h in
     let e = ap (λ (x : Walk). length x.code) (last_walked link w n) in
     omega arith
 walked_longer link w (n ∷ m ∷ ns) h =
-    longer_by link w n m ns h (λ v low. walked_longer link v ns low) (λ low. walked_longer link (with_node link w n) (m ∷ ns) low) (both_put link w n m) refl
+    longer_by link w n m ns h (λ v low. walked_longer link v ns low) (λ low. walked_longer link (emit_node link w n) (m ∷ ns) low) (emit_both_nodes link w n m) refl

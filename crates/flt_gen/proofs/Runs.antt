@@ -1,6 +1,6 @@
 -- The code of a formula goes on where the formula's reading says.
 use Rattle.std.proofs.Common.{◌≡◌, ℕ, zero, suc, ◌+◌, ◌-◌, ◌/◌, ◌%◌, ◌^◌, ◌<◌, ◌≤◌, List, [], ◌∷◌, length, take, drop, get_or, Bool, true, false, Option, Some, None, refl, sym, ap, ◌∙◌, arith, ◌⊎◌, inl, inr}
-use Rattle.std.specs.Prelude.{◌≢◌, nat_le, nat_lt, ◌==◌, not, ◌&&◌, ◌||◌, if◌then◌else◌, bit_and}
+use Rattle.std.specs.Prelude.{◌≢◌, nat_le, nat_lt, ◌==◌, not, ◌||◌, if◌then◌else◌, bit_and}
 use Rattle.std.specs.Option.{option_map}
 use Rattle.std.proofs.lemmas.Bool.Decides.{nat_tests}
 use Rattle.flt_bpf.specs.Instructions.{code_of}
@@ -39,9 +39,9 @@ use Rattle.flt_gen.specs.Numbers.{number}
 use Rattle.flt_gen.specs.Formula.{Formula, Single, Compare, Both, Either, Except, Guard, Fork, Choose, Among, is_one_of, among_reads, relation_reads, both, either, negated as exchanged, reads}
 use Rattle.flt_lang.specs.Counts.{number_words}
 use Rattle.flt_gen.specs.Counts.{words}
-use Rattle.flt_gen.specs.Code.{plain, computation, constant, constant_operand, base_before, transport_before, accessor_before, elementary_before, jump_before, branch_before, comparison_before, field_before, mask_before, test_before, operands_before, number_before, relation_before, Entered, at_top, chain_before, search_before, LEVELS, among_before, emitted, NEAR}
+use Rattle.flt_gen.specs.Code.{plain, computation, constant, constant_operand, emit_base, emit_transport, emit_accessor, emit_elementary, emit_jump, emit_branch, reach, emit_comparison, emit_field, emit_mask, emit_test, emit_operands, emit_number, emit_relation, Block, at_top, emit_chain, emit_search, LEVELS, emit_among, emit_formula}
 use Rattle.flt_bpf.proofs.Suffix.{answer_of, answer_after}
-use Rattle.flt_gen.proofs.Tails.{Extends, extends_none, extends_put, extends_on, branch_extends, field_extends, mask_extends, one_of_four, by_test, by_right, test_extends, relation_extends, search_extends}
+use Rattle.flt_gen.proofs.Tails.{Extends, extends_none, extends_put, extends_on, branch_extends, field_extends, mask_extends, by_reach, by_test, by_right, test_extends, relation_extends, search_extends}
 use Rattle.flt_gen.proofs.Ascending.{Ascending, Searchable, searchable_ascends, ascending_take, ascending_drop, lower_half, upper_half}
 use Rattle.flt_gen.specs.declared.elementary.MaskedField.{MaskedField}
 use Rattle.flt_bpf.proofs.Suffix.{answer_drop}
@@ -80,20 +80,20 @@ module _ (p : List ℕ) (n : ℕ) where
   two_ways c jt jf v w s false e f = f
 
   -- what a long jump's code does from its top, and from behind it
-  jump_top : (tested : Place) (c : List Insn) (to v : ℕ) (s : State) → length s.memory ≡ 16 → Ready p n tested s.index → LeadsReady p n tested c to v → answer_of (jump_before to c) p n 0 s ≡ Some v
+  jump_top : (tested : Place) (c : List Insn) (to v : ℕ) (s : State) → length s.memory ≡ 16 → Ready p n tested s.index → LeadsReady p n tested c to v → answer_of (emit_jump to c) p n 0 s ≡ Some v
   jump_top tested c to v s long ready h = run_jump p n (length c - to) c s ∙ h.by s long ready
 
   past_jump : (tested : Place) (c : List Insn) (i : Insn) (to v : ℕ) (s : State) → length s.memory ≡ 16 → Ready p n tested s.index → to ≤ length c → LeadsReady p n tested c to v → answer_of (i ∷ c) p n (length c + 1 - to) s ≡ Some v
   past_jump tested c i to v s long ready l h = (let more : length c + 1 - to ≡ suc (length c - to) = omega arith in ap (λ k. answer_of (i ∷ c) p n k s) more) ∙ h.by s long ready
 
-  branch_runs : (tested : Place) (t : Test) (operand : Operand) (k hit miss v w : ℕ) (c : List Insn) (s : State) → length s.memory ≡ 16 → Ready p n tested s.index → hit ≤ length c → miss ≤ length c → LeadsReady p n tested c hit v → LeadsReady p n tested c miss w → answer_of (branch_before t operand k hit miss c) p n 0 s ≡ Some (if holds t s.accumulator (value_of operand k s.index) then v else w)
-  unfolding branch_before
+  branch_runs : (tested : Place) (t : Test) (operand : Operand) (k hit miss v w : ℕ) (c : List Insn) (s : State) → length s.memory ≡ 16 → Ready p n tested s.index → hit ≤ length c → miss ≤ length c → LeadsReady p n tested c hit v → LeadsReady p n tested c miss w → answer_of (emit_branch t operand k hit miss c) p n 0 s ≡ Some (if holds t s.accumulator (value_of operand k s.index) then v else w)
+  unfolding emit_branch
   branch_runs tested t operand k hit miss v w c s long ready lh lm h m =
-      one_of_four Fine (nat_le (length c - hit) NEAR && nat_le (length c - miss) NEAR) (nat_le (length c + 1 - miss) NEAR) (nat_le (length c + 1 - hit) NEAR) _ _ _ _
+      by_reach Fine (reach hit miss c) t operand k hit miss c
       (run_branch p n t operand k (length c - hit) (length c - miss) c s ∙ two_ways c _ _ v w s truth (h.by s long ready) (m.by s long ready))
-      (run_branch p n t operand k 0 (length c + 1 - miss) (jump_before hit c) s ∙ two_ways (jump_before hit c) _ _ v w s truth (jump_top tested c hit v s long ready h) (past_jump tested c _ miss w s long ready lm m))
-      (run_branch p n t operand k (length c + 1 - hit) 0 (jump_before miss c) s ∙ two_ways (jump_before miss c) _ _ v w s truth (past_jump tested c _ hit v s long ready lh h) (jump_top tested c miss w s long ready m))
-      (run_branch p n t operand k 0 1 (jump_before hit (jump_before miss c)) s ∙ two_ways (jump_before hit (jump_before miss c)) _ _ v w s truth (jump_top tested (jump_before miss c) hit v s long ready far) (jump_top tested c miss w s long ready m))
+      (run_branch p n t operand k 0 (length c + 1 - miss) (emit_jump hit c) s ∙ two_ways (emit_jump hit c) _ _ v w s truth (jump_top tested c hit v s long ready h) (past_jump tested c _ miss w s long ready lm m))
+      (run_branch p n t operand k (length c + 1 - hit) 0 (emit_jump miss c) s ∙ two_ways (emit_jump miss c) _ _ v w s truth (past_jump tested c _ hit v s long ready lh h) (jump_top tested c miss w s long ready m))
+      (run_branch p n t operand k 0 1 (emit_jump hit (emit_jump miss c)) s ∙ two_ways (emit_jump hit (emit_jump miss c)) _ _ v w s truth (jump_top tested (emit_jump miss c) hit v s long ready far) (jump_top tested c miss w s long ready m))
     where
       truth : Bool
       truth = holds t s.accumulator (value_of operand k s.index)
@@ -101,21 +101,21 @@ module _ (p : List ℕ) (n : ℕ) where
       Fine : List Insn → Type 0
       Fine d = answer_of d p n 0 s ≡ Some (if truth then v else w)
 
-      far : LeadsReady p n tested (jump_before miss c) hit v
-      far = ready_on p n tested c (jump_before miss c) hit v lh (extends_put c c _ (extends_none c)) h
+      far : LeadsReady p n tested (emit_jump miss c) hit v
+      far = ready_on p n tested c (emit_jump miss c) hit v lh (extends_put c c _ (extends_none c)) h
 
   -- a conditional jump in a state in which its two ways have these answers
   past_at : (c : List Insn) (i : Insn) (to v : ℕ) (s : State) → to ≤ length c → answer_of c p n (length c - to) s ≡ Some v → answer_of (i ∷ c) p n (length c + 1 - to) s ≡ Some v
   past_at c i to v s l h = (let more : length c + 1 - to ≡ suc (length c - to) = omega arith in ap (λ k. answer_of (i ∷ c) p n k s) more) ∙ h
 
-  branch_at : (t : Test) (operand : Operand) (k hit miss v w : ℕ) (c : List Insn) (s : State) → hit ≤ length c → miss ≤ length c → answer_of c p n (length c - hit) s ≡ Some v → answer_of c p n (length c - miss) s ≡ Some w → answer_of (branch_before t operand k hit miss c) p n 0 s ≡ Some (if holds t s.accumulator (value_of operand k s.index) then v else w)
-  unfolding branch_before
+  branch_at : (t : Test) (operand : Operand) (k hit miss v w : ℕ) (c : List Insn) (s : State) → hit ≤ length c → miss ≤ length c → answer_of c p n (length c - hit) s ≡ Some v → answer_of c p n (length c - miss) s ≡ Some w → answer_of (emit_branch t operand k hit miss c) p n 0 s ≡ Some (if holds t s.accumulator (value_of operand k s.index) then v else w)
+  unfolding emit_branch
   branch_at t operand k hit miss v w c s lh lm h m =
-      one_of_four Fine (nat_le (length c - hit) NEAR && nat_le (length c - miss) NEAR) (nat_le (length c + 1 - miss) NEAR) (nat_le (length c + 1 - hit) NEAR) _ _ _ _
+      by_reach Fine (reach hit miss c) t operand k hit miss c
       (run_branch p n t operand k (length c - hit) (length c - miss) c s ∙ two_ways c _ _ v w s truth h m)
-      (run_branch p n t operand k 0 (length c + 1 - miss) (jump_before hit c) s ∙ two_ways (jump_before hit c) _ _ v w s truth (run_jump p n (length c - hit) c s ∙ h) (past_at c _ miss w s lm m))
-      (run_branch p n t operand k (length c + 1 - hit) 0 (jump_before miss c) s ∙ two_ways (jump_before miss c) _ _ v w s truth (past_at c _ hit v s lh h) (run_jump p n (length c - miss) c s ∙ m))
-      (run_branch p n t operand k 0 1 (jump_before hit (jump_before miss c)) s ∙ two_ways (jump_before hit (jump_before miss c)) _ _ v w s truth (run_jump p n (length (jump_before miss c) - hit) (jump_before miss c) s ∙ far) (run_jump p n (length c - miss) c s ∙ m))
+      (run_branch p n t operand k 0 (length c + 1 - miss) (emit_jump hit c) s ∙ two_ways (emit_jump hit c) _ _ v w s truth (run_jump p n (length c - hit) c s ∙ h) (past_at c _ miss w s lm m))
+      (run_branch p n t operand k (length c + 1 - hit) 0 (emit_jump miss c) s ∙ two_ways (emit_jump miss c) _ _ v w s truth (past_at c _ hit v s lh h) (run_jump p n (length c - miss) c s ∙ m))
+      (run_branch p n t operand k 0 1 (emit_jump hit (emit_jump miss c)) s ∙ two_ways (emit_jump hit (emit_jump miss c)) _ _ v w s truth (run_jump p n (length (emit_jump miss c) - hit) (emit_jump miss c) s ∙ far) (run_jump p n (length c - miss) c s ∙ m))
     where
       truth : Bool
       truth = holds t s.accumulator (value_of operand k s.index)
@@ -123,8 +123,8 @@ module _ (p : List ℕ) (n : ℕ) where
       Fine : List Insn → Type 0
       Fine d = answer_of d p n 0 s ≡ Some (if truth then v else w)
 
-      far : answer_of (jump_before miss c) p n (length (jump_before miss c) - hit) s ≡ Some v
-      far = (let one : length (jump_before miss c) - hit ≡ length c + 1 - hit = omega arith in ap (λ k. answer_of (jump_before miss c) p n k s) one) ∙ past_at c (plain Jump (length c - miss)) hit v s lh h
+      far : answer_of (emit_jump miss c) p n (length (emit_jump miss c) - hit) s ≡ Some v
+      far = (let one : length (emit_jump miss c) - hit ≡ length c + 1 - hit = omega arith in ap (λ k. answer_of (emit_jump miss c) p n k s) one) ∙ past_at c (plain Jump (length c - miss)) hit v s lh h
 
   -- a longer code has the same answer from the places of the shorter
   same_at : (c d : List Insn) (place v : ℕ) (s : State) → place ≤ length c → Extends c d → answer_of c p n (length c - place) s ≡ Some v → answer_of d p n (length d - place) s ≡ Some v
@@ -132,7 +132,7 @@ module _ (p : List ℕ) (n : ℕ) where
       sym (answer_drop d p n (length d - place) s) ∙ ap (λ is. answer_of is p n 0 s) (e.same place l) ∙ answer_drop c p n (length c - place) s ∙ h
 
   -- code that is entered in a state, and its answer there
-  record Answers (e : Entered) (c : List Insn) (s : State) (v : ℕ) : Type 0 where
+  record Answers (e : Block) (c : List Insn) (s : State) (v : ℕ) : Type 0 where
     inside : e.entry ≤ length e.code
     extends : Extends c e.code
     by : answer_of e.code p n (length e.code - e.entry) s ≡ Some v
@@ -144,10 +144,10 @@ module _ (p : List ℕ) (n : ℕ) where
   or_else true b v w = refl
   or_else false b v w = refl
 
-  chain_answers : (vs : List ℕ) (hit miss v w : ℕ) (c : List Insn) (s : State) → hit ≤ length c → miss ≤ length c → answer_of c p n (length c - hit) s ≡ Some v → answer_of c p n (length c - miss) s ≡ Some w → Answers (chain_before vs hit miss c) c s (if is_one_of s.accumulator vs then v else w)
+  chain_answers : (vs : List ℕ) (hit miss v w : ℕ) (c : List Insn) (s : State) → hit ≤ length c → miss ≤ length c → answer_of c p n (length c - hit) s ≡ Some v → answer_of c p n (length c - miss) s ≡ Some w → Answers (emit_chain vs hit miss c) c s (if is_one_of s.accumulator vs then v else w)
   chain_answers [] hit miss v w c s lh lm h m = record { inside = lm; extends = extends_none c; by = m }
   chain_answers (x ∷ vs) hit miss v w c s lh lm h m =
-      let e = chain_before vs hit miss c in
+      let e = emit_chain vs hit miss c in
       let r = chain_answers vs hit miss v w c s lh lm h m in
       let lh' : hit ≤ length e.code = omega (arith, r.extends.longer) in
       answers_top c _ s _ (extends_on c e.code _ r.extends (branch_extends test.Equal Constant x hit e.entry e.code))
@@ -162,19 +162,19 @@ module _ (p : List ℕ) (n : ℕ) where
       let m : a < get_or vs h 0 = grind (arith, nat_tests) in
       ap (λ b. if b then v else w) (sym (lower_half a h vs up l m))
 
-  search_answers : (k : ℕ) (vs : List ℕ) (hit miss v w : ℕ) (c : List Insn) (s : State) → Ascending vs → hit ≤ length c → miss ≤ length c → answer_of c p n (length c - hit) s ≡ Some v → answer_of c p n (length c - miss) s ≡ Some w → Answers (search_before k vs hit miss c) c s (if is_one_of s.accumulator vs then v else w)
-  unfolding search_before
+  search_answers : (k : ℕ) (vs : List ℕ) (hit miss v w : ℕ) (c : List Insn) (s : State) → Ascending vs → hit ≤ length c → miss ≤ length c → answer_of c p n (length c - hit) s ≡ Some v → answer_of c p n (length c - miss) s ≡ Some w → Answers (emit_search k vs hit miss c) c s (if is_one_of s.accumulator vs then v else w)
+  unfolding emit_search
   search_answers zero vs hit miss v w c s up lh lm h m = chain_answers vs hit miss v w c s lh lm h m
   search_answers (suc k) vs hit miss v w c s up lh lm h m =
       let half = length vs / 2 in
-      let upper = search_before k (drop half vs) hit miss c in
-      let lower = search_before k (take half vs) hit miss upper.code in
+      let upper = emit_search k (drop half vs) hit miss c in
+      let lower = emit_search k (take half vs) hit miss upper.code in
       let ru = search_answers k (drop half vs) hit miss v w c s (ascending_drop half vs up) lh lm h m in
       let lh' : hit ≤ length upper.code = omega (arith, ru.extends.longer) in
       let lm' : miss ≤ length upper.code = omega (arith, ru.extends.longer) in
       let rl = search_answers k (take half vs) hit miss v w upper.code s (ascending_take half vs up) lh' lm' (same_at c upper.code hit v s lh ru.extends h) (same_at c upper.code miss w s lm ru.extends m) in
       let lu : upper.entry ≤ length lower.code = (let i = ru.inside in omega (arith, rl.extends.longer)) in
-      by_test (λ (e : Entered). Answers e c s (if is_one_of s.accumulator vs then v else w)) (nat_lt (length vs) 2) _ _
+      by_test (λ (e : Block). Answers e c s (if is_one_of s.accumulator vs then v else w)) (nat_lt (length vs) 2) _ _
       (λ few. chain_answers vs hit miss v w c s lh lm h m)
       (λ many. let two : 2 ≤ length vs = grind (arith, nat_tests) in
       answers_top c _ s _ (extends_on c upper.code _ ru.extends (extends_on upper.code lower.code _ rl.extends (branch_extends test.AtLeast Constant (get_or vs half 0) upper.entry lower.entry lower.code)))
@@ -192,7 +192,7 @@ module _ (p : List ℕ) (n : ℕ) where
   at_most_is : (a b : ℕ) → nat_le a b ≡ not (nat_lt b a)
   at_most_is a b = grind (arith, nat_tests)
 
-  comparison_runs : (tested : Place) (comparison : Comparison) (operand : Operand) (k hit miss v w : ℕ) (c : List Insn) (s : State) → length s.memory ≡ 16 → Ready p n tested s.index → hit ≤ length c → miss ≤ length c → LeadsReady p n tested c hit v → LeadsReady p n tested c miss w → answer_of (comparison_before comparison operand k hit miss c) p n 0 s ≡ Some (if compares comparison s.accumulator (value_of operand k s.index) then v else w)
+  comparison_runs : (tested : Place) (comparison : Comparison) (operand : Operand) (k hit miss v w : ℕ) (c : List Insn) (s : State) → length s.memory ≡ 16 → Ready p n tested s.index → hit ≤ length c → miss ≤ length c → LeadsReady p n tested c hit v → LeadsReady p n tested c miss w → answer_of (emit_comparison comparison operand k hit miss c) p n 0 s ≡ Some (if compares comparison s.accumulator (value_of operand k s.index) then v else w)
   comparison_runs tested Equal operand k hit miss v w c s long ready lh lm h m = branch_runs tested test.Equal operand k hit miss v w c s long ready lh lm h m
   comparison_runs tested NotEqual operand k hit miss v w c s long ready lh lm h m =
       branch_runs tested test.Equal operand k miss hit w v c s long ready lm lh m h ∙ ap Some (exchanged_if _ _ v w refl)
@@ -208,31 +208,31 @@ module _ (p : List ℕ) (n : ℕ) where
   reading_picks true v w = refl
   reading_picks false v w = refl
 
-  masked_runs : (tested : Place) (k : FieldTest) (hit miss v w x : ℕ) (c : List Insn) (s : State) → length s.memory ≡ 16 → Ready p n tested s.index → hit ≤ length c → miss ≤ length c → LeadsReady p n tested c hit v → LeadsReady p n tested c miss w → (mask : Option ℕ) → s.accumulator ≡ x → answer_of (mask_before mask (comparison_before k.comparison Constant k.value hit miss c)) p n 0 s ≡ Some (if compares k.comparison (masked mask x) k.value then v else w)
+  masked_runs : (tested : Place) (k : FieldTest) (hit miss v w x : ℕ) (c : List Insn) (s : State) → length s.memory ≡ 16 → Ready p n tested s.index → hit ≤ length c → miss ≤ length c → LeadsReady p n tested c hit v → LeadsReady p n tested c miss w → (mask : Option ℕ) → s.accumulator ≡ x → answer_of (emit_mask mask (emit_comparison k.comparison Constant k.value hit miss c)) p n 0 s ≡ Some (if compares k.comparison (masked mask x) k.value then v else w)
   masked_runs tested k hit miss v w x c s long ready lh lm h m None e =
       comparison_runs tested k.comparison Constant k.value hit miss v w c s long ready lh lm h m ∙ ap (λ y. Some (if compares k.comparison y k.value then v else w)) e
   masked_runs tested k hit miss v w x c s long ready lh lm h m (Some mask) e =
-      run_mask p n mask (comparison_before k.comparison Constant k.value hit miss c) s ∙ comparison_runs tested k.comparison Constant k.value hit miss v w c (record s { accumulator = bit_and s.accumulator mask }) long ready lh lm h m ∙ ap (λ y. Some (if compares k.comparison (bit_and y mask) k.value then v else w)) e
+      run_mask p n mask (emit_comparison k.comparison Constant k.value hit miss c) s ∙ comparison_runs tested k.comparison Constant k.value hit miss v w c (record s { accumulator = bit_and s.accumulator mask }) long ready lh lm h m ∙ ap (λ y. Some (if compares k.comparison (bit_and y mask) k.value then v else w)) e
 
   -- what loads a field ends the run where there is none
-  loaded_runs : (tested : Place) (k : FieldTest) (hit miss v w : ℕ) (c : List Insn) (s : State) → length s.memory ≡ 16 → Ready p n tested s.index → hit ≤ length c → miss ≤ length c → LeadsReady p n tested c hit v → LeadsReady p n tested c miss w → (o : Option ℕ) → answer_after (answer_of (mask_before k.mask (comparison_before k.comparison Constant k.value hit miss c)) p n) (into Accumulator o s) ≡ Some (pick (reading_of (with o (λ x. Some (compares k.comparison (masked k.mask x) k.value)))) v w)
+  loaded_runs : (tested : Place) (k : FieldTest) (hit miss v w : ℕ) (c : List Insn) (s : State) → length s.memory ≡ 16 → Ready p n tested s.index → hit ≤ length c → miss ≤ length c → LeadsReady p n tested c hit v → LeadsReady p n tested c miss w → (o : Option ℕ) → answer_after (answer_of (emit_mask k.mask (emit_comparison k.comparison Constant k.value hit miss c)) p n) (into Accumulator o s) ≡ Some (pick (reading_of (with o (λ x. Some (compares k.comparison (masked k.mask x) k.value)))) v w)
   loaded_runs tested k hit miss v w c s long ready lh lm h m None = refl
   loaded_runs tested k hit miss v w c s long ready lh lm h m (Some x) =
       masked_runs tested k hit miss v w x c (record s { accumulator = x }) long ready lh lm h m k.mask refl ∙ ap Some (reading_picks (compares k.comparison (masked k.mask x) k.value) v w)
 
-  past_runs : (header at : ℕ) (k : FieldTest) (hit miss v w : ℕ) (c : List Insn) (s : State) → length s.memory ≡ 16 → hit ≤ length c → miss ≤ length c → LeadsReady p n (Past header at) c hit v → LeadsReady p n (Past header at) c miss w → (o : Option ℕ) → field p header Byte ≡ o → answer_after (answer_of (plain (LoadIndirect k.width) at ∷ mask_before k.mask (comparison_before k.comparison Constant k.value hit miss c)) p n) (into Index (option_map header_length o) s) ≡ Some (pick (reading_of (with (with (with o (λ b. Some (header_length b))) (λ x. field p ((x + at) % 2 ^ 32) k.width)) (λ x. Some (compares k.comparison (masked k.mask x) k.value)))) v w)
+  past_runs : (header at : ℕ) (k : FieldTest) (hit miss v w : ℕ) (c : List Insn) (s : State) → length s.memory ≡ 16 → hit ≤ length c → miss ≤ length c → LeadsReady p n (Past header at) c hit v → LeadsReady p n (Past header at) c miss w → (o : Option ℕ) → field p header Byte ≡ o → answer_after (answer_of (plain (LoadIndirect k.width) at ∷ emit_mask k.mask (emit_comparison k.comparison Constant k.value hit miss c)) p n) (into Index (option_map header_length o) s) ≡ Some (pick (reading_of (with (with (with o (λ b. Some (header_length b))) (λ x. field p ((x + at) % 2 ^ 32) k.width)) (λ x. Some (compares k.comparison (masked k.mask x) k.value)))) v w)
   past_runs header at k hit miss v w c s long lh lm h m None e = refl
   past_runs header at k hit miss v w c s long lh lm h m (Some b) e =
       run_indirect p n k.width at _ (record s { index = header_length b }) ∙ loaded_runs (Past header at) k hit miss v w c (record s { index = header_length b }) long (ap (option_map header_length) e) lh lm h m (field p ((header_length b + at) % 2 ^ 32) k.width)
 
-  field_runs : (place : Place) (k : FieldTest) (hit miss v w : ℕ) (c : List Insn) (s : State) → length s.memory ≡ 16 → hit ≤ length c → miss ≤ length c → LeadsReady p n place c hit v → LeadsReady p n place c miss w → answer_of (field_before place k.width (mask_before k.mask (comparison_before k.comparison Constant k.value hit miss c))) p n 0 s ≡ Some (pick (reading_of (with (field_at place k.width p) (λ x. Some (compares k.comparison (masked k.mask x) k.value)))) v w)
+  field_runs : (place : Place) (k : FieldTest) (hit miss v w : ℕ) (c : List Insn) (s : State) → length s.memory ≡ 16 → hit ≤ length c → miss ≤ length c → LeadsReady p n place c hit v → LeadsReady p n place c miss w → answer_of (emit_field place k.width (emit_mask k.mask (emit_comparison k.comparison Constant k.value hit miss c))) p n 0 s ≡ Some (pick (reading_of (with (field_at place k.width p) (λ x. Some (compares k.comparison (masked k.mask x) k.value)))) v w)
   field_runs (At at) k hit miss v w c s long lh lm h m =
       run_load p n k.width at _ s ∙ loaded_runs (At at) k hit miss v w c s long tt lh lm h m (field p at k.width)
   field_runs (Past header at) k hit miss v w c s long lh lm h m =
-      run_header p n header (plain (LoadIndirect k.width) at ∷ mask_before k.mask (comparison_before k.comparison Constant k.value hit miss c)) s ∙ past_runs header at k hit miss v w c s long lh lm h m (field p header Byte) refl
+      run_header p n header (plain (LoadIndirect k.width) at ∷ emit_mask k.mask (emit_comparison k.comparison Constant k.value hit miss c)) s ∙ past_runs header at k hit miss v w c s long lh lm h m (field p header Byte) refl
 
   -- both numbers of a relation, and its test
-  compared_runs : (comparison : Comparison) (hit miss v w : ℕ) (c c' : List Insn) (s : State) → hit ≤ length c → miss ≤ length c → Leads p n c hit v → Leads p n c miss w → (ox oy : Option ℕ) → TwoRuns p n c' (comparison_before comparison IndexRegister 0 hit miss c) 0 s ox oy → answer_of c' p n 0 s ≡ Some (pick (reading_of (with ox (λ x. with oy (λ y. Some (compares comparison x y))))) v w)
+  compared_runs : (comparison : Comparison) (hit miss v w : ℕ) (c c' : List Insn) (s : State) → hit ≤ length c → miss ≤ length c → Leads p n c hit v → Leads p n c miss w → (ox oy : Option ℕ) → TwoRuns p n c' (emit_comparison comparison IndexRegister 0 hit miss c) 0 s ox oy → answer_of c' p n 0 s ≡ Some (pick (reading_of (with ox (λ x. with oy (λ y. Some (compares comparison x y))))) v w)
   compared_runs comparison hit miss v w c c' s lh lm h m None oy r = r
   compared_runs comparison hit miss v w c c' s lh lm h m (Some x) None r = r
   compared_runs comparison hit miss v w c c' s lh lm h m (Some x) (Some y) r =
@@ -240,19 +240,19 @@ module _ (p : List ℕ) (n : ℕ) where
       r.4 ∙ comparison_runs (At 0) comparison IndexRegister 0 hit miss v w c t r.1.long tt lh lm (ready_anyhow p n (At 0) c hit v h) (ready_anyhow p n (At 0) c miss w m) ∙ ap (λ a. Some (if compares comparison a t.index then v else w)) r.2 ∙ ap (λ b. Some (if compares comparison x b then v else w)) r.3 ∙ ap Some (reading_picks (compares comparison x y) v w)
 
   -- the right one is in the test
-  constant_compared : (comparison : Comparison) (k hit miss v w : ℕ) (c c' : List Insn) (s : State) → hit ≤ length c → miss ≤ length c → Leads p n c hit v → Leads p n c miss w → (ox oy : Option ℕ) → oy ≡ Some k → NumberRuns p n c' (comparison_before comparison Constant k hit miss c) 0 s ox → answer_of c' p n 0 s ≡ Some (pick (reading_of (with ox (λ x. with oy (λ y. Some (compares comparison x y))))) v w)
+  constant_compared : (comparison : Comparison) (k hit miss v w : ℕ) (c c' : List Insn) (s : State) → hit ≤ length c → miss ≤ length c → Leads p n c hit v → Leads p n c miss w → (ox oy : Option ℕ) → oy ≡ Some k → NumberRuns p n c' (emit_comparison comparison Constant k hit miss c) 0 s ox → answer_of c' p n 0 s ≡ Some (pick (reading_of (with ox (λ x. with oy (λ y. Some (compares comparison x y))))) v w)
   constant_compared comparison k hit miss v w c c' s lh lm h m None oy is r = r
   constant_compared comparison k hit miss v w c c' s lh lm h m (Some x) oy is r =
       let t = r.0 in
       r.3 ∙ comparison_runs (At 0) comparison Constant k hit miss v w c t r.1.long tt lh lm (ready_anyhow p n (At 0) c hit v h) (ready_anyhow p n (At 0) c miss w m) ∙ ap (λ a. Some (if compares comparison a k then v else w)) r.2 ∙ ap Some (reading_picks (compares comparison x k) v w) ∙ ap (λ o. Some (pick (reading_of (with o (λ y. Some (compares comparison x y)))) v w)) (sym is)
 
-  relation_runs : (link : Link) (comparison : Comparison) (l r : NumberTree) (hit miss v w : ℕ) (c : List Insn) (s : State) → length s.memory ≡ 16 → hit ≤ length c → miss ≤ length c → Leads p n c hit v → Leads p n c miss w → number_words l ≤ 16 → 1 + number_words r ≤ 16 → answer_of (relation_before link comparison l r hit miss c) p n 0 s ≡ Some (pick (relation_reads link comparison l r p n) v w)
+  relation_runs : (link : Link) (comparison : Comparison) (l r : NumberTree) (hit miss v w : ℕ) (c : List Insn) (s : State) → length s.memory ≡ 16 → hit ≤ length c → miss ≤ length c → Leads p n c hit v → Leads p n c miss w → number_words l ≤ 16 → 1 + number_words r ≤ 16 → answer_of (emit_relation link comparison l r hit miss c) p n 0 s ≡ Some (pick (relation_reads link comparison l r p n) v w)
   relation_runs link comparison l r hit miss v w c s long lh lm h m few_l few_r =
-      by_right (λ d. answer_of (number_before link l 0 d) p n 0 s ≡ Some (pick (relation_reads link comparison l r p n) v w)) (constant r) 0 _ _
+      by_right (λ d. answer_of (emit_number link l 0 d) p n 0 s ≡ Some (pick (relation_reads link comparison l r p n) v w)) (constant r) 0 _ _
       (λ k is. constant_compared comparison k hit miss v w c _ s lh lm h m (number link l p n) (number link r p n) (constant_is p n link r k is)
-      (number_runs p n link l 0 (comparison_before comparison Constant k hit miss c) s long (omega arith)))
+      (number_runs p n link l 0 (emit_comparison comparison Constant k hit miss c) s long (omega arith)))
       (compared_runs comparison hit miss v w c _ s lh lm h m (number link l p n) (number link r p n)
-      (two_runs p n _ (number_before link r 1 (operands_before 0 (comparison_before comparison IndexRegister 0 hit miss c))) (comparison_before comparison IndexRegister 0 hit miss c) 0 s (number link l p n) (number link r p n) (omega arith)
+      (two_runs p n _ (emit_number link r 1 (emit_operands 0 (emit_comparison comparison IndexRegister 0 hit miss c))) (emit_comparison comparison IndexRegister 0 hit miss c) 0 s (number link l p n) (number link r p n) (omega arith)
       (number_runs p n link l 0 _ s long (omega arith))
       (λ t lt. number_runs p n link r 1 _ t lt few_r)))
 
@@ -274,7 +274,7 @@ module _ (p : List ℕ) (n : ℕ) where
   settles_past : (c : List Insn) (i : Insn) (place v : ℕ) → place ≤ length c → Leads p n c place v → Settles p n (i ∷ c) (length c + 1 - place)
   settles_past c i place v l h = record { v = v; by = λ s long. past_jump (At 0) c i place v s long tt l (ready_anyhow p n (At 0) c place v h) }
 
-  settles_jump : (c : List Insn) (to v : ℕ) → Leads p n c to v → Settles p n (jump_before to c) 0
+  settles_jump : (c : List Insn) (to v : ℕ) → Leads p n c to v → Settles p n (emit_jump to c) 0
   settles_jump c to v h = record { v = v; by = λ s long. jump_top (At 0) c to v s long tt (ready_anyhow p n (At 0) c to v h) }
 
   test_no_load : (t : Test) (o : Operand) → is_load (code_of (JumpIf t o)) ≡ false
@@ -297,33 +297,33 @@ module _ (p : List ℕ) (n : ℕ) where
   test_no_mask test.AtLeast IndexRegister = λ e. absurd (omega arith)
   test_no_mask test.AnyBit IndexRegister = λ e. absurd (omega arith)
 
-  branch_settled : (t : Test) (operand : Operand) (k hit miss : ℕ) (c : List Insn) → Calm c → Calm (branch_before t operand k hit miss c)
-  unfolding branch_before
+  branch_settled : (t : Test) (operand : Operand) (k hit miss : ℕ) (c : List Insn) → Calm c → Calm (emit_branch t operand k hit miss c)
+  unfolding emit_branch
   branch_settled t operand k hit miss c z =
-      one_of_four (λ d. Calm d) (nat_le (length c - hit) NEAR && nat_le (length c - miss) NEAR) (nat_le (length c + 1 - miss) NEAR) (nat_le (length c + 1 - hit) NEAR) _ _ _ _
+      by_reach (λ d. Calm d) (reach hit miss c) t operand k hit miss c
       (settled_put c _ (test_no_load t operand) z)
-      (settled_put (jump_before hit c) _ (test_no_load t operand) (settled_put c _ refl z))
-      (settled_put (jump_before miss c) _ (test_no_load t operand) (settled_put c _ refl z))
-      (settled_put (jump_before hit (jump_before miss c)) _ (test_no_load t operand) (settled_put (jump_before miss c) _ refl (settled_put c _ refl z)))
+      (settled_put (emit_jump hit c) _ (test_no_load t operand) (settled_put c _ refl z))
+      (settled_put (emit_jump miss c) _ (test_no_load t operand) (settled_put c _ refl z))
+      (settled_put (emit_jump hit (emit_jump miss c)) _ (test_no_load t operand) (settled_put (emit_jump miss c) _ refl (settled_put c _ refl z)))
 
   -- what may stand behind the load of a field at a place: a test that goes on where there is an answer
   record Behind (c : List Insn) : Type 0 where
     branches : Branches p n c
     masked : MaskedBranches p n c
 
-  branch_behind : (t : Test) (operand : Operand) (k hit miss v w : ℕ) (c : List Insn) → hit ≤ length c → miss ≤ length c → Leads p n c hit v → Leads p n c miss w → Behind (branch_before t operand k hit miss c)
-  unfolding branch_before
+  branch_behind : (t : Test) (operand : Operand) (k hit miss v w : ℕ) (c : List Insn) → hit ≤ length c → miss ≤ length c → Leads p n c hit v → Leads p n c miss w → Behind (emit_branch t operand k hit miss c)
+  unfolding emit_branch
   branch_behind t operand k hit miss v w c lh lm h m =
-      one_of_four (λ d. Behind d) (nat_le (length c - hit) NEAR && nat_le (length c - miss) NEAR) (nat_le (length c + 1 - miss) NEAR) (nat_le (length c + 1 - hit) NEAR) _ _ _ _
+      by_reach (λ d. Behind d) (reach hit miss c) t operand k hit miss c
       (record { branches = λ e. (settles_at c hit v h, settles_at c miss w m); masked = λ e. absurd (test_no_mask t operand e) })
       (record { branches = λ e. (settles_jump c hit v h, settles_past c (plain Jump (length c - hit)) miss w lm m); masked = λ e. absurd (test_no_mask t operand e) })
       (record { branches = λ e. (settles_past c (plain Jump (length c - miss)) hit v lh h, settles_jump c miss w m); masked = λ e. absurd (test_no_mask t operand e) })
-      (record { branches = λ e. (settles_jump (jump_before miss c) hit v far, behind); masked = λ e. absurd (test_no_mask t operand e) })
+      (record { branches = λ e. (settles_jump (emit_jump miss c) hit v far, behind); masked = λ e. absurd (test_no_mask t operand e) })
     where
-      far : Leads p n (jump_before miss c) hit v
-      far = leads_on p n c (jump_before miss c) hit v lh (extends_put c c _ (extends_none c)) h
+      far : Leads p n (emit_jump miss c) hit v
+      far = leads_on p n c (emit_jump miss c) hit v lh (extends_put c c _ (extends_none c)) h
 
-      behind : Settles p n (jump_before hit (jump_before miss c)) 1
+      behind : Settles p n (emit_jump hit (emit_jump miss c)) 1
       behind = record { v = w; by = λ s long. jump_top (At 0) c miss w s long tt (ready_anyhow p n (At 0) c miss w m) }
 
   indirect_no_load : (w : Width) → is_load (code_of (LoadIndirect w)) ≡ false
@@ -353,15 +353,15 @@ module _ (p : List ℕ) (n : ℕ) where
   operator_no_load ExclusiveOr Constant = refl
   operator_no_load ExclusiveOr IndexRegister = refl
 
-  mask_settled : (mask : Option ℕ) (c : List Insn) → Calm c → Calm (mask_before mask c)
+  mask_settled : (mask : Option ℕ) (c : List Insn) → Calm c → Calm (emit_mask mask c)
   mask_settled None c h = h
   mask_settled (Some mask) c h = settled_put c _ refl h
 
-  mask_behind : (mask : Option ℕ) (c : List Insn) → Behind c → Behind (mask_before mask c)
+  mask_behind : (mask : Option ℕ) (c : List Insn) → Behind c → Behind (emit_mask mask c)
   mask_behind None c h = h
   mask_behind (Some mask) c h = record { branches = λ e. absurd (omega arith); masked = λ e. h.branches }
 
-  comparison_settled : (comparison : Comparison) (o : Operand) (k hit miss : ℕ) (c : List Insn) → Calm c → Calm (comparison_before comparison o k hit miss c)
+  comparison_settled : (comparison : Comparison) (o : Operand) (k hit miss : ℕ) (c : List Insn) → Calm c → Calm (emit_comparison comparison o k hit miss c)
   comparison_settled Equal o k hit miss c z = branch_settled test.Equal o k hit miss c z
   comparison_settled NotEqual o k hit miss c z = branch_settled test.Equal o k miss hit c z
   comparison_settled Less o k hit miss c z = branch_settled test.AtLeast o k miss hit c z
@@ -369,7 +369,7 @@ module _ (p : List ℕ) (n : ℕ) where
   comparison_settled Greater o k hit miss c z = branch_settled test.Greater o k hit miss c z
   comparison_settled AtLeast o k hit miss c z = branch_settled test.AtLeast o k hit miss c z
 
-  comparison_behind : (comparison : Comparison) (o : Operand) (k hit miss v w : ℕ) (c : List Insn) → hit ≤ length c → miss ≤ length c → Leads p n c hit v → Leads p n c miss w → Behind (comparison_before comparison o k hit miss c)
+  comparison_behind : (comparison : Comparison) (o : Operand) (k hit miss v w : ℕ) (c : List Insn) → hit ≤ length c → miss ≤ length c → Leads p n c hit v → Leads p n c miss w → Behind (emit_comparison comparison o k hit miss c)
   comparison_behind Equal o k hit miss v w c lh lm h m = branch_behind test.Equal o k hit miss v w c lh lm h m
   comparison_behind NotEqual o k hit miss v w c lh lm h m = branch_behind test.Equal o k miss hit w v c lm lh m h
   comparison_behind Less o k hit miss v w c lh lm h m = branch_behind test.AtLeast o k miss hit w v c lm lh m h
@@ -378,7 +378,7 @@ module _ (p : List ℕ) (n : ℕ) where
   comparison_behind AtLeast o k hit miss v w c lh lm h m = branch_behind test.AtLeast o k hit miss v w c lh lm h m
 
   -- a test of a field: its targets need X only where it is past a header
-  field_settled : (place : Place) (k : FieldTest) (hit miss v w : ℕ) (c : List Insn) → hit ≤ length c → miss ≤ length c → Calm c → LeadsReady p n place c hit v → LeadsReady p n place c miss w → Calm (field_before place k.width (mask_before k.mask (comparison_before k.comparison Constant k.value hit miss c)))
+  field_settled : (place : Place) (k : FieldTest) (hit miss v w : ℕ) (c : List Insn) → hit ≤ length c → miss ≤ length c → Calm c → LeadsReady p n place c hit v → LeadsReady p n place c miss w → Calm (emit_field place k.width (emit_mask k.mask (emit_comparison k.comparison Constant k.value hit miss c)))
   field_settled (At a) k hit miss v w c lh lm z h m =
       let behind = mask_behind k.mask _ (comparison_behind k.comparison Constant k.value hit miss v w c lh lm (record { by = λ s long. h.by s long tt }) (record { by = λ s long. m.by s long tt })) in
       let z' = mask_settled k.mask _ (comparison_settled k.comparison Constant k.value hit miss c z) in
@@ -386,58 +386,58 @@ module _ (p : List ℕ) (n : ℕ) where
   field_settled (Past header a) k hit miss v w c lh lm z h m =
       settled_put _ _ refl (settled_put _ _ (indirect_no_load k.width) (mask_settled k.mask _ (comparison_settled k.comparison Constant k.value hit miss c z)))
 
-  chain_settled : (vs : List ℕ) (hit miss : ℕ) (c : List Insn) → Calm c → Calm (chain_before vs hit miss c).code
+  chain_settled : (vs : List ℕ) (hit miss : ℕ) (c : List Insn) → Calm c → Calm (emit_chain vs hit miss c).code
   chain_settled [] hit miss c z = z
   chain_settled (v ∷ vs) hit miss c z = branch_settled test.Equal Constant v hit _ _ (chain_settled vs hit miss c z)
 
-  search_settled : (k : ℕ) (vs : List ℕ) (hit miss : ℕ) (c : List Insn) → Calm c → Calm (search_before k vs hit miss c).code
-  unfolding search_before
+  search_settled : (k : ℕ) (vs : List ℕ) (hit miss : ℕ) (c : List Insn) → Calm c → Calm (emit_search k vs hit miss c).code
+  unfolding emit_search
   search_settled zero vs hit miss c z = chain_settled vs hit miss c z
   search_settled (suc k) vs hit miss c z =
       let half = length vs / 2 in
-      let upper = search_before k (drop half vs) hit miss c in
-      by_test (λ (e : Entered). Calm e.code) (nat_lt (length vs) 2) _ _
+      let upper = emit_search k (drop half vs) hit miss c in
+      by_test (λ (e : Block). Calm e.code) (nat_lt (length vs) 2) _ _
       (λ e. chain_settled vs hit miss c z)
       (λ e. branch_settled test.AtLeast Constant (get_or vs half 0) _ _ _ (search_settled k (take half vs) hit miss upper.code (search_settled k (drop half vs) hit miss c z)))
 
   -- a test that isn't one for equality
-  other_behind : (k hit miss : ℕ) (c : List Insn) → Behind (branch_before test.AtLeast Constant k hit miss c)
-  unfolding branch_before
+  other_behind : (k hit miss : ℕ) (c : List Insn) → Behind (emit_branch test.AtLeast Constant k hit miss c)
+  unfolding emit_branch
   other_behind k hit miss c =
-      one_of_four (λ d. Behind d) (nat_le (length c - hit) NEAR && nat_le (length c - miss) NEAR) (nat_le (length c + 1 - miss) NEAR) (nat_le (length c + 1 - hit) NEAR) _ _ _ _
+      by_reach (λ d. Behind d) (reach hit miss c) test.AtLeast Constant k hit miss c
       (record { branches = λ e. absurd (omega arith); masked = λ e. absurd (omega arith) })
       (record { branches = λ e. absurd (omega arith); masked = λ e. absurd (omega arith) })
       (record { branches = λ e. absurd (omega arith); masked = λ e. absurd (omega arith) })
       (record { branches = λ e. absurd (omega arith); masked = λ e. absurd (omega arith) })
 
   -- of several numbers the first test is one of their order
-  search_behind : (k : ℕ) (vs : List ℕ) (hit miss v w : ℕ) (c : List Insn) → Searchable vs → hit ≤ length c → miss ≤ length c → Leads p n c hit v → Leads p n c miss w → Behind (search_before (suc k) vs hit miss c).code
-  unfolding search_before
+  search_behind : (k : ℕ) (vs : List ℕ) (hit miss v w : ℕ) (c : List Insn) → Searchable vs → hit ≤ length c → miss ≤ length c → Leads p n c hit v → Leads p n c miss w → Behind (emit_search (suc k) vs hit miss c).code
+  unfolding emit_search
   search_behind k [] hit miss v w c h lh lm a b = absurd h
   search_behind k (x ∷ []) hit miss v w c h lh lm a b = branch_behind test.Equal Constant x hit miss v w c lh lm a b
   search_behind k (x ∷ y ∷ vs) hit miss v w c h lh lm a b =
       let half = length (x ∷ y ∷ vs) / 2 in
-      let upper = search_before k (drop half (x ∷ y ∷ vs)) hit miss c in
-      let lower = search_before k (take half (x ∷ y ∷ vs)) hit miss upper.code in
-      by_test (λ (e : Entered). Behind e.code) (nat_lt (length (x ∷ y ∷ vs)) 2) _ _
+      let upper = emit_search k (drop half (x ∷ y ∷ vs)) hit miss c in
+      let lower = emit_search k (take half (x ∷ y ∷ vs)) hit miss upper.code in
+      by_test (λ (e : Block). Behind e.code) (nat_lt (length (x ∷ y ∷ vs)) 2) _ _
       (λ few. absurd (let no : length (x ∷ y ∷ vs) < 2 = grind (arith, nat_tests) in omega arith))
       (λ many. other_behind (get_or (x ∷ y ∷ vs) half 0) upper.entry lower.entry lower.code)
 
-  base_settled : (at : ℕ) (w : Width) (c : List Insn) → Calm c → Calm (base_before at w c)
+  base_settled : (at : ℕ) (w : Width) (c : List Insn) → Calm c → Calm (emit_base at w c)
   base_settled at w c h = settled_put _ _ refl (settled_put c _ (indirect_no_load w) h)
 
-  transport_settled : (link : Link) (w : Width) (c : List Insn) → Calm c → Calm (transport_before link w c)
+  transport_settled : (link : Link) (w : Width) (c : List Insn) → Calm c → Calm (emit_transport link w c)
   transport_settled link w c h =
       settled_put _ _ refl (settled_put _ _ refl (settled_put _ _ refl (settled_put c _ (indirect_no_load w) h)))
 
-  accessor_settled : (link : Link) (protocol : Protocol) (w : Width) (c : List Insn) → Calm c → Calm (accessor_before link protocol w c)
+  accessor_settled : (link : Link) (protocol : Protocol) (w : Width) (c : List Insn) → Calm c → Calm (emit_accessor link protocol w c)
   accessor_settled link Ether w c h = base_settled 0 w c h
   accessor_settled link Tcp w c h = transport_settled link w c h
   accessor_settled link Udp w c h = transport_settled link w c h
   accessor_settled link Icmp w c h = transport_settled link w c h
   accessor_settled link _ w c h = base_settled (network link) w c h
 
-  number_settled : (link : Link) (e : NumberTree) (slot : ℕ) (c : List Insn) → Calm c → Calm (number_before link e slot c)
+  number_settled : (link : Link) (e : NumberTree) (slot : ℕ) (c : List Insn) → Calm c → Calm (emit_number link e slot c)
   number_settled link (literal k) slot c h = settled_put c _ refl h
   number_settled link (named k) slot c h = settled_put c _ refl h
   number_settled link len slot c h = settled_put c _ refl h
@@ -448,17 +448,17 @@ module _ (p : List ℕ) (n : ℕ) where
       (λ k is. settled_put c _ (operator_no_load operator Constant) h)
       (settled_put _ _ refl (number_settled link r (slot + 1) _ (settled_put _ _ refl (settled_put _ _ refl (settled_put c _ (operator_no_load operator IndexRegister) h))))))
 
-  relation_settled : (link : Link) (comparison : Comparison) (l r : NumberTree) (hit miss : ℕ) (c : List Insn) → Calm c → Calm (relation_before link comparison l r hit miss c)
+  relation_settled : (link : Link) (comparison : Comparison) (l r : NumberTree) (hit miss : ℕ) (c : List Insn) → Calm c → Calm (emit_relation link comparison l r hit miss c)
   relation_settled link comparison l r hit miss c z =
       number_settled link l 0 _ (by_right (λ b. Calm b) (constant r) 0 _ _
       (λ k is. comparison_settled comparison Constant k hit miss c z)
       (settled_put _ _ refl (number_settled link r 1 _ (settled_put _ _ refl (settled_put _ _ refl (comparison_settled comparison IndexRegister 0 hit miss c z))))))
 
   -- the code of a formula, entered at its entry, has an answer, which is the formula's where what is known holds
-  pub record Works (e : Entered) (c : List Insn) (known : Knowledge) (v : ℕ) : Type 0 where
+  pub record Works (e : Block) (c : List Insn) (known : Knowledge) (v : ℕ) : Type 0 where
     pub inside : e.entry ≤ length e.code
     pub extends : Extends c e.code
-    pub settled : Calm e.code
+    pub flush_group : Calm e.code
     pub u : ℕ
     pub leads : Leads p n e.code e.entry u
     pub right : KnowledgeHolds p n known → u ≡ v
@@ -492,9 +492,9 @@ module _ (p : List ℕ) (n : ℕ) where
   knows : (f : Fact) (known : Knowledge) → KnowledgeHolds p n known → FactHolds p n f → KnowledgeHolds p n (and_fact f known)
   knows f known k h = record { facts = (h, (k.facts.0, (k.facts.1.0, tt))); either = k.either }
 
-  elementary_works : (known : Knowledge) (t : Elementary) (hit miss v w : ℕ) (c : List Insn) → hit ≤ length c → miss ≤ length c → Calm c → Leads p n c hit v → Leads p n c miss w → Works (elementary_before known t hit miss c) c known (pick (elementary_reads t p) v w)
-  elementary_works known (Known true) hit miss v w c lh lm z h m = record { inside = lh; extends = extends_none c; settled = z; u = v; leads = h; right = λ k. refl }
-  elementary_works known (Known false) hit miss v w c lh lm z h m = record { inside = lm; extends = extends_none c; settled = z; u = w; leads = m; right = λ k. refl }
+  elementary_works : (known : Knowledge) (t : Elementary) (hit miss v w : ℕ) (c : List Insn) → hit ≤ length c → miss ≤ length c → Calm c → Leads p n c hit v → Leads p n c miss w → Works (emit_elementary known t hit miss c) c known (pick (elementary_reads t p) v w)
+  elementary_works known (Known true) hit miss v w c lh lm z h m = record { inside = lh; extends = extends_none c; flush_group = z; u = v; leads = h; right = λ k. refl }
+  elementary_works known (Known false) hit miss v w c lh lm z h m = record { inside = lm; extends = extends_none c; flush_group = z; u = w; leads = m; right = λ k. refl }
   elementary_works known (Field k) hit miss v w c lh lm z h m =
       let th = target_leads p n c known k.place (fact (Field k) true) v hit z.by lh h in
       let tm = target_leads p n c known k.place (fact (Field k) false) w miss z.by lm m in
@@ -503,28 +503,28 @@ module _ (p : List ℕ) (n : ℕ) where
       record {
         inside = omega arith;
         extends = test_extends k hit' miss' c;
-        settled = field_settled k.place k hit' miss' th.v tm.v c th.inside tm.inside z th.leads tm.leads;
+        flush_group = field_settled k.place k hit' miss' th.v tm.v c th.inside tm.inside z th.leads tm.leads;
         u = pick (elementary_reads (Field k) p) th.v tm.v;
-        leads = leads_top (test_before k hit' miss' c) _ (λ s long. field_runs k.place k hit' miss' th.v tm.v c s long th.inside tm.inside th.leads tm.leads);
+        leads = leads_top (emit_test k hit' miss' c) _ (λ s long. field_runs k.place k hit' miss' th.v tm.v c s long th.inside tm.inside th.leads tm.leads);
         right = λ known_holds. pick_same (elementary_reads (Field k) p) th.v tm.v v w (λ e. th.right known_holds e) (λ e. tm.right known_holds e);
       }
 
   -- several numbers' code is entered at its top
-  search_top : (k : ℕ) (vs : List ℕ) (hit miss : ℕ) (c : List Insn) → Searchable vs → 0 ≡ length (search_before (suc k) vs hit miss c).code - (search_before (suc k) vs hit miss c).entry
-  unfolding search_before
+  search_top : (k : ℕ) (vs : List ℕ) (hit miss : ℕ) (c : List Insn) → Searchable vs → 0 ≡ length (emit_search (suc k) vs hit miss c).code - (emit_search (suc k) vs hit miss c).entry
+  unfolding emit_search
   search_top k [] hit miss c h = absurd h
   search_top k (x ∷ []) hit miss c h = omega arith
   search_top k (x ∷ y ∷ vs) hit miss c h =
-      by_test (λ (e : Entered). 0 ≡ length e.code - e.entry) (nat_lt (length (x ∷ y ∷ vs)) 2) _ _
+      by_test (λ (e : Block). 0 ≡ length e.code - e.entry) (nat_lt (length (x ∷ y ∷ vs)) 2) _ _
       (λ few. absurd (let no : length (x ∷ y ∷ vs) < 2 = grind (arith, nat_tests) in omega arith))
       (λ many. omega arith)
 
   -- a field that is looked for among numbers
-  picks_one : (o : Option ℕ) (f : MaskedField) (vs : List ℕ) (d : List Insn) (s : State) (v w : ℕ) → ((x : ℕ) → answer_of d p n 0 (record s { accumulator = masked f.mask x }) ≡ Some (if is_one_of (masked f.mask x) vs then v else w)) → answer_after (answer_of (mask_before f.mask d) p n) (into Accumulator o s) ≡ Some (pick (reading_of (with o (λ x. Some (is_one_of (masked f.mask x) vs)))) v w)
+  picks_one : (o : Option ℕ) (f : MaskedField) (vs : List ℕ) (d : List Insn) (s : State) (v w : ℕ) → ((x : ℕ) → answer_of d p n 0 (record s { accumulator = masked f.mask x }) ≡ Some (if is_one_of (masked f.mask x) vs then v else w)) → answer_after (answer_of (emit_mask f.mask d) p n) (into Accumulator o s) ≡ Some (pick (reading_of (with o (λ x. Some (is_one_of (masked f.mask x) vs)))) v w)
   picks_one None f vs d s v w h = refl
   picks_one (Some x) f vs d s v w h = masks f.mask ∙ h x ∙ ap Some (reading_picks (is_one_of (masked f.mask x) vs) v w)
     where
-      masks : (mask : Option ℕ) → answer_of (mask_before mask d) p n 0 (record s { accumulator = x }) ≡ answer_of d p n 0 (record s { accumulator = masked mask x })
+      masks : (mask : Option ℕ) → answer_of (emit_mask mask d) p n 0 (record s { accumulator = x }) ≡ answer_of d p n 0 (record s { accumulator = masked mask x })
       masks None = refl
       masks (Some mask) = run_mask p n mask d (record s { accumulator = x })
 
@@ -533,19 +533,19 @@ module _ (p : List ℕ) (n : ℕ) where
   Finds place vs d v w =
       (s : State) → length s.memory ≡ 16 → Ready p n place s.index → answer_of d p n 0 s ≡ Some (if is_one_of s.accumulator vs then v else w)
 
-  past_picks : (header at : ℕ) (f : MaskedField) (vs : List ℕ) (d : List Insn) (s : State) (v w : ℕ) → length s.memory ≡ 16 → Finds (Past header at) vs d v w → (o : Option ℕ) → field p header Byte ≡ o → answer_after (answer_of (plain (LoadIndirect f.width) at ∷ mask_before f.mask d) p n) (into Index (option_map header_length o) s) ≡ Some (pick (reading_of (with (with (with o (λ b. Some (header_length b))) (λ x. field p ((x + at) % 2 ^ 32) f.width)) (λ x. Some (is_one_of (masked f.mask x) vs)))) v w)
+  past_picks : (header at : ℕ) (f : MaskedField) (vs : List ℕ) (d : List Insn) (s : State) (v w : ℕ) → length s.memory ≡ 16 → Finds (Past header at) vs d v w → (o : Option ℕ) → field p header Byte ≡ o → answer_after (answer_of (plain (LoadIndirect f.width) at ∷ emit_mask f.mask d) p n) (into Index (option_map header_length o) s) ≡ Some (pick (reading_of (with (with (with o (λ b. Some (header_length b))) (λ x. field p ((x + at) % 2 ^ 32) f.width)) (λ x. Some (is_one_of (masked f.mask x) vs)))) v w)
   past_picks header at f vs d s v w long h None e = refl
   past_picks header at f vs d s v w long h (Some b) e =
-      run_indirect p n f.width at (mask_before f.mask d) (record s { index = header_length b })
+      run_indirect p n f.width at (emit_mask f.mask d) (record s { index = header_length b })
       ∙ picks_one (field p ((header_length b + at) % 2 ^ 32) f.width) f vs d (record s { index = header_length b }) v w (λ x. h (record s { index = header_length b; accumulator = masked f.mask x }) long (ap (option_map header_length) e))
 
-  field_picks : (place : Place) (f : MaskedField) (vs : List ℕ) (d : List Insn) (s : State) (v w : ℕ) → length s.memory ≡ 16 → Finds place vs d v w → answer_of (field_before place f.width (mask_before f.mask d)) p n 0 s ≡ Some (pick (reading_of (with (field_at place f.width p) (λ x. Some (is_one_of (masked f.mask x) vs)))) v w)
+  field_picks : (place : Place) (f : MaskedField) (vs : List ℕ) (d : List Insn) (s : State) (v w : ℕ) → length s.memory ≡ 16 → Finds place vs d v w → answer_of (emit_field place f.width (emit_mask f.mask d)) p n 0 s ≡ Some (pick (reading_of (with (field_at place f.width p) (λ x. Some (is_one_of (masked f.mask x) vs)))) v w)
   field_picks (At at) f vs d s v w long h =
-      run_load p n f.width at (mask_before f.mask d) s ∙ picks_one (field p at f.width) f vs d s v w (λ x. h (record s { accumulator = masked f.mask x }) long tt)
+      run_load p n f.width at (emit_mask f.mask d) s ∙ picks_one (field p at f.width) f vs d s v w (λ x. h (record s { accumulator = masked f.mask x }) long tt)
   field_picks (Past header at) f vs d s v w long h =
-      run_header p n header (plain (LoadIndirect f.width) at ∷ mask_before f.mask d) s ∙ past_picks header at f vs d s v w long h (field p header Byte) refl
+      run_header p n header (plain (LoadIndirect f.width) at ∷ emit_mask f.mask d) s ∙ past_picks header at f vs d s v w long h (field p header Byte) refl
 
-  among_settled : (place : Place) (width : Width) (mask : Option ℕ) (vs : List ℕ) (hit miss v w : ℕ) (c : List Insn) → Searchable vs → hit ≤ length c → miss ≤ length c → Calm c → LeadsReady p n place c hit v → LeadsReady p n place c miss w → Calm (field_before place width (mask_before mask (search_before LEVELS vs hit miss c).code))
+  among_settled : (place : Place) (width : Width) (mask : Option ℕ) (vs : List ℕ) (hit miss v w : ℕ) (c : List Insn) → Searchable vs → hit ≤ length c → miss ≤ length c → Calm c → LeadsReady p n place c hit v → LeadsReady p n place c miss w → Calm (emit_field place width (emit_mask mask (emit_search LEVELS vs hit miss c).code))
   among_settled (At a) width mask vs hit miss v w c up lh lm z h m =
       let behind = mask_behind mask _ (search_behind 15 vs hit miss v w c up lh lm (record { by = λ s long. h.by s long tt }) (record { by = λ s long. m.by s long tt })) in
       let z' = mask_settled mask _ (search_settled LEVELS vs hit miss c z) in
@@ -553,82 +553,82 @@ module _ (p : List ℕ) (n : ℕ) where
   among_settled (Past header a) width mask vs hit miss v w c up lh lm z h m =
       settled_put _ _ refl (settled_put _ _ (indirect_no_load width) (mask_settled mask _ (search_settled LEVELS vs hit miss c z)))
 
-  search_finds : (place : Place) (vs : List ℕ) (hit miss v w : ℕ) (c : List Insn) → Searchable vs → hit ≤ length c → miss ≤ length c → LeadsReady p n place c hit v → LeadsReady p n place c miss w → Finds place vs (search_before LEVELS vs hit miss c).code v w
+  search_finds : (place : Place) (vs : List ℕ) (hit miss v w : ℕ) (c : List Insn) → Searchable vs → hit ≤ length c → miss ≤ length c → LeadsReady p n place c hit v → LeadsReady p n place c miss w → Finds place vs (emit_search LEVELS vs hit miss c).code v w
   search_finds place vs hit miss v w c up lh lm h m s long ready =
-      let e = search_before LEVELS vs hit miss c in
+      let e = emit_search LEVELS vs hit miss c in
       let r = search_answers LEVELS vs hit miss v w c s (searchable_ascends vs up) lh lm (h.by s long ready) (m.by s long ready) in
       (let none : 0 ≡ length e.code - e.entry = search_top 15 vs hit miss c up in ap (λ k. answer_of e.code p n k s) none) ∙ r.by
 
-  among_works : (known : Knowledge) (f : MaskedField) (vs : List ℕ) (hit miss v w : ℕ) (c : List Insn) → Searchable vs → hit ≤ length c → miss ≤ length c → Calm c → Leads p n c hit v → Leads p n c miss w → Works (among_before known f vs hit miss c) c known (pick (among_reads f vs p) v w)
+  among_works : (known : Knowledge) (f : MaskedField) (vs : List ℕ) (hit miss v w : ℕ) (c : List Insn) → Searchable vs → hit ≤ length c → miss ≤ length c → Calm c → Leads p n c hit v → Leads p n c miss w → Works (emit_among known f vs hit miss c) c known (pick (among_reads f vs p) v w)
   among_works known f vs hit miss v w c up lh lm z h m =
       let th = target_leads p n c known f.place always v hit z.by lh h in
       let tm = target_leads p n c known f.place always w miss z.by lm m in
       let hit' = target c known f.place always hit in
       let miss' = target c known f.place always miss in
-      let e = search_before LEVELS vs hit' miss' c in
+      let e = emit_search LEVELS vs hit' miss' c in
       record {
         inside = omega arith;
         extends = field_extends f.place f.width c _ (mask_extends f.mask c _ (search_extends LEVELS vs hit' miss' c));
-        settled = among_settled f.place f.width f.mask vs hit' miss' th.v tm.v c up th.inside tm.inside z th.leads tm.leads;
+        flush_group = among_settled f.place f.width f.mask vs hit' miss' th.v tm.v c up th.inside tm.inside z th.leads tm.leads;
         u = pick (among_reads f vs p) th.v tm.v;
-        leads = leads_top (field_before f.place f.width (mask_before f.mask e.code)) _ (λ s long.
+        leads = leads_top (emit_field f.place f.width (emit_mask f.mask e.code)) _ (λ s long.
             field_picks f.place f vs e.code s th.v tm.v long (search_finds f.place vs hit' miss' th.v tm.v c up th.inside tm.inside th.leads tm.leads));
         right = λ k. pick_same (among_reads f vs p) th.v tm.v v w (λ y. th.right k refl) (λ y. tm.right k refl);
       }
 
-  pub emitted_works : (link : Link) (known : Knowledge) (f : Formula) (hit miss v w : ℕ) (c : List Insn) → words f ≤ 16 → Apt p f → hit ≤ length c → miss ≤ length c → Calm c → Leads p n c hit v → Leads p n c miss w → Works (emitted link known f hit miss c) c known (pick (reads link f p n) v w)
+  pub emitted_works : (link : Link) (known : Knowledge) (f : Formula) (hit miss v w : ℕ) (c : List Insn) → words f ≤ 16 → Apt p f → hit ≤ length c → miss ≤ length c → Calm c → Leads p n c hit v → Leads p n c miss w → Works (emit_formula link known f hit miss c) c known (pick (reads link f p n) v w)
   emitted_works link known (Single t) hit miss v w c few apt lh lm z h m = elementary_works known t hit miss v w c lh lm z h m
   emitted_works link known (Compare comparison l r) hit miss v w c few apt lh lm z h m =
       record {
         inside = omega arith;
         extends = relation_extends link comparison l r hit miss c;
-        settled = relation_settled link comparison l r hit miss c z;
+        flush_group = relation_settled link comparison l r hit miss c z;
         u = pick (relation_reads link comparison l r p n) v w;
-        leads = leads_top (relation_before link comparison l r hit miss c) _ (λ s long. relation_runs link comparison l r hit miss v w c s long lh lm h m (omega arith) (omega arith));
+        leads = leads_top (emit_relation link comparison l r hit miss c) _ (λ s long. relation_runs link comparison l r hit miss v w c s long lh lm h m (omega arith) (omega arith));
         right = λ k. refl;
       }
   emitted_works link known (Both a b) hit miss v w c few apt lh lm z h m =
-      let e = emitted link known b hit miss c in
+      let e = emit_formula link known b hit miss c in
       let wb = emitted_works link known b hit miss v w c (omega arith) apt.1 lh lm z h m in
       let lm' : miss ≤ length e.code = omega (arith, wb.extends.longer) in
-      let wa = emitted_works link known a e.entry miss wb.u w e.code (omega arith) apt.0 wb.inside lm' wb.settled wb.leads (leads_on p n c e.code miss w lm wb.extends m) in
-      let f = emitted link known a e.entry miss e.code in
+      let wa = emitted_works link known a e.entry miss wb.u w e.code (omega arith) apt.0 wb.inside lm' wb.flush_group wb.leads (leads_on p n c e.code miss w lm wb.extends m) in
+      let f = emit_formula link known a e.entry miss e.code in
       record {
         inside = wa.inside;
         extends = extends_on c e.code f.code wb.extends wa.extends;
-        settled = wa.settled;
+        flush_group = wa.flush_group;
         u = wa.u;
         leads = wa.leads;
         right = λ k. wa.right k ∙ ap (λ x. pick (reads link a p n) x w) (wb.right k) ∙ pick_both (reads link a p n) (reads link b p n) v w;
       }
   emitted_works link known (Either a b) hit miss v w c few apt lh lm z h m =
-      let e = emitted link known b hit miss c in
+      let e = emit_formula link known b hit miss c in
       let wb = emitted_works link known b hit miss v w c (omega arith) apt.1 lh lm z h m in
       let lh' : hit ≤ length e.code = omega (arith, wb.extends.longer) in
-      let wa = emitted_works link known a hit e.entry v wb.u e.code (omega arith) apt.0 lh' wb.inside wb.settled (leads_on p n c e.code hit v lh wb.extends h) wb.leads in
-      let f = emitted link known a hit e.entry e.code in
+      let wa = emitted_works link known a hit e.entry v wb.u e.code (omega arith) apt.0 lh' wb.inside wb.flush_group (leads_on p n c e.code hit v lh wb.extends h) wb.leads in
+      let f = emit_formula link known a hit e.entry e.code in
       record {
         inside = wa.inside;
         extends = extends_on c e.code f.code wb.extends wa.extends;
-        settled = wa.settled;
+        flush_group = wa.flush_group;
         u = wa.u;
         leads = wa.leads;
         right = λ k. wa.right k ∙ ap (λ x. pick (reads link a p n) v x) (wb.right k) ∙ pick_either (reads link a p n) (reads link b p n) v w;
       }
   emitted_works link known (Except a) hit miss v w c few apt lh lm z h m =
       let wa = emitted_works link known a miss hit w v c few apt lm lh z m h in
-      record { inside = wa.inside; extends = wa.extends; settled = wa.settled; u = wa.u; leads = wa.leads; right = λ k. wa.right k ∙ pick_negated (reads link a p n) v w }
+      record { inside = wa.inside; extends = wa.extends; flush_group = wa.flush_group; u = wa.u; leads = wa.leads; right = λ k. wa.right k ∙ pick_negated (reads link a p n) v w }
   emitted_works link known (Guard t a) hit miss v w c few apt lh lm z h m =
       let inner = and_fact (fact t true) known in
-      let e = emitted link inner a hit miss c in
+      let e = emit_formula link inner a hit miss c in
       let wb = emitted_works link inner a hit miss v w c few apt lh lm z h m in
       let lm' : miss ≤ length e.code = omega (arith, wb.extends.longer) in
-      let wa = elementary_works known t e.entry miss wb.u w e.code wb.inside lm' wb.settled wb.leads (leads_on p n c e.code miss w lm wb.extends m) in
-      let f = elementary_before known t e.entry miss e.code in
+      let wa = elementary_works known t e.entry miss wb.u w e.code wb.inside lm' wb.flush_group wb.leads (leads_on p n c e.code miss w lm wb.extends m) in
+      let f = emit_elementary known t e.entry miss e.code in
       record {
         inside = wa.inside;
         extends = extends_on c e.code f.code wb.extends wa.extends;
-        settled = wa.settled;
+        flush_group = wa.flush_group;
         u = wa.u;
         leads = wa.leads;
         right = λ k. wa.right k ∙ pick_guard (elementary_reads t p) (reads link a p n) wb.u v w (λ y. wb.right (knows (fact t true) known k y));
@@ -636,19 +636,19 @@ module _ (p : List ℕ) (n : ℕ) where
   emitted_works link known (Fork t u a) hit miss v w c few apt lh lm z h m =
       let inner = and_fork t u known in
       let second = and_fact (fact t false) known in
-      let e = emitted link inner a hit miss c in
+      let e = emit_formula link inner a hit miss c in
       let wb = emitted_works link inner a hit miss v w c few apt lh lm z h m in
       let lm' : miss ≤ length e.code = omega (arith, wb.extends.longer) in
       let miss_leads = leads_on p n c e.code miss w lm wb.extends m in
-      let d = elementary_before second u e.entry miss e.code in
-      let wu = elementary_works second u e.entry miss wb.u w e.code wb.inside lm' wb.settled wb.leads miss_leads in
+      let d = emit_elementary second u e.entry miss e.code in
+      let wu = elementary_works second u e.entry miss wb.u w e.code wb.inside lm' wb.flush_group wb.leads miss_leads in
       let le : e.entry ≤ length d.code = (let l = wb.inside in omega (arith, wu.extends.longer)) in
-      let wa = elementary_works known t e.entry d.entry wb.u wu.u d.code le wu.inside wu.settled (leads_on p n e.code d.code e.entry wb.u wb.inside wu.extends wb.leads) wu.leads in
-      let f = elementary_before known t e.entry d.entry d.code in
+      let wa = elementary_works known t e.entry d.entry wb.u wu.u d.code le wu.inside wu.flush_group (leads_on p n e.code d.code e.entry wb.u wb.inside wu.extends wb.leads) wu.leads in
+      let f = emit_elementary known t e.entry d.entry d.code in
       record {
         inside = wa.inside;
         extends = extends_on c e.code f.code wb.extends (extends_on e.code d.code f.code wu.extends wa.extends);
-        settled = wa.settled;
+        flush_group = wa.flush_group;
         u = wa.u;
         leads = wa.leads;
         right = λ k. wa.right k ∙ pick_fork (elementary_reads t p) (elementary_reads u p) (reads link a p n) wb.u wu.u v w
@@ -658,19 +658,19 @@ module _ (p : List ℕ) (n : ℕ) where
   emitted_works link known (Choose t a b) hit miss v w c few apt lh lm z h m =
       let yes = and_fact (fact t true) known in
       let no = and_fact (fact t false) known in
-      let e = emitted link no b hit miss c in
+      let e = emit_formula link no b hit miss c in
       let wb = emitted_works link no b hit miss v w c (omega arith) apt.2 lh lm z h m in
       let lh' : hit ≤ length e.code = omega (arith, wb.extends.longer) in
       let lm' : miss ≤ length e.code = omega (arith, wb.extends.longer) in
-      let d = emitted link yes a hit miss e.code in
-      let wa = emitted_works link yes a hit miss v w e.code (omega arith) apt.1 lh' lm' wb.settled (leads_on p n c e.code hit v lh wb.extends h) (leads_on p n c e.code miss w lm wb.extends m) in
+      let d = emit_formula link yes a hit miss e.code in
+      let wa = emitted_works link yes a hit miss v w e.code (omega arith) apt.1 lh' lm' wb.flush_group (leads_on p n c e.code hit v lh wb.extends h) (leads_on p n c e.code miss w lm wb.extends m) in
       let le : e.entry ≤ length d.code = (let l = wb.inside in omega (arith, wa.extends.longer)) in
-      let wt = elementary_works known t d.entry e.entry wa.u wb.u d.code wa.inside le wa.settled wa.leads (leads_on p n e.code d.code e.entry wb.u wb.inside wa.extends wb.leads) in
-      let f = elementary_before known t d.entry e.entry d.code in
+      let wt = elementary_works known t d.entry e.entry wa.u wb.u d.code wa.inside le wa.flush_group wa.leads (leads_on p n e.code d.code e.entry wb.u wb.inside wa.extends wb.leads) in
+      let f = emit_elementary known t d.entry e.entry d.code in
       record {
         inside = wt.inside;
         extends = extends_on c e.code f.code wb.extends (extends_on e.code d.code f.code wa.extends wt.extends);
-        settled = wt.settled;
+        flush_group = wt.flush_group;
         u = wt.u;
         leads = wt.leads;
         right = λ k. wt.right k ∙ pick_choice (elementary_reads t p) (reads link a p n) (reads link b p n) wa.u wb.u v w (excluded_no p n link t b apt.0)

@@ -22,8 +22,8 @@ use Rattle.flt_gen.specs.declared.elementary.Sides.{Sides}
 use Rattle.flt_gen.specs.declared.elementary.Transport.{Transport}
 use Rattle.flt_gen.specs.Elementary.{Reading, Yes, No, Rejected, reading_of, with, field_at, compares_at, kind_test, elementary_reads}
 use Rattle.flt_gen.specs.Formula.{Formula, is_one_of, both, either, sides, reads}
-use Rattle.flt_gen.specs.Primitives.{net_test, net_formula, any_sides, port_places, port_sides, transport, behind, transport_ports, ip_transport, ip6_transport, port_test, port_formula}
-use Rattle.flt_gen.specs.Group.{inserted, address_places, hosts_formula, one_formula, several_formula}
+use Rattle.flt_gen.specs.Primitives.{address_places, net_test, net_formula, any_sides, port_places, port_sides, transport, behind, transport_ports, ip_transport, ip6_transport, port_test, port_formula}
+use Rattle.flt_gen.specs.Group.{insert_ascending, hosts_formula, one_formula, several_formula}
 use Rattle.flt_gen.proofs.Ascending.{one_of_inserted}
 use Rattle.flt_gen.proofs.Exclusive.{ip_no_ip6, ip_no_arp, ip_no_rarp, arp_no_rarp}
 
@@ -36,7 +36,7 @@ or_none true = refl
 or_none false = refl
 
 -- a field that is one of some numbers, or one more
-one_side : (o : Option ℕ) (a : ℕ) (bs : List ℕ) → reading_of (with o (λ x. Some (is_one_of x (inserted a bs)))) ≡ either (reading_of (with o (λ x. Some (is_one_of x (a ∷ []))))) (reading_of (with o (λ x. Some (is_one_of x bs))))
+one_side : (o : Option ℕ) (a : ℕ) (bs : List ℕ) → reading_of (with o (λ x. Some (is_one_of x (insert_ascending a bs)))) ≡ either (reading_of (with o (λ x. Some (is_one_of x (a ∷ []))))) (reading_of (with o (λ x. Some (is_one_of x bs))))
 one_side None a bs = refl
 one_side (Some x) a bs =
     ap (λ b. reading_of (Some b)) (one_of_inserted x a bs ∙ ap (λ b. b || is_one_of x bs) (sym (or_none (x == a)))) ∙ yes_or (x == a || false) (is_one_of x bs)
@@ -54,7 +54,7 @@ both_told false true false y false h = absurd (let e = h refl in cc)
 both_told false false x y false h = refl
 
 -- the same of the source and the destination
-two_sides : (os od : Option ℕ) (a f : ℕ) (bs : List ℕ) → is_one_of f bs ≡ true → either (reading_of (with os (λ x. Some (x == a)))) (either (reading_of (with od (λ x. Some (is_one_of x (inserted a bs))))) (reading_of (with os (λ x. Some (is_one_of x (inserted a bs)))))) ≡ either (either (reading_of (with os (λ x. Some (x == a)))) (either (reading_of (with od (λ x. Some (is_one_of x (a ∷ []))))) (reading_of (with os (λ x. Some (is_one_of x (a ∷ []))))))) (either (reading_of (with os (λ x. Some (x == f)))) (either (reading_of (with od (λ x. Some (is_one_of x bs)))) (reading_of (with os (λ x. Some (is_one_of x bs))))))
+two_sides : (os od : Option ℕ) (a f : ℕ) (bs : List ℕ) → is_one_of f bs ≡ true → either (reading_of (with os (λ x. Some (x == a)))) (either (reading_of (with od (λ x. Some (is_one_of x (insert_ascending a bs))))) (reading_of (with os (λ x. Some (is_one_of x (insert_ascending a bs)))))) ≡ either (either (reading_of (with os (λ x. Some (x == a)))) (either (reading_of (with od (λ x. Some (is_one_of x (a ∷ []))))) (reading_of (with os (λ x. Some (is_one_of x (a ∷ []))))))) (either (reading_of (with os (λ x. Some (x == f)))) (either (reading_of (with od (λ x. Some (is_one_of x bs)))) (reading_of (with os (λ x. Some (is_one_of x bs))))))
 two_sides None od a f bs h = refl
 two_sides (Some x) None a f bs h = cut (x == a)
   where
@@ -62,7 +62,7 @@ two_sides (Some x) None a f bs h = cut (x == a)
     cut true = refl
     cut false = refl
 two_sides (Some x) (Some y) a f bs h =
-    ap (λ b. either (told (x == a)) (either (told b) (told (is_one_of x (inserted a bs))))) (one_of_inserted y a bs)
+    ap (λ b. either (told (x == a)) (either (told b) (told (is_one_of x (insert_ascending a bs))))) (one_of_inserted y a bs)
     ∙ ap (λ b. either (told (x == a)) (either (told (y == a || is_one_of y bs)) (told b))) (one_of_inserted x a bs)
     ∙ both_told (x == a) (x == f) (is_one_of x bs) (is_one_of y bs) (y == a) first
   where
@@ -86,7 +86,7 @@ module _ (link : Link) (p : List ℕ) (n : ℕ) where
   abbrev pub side_reads : Sides → Direction → ℕ → List ℕ → Reading
   side_reads at d f bs = reads link (any_sides d at f bs) p n
 
-  sides_more : (at : Sides) (d : Direction) (a f : ℕ) (bs : List ℕ) → Merged d → is_one_of f bs ≡ true → side_reads at d a (inserted a bs) ≡ either (side_reads at d a (a ∷ [])) (side_reads at d f bs)
+  sides_more : (at : Sides) (d : Direction) (a f : ℕ) (bs : List ℕ) → Merged d → is_one_of f bs ≡ true → side_reads at d a (insert_ascending a bs) ≡ either (side_reads at d a (a ∷ [])) (side_reads at d f bs)
   sides_more at (direction.One Source) a f bs m h = one_side (field_at at.source at.width p) a bs
   sides_more at (direction.One Destination) a f bs m h = one_side (field_at at.destination at.width p) a bs
   sides_more at (direction.Both Or) a f bs m h = two_sides (field_at at.source at.width p) (field_at at.destination at.width p) a f bs h
@@ -159,9 +159,9 @@ module _ (link : Link) (p : List ℕ) (n : ℕ) where
       ∙ ap (λ v. either (both (kind_reads kind.Ip) a) (either (both (kind_reads kind.Arp) v) (both (kind_reads kind.Rarp) (of_kind kind.Rarp d f bs)))) r
       ∙ ap (λ v. either (both (kind_reads kind.Ip) a) (either (both (kind_reads kind.Arp) b) (both (kind_reads kind.Rarp) v))) q
 
-  hosts_more : (protocol : Option Protocol) (d : Direction) (a f : ℕ) (bs : List ℕ) → Merged d → is_one_of f bs ≡ true → hosts_read protocol d a (inserted a bs) ≡ either (hosts_read protocol d a (a ∷ [])) (hosts_read protocol d f bs)
+  hosts_more : (protocol : Option Protocol) (d : Direction) (a f : ℕ) (bs : List ℕ) → Merged d → is_one_of f bs ≡ true → hosts_read protocol d a (insert_ascending a bs) ≡ either (hosts_read protocol d a (a ∷ [])) (hosts_read protocol d f bs)
   hosts_more None d a f bs m h =
-      kinds_are d a (inserted a bs) _ _ _ (sides_more _ d a f bs m h) (sides_more _ d a f bs m h) (sides_more _ d a f bs m h)
+      kinds_are d a (insert_ascending a bs) _ _ _ (sides_more _ d a f bs m h) (sides_more _ d a f bs m h) (sides_more _ d a f bs m h)
       ∙ three_kinds (kind_reads kind.Ip) (kind_reads kind.Arp) (kind_reads kind.Rarp) _ _ _ _ _ _ (ip_no_arp p link) (ip_no_rarp p link) (arp_no_rarp p link)
   hosts_more (Some Ip) d a f bs m h =
       ap (λ v. both (kind_reads kind.Ip) v) (sides_more _ d a f bs m h) ∙ one_kind (kind_reads kind.Ip) _ _
@@ -252,11 +252,11 @@ module _ (link : Link) (p : List ℕ) (n : ℕ) where
   abbrev of_header : Transport → Direction → ℕ → List ℕ → Reading
   of_header header d f bs = side_reads (port_places header) d f bs
 
-  ports_more : (protocol : Option Protocol) (d : Direction) (a f : ℕ) (bs : List ℕ) → Merged d → is_one_of f bs ≡ true → ports_read protocol d (Several a) (inserted a bs) ≡ either (ports_read protocol d (Several a) (a ∷ [])) (ports_read protocol d (Several f) bs)
+  ports_more : (protocol : Option Protocol) (d : Direction) (a f : ℕ) (bs : List ℕ) → Merged d → is_one_of f bs ≡ true → ports_read protocol d (Several a) (insert_ascending a bs) ≡ either (ports_read protocol d (Several a) (a ∷ [])) (ports_read protocol d (Several f) bs)
   ports_more protocol d a f bs m h =
       let i = ip_transport link in
       let j = ip6_transport link in
-      ports_are protocol d (Several a) (inserted a bs) (either (of_header i d a (a ∷ [])) (of_header i d f bs)) (either (of_header j d a (a ∷ [])) (of_header j d f bs)) (sides_more (port_places i) d a f bs m h) (sides_more (port_places j) d a f bs m h)
+      ports_are protocol d (Several a) (insert_ascending a bs) (either (of_header i d a (a ∷ [])) (of_header i d f bs)) (either (of_header j d a (a ∷ [])) (of_header j d f bs)) (sides_more (port_places i) d a f bs m h) (sides_more (port_places j) d a f bs m h)
       ∙ headers_more protocol (of_header i d a (a ∷ [])) (of_header j d a (a ∷ [])) (of_header i d f bs) (of_header j d f bs)
       ∙ ap (λ v. either v (two_headers protocol (of_header i d f bs) (of_header j d f bs))) (sym (ports_are protocol d (Several a) (a ∷ []) _ _ refl refl))
       ∙ ap (λ v. either (ports_read protocol d (Several a) (a ∷ [])) v) (sym (ports_are protocol d (Several f) bs _ _ refl refl))
@@ -272,7 +272,7 @@ module _ (link : Link) (p : List ℕ) (n : ℕ) where
   abbrev pub together : ValueType → Option Protocol → Direction → ℕ → List ℕ → Reading
   together k protocol d f bs = reads link (several_formula link k protocol d f bs) p n
 
-  pub more_together : (k : ValueType) (protocol : Option Protocol) (d : Direction) (a f : ℕ) (bs : List ℕ) → Merged d → is_one_of f bs ≡ true → together k protocol d a (inserted a bs) ≡ either (together k protocol d a (a ∷ [])) (together k protocol d f bs)
+  pub more_together : (k : ValueType) (protocol : Option Protocol) (d : Direction) (a f : ℕ) (bs : List ℕ) → Merged d → is_one_of f bs ≡ true → together k protocol d a (insert_ascending a bs) ≡ either (together k protocol d a (a ∷ [])) (together k protocol d f bs)
   more_together Host protocol d a f bs m h = hosts_more protocol d a f bs m h
   more_together Port protocol d a f bs m h = ports_more protocol d a f bs m h
   more_together Net protocol d a f bs m h = refl

@@ -12,7 +12,7 @@ use Rattle.flt_bpf.specs.declared.operation.Operand.TheVariants.{Constant, Index
 use Rattle.flt_words.specs.declared.token.Operator.{Operator}
 use Rattle.flt_gen.specs.declared.elementary.Elementary.TheVariants.{Known}
 use Rattle.flt_gen.specs.Primitives.{check_formula, cast_formula, sized_formula, qualified_formula}
-use Rattle.flt_gen.specs.Group.{Group, no_group, larger_group, truth_member, choice, or_any, or_group, group_formula, grouped}
+use Rattle.flt_gen.specs.Group.{Group, no_group, larger_group, truth_member, choice, or_any, or_group, group_formula, grouped_formula}
 use Rattle.flt_lang.specs.Tree.{NumberTree, literal, len, named, load, negated, applied, TruthTree, check, cast, sized, bare, valued, qualified, compared, denied, joined, Expression, empty, truth}
 use Rattle.flt_lang.specs.Machine.{number_onto, truth_onto, expr_onto}
 use Rattle.flt_gen.specs.declared.link.Link.{Link}
@@ -22,20 +22,20 @@ use Rattle.flt_gen.specs.Numbers.{accessors}
 use Rattle.flt_gen.specs.Formula.{Formula, Single, Both, Either, Except, Compare as compare}
 use Rattle.flt_gen.specs.Reading.{formula}
 use Rattle.flt_gen.specs.Follow.{nothing}
-use Rattle.flt_gen.specs.Code.{plain, computation, takes, comparison_before, operands_before, right_before, number_before, Entered, emitted, accessors_before, expression_code}
-use Rattle.flt_gen.specs.Walk.{Walk, targets, truth_put, number_put, with_code, formula_put, settled_by, settled, value_put, truth_node_put, with_node, or_else, start, walked}
+use Rattle.flt_gen.specs.Code.{plain, computation, takes, emit_comparison, emit_operands, emit_right, emit_number, Block, emit_formula, emit_accessors, expression_code}
+use Rattle.flt_gen.specs.Walk.{Walk, targets, finish_truth, finish_number, with_code, finish_formula, flush_members, flush_group, emit_value, emit_truth_node, emit_node, or_else, start, emit_nodes}
 use Rattle.flt_gen.proofs.Joined.{checked_emitted}
 
 -- a number's code and accessors are put
 abbrev with_number : Link → NumberTree → Walk → Walk
-with_number link a w = record w { code = number_before link a w.slot w.code; accessors = accessors a w.accessors }
+with_number link a w = record w { code = emit_number link a w.slot w.code; accessors = accessors a w.accessors }
 
 -- an operator whose right operand is a constant, which its instruction may have or not
-constant_walked : (link : Link) (o : Operator) (k : ℕ) (a : NumberTree) (w : Walk) (d : List Node) → ((v : Walk) → walked link v (number_onto a d) ≡ walked link (number_put link v.numbers (with_number link a v)) d) → (t : Bool) → walked link (or_else (if t then Some (with_code (plain (computation o Constant) k ∷ w.code) w) else None) (with_node link (with_node link w (Apply o)) (Literal k))) (number_onto a d) ≡ walked link (number_put link w.numbers (record w { code = number_before link a w.slot (right_before (if t then Some k else None) w.slot (λ j. plain (computation o Constant) j ∷ w.code) (number_before link (literal k) (w.slot + 1) (operands_before w.slot (plain (computation o IndexRegister) 0 ∷ w.code)))); accessors = accessors a w.accessors })) d
+constant_walked : (link : Link) (o : Operator) (k : ℕ) (a : NumberTree) (w : Walk) (d : List Node) → ((v : Walk) → emit_nodes link v (number_onto a d) ≡ emit_nodes link (finish_number link v.numbers (with_number link a v)) d) → (t : Bool) → emit_nodes link (or_else (if t then Some (with_code (plain (computation o Constant) k ∷ w.code) w) else None) (emit_node link (emit_node link w (Apply o)) (Literal k))) (number_onto a d) ≡ emit_nodes link (finish_number link w.numbers (record w { code = emit_number link a w.slot (emit_right (if t then Some k else None) w.slot (λ j. plain (computation o Constant) j ∷ w.code) (emit_number link (literal k) (w.slot + 1) (emit_operands w.slot (plain (computation o IndexRegister) 0 ∷ w.code)))); accessors = accessors a w.accessors })) d
 constant_walked link o k a w d left true = left _
 constant_walked link o k a w d left false = left _
 
-number_walked : (link : Link) (a : NumberTree) (w : Walk) (d : List Node) → walked link w (number_onto a d) ≡ walked link (number_put link w.numbers (with_number link a w)) d
+number_walked : (link : Link) (a : NumberTree) (w : Walk) (d : List Node) → emit_nodes link w (number_onto a d) ≡ emit_nodes link (finish_number link w.numbers (with_number link a w)) d
 number_walked link (literal n) w d = refl
 number_walked link (named n) w d = refl
 number_walked link len w d = refl
@@ -56,14 +56,14 @@ abbrev pub between : List Insn → Targets → List LeftTruth → Walk
 between c to ts = waiting c to ts no_group false
 
 -- where a truth and the hosts behind it go on
-abbrev put_of : Link → Formula → List Insn → Targets → List LeftTruth → Walk
-put_of link f c to ts = truth_put (emitted link nothing f to.yes to.no c) (between c to ts)
+abbrev emit_of : Link → Formula → List Insn → Targets → List LeftTruth → Walk
+emit_of link f c to ts = finish_truth (emit_formula link nothing f to.yes to.no c) (between c to ts)
 
-leaf_put : (link : Link) (f : Formula) (c : List Insn) (to : Targets) (ts : List LeftTruth) (group : Group) (k : Bool) (bs : List ℕ) → formula_put link f (settled_by link (waiting c to ts group k) bs) ≡ put_of link (or_any f (group_formula link group) bs) c to ts
+leaf_put : (link : Link) (f : Formula) (c : List Insn) (to : Targets) (ts : List LeftTruth) (group : Group) (k : Bool) (bs : List ℕ) → finish_formula link f (flush_members link (waiting c to ts group k) bs) ≡ emit_of link (or_any f (group_formula link group) bs) c to ts
 leaf_put link f c to ts group k [] = refl
 leaf_put link f c to ts group k (b ∷ bs) = refl
 
-value_walked : (link : Link) (q : FullQuals) (v : Value) (c : List Insn) (to : Targets) (ts : List LeftTruth) (group : Group) (k : Bool) (o : Option Group) → (k ≡ false) ⊎ (o ≡ None) → value_put link q v (waiting c to ts group k) o ≡ put_of link (choice o (λ more. group_formula link more) (or_group link (qualified_formula link q v) group)) c to ts
+value_walked : (link : Link) (q : FullQuals) (v : Value) (c : List Insn) (to : Targets) (ts : List LeftTruth) (group : Group) (k : Bool) (o : Option Group) → (k ≡ false) ⊎ (o ≡ None) → emit_value link q v (waiting c to ts group k) o ≡ emit_of link (choice o (λ more. group_formula link more) (or_group link (qualified_formula link q v) group)) c to ts
 value_walked link q v c to ts group k None h = leaf_put link (qualified_formula link q v) c to ts group k group.numbers
 value_walked link q v c to ts group false (Some more) h = refl
 value_walked link q v c to ts group true (Some more) (inl e) = cc
@@ -71,11 +71,11 @@ value_walked link q v c to ts group true (Some more) (inr e) = cc
 
 -- a comparison behind the group that waits: a constant that is its right operand is in the test
 abbrev comparison_walked : Link → Comparison → NumberTree → Walk → List Node → Walk
-comparison_walked link k (literal j) w d = walked link (with_code (comparison_before k Constant j w.to.yes w.to.no w.code) w) d
-comparison_walked link k (named j) w d = walked link (with_code (comparison_before k Constant j w.to.yes w.to.no w.code) w) d
-comparison_walked link k b w d = walked link (truth_node_put link w (Compare k)) (number_onto b d)
+comparison_walked link k (literal j) w d = emit_nodes link (with_code (emit_comparison k Constant j w.to.yes w.to.no w.code) w) d
+comparison_walked link k (named j) w d = emit_nodes link (with_code (emit_comparison k Constant j w.to.yes w.to.no w.code) w) d
+comparison_walked link k b w d = emit_nodes link (emit_truth_node link w (Compare k)) (number_onto b d)
 
-compare_walked : (link : Link) (k : Comparison) (b : NumberTree) (w : Walk) (d : List Node) → walked link w (Compare k ∷ number_onto b d) ≡ comparison_walked link k b (settled link w) d
+compare_walked : (link : Link) (k : Comparison) (b : NumberTree) (w : Walk) (d : List Node) → emit_nodes link w (Compare k ∷ number_onto b d) ≡ comparison_walked link k b (flush_group link w) d
 compare_walked link k (literal j) w d = refl
 compare_walked link k (named j) w d = refl
 compare_walked link k len w d = refl
@@ -83,11 +83,11 @@ compare_walked link k (load p s i) w d = refl
 compare_walked link k (negated i) w d = refl
 compare_walked link k (applied o x y) w d = refl
 
-relation_walked : (link : Link) (k : Comparison) (a b : NumberTree) (c : List Insn) (to : Targets) (ts : List LeftTruth) (d : List Node) → comparison_walked link k b (between c to ts) (number_onto a d) ≡ walked link (put_of link (formula link (compared k a b)) c to ts) d
+relation_walked : (link : Link) (k : Comparison) (a b : NumberTree) (c : List Insn) (to : Targets) (ts : List LeftTruth) (d : List Node) → comparison_walked link k b (between c to ts) (number_onto a d) ≡ emit_nodes link (emit_of link (formula link (compared k a b)) c to ts) d
 relation_walked link k a b c to ts d =
-    both b ∙ ap (λ (e : Entered). walked link (truth_put e (between c to ts)) d) (sym (checked_emitted link (accessors a (accessors b [])) (compare k a b) to.yes to.no c))
+    both b ∙ ap (λ (e : Block). emit_nodes link (finish_truth e (between c to ts)) d) (sym (checked_emitted link (accessors a (accessors b [])) (compare k a b) to.yes to.no c))
   where
-    both : (r : NumberTree) → comparison_walked link k r (between c to ts) (number_onto a d) ≡ (let e = emitted link nothing (compare k a r) to.yes to.no c in walked link (truth_put (accessors_before link (accessors a (accessors r [])) e.entry to.no e.code) (between c to ts)) d)
+    both : (r : NumberTree) → comparison_walked link k r (between c to ts) (number_onto a d) ≡ (let e = emit_formula link nothing (compare k a r) to.yes to.no c in emit_nodes link (finish_truth (emit_accessors link (accessors a (accessors r [])) e.entry to.no e.code) (between c to ts)) d)
     both (literal j) = number_walked link a _ d
     both (named j) = number_walked link a _ d
     both len = number_walked link a _ d
@@ -95,15 +95,15 @@ relation_walked link k a b c to ts d =
     both (negated i) = number_walked link (negated i) _ (number_onto a d) ∙ number_walked link a _ d
     both (applied o x y) = number_walked link (applied o x y) _ (number_onto a d) ∙ number_walked link a _ d
 
-relation_settled : (link : Link) (k : Comparison) (a b : NumberTree) (c : List Insn) (to : Targets) (ts : List LeftTruth) (group : Group) (chained : Bool) (d : List Node) (bs : List ℕ) → comparison_walked link k b (settled_by link (waiting c to ts group chained) bs) (number_onto a d) ≡ walked link (put_of link (or_any (formula link (compared k a b)) (group_formula link group) bs) c to ts) d
+relation_settled : (link : Link) (k : Comparison) (a b : NumberTree) (c : List Insn) (to : Targets) (ts : List LeftTruth) (group : Group) (chained : Bool) (d : List Node) (bs : List ℕ) → comparison_walked link k b (flush_members link (waiting c to ts group chained) bs) (number_onto a d) ≡ emit_nodes link (emit_of link (or_any (formula link (compared k a b)) (group_formula link group) bs) c to ts) d
 relation_settled link k a b c to ts group chained d [] = relation_walked link k a b c to ts d
 relation_settled link k a b c to ts group chained d (h ∷ hs) =
-    let e = emitted link nothing (group_formula link group) to.yes to.no c in
+    let e = emit_formula link nothing (group_formula link group) to.yes to.no c in
     relation_walked link k a b e.code (targets to.yes e.entry) ts d
 
 -- a host that is the right operand of an or waits with those behind it
-member_waits : (link : Link) (b : TruthTree) (c : List Insn) (to : Targets) (t : LeftTruth) (ts : List LeftTruth) (group more : Group) (d : List Node) → truth_member b group ≡ Some more → walked link (waiting c to (t ∷ ts) group true) (truth_onto b d) ≡ walked link (waiting c to ts more false) d
-member_waits link (qualified q v) c to t ts group more d e = ap (λ o. walked link (value_put link q v (waiting c to (t ∷ ts) group true) o) d) e
+member_waits : (link : Link) (b : TruthTree) (c : List Insn) (to : Targets) (t : LeftTruth) (ts : List LeftTruth) (group more : Group) (d : List Node) → truth_member b group ≡ Some more → emit_nodes link (waiting c to (t ∷ ts) group true) (truth_onto b d) ≡ emit_nodes link (waiting c to ts more false) d
+member_waits link (qualified q v) c to t ts group more d e = ap (λ o. emit_nodes link (emit_value link q v (waiting c to (t ∷ ts) group true) o) d) e
 member_waits link (check p) c to t ts group more d e = cc
 member_waits link (cast p k) c to t ts group more d e = cc
 member_waits link (sized s n) c to t ts group more d e = cc
@@ -115,37 +115,37 @@ member_waits link (joined j a b) c to t ts group more d e = cc
 
 abbrev Walks : Link → TruthTree → Group → Bool → Type 0
 Walks link a group k =
-    (c : List Insn) (to : Targets) (ts : List LeftTruth) (d : List Node) → walked link (waiting c to ts group k) (truth_onto a d) ≡ walked link (put_of link (grouped link group a) c to ts) d
+    (c : List Insn) (to : Targets) (ts : List LeftTruth) (d : List Node) → emit_nodes link (waiting c to ts group k) (truth_onto a d) ≡ emit_nodes link (emit_of link (grouped_formula link group a) c to ts) d
 
-denied_walked : (link : Link) (a : TruthTree) → Walks link a no_group false → (c : List Insn) (to : Targets) (ts : List LeftTruth) (group : Group) (k : Bool) (d : List Node) (bs : List ℕ) → walked link (truth_node_put link (settled_by link (waiting c to ts group k) bs) Not) (truth_onto a d) ≡ walked link (put_of link (or_any (Except (grouped link no_group a)) (group_formula link group) bs) c to ts) d
+denied_walked : (link : Link) (a : TruthTree) → Walks link a no_group false → (c : List Insn) (to : Targets) (ts : List LeftTruth) (group : Group) (k : Bool) (d : List Node) (bs : List ℕ) → emit_nodes link (emit_truth_node link (flush_members link (waiting c to ts group k) bs) Not) (truth_onto a d) ≡ emit_nodes link (emit_of link (or_any (Except (grouped_formula link no_group a)) (group_formula link group) bs) c to ts) d
 denied_walked link a h c to ts group k d [] = h c (targets to.no to.yes) ts d
 denied_walked link a h c to ts group k d (b ∷ bs) =
-    let e = emitted link nothing (group_formula link group) to.yes to.no c in h e.code (targets e.entry to.yes) ts d
+    let e = emit_formula link nothing (group_formula link group) to.yes to.no c in h e.code (targets e.entry to.yes) ts d
 
-both_walked : (link : Link) (a b : TruthTree) → Walks link a no_group false → Walks link b no_group false → (c : List Insn) (to : Targets) (ts : List LeftTruth) (d : List Node) → walked link (between c to (record { join = And; to = to } ∷ ts)) (truth_onto b (truth_onto a d)) ≡ walked link (put_of link (Both (grouped link no_group a) (grouped link no_group b)) c to ts) d
+both_walked : (link : Link) (a b : TruthTree) → Walks link a no_group false → Walks link b no_group false → (c : List Insn) (to : Targets) (ts : List LeftTruth) (d : List Node) → emit_nodes link (between c to (record { join = And; to = to } ∷ ts)) (truth_onto b (truth_onto a d)) ≡ emit_nodes link (emit_of link (Both (grouped_formula link no_group a) (grouped_formula link no_group b)) c to ts) d
 both_walked link a b ha hb c to ts d =
-    let e = emitted link nothing (grouped link no_group b) to.yes to.no c in
+    let e = emit_formula link nothing (grouped_formula link no_group b) to.yes to.no c in
     hb c to (record { join = And; to = to } ∷ ts) (truth_onto a d) ∙ ha e.code (targets e.entry to.no) ts d
 
-settled_both : (link : Link) (a b : TruthTree) → Walks link a no_group false → Walks link b no_group false → (c : List Insn) (to : Targets) (ts : List LeftTruth) (group : Group) (k : Bool) (d : List Node) (bs : List ℕ) → (let v = settled_by link (waiting c to ts group k) bs in walked link (record v { truths = record { join = And; to = v.to } ∷ v.truths }) (truth_onto b (truth_onto a d))) ≡ walked link (put_of link (or_any (Both (grouped link no_group a) (grouped link no_group b)) (group_formula link group) bs) c to ts) d
+settled_both : (link : Link) (a b : TruthTree) → Walks link a no_group false → Walks link b no_group false → (c : List Insn) (to : Targets) (ts : List LeftTruth) (group : Group) (k : Bool) (d : List Node) (bs : List ℕ) → (let v = flush_members link (waiting c to ts group k) bs in emit_nodes link (record v { truths = record { join = And; to = v.to } ∷ v.truths }) (truth_onto b (truth_onto a d))) ≡ emit_nodes link (emit_of link (or_any (Both (grouped_formula link no_group a) (grouped_formula link no_group b)) (group_formula link group) bs) c to ts) d
 settled_both link a b ha hb c to ts group k d [] = both_walked link a b ha hb c to ts d
 settled_both link a b ha hb c to ts group k d (x ∷ xs) =
-    let e = emitted link nothing (group_formula link group) to.yes to.no c in both_walked link a b ha hb e.code (targets to.yes e.entry) ts d
+    let e = emit_formula link nothing (group_formula link group) to.yes to.no c in both_walked link a b ha hb e.code (targets to.yes e.entry) ts d
 
-either_walked : (link : Link) (a b : TruthTree) (group : Group) (o : Option Group) → truth_member b group ≡ o → Walks link a no_group false → ((more : Group) → Walks link a more false) → (truth_member b group ≡ None → Walks link b group true) → (c : List Insn) (to : Targets) (ts : List LeftTruth) (d : List Node) → walked link (waiting c to (record { join = Or; to = to } ∷ ts) group true) (truth_onto b (truth_onto a d)) ≡ walked link (put_of link (choice o (λ more. grouped link more a) (Either (grouped link no_group a) (grouped link group b))) c to ts) d
+either_walked : (link : Link) (a b : TruthTree) (group : Group) (o : Option Group) → truth_member b group ≡ o → Walks link a no_group false → ((more : Group) → Walks link a more false) → (truth_member b group ≡ None → Walks link b group true) → (c : List Insn) (to : Targets) (ts : List LeftTruth) (d : List Node) → emit_nodes link (waiting c to (record { join = Or; to = to } ∷ ts) group true) (truth_onto b (truth_onto a d)) ≡ emit_nodes link (emit_of link (choice o (λ more. grouped_formula link more a) (Either (grouped_formula link no_group a) (grouped_formula link group b))) c to ts) d
 either_walked link a b group None e ha hm hb c to ts d =
-    let x = emitted link nothing (grouped link group b) to.yes to.no c in
+    let x = emit_formula link nothing (grouped_formula link group b) to.yes to.no c in
     hb e c to (record { join = Or; to = to } ∷ ts) (truth_onto a d) ∙ ha x.code (targets to.yes x.entry) ts d
 either_walked link a b group (Some more) e ha hm hb c to ts d =
     member_waits link b c to (record { join = Or; to = to }) ts group more (truth_onto a d) e ∙ hm more c to ts d
 
 pub truth_walked : (link : Link) (a : TruthTree) (group : Group) (k : Bool) → (k ≡ false) ⊎ (truth_member a group ≡ None) → Walks link a group k
-truth_walked link (check p) group k free = λ c to ts d. ap (λ w. walked link w d) (leaf_put link (check_formula link p) c to ts group k group.numbers)
-truth_walked link (cast p x) group k free = λ c to ts d. ap (λ w. walked link w d) (leaf_put link (cast_formula link p x) c to ts group k group.numbers)
-truth_walked link (sized s n) group k free = λ c to ts d. ap (λ w. walked link w d) (leaf_put link (sized_formula s n) c to ts group k group.numbers)
-truth_walked link (bare v) group k free = λ c to ts d. ap (λ w. walked link w d) (leaf_put link (Single (Known false)) c to ts group k group.numbers)
-truth_walked link (valued q v) group k free = λ c to ts d. ap (λ w. walked link w d) (leaf_put link (Single (Known false)) c to ts group k group.numbers)
-truth_walked link (qualified q v) group k free = λ c to ts d. ap (λ w. walked link w d) (value_walked link q v c to ts group k (larger_group q v group) free)
+truth_walked link (check p) group k free = λ c to ts d. ap (λ w. emit_nodes link w d) (leaf_put link (check_formula link p) c to ts group k group.numbers)
+truth_walked link (cast p x) group k free = λ c to ts d. ap (λ w. emit_nodes link w d) (leaf_put link (cast_formula link p x) c to ts group k group.numbers)
+truth_walked link (sized s n) group k free = λ c to ts d. ap (λ w. emit_nodes link w d) (leaf_put link (sized_formula s n) c to ts group k group.numbers)
+truth_walked link (bare v) group k free = λ c to ts d. ap (λ w. emit_nodes link w d) (leaf_put link (Single (Known false)) c to ts group k group.numbers)
+truth_walked link (valued q v) group k free = λ c to ts d. ap (λ w. emit_nodes link w d) (leaf_put link (Single (Known false)) c to ts group k group.numbers)
+truth_walked link (qualified q v) group k free = λ c to ts d. ap (λ w. emit_nodes link w d) (value_walked link q v c to ts group k (larger_group q v group) free)
 truth_walked link (compared x a b) group k free = λ c to ts d. compare_walked link x b (waiting c to ts group k) (number_onto a d) ∙ relation_settled link x a b c to ts group k d group.numbers
 truth_walked link (denied a) group k free = λ c to ts d. denied_walked link a (truth_walked link a no_group false (inl refl)) c to ts group k d group.numbers
 truth_walked link (joined And a b) group k free =
@@ -154,11 +154,11 @@ truth_walked link (joined Or a b) group k free =
     λ c to ts d. either_walked link a b group (truth_member b group) refl (truth_walked link a no_group false (inl refl)) (λ more. truth_walked link a more false (inl refl)) (λ e. truth_walked link b group true (inr e)) c to ts d
 
 -- the walk over a whole expression ends with its code, entered where both targets are
-pub record Ends (w : Walk) (e : Entered) : Type 0 where
+pub record Ends (w : Walk) (e : Block) : Type 0 where
   pub code : w.code ≡ e.code
   pub entry : w.to.yes ≡ e.entry
 
-pub expression_walked : (link : Link) (e : Expression) → Ends (walked link start (expr_onto e)) (expression_code link e)
+pub expression_walked : (link : Link) (e : Expression) → Ends (emit_nodes link start (expr_onto e)) (expression_code link e)
 expression_walked link empty = record { code = refl; entry = refl }
 expression_walked link (truth a) =
     let h = truth_walked link a no_group false (inl refl) start.code start.to [] [] in

@@ -19,7 +19,7 @@ use Rattle.flt_gen.specs.Formula.{Formula, Single, reads}
 use Rattle.flt_gen.specs.Reading.{holds}
 use Rattle.flt_gen.specs.Counts.{words, tests, nodes, short_bound_of}
 use Rattle.flt_gen.specs.Follow.{nothing}
-use Rattle.flt_gen.specs.Code.{plain, emitted, Entered, returns_code, expression_code, from_entry, program_code}
+use Rattle.flt_gen.specs.Code.{plain, emit_formula, Block, returns_code, expression_code, from_entry, program_code}
 use Rattle.flt_gen.specs.Correct.{Decides, IsProgramOf}
 use Rattle.flt_gen.specs.Layout.{JUMP, JumpsAreNeeded, IsShort}
 use Rattle.flt_bpf.proofs.Suffix.{IsFaultless, valid_if_faultless, faultless_drop, ends_drop, answer_drop, machine_answers}
@@ -33,16 +33,16 @@ use Rattle.flt_gen.proofs.Far.{emitted_needed}
 use Rattle.flt_gen.proofs.Short.{emitted_slim, all_put}
 use Rattle.flt_gen.proofs.Grows.{Sits, emitted_sits}
 use Rattle.flt_gen.proofs.Counted.{nodes_fit, words_fit}
-use Rattle.flt_gen.specs.Group.{no_group, grouped}
+use Rattle.flt_gen.specs.Group.{no_group, grouped_formula}
 use Rattle.flt_gen.proofs.Grouping.{kept_none, grouped_stands}
 use Rattle.flt_bpf.specs.declared.operation.Operation.TheVariants.{ReturnConstant}
 
 -- the empty expression as a formula, which has no code either; hosts are looked for together
 abbrev pub formula_of : Link → Expression → Formula
 formula_of link empty = Single (Known true)
-formula_of link (truth a) = grouped link no_group a
+formula_of link (truth a) = grouped_formula link no_group a
 
-code_of : (link : Link) (e : Expression) → emitted link nothing (formula_of link e) 2 1 returns_code ≡ expression_code link e
+code_of : (link : Link) (e : Expression) → emit_formula link nothing (formula_of link e) 2 1 returns_code ≡ expression_code link e
 code_of link empty = refl
 code_of link (truth a) = refl
 
@@ -74,7 +74,7 @@ pick_right Yes = (λ h. refl, λ e z. absurd (omega arith))
 pick_right No = (λ h. absurd (h refl), λ e. cc)
 pick_right Rejected = (λ h. absurd (h refl), λ e. cc)
 
-entry_length : (e : Entered) → e.entry ≤ length e.code → length (from_entry e) ≡ e.entry
+entry_length : (e : Block) → e.entry ≤ length e.code → length (from_entry e) ≡ e.entry
 entry_length e l = omega (arith, length-drop (length e.code - e.entry) e.code)
 
 few_words : (link : Link) (e : Expression) → some_primitive is_unfilled e ≡ false → words_of e ≤ 16 → words (formula_of link e) ≤ 16
@@ -83,10 +83,10 @@ few_words link (truth a) filled h =
     let w = (grouped_stands link a no_group kept_none filled).words_are in omega (arith, words_fit link a)
 
 -- the counts of an expression's formula
-tests_of_formula : (link : Link) (a : TruthTree) → any_primitive is_unfilled a ≡ false → tests (grouped link no_group a) ≤ truth_tests a
+tests_of_formula : (link : Link) (a : TruthTree) → any_primitive is_unfilled a ≡ false → tests (grouped_formula link no_group a) ≤ truth_tests a
 tests_of_formula link a filled = let t = (grouped_stands link a no_group kept_none filled).tests_fit in omega arith
 
-nodes_of_formula : (link : Link) (a : TruthTree) → any_primitive is_unfilled a ≡ false → nodes (grouped link no_group a) ≡ truth_size a
+nodes_of_formula : (link : Link) (a : TruthTree) → any_primitive is_unfilled a ≡ false → nodes (grouped_formula link no_group a) ≡ truth_size a
 nodes_of_formula link a filled = (grouped_stands link a no_group kept_none filled).nodes_are ∙ nodes_fit link a
 
 -- how the code of an expression sits on the two returns
@@ -94,7 +94,7 @@ sits : (link : Link) (e : Expression) → some_primitive is_unfilled e ≡ false
 sits link e filled few =
     let f = formula_of link e in
     let w : words f ≤ 16 = few_words link e filled few in
-    subst (λ (x : Entered). Sits x returns_code (6 * (tests f + nodes f))) (code_of link e) (emitted_sits link nothing f 2 1 returns_code w returns_sound returns_end (omega arith) (omega arith) (omega arith) (omega arith))
+    subst (λ (x : Block). Sits x returns_code (6 * (tests f + nodes f))) (code_of link e) (emitted_sits link nothing f 2 1 returns_code w returns_sound returns_end (omega arith) (omega arith) (omega arith) (omega arith))
 
 short_code : (link : Link) (e : Expression) → some_primitive is_unfilled e ≡ false → words_of e ≤ 16 → length (from_entry (expression_code link e)) ≤ bound_of e
 short_code link empty filled few = omega arith
@@ -135,24 +135,24 @@ program_valid link e filled few short =
 
 pub program_decides : (link : Link) (e : Expression) → some_primitive is_unfilled e ≡ false → words_of e ≤ 16 → bound_of e ≤ 32768 → IsProgramOf (final_code link e) e link
 program_decides link e filled few short =
-    record { bounded = omega (arith, final_length link e, short_code link e filled few); decides = decided }
+    record { bounded = omega (arith, final_length link e, short_code link e filled few); decides = known_outcome }
   where
     f : Formula
     f = formula_of link e
 
-    x : Entered
+    x : Block
     x = expression_code link e
 
     apt : (p : List ℕ) (e : Expression) → some_primitive is_unfilled e ≡ false → Apt p (formula_of link e)
     apt p empty filled = tt
     apt p (truth a) filled = (grouped_stands link a no_group kept_none filled).apt p
 
-    decided : (p : List ℕ) (n : ℕ) → Decides (final_code link e) e link p n
-    decided p n =
+    known_outcome : (p : List ℕ) (n : ℕ) → Decides (final_code link e) e link p n
+    known_outcome p n =
         let v = pick (reads link f p n) 262144 0 in
         let w = emitted_works p n link nothing f 2 1 262144 0 returns_code (few_words link e filled few) (apt p e filled) (omega arith) (omega arith) (record { by = returns_settled }) (hit_leads p n) (miss_leads p n) in
         let same : w.u ≡ v = w.right (record { facts = (refl, (refl, (refl, tt))); either = inl refl }) in
-        let l : Leads p n x.code x.entry v = subst (λ (y : Entered). Leads p n y.code y.entry v) (code_of link e) (subst (λ a. Leads p n (emitted link nothing f 2 1 returns_code).code (emitted link nothing f 2 1 returns_code).entry a) same w.leads) in
+        let l : Leads p n x.code x.entry v = subst (λ (y : Block). Leads p n y.code y.entry v) (code_of link e) (subst (λ a. Leads p n (emit_formula link nothing f 2 1 returns_code).code (emit_formula link nothing f 2 1 returns_code).entry a) same w.leads) in
         let c = machine_answers (final_code link e) p n v (reloads_answer p n (from_entry x) start ∙ answer_drop x.code p n (length x.code - x.entry) start ∙ l.by start refl) in
         record {
           answer = v;
@@ -174,8 +174,8 @@ code_layout : (link : Link) (e : Expression) → JumpsAreNeeded (program_code li
 code_layout link e =
     let all = none_needed returns_code returns_no_jump in
     let last = none_needed (drop 1 returns_code) (All-drop (λ i. i.code ≢ JUMP) 1 returns_code returns_no_jump) in
-    let n = (emitted_needed link nothing (formula_of link e) 2 1 returns_code (omega arith) (omega arith) all all last).needed.entered in
-    subst (λ (x : Entered). JumpsAreNeeded (from_entry x)) (code_of link e) n
+    let n = (emitted_needed link nothing (formula_of link e) 2 1 returns_code (omega arith) (omega arith) all all last).needed.block in
+    subst (λ (x : Block). JumpsAreNeeded (from_entry x)) (code_of link e) n
 
 pub program_layout : (link : Link) (e : Expression) → JumpsAreNeeded (final_code link e)
 program_layout link e = reloads_needed (program_code link e) (code_layout link e)
@@ -183,8 +183,8 @@ program_layout link e = reloads_needed (program_code link e) (code_layout link e
 code_short : (link : Link) (e : Expression) → some_primitive is_unfilled e ≡ false → short_bound_of e ≤ 256 → IsShort (program_code link e) (short_bound_of e)
 code_short link empty filled l = record { no_jump = returns_no_jump; short = omega arith }
 code_short link (truth a) filled l =
-    let f = grouped link no_group a in
-    let e = emitted link nothing f 2 1 returns_code in
+    let f = grouped_formula link no_group a in
+    let e = emit_formula link nothing f 2 1 returns_code in
     let t = tests_of_formula link a filled in
     let n = nodes_of_formula link a filled in
     let s = emitted_slim link nothing f 2 1 returns_code (omega arith) returns_no_jump in

@@ -1,4 +1,5 @@
--- How the instructions of a program replace those of another one that does the same with more of them.
+-- How the instructions of a program replace those of another one that does the same with more of
+-- them.
 use Rattle.std.specs.Prelude.{◌≡◌, ◌≢◌, ℕ, ◌+◌, ◌-◌, ◌%◌, ◌^◌, ◌≤◌, ◌==◌, nat_lt, nat_le, Bool, true, false, if◌then◌else◌, ◌&&◌, ◌||◌, List, [], ◌∷◌, length, Option, Some, None, slice_get, All}
 use Rattle.flt_bpf.specs.declared.insn.Insn.{Insn}
 use Rattle.flt_bpf.specs.declared.operation.Operation.{Operation}
@@ -21,11 +22,13 @@ pub record Comes (prog : List Insn) (p : List ℕ) (n answer most : ℕ) : Type 
   pub few : count ≤ most
   pub inside : count ≤ length prog
 
--- a program in place of an old one: it is no longer, and on each packet it gives the same answer in no more instructions
+-- a program in place of an old one: it is no longer, and on each packet it gives the same answer in
+-- no more instructions
 pub record Replaces (new old : List Insn) : Type 0 where
   pub shorter : length new ≤ length old
   pub valid : IsValid old → IsValid new
-  pub runs : (p : List ℕ) (n answer count : ℕ) → machine old p n (length old) ≡ Answered answer count → Comes new p n answer count
+  pub runs : (p : List ℕ) (n answer count : ℕ)
+      → machine old p n (length old) ≡ Answered answer count → Comes new p n answer count
   pub needed : JumpsAreNeeded old → JumpsAreNeeded new
   pub no_jump : All (λ i. i.code ≢ JUMP) old → All (λ i. i.code ≢ JUMP) new
 
@@ -67,12 +70,13 @@ abbrev pub implied : Bool → Bool → Bool
 implied true b = b
 implied false b = true
 
--- a landing stands so far behind the instruction at a place, and what is read there is the same in both programs: A and X
--- are, as the two tests say
+-- a landing stands so far behind the instruction at a place, and what is read there is the same in
+-- both programs: A and X are, as the two tests say
 abbrev pub fits_at : Option Landing → ℕ → ℕ → Bool → Bool → Bool
 fits_at None far place a x = false
 fits_at (Some l) far place a x =
-    ((nat_lt 0 l.place && nat_lt l.place place) && place - l.place - 1 == far) && (implied l.accumulator a && implied l.index x)
+    ((nat_lt 0 l.place && nat_lt l.place place) && place - l.place - 1 == far)
+    && (implied l.accumulator a && implied l.index x)
 
 abbrev pub fits : List Landing → ℕ → ℕ → ℕ → Bool → Bool → Bool
 fits ls k far place a x = fits_at (slice_get ls k) far place a x
@@ -81,16 +85,20 @@ fits ls k far place a x = fits_at (slice_get ls k) far place a x
 abbrev pub goes_on : Operation → Insn → Landing → Insn → List Landing → Bool
 goes_on Jump j l i ls = false
 goes_on (JumpIf test operand) j l i ls =
-    fits ls i.jt j.jt l.place l.accumulator l.index && fits ls i.jf j.jf l.place l.accumulator l.index
+    fits ls i.jt j.jt l.place l.accumulator l.index
+    && fits ls i.jf j.jf l.place l.accumulator l.index
 goes_on ReturnConstant j l i ls = true
 goes_on ReturnAccumulator j l i ls = true
-goes_on op j l i ls = fits ls 0 0 l.place (sets_accumulator op || l.accumulator) (sets_index op || l.index)
+goes_on op j l i ls =
+    fits ls 0 0 l.place (sets_accumulator op || l.accumulator) (sets_index op || l.index)
 
 -- the instruction j of the new program is the instruction i of the old one
 unfoldable pub same_step : Option Operation → Insn → Landing → Insn → List Landing → Bool
 same_step None j l i ls = false
 same_step (Some op) j l i ls =
-    (i.code == j.code && i.k == j.k) && ((implied (reads_accumulator op) l.accumulator && implied (reads_index op) l.index) && goes_on op j l i ls)
+    (i.code == j.code && i.k == j.k)
+    && ((implied (reads_accumulator op) l.accumulator && implied (reads_index op) l.index)
+    && goes_on op j l i ls)
 
 -- the code of a test whether A has a bit of k
 abbrev pub ANY_BIT : ℕ
@@ -101,7 +109,9 @@ unfoldable pub one_test : Insn → Landing → Insn → List Insn → List Landi
 one_test j l i [] ls = false
 one_test j l i (t ∷ is) ls =
     ((i.code == MASK && t.code == EQUAL) && (t.k == 0 && (j.code == ANY_BIT && i.k == j.k)))
-    && (l.accumulator && (fits ls (1 + t.jt) j.jf l.place false l.index && fits ls (1 + t.jf) j.jt l.place false l.index))
+    && (l.accumulator
+    && (fits ls (1 + t.jt) j.jf l.place false l.index
+    && fits ls (1 + t.jf) j.jt l.place false l.index))
 
 -- the code of a load at a fixed place that is as wide as one behind X
 abbrev pub direct_code : Option Operation → Option ℕ
@@ -127,7 +137,8 @@ insn_from c place = if nat_le place (length c) then slice_get c (length c - plac
 
 abbrev pub stands_at : Option Insn → Landing → Insn → List Insn → List Landing → Bool
 stands_at None l i is ls = false
-stands_at (Some j) l i is ls = same_step (operation_of i.code) j l i ls || (one_test j l i is ls || direct_load j l i is ls)
+stands_at (Some j) l i is ls =
+    same_step (operation_of i.code) j l i ls || (one_test j l i is ls || direct_load j l i is ls)
 
 -- the code does at a landing, if it is one, what the instruction i and those behind it do
 abbrev pub stands : List Insn → Landing → Insn → List Insn → List Landing → Bool

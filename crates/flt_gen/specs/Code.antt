@@ -1,4 +1,4 @@
--- The code of a formula, which is put in front of the code that is there.
+-- The code of a formula, which is emitted in front of the code that is there.
 use Rattle.std.specs.Prelude.{ℕ, zero, suc, ◌+◌, ◌-◌, ◌/◌, true, false, nat_le, nat_lt, ◌==◌, not, ◌&&◌, if◌then◌else◌, Bool, List, [], ◌∷◌, length, take, drop, get_or, Option, Some, None}
 use Rattle.flt_bpf.specs.declared.insn.Insn.{Insn}
 use Rattle.flt_bpf.specs.declared.operation.Width.{Width}
@@ -14,6 +14,8 @@ use Rattle.flt_words.specs.declared.token.Protocol.{Protocol}
 use Rattle.flt_words.specs.declared.token.Protocol.TheVariants.{Ether, Tcp, Udp, Icmp}
 use Rattle.flt_lang.specs.Tree.{NumberTree, literal, len, named, load, negated, applied, Expression, empty, truth}
 use Rattle.flt_gen.specs.declared.link.Link.{Link}
+use Rattle.flt_gen.specs.declared.code.Reach.{Reach}
+use Rattle.flt_gen.specs.declared.code.Reach.TheVariants.{Near, YesFar, NoFar, BothFar}
 use Rattle.flt_gen.specs.declared.follow.Knowledge.{Knowledge}
 use Rattle.flt_gen.specs.declared.elementary.Place.{Place}
 use Rattle.flt_gen.specs.declared.elementary.Place.TheVariants.{At, Past}
@@ -25,7 +27,7 @@ use Rattle.flt_gen.specs.Elementary.{with, network}
 use Rattle.flt_gen.specs.Follow.{fact, always, nothing, and_fact, and_fork, target}
 use Rattle.flt_gen.specs.Numbers.{width_of, accessor_tests}
 use Rattle.flt_gen.specs.Formula.{Formula, Single, Compare, Both, Either, Except, Guard, Fork, Choose, Among}
-use Rattle.flt_gen.specs.Group.{no_group, grouped}
+use Rattle.flt_gen.specs.Group.{no_group, grouped_formula}
 use Rattle.flt_bpf.specs.declared.operation.Operation.{Operation}
 use Rattle.flt_bpf.specs.declared.operation.Operation.TheVariants.{LoadAbsolute, LoadIndirect, Load, LoadHeaderLength, Store, Compute, Negate, Jump, JumpIf, ReturnConstant, CopyToIndex}
 use Rattle.flt_bpf.specs.declared.operation.Register.TheVariants.{Accumulator}
@@ -55,7 +57,8 @@ alu_operation ExclusiveOr = arithmetic.ExclusiveOr
 abbrev pub computation : Operator → Operand → Operation
 computation operator operand = Compute (alu_operation operator) operand
 
--- whether an operator's instruction may have a constant: a division by 0 and a shift by 32 or more aren't valid with one
+-- whether an operator's instruction may have a constant: a division by 0 and a shift by 32 or more
+-- aren't valid with one
 abbrev pub takes : Operator → ℕ → Bool
 takes Divide k = not (k == 0)
 takes Remainder k = not (k == 0)
@@ -78,179 +81,221 @@ abbrev pub NEAR : ℕ
 NEAR = 255
 
 abbrev pub branch_insn : Test → Operand → ℕ → ℕ → ℕ → Insn
-branch_insn test operand k jt jf = record { code = code_of (JumpIf test operand); jt = jt; jf = jf; k = k }
+branch_insn test operand k jt jf = record {
+  code = code_of (JumpIf test operand);
+  jt = jt;
+  jf = jf;
+  k = k;
+}
 
 -- a jump to a place, which is given as the number of instructions from there to the end
-abbrev pub jump_before : ℕ → List Insn → List Insn
-jump_before to c = plain Jump (length c - to) ∷ c
+abbrev pub emit_jump : ℕ → List Insn → List Insn
+emit_jump to c = plain Jump (length c - to) ∷ c
 
--- a test that goes on at one of two places; a place that is too far is reached by a jump right behind the test
-unfoldable pub branch_before : Test → Operand → ℕ → ℕ → ℕ → List Insn → List Insn
-branch_before test operand k hit miss c =
-    if nat_le (length c - hit) NEAR && nat_le (length c - miss) NEAR
-    then branch_insn test operand k (length c - hit) (length c - miss) ∷ c
-    else (if nat_le (length c + 1 - miss) NEAR
-    then branch_insn test operand k 0 (length c + 1 - miss) ∷ jump_before hit c
-    else (if nat_le (length c + 1 - hit) NEAR
-    then branch_insn test operand k (length c + 1 - hit) 0 ∷ jump_before miss c
-    else branch_insn test operand k 0 1 ∷ jump_before hit (jump_before miss c)))
+-- how a test reaches its two places: one that is too far by a jump right behind the test
+abbrev pub reach : ℕ → ℕ → List Insn → Reach
+reach hit miss c =
+    if nat_le (length c - hit) NEAR && nat_le (length c - miss) NEAR then Near
+    else (if nat_le (length c + 1 - miss) NEAR then YesFar
+    else (if nat_le (length c + 1 - hit) NEAR then NoFar else BothFar))
+
+abbrev pub emit_branch_by : Reach → Test → Operand → ℕ → ℕ → ℕ → List Insn → List Insn
+emit_branch_by Near test operand k hit miss c =
+    branch_insn test operand k (length c - hit) (length c - miss) ∷ c
+emit_branch_by YesFar test operand k hit miss c =
+    branch_insn test operand k 0 (length c + 1 - miss) ∷ emit_jump hit c
+emit_branch_by NoFar test operand k hit miss c =
+    branch_insn test operand k (length c + 1 - hit) 0 ∷ emit_jump miss c
+emit_branch_by BothFar test operand k hit miss c =
+    branch_insn test operand k 0 1 ∷ emit_jump hit (emit_jump miss c)
+
+-- a test that goes on at one of two places
+unfoldable pub emit_branch : Test → Operand → ℕ → ℕ → ℕ → List Insn → List Insn
+emit_branch test operand k hit miss c = emit_branch_by (reach hit miss c) test operand k hit miss c
 
 -- the machine has three of the six comparisons; the others exchange the places
-abbrev pub comparison_before : Comparison → Operand → ℕ → ℕ → ℕ → List Insn → List Insn
-comparison_before Equal operand k hit miss c = branch_before test.Equal operand k hit miss c
-comparison_before NotEqual operand k hit miss c = branch_before test.Equal operand k miss hit c
-comparison_before Less operand k hit miss c = branch_before test.AtLeast operand k miss hit c
-comparison_before AtMost operand k hit miss c = branch_before test.Greater operand k miss hit c
-comparison_before Greater operand k hit miss c = branch_before test.Greater operand k hit miss c
-comparison_before AtLeast operand k hit miss c = branch_before test.AtLeast operand k hit miss c
+abbrev pub emit_comparison : Comparison → Operand → ℕ → ℕ → ℕ → List Insn → List Insn
+emit_comparison Equal operand k hit miss c = emit_branch test.Equal operand k hit miss c
+emit_comparison NotEqual operand k hit miss c = emit_branch test.Equal operand k miss hit c
+emit_comparison Less operand k hit miss c = emit_branch test.AtLeast operand k miss hit c
+emit_comparison AtMost operand k hit miss c = emit_branch test.Greater operand k miss hit c
+emit_comparison Greater operand k hit miss c = emit_branch test.Greater operand k hit miss c
+emit_comparison AtLeast operand k hit miss c = emit_branch test.AtLeast operand k hit miss c
 
 -- a field's number goes into A
-abbrev pub field_before : Place → Width → List Insn → List Insn
-field_before (At k) width c = plain (LoadAbsolute width) k ∷ c
-field_before (Past header k) width c = plain LoadHeaderLength header ∷ plain (LoadIndirect width) k ∷ c
+abbrev pub emit_field : Place → Width → List Insn → List Insn
+emit_field (At k) width c = plain (LoadAbsolute width) k ∷ c
+emit_field (Past header k) width c =
+    plain LoadHeaderLength header ∷ plain (LoadIndirect width) k ∷ c
 
-abbrev pub mask_before : Option ℕ → List Insn → List Insn
-mask_before None c = c
-mask_before (Some mask) c = plain (Compute arithmetic.And Constant) mask ∷ c
+abbrev pub emit_mask : Option ℕ → List Insn → List Insn
+emit_mask None c = c
+emit_mask (Some mask) c = plain (Compute arithmetic.And Constant) mask ∷ c
 
-abbrev pub test_before : FieldTest → ℕ → ℕ → List Insn → List Insn
-test_before t hit miss c = field_before t.place t.width (mask_before t.mask (comparison_before t.comparison Constant t.value hit miss c))
+abbrev pub emit_test : FieldTest → ℕ → ℕ → List Insn → List Insn
+emit_test t hit miss c =
+    emit_field t.place t.width (emit_mask t.mask
+    (emit_comparison t.comparison Constant t.value hit miss c))
 
 -- what loads an accessor's field where its first byte stands at the number in A
-abbrev pub transport_before : Link → Width → List Insn → List Insn
-transport_before link width c =
-    plain LoadHeaderLength (network link) ∷ plain (Compute arithmetic.Add IndexRegister) 0 ∷ plain CopyToIndex 0 ∷ plain (LoadIndirect width) (network link) ∷ c
+abbrev pub emit_transport : Link → Width → List Insn → List Insn
+emit_transport link width c =
+    plain LoadHeaderLength (network link) ∷ plain (Compute arithmetic.Add IndexRegister) 0
+    ∷ plain CopyToIndex 0 ∷ plain (LoadIndirect width) (network link) ∷ c
 
-abbrev pub base_before : ℕ → Width → List Insn → List Insn
-base_before at width c = plain CopyToIndex 0 ∷ plain (LoadIndirect width) at ∷ c
+abbrev pub emit_base : ℕ → Width → List Insn → List Insn
+emit_base at width c = plain CopyToIndex 0 ∷ plain (LoadIndirect width) at ∷ c
 
 -- an accessor's field goes into A, its index being there
-abbrev pub accessor_before : Link → Protocol → Width → List Insn → List Insn
-accessor_before link Ether width c = base_before 0 width c
-accessor_before link Tcp width c = transport_before link width c
-accessor_before link Udp width c = transport_before link width c
-accessor_before link Icmp width c = transport_before link width c
-accessor_before link _ width c = base_before (network link) width c
+abbrev pub emit_accessor : Link → Protocol → Width → List Insn → List Insn
+emit_accessor link Ether width c = emit_base 0 width c
+emit_accessor link Tcp width c = emit_transport link width c
+emit_accessor link Udp width c = emit_transport link width c
+emit_accessor link Icmp width c = emit_transport link width c
+emit_accessor link _ width c = emit_base (network link) width c
 
--- the left operand is in A when it goes into a word; later it comes back from there, and the right one is in X
-abbrev pub operands_before : ℕ → List Insn → List Insn
-operands_before slot c = plain CopyToIndex 0 ∷ plain (Load Accumulator Memory) slot ∷ c
+-- the left operand is in A when it goes into a word; later it comes back from there, and the right
+-- one is in X
+abbrev pub emit_operands : ℕ → List Insn → List Insn
+emit_operands slot c = plain CopyToIndex 0 ∷ plain (Load Accumulator Memory) slot ∷ c
 
--- what is behind a left operand: an instruction with the right one in it; or the left one goes into a word, and then the
--- right one is computed
-abbrev pub right_before : Option ℕ → ℕ → (ℕ → List Insn) → List Insn → List Insn
-right_before (Some k) slot short long = short k
-right_before None slot short long = plain (Store Accumulator) slot ∷ long
+-- what is behind a left operand: an instruction with the right one in it; or the left one goes into
+-- a word, and then the right one is computed
+abbrev pub emit_right : Option ℕ → ℕ → (ℕ → List Insn) → List Insn → List Insn
+emit_right (Some k) slot short long = short k
+emit_right None slot short long = plain (Store Accumulator) slot ∷ long
 
 -- arithmetic's value goes into A; the words from slot on are free for it
-abbrev pub number_before : Link → NumberTree → ℕ → List Insn → List Insn
-number_before link (literal k) slot c = plain (Load Accumulator Immediate) k ∷ c
-number_before link (named k) slot c = plain (Load Accumulator Immediate) k ∷ c
-number_before link len slot c = plain (Load Accumulator Length) 0 ∷ c
-number_before link (load protocol size i) slot c = number_before link i slot (accessor_before link protocol (width_of size) c)
-number_before link (negated a) slot c = number_before link a slot (plain Negate 0 ∷ c)
-number_before link (applied operator l r) slot c =
-    number_before link l slot (right_before (constant_operand operator r) slot (λ k. plain (computation operator Constant) k ∷ c)
-    (number_before link r (slot + 1) (operands_before slot (plain (computation operator IndexRegister) 0 ∷ c))))
+abbrev pub emit_number : Link → NumberTree → ℕ → List Insn → List Insn
+emit_number link (literal k) slot c = plain (Load Accumulator Immediate) k ∷ c
+emit_number link (named k) slot c = plain (Load Accumulator Immediate) k ∷ c
+emit_number link len slot c = plain (Load Accumulator Length) 0 ∷ c
+emit_number link (load protocol size i) slot c =
+    emit_number link i slot (emit_accessor link protocol (width_of size) c)
+emit_number link (negated a) slot c = emit_number link a slot (plain Negate 0 ∷ c)
+emit_number link (applied operator l r) slot c =
+    emit_number link l slot (emit_right (constant_operand operator r) slot
+    (λ k. plain (computation operator Constant) k ∷ c)
+    (emit_number link r (slot + 1)
+    (emit_operands slot (plain (computation operator IndexRegister) 0 ∷ c))))
 
-abbrev pub relation_before : Link → Comparison → NumberTree → NumberTree → ℕ → ℕ → List Insn → List Insn
-relation_before link comparison l r hit miss c =
-    number_before link l 0 (right_before (constant r) 0 (λ k. comparison_before comparison Constant k hit miss c)
-    (number_before link r 1 (operands_before 0 (comparison_before comparison IndexRegister 0 hit miss c))))
+abbrev pub emit_relation : Link → Comparison → NumberTree → NumberTree → ℕ → ℕ → List Insn
+    → List Insn
+emit_relation link comparison l r hit miss c =
+    emit_number link l 0 (emit_right (constant r) 0
+    (λ k. emit_comparison comparison Constant k hit miss c)
+    (emit_number link r 1 (emit_operands 0
+    (emit_comparison comparison IndexRegister 0 hit miss c))))
 
 -- code, and the place at which it is entered
-pub record Entered : Type 0 where
+pub record Block : Type 0 where
   pub code : List Insn
   pub entry : ℕ
 
-abbrev pub entered : List Insn → ℕ → Entered
-entered c entry = record { code = c; entry = entry }
+abbrev pub block : List Insn → ℕ → Block
+block c entry = record { code = c; entry = entry }
 
-abbrev pub at_top : List Insn → Entered
+abbrev pub at_top : List Insn → Block
 at_top c = record { code = c; entry = length c }
 
--- a test that is known takes no code; the targets of another are followed under what is known, and past a load of X that it made
-abbrev pub elementary_before : Knowledge → Elementary → ℕ → ℕ → List Insn → Entered
-elementary_before known (Known true) hit miss c = record { code = c; entry = hit }
-elementary_before known (Known false) hit miss c = record { code = c; entry = miss }
-elementary_before known (Field t) hit miss c =
-    at_top (test_before t (target c known t.place (fact (Field t) true) hit) (target c known t.place (fact (Field t) false) miss) c)
+-- a test that is known takes no code; the targets of another are followed under what is known, and
+-- past a load of X that it made
+abbrev pub emit_elementary : Knowledge → Elementary → ℕ → ℕ → List Insn → Block
+emit_elementary known (Known true) hit miss c = record { code = c; entry = hit }
+emit_elementary known (Known false) hit miss c = record { code = c; entry = miss }
+emit_elementary known (Field t) hit miss c =
+    at_top (emit_test t (target c known t.place (fact (Field t) true) hit)
+    (target c known t.place (fact (Field t) false) miss) c)
 
 -- the code of one of two tests
-abbrev pub fork_before : Knowledge → Elementary → Elementary → ℕ → ℕ → List Insn → Entered
-fork_before known t u hit miss c =
-    let e = elementary_before (and_fact (fact t false) known) u hit miss c in elementary_before known t hit e.entry e.code
+abbrev pub emit_fork : Knowledge → Elementary → Elementary → ℕ → ℕ → List Insn → Block
+emit_fork known t u hit miss c =
+    let e = emit_elementary (and_fact (fact t false) known) u hit miss c in
+    emit_elementary known t hit e.entry e.code
 
 -- a test in front of code, which is entered where the test is yes
-abbrev pub behind_test : Knowledge → Elementary → ℕ → Entered → Entered
-behind_test known t miss e = elementary_before known t e.entry miss e.code
+abbrev pub emit_behind : Knowledge → Elementary → ℕ → Block → Block
+emit_behind known t miss e = emit_elementary known t e.entry miss e.code
 
 -- whether A is one of some numbers, by one test after the other
-abbrev pub chain_before : List ℕ → ℕ → ℕ → List Insn → Entered
-chain_before [] hit miss c = entered c miss
-chain_before (v ∷ vs) hit miss c =
-    let e = chain_before vs hit miss c in at_top (branch_before test.Equal Constant v hit e.entry e.code)
+abbrev pub emit_chain : List ℕ → ℕ → ℕ → List Insn → Block
+emit_chain [] hit miss c = block c miss
+emit_chain (v ∷ vs) hit miss c =
+    let e = emit_chain vs hit miss c in
+    at_top (emit_branch test.Equal Constant v hit e.entry e.code)
 
 -- a test in front of the code of both halves: is A in the upper one, which begins with this number
-abbrev pub halves_before : ℕ → Entered → ℕ → Entered
-halves_before pivot lower upper = at_top (branch_before test.AtLeast Constant pivot upper lower.entry lower.code)
+abbrev pub emit_halves : ℕ → Block → ℕ → Block
+emit_halves pivot lower upper =
+    at_top (emit_branch test.AtLeast Constant pivot upper lower.entry lower.code)
 
 -- whether A is one of some numbers, which ascend: halved so often, and then one after the other
-unfoldable pub search_before : ℕ → List ℕ → ℕ → ℕ → List Insn → Entered
-search_before zero vs hit miss c = chain_before vs hit miss c
-search_before (suc k) vs hit miss c =
-    if nat_lt (length vs) 2 then chain_before vs hit miss c else
-    (let upper = search_before k (drop (length vs / 2) vs) hit miss c in
-    halves_before (get_or vs (length vs / 2) 0) (search_before k (take (length vs / 2) vs) hit miss upper.code) upper.entry)
+unfoldable pub emit_search : ℕ → List ℕ → ℕ → ℕ → List Insn → Block
+emit_search zero vs hit miss c = emit_chain vs hit miss c
+emit_search (suc k) vs hit miss c =
+    if nat_lt (length vs) 2 then emit_chain vs hit miss c else
+    (let upper = emit_search k (drop (length vs / 2) vs) hit miss c in
+    emit_halves (get_or vs (length vs / 2) 0)
+    (emit_search k (take (length vs / 2) vs) hit miss upper.code) upper.entry)
 
 -- how often numbers are halved at most
 abbrev pub LEVELS : ℕ
 LEVELS = 16
 
--- the field goes into A; the targets are followed under what is known, and past a load of X that the field's made
-abbrev pub among_before : Knowledge → MaskedField → List ℕ → ℕ → ℕ → List Insn → Entered
-among_before known f vs hit miss c =
-    at_top (field_before f.place f.width (mask_before f.mask (search_before LEVELS vs (target c known f.place always hit) (target c known f.place always miss) c).code))
+-- the field goes into A; the targets are followed under what is known, and past a load of X that
+-- the field's made
+abbrev pub emit_among : Knowledge → MaskedField → List ℕ → ℕ → ℕ → List Insn → Block
+emit_among known f vs hit miss c =
+    let e = emit_search LEVELS vs (target c known f.place always hit)
+    (target c known f.place always miss) c in
+    at_top (emit_field f.place f.width (emit_mask f.mask e.code))
 
 -- the code of a formula that goes on at one of two places
-abbrev pub emitted : Link → Knowledge → Formula → ℕ → ℕ → List Insn → Entered
-emitted link known (Single t) hit miss c = elementary_before known t hit miss c
-emitted link known (Compare comparison l r) hit miss c = at_top (relation_before link comparison l r hit miss c)
-emitted link known (Both a b) hit miss c = let e = emitted link known b hit miss c in emitted link known a e.entry miss e.code
-emitted link known (Either a b) hit miss c = let e = emitted link known b hit miss c in emitted link known a hit e.entry e.code
-emitted link known (Except a) hit miss c = emitted link known a miss hit c
-emitted link known (Guard t a) hit miss c =
-    behind_test known t miss (emitted link (and_fact (fact t true) known) a hit miss c)
-emitted link known (Fork t u a) hit miss c =
-    let e = emitted link (and_fork t u known) a hit miss c in fork_before known t u e.entry miss e.code
-emitted link known (Choose t a b) hit miss c =
-    let e = emitted link (and_fact (fact t false) known) b hit miss c in
-    behind_test known t e.entry (emitted link (and_fact (fact t true) known) a hit miss e.code)
-emitted link known (Among f vs) hit miss c = among_before known f vs hit miss c
+abbrev pub emit_formula : Link → Knowledge → Formula → ℕ → ℕ → List Insn → Block
+emit_formula link known (Single t) hit miss c = emit_elementary known t hit miss c
+emit_formula link known (Compare comparison l r) hit miss c =
+    at_top (emit_relation link comparison l r hit miss c)
+emit_formula link known (Both a b) hit miss c =
+    let e = emit_formula link known b hit miss c in emit_formula link known a e.entry miss e.code
+emit_formula link known (Either a b) hit miss c =
+    let e = emit_formula link known b hit miss c in emit_formula link known a hit e.entry e.code
+emit_formula link known (Except a) hit miss c = emit_formula link known a miss hit c
+emit_formula link known (Guard t a) hit miss c =
+    emit_behind known t miss (emit_formula link (and_fact (fact t true) known) a hit miss c)
+emit_formula link known (Fork t u a) hit miss c =
+    let e = emit_formula link (and_fork t u known) a hit miss c in
+    emit_fork known t u e.entry miss e.code
+emit_formula link known (Choose t a b) hit miss c =
+    let e = emit_formula link (and_fact (fact t false) known) b hit miss c in
+    emit_behind known t e.entry (emit_formula link (and_fact (fact t true) known) a hit miss e.code)
+emit_formula link known (Among f vs) hit miss c = emit_among known f vs hit miss c
 
 -- all of some tests, from the last to the first
-abbrev pub all_before : Knowledge → List Elementary → ℕ → ℕ → List Insn → Entered
-all_before known [] hit miss c = record { code = c; entry = hit }
-all_before known (t ∷ ts) hit miss c = let e = all_before known ts hit miss c in elementary_before known t e.entry miss e.code
+abbrev pub emit_all : Knowledge → List Elementary → ℕ → ℕ → List Insn → Block
+emit_all known [] hit miss c = record { code = c; entry = hit }
+emit_all known (t ∷ ts) hit miss c =
+    let e = emit_all known ts hit miss c in emit_elementary known t e.entry miss e.code
 
 -- the tests of accessors, from the last to the first
-abbrev pub accessors_before : Link → List Protocol → ℕ → ℕ → List Insn → Entered
-accessors_before link [] hit miss c = record { code = c; entry = hit }
-accessors_before link (p ∷ ps) hit miss c =
-    let e = accessors_before link ps hit miss c in all_before nothing (accessor_tests link p) e.entry miss e.code
+abbrev pub emit_accessors : Link → List Protocol → ℕ → ℕ → List Insn → Block
+emit_accessors link [] hit miss c = record { code = c; entry = hit }
+emit_accessors link (p ∷ ps) hit miss c =
+    let e = emit_accessors link ps hit miss c in
+    emit_all nothing (accessor_tests link p) e.entry miss e.code
 
 -- the two returns at the end
 abbrev pub returns_code : List Insn
 returns_code = plain ReturnConstant 262144 ∷ plain ReturnConstant 0 ∷ []
 
--- the code of an expression, in front of the two returns; the empty expression has none. Hosts and ports that
--- stand one after the other between or are looked for together
-abbrev pub expression_code : Link → Expression → Entered
+-- the code of an expression, in front of the two returns; the empty expression has none. Hosts and
+-- ports that stand one after the other between or are looked for together
+abbrev pub expression_code : Link → Expression → Block
 expression_code link empty = record { code = returns_code; entry = 2 }
-expression_code link (truth a) = emitted link nothing (grouped link no_group a) 2 1 returns_code
+expression_code link (truth a) =
+    emit_formula link nothing (grouped_formula link no_group a) 2 1 returns_code
 
 -- the instructions from the entry on
-abbrev pub from_entry : Entered → List Insn
+abbrev pub from_entry : Block → List Insn
 from_entry e = drop (length e.code - e.entry) e.code
 
 -- the program of an expression

@@ -8,16 +8,18 @@ use Rattle.flt_gen.specs.declared.link.Link.{Link}
 use Rattle.flt_gen.specs.Elementary.{Yes}
 use Rattle.flt_gen.specs.Reading.{holds}
 
--- a run on the captured bytes p of a packet of original length n comes to an answer, which is other than 0 exactly where
--- the expression matches
-pub record Decides (prog : List Insn) (e : Expression) (link : Link) (p : List ℕ) (n : ℕ) : Type 0 where
+-- a run on the captured bytes p of a packet of original length n comes to an answer, which is other
+-- than 0 exactly where the expression matches
+pub record Decides (prog : List Insn) (e : Expression) (link : Link) (p : List ℕ)
+    (n : ℕ) : Type 0 where
   pub answer : ℕ
   pub count : ℕ
   pub answered : machine prog p n (length prog) ≡ Answered answer count
   pub few : count ≤ length prog
   pub right : (answer ≢ 0) ↔ (holds e link p n ≡ Yes)
 
--- a program for an expression: it has at most as many instructions as the bound says, and decides each packet
+-- a program for an expression: it has at most as many instructions as the bound says, and decides
+-- each packet
 pub record IsProgramOf (prog : List Insn) (e : Expression) (link : Link) : Type 0 where
   pub bounded : length prog ≤ bound_of e
   pub decides : (p : List ℕ) (n : ℕ) → Decides prog e link p n

@@ -1,5 +1,5 @@
 -- Where a jump may go on at once, since what is known of the packet decides the test at its target.
-use Rattle.std.specs.Prelude.{ℕ, ◌-◌, ◌==◌, max, Bool, true, false, if◌then◌else◌, ◌&&◌, List, [], ◌∷◌, length, drop, Option, Some, None}
+use Rattle.std.specs.Prelude.{ℕ, zero, suc, ◌-◌, ◌==◌, max, Bool, true, false, if◌then◌else◌, ◌&&◌, List, [], ◌∷◌, length, drop, Option, Some, None}
 use Rattle.flt_bpf.specs.declared.insn.Insn.{Insn}
 use Rattle.flt_bpf.specs.declared.operation.Width.{Width}
 use Rattle.flt_bpf.specs.declared.operation.Operation.TheVariants.{LoadAbsolute, LoadHeaderLength, Compute, JumpIf}
@@ -51,55 +51,65 @@ says_value false false = None
 
 -- the test looks whether the field that a load and a mask give is a number
 abbrev pub looks_at : FieldTest → ℕ → ℕ → Option ℕ → Bool
-looks_at t load at mask = is_equal t.comparison && (same_place t.place at && (load_code t.width == load && same_mask t.mask mask))
+looks_at t load at mask =
+    is_equal t.comparison
+    && (same_place t.place at && (load_code t.width == load && same_mask t.mask mask))
 
 -- what a fact says of the test whether a field is a number
 abbrev pub test_says : Elementary → Bool → ℕ → ℕ → Option ℕ → ℕ → Option Bool
 test_says (Known b) truth load at mask k = None
-test_says (Field t) truth load at mask k = if looks_at t load at mask then says_value truth (t.value == k) else None
+test_says (Field t) truth load at mask k =
+    if looks_at t load at mask then says_value truth (t.value == k) else None
 
 abbrev pub first_of : Option Bool → Option Bool → Option Bool
 first_of (Some b) other = Some b
 first_of None other = other
 
-abbrev pub decided : List Fact → ℕ → ℕ → Option ℕ → ℕ → Option Bool
-decided [] load at mask k = None
-decided (f ∷ fs) load at mask k = first_of (test_says f.test f.truth load at mask k) (decided fs load at mask k)
+abbrev pub known_outcome : List Fact → ℕ → ℕ → Option ℕ → ℕ → Option Bool
+known_outcome [] load at mask k = None
+known_outcome (f ∷ fs) load at mask k =
+    first_of (test_says f.test f.truth load at mask k) (known_outcome fs load at mask k)
 
-abbrev pub chosen : Option Bool → ℕ → ℕ → ℕ → ℕ
-chosen None place hit miss = place
-chosen (Some true) place hit miss = max 1 hit
-chosen (Some false) place hit miss = max 1 miss
+abbrev pub outcome_place : Option Bool → ℕ → ℕ → ℕ → ℕ
+outcome_place None place hit miss = place
+outcome_place (Some true) place hit miss = max 1 hit
+outcome_place (Some false) place hit miss = max 1 miss
 
 -- the code from a place on, past its load and its mask
 abbrev pub past_mask : List Fact → ℕ → ℕ → ℕ → Option ℕ → List Insn → ℕ
 past_mask facts place load at mask [] = place
 past_mask facts place load at mask (j ∷ is) =
-    if j.code == EQUAL then chosen (decided facts load at mask j.k) place (length is - j.jt) (length is - j.jf) else place
+    if j.code == EQUAL
+    then outcome_place (known_outcome facts load at mask j.k) place
+    (length is - j.jt) (length is - j.jf)
+    else place
 
 -- the same past its load
 abbrev pub past_load : List Fact → ℕ → ℕ → ℕ → List Insn → ℕ
 past_load facts place load at [] = place
 past_load facts place load at (m ∷ is) =
-    if m.code == MASK then past_mask facts place load at (Some m.k) is else past_mask facts place load at None (m ∷ is)
+    if m.code == MASK
+    then past_mask facts place load at (Some m.k) is
+    else past_mask facts place load at None (m ∷ is)
 
 -- the place where the code behind a place goes on: past a jump, and past a test that is decided
 abbrev pub onward : List Fact → ℕ → List Insn → ℕ
 onward facts place [] = place
-onward facts place (i ∷ is) = if i.code == JUMP then max 1 (length is - i.k) else past_load facts place i.code i.k is
+onward facts place (i ∷ is) =
+    if i.code == JUMP then max 1 (length is - i.k) else past_load facts place i.code i.k is
 
--- one step from a place, two, four, eight
-abbrev pub one_on : List Insn → List Fact → ℕ → ℕ
-one_on c facts place = onward facts place (drop (length c - place) c)
+-- one step from a place
+abbrev pub step_from : List Insn → List Fact → ℕ → ℕ
+step_from c facts place = onward facts place (drop (length c - place) c)
 
-abbrev pub two_on : List Insn → List Fact → ℕ → ℕ
-two_on c facts place = one_on c facts (one_on c facts place)
+-- so many steps from a place
+unfoldable pub follow : ℕ → List Insn → List Fact → ℕ → ℕ
+follow zero c facts place = place
+follow (suc k) c facts place = follow k c facts (step_from c facts place)
 
-abbrev pub four_on : List Insn → List Fact → ℕ → ℕ
-four_on c facts place = two_on c facts (two_on c facts place)
-
-abbrev pub eight_on : List Insn → List Fact → ℕ → ℕ
-eight_on c facts place = four_on c facts (four_on c facts place)
+-- how many steps a jump's target is followed at most
+abbrev pub MOST_STEPS : ℕ
+MOST_STEPS = 8
 
 abbrev pub fact : Elementary → Bool → Fact
 fact t b = record { test = t; truth = b }
@@ -126,26 +136,29 @@ and_fact f known = record known { latest = f; earlier = known.latest; earliest =
 abbrev pub and_fork : Elementary → Elementary → Knowledge → Knowledge
 and_fork t u known = record known { either = record { first = t; second = u } }
 
-abbrev pub agreed : ℕ → ℕ → ℕ → ℕ
-agreed a b other = if a == b then a else other
+abbrev pub agreed_place : ℕ → ℕ → ℕ → ℕ
+agreed_place a b other = if a == b then a else other
 
--- the target of a jump that is taken where a fact holds, followed as far as what is known leads; where the two
--- alternatives lead apart, only as far as the facts lead
-unfoldable pub followed : List Insn → Knowledge → Fact → ℕ → ℕ
-followed c known own place =
-    agreed (eight_on c (own ∷ fact known.either.first true ∷ facts_of known) place)
-    (eight_on c (own ∷ fact known.either.second true ∷ facts_of known) place)
-    (eight_on c (own ∷ facts_of known) place)
+-- the target of a jump that is taken where a fact holds, followed as far as what is known leads;
+-- where the two alternatives lead apart, only as far as the facts lead
+unfoldable pub followed_place : List Insn → Knowledge → Fact → ℕ → ℕ
+followed_place c known own place =
+    agreed_place (follow MOST_STEPS c (own ∷ fact known.either.first true ∷ facts_of known) place)
+    (follow MOST_STEPS c (own ∷ fact known.either.second true ∷ facts_of known) place)
+    (follow MOST_STEPS c (own ∷ facts_of known) place)
 
--- behind a test past a header X holds the header's length: code that begins by loading it is entered past that load
+-- behind a test past a header X holds the header's length: code that begins by loading it is
+-- entered past that load
 abbrev pub past_index : Place → ℕ → List Insn → ℕ
 past_index (At a) place c = place
 past_index (Past header a) place [] = place
-past_index (Past header a) place (i ∷ is) = if i.code == code_of LoadHeaderLength && i.k == header then max 1 (length is) else place
+past_index (Past header a) place (i ∷ is) =
+    if i.code == code_of LoadHeaderLength && i.k == header then max 1 (length is) else place
 
-abbrev pub entered_at : Place → List Insn → ℕ → ℕ
-entered_at place c r = past_index place r (drop (length c - r) c)
+abbrev pub entry_at : Place → List Insn → ℕ → ℕ
+entry_at place c r = past_index place r (drop (length c - r) c)
 
--- where a jump behind a test at a place goes, which is taken where a fact holds: its target followed, and past a load of X
+-- where a jump behind a test at a place goes, which is taken where a fact holds: its target
+-- followed, and past a load of X
 unfoldable pub target : List Insn → Knowledge → Place → Fact → ℕ → ℕ
-target c known tested own place = entered_at tested c (followed c known own place)
+target c known tested own place = entry_at tested c (followed_place c known own place)

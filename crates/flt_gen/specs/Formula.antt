@@ -24,8 +24,8 @@ pub data Formula : Type 0 where
   Guard : Elementary → Formula → Formula
   -- one of two tests and then a formula
   Fork : Elementary → Elementary → Formula → Formula
-  -- a test and then a formula, or another formula. It is for a test that excludes the other formula: where the test was
-  -- yes the code goes past that
+  -- a test and then a formula, or another formula. It is for a test that excludes the other
+  -- formula: where the test was yes the code goes past that
   Choose : Elementary → Formula → Formula → Formula
   -- a field is one of some numbers
   Among : MaskedField → List ℕ → Formula
@@ -49,15 +49,18 @@ negated Rejected = Rejected
 
 abbrev pub relation_reads : Link → Comparison → NumberTree → NumberTree → List ℕ → ℕ → Reading
 relation_reads link c l r p n =
-    reading_of (with (number link l p n) (λ x. with (number link r p n) (λ y. Some (compares c x y))))
+    reading_of (with (number link l p n)
+    (λ x. with (number link r p n) (λ y. Some (compares c x y))))
 
 abbrev pub is_one_of : ℕ → List ℕ → Bool
 is_one_of x [] = false
 is_one_of x (v ∷ vs) = x == v || is_one_of x vs
 
--- a field that is one of some numbers is a yes, another one a no, and one that isn't all captured is rejected
+-- a field that is one of some numbers is a yes, another one a no, and one that isn't all captured
+-- is rejected
 abbrev pub among_reads : MaskedField → List ℕ → List ℕ → Reading
-among_reads f vs p = reading_of (with (field_at f.place f.width p) (λ x. Some (is_one_of (masked f.mask x) vs)))
+among_reads f vs p =
+    reading_of (with (field_at f.place f.width p) (λ x. Some (is_one_of (masked f.mask x) vs)))
 
 -- the reading of a formula on a packet of original length n
 abbrev pub reads : Link → Formula → List ℕ → ℕ → Reading
@@ -67,8 +70,10 @@ reads link (Both a b) p n = both (reads link a p n) (reads link b p n)
 reads link (Either a b) p n = either (reads link a p n) (reads link b p n)
 reads link (Except a) p n = negated (reads link a p n)
 reads link (Guard t a) p n = both (elementary_reads t p) (reads link a p n)
-reads link (Fork t u a) p n = both (either (elementary_reads t p) (elementary_reads u p)) (reads link a p n)
-reads link (Choose t a b) p n = either (both (elementary_reads t p) (reads link a p n)) (reads link b p n)
+reads link (Fork t u a) p n =
+    both (either (elementary_reads t p) (elementary_reads u p)) (reads link a p n)
+reads link (Choose t a b) p n =
+    either (both (elementary_reads t p) (reads link a p n)) (reads link b p n)
 reads link (Among f vs) p n = among_reads f vs p
 
 -- all of some tests
@@ -78,14 +83,15 @@ all_of (t ∷ []) = Single t
 all_of (t ∷ u ∷ ts) = Both (Single t) (all_of (u ∷ ts))
 
 -- some tests, and then a formula
-abbrev pub guarded : List Elementary → Formula → Formula
-guarded [] f = f
-guarded (t ∷ ts) f = Both (Single t) (guarded ts f)
+abbrev pub guarded_formula : List Elementary → Formula → Formula
+guarded_formula [] f = f
+guarded_formula (t ∷ ts) f = Both (Single t) (guarded_formula ts f)
 
 -- the tests of accessors, and then a formula
-abbrev pub checked : Link → List Protocol → Formula → Formula
-checked link [] f = f
-checked link (protocol ∷ rest) f = guarded (accessor_tests link protocol) (checked link rest f)
+abbrev pub checked_formula : Link → List Protocol → Formula → Formula
+checked_formula link [] f = f
+checked_formula link (protocol ∷ rest) f =
+    guarded_formula (accessor_tests link protocol) (checked_formula link rest f)
 
 -- the tests of the source and of the destination, as a direction asks for them
 abbrev pub sides : Direction → List Elementary → List Elementary → Formula

@@ -1,6 +1,5 @@
 -- Hosts or ports that are looked for together, since they stand one after the other between or.
-use Rattle.std.specs.Prelude.{ℕ, ◌+◌, nat_lt, Bool, true, false, ◌&&◌, if◌then◌else◌, List, [], ◌∷◌, length, Option, Some, None}
-use Rattle.flt_bpf.specs.declared.operation.Width.TheVariants.{Word}
+use Rattle.std.specs.Prelude.{ℕ, nat_lt, Bool, true, false, ◌&&◌, if◌then◌else◌, List, [], ◌∷◌, length, Option, Some, None}
 use Rattle.flt_words.specs.declared.token.Protocol.{Protocol}
 use Rattle.flt_words.specs.declared.token.Protocol.TheVariants.{Ip, Arp, Rarp, Tcp, Udp}
 use Rattle.flt_words.specs.declared.token.Side.TheVariants.{Source, Destination}
@@ -16,19 +15,17 @@ use Rattle.flt_lang.specs.Tree.{TruthTree, qualified, denied, joined}
 use Rattle.flt_gen.specs.declared.link.Link.{Link}
 use Rattle.flt_gen.specs.declared.elementary.FrameKind.{FrameKind}
 use Rattle.flt_gen.specs.declared.elementary.FrameKind.TheVariants as kind
-use Rattle.flt_gen.specs.declared.elementary.Place.TheVariants.{At}
 use Rattle.flt_gen.specs.declared.elementary.Ports.TheVariants.{One, Several}
 use Rattle.flt_gen.specs.declared.elementary.Hosts.{Hosts}
 use Rattle.flt_gen.specs.declared.elementary.Hosts.TheVariants as hosts
-use Rattle.flt_gen.specs.declared.elementary.Sides.{Sides}
 use Rattle.flt_gen.specs.declared.elementary.Elementary.TheVariants.{Known}
-use Rattle.flt_gen.specs.Elementary.{network, kind_test}
+use Rattle.flt_gen.specs.Elementary.{kind_test}
 use Rattle.flt_gen.specs.Formula.{Formula, Single, Both, Either, Except, Guard, Choose}
-use Rattle.flt_gen.specs.Primitives.{source_offset, destination_offset, net_test, net_sides, net_formula, any_sides, port_test, port_formula, qualified_formula}
+use Rattle.flt_gen.specs.Primitives.{address_places, net_test, net_sides, net_formula, any_sides, port_test, port_formula, qualified_formula}
 use Rattle.flt_gen.specs.Reading.{formula}
 
--- the type of its members, the protocol and the direction that are asked for; the address or port that stands first, and
--- those of all members, which ascend
+-- the type of its members, the protocol and the direction that are asked for; the address or port
+-- that stands first, and those of all members, which ascend
 pub record Group : Type 0 where
   pub value_type : ValueType
   pub protocol : Option Protocol
@@ -37,16 +34,27 @@ pub record Group : Type 0 where
   pub numbers : List ℕ
 
 abbrev pub no_group : Group
-no_group = record { value_type = Host; protocol = None; direction = direction.Both Or; first = 0; numbers = [] }
+no_group = record {
+  value_type = Host;
+  protocol = None;
+  direction = direction.Both Or;
+  first = 0;
+  numbers = [];
+}
 
 -- a number among others that ascend
-abbrev pub inserted : ℕ → List ℕ → List ℕ
-inserted a [] = a ∷ []
-inserted a (b ∷ bs) = if nat_lt b a then b ∷ inserted a bs else a ∷ b ∷ bs
+abbrev pub insert_ascending : ℕ → List ℕ → List ℕ
+insert_ascending a [] = a ∷ []
+insert_ascending a (b ∷ bs) = if nat_lt b a then b ∷ insert_ascending a bs else a ∷ b ∷ bs
 
 abbrev pub with_member : FullQuals → ℕ → Group → Group
-with_member q a group =
-    record { value_type = q.value_type; protocol = q.protocol; direction = q.direction; first = a; numbers = inserted a group.numbers }
+with_member q a group = record {
+  value_type = q.value_type;
+  protocol = q.protocol;
+  direction = q.direction;
+  first = a;
+  numbers = insert_ascending a group.numbers;
+}
 
 abbrev pub same_type : ValueType → ValueType → Bool
 same_type Host Host = true
@@ -86,7 +94,8 @@ member_number _ _ = None
 
 abbrev pub group_and : FullQuals → Group → Option ℕ → Option Group
 group_and q group None = None
-group_and q group (Some a) = if goes_with q group group.numbers then Some (with_member q a group) else None
+group_and q group (Some a) =
+    if goes_with q group group.numbers then Some (with_member q a group) else None
 
 -- the group with one more in front, where the value is one that goes with it
 abbrev pub larger_group : FullQuals → Value → Group → Option Group
@@ -94,21 +103,20 @@ larger_group q v group = group_and q group (member_number q.value_type v)
 
 -- hosts of IPv4: those of a network, or several, whose addresses are passed beside
 
-abbrev pub address_places : Link → FrameKind → Sides
-address_places link kind =
-    record { width = Word; source = At (network link + source_offset kind); destination = At (network link + destination_offset kind) }
-
 abbrev pub hosts_sides : Link → FrameKind → Hosts → List ℕ → Formula
 hosts_sides link kind (hosts.Net net) numbers = net_sides link kind net
-hosts_sides link kind (hosts.Several direction first) numbers = any_sides direction (address_places link kind) first numbers
+hosts_sides link kind (hosts.Several direction first) numbers =
+    any_sides direction (address_places link kind) first numbers
 
 abbrev pub hosts_of_kind : Link → FrameKind → Hosts → List ℕ → Formula
-hosts_of_kind link kind wanted numbers = Guard (kind_test link kind) (hosts_sides link kind wanted numbers)
+hosts_of_kind link kind wanted numbers =
+    Guard (kind_test link kind) (hosts_sides link kind wanted numbers)
 
 abbrev pub any_hosts : Link → Hosts → List ℕ → Formula
 any_hosts link wanted numbers =
     Choose (kind_test link kind.Ip) (hosts_sides link kind.Ip wanted numbers)
-    (Choose (kind_test link kind.Arp) (hosts_sides link kind.Arp wanted numbers) (hosts_of_kind link kind.Rarp wanted numbers))
+    (Choose (kind_test link kind.Arp) (hosts_sides link kind.Arp wanted numbers)
+    (hosts_of_kind link kind.Rarp wanted numbers))
 
 abbrev pub hosts_formula : Link → Option Protocol → Hosts → List ℕ → Formula
 hosts_formula link (Some Ip) wanted numbers = hosts_of_kind link kind.Ip wanted numbers
@@ -120,17 +128,22 @@ hosts_formula link (Some _) wanted numbers = Single (Known false)
 -- one member, and several
 abbrev pub one_formula : Link → ValueType → Option Protocol → Direction → ℕ → Formula
 one_formula link Host protocol direction n = net_formula link protocol (net_test direction None n)
-one_formula link Port protocol direction n = port_formula link (port_test protocol direction (One n)) []
+one_formula link Port protocol direction n =
+    port_formula link (port_test protocol direction (One n)) []
 one_formula link _ protocol direction n = Single (Known false)
 
 abbrev pub several_formula : Link → ValueType → Option Protocol → Direction → ℕ → List ℕ → Formula
-several_formula link Host protocol direction first numbers = hosts_formula link protocol (hosts.Several direction first) numbers
-several_formula link Port protocol direction first numbers = port_formula link (port_test protocol direction (Several first)) numbers
+several_formula link Host protocol direction first numbers =
+    hosts_formula link protocol (hosts.Several direction first) numbers
+several_formula link Port protocol direction first numbers =
+    port_formula link (port_test protocol direction (Several first)) numbers
 several_formula link _ protocol direction first numbers = Single (Known false)
 
 abbrev pub formula_by : Link → Group → List ℕ → Formula
-formula_by link group (n ∷ []) = one_formula link group.value_type group.protocol group.direction group.first
-formula_by link group _ = several_formula link group.value_type group.protocol group.direction group.first group.numbers
+formula_by link group (n ∷ []) =
+    one_formula link group.value_type group.protocol group.direction group.first
+formula_by link group _ =
+    several_formula link group.value_type group.protocol group.direction group.first group.numbers
 
 -- one of the members
 abbrev pub group_formula : Link → Group → Formula
@@ -152,12 +165,17 @@ abbrev pub choice : Option Group → (Group → Formula) → Formula → Formula
 choice None f g = g
 choice (Some group) f g = f group
 
--- the formula of a truth, or else one of the group behind it: the hosts or ports at its end are looked for together with it
-abbrev pub grouped : Link → Group → TruthTree → Formula
-grouped link group (joined Or a b) =
-    choice (truth_member b group) (λ more. grouped link more a) (Either (grouped link no_group a) (grouped link group b))
-grouped link group (joined And a b) = or_group link (Both (grouped link no_group a) (grouped link no_group b)) group
-grouped link group (denied a) = or_group link (Except (grouped link no_group a)) group
-grouped link group (qualified q v) =
-    choice (larger_group q v group) (λ more. group_formula link more) (or_group link (qualified_formula link q v) group)
-grouped link group a = or_group link (formula link a) group
+-- the formula of a truth, or else one of the group behind it: the hosts or ports at its end are
+-- looked for together with it
+abbrev pub grouped_formula : Link → Group → TruthTree → Formula
+grouped_formula link group (joined Or a b) =
+    choice (truth_member b group) (λ more. grouped_formula link more a)
+    (Either (grouped_formula link no_group a) (grouped_formula link group b))
+grouped_formula link group (joined And a b) =
+    or_group link (Both (grouped_formula link no_group a) (grouped_formula link no_group b)) group
+grouped_formula link group (denied a) =
+    or_group link (Except (grouped_formula link no_group a)) group
+grouped_formula link group (qualified q v) =
+    choice (larger_group q v group) (λ more. group_formula link more)
+    (or_group link (qualified_formula link q v) group)
+grouped_formula link group a = or_group link (formula link a) group

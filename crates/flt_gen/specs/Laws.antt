@@ -22,7 +22,9 @@ word_mask (Field t) = unwrap_or t.mask (2 ^ 32 - 1)
 
 -- joined, the masks of the tests of an IPv6 address or network are its mask
 abbrev pub MasksJoin : Type 0
-MasksJoin = (prefix : Option ℕ) (address at : ℕ) → number_from_digits (2 ^ 32) (map word_mask (ip6_tests prefix address at)) ≡ ip6_mask prefix
+MasksJoin =
+    (prefix : Option ℕ) (address at : ℕ) → number_from_digits (2 ^ 32)
+    (map word_mask (ip6_tests prefix address at)) ≡ ip6_mask prefix
 
 -- ---- an expression means by IPv4, IPv6, ARP and RARP what a line does, which goes by `network_header`
 

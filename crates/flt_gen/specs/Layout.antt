@@ -17,7 +17,8 @@ JUMP = 5
 abbrev pub MOST_OFFSET : ℕ
 MOST_OFFSET = 255
 
--- the jump at a place is where a conditional jump goes on, and its target is too far from the instruction after that one
+-- the jump at a place is where a conditional jump goes on, and its target is too far from the
+-- instruction after that one
 pub record IsNeeded (prog : List Insn) (place : ℕ) (jump : Insn) : Type 0 where
   pub from : ℕ
   pub branch : Insn
@@ -28,7 +29,8 @@ pub record IsNeeded (prog : List Insn) (place : ℕ) (jump : Insn) : Type 0 wher
 
 -- each jump is needed
 pub record JumpsAreNeeded (prog : List Insn) : Type 0 where
-  pub each : (place : ℕ) (jump : Insn) → slice_get prog place ≡ Some jump → jump.code ≡ JUMP → IsNeeded prog place jump
+  pub each : (place : ℕ) (jump : Insn) → slice_get prog place ≡ Some jump → jump.code ≡ JUMP
+      → IsNeeded prog place jump
 
 -- there is no jump, and the program is short
 pub record IsShort (prog : List Insn) (most : ℕ) : Type 0 where

@@ -10,7 +10,7 @@ pub mod Layout
 pub mod Walk
 pub mod Correct
 pub mod Follow
-pub mod Puts
+pub mod Emits
 pub mod Laws
 pub mod Reload
 pub mod Alike

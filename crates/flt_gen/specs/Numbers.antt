@@ -26,7 +26,8 @@ base link Udp p = with (header_at p (network link)) (λ x. Some (x + network lin
 base link Icmp p = with (header_at p (network link)) (λ x. Some (x + network link))
 base link _ p = Some (network link)
 
--- two numbers with an operator between them, modulo 2^32; a shift by 32 or more gives 0, and there is no division by 0
+-- two numbers with an operator between them, modulo 2^32; a shift by 32 or more gives 0, and there
+-- is no division by 0
 abbrev pub result_of : Operator → ℕ → ℕ → Option ℕ
 result_of Add a b = Some ((a + b) % 2 ^ 32)
 result_of Subtract a b = Some ((a + 2 ^ 32 - b) % 2 ^ 32)
@@ -45,7 +46,8 @@ number link (literal k) p n = Some k
 number link (named k) p n = Some k
 number link len p n = Some n
 number link (load protocol size i) p n =
-    with (number link i p n) (λ v. with (base link protocol p) (λ at. field p ((at + v) % 2 ^ 32) (width_of size)))
+    with (number link i p n) (λ v. with (base link protocol p)
+    (λ at. field p ((at + v) % 2 ^ 32) (width_of size)))
 number link (negated a) p n = with (number link a p n) (λ v. Some ((2 ^ 32 - v) % 2 ^ 32))
 number link (applied operator l r) p n =
     with (number link l p n) (λ x. with (number link r p n) (λ y. result_of operator x y))

@@ -39,7 +39,7 @@ use Rattle.flt_gen.specs.declared.elementary.PortTest.{PortTest}
 use Rattle.flt_gen.specs.declared.elementary.Transport.{Transport}
 use Rattle.flt_gen.specs.declared.elementary.Ports.TheVariants.{One, Between, Several}
 use Rattle.flt_gen.specs.Elementary.{is_at, compares_at, network, kind_test, first_fragment, has_ip_proto, has_ip6_proto}
-use Rattle.flt_gen.specs.Formula.{Formula, Single, Compare, Either, Guard, Fork, Choose, Among, all_of, guarded, sides}
+use Rattle.flt_gen.specs.Formula.{Formula, Single, Compare, Either, Guard, Fork, Choose, Among, all_of, guarded_formula, sides}
 
 -- protocols; of the kinds of frames at most one is yes
 
@@ -78,29 +78,38 @@ proto_formula link (Some _) n = Single (Known false)
 
 -- the six bytes from a place on
 abbrev pub mac_tests : ℕ → ℕ → List Elementary
-mac_tests at address = is_at at Word (address / 2 ^ 16 % 2 ^ 32) ∷ is_at (at + 4) HalfWord (address % 2 ^ 16) ∷ []
+mac_tests at address =
+    is_at at Word (address / 2 ^ 16 % 2 ^ 32) ∷ is_at (at + 4) HalfWord (address % 2 ^ 16) ∷ []
 
 abbrev pub ether_host : Link → Direction → ℕ → Formula
-ether_host link direction address = guarded (kind_test link Ethernet ∷ []) (sides direction (mac_tests 6 address) (mac_tests 0 address))
+ether_host link direction address =
+    guarded_formula (kind_test link Ethernet ∷ [])
+    (sides direction (mac_tests 6 address) (mac_tests 0 address))
 
 -- the lowest bit of an Ethernet address' first byte is set
 abbrev pub is_group_address : Elementary
-is_group_address = Field (record { place = At 0; width = Byte; mask = Some 1; comparison = NotEqual; value = 0 })
+is_group_address =
+    Field (record { place = At 0; width = Byte; mask = Some 1; comparison = NotEqual; value = 0 })
 
 abbrev pub cast_formula : Link → Option Protocol → Cast → Formula
 cast_formula link None Broadcast = ether_host link (direction.One Destination) 0xffff_ffff_ffff
-cast_formula link (Some protocol.Ether) Broadcast = ether_host link (direction.One Destination) 0xffff_ffff_ffff
+cast_formula link (Some protocol.Ether) Broadcast =
+    ether_host link (direction.One Destination) 0xffff_ffff_ffff
 cast_formula link (Some _) Broadcast = Single (Known false)
-cast_formula link (Some protocol.Ip) Multicast = all_of (kind_test link Ip ∷ compares_at (At (network link + 16)) Byte AtLeast 224 ∷ [])
-cast_formula link (Some protocol.Ip6) Multicast = all_of (kind_test link Ip6 ∷ is_at (network link + 24) Byte 255 ∷ [])
+cast_formula link (Some protocol.Ip) Multicast =
+    all_of (kind_test link Ip ∷ compares_at (At (network link + 16)) Byte AtLeast 224 ∷ [])
+cast_formula link (Some protocol.Ip6) Multicast =
+    all_of (kind_test link Ip6 ∷ is_at (network link + 24) Byte 255 ∷ [])
 cast_formula link None Multicast = all_of (kind_test link Ethernet ∷ is_group_address ∷ [])
-cast_formula link (Some protocol.Ether) Multicast = all_of (kind_test link Ethernet ∷ is_group_address ∷ [])
+cast_formula link (Some protocol.Ether) Multicast =
+    all_of (kind_test link Ethernet ∷ is_group_address ∷ [])
 cast_formula link (Some _) Multicast = Single (Known false)
 
 -- IPv4 addresses and networks
 
-abbrev pub address_test : Option ℕ → ℕ → ℕ → Elementary
-address_test mask address at = Field (record { place = At at; width = Word; mask = mask; comparison = Equal; value = address })
+abbrev pub address_test : Option ℕ → ℕ → Place → Elementary
+address_test mask address place =
+    Field (record { place = place; width = Word; mask = mask; comparison = Equal; value = address })
 
 -- how far behind the network header's start the addresses stand
 abbrev pub source_offset : FrameKind → ℕ
@@ -111,9 +120,20 @@ abbrev pub destination_offset : FrameKind → ℕ
 destination_offset Ip = 16
 destination_offset _ = 24
 
+abbrev pub address_places : Link → FrameKind → Sides
+address_places link kind = record {
+  width = Word;
+  source = At (network link + source_offset kind);
+  destination = At (network link + destination_offset kind);
+}
+
+abbrev pub net_tests : Sides → NetTest → Formula
+net_tests at net =
+    sides net.direction (address_test net.mask net.address at.source ∷ [])
+    (address_test net.mask net.address at.destination ∷ [])
+
 abbrev pub net_sides : Link → FrameKind → NetTest → Formula
-net_sides link kind net =
-    sides net.direction (address_test net.mask net.address (network link + source_offset kind) ∷ []) (address_test net.mask net.address (network link + destination_offset kind) ∷ [])
+net_sides link kind net = net_tests (address_places link kind) net
 
 abbrev pub net_of_kind : Link → FrameKind → NetTest → Formula
 net_of_kind link kind net = Guard (kind_test link kind) (net_sides link kind net)
@@ -123,7 +143,8 @@ net_formula link (Some protocol.Ip) net = net_of_kind link Ip net
 net_formula link (Some protocol.Arp) net = net_of_kind link Arp net
 net_formula link (Some protocol.Rarp) net = net_of_kind link Rarp net
 net_formula link None net =
-    Choose (kind_test link Ip) (net_sides link Ip net) (Choose (kind_test link Arp) (net_sides link Arp net) (net_of_kind link Rarp net))
+    Choose (kind_test link Ip) (net_sides link Ip net)
+    (Choose (kind_test link Arp) (net_sides link Arp net) (net_of_kind link Rarp net))
 net_formula link (Some _) net = Single (Known false)
 
 abbrev pub net_test : Direction → Option ℕ → ℕ → NetTest
@@ -133,28 +154,34 @@ net_test direction mask address = record { direction = direction; mask = mask; a
 
 abbrev pub ip6_test : Option ℕ → ℕ → ℕ → ℕ → Elementary
 ip6_test prefix address at word =
-    address_test (option_map (λ bits. first_bits 32 (bits - 32 * word)) prefix) (address / 2 ^ (96 - 32 * word) % 2 ^ 32) (at + 4 * word)
+    address_test (option_map (λ bits. first_bits 32 (bits - 32 * word)) prefix)
+    (address / 2 ^ (96 - 32 * word) % 2 ^ 32) (At (at + 4 * word))
 
 abbrev pub ip6_tests : Option ℕ → ℕ → ℕ → List Elementary
 ip6_tests prefix address at =
-    ip6_test prefix address at 0 ∷ ip6_test prefix address at 1 ∷ ip6_test prefix address at 2 ∷ ip6_test prefix address at 3 ∷ []
+    ip6_test prefix address at 0 ∷ ip6_test prefix address at 1 ∷ ip6_test prefix address at 2
+    ∷ ip6_test prefix address at 3 ∷ []
 
 abbrev pub ip6_formula : Link → Direction → Option ℕ → ℕ → Formula
 ip6_formula link direction prefix address =
-    Guard (kind_test link Ip6) (sides direction (ip6_tests prefix address (network link + 8)) (ip6_tests prefix address (network link + 24)))
+    Guard (kind_test link Ip6) (sides direction (ip6_tests prefix address (network link + 8))
+    (ip6_tests prefix address (network link + 24)))
 
--- several numbers on a side, or on either. The source is compared with the first alone before the destination is looked at:
--- so a packet that ends between the two is read as by tests of one number after the other
+-- several numbers on a side, or on either. The source is compared with the first alone before the
+-- destination is looked at: so a packet that ends between the two is read as by tests of one number
+-- after the other
 
 abbrev pub whole_field : Place → Width → MaskedField
 whole_field place width = record { place = place; width = width; mask = None }
 
 abbrev pub any_sides : Direction → Sides → ℕ → List ℕ → Formula
 any_sides (direction.One Source) at first numbers = Among (whole_field at.source at.width) numbers
-any_sides (direction.One Destination) at first numbers = Among (whole_field at.destination at.width) numbers
+any_sides (direction.One Destination) at first numbers =
+    Among (whole_field at.destination at.width) numbers
 any_sides (direction.Both Or) at first numbers =
     Either (Single (compares_at at.source at.width Equal first))
-    (Either (Among (whole_field at.destination at.width) numbers) (Among (whole_field at.source at.width) numbers))
+    (Either (Among (whole_field at.destination at.width) numbers)
+    (Among (whole_field at.source at.width) numbers))
 any_sides (direction.Both And) at first numbers = Single (Known false)
 
 -- ports
@@ -163,16 +190,24 @@ abbrev pub port_is : ℕ → Place → List Elementary
 port_is n place = compares_at place HalfWord Equal n ∷ []
 
 abbrev pub port_between : ℕ → ℕ → Place → List Elementary
-port_between a b place = compares_at place HalfWord AtLeast a ∷ compares_at place HalfWord AtMost b ∷ []
+port_between a b place =
+    compares_at place HalfWord AtLeast a ∷ compares_at place HalfWord AtMost b ∷ []
 
 abbrev pub port_places : Transport → Sides
-port_places header = record { width = HalfWord; source = header.source; destination = header.destination }
+port_places header = record {
+  width = HalfWord;
+  source = header.source;
+  destination = header.destination;
+}
 
 -- the ports that are looked for, of which several are passed beside
 abbrev pub port_sides : Ports → Direction → Transport → List ℕ → Formula
-port_sides (One n) direction header numbers = sides direction (port_is n header.source) (port_is n header.destination)
-port_sides (Between a b) direction header numbers = sides direction (port_between a b header.source) (port_between a b header.destination)
-port_sides (Several first) direction header numbers = any_sides direction (port_places header) first numbers
+port_sides (One n) direction header numbers =
+    sides direction (port_is n header.source) (port_is n header.destination)
+port_sides (Between a b) direction header numbers =
+    sides direction (port_between a b header.source) (port_between a b header.destination)
+port_sides (Several first) direction header numbers =
+    any_sides direction (port_places header) first numbers
 
 -- the test of TCP, that of UDP, or either, and then a formula
 abbrev pub transport : Option Protocol → Elementary → Elementary → Formula → Formula
@@ -187,10 +222,12 @@ behind None f = f
 behind (Some t) f = Guard t f
 
 abbrev pub ports_behind : Transport → PortTest → List ℕ → Formula
-ports_behind header wanted numbers = behind header.whole (port_sides wanted.ports wanted.direction header numbers)
+ports_behind header wanted numbers =
+    behind header.whole (port_sides wanted.ports wanted.direction header numbers)
 
 abbrev pub transport_ports : Transport → PortTest → List ℕ → Formula
-transport_ports header wanted numbers = transport wanted.protocol header.tcp header.udp (ports_behind header wanted numbers)
+transport_ports header wanted numbers =
+    transport wanted.protocol header.tcp header.udp (ports_behind header wanted numbers)
 
 -- behind an IPv4 header, which has no fixed length; no later fragment has ports
 abbrev pub ip_transport : Link → Transport
@@ -218,31 +255,41 @@ port_formula link wanted numbers =
     (Guard (kind_test link Ip6) (transport_ports (ip6_transport link) wanted numbers))
 
 abbrev pub port_test : Option Protocol → Direction → Ports → PortTest
-port_test protocol direction ports = record { protocol = protocol; direction = direction; ports = ports }
+port_test protocol direction ports = record {
+  protocol = protocol;
+  direction = direction;
+  ports = ports;
+}
 
 -- values with their qualifiers; what doesn't fit is no, here and above
 
 abbrev pub host_formula : Link → Option Protocol → Direction → Value → Formula
-host_formula link protocol direction (value.Dotted dotted mask) = net_formula link protocol (net_test direction None dotted.address)
-host_formula link protocol direction (value.Ip6 address prefix) = ip6_formula link direction None address
+host_formula link protocol direction (value.Dotted dotted mask) =
+    net_formula link protocol (net_test direction None dotted.address)
+host_formula link protocol direction (value.Ip6 address prefix) =
+    ip6_formula link direction None address
 host_formula link protocol direction (value.Mac address) = ether_host link direction address
 host_formula link protocol direction _ = Single (Known false)
 
 -- the network of IPv4 that a value means, if it means one
 abbrev pub ip4_formula : Link → Option Protocol → Direction → Option Ip4Net → Formula
-ip4_formula link protocol direction (Some net) = net_formula link protocol (net_test direction (Some net.mask) net.address)
+ip4_formula link protocol direction (Some net) =
+    net_formula link protocol (net_test direction (Some net.mask) net.address)
 ip4_formula link protocol direction None = Single (Known false)
 
 abbrev pub net_value_formula : Link → Option Protocol → Direction → Value → Formula
-net_value_formula link protocol direction (value.Ip6 address prefix) = ip6_formula link direction prefix address
+net_value_formula link protocol direction (value.Ip6 address prefix) =
+    ip6_formula link direction prefix address
 net_value_formula link protocol direction v = ip4_formula link protocol direction (ip4_net v)
 
 abbrev pub port_value_formula : Link → Option Protocol → Direction → Value → Formula
-port_value_formula link protocol direction (value.Number n mask) = port_formula link (port_test protocol direction (One n)) []
+port_value_formula link protocol direction (value.Number n mask) =
+    port_formula link (port_test protocol direction (One n)) []
 port_value_formula link protocol direction _ = Single (Known false)
 
 abbrev pub range_value_formula : Link → Option Protocol → Direction → Value → Formula
-range_value_formula link protocol direction (value.Range a b) = port_formula link (port_test protocol direction (Between (min a b) (max a b))) []
+range_value_formula link protocol direction (value.Range a b) =
+    port_formula link (port_test protocol direction (Between (min a b) (max a b))) []
 range_value_formula link protocol direction _ = Single (Known false)
 
 abbrev pub proto_value_formula : Link → Option Protocol → Value → Formula

@@ -6,7 +6,7 @@ use Rattle.flt_gen.specs.declared.link.Link.{Link}
 use Rattle.flt_gen.specs.declared.elementary.Elementary.TheVariants.{Known}
 use Rattle.flt_gen.specs.Elementary.{Reading, Yes}
 use Rattle.flt_gen.specs.Numbers.{accessors}
-use Rattle.flt_gen.specs.Formula.{Formula, Single, Compare, Both, Either, Except, checked, reads}
+use Rattle.flt_gen.specs.Formula.{Formula, Single, Compare, Both, Either, Except, checked_formula, reads}
 use Rattle.flt_gen.specs.Primitives.{check_formula, cast_formula, sized_formula, qualified_formula}
 
 -- the formula of a truth; a value whose qualifiers aren't filled in yet is no
@@ -17,12 +17,13 @@ formula link (sized size n) = sized_formula size n
 formula link (bare v) = Single (Known false)
 formula link (valued quals v) = Single (Known false)
 formula link (qualified quals v) = qualified_formula link quals v
-formula link (compared c l r) = checked link (accessors l (accessors r [])) (Compare c l r)
+formula link (compared c l r) = checked_formula link (accessors l (accessors r [])) (Compare c l r)
 formula link (denied a) = Except (formula link a)
 formula link (joined And a b) = Both (formula link a) (formula link b)
 formula link (joined Or a b) = Either (formula link a) (formula link b)
 
--- the reading of an expression on the captured bytes p of a packet of original length n; the empty expression is yes
+-- the reading of an expression on the captured bytes p of a packet of original length n; the empty
+-- expression is yes
 abbrev pub holds : Expression → Link → List ℕ → ℕ → Reading
 holds empty link p n = Yes
 holds (truth a) link p n = reads link (formula link a) p n

@@ -21,13 +21,14 @@ use Rattle.flt_gen.specs.Formula.{Formula}
 use Rattle.flt_gen.specs.Group.{Group, no_group, larger_group, group_formula}
 use Rattle.flt_gen.specs.Primitives.{check_formula, cast_formula, sized_formula, qualified_formula}
 use Rattle.flt_gen.specs.Follow.{nothing}
-use Rattle.flt_gen.specs.Code.{plain, comparison_before, accessor_before, computation, takes, operands_before, Entered, entered, emitted, accessors_before, returns_code}
+use Rattle.flt_gen.specs.Code.{plain, emit_comparison, emit_accessor, computation, takes, emit_operands, Block, block, emit_formula, emit_accessors, returns_code}
 use Rattle.flt_bpf.specs.declared.operation.Operation.TheVariants.{Load, Store, Negate}
 use Rattle.flt_bpf.specs.declared.operation.Register.TheVariants.{Accumulator}
 use Rattle.flt_bpf.specs.declared.operation.Source.TheVariants.{Immediate, Length}
 
--- how far the walk has come: the code so far, the targets of the next truth, the word for the next left operand; what
--- waits, latest first; and the protocols of the relation's accessors, the one of the first word first
+-- how far the walk has come: the code so far, the targets of the next truth, the word for the next
+-- left operand; what waits, latest first; and the protocols of the relation's accessors, the one of
+-- the first word first
 pub record Walk : Type 0 where
   pub code : List Insn
   pub to : Targets
@@ -35,8 +36,8 @@ pub record Walk : Type 0 where
   pub truths : List LeftTruth
   pub numbers : List Waiting
   pub accessors : List Protocol
-  -- hosts or ports that are tested in front of the code, and whose code isn't there yet; whether an or was the last node, whose
-  -- right operand is next
+  -- hosts or ports that are tested in front of the code, and whose code isn't there yet; whether an
+  -- or was the last node, whose right operand is next
   pub group : Group
   pub chained : Bool
 
@@ -48,8 +49,8 @@ abbrev pub left_targets : Join → Targets → ℕ → Targets
 left_targets And to entry = targets entry to.no
 left_targets Or to entry = targets to.yes entry
 
--- the targets behind a truth that is entered at a place: of the left operand that waits; once none waits, the program
--- begins there
+-- the targets behind a truth that is entered at a place: of the left operand that waits; once none
+-- waits, the program begins there
 abbrev pub next_targets : List LeftTruth → ℕ → Targets
 next_targets [] entry = targets entry entry
 next_targets (t ∷ ts) entry = left_targets t.join t.to entry
@@ -58,97 +59,139 @@ abbrev pub others : List LeftTruth → List LeftTruth
 others [] = []
 others (t ∷ ts) = ts
 
--- a truth's code is put
-abbrev pub truth_put : Entered → Walk → Walk
-truth_put e w = record w { code = e.code; to = next_targets w.truths e.entry; truths = others w.truths }
+-- a truth's code is emitted
+abbrev pub finish_truth : Block → Walk → Walk
+finish_truth e w = record w {
+  code = e.code;
+  to = next_targets w.truths e.entry;
+  truths = others w.truths;
+}
 
--- the operands of a relation are put: the tests of its accessors stand in front of them
-abbrev pub relation_put : Link → Walk → Walk
-relation_put link w =
-    truth_put (accessors_before link w.accessors (length w.code) w.to.no w.code) (record w { accessors = [] })
+-- the operands of a relation are emitted: the tests of its accessors stand in front of them
+abbrev pub finish_relation : Link → Walk → Walk
+finish_relation link w =
+    finish_truth (emit_accessors link w.accessors (length w.code) w.to.no w.code)
+    (record w { accessors = [] })
 
--- a number's code is put: the accessors whose index it is are complete, and then the left operand that waits is next
-abbrev pub number_put : Link → List Waiting → Walk → Walk
-number_put link [] w = relation_put link w
-number_put link (Index protocol ∷ ns) w = number_put link ns (record w { numbers = ns; accessors = protocol ∷ w.accessors })
-number_put link (Left slot ∷ ns) w = record w { code = plain (Store Accumulator) slot ∷ w.code; slot = slot; numbers = ns }
+-- a number's code is emitted: the accessors whose index it is are complete, and then the left
+-- operand that waits is next
+abbrev pub finish_number : Link → List Waiting → Walk → Walk
+finish_number link [] w = finish_relation link w
+finish_number link (Index protocol ∷ ns) w =
+    finish_number link ns (record w { numbers = ns; accessors = protocol ∷ w.accessors })
+finish_number link (Left slot ∷ ns) w = record w {
+  code = plain (Store Accumulator) slot ∷ w.code;
+  slot = slot;
+  numbers = ns;
+}
 
--- code of a number is put in front
+-- code of a number is emitted in front
 abbrev pub with_code : List Insn → Walk → Walk
 with_code c w = record w { code = c }
 
 -- a right operand is next, and the left one waits; the code behind them finds both
-abbrev pub operands_put : ℕ → List Insn → Walk → Walk
-operands_put slot c w = record w { code = operands_before slot c; slot = slot + 1; numbers = Left slot ∷ w.numbers }
+abbrev pub begin_operands : ℕ → List Insn → Walk → Walk
+begin_operands slot c w = record w {
+  code = emit_operands slot c;
+  slot = slot + 1;
+  numbers = Left slot ∷ w.numbers;
+}
 
--- the code of a formula is put
-abbrev pub formula_put : Link → Formula → Walk → Walk
-formula_put link f w = truth_put (emitted link nothing f w.to.yes w.to.no w.code) w
+-- the code of a formula is emitted
+abbrev pub finish_formula : Link → Formula → Walk → Walk
+finish_formula link f w = finish_truth (emit_formula link nothing f w.to.yes w.to.no w.code) w
 
-abbrev pub settled_by : Link → Walk → List ℕ → Walk
-settled_by link w [] = record w { group = no_group; chained = false }
-settled_by link w (a ∷ others) =
-    let e = emitted link nothing (group_formula link w.group) w.to.yes w.to.no w.code in
+abbrev pub flush_members : Link → Walk → List ℕ → Walk
+flush_members link w [] = record w { group = no_group; chained = false }
+flush_members link w (a ∷ others) =
+    let e = emit_formula link nothing (group_formula link w.group) w.to.yes w.to.no w.code in
     record w { code = e.code; to = targets w.to.yes e.entry; group = no_group; chained = false }
 
--- the code of the group that waits is put
-abbrev pub settled : Link → Walk → Walk
-settled link w = settled_by link w w.group.numbers
+-- the code of the group that waits is emitted
+abbrev pub flush_group : Link → Walk → Walk
+flush_group link w = flush_members link w w.group.numbers
 
 -- a host or port and those behind it: they wait for one more if it is the right operand of an or
-abbrev pub group_put : Link → Walk → Group → Bool → Walk
-group_put link w group true = record w { group = group; truths = others w.truths; chained = false }
-group_put link w group false = formula_put link (group_formula link group) (record w { group = no_group; chained = false })
+abbrev pub finish_group : Link → Walk → Group → Bool → Walk
+finish_group link w group true = record w {
+  group = group;
+  truths = others w.truths;
+  chained = false;
+}
+finish_group link w group false =
+    finish_formula link (group_formula link group) (record w { group = no_group; chained = false })
 
-abbrev pub value_put : Link → FullQuals → Value → Walk → Option Group → Walk
-value_put link q v w None = formula_put link (qualified_formula link q v) (settled link w)
-value_put link q v w (Some group) = group_put link w group w.chained
+abbrev pub emit_value : Link → FullQuals → Value → Walk → Option Group → Walk
+emit_value link q v w None = finish_formula link (qualified_formula link q v) (flush_group link w)
+emit_value link q v w (Some group) = finish_group link w group w.chained
 
-abbrev pub join_put : Link → Join → Walk → Walk
-join_put link Or w = record w { truths = record { join = Or; to = w.to } ∷ w.truths; chained = true }
-join_put link And w = let v = settled link w in record v { truths = record { join = And; to = v.to } ∷ v.truths }
+abbrev pub emit_join : Link → Join → Walk → Walk
+emit_join link Or w = record w {
+  truths = record { join = Or; to = w.to } ∷ w.truths;
+  chained = true;
+}
+emit_join link And w =
+    let v = flush_group link w in record v { truths = record { join = And; to = v.to } ∷ v.truths }
 
-abbrev pub truth_node_put : Link → Walk → Node → Walk
-truth_node_put link w (node.Check protocol) = formula_put link (check_formula link protocol) w
-truth_node_put link w (node.Cast protocol c) = formula_put link (cast_formula link protocol c) w
-truth_node_put link w (node.Sized size n) = formula_put link (sized_formula size n) w
-truth_node_put link w (node.Compare comparison) = operands_put 0 (comparison_before comparison IndexRegister 0 w.to.yes w.to.no w.code) w
-truth_node_put link w node.Not = record w { to = targets w.to.no w.to.yes }
-truth_node_put link w _ = truth_put (entered w.code w.to.no) w
+abbrev pub emit_truth_node : Link → Walk → Node → Walk
+emit_truth_node link w (node.Check protocol) = finish_formula link (check_formula link protocol) w
+emit_truth_node link w (node.Cast protocol c) = finish_formula link (cast_formula link protocol c) w
+emit_truth_node link w (node.Sized size n) = finish_formula link (sized_formula size n) w
+emit_truth_node link w (node.Compare comparison) =
+    begin_operands 0 (emit_comparison comparison IndexRegister 0 w.to.yes w.to.no w.code) w
+emit_truth_node link w node.Not = record w { to = targets w.to.no w.to.yes }
+emit_truth_node link w _ = finish_truth (block w.code w.to.no) w
 
 -- one more node
-abbrev pub with_node : Link → Walk → Node → Walk
-with_node link w (node.Join join) = join_put link join w
-with_node link w (node.Qualified quals v) = value_put link quals v w (larger_group quals v w.group)
-with_node link w (node.Literal n) = number_put link w.numbers (with_code (plain (Load Accumulator Immediate) n ∷ w.code) w)
-with_node link w (node.Named n) = number_put link w.numbers (with_code (plain (Load Accumulator Immediate) n ∷ w.code) w)
-with_node link w node.Len = number_put link w.numbers (with_code (plain (Load Accumulator Length) 0 ∷ w.code) w)
-with_node link w (node.Load protocol size) =
-    record w { code = accessor_before link protocol (width_of size) w.code; numbers = Index protocol ∷ w.numbers }
-with_node link w node.Negate = with_code (plain Negate 0 ∷ w.code) w
-with_node link w (node.Apply operator) = operands_put w.slot (plain (computation operator IndexRegister) 0 ∷ w.code) w
-with_node link w (node.Check protocol) = truth_node_put link (settled link w) (node.Check protocol)
-with_node link w (node.Cast protocol c) = truth_node_put link (settled link w) (node.Cast protocol c)
-with_node link w (node.Sized size n) = truth_node_put link (settled link w) (node.Sized size n)
-with_node link w (node.Bare v) = truth_node_put link (settled link w) (node.Bare v)
-with_node link w (node.Valued quals v) = truth_node_put link (settled link w) (node.Valued quals v)
-with_node link w (node.Compare comparison) = truth_node_put link (settled link w) (node.Compare comparison)
-with_node link w node.Not = truth_node_put link (settled link w) node.Not
+abbrev pub emit_node : Link → Walk → Node → Walk
+emit_node link w (node.Join join) = emit_join link join w
+emit_node link w (node.Qualified quals v) = emit_value link quals v w (larger_group quals v w.group)
+emit_node link w (node.Literal n) =
+    finish_number link w.numbers (with_code (plain (Load Accumulator Immediate) n ∷ w.code) w)
+emit_node link w (node.Named n) =
+    finish_number link w.numbers (with_code (plain (Load Accumulator Immediate) n ∷ w.code) w)
+emit_node link w node.Len =
+    finish_number link w.numbers (with_code (plain (Load Accumulator Length) 0 ∷ w.code) w)
+emit_node link w (node.Load protocol size) = record w {
+  code = emit_accessor link protocol (width_of size) w.code;
+  numbers = Index protocol ∷ w.numbers;
+}
+emit_node link w node.Negate = with_code (plain Negate 0 ∷ w.code) w
+emit_node link w (node.Apply operator) =
+    begin_operands w.slot (plain (computation operator IndexRegister) 0 ∷ w.code) w
+emit_node link w (node.Check protocol) =
+    emit_truth_node link (flush_group link w) (node.Check protocol)
+emit_node link w (node.Cast protocol c) =
+    emit_truth_node link (flush_group link w) (node.Cast protocol c)
+emit_node link w (node.Sized size n) = emit_truth_node link (flush_group link w) (node.Sized size n)
+emit_node link w (node.Bare v) = emit_truth_node link (flush_group link w) (node.Bare v)
+emit_node link w (node.Valued quals v) =
+    emit_truth_node link (flush_group link w) (node.Valued quals v)
+emit_node link w (node.Compare comparison) =
+    emit_truth_node link (flush_group link w) (node.Compare comparison)
+emit_node link w node.Not = emit_truth_node link (flush_group link w) node.Not
 
--- an operator or a comparison, and its right operand, a constant that its instruction may have: the left operand is next
-abbrev pub applied_put : Operator → ℕ → Walk → Option Walk
-applied_put operator k w = if takes operator k then Some (with_code (plain (computation operator Constant) k ∷ w.code) w) else None
+-- an operator or a comparison, and its right operand, a constant that its instruction may have: the
+-- left operand is next
+abbrev pub emit_applied : Operator → ℕ → Walk → Option Walk
+emit_applied operator k w =
+    if takes operator k
+    then Some (with_code (plain (computation operator Constant) k ∷ w.code) w)
+    else None
 
-abbrev pub compared_put : Comparison → ℕ → Walk → Option Walk
-compared_put comparison k w = Some (with_code (comparison_before comparison Constant k w.to.yes w.to.no w.code) w)
+abbrev pub emit_compared : Comparison → ℕ → Walk → Option Walk
+emit_compared comparison k w =
+    Some (with_code (emit_comparison comparison Constant k w.to.yes w.to.no w.code) w)
 
--- such a node and the one before it, or none where they aren't put at once
-abbrev pub both_put : Link → Walk → Node → Node → Option Walk
-both_put link w (node.Apply operator) (node.Literal k) = applied_put operator k w
-both_put link w (node.Apply operator) (node.Named k) = applied_put operator k w
-both_put link w (node.Compare comparison) (node.Literal k) = compared_put comparison k (settled link w)
-both_put link w (node.Compare comparison) (node.Named k) = compared_put comparison k (settled link w)
-both_put link w _ _ = None
+-- such a node and the one before it, or none where they aren't emitted at once
+abbrev pub emit_both_nodes : Link → Walk → Node → Node → Option Walk
+emit_both_nodes link w (node.Apply operator) (node.Literal k) = emit_applied operator k w
+emit_both_nodes link w (node.Apply operator) (node.Named k) = emit_applied operator k w
+emit_both_nodes link w (node.Compare comparison) (node.Literal k) =
+    emit_compared comparison k (flush_group link w)
+emit_both_nodes link w (node.Compare comparison) (node.Named k) =
+    emit_compared comparison k (flush_group link w)
+emit_both_nodes link w _ _ = None
 
 -- a node of arithmetic
 abbrev pub is_number_node : Node → Bool
@@ -173,24 +216,38 @@ is_truth_node _ = false
 
 -- the two returns are there, and nothing waits
 abbrev pub start : Walk
-start = record { code = returns_code; to = targets 2 1; slot = 0; truths = []; numbers = []; accessors = []; group = no_group; chained = false }
+start = record {
+  code = returns_code;
+  to = targets 2 1;
+  slot = 0;
+  truths = [];
+  numbers = [];
+  accessors = [];
+  group = no_group;
+  chained = false;
+}
 
 abbrev pub or_else : Option Walk → Walk → Walk
 or_else (Some v) w = v
 or_else None w = w
 
 -- two nodes, at once or one after the other
-abbrev pub pair_put : Link → Walk → Node → Node → Walk
-pair_put link w n right = or_else (both_put link w n right) (with_node link (with_node link w n) right)
+abbrev pub emit_pair : Link → Walk → Node → Node → Walk
+emit_pair link w n right =
+    or_else (emit_both_nodes link w n right) (emit_node link (emit_node link w n) right)
 
 -- the walk over nodes, the last first
-abbrev pub walked : Link → Walk → List Node → Walk
-walked link w [] = w
-walked link w (node.Apply o ∷ node.Literal k ∷ ns) = walked link (pair_put link w (node.Apply o) (node.Literal k)) ns
-walked link w (node.Apply o ∷ node.Named k ∷ ns) = walked link (pair_put link w (node.Apply o) (node.Named k)) ns
-walked link w (node.Compare c ∷ node.Literal k ∷ ns) = walked link (pair_put link w (node.Compare c) (node.Literal k)) ns
-walked link w (node.Compare c ∷ node.Named k ∷ ns) = walked link (pair_put link w (node.Compare c) (node.Named k)) ns
-walked link w (n ∷ ns) = walked link (with_node link w n) ns
+abbrev pub emit_nodes : Link → Walk → List Node → Walk
+emit_nodes link w [] = w
+emit_nodes link w (node.Apply o ∷ node.Literal k ∷ ns) =
+    emit_nodes link (emit_pair link w (node.Apply o) (node.Literal k)) ns
+emit_nodes link w (node.Apply o ∷ node.Named k ∷ ns) =
+    emit_nodes link (emit_pair link w (node.Apply o) (node.Named k)) ns
+emit_nodes link w (node.Compare c ∷ node.Literal k ∷ ns) =
+    emit_nodes link (emit_pair link w (node.Compare c) (node.Literal k)) ns
+emit_nodes link w (node.Compare c ∷ node.Named k ∷ ns) =
+    emit_nodes link (emit_pair link w (node.Compare c) (node.Named k)) ns
+emit_nodes link w (n ∷ ns) = emit_nodes link (emit_node link w n) ns
 
 -- the instructions from where the program begins
 abbrev pub insns_of : Walk → List Insn

@@ -3,17 +3,17 @@
 ghost use Rattle.std.specs.Prelude.{◌≡◌, ◌+◌, ◌*◌, ◌≤◌, length};
 ghost use Rattle.flt_lang.specs.Nets.{first_bits};
 ghost use Rattle.flt_gen.specs.Elementary.{kind_test};
-ghost use Rattle.flt_gen.specs.Puts.{HasRoom, Emits, PutsBehind};
-ghost use Rattle.flt_gen.specs.Group.{address_places, hosts_sides, any_hosts, hosts_formula};
-ghost use Rattle.flt_gen.specs.Primitives.{address_test, source_offset, destination_offset};
-ghost use Rattle.flt_gen.specs.Primitives.{net_formula, ip6_test, ip6_tests, ip6_formula};
+ghost use Rattle.flt_gen.specs.Emits.{HasRoom, EmitsFormula, EmitsBehind};
+ghost use Rattle.flt_gen.specs.Group.{hosts_sides, any_hosts, hosts_formula};
+ghost use Rattle.flt_gen.specs.Primitives.{address_test, address_places, net_formula};
+ghost use Rattle.flt_gen.specs.Primitives.{ip6_test, ip6_tests, ip6_formula};
 
-use crate::among::put_any_sides;
+use crate::among::emit_any_sides;
 use crate::code::Code;
 use crate::context::Context;
 use crate::elementary::{Elementary, FieldTest, FrameKind, Hosts, NetTest, Place, Sides};
+use crate::emit::{emit_elementary, emit_sides};
 use crate::link::Link;
-use crate::put::{put_elementary, put_sides};
 use crate::table::{kind_test, network};
 use flt_bpf::operation::Width;
 use flt_lang::Direction;
@@ -21,11 +21,11 @@ use flt_words::{Comparison, Protocol};
 use std::alloc::{AllocError, Allocator};
 
 /// The word at a place is an address, as far as the mask goes.
-fn address_test(mask: Option<u32>, address: u32, at: u32) -> Elementary
-    ensures { result ≡ address_test mask address at }
+fn address_test(mask: Option<u32>, address: u32, place: Place) -> Elementary
+    ensures { result ≡ address_test mask address place }
 {
     Elementary::Field(FieldTest {
-        place: Place::At(at),
+        place,
         width: Width::Word,
         mask,
         comparison: Comparison::Equal,
@@ -33,40 +33,24 @@ fn address_test(mask: Option<u32>, address: u32, at: u32) -> Elementary
     })
 }
 
-/// How far behind the network header's start the source address stands (RFC 791, RFC 826).
-fn source_offset(kind: FrameKind) -> u32
-    ensures offset { result ≡ source_offset kind }
-    ensures near { result ≤ 14 }
-{
-    match kind {
-        FrameKind::Ip => 12,
-        _ => 14,
-    }
-}
-
-fn destination_offset(kind: FrameKind) -> u32
-    ensures offset { result ≡ destination_offset kind }
-    ensures near { result ≤ 24 }
-{
-    match kind {
-        FrameKind::Ip => 16,
-        _ => 24,
-    }
-}
-
+/// Where both addresses of a header of a kind stand (RFC 791, RFC 826).
 fn address_places(link: Link, kind: FrameKind) -> Sides
     ensures { result ≡ address_places link kind }
 {
+    let (source, destination) = match kind {
+        FrameKind::Ip => (12, 16),
+        _ => (14, 24),
+    };
     let start = network(link);
     Sides {
         width: Width::Word,
-        source: Place::At(start + source_offset(kind)),
-        destination: Place::At(start + destination_offset(kind)),
+        source: Place::At(start + source),
+        destination: Place::At(start + destination),
     }
 }
 
 /// The hosts of a header of a kind, on the sides that are asked for.
-fn put_host_sides<A: Allocator>(
+fn emit_host_sides<A: Allocator>(
     code: &mut Code<A>,
     context: Context,
     kind: FrameKind,
@@ -74,25 +58,24 @@ fn put_host_sides<A: Allocator>(
     numbers: &[u32],
 ) -> Result<usize, AllocError>
     requires { HasRoom (12 * length numbers.now + 18) code.old }
-    ensures { Emits (12 * length numbers.now + 18) result context
+    ensures { EmitsFormula (12 * length numbers.now + 18) result context
         (hosts_sides context.link kind wanted numbers.now) code.old code.new }
 {
-    let start = network(context.link);
+    let at = address_places(context.link, kind);
     match wanted {
         Hosts::Net(net) => {
-            let source = address_test(net.mask, net.address, start + source_offset(kind));
-            let destination = address_test(net.mask, net.address, start + destination_offset(kind));
-            put_sides(code, context, net.direction, &[source], &[destination])
+            let source = address_test(net.mask, net.address, at.source);
+            let destination = address_test(net.mask, net.address, at.destination);
+            emit_sides(code, context, net.direction, &[source], &[destination])
         }
         Hosts::Several(direction, first) => {
-            let at = address_places(context.link, kind);
-            put_any_sides(code, context, direction, at, first, numbers)
+            emit_any_sides(code, context, direction, at, first, numbers)
         }
     }
 }
 
 /// The same behind that header. A frame of another kind goes on at `other`.
-fn put_hosts_behind<A: Allocator>(
+fn emit_hosts_behind<A: Allocator>(
     code: &mut Code<A>,
     context: Context,
     kind: FrameKind,
@@ -101,29 +84,29 @@ fn put_hosts_behind<A: Allocator>(
     other: usize,
 ) -> Result<usize, AllocError>
     requires { HasRoom (12 * length numbers.now + 24) code.old }
-    ensures { PutsBehind (12 * length numbers.now + 24) result
+    ensures { EmitsBehind (12 * length numbers.now + 24) result
         context (kind_test context.link kind) other
         (hosts_sides context.link kind wanted numbers.now) code.old code.new }
 {
     let is_kind = kind_test(context.link, kind);
-    let yes = put_host_sides(code, context.behind(is_kind), kind, wanted, numbers)?;
-    put_elementary(code, context.going_to(yes, other), is_kind)
+    let yes = emit_host_sides(code, context.behind(is_kind), kind, wanted, numbers)?;
+    emit_elementary(code, context.going_to(yes, other), is_kind)
 }
 
 /// The form of IPv4, or else that of ARP, or else that of RARP.
-fn put_any_hosts<A: Allocator>(
+fn emit_any_hosts<A: Allocator>(
     code: &mut Code<A>,
     context: Context,
     wanted: Hosts,
     numbers: &[u32],
 ) -> Result<usize, AllocError>
     requires { HasRoom (36 * length numbers.now + 72) code.old }
-    ensures { Emits (36 * length numbers.now + 72) result context
+    ensures { EmitsFormula (36 * length numbers.now + 72) result context
         (any_hosts context.link wanted numbers.now) code.old code.new }
 {
     let not_ip = context.elsewhere(kind_test(context.link, FrameKind::Ip));
     let neither = not_ip.elsewhere(kind_test(context.link, FrameKind::Arp));
-    let rarp = put_hosts_behind(
+    let rarp = emit_hosts_behind(
         code,
         neither,
         FrameKind::Rarp,
@@ -131,12 +114,12 @@ fn put_any_hosts<A: Allocator>(
         numbers,
         context.to.no,
     )?;
-    let arp = put_hosts_behind(code, not_ip, FrameKind::Arp, wanted, numbers, rarp)?;
-    put_hosts_behind(code, context, FrameKind::Ip, wanted, numbers, arp)
+    let arp = emit_hosts_behind(code, not_ip, FrameKind::Arp, wanted, numbers, rarp)?;
+    emit_hosts_behind(code, context, FrameKind::Ip, wanted, numbers, arp)
 }
 
 /// Hosts of IPv4, by the forms that their protocol allows.
-pub fn put_hosts<A: Allocator>(
+pub fn emit_hosts<A: Allocator>(
     code: &mut Code<A>,
     context: Context,
     protocol: Option<Protocol>,
@@ -144,7 +127,7 @@ pub fn put_hosts<A: Allocator>(
     numbers: &[u32],
 ) -> Result<usize, AllocError>
     requires { HasRoom (36 * length numbers.now + 72) code.old }
-    ensures { Emits (36 * length numbers.now + 72) result context
+    ensures { EmitsFormula (36 * length numbers.now + 72) result context
         (hosts_formula context.link protocol wanted numbers.now) code.old code.new }
 {
     let kind = match protocol {
@@ -152,24 +135,24 @@ pub fn put_hosts<A: Allocator>(
         Some(Protocol::Arp) => FrameKind::Arp,
         Some(Protocol::Rarp) => FrameKind::Rarp,
         Some(_) => return Ok(context.to.no),
-        None => return put_any_hosts(code, context, wanted, numbers),
+        None => return emit_any_hosts(code, context, wanted, numbers),
     };
-    put_hosts_behind(code, context, kind, wanted, numbers, context.to.no)
+    emit_hosts_behind(code, context, kind, wanted, numbers, context.to.no)
 }
 
 /// `host` and `net` of IPv4.
 #[tactic(auto, using(crate::proofs::Joined::net_is_hosts))]
-pub fn put_net<A: Allocator>(
+pub fn emit_net<A: Allocator>(
     code: &mut Code<A>,
     context: Context,
     protocol: Option<Protocol>,
     net: NetTest,
 ) -> Result<usize, AllocError>
     requires { HasRoom 72 code.old }
-    ensures { Emits 72 result context (net_formula context.link protocol net)
+    ensures { EmitsFormula 72 result context (net_formula context.link protocol net)
         code.old code.new }
 {
-    put_hosts(code, context, protocol, Hosts::Net(net), &[])
+    emit_hosts(code, context, protocol, Hosts::Net(net), &[])
 }
 
 /// A mask of so many bits, of 32.
@@ -190,7 +173,7 @@ fn ip6_test(prefix: Option<u32>, address: u128, at: u32, word: u32) -> Elementar
         Some(bits) => Some(prefix_mask(bits.saturating_sub(32 * word))),
     };
     let part = address / 2u128.pow(96 - 32 * word) % 0x1_0000_0000;
-    address_test(mask, part as u32, at + 4 * word)
+    address_test(mask, part as u32, Place::At(at + 4 * word))
 }
 
 fn ip6_tests(prefix: Option<u32>, address: u128, at: u32) -> [Elementary; 4]
@@ -206,7 +189,7 @@ fn ip6_tests(prefix: Option<u32>, address: u128, at: u32) -> [Elementary; 4]
 }
 
 /// `host` and `net` of IPv6, with the length of the prefix where not the whole address counts.
-pub fn put_ip6<A: Allocator>(
+pub fn emit_ip6<A: Allocator>(
     code: &mut Code<A>,
     context: Context,
     direction: Direction,
@@ -214,13 +197,13 @@ pub fn put_ip6<A: Allocator>(
     address: u128,
 ) -> Result<usize, AllocError>
     requires { HasRoom 54 code.old }
-    ensures { Emits 54 result context (ip6_formula context.link direction prefix address)
+    ensures { EmitsFormula 54 result context (ip6_formula context.link direction prefix address)
         code.old code.new }
 {
     let start = network(context.link);
     let source = ip6_tests(prefix, address, start + 8);
     let destination = ip6_tests(prefix, address, start + 24);
     let kind = kind_test(context.link, FrameKind::Ip6);
-    let yes = put_sides(code, context.behind(kind), direction, &source, &destination)?;
-    put_elementary(code, context.going_to(yes, context.to.no), kind)
+    let yes = emit_sides(code, context.behind(kind), direction, &source, &destination)?;
+    emit_elementary(code, context.going_to(yes, context.to.no), kind)
 }

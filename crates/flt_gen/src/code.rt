@@ -2,10 +2,9 @@
 
 ghost use Rattle.std.specs.Prelude.{◌≡◌, ◌+◌, ◌-◌, ◌^◌, ◌<◌, ◌≤◌, List};
 ghost use Rattle.std.specs.Prelude.{[], ◌∷◌, length, drop, OnOk};
-ghost use Rattle.flt_gen.specs.Follow.{one_on, two_on, four_on, eight_on};
-ghost use Rattle.flt_gen.specs.Follow.{followed, entered_at, target};
-ghost use Rattle.flt_gen.specs.Code.{plain, jump_before, branch_before};
-ghost use Rattle.flt_gen.specs.Puts.{HasRoom};
+ghost use Rattle.flt_gen.specs.Follow.{step_from, follow, followed_place, entry_at, target};
+ghost use Rattle.flt_gen.specs.Code.{plain, emit_jump, reach, emit_branch};
+ghost use Rattle.flt_gen.specs.Emits.{HasRoom};
 
 use crate::elementary::{Elementary, Fact, Place};
 use crate::follow::{Knowledge, onward, past_index};
@@ -16,6 +15,18 @@ use std::marker::Model;
 
 /// The greatest offset of a conditional jump.
 const NEAR: usize = 255;
+
+/// How many steps a jump's target is followed at most.
+const MOST_STEPS: usize = 8;
+
+/// How a test reaches its two targets: a far one by a jump right behind the test.
+#[derive(Clone, Copy)]
+pub enum Reach {
+    Near,
+    YesFar,
+    NoFar,
+    BothFar,
+}
 
 /// The code from some place to the end. A place is named by the number of instructions from there
 /// on.
@@ -85,7 +96,7 @@ impl<A: Allocator> Code<A> {
     }
 
     /// One more instruction in front.
-    pub fn put(&mut self, insn: Insn) -> Result<(), AllocError>
+    pub fn emit(&mut self, insn: Insn) -> Result<(), AllocError>
         ensures { OnOk result (self.new ≡ insn ∷ self.old) }
     {
         self.backwards.push(insn)?;
@@ -93,10 +104,10 @@ impl<A: Allocator> Code<A> {
     }
 
     /// One that isn't a test.
-    pub fn put_plain(&mut self, operation: Operation, k: u32) -> Result<(), AllocError>
+    pub fn emit_plain(&mut self, operation: Operation, k: u32) -> Result<(), AllocError>
         ensures { OnOk result (self.new ≡ plain operation k ∷ self.old) }
     {
-        self.put(Insn {
+        self.emit(Insn {
             code: operation.code(),
             jt: 0,
             jf: 0,
@@ -105,17 +116,34 @@ impl<A: Allocator> Code<A> {
     }
 
     /// A jump to a place.
-    pub fn put_jump(&mut self, to: usize) -> Result<(), AllocError>
+    pub fn emit_jump(&mut self, to: usize) -> Result<(), AllocError>
         requires { length self.old < 2 ^ 32 }
-        ensures { OnOk result (self.new ≡ jump_before to self.old) }
+        ensures { OnOk result (self.new ≡ emit_jump to self.old) }
     {
         let offset = self.distance(to) as u32;
-        self.put_plain(Operation::Jump, offset)
+        self.emit_plain(Operation::Jump, offset)
     }
 
-    /// A test that goes on at one of two places, a far one by a jump right behind it.
-    #[tactic(auto, unfolding(crate::specs::Code::branch_before))]
-    pub fn put_branch(
+    /// Which targets are too far for a test that comes next.
+    fn reach(&self, to: Targets) -> Reach
+        requires { length self.now < 2 ^ 32 }
+        ensures { result ≡ reach to.yes to.no self.now }
+    {
+        let (yes, no) = (self.distance(to.yes), self.distance(to.no));
+        if yes <= NEAR && no <= NEAR {
+            Reach::Near
+        } else if self.distance_past(to.no) <= NEAR {
+            Reach::YesFar
+        } else if self.distance_past(to.yes) <= NEAR {
+            Reach::NoFar
+        } else {
+            Reach::BothFar
+        }
+    }
+
+    /// A test that goes on at one of two places.
+    #[tactic(auto, unfolding(crate::specs::Code::emit_branch))]
+    pub fn emit_branch(
         &mut self,
         test: Test,
         operand: Operand,
@@ -123,80 +151,65 @@ impl<A: Allocator> Code<A> {
         to: Targets,
     ) -> Result<(), AllocError>
         requires { HasRoom 3 self.old }
-        ensures code { OnOk result (self.new ≡ branch_before test operand k to.yes to.no self.old) }
+        ensures code { OnOk result (self.new ≡ emit_branch test operand k to.yes to.no self.old) }
         ensures room { OnOk result (length self.new ≤ length self.old + 3) }
     {
-        let code = Operation::JumpIf(test, operand).code();
-        let (yes, no) = (self.distance(to.yes), self.distance(to.no));
-        let (past_yes, past_no) = (self.distance_past(to.yes), self.distance_past(to.no));
-        if yes <= NEAR && no <= NEAR {
-            let (jt, jf) = (yes as u8, no as u8);
-            self.put(Insn { code, jt, jf, k })
-        } else if past_no <= NEAR {
-            self.put_jump(to.yes)?;
-            let jf = past_no as u8;
-            self.put(Insn { code, jt: 0, jf, k })
-        } else if past_yes <= NEAR {
-            self.put_jump(to.no)?;
-            let jt = past_yes as u8;
-            self.put(Insn { code, jt, jf: 0, k })
-        } else {
-            self.put_jump(to.no)?;
-            self.put_jump(to.yes)?;
-            let (jt, jf) = (0, 1);
-            self.put(Insn { code, jt, jf, k })
-        }
+        let (yes_offset, no_offset) = match self.reach(to) {
+            Reach::Near => (self.distance(to.yes), self.distance(to.no)),
+            Reach::YesFar => {
+                self.emit_jump(to.yes)?;
+                (0, self.distance(to.no))
+            }
+            Reach::NoFar => {
+                self.emit_jump(to.no)?;
+                (self.distance(to.yes), 0)
+            }
+            Reach::BothFar => {
+                self.emit_jump(to.no)?;
+                self.emit_jump(to.yes)?;
+                (0, 1)
+            }
+        };
+        self.emit(Insn {
+            code: Operation::JumpIf(test, operand).code(),
+            jt: yes_offset as u8,
+            jf: no_offset as u8,
+            k,
+        })
     }
 
     /// One step from a place.
-    fn one_on(&self, facts: &[Fact], place: usize) -> usize
-        ensures { result ≡ one_on self.now facts.now place }
+    fn step_from(&self, facts: &[Fact], place: usize) -> usize
+        ensures { result ≡ step_from self.now facts.now place }
     {
         let within = place.min(self.top());
         onward(&self.backwards[..within], facts, place)
     }
 
-    // Most places lead nowhere, and one look shows it.
-    fn two_on(&self, facts: &[Fact], place: usize) -> usize
-        ensures { result ≡ two_on self.now facts.now place }
+    /// Where a jump to a place goes on: as many steps as are allowed, or as lead anywhere.
+    fn follow(&self, facts: &[Fact], mut place: usize) -> usize
+        ensures { result ≡ follow MOST_STEPS self.now facts.now place }
     {
-        let next = self.one_on(facts, place);
-        if next == place {
-            return place;
+        for _ in 0..MOST_STEPS {
+            let next = self.step_from(facts, place);
+            if next == place {
+                return place;
+            }
+            place = next;
         }
-        self.one_on(facts, next)
-    }
-
-    fn four_on(&self, facts: &[Fact], place: usize) -> usize
-        ensures { result ≡ four_on self.now facts.now place }
-    {
-        let next = self.two_on(facts, place);
-        if next == place {
-            return place;
-        }
-        self.two_on(facts, next)
-    }
-
-    fn eight_on(&self, facts: &[Fact], place: usize) -> usize
-        ensures { result ≡ eight_on self.now facts.now place }
-    {
-        let next = self.four_on(facts, place);
-        if next == place {
-            return place;
-        }
-        self.four_on(facts, next)
+        place
     }
 
     /// The target of a jump that is taken where a fact holds, followed as far as what is known
     /// leads.
-    #[tactic(auto, unfolding(crate::specs::Follow::followed))]
-    fn followed(&self, known: Knowledge, own: Fact, place: usize) -> usize
-        ensures { result ≡ followed self.now known own place }
+    #[tactic(auto, unfolding(crate::specs::Follow::followed_place))]
+    fn followed_place(&self, known: Knowledge, own: Fact, place: usize) -> usize
+        ensures { result ≡ followed_place self.now known own place }
     {
         let (latest, earlier, earliest) = (known.latest, known.earlier, known.earliest);
         // Of two tests of which the link decides one nothing is known.
         if let Elementary::Known(_) = known.either.first {
-            return self.eight_on(&[own, latest, earlier, earliest], place);
+            return self.follow(&[own, latest, earlier, earliest], place);
         }
         let first = Fact {
             test: known.either.first,
@@ -206,18 +219,18 @@ impl<A: Allocator> Code<A> {
             test: known.either.second,
             truth: true,
         };
-        let one = self.eight_on(&[own, first, latest, earlier, earliest], place);
-        let other = self.eight_on(&[own, second, latest, earlier, earliest], place);
+        let one = self.follow(&[own, first, latest, earlier, earliest], place);
+        let other = self.follow(&[own, second, latest, earlier, earliest], place);
         if one == other {
             one
         } else {
-            self.eight_on(&[own, latest, earlier, earliest], place)
+            self.follow(&[own, latest, earlier, earliest], place)
         }
     }
 
     /// Where code is entered behind a test at a place.
-    fn entered_at(&self, tested: Place, place: usize) -> usize
-        ensures { result ≡ entered_at tested self.now place }
+    fn entry_at(&self, tested: Place, place: usize) -> usize
+        ensures { result ≡ entry_at tested self.now place }
     {
         let within = place.min(self.top());
         past_index(&self.backwards[..within], tested, place)
@@ -229,7 +242,7 @@ impl<A: Allocator> Code<A> {
     pub fn target(&self, known: Knowledge, tested: Place, own: Fact, place: usize) -> usize
         ensures { result ≡ target self.now known tested own place }
     {
-        self.entered_at(tested, self.followed(known, own, place))
+        self.entry_at(tested, self.followed_place(known, own, place))
     }
 
     /// The instructions from a place on, in their order.

@@ -1,4 +1,4 @@
-//! What code is put for.
+//! What code is emitted for.
 
 ghost use Rattle.std.specs.Prelude.{◌≡◌, true, false};
 ghost use Rattle.flt_gen.specs.Follow.{nothing, fact, and_fact, and_fork};
@@ -8,8 +8,8 @@ use crate::elementary::Elementary;
 use crate::follow::Knowledge;
 use crate::link::Link;
 
-/// What code is put for: the link, what is known of a packet that comes to the code, and where the
-/// packet goes on.
+/// What code is emitted for: the link, what is known of a packet that comes to the code, and where
+/// the packet goes on.
 #[derive(Clone, Copy)]
 pub struct Context {
     pub link: Link,

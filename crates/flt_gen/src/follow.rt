@@ -1,7 +1,8 @@
 //! Where a jump goes on at once, since what is known of the packet decides the test at its target.
 
-ghost use Rattle.std.specs.Prelude.{◌≡◌, ◌∷◌, [], length, reverse, MatchOption, true, false};
-ghost use Rattle.flt_gen.specs.Follow.{same_mask, looks_at, test_says, decided, past_mask};
+ghost use Rattle.std.specs.Prelude.{◌≡◌, ◌-◌, ◌∷◌, [], length, max, reverse, MatchOption};
+ghost use Rattle.std.specs.Prelude.{true, false};
+ghost use Rattle.flt_gen.specs.Follow.{same_mask, looks_at, test_says, known_outcome, past_mask};
 ghost use Rattle.flt_gen.specs.Follow.{past_load, onward, past_index, nothing, fact, and_fact};
 ghost use Rattle.flt_gen.specs.Follow.{and_fork};
 
@@ -62,14 +63,14 @@ fn says(fact: Fact, look: Look, value: u32) -> Option<bool>
     }
 }
 
-fn decided(facts: &[Fact], look: Look, value: u32) -> Option<bool>
-    ensures { result ≡ decided facts.now look.load look.at look.mask value }
+fn known_outcome(facts: &[Fact], look: Look, value: u32) -> Option<bool>
+    ensures { result ≡ known_outcome facts.now look.load look.at look.mask value }
 {
     match facts {
         [] => None,
         [first, others @ ..] => match says(*first, look, value) {
             Some(truth) => Some(truth),
-            None => decided(others, look, value),
+            None => known_outcome(others, look, value),
         },
     }
 }
@@ -153,6 +154,13 @@ fn first_insn(behind: &[Insn]) -> Option<(Insn, &[Insn])>
     }
 }
 
+/// The place of the instruction behind so many skipped ones, or the last place.
+fn place_behind(insns: &[Insn], skipped: usize) -> usize
+    ensures { result ≡ max 1 (length insns.now - skipped) }
+{
+    insns.len().saturating_sub(skipped).max(1)
+}
+
 fn past_mask(behind: &[Insn], facts: &[Fact], look: Look, place: usize) -> usize
     ensures { result ≡ past_mask facts.now place look.load look.at look.mask (reverse behind.now) }
 {
@@ -160,10 +168,10 @@ fn past_mask(behind: &[Insn], facts: &[Fact], look: Look, place: usize) -> usize
         None => place,
         Some((insn, others)) => {
             if insn.code == Operation::JumpIf(Test::Equal, Operand::Constant).code() {
-                match decided(facts, look, insn.k) {
+                match known_outcome(facts, look, insn.k) {
                     None => place,
-                    Some(true) => others.len().saturating_sub(insn.jt as usize).max(1),
-                    Some(false) => others.len().saturating_sub(insn.jf as usize).max(1),
+                    Some(true) => place_behind(others, usize::from(insn.jt)),
+                    Some(false) => place_behind(others, usize::from(insn.jf)),
                 }
             } else {
                 place
@@ -198,7 +206,7 @@ pub fn onward(behind: &[Insn], facts: &[Fact], place: usize) -> usize
         None => place,
         Some((insn, others)) => {
             if insn.code == Operation::Jump.code() {
-                others.len().saturating_sub(insn.k as usize).max(1)
+                place_behind(others, insn.k as usize)
             } else {
                 past_load(others, facts, insn.code, insn.k, place)
             }
@@ -217,7 +225,7 @@ pub fn past_index(behind: &[Insn], tested: Place, place: usize) -> usize
             None => place,
             Some((insn, others)) => {
                 if insn.code == Operation::LoadHeaderLength.code() && insn.k == header {
-                    others.len().max(1)
+                    place_behind(others, 0)
                 } else {
                     place
                 }

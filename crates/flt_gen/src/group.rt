@@ -2,8 +2,8 @@
 
 ghost use Rattle.std.specs.Prelude.{◌≡◌, ◌≤◌, if◌then◌else◌, Some, None, length, IfOk};
 ghost use Rattle.std.specs.List.{insert};
-ghost use Rattle.flt_gen.specs.Group.{no_group, inserted, same_type, same_protocol, same_direction};
-ghost use Rattle.flt_gen.specs.Group.{goes_with, member_number, larger_group};
+ghost use Rattle.flt_gen.specs.Group.{no_group, insert_ascending, same_type, same_protocol};
+ghost use Rattle.flt_gen.specs.Group.{same_direction, goes_with, member_number, larger_group};
 
 use flt_lang::{Direction, FullQuals, Value};
 use flt_words::{Join, Protocol, Side, ValueType};
@@ -85,7 +85,7 @@ fn member_number(value_type: ValueType, value: Value) -> Option<u32>
 /// Where a number comes among others that ascend.
 fn place_among(numbers: &[u32], number: u32) -> usize
     ensures inside { result ≤ length numbers.now }
-    ensures place { insert numbers.now result number ≡ inserted number numbers.now }
+    ensures place { insert numbers.now result number ≡ insert_ascending number numbers.now }
 {
     let mut at = 0;
     // The label names the loop in its proof.
@@ -161,7 +161,7 @@ impl<A: Allocator> Group<A> {
     }
 
     /// A member in front of the others, if it goes with them. The result is whether it does.
-    pub fn put(&mut self, quals: FullQuals, value: Value) -> Result<bool, AllocError>
+    pub fn add(&mut self, quals: FullQuals, value: Value) -> Result<bool, AllocError>
         ensures taken { IfOk result (λ taken. larger_group quals value self.old
             ≡ (if taken then Some self.new else None)) }
         ensures same { IfOk result (λ taken. self.new ≡ (if taken then self.new else self.old)) }

@@ -1,18 +1,18 @@
 //! The code of arithmetic and of the tests that accessors ask for.
 
 ghost use Rattle.std.specs.Prelude.{◌≡◌, ◌^◌, ◌<◌, length, OnOk, IfOk, reverse};
-ghost use Rattle.flt_gen.specs.Code.{entered, base_before, transport_before, accessor_before};
-ghost use Rattle.flt_gen.specs.Code.{alu_operation, computation, takes, operands_before};
-ghost use Rattle.flt_gen.specs.Code.{all_before, accessors_before};
+ghost use Rattle.flt_gen.specs.Code.{block, emit_base, emit_transport, emit_accessor};
+ghost use Rattle.flt_gen.specs.Code.{alu_operation, computation, takes, emit_operands};
+ghost use Rattle.flt_gen.specs.Code.{emit_all, emit_accessors};
 ghost use Rattle.flt_gen.specs.Follow.{nothing};
 ghost use Rattle.flt_gen.specs.Numbers.{accessor_tests, width_of};
-ghost use Rattle.flt_gen.specs.Puts.{HasRoom, Puts};
+ghost use Rattle.flt_gen.specs.Emits.{HasRoom, Emits};
 
 use crate::code::{Code, Targets};
 use crate::context::Context;
 use crate::elementary::FrameKind;
+use crate::emit::emit_all;
 use crate::link::Link;
-use crate::put::put_all;
 use crate::table::{first_fragment, has_ip_proto, kind_test, network};
 use cap_octet::assigned::{IPPROTO_ICMP, IPPROTO_TCP, IPPROTO_UDP};
 use flt_bpf::operation::{AluOperation, Operand, Operation, Register, Source, Width};
@@ -67,87 +67,87 @@ pub fn width_of(size: u32) -> Width
 }
 
 /// The left operand comes back from its word into A, and the right one goes into X.
-pub fn put_operands<A: Allocator>(code: &mut Code<A>, slot: u32) -> Result<(), AllocError>
-    ensures { OnOk result (code.new ≡ operands_before slot code.old) }
+pub fn emit_operands<A: Allocator>(code: &mut Code<A>, slot: u32) -> Result<(), AllocError>
+    ensures { OnOk result (code.new ≡ emit_operands slot code.old) }
 {
-    code.put_plain(Operation::Load(Register::Accumulator, Source::Memory), slot)?;
-    code.put_plain(Operation::CopyToIndex, 0)
+    code.emit_plain(Operation::Load(Register::Accumulator, Source::Memory), slot)?;
+    code.emit_plain(Operation::CopyToIndex, 0)
 }
 
 /// A field goes into A that stands as far behind a place as A says.
-fn put_base<A: Allocator>(code: &mut Code<A>, at: u32, width: Width) -> Result<(), AllocError>
-    ensures { OnOk result (code.new ≡ base_before at width code.old) }
+fn emit_base<A: Allocator>(code: &mut Code<A>, at: u32, width: Width) -> Result<(), AllocError>
+    ensures { OnOk result (code.new ≡ emit_base at width code.old) }
 {
-    code.put_plain(Operation::LoadIndirect(width), at)?;
-    code.put_plain(Operation::CopyToIndex, 0)
+    code.emit_plain(Operation::LoadIndirect(width), at)?;
+    code.emit_plain(Operation::CopyToIndex, 0)
 }
 
 /// The same behind an IPv4 header.
-fn put_transport<A: Allocator>(
+fn emit_transport<A: Allocator>(
     code: &mut Code<A>,
     link: Link,
     width: Width,
 ) -> Result<(), AllocError>
-    ensures { OnOk result (code.new ≡ transport_before link width code.old) }
+    ensures { OnOk result (code.new ≡ emit_transport link width code.old) }
 {
     let start = network(link);
-    code.put_plain(Operation::LoadIndirect(width), start)?;
-    code.put_plain(Operation::CopyToIndex, 0)?;
-    code.put_plain(computation(Operator::Add, Operand::IndexRegister), 0)?;
-    code.put_plain(Operation::LoadHeaderLength, start)
+    code.emit_plain(Operation::LoadIndirect(width), start)?;
+    code.emit_plain(Operation::CopyToIndex, 0)?;
+    code.emit_plain(computation(Operator::Add, Operand::IndexRegister), 0)?;
+    code.emit_plain(Operation::LoadHeaderLength, start)
 }
 
 /// An accessor's field goes into A, where its index is.
-pub fn put_accessor<A: Allocator>(
+pub fn emit_accessor<A: Allocator>(
     code: &mut Code<A>,
     link: Link,
     protocol: Protocol,
     width: Width,
 ) -> Result<(), AllocError>
-    ensures { OnOk result (code.new ≡ accessor_before link protocol width code.old) }
+    ensures { OnOk result (code.new ≡ emit_accessor link protocol width code.old) }
 {
     match protocol {
-        Protocol::Ether => put_base(code, 0, width),
-        Protocol::Tcp | Protocol::Udp | Protocol::Icmp => put_transport(code, link, width),
-        _ => put_base(code, network(link), width),
+        Protocol::Ether => emit_base(code, 0, width),
+        Protocol::Tcp | Protocol::Udp | Protocol::Icmp => emit_transport(code, link, width),
+        _ => emit_base(code, network(link), width),
     }
 }
 
 /// What must hold of a packet before a protocol's bytes are read.
-fn put_accessor_tests<A: Allocator>(
+fn emit_accessor_tests<A: Allocator>(
     code: &mut Code<A>,
     link: Link,
     protocol: Protocol,
     to: Targets,
 ) -> Result<usize, AllocError>
     requires { HasRoom 18 code.old }
-    ensures { Puts 18 result
-        (all_before nothing (accessor_tests link protocol) to.yes to.no code.old)
+    ensures { Emits 18 result
+        (emit_all nothing (accessor_tests link protocol) to.yes to.no code.old)
         code.old code.new }
 {
     let context = Context::new(link, to);
     let (ip, first) = (kind_test(link, FrameKind::Ip), first_fragment(link));
     match protocol {
-        Protocol::Ether => put_all(code, context, &[kind_test(link, FrameKind::Ethernet)]),
-        Protocol::Ip => put_all(code, context, &[ip]),
-        Protocol::Ip6 | Protocol::Icmp6 => put_all(
+        Protocol::Ether => emit_all(code, context, &[kind_test(link, FrameKind::Ethernet)]),
+        Protocol::Ip => emit_all(code, context, &[ip]),
+        Protocol::Ip6 | Protocol::Icmp6 => emit_all(
             code,
             context,
             &[kind_test(link, FrameKind::Ip6)],
         ),
-        Protocol::Arp => put_all(code, context, &[kind_test(link, FrameKind::Arp)]),
-        Protocol::Rarp => put_all(code, context, &[kind_test(link, FrameKind::Rarp)]),
-        Protocol::Tcp => put_all(
+        Protocol::Arp => emit_all(code, context, &[kind_test(link, FrameKind::Arp)]),
+        Protocol::Rarp => emit_all(code, context, &[kind_test(link, FrameKind::Rarp)]),
+        Protocol::Tcp => emit_all(
             code,
             context,
             &[ip, has_ip_proto(link, IPPROTO_TCP.into()), first],
         ),
-        Protocol::Udp => put_all(
+        Protocol::Udp => emit_all(
             code,
             context,
             &[ip, has_ip_proto(link, IPPROTO_UDP.into()), first],
         ),
-        Protocol::Icmp => put_all(
+        Protocol::Icmp => emit_all(
             code,
             context,
             &[ip, has_ip_proto(link, IPPROTO_ICMP.into()), first],
@@ -156,21 +156,21 @@ fn put_accessor_tests<A: Allocator>(
 }
 
 /// The tests of accessors, of which the one whose word stands last comes first here.
-pub fn put_accessors<A: Allocator>(
+pub fn emit_accessors<A: Allocator>(
     code: &mut Code<A>,
     link: Link,
     protocols: &[Protocol],
     to: Targets,
 ) -> Result<usize, AllocError>
-    requires { length (accessors_before link (reverse protocols.now)
+    requires { length (emit_accessors link (reverse protocols.now)
         to.yes to.no code.old).code < 2 ^ 30 }
     ensures { IfOk result
-        (λ entry. accessors_before link (reverse protocols.now) to.yes to.no code.old
-        ≡ entered code.new entry) }
+        (λ entry. emit_accessors link (reverse protocols.now) to.yes to.no code.old
+        ≡ block code.new entry) }
 {
     let mut yes = to.yes;
     for protocol in protocols {
-        yes = put_accessor_tests(code, link, *protocol, Targets { yes, no: to.no })?;
+        yes = emit_accessor_tests(code, link, *protocol, Targets { yes, no: to.no })?;
     }
     Ok(yes)
 }

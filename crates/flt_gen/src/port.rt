@@ -1,18 +1,17 @@
 //! The code of ports.
 
 ghost use Rattle.std.specs.Prelude.{◌≡◌, ◌+◌, ◌*◌, length};
-ghost use Rattle.flt_gen.specs.Formula.{Guard};
-ghost use Rattle.flt_gen.specs.Puts.{HasRoom, Emits, PutsBehind};
+ghost use Rattle.flt_gen.specs.Emits.{HasRoom, EmitsFormula, EmitsBehind};
 ghost use Rattle.flt_gen.specs.Primitives.{port_is, port_between, port_places, port_sides};
 ghost use Rattle.flt_gen.specs.Primitives.{ports_behind, transport_ports, ip_transport};
 ghost use Rattle.flt_gen.specs.Primitives.{ip6_transport, port_formula};
 
-use crate::among::put_any_sides;
+use crate::among::emit_any_sides;
 use crate::code::Code;
 use crate::context::Context;
 use crate::elementary::{Elementary, FrameKind, Place, PortTest, Ports, Sides, Transport};
+use crate::emit::{emit_elementary, emit_fork, emit_sides};
 use crate::link::Link;
-use crate::put::{put_elementary, put_fork, put_sides};
 use crate::table::{compares_at, first_fragment, has_ip_proto, has_ip6_proto, kind_test, network};
 use cap_octet::assigned::{IPPROTO_TCP, IPPROTO_UDP};
 use flt_bpf::operation::Width;
@@ -48,7 +47,7 @@ fn port_between(first: u32, last: u32, place: Place) -> [Elementary; 2]
 }
 
 /// The source port at one place, the destination port at another.
-fn put_port_sides<A: Allocator>(
+fn emit_port_sides<A: Allocator>(
     code: &mut Code<A>,
     context: Context,
     header: Transport,
@@ -56,29 +55,29 @@ fn put_port_sides<A: Allocator>(
     numbers: &[u32],
 ) -> Result<usize, AllocError>
     requires { HasRoom (12 * length numbers.now + 24) code.old }
-    ensures { Emits (12 * length numbers.now + 24) result context
+    ensures { EmitsFormula (12 * length numbers.now + 24) result context
         (port_sides wanted.ports wanted.direction header numbers.now) code.old code.new }
 {
     let (direction, source, destination) = (wanted.direction, header.source, header.destination);
     match wanted.ports {
         Ports::One(port) => {
             let (source, destination) = (port_is(port, source), port_is(port, destination));
-            put_sides(code, context, direction, &source, &destination)
+            emit_sides(code, context, direction, &source, &destination)
         }
         Ports::Between(first, last) => {
             let source = port_between(first, last, source);
             let destination = port_between(first, last, destination);
-            put_sides(code, context, direction, &source, &destination)
+            emit_sides(code, context, direction, &source, &destination)
         }
         Ports::Several(first) => {
             let at = port_places(header);
-            put_any_sides(code, context, direction, at, first, numbers)
+            emit_any_sides(code, context, direction, at, first, numbers)
         }
     }
 }
 
 /// The ports of a header that isn't a later fragment's.
-fn put_ports_behind<A: Allocator>(
+fn emit_ports_behind<A: Allocator>(
     code: &mut Code<A>,
     context: Context,
     header: Transport,
@@ -86,37 +85,20 @@ fn put_ports_behind<A: Allocator>(
     numbers: &[u32],
 ) -> Result<usize, AllocError>
     requires { HasRoom (12 * length numbers.now + 30) code.old }
-    ensures { Emits (12 * length numbers.now + 30) result context
+    ensures { EmitsFormula (12 * length numbers.now + 30) result context
         (ports_behind header wanted numbers.now) code.old code.new }
 {
     match header.whole {
-        None => put_port_sides(code, context, header, wanted, numbers),
+        None => emit_port_sides(code, context, header, wanted, numbers),
         Some(whole) => {
-            let yes = put_port_sides(code, context.behind(whole), header, wanted, numbers)?;
-            put_elementary(code, context.going_to(yes, context.to.no), whole)
+            let yes = emit_port_sides(code, context.behind(whole), header, wanted, numbers)?;
+            emit_elementary(code, context.going_to(yes, context.to.no), whole)
         }
     }
 }
 
-/// The same behind one protocol.
-fn put_ports_of_protocol<A: Allocator>(
-    code: &mut Code<A>,
-    context: Context,
-    protocol: Elementary,
-    header: Transport,
-    wanted: PortTest,
-    numbers: &[u32],
-) -> Result<usize, AllocError>
-    requires { HasRoom (12 * length numbers.now + 36) code.old }
-    ensures { Emits (12 * length numbers.now + 36) result context
-        (Guard protocol (ports_behind header wanted numbers.now)) code.old code.new }
-{
-    let yes = put_ports_behind(code, context.behind(protocol), header, wanted, numbers)?;
-    put_elementary(code, context.going_to(yes, context.to.no), protocol)
-}
-
 /// The same behind the protocol that is asked for, or else TCP or UDP.
-fn put_transport_ports<A: Allocator>(
+fn emit_transport_ports<A: Allocator>(
     code: &mut Code<A>,
     context: Context,
     header: Transport,
@@ -124,24 +106,26 @@ fn put_transport_ports<A: Allocator>(
     numbers: &[u32],
 ) -> Result<usize, AllocError>
     requires { HasRoom (12 * length numbers.now + 42) code.old }
-    ensures { Emits (12 * length numbers.now + 42) result context
+    ensures { EmitsFormula (12 * length numbers.now + 42) result context
         (transport_ports header wanted numbers.now) code.old code.new }
 {
-    let (tcp, udp) = (header.tcp, header.udp);
-    match wanted.protocol {
-        Some(Protocol::Tcp) => put_ports_of_protocol(code, context, tcp, header, wanted, numbers),
-        Some(Protocol::Udp) => put_ports_of_protocol(code, context, udp, header, wanted, numbers),
-        Some(_) => Ok(context.to.no),
+    let (tcp, udp, no) = (header.tcp, header.udp, context.to.no);
+    let protocol = match wanted.protocol {
+        Some(Protocol::Tcp) => tcp,
+        Some(Protocol::Udp) => udp,
+        Some(_) => return Ok(no),
         None => {
             let behind = context.behind_one_of(tcp, udp);
-            let yes = put_ports_behind(code, behind, header, wanted, numbers)?;
-            put_fork(code, context.going_to(yes, context.to.no), tcp, udp)
+            let yes = emit_ports_behind(code, behind, header, wanted, numbers)?;
+            return emit_fork(code, context.going_to(yes, no), tcp, udp);
         }
-    }
+    };
+    let yes = emit_ports_behind(code, context.behind(protocol), header, wanted, numbers)?;
+    emit_elementary(code, context.going_to(yes, no), protocol)
 }
 
 /// The same behind a header of a kind. A frame of another kind goes on at `other`.
-fn put_ports_of_kind<A: Allocator>(
+fn emit_ports_of_kind<A: Allocator>(
     code: &mut Code<A>,
     context: Context,
     kind: Elementary,
@@ -151,11 +135,11 @@ fn put_ports_of_kind<A: Allocator>(
     other: usize,
 ) -> Result<usize, AllocError>
     requires { HasRoom (12 * length numbers.now + 48) code.old }
-    ensures { PutsBehind (12 * length numbers.now + 48) result context kind other
+    ensures { EmitsBehind (12 * length numbers.now + 48) result context kind other
         (transport_ports header wanted numbers.now) code.old code.new }
 {
-    let yes = put_transport_ports(code, context.behind(kind), header, wanted, numbers)?;
-    put_elementary(code, context.going_to(yes, other), kind)
+    let yes = emit_transport_ports(code, context.behind(kind), header, wanted, numbers)?;
+    emit_elementary(code, context.going_to(yes, other), kind)
 }
 
 /// An IPv4 header has no fixed length: the ports stand behind the place that it leads to.
@@ -186,14 +170,14 @@ fn ip6_transport(link: Link) -> Transport
 }
 
 /// `port` and `portrange`, or several ports, whose numbers are passed beside.
-pub fn put_ports<A: Allocator>(
+pub fn emit_ports<A: Allocator>(
     code: &mut Code<A>,
     context: Context,
     wanted: PortTest,
     numbers: &[u32],
 ) -> Result<usize, AllocError>
     requires { HasRoom (24 * length numbers.now + 96) code.old }
-    ensures { Emits (24 * length numbers.now + 96) result context
+    ensures { EmitsFormula (24 * length numbers.now + 96) result context
         (port_formula context.link wanted numbers.now) code.old code.new }
 {
     let (link, no) = (context.link, context.to.no);
@@ -202,8 +186,8 @@ pub fn put_ports<A: Allocator>(
         kind_test(link, FrameKind::Ip6),
     );
     let (header, not_ip) = (ip6_transport(link), context.elsewhere(ip));
-    let other = put_ports_of_kind(code, not_ip, ip6, header, wanted, numbers, no)?;
-    put_ports_of_kind(
+    let other = emit_ports_of_kind(code, not_ip, ip6, header, wanted, numbers, no)?;
+    emit_ports_of_kind(
         code,
         context,
         ip,

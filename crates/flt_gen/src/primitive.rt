@@ -3,16 +3,15 @@
 ghost use Rattle.std.specs.Prelude.{◌≡◌, ◌≤◌};
 ghost use Rattle.flt_gen.specs.Elementary.{kind_test};
 ghost use Rattle.flt_gen.specs.Formula.{Single};
-ghost use Rattle.flt_gen.specs.Puts.{HasRoom, Emits, PutsBehind};
-ghost use Rattle.flt_gen.specs.Primitives.{ip_proto, ip6_proto, any_proto, ether_proto};
-ghost use Rattle.flt_gen.specs.Primitives.{check_formula, proto_formula, ether_host, mac_tests};
-ghost use Rattle.flt_gen.specs.Primitives.{is_group_address, cast_formula};
+ghost use Rattle.flt_gen.specs.Emits.{HasRoom, EmitsFormula, EmitsBehind};
+ghost use Rattle.flt_gen.specs.Primitives.{ether_proto, check_formula, proto_formula};
+ghost use Rattle.flt_gen.specs.Primitives.{ether_host, mac_tests, is_group_address, cast_formula};
 
 use crate::code::Code;
 use crate::context::Context;
 use crate::elementary::{Elementary, FieldTest, FrameKind, Place};
+use crate::emit::{emit_all, emit_elementary, emit_sides};
 use crate::link::Link;
-use crate::put::{put_all, put_elementary, put_sides};
 use crate::table::{compares_at, has_ip_proto, has_ip6_proto, is_at, kind_test, network};
 use cap_octet::assigned::{
     ETHERNET_TYPE_OFFSET, IPPROTO_ICMP, IPPROTO_ICMPV6, IPPROTO_TCP, IPPROTO_UDP,
@@ -24,7 +23,7 @@ use flt_words::{Cast, Comparison, Protocol, Side};
 use std::alloc::{AllocError, Allocator};
 
 /// The protocol behind a header of a kind. A frame of another kind goes on at `other`.
-fn put_proto_behind<A: Allocator>(
+fn emit_proto_behind<A: Allocator>(
     code: &mut Code<A>,
     context: Context,
     kind: Elementary,
@@ -32,68 +31,28 @@ fn put_proto_behind<A: Allocator>(
     other: usize,
 ) -> Result<usize, AllocError>
     requires { HasRoom 12 code.old }
-    ensures { PutsBehind 12 result context kind other (Single has_proto) code.old code.new }
+    ensures { EmitsBehind 12 result context kind other (Single has_proto) code.old code.new }
 {
-    let yes = put_elementary(code, context.behind(kind), has_proto)?;
-    put_elementary(code, context.going_to(yes, other), kind)
+    let yes = emit_elementary(code, context.behind(kind), has_proto)?;
+    emit_elementary(code, context.going_to(yes, other), kind)
 }
 
-fn put_ip_proto<A: Allocator>(
+fn emit_ether_proto<A: Allocator>(
     code: &mut Code<A>,
     context: Context,
     protocol: u32,
 ) -> Result<usize, AllocError>
     requires { HasRoom 12 code.old }
-    ensures { Emits 12 result context (ip_proto context.link protocol) code.old code.new }
-{
-    let kind = kind_test(context.link, FrameKind::Ip);
-    let has_proto = has_ip_proto(context.link, protocol);
-    put_proto_behind(code, context, kind, has_proto, context.to.no)
-}
-
-fn put_ip6_proto<A: Allocator>(
-    code: &mut Code<A>,
-    context: Context,
-    protocol: u32,
-) -> Result<usize, AllocError>
-    requires { HasRoom 12 code.old }
-    ensures { Emits 12 result context (ip6_proto context.link protocol) code.old code.new }
-{
-    let kind = kind_test(context.link, FrameKind::Ip6);
-    let has_proto = has_ip6_proto(context.link, protocol);
-    put_proto_behind(code, context, kind, has_proto, context.to.no)
-}
-
-fn put_any_proto<A: Allocator>(
-    code: &mut Code<A>,
-    context: Context,
-    protocol: u32,
-) -> Result<usize, AllocError>
-    requires { HasRoom 24 code.old }
-    ensures { Emits 24 result context (any_proto context.link protocol) code.old code.new }
-{
-    let kind = kind_test(context.link, FrameKind::Ip);
-    let other = put_ip6_proto(code, context.elsewhere(kind), protocol)?;
-    let has_proto = has_ip_proto(context.link, protocol);
-    put_proto_behind(code, context, kind, has_proto, other)
-}
-
-fn put_ether_proto<A: Allocator>(
-    code: &mut Code<A>,
-    context: Context,
-    protocol: u32,
-) -> Result<usize, AllocError>
-    requires { HasRoom 12 code.old }
-    ensures { Emits 12 result context (ether_proto context.link protocol) code.old code.new }
+    ensures { EmitsFormula 12 result context (ether_proto context.link protocol) code.old code.new }
 {
     match context.link {
         Link::Cooked => {
             let has_type = is_at(LINUX_SLL_TYPE_OFFSET as u32, Width::HalfWord, protocol);
-            put_elementary(code, context, has_type)
+            emit_elementary(code, context, has_type)
         }
         link => {
             let has_type = is_at(ETHERNET_TYPE_OFFSET as u32, Width::HalfWord, protocol);
-            put_all(
+            emit_all(
                 code,
                 context,
                 &[kind_test(link, FrameKind::Ethernet), has_type],
@@ -102,56 +61,67 @@ fn put_ether_proto<A: Allocator>(
     }
 }
 
-fn put_kind<A: Allocator>(
+fn emit_kind<A: Allocator>(
     code: &mut Code<A>,
     context: Context,
     kind: FrameKind,
 ) -> Result<usize, AllocError>
     requires { HasRoom 6 code.old }
-    ensures { Emits 6 result context (Single (kind_test context.link kind)) code.old code.new }
+    ensures { EmitsFormula 6 result context (Single (kind_test context.link kind))
+        code.old code.new }
 {
-    put_elementary(code, context, kind_test(context.link, kind))
+    emit_elementary(code, context, kind_test(context.link, kind))
 }
 
 /// A protocol alone.
-pub fn put_check<A: Allocator>(
+pub fn emit_check<A: Allocator>(
     code: &mut Code<A>,
     context: Context,
     protocol: Protocol,
 ) -> Result<usize, AllocError>
     requires { HasRoom 24 code.old }
-    ensures { Emits 24 result context (check_formula context.link protocol) code.old code.new }
+    ensures { EmitsFormula 24 result context (check_formula context.link protocol)
+        code.old code.new }
 {
     match protocol {
-        Protocol::Ether => put_kind(code, context, FrameKind::Ethernet),
-        Protocol::Ip => put_kind(code, context, FrameKind::Ip),
-        Protocol::Ip6 => put_kind(code, context, FrameKind::Ip6),
-        Protocol::Arp => put_kind(code, context, FrameKind::Arp),
-        Protocol::Rarp => put_kind(code, context, FrameKind::Rarp),
-        Protocol::Tcp => put_any_proto(code, context, IPPROTO_TCP.into()),
-        Protocol::Udp => put_any_proto(code, context, IPPROTO_UDP.into()),
-        Protocol::Icmp => put_ip_proto(code, context, IPPROTO_ICMP.into()),
-        Protocol::Icmp6 => put_ip6_proto(code, context, IPPROTO_ICMPV6.into()),
+        Protocol::Ether => emit_kind(code, context, FrameKind::Ethernet),
+        Protocol::Ip => emit_kind(code, context, FrameKind::Ip),
+        Protocol::Ip6 => emit_kind(code, context, FrameKind::Ip6),
+        Protocol::Arp => emit_kind(code, context, FrameKind::Arp),
+        Protocol::Rarp => emit_kind(code, context, FrameKind::Rarp),
+        Protocol::Tcp => emit_proto(code, context, None, IPPROTO_TCP.into()),
+        Protocol::Udp => emit_proto(code, context, None, IPPROTO_UDP.into()),
+        Protocol::Icmp => emit_proto(code, context, Some(Protocol::Ip), IPPROTO_ICMP.into()),
+        Protocol::Icmp6 => emit_proto(code, context, Some(Protocol::Ip6), IPPROTO_ICMPV6.into()),
     }
 }
 
 /// `proto N`.
-pub fn put_proto<A: Allocator>(
+pub fn emit_proto<A: Allocator>(
     code: &mut Code<A>,
     context: Context,
     below: Option<Protocol>,
     protocol: u32,
 ) -> Result<usize, AllocError>
     requires { HasRoom 24 code.old }
-    ensures { Emits 24 result context (proto_formula context.link below protocol)
+    ensures { EmitsFormula 24 result context (proto_formula context.link below protocol)
         code.old code.new }
 {
+    let (link, no) = (context.link, context.to.no);
+    let (ip, has_ip) = (kind_test(link, FrameKind::Ip), has_ip_proto(link, protocol));
+    let (ip6, has_ip6) = (
+        kind_test(link, FrameKind::Ip6),
+        has_ip6_proto(link, protocol),
+    );
     match below {
-        Some(Protocol::Ip) => put_ip_proto(code, context, protocol),
-        Some(Protocol::Ip6) => put_ip6_proto(code, context, protocol),
-        Some(Protocol::Ether) => put_ether_proto(code, context, protocol),
-        None => put_any_proto(code, context, protocol),
-        Some(_) => Ok(context.to.no),
+        Some(Protocol::Ip) => emit_proto_behind(code, context, ip, has_ip, no),
+        Some(Protocol::Ip6) => emit_proto_behind(code, context, ip6, has_ip6, no),
+        Some(Protocol::Ether) => emit_ether_proto(code, context, protocol),
+        None => {
+            let other = emit_proto_behind(code, context.elsewhere(ip), ip6, has_ip6, no)?;
+            emit_proto_behind(code, context, ip, has_ip, other)
+        }
+        Some(_) => Ok(no),
     }
 }
 
@@ -169,19 +139,19 @@ fn mac_tests(at: u32, address: u64) -> [Elementary; 2]
 }
 
 /// `ether host M`.
-pub fn put_ether_host<A: Allocator>(
+pub fn emit_ether_host<A: Allocator>(
     code: &mut Code<A>,
     context: Context,
     direction: Direction,
     address: u64,
 ) -> Result<usize, AllocError>
     requires { HasRoom 30 code.old }
-    ensures { Emits 30 result context (ether_host context.link direction address)
+    ensures { EmitsFormula 30 result context (ether_host context.link direction address)
         code.old code.new }
 {
     let (source, destination) = (mac_tests(6, address), mac_tests(0, address));
-    let yes = put_sides(code, context, direction, &source, &destination)?;
-    put_kind(
+    let yes = emit_sides(code, context, direction, &source, &destination)?;
+    emit_kind(
         code,
         context.going_to(yes, context.to.no),
         FrameKind::Ethernet,
@@ -202,34 +172,34 @@ fn is_group_address() -> Elementary
 }
 
 /// `broadcast` and `multicast`, with the protocol before it.
-pub fn put_cast<A: Allocator>(
+pub fn emit_cast<A: Allocator>(
     code: &mut Code<A>,
     context: Context,
     protocol: Option<Protocol>,
     cast: Cast,
 ) -> Result<usize, AllocError>
     requires { HasRoom 30 code.old }
-    ensures { Emits 30 result context (cast_formula context.link protocol cast)
+    ensures { EmitsFormula 30 result context (cast_formula context.link protocol cast)
         code.old code.new }
 {
     let link = context.link;
     match (cast, protocol) {
         (Cast::Broadcast, None | Some(Protocol::Ether)) => {
             let destination = Direction::One(Side::Destination);
-            put_ether_host(code, context, destination, 0xffff_ffff_ffff)
+            emit_ether_host(code, context, destination, 0xffff_ffff_ffff)
         }
         (Cast::Multicast, None | Some(Protocol::Ether)) => {
             let tests = [kind_test(link, FrameKind::Ethernet), is_group_address()];
-            put_all(code, context, &tests)
+            emit_all(code, context, &tests)
         }
         (Cast::Multicast, Some(Protocol::Ip)) => {
             let first = Place::At(network(link) + 16);
             let is_high = compares_at(first, Width::Byte, Comparison::AtLeast, 224);
-            put_all(code, context, &[kind_test(link, FrameKind::Ip), is_high])
+            emit_all(code, context, &[kind_test(link, FrameKind::Ip), is_high])
         }
         (Cast::Multicast, Some(Protocol::Ip6)) => {
             let is_high = is_at(network(link) + 24, Width::Byte, 255);
-            put_all(code, context, &[kind_test(link, FrameKind::Ip6), is_high])
+            emit_all(code, context, &[kind_test(link, FrameKind::Ip6), is_high])
         }
         (_, Some(_)) => Ok(context.to.no),
     }

@@ -4,7 +4,7 @@ ghost use Rattle.std.specs.Prelude.{◌≡◌, ◌≤◌, length, IfOk, reverse}
 ghost use Rattle.flt_gen.specs.Correct.{IsProgramOf};
 ghost use Rattle.flt_gen.specs.Counts.{short_bound_of};
 ghost use Rattle.flt_gen.specs.Layout.{JumpsAreNeeded, IsShort};
-ghost use Rattle.flt_gen.specs.Walk.{walked, start, insns_of};
+ghost use Rattle.flt_gen.specs.Walk.{emit_nodes, start, insns_of};
 
 use crate::link::Link;
 use crate::reload::pass_loads;
@@ -21,11 +21,11 @@ fn program_insns<A: Allocator + Clone>(
     nodes: &[Node],
     link: Link,
 ) -> Result<Vec<Insn, A>, AllocError>
-    requires room { length (walked link start (reverse nodes.now)).code ≤ 32768 }
-    requires inside { (walked link start (reverse nodes.now)).to.yes
-        ≤ length (walked link start (reverse nodes.now)).code }
+    requires room { length (emit_nodes link start (reverse nodes.now)).code ≤ 32768 }
+    requires inside { (emit_nodes link start (reverse nodes.now)).to.yes
+        ≤ length (emit_nodes link start (reverse nodes.now)).code }
     ensures { IfOk result
-        (λ insns. insns.items ≡ insns_of (walked link start (reverse nodes.now))) }
+        (λ insns. insns.items ≡ insns_of (emit_nodes link start (reverse nodes.now))) }
 {
     let mut walk = Walk::new(alloc)?;
     let mut left = nodes.len();
@@ -33,11 +33,11 @@ fn program_insns<A: Allocator + Clone>(
     'nodes: while left > 0 {
         left -= 1;
         if left == 0 {
-            walk.put_node(link, &nodes[left])?;
-        } else if walk.put_both_nodes(link, &nodes[left], &nodes[left - 1])? {
+            walk.emit_node(link, &nodes[left])?;
+        } else if walk.emit_both_nodes(link, &nodes[left], &nodes[left - 1])? {
             left -= 1;
         } else {
-            walk.put_node(link, &nodes[left])?;
+            walk.emit_node(link, &nodes[left])?;
         }
     }
     Ok(walk.into_insns())

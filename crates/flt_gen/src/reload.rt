@@ -2,7 +2,8 @@
 
 ghost use Rattle.std.specs.Prelude.{◌≡◌, ◌^◌, ◌<◌, ◌≤◌, length, IfOk};
 ghost use Rattle.flt_bpf.specs.Instructions.{operation_of};
-ghost use Rattle.flt_gen.specs.Reload.{joined, loads, moved, turned, raised, passed, flow};
+ghost use Rattle.flt_gen.specs.Reload.{held_on_both, loads, offset_past_load, insn_past_loads};
+ghost use Rattle.flt_gen.specs.Reload.{with_arrival, with_arrivals, flow};
 ghost use Rattle.flt_gen.specs.Reload.{without_reloads};
 
 use flt_bpf::insn::Insn;
@@ -21,8 +22,8 @@ pub enum Held {
 }
 
 /// What A holds where a run comes on two ways.
-fn joined(one: Held, other: Held) -> Held
-    ensures { result ≡ joined one other }
+fn held_on_both(one: Held, other: Held) -> Held
+    ensures { result ≡ held_on_both one other }
 {
     match (one, other) {
         (Held::Unreached, other) => other,
@@ -50,8 +51,8 @@ fn loads(held: Held, insn: Insn) -> bool
 }
 
 /// The offset of a conditional jump, past the load at its target if A holds that load's field.
-fn moved(held: Held, behind: &[Insn], to: u8) -> u8
-    ensures { result ≡ moved held behind.now to }
+fn offset_past_load(held: Held, behind: &[Insn], to: u8) -> u8
+    ensures { result ≡ offset_past_load held behind.now to }
 {
     match behind.get(usize::from(to)) {
         Some(insn) => {
@@ -66,13 +67,13 @@ fn moved(held: Held, behind: &[Insn], to: u8) -> u8
 }
 
 /// An instruction with its offsets past loads.
-fn turned(held: Held, insn: Insn, behind: &[Insn]) -> Insn
-    ensures { result ≡ turned (operation_of insn.code) held insn behind.now }
+fn insn_past_loads(held: Held, insn: Insn, behind: &[Insn]) -> Insn
+    ensures { result ≡ insn_past_loads (operation_of insn.code) held insn behind.now }
 {
     match decode(insn.code) {
         Some(Operation::JumpIf(_, _)) => Insn {
-            jt: moved(held, behind, insn.jt),
-            jf: moved(held, behind, insn.jf),
+            jt: offset_past_load(held, behind, insn.jt),
+            jf: offset_past_load(held, behind, insn.jf),
             ..insn
         },
         _ => insn,
@@ -80,34 +81,37 @@ fn turned(held: Held, insn: Insn, behind: &[Insn]) -> Insn
 }
 
 /// A run comes to a place with this in A.
-fn raise(held: &mut [Held], at: usize, came: Held)
-    ensures { held.new ≡ raised held.old at came }
+fn arrive(held: &mut [Held], at: usize, came: Held)
+    ensures { held.new ≡ with_arrival held.old at came }
 {
     if at < held.len() {
-        held[at] = joined(held[at], came);
+        held[at] = held_on_both(held[at], came);
     }
 }
 
 /// A run goes on from an instruction to those behind it, the first of which is at a place.
-fn pass(held: &mut [Held], from: usize, came: Held, insn: Insn, behind: &[Insn])
+fn arrive_behind(held: &mut [Held], from: usize, came: Held, insn: Insn, behind: &[Insn])
     requires { from < 2 ^ 32 }
-    ensures { held.new ≡ passed from (operation_of insn.code) came insn behind.now held.old }
+    ensures { held.new ≡ with_arrivals from (operation_of insn.code) came insn behind.now held.old }
 {
     if let Held::Unreached = came {
         return;
     }
     match decode(insn.code) {
         Some(Operation::JumpIf(_, _)) => {
-            let (yes, no) = (moved(came, behind, insn.jt), moved(came, behind, insn.jf));
-            raise(held, from + usize::from(yes), came);
-            raise(held, from + usize::from(no), came);
+            let (yes, no) = (
+                offset_past_load(came, behind, insn.jt),
+                offset_past_load(came, behind, insn.jf),
+            );
+            arrive(held, from + usize::from(yes), came);
+            arrive(held, from + usize::from(no), came);
         }
-        Some(Operation::Jump) => raise(held, from + insn.k as usize, came),
+        Some(Operation::Jump) => arrive(held, from + insn.k as usize, came),
         Some(Operation::LoadAbsolute(_) | Operation::LoadIndirect(_)) => {
-            raise(held, from, Held::Field(insn.code, insn.k));
+            arrive(held, from, Held::Field(insn.code, insn.k));
         }
         Some(Operation::ReturnConstant | Operation::ReturnAccumulator) => {}
-        _ => raise(held, from, Held::Unknown),
+        _ => arrive(held, from, Held::Unknown),
     }
 }
 
@@ -121,8 +125,8 @@ fn turn_all(held: &mut [Held], insns: &mut [Insn])
     // The label names the loop in its proof.
     'insns: while at < insns.len() {
         let (came, insn) = (held[at], insns[at]);
-        pass(held, at + 1, came, insn, &insns[at + 1..]);
-        insns[at] = turned(came, insn, &insns[at + 1..]);
+        arrive_behind(held, at + 1, came, insn, &insns[at + 1..]);
+        insns[at] = insn_past_loads(came, insn, &insns[at + 1..]);
         at += 1;
     }
 }
@@ -136,7 +140,7 @@ pub fn pass_loads<A: Allocator, B: Allocator>(
     ensures { IfOk result (λ turned. turned.items ≡ without_reloads insns.items) }
 {
     let mut held = vec![in alloc; Held::Unreached; insns.len()]?;
-    raise(&mut held, 0, Held::Unknown);
+    arrive(&mut held, 0, Held::Unknown);
     turn_all(&mut held, &mut insns);
     Ok(insns)
 }

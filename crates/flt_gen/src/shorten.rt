@@ -1,5 +1,5 @@
 //! The same program with fewer instructions: those that no run reaches are left out, a block that
-//! is there already isn't put again, and one instruction replaces several where it does the same.
+//! is there already isn't emitted again, and one instruction replaces several that do the same.
 
 ghost use Rattle.std.specs.Prelude.{IfOk};
 ghost use Rattle.std.specs.Option.{IfSome};
@@ -193,7 +193,13 @@ impl<A: Allocator> Shortening<'_, A> {
     }
 
     /// A test that goes on where two instructions of the old code land.
-    fn put_test(&mut self, at: usize, insn: Insn, yes: usize, no: usize) -> Result<(), AllocError> {
+    fn emit_test(
+        &mut self,
+        at: usize,
+        insn: Insn,
+        yes: usize,
+        no: usize,
+    ) -> Result<(), AllocError> {
         let (yes, no) = (self.landing_at(yes), self.landing_at(no));
         self.land(at, NOWHERE);
         let Some(operation) = decode(insn.code) else {
@@ -222,8 +228,8 @@ impl<A: Allocator> Shortening<'_, A> {
         Ok(())
     }
 
-    /// The block that an instruction lands in, from there to its end, is put again in front.
-    fn put_again(&mut self, from: usize) -> Result<(), AllocError> {
+    /// The block that an instruction lands in, from there to its end, is emitted again in front.
+    fn emit_again(&mut self, from: usize) -> Result<(), AllocError> {
         let (place, top) = (self.landing_at(from).place, self.backwards.len());
         let mut low = place;
         for at in (0..place).rev() {
@@ -268,7 +274,7 @@ impl<A: Allocator> Shortening<'_, A> {
     }
 
     /// Another instruction, behind which the run goes on where one of the old code lands.
-    fn put_plain(&mut self, at: usize, insn: Insn, next: usize) -> Result<(), AllocError> {
+    fn emit_plain(&mut self, at: usize, insn: Insn, next: usize) -> Result<(), AllocError> {
         self.land(at, NOWHERE);
         let Some(operation) = decode(insn.code) else {
             return Ok(());
@@ -283,7 +289,7 @@ impl<A: Allocator> Shortening<'_, A> {
                 self.land(at, landing_before(operation, place, landing));
                 return Ok(());
             }
-            self.put_again(next)?;
+            self.emit_again(next)?;
         }
         self.backwards.push(insn)?;
         let place = self.backwards.len();
@@ -302,15 +308,15 @@ impl<A: Allocator> Shortening<'_, A> {
         }
         if let Some(test) = self.bits_at(at) {
             let (yes, no) = (1 + usize::from(test.jt), 1 + usize::from(test.jf));
-            return self.put_test(at, test, behind(at, yes), behind(at, no));
+            return self.emit_test(at, test, behind(at, yes), behind(at, no));
         }
         if let Some(load) = self.load_at(at) {
-            return self.put_plain(at, load, behind(at, 2));
+            return self.emit_plain(at, load, behind(at, 2));
         }
         match decode(insn.code) {
             Some(Operation::JumpIf(_, _)) => {
                 let (yes, no) = (usize::from(insn.jt), usize::from(insn.jf));
-                self.put_test(at, insn, behind(at, yes), behind(at, no))
+                self.emit_test(at, insn, behind(at, yes), behind(at, no))
             }
             Some(operation @ (Operation::ReturnConstant | Operation::ReturnAccumulator)) => {
                 self.backwards.push(insn)?;
@@ -318,7 +324,7 @@ impl<A: Allocator> Shortening<'_, A> {
                 self.land(at, landing_before(operation, place, NOWHERE));
                 Ok(())
             }
-            _ => self.put_plain(at, insn, behind(at, 0)),
+            _ => self.emit_plain(at, insn, behind(at, 0)),
         }
     }
 }

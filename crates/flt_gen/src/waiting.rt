@@ -25,79 +25,39 @@ pub enum Waiting {
     Left(u32),
 }
 
-/// The left operands that wait, the latest first.
+/// What waits, the latest first.
 #[derive(Drop)]
-pub struct Truths<A: Allocator> {
-    entries: Vec<LeftTruth, A>,
+pub struct Stack<T, A: Allocator> {
+    entries: Vec<T, A>,
 }
 
-impl<A: Allocator> Model for Truths<A> {
+impl<T, A: Allocator> Model for Stack<T, A> {
     ghost use Rattle.std.specs.Prelude.{List, reverse};
-    ghost use Rattle.flt_gen.specs.declared.waiting.LeftTruth.{LeftTruth};
 
-    ghost Value = { List LeftTruth };
+    ghost Value = { List T };
 
-    ghost view = { λ t. reverse t.entries.items };
+    ghost view = { λ s. reverse s.entries.items };
 }
 
-impl<A: Allocator> Truths<A> {
+impl<T: Drop, A: Allocator> Stack<T, A> {
     pub fn new(alloc: A) -> Self
         ensures { result ≡ [] }
     {
-        Truths {
+        Stack {
             entries: Vec::new(alloc),
         }
     }
 
-    pub fn push(&mut self, truth: LeftTruth) -> Result<(), AllocError>
-        ensures { OnOk result (self.new ≡ truth ∷ self.old) }
+    pub fn push(&mut self, entry: T) -> Result<(), AllocError>
+        ensures { OnOk result (self.new ≡ entry ∷ self.old) }
     {
-        self.entries.push(truth)?;
+        self.entries.push(entry)?;
         Ok(())
     }
 
-    pub fn pop(&mut self) -> Option<LeftTruth>
+    pub fn pop(&mut self) -> Option<T>
         ensures { MatchOption result ((self.old ≡ []) × (self.new ≡ []))
-            (λ truth. self.old ≡ truth ∷ self.new) }
-    {
-        self.entries.pop()
-    }
-}
-
-/// What waits for numbers, the latest first.
-#[derive(Drop)]
-pub struct Numbers<A: Allocator> {
-    entries: Vec<Waiting, A>,
-}
-
-impl<A: Allocator> Model for Numbers<A> {
-    ghost use Rattle.std.specs.Prelude.{List, reverse};
-    ghost use Rattle.flt_gen.specs.declared.waiting.Waiting.{Waiting};
-
-    ghost Value = { List Waiting };
-
-    ghost view = { λ n. reverse n.entries.items };
-}
-
-impl<A: Allocator> Numbers<A> {
-    pub fn new(alloc: A) -> Self
-        ensures { result ≡ [] }
-    {
-        Numbers {
-            entries: Vec::new(alloc),
-        }
-    }
-
-    pub fn push(&mut self, waiting: Waiting) -> Result<(), AllocError>
-        ensures { OnOk result (self.new ≡ waiting ∷ self.old) }
-    {
-        self.entries.push(waiting)?;
-        Ok(())
-    }
-
-    pub fn pop(&mut self) -> Option<Waiting>
-        ensures { MatchOption result ((self.old ≡ []) × (self.new ≡ []))
-            (λ waiting. self.old ≡ waiting ∷ self.new) }
+            (λ entry. self.old ≡ entry ∷ self.new) }
     {
         self.entries.pop()
     }

@@ -1,26 +1,27 @@
-//! The walk over an expression's nodes from the last to the first, which puts code in front of
+//! The walk over an expression's nodes from the last to the first, which emits code in front of
 //! code. What comes later waits in lists, so that a long chain of operands needs no more of the
 //! processor's stack than a short one.
 
 ghost use Rattle.std.specs.Prelude.{◌≡◌, ◌+◌, ◌^◌, ◌<◌, ◌≤◌, true, length, OnOk, IfOk};
 ghost use Rattle.std.specs.Prelude.{if◌then◌else◌};
 ghost use Rattle.flt_gen.specs.Group.{larger_group};
-ghost use Rattle.flt_gen.specs.Code.{entered};
-ghost use Rattle.flt_gen.specs.Puts.{HasRoom};
-ghost use Rattle.flt_gen.specs.Walk.{start, truth_put, relation_put, number_put, is_number_node};
-ghost use Rattle.flt_gen.specs.Walk.{is_truth_node, operands_put, settled, group_put, value_put};
-ghost use Rattle.flt_gen.specs.Walk.{join_put, truth_node_put, with_node, insns_of};
-ghost use Rattle.flt_gen.specs.Walk.{applied_put, compared_put, both_put};
+ghost use Rattle.flt_gen.specs.Code.{block};
+ghost use Rattle.flt_gen.specs.Emits.{HasRoom};
+ghost use Rattle.flt_gen.specs.Walk.{start, finish_truth, finish_relation, finish_number};
+ghost use Rattle.flt_gen.specs.Walk.{is_number_node, is_truth_node, begin_operands, flush_group};
+ghost use Rattle.flt_gen.specs.Walk.{finish_group, emit_value, emit_join, emit_truth_node};
+ghost use Rattle.flt_gen.specs.Walk.{emit_node, insns_of, emit_applied, emit_compared};
+ghost use Rattle.flt_gen.specs.Walk.{emit_both_nodes};
 
 use crate::code::{Code, Targets};
 use crate::context::Context;
+use crate::emit::emit_comparison;
 use crate::group::Group;
 use crate::link::Link;
-use crate::number::{computation, put_accessor, put_accessors, put_operands, takes, width_of};
-use crate::primitive::{put_cast, put_check};
-use crate::put::put_comparison;
-use crate::value::{put_group, put_qualified, put_sized};
-use crate::waiting::{LeftTruth, Numbers, Truths, Waiting};
+use crate::number::{computation, emit_accessor, emit_accessors, emit_operands, takes, width_of};
+use crate::primitive::{emit_cast, emit_check};
+use crate::value::{emit_group, emit_qualified, emit_sized};
+use crate::waiting::{LeftTruth, Stack, Waiting};
 use flt_bpf::insn::Insn;
 use flt_bpf::operation::{Operand, Operation, Register, Source};
 use flt_lang::{FullQuals, Node, Value};
@@ -39,8 +40,8 @@ pub struct Walk<A: Allocator> {
     to: Targets,
     /// The word for the next left operand.
     slot: u32,
-    truths: Truths<A>,
-    numbers: Numbers<A>,
+    truths: Stack<LeftTruth, A>,
+    numbers: Stack<Waiting, A>,
     /// The protocols of the relation's accessors, that of the last word first.
     accessors: Vec<Protocol, A>,
     /// Hosts or ports that are tested in front of the code, and whose code isn't there yet.
@@ -68,9 +69,9 @@ impl<A: Allocator> Model for Walk<A> {
 }
 
 impl<A: Allocator> Walk<A> {
-    /// A truth's code is put: the left operand that waits is next.
+    /// A truth's code is emitted: the left operand that waits is next.
     fn finish_truth(&mut self, entry: usize)
-        ensures { self.new ≡ truth_put (entered self.old.code entry) self.old }
+        ensures { self.new ≡ finish_truth (block self.old.code entry) self.old }
     {
         self.to = match self.truths.pop() {
             None => Targets {
@@ -93,26 +94,26 @@ impl<A: Allocator> Walk<A> {
         };
     }
 
-    /// The operands of a relation are put: the tests of its accessors stand in front of them.
+    /// The operands of a relation are emitted: the tests of its accessors stand in front of them.
     fn finish_relation(&mut self, link: Link) -> Result<(), AllocError>
-        requires { length (relation_put link self.old).code < 2 ^ 30 }
-        ensures { OnOk result (self.new ≡ relation_put link self.old) }
+        requires { length (finish_relation link self.old).code < 2 ^ 30 }
+        ensures { OnOk result (self.new ≡ finish_relation link self.old) }
     {
         let to = Targets {
             yes: self.code.top(),
             no: self.to.no,
         };
-        let entry = put_accessors(&mut self.code, link, &self.accessors, to)?;
+        let entry = emit_accessors(&mut self.code, link, &self.accessors, to)?;
         self.accessors.clear();
         self.finish_truth(entry);
         Ok(())
     }
 
-    /// A number's code is put: the accessors whose index it is are complete, and then the left
+    /// A number's code is emitted: the accessors whose index it is are complete, and then the left
     /// operand that waits is next.
     fn finish_number(&mut self, link: Link) -> Result<(), AllocError>
-        requires { length (number_put link self.old.numbers self.old).code < 2 ^ 30 }
-        ensures { OnOk result (self.new ≡ number_put link self.old.numbers self.old) }
+        requires { length (finish_number link self.old.numbers self.old).code < 2 ^ 30 }
+        ensures { OnOk result (self.new ≡ finish_number link self.old.numbers self.old) }
     {
         // The label names the loop in its proof.
         'waiting: loop {
@@ -122,7 +123,7 @@ impl<A: Allocator> Walk<A> {
                     self.slot = slot;
                     return self
                         .code
-                        .put_plain(Operation::Store(Register::Accumulator), slot);
+                        .emit_plain(Operation::Store(Register::Accumulator), slot);
                 }
                 None => return self.finish_relation(link),
             }
@@ -130,25 +131,25 @@ impl<A: Allocator> Walk<A> {
     }
 
     /// Two operands: the right one is next, and the left one waits.
-    fn put_both(&mut self, slot: u32) -> Result<(), AllocError>
+    fn begin_operands(&mut self, slot: u32) -> Result<(), AllocError>
         requires { slot < 2 ^ 31 }
-        ensures { OnOk result (self.new ≡ operands_put slot self.old.code self.old) }
+        ensures { OnOk result (self.new ≡ begin_operands slot self.old.code self.old) }
     {
-        put_operands(&mut self.code, slot)?;
+        emit_operands(&mut self.code, slot)?;
         self.slot = slot + 1;
         self.numbers.push(Waiting::Left(slot))
     }
 
     /// A node of arithmetic.
-    fn put_number_node(&mut self, link: Link, node: &Node) -> Result<(), AllocError>
+    fn emit_number_node(&mut self, link: Link, node: &Node) -> Result<(), AllocError>
         requires few { self.old.slot < 2 ^ 31 }
-        requires room { length (with_node link self.old node.now).code < 2 ^ 30 }
+        requires room { length (emit_node link self.old node.now).code < 2 ^ 30 }
         requires number { is_number_node node.now ≡ true }
-        ensures { OnOk result (self.new ≡ with_node link self.old node.now) }
+        ensures { OnOk result (self.new ≡ emit_node link self.old node.now) }
     {
         match node {
             Node::Literal(n) | Node::Named(n) => {
-                self.code.put_plain(
+                self.code.emit_plain(
                     Operation::Load(Register::Accumulator, Source::Immediate),
                     *n,
                 )?;
@@ -156,33 +157,33 @@ impl<A: Allocator> Walk<A> {
             }
             Node::Len => {
                 self.code
-                    .put_plain(Operation::Load(Register::Accumulator, Source::Length), 0)?;
+                    .emit_plain(Operation::Load(Register::Accumulator, Source::Length), 0)?;
                 self.finish_number(link)
             }
             Node::Load(protocol, size) => {
-                put_accessor(&mut self.code, link, *protocol, width_of(*size))?;
+                emit_accessor(&mut self.code, link, *protocol, width_of(*size))?;
                 self.numbers.push(Waiting::Index(*protocol))
             }
-            Node::Negate => self.code.put_plain(Operation::Negate, 0),
+            Node::Negate => self.code.emit_plain(Operation::Negate, 0),
             Node::Apply(operator) => {
                 self.code
-                    .put_plain(computation(*operator, Operand::IndexRegister), 0)?;
-                self.put_both(self.slot)
+                    .emit_plain(computation(*operator, Operand::IndexRegister), 0)?;
+                self.begin_operands(self.slot)
             }
             _ => unreachable!(),
         }
     }
 
-    /// The code of the group that waits is put.
-    fn settle(&mut self, link: Link) -> Result<(), AllocError>
+    /// The code of the group that waits is emitted.
+    fn flush_group(&mut self, link: Link) -> Result<(), AllocError>
         requires room { length self.old.code < 2 ^ 30 }
         requires some { length self.old.group.numbers ≤ 4096 }
-        ensures walk { OnOk result (self.new ≡ settled link self.old) }
+        ensures walk { OnOk result (self.new ≡ flush_group link self.old) }
         ensures room { OnOk result (length self.new.code ≤ length self.old.code + 150000) }
     {
         if !self.group.numbers().is_empty() {
             let context = Context::new(link, self.to);
-            self.to.no = put_group(&mut self.code, context, &self.group)?;
+            self.to.no = emit_group(&mut self.code, context, &self.group)?;
         }
         self.group.clear();
         self.chained = false;
@@ -194,7 +195,8 @@ impl<A: Allocator> Walk<A> {
     fn finish_group(&mut self, link: Link) -> Result<(), AllocError>
         requires room { length self.old.code < 2 ^ 30 }
         requires some { length self.old.group.numbers ≤ 4096 }
-        ensures { OnOk result (self.new ≡ group_put link self.old self.old.group self.old.chained) }
+        ensures { OnOk result
+            (self.new ≡ finish_group link self.old self.old.group self.old.chained) }
     {
         if self.chained {
             let _ = self.truths.pop();
@@ -202,63 +204,63 @@ impl<A: Allocator> Walk<A> {
             return Ok(());
         }
         let context = Context::new(link, self.to);
-        let entry = put_group(&mut self.code, context, &self.group)?;
+        let entry = emit_group(&mut self.code, context, &self.group)?;
         self.group.clear();
         self.finish_truth(entry);
         Ok(())
     }
 
     /// A value with all its qualifiers.
-    fn put_value(&mut self, link: Link, quals: FullQuals, value: Value) -> Result<(), AllocError>
+    fn emit_value(&mut self, link: Link, quals: FullQuals, value: Value) -> Result<(), AllocError>
         requires before { length self.old.code < 2 ^ 30 }
         requires some { length self.old.group.numbers ≤ 4096 }
-        ensures { OnOk result (self.new ≡ value_put link quals value self.old
+        ensures { OnOk result (self.new ≡ emit_value link quals value self.old
             (larger_group quals value self.old.group)) }
     {
-        if self.group.put(quals, value)? {
+        if self.group.add(quals, value)? {
             return self.finish_group(link);
         }
-        self.settle(link)?;
+        self.flush_group(link)?;
         let context = Context::new(link, self.to);
-        let entry = put_qualified(&mut self.code, context, quals, value)?;
+        let entry = emit_qualified(&mut self.code, context, quals, value)?;
         self.finish_truth(entry);
         Ok(())
     }
 
     /// An operator between two truths.
-    fn put_join(&mut self, link: Link, join: Join) -> Result<(), AllocError>
+    fn emit_join(&mut self, link: Link, join: Join) -> Result<(), AllocError>
         requires room { length self.old.code < 2 ^ 30 }
         requires some { length self.old.group.numbers ≤ 4096 }
-        ensures { OnOk result (self.new ≡ join_put link join self.old) }
+        ensures { OnOk result (self.new ≡ emit_join link join self.old) }
     {
         match join {
             Join::Or => self.chained = true,
-            Join::And => self.settle(link)?,
+            Join::And => self.flush_group(link)?,
         }
         let to = self.to;
         self.truths.push(LeftTruth { join, to })
     }
 
     /// A primitive or a negation. A value whose qualifiers aren't filled in yet is no.
-    fn put_truth_node(&mut self, link: Link, node: &Node) -> Result<(), AllocError>
+    fn emit_truth_node(&mut self, link: Link, node: &Node) -> Result<(), AllocError>
         requires room { HasRoom 96 self.old.code }
         requires truth { is_truth_node node.now ≡ true }
-        ensures { OnOk result (self.new ≡ truth_node_put link self.old node.now) }
+        ensures { OnOk result (self.new ≡ emit_truth_node link self.old node.now) }
     {
         let (code, to) = (&mut self.code, self.to);
         let context = Context::new(link, to);
         let entry = match node {
-            Node::Check(protocol) => put_check(code, context, *protocol)?,
-            Node::Cast(protocol, cast) => put_cast(code, context, *protocol, *cast)?,
-            Node::Sized(size, number) => put_sized(code, context, *size, *number)?,
+            Node::Check(protocol) => emit_check(code, context, *protocol)?,
+            Node::Cast(protocol, cast) => emit_cast(code, context, *protocol, *cast)?,
+            Node::Sized(size, number) => emit_sized(code, context, *size, *number)?,
             Node::Bare(_) | Node::Valued(_, _) => to.no,
             Node::Not => {
                 self.to = to.exchanged();
                 return Ok(());
             }
             Node::Compare(comparison) => {
-                put_comparison(code, *comparison, Operand::IndexRegister, 0, to)?;
-                return self.put_both(0);
+                emit_comparison(code, *comparison, Operand::IndexRegister, 0, to)?;
+                return self.begin_operands(0);
             }
             _ => unreachable!(),
         };
@@ -267,21 +269,21 @@ impl<A: Allocator> Walk<A> {
     }
 
     /// An operator with a constant as its right operand. `false`: its instruction may not have it.
-    fn put_applied(&mut self, operator: Operator, constant: u32) -> Result<bool, AllocError>
-        ensures put { IfOk result (λ put. applied_put operator constant self.old
-            ≡ (if put then Some self.new else None)) }
-        ensures same { IfOk result (λ put. self.new ≡ (if put then self.new else self.old)) }
+    fn emit_applied(&mut self, operator: Operator, constant: u32) -> Result<bool, AllocError>
+        ensures emits { IfOk result (λ fits. emit_applied operator constant self.old
+            ≡ (if fits then Some self.new else None)) }
+        ensures same { IfOk result (λ fits. self.new ≡ (if fits then self.new else self.old)) }
     {
         if !takes(operator, constant) {
             return Ok(false);
         }
         self.code
-            .put_plain(computation(operator, Operand::Constant), constant)?;
+            .emit_plain(computation(operator, Operand::Constant), constant)?;
         Ok(true)
     }
 
     /// A comparison with a constant as its right operand.
-    fn put_compared(
+    fn emit_compared(
         &mut self,
         link: Link,
         comparison: Comparison,
@@ -290,16 +292,16 @@ impl<A: Allocator> Walk<A> {
         requires room { length self.old.code < 2 ^ 30 }
         requires some { length self.old.group.numbers ≤ 4096 }
         ensures { OnOk result
-            (compared_put comparison constant (settled link self.old) ≡ Some self.new) }
+            (emit_compared comparison constant (flush_group link self.old) ≡ Some self.new) }
     {
-        self.settle(link)?;
+        self.flush_group(link)?;
         let to = self.to;
-        put_comparison(&mut self.code, comparison, Operand::Constant, constant, to)
+        emit_comparison(&mut self.code, comparison, Operand::Constant, constant, to)
     }
 
     /// A node and the one before it at once, where that is its right operand and a constant that
-    /// its instruction may have. `false`: they aren't put.
-    pub fn put_both_nodes(
+    /// its instruction may have. `false`: they aren't emitted.
+    pub fn emit_both_nodes(
         &mut self,
         link: Link,
         node: &Node,
@@ -307,42 +309,42 @@ impl<A: Allocator> Walk<A> {
     ) -> Result<bool, AllocError>
         requires room { length self.old.code < 2 ^ 30 }
         requires some { length self.old.group.numbers ≤ 4096 }
-        ensures put { IfOk result (λ put. both_put link self.old node.now right.now
-            ≡ (if put then Some self.new else None)) }
-        ensures same { IfOk result (λ put. self.new ≡ (if put then self.new else self.old)) }
+        ensures emits { IfOk result (λ fits. emit_both_nodes link self.old node.now right.now
+            ≡ (if fits then Some self.new else None)) }
+        ensures same { IfOk result (λ fits. self.new ≡ (if fits then self.new else self.old)) }
     {
         match (node, right) {
             (Node::Apply(operator), Node::Literal(n) | Node::Named(n)) => {
-                self.put_applied(*operator, *n)
+                self.emit_applied(*operator, *n)
             }
             (Node::Compare(comparison), Node::Literal(n) | Node::Named(n)) => {
-                self.put_compared(link, *comparison, *n)?;
+                self.emit_compared(link, *comparison, *n)?;
                 Ok(true)
             }
             _ => Ok(false),
         }
     }
 
-    /// One more node, the one before those that were put.
-    pub fn put_node(&mut self, link: Link, node: &Node) -> Result<(), AllocError>
+    /// One more node, the one before those that were emitted.
+    pub fn emit_node(&mut self, link: Link, node: &Node) -> Result<(), AllocError>
         requires few { self.old.slot < 2 ^ 31 }
         requires some { length self.old.group.numbers ≤ 4096 }
         requires before { length self.old.code < 2 ^ 30 }
-        requires after { length (with_node link self.old node.now).code < 2 ^ 30 }
-        ensures { OnOk result (self.new ≡ with_node link self.old node.now) }
+        requires after { length (emit_node link self.old node.now).code < 2 ^ 30 }
+        ensures { OnOk result (self.new ≡ emit_node link self.old node.now) }
     {
         match node {
-            Node::Join(join) => self.put_join(link, *join),
-            Node::Qualified(quals, value) => self.put_value(link, *quals, *value),
+            Node::Join(join) => self.emit_join(link, *join),
+            Node::Qualified(quals, value) => self.emit_value(link, *quals, *value),
             Node::Literal(_)
             | Node::Named(_)
             | Node::Len
             | Node::Load(_, _)
             | Node::Negate
-            | Node::Apply(_) => { self.put_number_node(link, node) }
+            | Node::Apply(_) => { self.emit_number_node(link, node) }
             _ => {
-                self.settle(link)?;
-                self.put_truth_node(link, node)
+                self.flush_group(link)?;
+                self.emit_truth_node(link, node)
             }
         }
     }
@@ -371,13 +373,13 @@ impl<A: Allocator + Clone> Walk<A> {
     pub fn new(alloc: A) -> Result<Self, AllocError>
         ensures { IfOk result (λ walk. walk ≡ start) }
     {
-        let truths = Truths::new(alloc.clone()?);
-        let numbers = Numbers::new(alloc.clone()?);
+        let truths = Stack::new(alloc.clone()?);
+        let numbers = Stack::new(alloc.clone()?);
         let accessors = Vec::new(alloc.clone()?);
         let group = Group::new(alloc.clone()?);
         let mut code = Code::new(alloc);
-        code.put_plain(Operation::ReturnConstant, 0)?;
-        code.put_plain(Operation::ReturnConstant, KEEP)?;
+        code.emit_plain(Operation::ReturnConstant, 0)?;
+        code.emit_plain(Operation::ReturnConstant, KEEP)?;
         Ok(Walk {
             code,
             to: Targets { yes: 2, no: 1 },

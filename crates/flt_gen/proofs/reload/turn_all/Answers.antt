@@ -11,12 +11,12 @@ insns-preserved c =
     let each = i.each in
     let within = i.within in
     let same_length = i.same_length in
-    let long = length-set c.insns.insns c.insns.at c.turned.result in
+    let long = length-set c.insns.insns c.insns.at c.insn_past_loads.result in
     record {
       within = omega arith;
       same_length = omega arith;
-      each = ap length c.pass.ensures ∙ passed_length _ _ _ _ _ _ ∙ each ∙ sym long;
-      same = sym (flow_step c.insns.at c.insns.held c.pass.new.held c.insns.insns _ _ _ c.turned.result inside (omega arith) (take_rest c.insns.insns (c.insns.at + 1)) c.pass.ensures c.turned.ensures) ∙ i.same;
+      each = ap length c.arrive_behind.ensures ∙ passed_length _ _ _ _ _ _ ∙ each ∙ sym long;
+      same = sym (flow_step c.insns.at c.insns.held c.arrive_behind.new.held c.insns.insns _ _ _ c.insn_past_loads.result inside (omega arith) (take_rest c.insns.insns (c.insns.at + 1)) c.arrive_behind.ensures c.insn_past_loads.ensures) ∙ i.same;
     }
 
 pub returns : goal.returns

@@ -4,7 +4,7 @@ use Rattle.std.specs.Prelude.{reverse, min}
 use Rattle.std.proofs.lemmas.List.{length-reverse}
 use Rattle.flt_gen.specs.Follow.{onward}
 use Rattle.flt_gen.proofs.Backwards.{reverse_take_min}
-use Rattle.flt_gen.proofs.code.Code.one_on.Goals as goal
+use Rattle.flt_gen.proofs.code.Code.step_from.Goals as goal
 
 pub returns : goal.returns
 returns g c =

@@ -2,9 +2,9 @@
 use Rattle.std.proofs.Common.{Some, None, ap, ◌∙◌}
 use Rattle.std.specs.Prelude.{if◌then◌else◌}
 use Rattle.flt_gen.proofs.Room.{more_few}
-use Rattle.flt_gen.proofs.walk.Walk.put_value.Goals as goal
+use Rattle.flt_gen.proofs.walk.Walk.emit_value.Goals as goal
 
 pub finish_group-requires-clause-some : goal.finish_group-requires-clause-some
 finish_group-requires-clause-some g c =
-    let more = c.put.new.self in
-    more_few c.args.quals c.args.value c.self.inside.group more (c.in_ok-put.ensures.taken ∙ ap (λ t. if t then Some more else None) c.if-branch.true)
+    let more = c.add.new.self in
+    more_few c.args.quals c.args.value c.self.inside.group more (c.in_ok-add.ensures.taken ∙ ap (λ t. if t then Some more else None) c.if-branch.true)

@@ -1,5 +1,5 @@
 -- The formula of hosts or ports, one or several, is that of their group.
-use Rattle.std.proofs.Common.{◌≡◌, ◌∙◌, sym, ap, refl, [], length, None, arith}
+use Rattle.std.proofs.Common.{◌≡◌, ◌∙◌, sym, ap, [], length, None, arith}
 use Rattle.std.proofs.lemmas.Grind.{common_steps}
 use Rattle.flt_words.specs.declared.token.ValueType.TheVariants.{Host, Port}
 use Rattle.flt_gen.specs.declared.elementary.Hosts.{Hosts}
@@ -9,9 +9,9 @@ use Rattle.flt_gen.specs.declared.elementary.PortTest.{PortTest}
 use Rattle.flt_gen.specs.declared.elementary.Ports.TheVariants.{One, Several}
 use Rattle.flt_gen.specs.Primitives.{net_test, net_formula, port_test, port_formula}
 use Rattle.flt_gen.specs.Group.{group_formula, hosts_formula}
-use Rattle.flt_gen.proofs.Joined.{one_host, several_hosts, one_port, several_ports, formula_put}
-use Rattle.flt_gen.proofs.value.put_group.Goals as goal
-use Rattle.flt_gen.proofs.value.put_group.Goals.{then-numbers-lt1, else-numbers-lt1+else-numbers-lt2}
+use Rattle.flt_gen.proofs.Joined.{one_host, several_hosts, one_port, several_ports, equal_formula_code}
+use Rattle.flt_gen.proofs.value.emit_group.Goals as goal
+use Rattle.flt_gen.proofs.value.emit_group.Goals.{then-numbers-lt1, else-numbers-lt1+else-numbers-lt2}
 
 pub returns-in-len1-Port : goal.returns-in-len1-Port
 returns-in-len1-Port g c =
@@ -22,8 +22,8 @@ returns-in-len1-Port g c =
     let alone : length group.numbers ≡ 1 = (let l = c.in-len1-Port.len_at_least in let m = c.in-len1-Port.len_below in omega (arith, ap length c.numbers.ensures)) in
     let same : p ≡ port_test group.protocol group.direction (One group.first) = cc (c.new-wanted.ensures, c.protocol-protocol.ensures, c.direction-direction.ensures, c.first-first.ensures) in
     record {
-      code = formula_put c.put_ports.result a.context.link a.context.known (group_formula a.context.link group) (port_formula a.context.link p []) a.context.to.yes a.context.to.no a.code.now c.put_ports.new.code (one_port a.context.link group p is_port alone same) c.put_ports.ensures.code;
-      room = grind (arith, common_steps, c.put_ports.ensures.room);
+      code = equal_formula_code c.emit_ports.result a.context.link a.context.known (group_formula a.context.link group) (port_formula a.context.link p []) a.context.to.yes a.context.to.no a.code.now c.emit_ports.new.code (one_port a.context.link group p is_port alone same) c.emit_ports.ensures.code;
+      room = grind (arith, common_steps, c.emit_ports.ensures.room);
     }
 
 pub returns-in_default-Port : goal.returns-in_default-Port
@@ -37,8 +37,8 @@ returns-in_default-Port g c =
     let not_alone : length group.numbers ≡ 1 → ⊥ = λ e. more (ap length c.numbers.ensures ∙ e) in
     let same : p ≡ port_test group.protocol group.direction (Several group.first) = cc (c.new-wanted-in_default-Port.ensures, c.protocol-protocol.ensures, c.direction-direction.ensures, c.first-first.ensures) in
     record {
-      code = formula_put c.put_ports-in_default-Port.result a.context.link a.context.known (group_formula a.context.link group) (port_formula a.context.link p numbers) a.context.to.yes a.context.to.no a.code.now c.put_ports-in_default-Port.new.code (several_ports a.context.link group p numbers is_port not_alone same c.numbers.ensures) c.put_ports-in_default-Port.ensures.code;
-      room = grind (arith, common_steps, c.put_ports-in_default-Port.ensures.room);
+      code = equal_formula_code c.emit_ports-in_default-Port.result a.context.link a.context.known (group_formula a.context.link group) (port_formula a.context.link p numbers) a.context.to.yes a.context.to.no a.code.now c.emit_ports-in_default-Port.new.code (several_ports a.context.link group p numbers is_port not_alone same c.numbers.ensures) c.emit_ports-in_default-Port.ensures.code;
+      room = grind (arith, common_steps, c.emit_ports-in_default-Port.ensures.room);
     }
 
 pub returns-in-len1-Host : goal.returns-in-len1-Host
@@ -51,8 +51,8 @@ returns-in-len1-Host g c =
     let alone : length group.numbers ≡ 1 = (let l = c.in-len1-Host.len_at_least in let m = c.in-len1-Host.len_below in omega (arith, ap length c.numbers.ensures)) in
     let same : net ≡ net_test group.direction None group.first = cc (c.new-net.ensures, c.direction-direction.ensures, c.first-first.ensures) in
     record {
-      code = formula_put c.put_net.result a.context.link a.context.known (group_formula a.context.link group) (net_formula a.context.link protocol net) a.context.to.yes a.context.to.no a.code.now c.put_net.new.code (one_host a.context.link group protocol net is_host alone c.protocol-protocol.ensures same) c.put_net.ensures.code;
-      room = grind (arith, common_steps, c.put_net.ensures.room);
+      code = equal_formula_code c.emit_net.result a.context.link a.context.known (group_formula a.context.link group) (net_formula a.context.link protocol net) a.context.to.yes a.context.to.no a.code.now c.emit_net.new.code (one_host a.context.link group protocol net is_host alone c.protocol-protocol.ensures same) c.emit_net.ensures.code;
+      room = grind (arith, common_steps, c.emit_net.ensures.room);
     }
 
 pub returns-in_default-Host : goal.returns-in_default-Host
@@ -67,6 +67,6 @@ returns-in_default-Host g c =
     let not_alone : length group.numbers ≡ 1 → ⊥ = λ e. more (ap length c.numbers.ensures ∙ e) in
     let same : h ≡ hosts.Several group.direction group.first = cc (c.direction-direction.ensures, c.first-first.ensures) in
     record {
-      code = formula_put c.put_hosts.result a.context.link a.context.known (group_formula a.context.link group) (hosts_formula a.context.link protocol h numbers) a.context.to.yes a.context.to.no a.code.now c.put_hosts.new.code (several_hosts a.context.link group protocol h numbers is_host not_alone c.protocol-protocol.ensures same c.numbers.ensures) c.put_hosts.ensures.code;
-      room = grind (arith, common_steps, c.put_hosts.ensures.room);
+      code = equal_formula_code c.emit_hosts.result a.context.link a.context.known (group_formula a.context.link group) (hosts_formula a.context.link protocol h numbers) a.context.to.yes a.context.to.no a.code.now c.emit_hosts.new.code (several_hosts a.context.link group protocol h numbers is_host not_alone c.protocol-protocol.ensures same c.numbers.ensures) c.emit_hosts.ensures.code;
+      room = grind (arith, common_steps, c.emit_hosts.ensures.room);
     }

@@ -1,10 +1,10 @@
 //! The code of elementary tests, and of several that are joined.
 
 ghost use Rattle.std.specs.Prelude.{◌≡◌, ◌+◌, ◌*◌, ◌≤◌, length, OnOk};
-ghost use Rattle.flt_gen.specs.Code.{field_before, mask_before, comparison_before};
-ghost use Rattle.flt_gen.specs.Code.{test_before, fork_before};
+ghost use Rattle.flt_gen.specs.Code.{emit_field, emit_mask, emit_comparison};
+ghost use Rattle.flt_gen.specs.Code.{emit_test, emit_fork};
 ghost use Rattle.flt_gen.specs.Formula.{Single, all_of, sides};
-ghost use Rattle.flt_gen.specs.Puts.{HasRoom, Puts, Emits};
+ghost use Rattle.flt_gen.specs.Emits.{HasRoom, Emits, EmitsFormula};
 
 use crate::code::{Code, Targets};
 use crate::context::Context;
@@ -15,38 +15,38 @@ use flt_words::{Comparison, Join, Side};
 use std::alloc::{AllocError, Allocator};
 
 /// A field goes into A.
-pub fn put_field<A: Allocator>(
+pub fn emit_field<A: Allocator>(
     code: &mut Code<A>,
     place: Place,
     width: Width,
 ) -> Result<(), AllocError>
-    ensures { OnOk result (code.new ≡ field_before place width code.old) }
+    ensures { OnOk result (code.new ≡ emit_field place width code.old) }
 {
     match place {
-        Place::At(at) => code.put_plain(Operation::LoadAbsolute(width), at),
+        Place::At(at) => code.emit_plain(Operation::LoadAbsolute(width), at),
         Place::Past(header, at) => {
-            code.put_plain(Operation::LoadIndirect(width), at)?;
-            code.put_plain(Operation::LoadHeaderLength, header)
+            code.emit_plain(Operation::LoadIndirect(width), at)?;
+            code.emit_plain(Operation::LoadHeaderLength, header)
         }
     }
 }
 
 /// Of A only the bits of a mask are left.
-pub fn put_mask<A: Allocator>(code: &mut Code<A>, mask: Option<u32>) -> Result<(), AllocError>
-    ensures { OnOk result (code.new ≡ mask_before mask code.old) }
+pub fn emit_mask<A: Allocator>(code: &mut Code<A>, mask: Option<u32>) -> Result<(), AllocError>
+    ensures { OnOk result (code.new ≡ emit_mask mask code.old) }
 {
     match mask {
         None => Ok(()),
         Some(mask) => {
             let and = Operation::Compute(AluOperation::And, Operand::Constant);
-            code.put_plain(and, mask)
+            code.emit_plain(and, mask)
         }
     }
 }
 
 /// A comparison of A with an operand. The machine has three of the six; the others exchange the
 /// targets.
-pub fn put_comparison<A: Allocator>(
+pub fn emit_comparison<A: Allocator>(
     code: &mut Code<A>,
     comparison: Comparison,
     operand: Operand,
@@ -54,43 +54,43 @@ pub fn put_comparison<A: Allocator>(
     to: Targets,
 ) -> Result<(), AllocError>
     requires { HasRoom 3 code.old }
-    ensures code { OnOk result (code.new ≡ comparison_before comparison operand k
+    ensures code { OnOk result (code.new ≡ emit_comparison comparison operand k
         to.yes to.no code.old) }
     ensures room { OnOk result (length code.new ≤ length code.old + 3) }
 {
     let back = to.exchanged();
     match comparison {
-        Comparison::Equal => code.put_branch(Test::Equal, operand, k, to),
-        Comparison::NotEqual => code.put_branch(Test::Equal, operand, k, back),
-        Comparison::Less => code.put_branch(Test::AtLeast, operand, k, back),
-        Comparison::AtMost => code.put_branch(Test::Greater, operand, k, back),
-        Comparison::Greater => code.put_branch(Test::Greater, operand, k, to),
-        Comparison::AtLeast => code.put_branch(Test::AtLeast, operand, k, to),
+        Comparison::Equal => code.emit_branch(Test::Equal, operand, k, to),
+        Comparison::NotEqual => code.emit_branch(Test::Equal, operand, k, back),
+        Comparison::Less => code.emit_branch(Test::AtLeast, operand, k, back),
+        Comparison::AtMost => code.emit_branch(Test::Greater, operand, k, back),
+        Comparison::Greater => code.emit_branch(Test::Greater, operand, k, to),
+        Comparison::AtLeast => code.emit_branch(Test::AtLeast, operand, k, to),
     }
 }
 
-fn put_test<A: Allocator>(
+fn emit_test<A: Allocator>(
     code: &mut Code<A>,
     test: FieldTest,
     to: Targets,
 ) -> Result<(), AllocError>
     requires { HasRoom 6 code.old }
-    ensures code { OnOk result (code.new ≡ test_before test to.yes to.no code.old) }
+    ensures code { OnOk result (code.new ≡ emit_test test to.yes to.no code.old) }
     ensures room { OnOk result (length code.new ≤ length code.old + 6) }
 {
-    put_comparison(code, test.comparison, Operand::Constant, test.value, to)?;
-    put_mask(code, test.mask)?;
-    put_field(code, test.place, test.width)
+    emit_comparison(code, test.comparison, Operand::Constant, test.value, to)?;
+    emit_mask(code, test.mask)?;
+    emit_field(code, test.place, test.width)
 }
 
 /// One test. What the link type alone decides takes no code. The result is where the test begins.
-pub fn put_elementary<A: Allocator>(
+pub fn emit_elementary<A: Allocator>(
     code: &mut Code<A>,
     context: Context,
     test: Elementary,
 ) -> Result<usize, AllocError>
     requires { HasRoom 6 code.old }
-    ensures { Emits 6 result context (Single test) code.old code.new }
+    ensures { EmitsFormula 6 result context (Single test) code.old code.new }
 {
     let (known, to) = (context.known, context.to);
     match test {
@@ -102,7 +102,7 @@ pub fn put_elementary<A: Allocator>(
                 yes: code.target(known, field.place, yes, to.yes),
                 no: code.target(known, field.place, no, to.no),
             };
-            put_test(code, field, to)?;
+            emit_test(code, field, to)?;
             Ok(code.top())
         }
     }
@@ -110,25 +110,26 @@ pub fn put_elementary<A: Allocator>(
 
 /// All of some tests. There are few of them.
 #[tactic(auto, using(crate::proofs::Joined::all_emitted))]
-pub fn put_all<A: Allocator>(
+pub fn emit_all<A: Allocator>(
     code: &mut Code<A>,
     context: Context,
     tests: &[Elementary],
 ) -> Result<usize, AllocError>
     requires { HasRoom (6 * length tests.now) code.old }
-    ensures { Emits (6 * length tests.now) result context (all_of tests.now) code.old code.new }
+    ensures { EmitsFormula (6 * length tests.now) result context (all_of tests.now)
+        code.old code.new }
 {
     match tests {
         [] => Ok(context.to.yes),
         [first, others @ ..] => {
-            let yes = put_all(code, context, others)?;
-            put_elementary(code, context.going_to(yes, context.to.no), *first)
+            let yes = emit_all(code, context, others)?;
+            emit_elementary(code, context.going_to(yes, context.to.no), *first)
         }
     }
 }
 
 /// The tests of the source and of the destination, as a direction asks for them.
-pub fn put_sides<A: Allocator>(
+pub fn emit_sides<A: Allocator>(
     code: &mut Code<A>,
     context: Context,
     direction: Direction,
@@ -136,35 +137,35 @@ pub fn put_sides<A: Allocator>(
     destination: &[Elementary],
 ) -> Result<usize, AllocError>
     requires { HasRoom (6 * (length source.now + length destination.now)) code.old }
-    ensures { Emits (6 * (length source.now + length destination.now)) result context
+    ensures { EmitsFormula (6 * (length source.now + length destination.now)) result context
         (sides direction source.now destination.now) code.old code.new }
 {
     match direction {
-        Direction::One(Side::Source) => put_all(code, context, source),
-        Direction::One(Side::Destination) => put_all(code, context, destination),
+        Direction::One(Side::Source) => emit_all(code, context, source),
+        Direction::One(Side::Destination) => emit_all(code, context, destination),
         Direction::Both(Join::Or) => {
-            let no = put_all(code, context, destination)?;
-            put_all(code, context.going_to(context.to.yes, no), source)
+            let no = emit_all(code, context, destination)?;
+            emit_all(code, context.going_to(context.to.yes, no), source)
         }
         Direction::Both(Join::And) => {
-            let yes = put_all(code, context, destination)?;
-            put_all(code, context.going_to(yes, context.to.no), source)
+            let yes = emit_all(code, context, destination)?;
+            emit_all(code, context.going_to(yes, context.to.no), source)
         }
     }
 }
 
 /// One of two tests.
-pub fn put_fork<A: Allocator>(
+pub fn emit_fork<A: Allocator>(
     code: &mut Code<A>,
     context: Context,
     first: Elementary,
     second: Elementary,
 ) -> Result<usize, AllocError>
     requires { HasRoom 12 code.old }
-    ensures { Puts 12 result
-        (fork_before context.known first second context.to.yes context.to.no code.old)
+    ensures { Emits 12 result
+        (emit_fork context.known first second context.to.yes context.to.no code.old)
         code.old code.new }
 {
-    let no = put_elementary(code, context.elsewhere(first), second)?;
-    put_elementary(code, context.going_to(context.to.yes, no), first)
+    let no = emit_elementary(code, context.elsewhere(first), second)?;
+    emit_elementary(code, context.going_to(context.to.yes, no), first)
 }

@@ -4,7 +4,7 @@ use Rattle.std.specs.Prelude.{reverse, min}
 use Rattle.std.proofs.lemmas.List.{length-reverse}
 use Rattle.flt_gen.specs.Follow.{past_index}
 use Rattle.flt_gen.proofs.Backwards.{reverse_take_min}
-use Rattle.flt_gen.proofs.code.Code.entered_at.Goals as goal
+use Rattle.flt_gen.proofs.code.Code.entry_at.Goals as goal
 
 pub returns : goal.returns
 returns g c =

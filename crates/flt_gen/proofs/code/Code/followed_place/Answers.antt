@@ -1,7 +1,7 @@
 -- Where the link decides an alternative, the facts alone lead on.
 use Rattle.std.proofs.Common.{◌∙◌}
 use Rattle.flt_gen.proofs.Following.{followed_alone}
-use Rattle.flt_gen.proofs.code.Code.followed.Goals as goal
+use Rattle.flt_gen.proofs.code.Code.followed_place.Goals as goal
 
 pub returns-in-Known : goal.returns-in-Known
-returns-in-Known g c = c.eight_on.ensures ∙ followed_alone c.args.self.now c.args.known c.args.own c.args.place _ c.in-Known.is
+returns-in-Known g c = c.follow.ensures ∙ followed_alone c.args.self.now c.args.known c.args.own c.args.place _ c.in-Known.is

@@ -1,6 +1,0 @@
--- The facts that are left.
-use Rattle.std.proofs.Common.{length}
-use Rattle.flt_gen.proofs.follow.+decided.Given as goal
-
-abbrev pub decreases-decided : goal.decreases-decided
-decreases-decided l = length l.facts.now

@@ -1,0 +1,9 @@
+-- The tests of the accessors so far are in front.
+use Rattle.std.proofs.Common.{◌≡◌, take}
+use Rattle.std.specs.Prelude.{reverse}
+use Rattle.flt_gen.specs.Code.{block, emit_accessors}
+use Rattle.flt_gen.proofs.number.emit_accessors.Given as goal
+
+abbrev pub invariant-loop-protocol : goal.invariant-loop-protocol
+invariant-loop-protocol g l =
+    emit_accessors l.link (reverse (take l.protocol-index l.protocols)) l.to.yes l.to.no l.initial.code ≡ block l.code l.yes

@@ -1,9 +1,0 @@
--- The tests of the accessors so far are in front.
-use Rattle.std.proofs.Common.{◌≡◌, take}
-use Rattle.std.specs.Prelude.{reverse}
-use Rattle.flt_gen.specs.Code.{entered, accessors_before}
-use Rattle.flt_gen.proofs.number.put_accessors.Given as goal
-
-abbrev pub invariant-loop-protocol : goal.invariant-loop-protocol
-invariant-loop-protocol g l =
-    accessors_before l.link (reverse (take l.protocol-index l.protocols)) l.to.yes l.to.no l.initial.code ≡ entered l.code l.yes
