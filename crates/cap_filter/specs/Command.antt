@@ -2,6 +2,7 @@
 use Rattle.std.specs.Prelude.{ℕ, ◌^◌, ◌&&◌, ◌||◌, Bool, true, not, List, length, nat_eq, nat_lt, nat_le, string_bytes, Option}
 use Rattle.std.specs.List.{list_all}
 use Rattle.std.specs.Option.{is_none, option_map_or}
+use Rattle.cap_octet.specs.Date.{TIME_END}
 use Rattle.cap_filter.specs.declared.command.Command.{Command}
 use Rattle.cap_filter.specs.declared.command.Command.TheVariants as command
 use Rattle.cap_filter.specs.declared.command.Edit.{Edit}
@@ -29,7 +30,7 @@ is_input_count inputs = nat_le 1 inputs && nat_le inputs most_inputs
 
 -- times since 1970-01-01 00:00:00 UTC, and spans: whole nanoseconds, below 2^63
 abbrev pub is_time : ℕ → Bool
-is_time nanos = nat_lt nanos (2 ^ 63)
+is_time nanos = nat_lt nanos TIME_END
 
 abbrev pub is_proper_shift : Shift → Bool
 is_proper_shift shift.None = true

@@ -4,10 +4,11 @@ use Rattle.std.specs.List.{position}
 use Rattle.std.specs.Option.{option_map}
 use Rattle.flt_gen.specs.declared.link.Link.{Link}
 use Rattle.flt_gen.specs.declared.link.Link.TheVariants.{Ether, Raw, Cooked}
+use Rattle.flt_gen.specs.Elementary.{link_type}
 
--- a row for each: its number (tcpdump.org's list of LINKTYPE_ values), and how its packets begin
+-- a row for each: its number, and how its packets begin
 unfoldable pub link_types : List (ℕ × Link)
-link_types = (1, Ether) ∷ (101, Raw) ∷ (113, Cooked) ∷ []
+link_types = (link_type Ether, Ether) ∷ (link_type Raw, Raw) ∷ (link_type Cooked, Cooked) ∷ []
 
 -- the row of a link type, from 0 on
 abbrev pub place_of : ℕ → Option ℕ

@@ -9,6 +9,7 @@ ghost use Rattle.cap_filter.specs.Command.{has_one_output, has_proper_ranges};
 ghost use Rattle.cap_filter.specs.Selection.{is_named, is_kept};
 
 use cap_octet::Format;
+use cap_octet::date::TIME_END;
 use flt_gen::Link;
 use std::alloc::{Allocator, Global};
 
@@ -152,7 +153,7 @@ fn are_ranges(ranges: &[(u64, u64)]) -> bool
 fn is_time(nanos: u64) -> bool
     ensures { result ≡ is_time nanos }
 {
-    nanos < 1 << 63
+    nanos < TIME_END
 }
 
 /// Whether a time is allowed, if there is one.

@@ -6,6 +6,7 @@ ghost use Rattle.flt_bpf.specs.Machine.{Answered};
 ghost use Rattle.cap_filter.specs.Programs.{AreMade, met_on, ran_at};
 ghost use Rattle.cap_filter.specs.Links.{place_of};
 
+use cap_octet::assigned::{LINKTYPE_ETHERNET, LINKTYPE_LINUX_SLL, LINKTYPE_RAW};
 use cap_octet::{Fault, Packet};
 use flt_bpf::{Program, run};
 use flt_gen::{Link, generate};
@@ -13,9 +14,12 @@ use flt_lang::Checked;
 use std::alloc::{AllocError, Allocator};
 use std::marker::Model;
 
-/// The link types whose packets expressions are read on (tcpdump.org's list of LINKTYPE_ values),
-/// and their links.
-const LINK_TYPES: [(u16, Link); 3] = [(1, Link::Ether), (101, Link::Raw), (113, Link::Cooked)];
+/// The link types whose packets expressions are read on, and their links.
+const LINK_TYPES: [(u16, Link); 3] = [
+    (LINKTYPE_ETHERNET, Link::Ether),
+    (LINKTYPE_RAW, Link::Raw),
+    (LINKTYPE_LINUX_SLL, Link::Cooked),
+];
 
 /// An expression that isn't empty, and its program for each link type, in the order of the table
 /// above.

@@ -1,5 +1,6 @@
 -- What a contract sees of a sink, and what its calls do.
 use Rattle.std.specs.Prelude.{◌≡◌, ◌⊎◌, ◌==◌, ℕ, Bool, true, false, not, ◌+◌, ◌≤◌, List, [], ◌∷◌, ◌++◌, length, map, nat_le, Option, None, Some, Result, Ok, Err, IsTrue, OnOk, unwrap_or}
+use Rattle.cap_octet.specs.Assigned.{LINKTYPE_ETHERNET}
 use Rattle.cap_octet.specs.Device.{AppendsOrStops, Stops, failures_of}
 use Rattle.cap_octet.specs.Packet.{Captured}
 use Rattle.cap_octet.specs.declared.fault.Fault.{Fault}
@@ -143,7 +144,7 @@ pub record FinishesEmpty (old : SinkView) (link : ℕ) (r : Result (Unit {0}) Fa
 
 -- the link type of a file header where nothing was put: 1 where none is declared
 abbrev pub link_or_ethernet : Option ℕ → ℕ
-link_or_ethernet first = unwrap_or first 1
+link_or_ethernet first = unwrap_or first LINKTYPE_ETHERNET
 
 abbrev pub Finishes : SinkState → SinkView → Option ℕ → Result (Unit {0}) Fault → SinkView → Type 0
 Finishes Empty old first r new = FinishesEmpty old (link_or_ethernet first) r new

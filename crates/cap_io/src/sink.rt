@@ -3,12 +3,10 @@ ghost use Rattle.std.specs.Prelude.{◌≡◌, IsTrue};
 
 use crate::numbering::OutputInterfaces;
 use crate::writing::{check, write_block, write_heading, write_record};
+use cap_octet::assigned::LINKTYPE_ETHERNET;
 use cap_octet::{Fault, Format, Output, Packet};
 use std::alloc::Allocator;
 use std::marker::Model;
-
-/// The link type of a file header where none is declared: Ethernet.
-const ETHERNET: u16 = 1;
 
 /// How far a sink is.
 #[derive(Clone, Copy, Debug, PartialEq, Eq)]
@@ -108,7 +106,7 @@ impl<O: Output, A: Allocator> Sink<O, A> {
             SinkState::Broken(fault) => Err(fault),
             SinkState::Started(_) => Ok(()),
             SinkState::Empty => {
-                let link = first.unwrap_or(ETHERNET);
+                let link = first.unwrap_or(LINKTYPE_ETHERNET);
                 let Ok(()) = write_heading(&mut self.output, self.format, self.state, link) else {
                     self.state = SinkState::Broken(Fault::WriteFailed);
                     return Err(Fault::WriteFailed);
