@@ -5,6 +5,7 @@ pub mod Checking
 pub mod Scan
 pub mod Steps
 pub mod Suffix
+pub mod Standing
 pub mod Tests
 pub mod Cuts
 pub mod Digits
