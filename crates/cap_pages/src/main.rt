@@ -61,7 +61,7 @@ fn answer_to(alloc: Global, words: &[&str]) -> Result<String, Fail> {
 
 /// The help of a command; of the program where the name is empty.
 fn help_text(alloc: Global, name: &str) -> Result<String, Fail> {
-    let text = answer_to(alloc, &["capkit", name, "-h"])?;
+    let text = answer_to(alloc, &[name, "-h"])?;
     check_width(&text)?;
     Ok(text)
 }
@@ -153,7 +153,7 @@ fn put_pages(
 }
 
 fn main(rt: HostRuntime) -> Result<(), Fail> {
-    let version = answer_to(rt.alloc(), &["capkit", "--version"])?;
+    let version = answer_to(rt.alloc(), &["--version"])?;
     let text = help_text(rt.alloc(), "")?;
     let program = Help::of_text(rt.alloc(), "", &text)?;
     let mut page = Page::new(rt.alloc());
