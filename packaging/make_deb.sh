@@ -5,7 +5,7 @@
 #
 # The package goes to out/. PROGRAM is the built program; where none is given, ./capkit builds it first. The maintainer is
 # DEBFULLNAME and DEBEMAIL, else git's user. Its time is SOURCE_DATE_EPOCH, else that of the commit, or of CHANGELOG.md
-# where there is no commit, as in a tarball. It needs dpkg-dev and binutils, and no rights of root.
+# where there is no commit, as in a tarball. It needs Python 3, dpkg-dev and binutils, and no rights of root.
 
 set -eu
 umask 022
@@ -45,7 +45,7 @@ needs=$(cd "$work" && dpkg-shlibdeps -O "$tree/usr/bin/capkit" | sed -n 's/^shli
 # What a user copies to work on many machines.
 install -D -m 644 -t "$documents/scale" "$root/scale/filter.sbatch" "$root/scale/filter.py"
 
-# The manual pages and completions, which cap_pages writes one behind another, each after a line '==> NAME <=='.
+# The manual pages and completions.
 place() {
     case $1 in
     *.1) printf 'usr/share/man/man1/%s' "$1" ;;
@@ -55,7 +55,7 @@ place() {
     *) return 1 ;;
     esac
 }
-"$root/packaging/split_pages.sh" "$work/pages"
+"$root/packaging/pages.py" "$work/pages"
 for page in "$work"/pages/*; do
     install -D -m 644 "$page" "$tree/$(place "${page##*/}")"
 done

@@ -131,7 +131,7 @@ fn link_name(case: &Case<'_>) -> &'static str {
 
 /// What a compilation of the case's expression leaves.
 fn compile(alloc: Global, case: &Case<'_>) -> Result<Outcome, Difference> {
-    let first = ["capkit", "compile", "--link", link_name(case)];
+    let first = ["compile", "--link", link_name(case)];
     let line = accepted(alloc, &first, &case.words)?;
     Ok(run_line(alloc, &line, case, for_listing(case))?)
 }
@@ -139,7 +139,7 @@ fn compile(alloc: Global, case: &Case<'_>) -> Result<Outcome, Difference> {
 /// Prints by the case's listing.
 fn check_code(alloc: Global, case: &Case<'_>) -> Result<(), Difference> {
     let print = [
-        "capkit", "print", "-w", "out", "--format", "pcap", "--code", "listing", "in",
+        "print", "-w", "out", "--format", "pcap", "--code", "listing", "in",
     ];
     let line = accepted(alloc, &print, &[])?;
     check_runs(alloc, case, &line)
@@ -160,7 +160,7 @@ fn check_by_listing(alloc: Global, case: &mut Case<'_>) -> Result<(), Difference
 
 /// Prints by the case's expression.
 fn check_by_words(alloc: Global, case: &Case<'_>) -> Result<(), Difference> {
-    let print = ["capkit", "print", "-w", "out", "--format", "pcap", "in"];
+    let print = ["print", "-w", "out", "--format", "pcap", "in"];
     let line = accepted(alloc, &print, &case.words)?;
     check_runs(alloc, case, &line)
 }

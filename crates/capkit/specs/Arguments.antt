@@ -158,13 +158,13 @@ with_shapes = fold with_subcommand
 abbrev pub bare_line : App
 bare_line =
     let app = new_app (codes "capkit") in
-    record app { top = record app.top { has_version = true; subcommand_required = true; disable_help_subcommand = true } }
+    record app { top = record app.top { no_binary_name = true; has_version = true; subcommand_required = true; disable_help_subcommand = true } }
 
 abbrev pub line_shapes : (formats links : ValueParser) → List Shape
 line_shapes formats links =
     (edit_app formats).top ∷ (merge_app formats).top ∷ infos_app.top ∷ (print_app formats).top ∷ (compile_app links).top ∷ []
 
--- the whole line, with `--version` and no subcommand `help`
+-- the whole line behind the program's name, with `--version` and no subcommand `help`
 abbrev pub line_app : (formats links : ValueParser) → App
 line_app formats links = with_shapes bare_line (line_shapes formats links)
 

@@ -278,7 +278,7 @@ IsLineOf sub.Compile matches line = IsCompileOf matches line
 abbrev pub IsFaultOf : Option Usage → Usage → Type 0
 IsFaultOf fault usage = (usage ≡ Memory) ⊎ (fault ≡ Some usage)
 
--- clap takes the words, of which the first is the program's name, and these are its matches of the subcommand
+-- clap takes the words, and these are its matches of the subcommand
 abbrev pub Asks : List Text → Subcommand → List Row → Type 0
 Asks words asked matches = Takes words (Some (name_of asked, matches))
 

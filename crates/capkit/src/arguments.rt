@@ -12,6 +12,9 @@ use clap::builder::ValueParser;
 use clap::{Arg, ArgAction, ArgMatches, Command, Error};
 use std::alloc::{AllocError, Global};
 
+/// The program's name.
+const NAME: &str = "capkit";
+
 /// The names of the formats that can be written.
 static FORMATS: [&str; 3] = ["pcap", "nsecpcap", "pcapng"];
 
@@ -143,17 +146,20 @@ fn line_command<'a>(alloc: Global) -> Result<Command<'a>, AllocError>
         formats: FORMATS.as_slice(),
         links: LINKS.as_slice(),
     };
-    let bare = Command::new(alloc, "capkit")
+    let bare = Command::new(alloc, NAME)
         .about("A workbench for saved packet captures")
         .after_help(LINE_HELP)
         .version(VERSION)
+        .no_binary_name(true)
         .subcommand_required(true)
-        .disable_help_subcommand(true);
+        .disable_help_subcommand(true)
+        // Without it the usage of a subcommand has no name of the program.
+        .bin_name(NAME)?;
     let command = with_commands(alloc, bare, &COMMANDS, choices)?;
     Ok(command)
 }
 
-/// What clap makes of the words, of which the first is the program's name.
+/// What clap makes of the words.
 pub fn matches_of<'a>(alloc: Global, words: &'a [String]) -> Result<ArgMatches<'a>, Error>
     ensures taken { IfOk result (λ matches. Takes (map string_bytes words.entry.now)
         (subcommand_rows_of matches)) }

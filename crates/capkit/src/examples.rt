@@ -1,7 +1,7 @@
 //! What `--version` prints, and what stands below the options of `--help`.
 //!
 //! A description ends with a colon, and its command lines stand below it, deeper by two blanks.
-//! `cap_pages` reads them so for the manual pages. No line has more than 80 columns.
+//! `packaging/pages.py` reads them so for the manual pages. No line has more than 80 columns.
 
 /// The version of the program, as in `packaging/version`, and of the toolchain that proves it.
 pub const VERSION: &str = "0.1.0 (rattle-kit-13f logic dac8208d650f15bf)";

@@ -26,7 +26,7 @@ pub struct Line {
     pub code: Option<String>,
 }
 
-/// The line that the words ask for, of which the first is the program's name.
+/// The line that the words behind the program's name ask for.
 ///
 /// An error is the first of these that holds: clap refuses the words (also where it is out of
 /// memory), there are more than 512 ranges or 256 inputs, a word is no range, a word is no time or

@@ -39,12 +39,12 @@ fn main(rt: HostRuntime) -> ExitCode {
     ExitCode::from(status(&rt))
 }
 
-/// Does what the program's words ask for, and returns the status.
+/// Does what the words behind the program's name ask for, and returns the status.
 fn status(rt: &HostRuntime) -> u8
     ensures { result ≤ 2 }
 {
     let words = match env::args(rt) {
-        Ok(words) => words.collect(rt.alloc()),
+        Ok(words) => words.skip(1).collect(rt.alloc()),
         Err(error) if error.kind() == ErrorKind::InvalidData => {
             tell(rt, "usage: not UTF-8");
             return USAGE;

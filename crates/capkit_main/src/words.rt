@@ -7,17 +7,17 @@ use std::alloc::{AllocError, Global};
 /// The word that asks for help, as many programs take it.
 const HELP: &str = "help";
 
-/// The words, of which the first is the program's name; `help [COMMAND]` as `[COMMAND] --help`.
+/// The words, where `help [COMMAND]` is read as `[COMMAND] --help`.
 pub fn with_help_option(alloc: Global, words: Vec<String>) -> Result<Vec<String>, AllocError>
     ensures { IfOk result (λ after. map string_bytes after.items
         ≡ with_help_option (map string_bytes words.items)) }
 {
     let mut asked = words;
-    match asked.get(1) {
+    match asked.first() {
         Some(word) if word.as_str() == HELP => {}
         _ => return Ok(asked),
     }
-    asked.remove(1);
+    asked.remove(0);
     asked.push(String::from_str(alloc, "--help")?)?;
     Ok(asked)
 }

@@ -26,17 +26,15 @@ fn has_written(rt: &HostRuntime, folder: &str, count: usize) -> Result<bool, Fai
 #[test]
 fn files_are_read_and_written(rt: HostRuntime) -> Result<(), Fail> {
     let folder = folder(&rt, "written")?;
-    let edit = ["capkit", "edit", "-F", "pcap", "@in", "@out", "2"];
+    let edit = ["edit", "-F", "pcap", "@in", "@out", "2"];
     assert!(rt; status_after(&rt, &folder, &edit)? == 0);
     assert!(rt; has_written(&rt, &folder, 54)?);
     let print = [
-        "capkit", "print", "--code", "@code", "-w", "@out", "--format", "pcap", "@in",
+        "print", "--code", "@code", "-w", "@out", "--format", "pcap", "@in",
     ];
     assert!(rt; status_after(&rt, &folder, &print)? == 0);
     assert!(rt; has_written(&rt, &folder, 54)?);
-    let merge = [
-        "capkit", "merge", "-a", "-F", "pcap", "-w", "@out", "@in", "@code",
-    ];
+    let merge = ["merge", "-a", "-F", "pcap", "-w", "@out", "@in", "@code"];
     assert!(rt; status_after(&rt, &folder, &merge)? == 1);
     assert!(rt; has_written(&rt, &folder, 84)?);
     fs::remove_dir_all(&rt, &folder)?;
@@ -49,10 +47,10 @@ fn files_are_read_and_written(rt: HostRuntime) -> Result<(), Fail> {
 fn nothing_is_created_where_an_input_is_missing(rt: HostRuntime) -> Result<(), Fail> {
     let folder = folder(&rt, "missing")?;
     for words in [
-        ["capkit", "print", "-w", "@out", "@none", "port"].as_slice(),
-        ["capkit", "print", "--code", "@none", "-w", "@out", "@in"].as_slice(),
-        ["capkit", "print", "--code", "/", "-w", "@out", "@in"].as_slice(),
-        ["capkit", "edit", "@none", "@out"].as_slice(),
+        ["print", "-w", "@out", "@none", "port"].as_slice(),
+        ["print", "--code", "@none", "-w", "@out", "@in"].as_slice(),
+        ["print", "--code", "/", "-w", "@out", "@in"].as_slice(),
+        ["edit", "@none", "@out"].as_slice(),
     ] {
         assert!(rt; status_after(&rt, &folder, words)? == 1, "{words:?}");
         assert!(rt; !fs::exists(&rt, &path(&rt, &folder, "out")?)?, "{words:?}");
@@ -115,7 +113,7 @@ fn long_files_are_copied(rt: HostRuntime) -> Result<(), Fail> {
     let bytes = long_capture(rt.alloc())?;
     assert!(rt; bytes.len() == LONG);
     fs::write(&rt, &path(&rt, &folder, "in")?, &bytes)?;
-    let edit = ["capkit", "edit", "-F", "pcap", "@in", "@out"];
+    let edit = ["edit", "-F", "pcap", "@in", "@out"];
     assert!(rt; status_after(&rt, &folder, &edit)? == 0);
     let written = fs::read(&rt, &path(&rt, &folder, "out")?)?;
     assert!(rt; written == bytes);
@@ -133,14 +131,14 @@ fn long_files_are_copied(rt: HostRuntime) -> Result<(), Fail> {
 #[test]
 fn outputs_are_created_before_the_run(rt: HostRuntime) -> Result<(), Fail> {
     let folder = folder(&rt, "created")?;
-    let nowhere = ["capkit", "edit", "@in", "@none/out"];
+    let nowhere = ["edit", "@in", "@none/out"];
     assert!(rt; status_after(&rt, &folder, &nowhere)? == 1);
-    let refused = ["capkit", "print", "-w", "@out", "@in", "port"];
+    let refused = ["print", "-w", "@out", "@in", "port"];
     assert!(rt; status_after(&rt, &folder, &refused)? == 2);
     assert!(rt; has_written(&rt, &folder, 0)?);
-    let null = ["capkit", "edit", "@in", "/dev/null"];
+    let null = ["edit", "@in", "/dev/null"];
     assert!(rt; status_after(&rt, &folder, &null)? == 0);
-    let full = ["capkit", "edit", "@in", "/dev/full"];
+    let full = ["edit", "@in", "/dev/full"];
     assert!(rt; status_after(&rt, &folder, &full)? == 1);
     fs::remove_dir_all(&rt, &folder)?;
     Ok(())
@@ -153,37 +151,21 @@ fn refusals_keep_the_output(rt: HostRuntime) -> Result<(), Fail> {
     let folder = folder(&rt, "kept")?;
     let output = path(&rt, &folder, "out")?;
     for (words, status, written) in [
+        (["print", "-w", "@out", "@in", "port"].as_slice(), 2, 84),
         (
-            ["capkit", "print", "-w", "@out", "@in", "port"].as_slice(),
+            ["print", "--code", "@in", "-w", "@out", "@in"].as_slice(),
             2,
             84,
         ),
         (
-            ["capkit", "print", "--code", "@in", "-w", "@out", "@in"].as_slice(),
+            ["print", "--code", "/dev/null", "-w", "@out", "@in"].as_slice(),
             2,
             84,
         ),
+        (["print", "-w", "@out", "@code"].as_slice(), 1, 0),
+        (["print", "-w", "@out", "@none"].as_slice(), 1, 84),
         (
-            [
-                "capkit",
-                "print",
-                "--code",
-                "/dev/null",
-                "-w",
-                "@out",
-                "@in",
-            ]
-            .as_slice(),
-            2,
-            84,
-        ),
-        (["capkit", "print", "-w", "@out", "@code"].as_slice(), 1, 0),
-        (["capkit", "print", "-w", "@out", "@none"].as_slice(), 1, 84),
-        (
-            [
-                "capkit", "print", "-w", "@out", "--format", "pcap", "-c", "1", "@in",
-            ]
-            .as_slice(),
+            ["print", "-w", "@out", "--format", "pcap", "-c", "1", "@in"].as_slice(),
             0,
             54,
         ),

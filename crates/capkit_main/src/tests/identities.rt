@@ -31,20 +31,20 @@ fn one_file_under_two_names_is_known(rt: HostRuntime) -> Result<(), Fail> {
         ("@other", false),
         ("@new", false),
     ] {
-        let edit = line_of(&rt, &folder, &["capkit", "edit", "@in", output])?;
+        let edit = line_of(&rt, &folder, &["edit", "@in", output])?;
         assert!(rt; overwrites_input(&rt, &edit) == wanted, "{output}");
-        assert!(rt; is_used_twice(&rt, &folder, &["capkit", "edit", "@in", output])? == wanted);
-        let merge = ["capkit", "merge", "-w", output, "@code", "@in"];
+        assert!(rt; is_used_twice(&rt, &folder, &["edit", "@in", output])? == wanted);
+        let merge = ["merge", "-w", output, "@code", "@in"];
         let merge = line_of(&rt, &folder, &merge)?;
         assert!(rt; overwrites_input(&rt, &merge) == wanted, "{output}");
-        let print = ["capkit", "print", "--code", "@in", "-w", output, "@code"];
+        let print = ["print", "--code", "@in", "-w", output, "@code"];
         let print = line_of(&rt, &folder, &print)?;
         assert!(rt; overwrites_input(&rt, &print) == wanted, "{output}");
     }
     // Standard input isn't the file of that name.
     env::set_current_dir(&rt, folder.as_str())?;
     fs::write(&rt, "-", &capture())?;
-    let edit = line_of(&rt, &folder, &["capkit", "edit", "-", "@-"])?;
+    let edit = line_of(&rt, &folder, &["edit", "-", "@-"])?;
     assert!(rt; !overwrites_input(&rt, &edit));
     fs::remove_dir_all(&rt, &folder)?;
     Ok(())
@@ -72,20 +72,17 @@ impl Identify for OneFile<'_> {
 fn standard_output_may_be_an_input(rt: HostRuntime) -> Result<(), Fail> {
     let redirected = OneFile("/dev/stdout", "in");
     for (words, wanted) in [
-        (["capkit", "edit", "in", "-"].as_slice(), true),
-        (["capkit", "edit", "in", "out"].as_slice(), false),
-        (["capkit", "infos", "other", "in"].as_slice(), true),
-        (["capkit", "infos", "other"].as_slice(), false),
-        (
-            ["capkit", "print", "--code", "in", "other"].as_slice(),
-            true,
-        ),
-        (["capkit", "compile"].as_slice(), false),
+        (["edit", "in", "-"].as_slice(), true),
+        (["edit", "in", "out"].as_slice(), false),
+        (["infos", "other", "in"].as_slice(), true),
+        (["infos", "other"].as_slice(), false),
+        (["print", "--code", "in", "other"].as_slice(), true),
+        (["compile"].as_slice(), false),
     ] {
         let line = line_of(&rt, "", words)?;
         assert!(rt; overwrites_input(&redirected, &line) == wanted, "{words:?}");
     }
-    let edit = line_of(&rt, "", &["capkit", "edit", "-", "out"])?;
+    let edit = line_of(&rt, "", &["edit", "-", "out"])?;
     assert!(rt; overwrites_input(&OneFile("/dev/stdin", "out"), &edit));
     Ok(())
 }

@@ -82,7 +82,7 @@ fn progress_is_of_plain_files(rt: HostRuntime) -> Result<(), Fail> {
 #[test]
 fn runs_count_and_hold_back(rt: HostRuntime) -> Result<(), Fail> {
     let folder = folder(&rt, "counted")?;
-    let words = ["capkit", "merge", "-w", "-", "@in", "/dev/null"];
+    let words = ["merge", "-w", "-", "@in", "/dev/null"];
     let words = line(rt.alloc(), &folder, &words)?;
     let Line {
         command,

@@ -56,8 +56,8 @@ fn control_characters_are_shown(rt: HostRuntime) -> Result<(), Fail> {
 fn advice_that_fails_is_left_out(rt: HostRuntime) -> Result<(), Fail> {
     let alloc = rt.alloc();
     for (words, has_tip) in [
-        (["capkit", "print", "-r", "in"].as_slice(), false),
-        (&["capkit", "edit", "--latter", "5", "in", "out"], true),
+        (["print", "-r", "in"].as_slice(), false),
+        (&["edit", "--latter", "5", "in", "out"], true),
     ] {
         let line = line(alloc, "", words)?;
         let Err(Usage::Refused(error)) = command_of(alloc, line) else {
@@ -84,7 +84,7 @@ fn faults_and_answers_are_told(rt: HostRuntime) -> Result<(), Fail> {
         (Some(ErrorKind::StorageFull), 1, unwritten),
         (Some(ErrorKind::BrokenPipe), 1, ""),
     ] {
-        let words = line(alloc, "", &["capkit", "--version"])?;
+        let words = line(alloc, "", &["--version"])?;
         let Err(usage) = command_of(alloc, words) else {
             return Err(Fail::new("taken"));
         };
@@ -108,13 +108,10 @@ fn faults_and_answers_are_told(rt: HostRuntime) -> Result<(), Fail> {
 fn help_is_an_option(rt: HostRuntime) -> Result<(), Fail> {
     let alloc = rt.alloc();
     for (words, wanted) in [
-        (
-            ["capkit", "help"].as_slice(),
-            ["capkit", "--help"].as_slice(),
-        ),
-        (&["capkit", "help", "edit"], &["capkit", "edit", "--help"]),
-        (&["capkit", "infos", "help"], &["capkit", "infos", "help"]),
-        (&["capkit"], &["capkit"]),
+        (["help"].as_slice(), ["--help"].as_slice()),
+        (&["help", "edit"], &["edit", "--help"]),
+        (&["infos", "help"], &["infos", "help"]),
+        (&[], &[]),
     ] {
         let given = with_help_option(alloc, line(alloc, "", words)?)?;
         assert!(rt; given == line(alloc, "", wanted)?, "{words:?}");

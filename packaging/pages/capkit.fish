@@ -1,0 +1,4 @@
+# Completion of capkit for fish.
+complete -c capkit -f
+@first
+@commands
