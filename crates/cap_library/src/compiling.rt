@@ -5,6 +5,7 @@ ghost use Rattle.cap_library.specs.Compiling.{CompileLeaves, IsFailure, Writes, 
 ghost use Rattle.cap_library.specs.Compiling.{status_of};
 
 use cap_filter::compile::compile_text;
+use cap_octet::assigned::{LINKTYPE_ETHERNET, LINKTYPE_LINUX_SLL, LINKTYPE_RAW};
 use flt_bpf::Insn;
 use flt_gen::Link;
 use flt_words::ExprFault;
@@ -29,9 +30,9 @@ fn link_of(number: u16) -> Option<Link>
     ensures { result ≡ link_of number }
 {
     match number {
-        1 => Some(Link::Ether),
-        101 => Some(Link::Raw),
-        113 => Some(Link::Cooked),
+        LINKTYPE_ETHERNET => Some(Link::Ether),
+        LINKTYPE_RAW => Some(Link::Raw),
+        LINKTYPE_LINUX_SLL => Some(Link::Cooked),
         _ => None,
     }
 }

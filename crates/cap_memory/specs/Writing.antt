@@ -1,5 +1,6 @@
 -- Bytes of captures in the caller's buffer, and which packets they can't hold.
 use Rattle.std.specs.Prelude.{◌≡◌, ℕ, ◌<◌, ◌≤◌, ◌^◌, Bool, List, [], ◌∷◌, ◌++◌, length, drop, nat_lt, nat_le, Option, None, Some}
+use Rattle.cap_octet.specs.Date.{TIME_END}
 use Rattle.cap_octet.specs.Packet.{Captured}
 use Rattle.cap_octet.specs.declared.fault.Fault.{Fault}
 use Rattle.cap_octet.specs.declared.fault.Fault.TheVariants.{BadOption, TimeOutOfRange, TooManyOutputInterfaces}
@@ -17,11 +18,11 @@ packet_of time orig bytes comment =
 -- the checks of a packet that is to be written, in order: those that every packet passes that was read, and then those
 -- of the format
 abbrev pub record_checks : Captured → List (Bool × Fault)
-record_checks p = (nat_lt p.time (2 ^ 63), TimeOutOfRange) ∷ pcap.fit_checks p
+record_checks p = (nat_lt p.time TIME_END, TimeOutOfRange) ∷ pcap.fit_checks p
 
 abbrev pub block_checks : (number : ℕ) → Captured → List (Bool × Fault)
 block_checks number p =
-    (nat_lt p.time (2 ^ 63), TimeOutOfRange)
+    (nat_lt p.time TIME_END, TimeOutOfRange)
     ∷ (nat_le (length p.comment) 65535, BadOption)
     ∷ pcapng.fit_checks p
     ++ (nat_lt number most_output_interfaces, TooManyOutputInterfaces)

@@ -10,6 +10,7 @@ ghost use Rattle.cap_memory.specs.Layout.{resolution_by};
 ghost use Rattle.cap_memory.specs.Writing.{WriteLeaves, block_checks, interface_checks};
 ghost use Rattle.cap_memory.specs.Writing.{packet_of, record_checks};
 
+use cap_octet::date::TIME_END;
 use cap_octet::{Fault, Format, Packet};
 use cap_pcap::{head_bytes, record_bytes};
 use cap_pcapng::{
@@ -31,9 +32,6 @@ const MOST_NAME: usize = 255;
 
 /// The most interfaces that a file is given.
 const MOST_INTERFACES: u32 = 4096;
-
-/// From this time on, in nanoseconds, none is held.
-const TIMES: u64 = 1 << 63;
 
 /// What became of bytes that were to be put into a buffer.
 #[derive(Clone, Copy, Debug, PartialEq, Eq)]
@@ -97,7 +95,7 @@ pub fn write_record(
         WriteLeaves (first_failing (record_checks packet))
         (record_text (resolution_by nanoseconds) packet) buffer.old buffer.new result }
 {
-    if time >= TIMES {
+    if time >= TIME_END {
         return Written::Refused(Fault::TimeOutOfRange);
     }
     let packet = Packet {
@@ -181,7 +179,7 @@ pub fn write_packet(
         WriteLeaves (first_failing (block_checks interface packet)) (packet_text interface packet)
         buffer.old buffer.new result }
 {
-    if time >= TIMES {
+    if time >= TIME_END {
         return Written::Refused(Fault::TimeOutOfRange);
     }
     if comment.len() > MOST_COMMENT {
