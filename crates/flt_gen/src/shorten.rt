@@ -119,7 +119,7 @@ impl<A: Allocator> Shortening<'_, A> {
         }
     }
 
-    /// One test of bits for the mask at a place, if a test for 0 is next and A isn't read behind it.
+    /// One test of bits for the mask at a place, if a test for 0 is next and A isn't read behind.
     fn bits_at(&self, at: usize) -> Option<Insn> {
         let mask = self.insn_at(at)?;
         if mask.code != Operation::Compute(AluOperation::And, Operand::Constant).code() {

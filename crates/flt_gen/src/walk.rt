@@ -190,8 +190,8 @@ impl<A: Allocator> Walk<A> {
         Ok(())
     }
 
-    /// A host or port and those behind it: they wait for one more if the host is the right operand
-    /// of an or.
+    /// A host or port and those behind it. If it is the right operand of an or, they wait for the
+    /// left one.
     fn finish_group(&mut self, link: Link) -> Result<(), AllocError>
         requires room { length self.old.code < 2 ^ 30 }
         requires some { length self.old.group.numbers ≤ 4096 }
@@ -199,6 +199,7 @@ impl<A: Allocator> Walk<A> {
             (self.new ≡ finish_group link self.old self.old.group self.old.chained) }
     {
         if self.chained {
+            // The targets that the or kept are still those of the walk.
             let _ = self.truths.pop();
             self.chained = false;
             return Ok(());
