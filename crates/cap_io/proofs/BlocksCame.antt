@@ -16,7 +16,7 @@ use Rattle.cap_pcapng.proofs.Units.{passes, frame_checks-append, frame_in-append
 use Rattle.cap_pcapng.specs.declared.frames.Frame.{Frame}
 use Rattle.cap_io.specs.Blocks.{Enters, IsEntryFault, PacketIfAny, packet_in, section_of}
 use Rattle.cap_io.specs.Reading.{RestMissing, part_of, most_in_unit, length_by_front, decisive_block_length}
-use Rattle.cap_io.specs.declared.unit.Held.{Held}
+use Rattle.cap_io.specs.declared.file_state.Held.{Held}
 use Rattle.cap_io.proofs.OwnFaults.{entry-not_failed, frame-not_failed}
 
 -- ---- what came

@@ -20,11 +20,11 @@ use Rattle.cap_pcapng.specs.declared.frames.BlockType.TheVariants as type
 use Rattle.cap_pcapng.proofs.Units.{passes, unit_fault-few}
 use Rattle.cap_octet.specs.declared.device.Input.{Ghosts}
 use Rattle.cap_pcapng.specs.declared.frames.Frame.{Frame}
-use Rattle.cap_io.specs.declared.unit.Came.{Came}
-use Rattle.cap_io.specs.declared.unit.Came.TheVariants as came
-use Rattle.cap_io.specs.declared.unit.Held.{Held}
-use Rattle.cap_io.specs.declared.unit.Savefile.{Savefile}
-use Rattle.cap_io.specs.declared.unit.Savefile.TheVariants as file
+use Rattle.cap_io.specs.declared.file_state.Came.{Came}
+use Rattle.cap_io.specs.declared.file_state.Came.TheVariants as came
+use Rattle.cap_io.specs.declared.file_state.Held.{Held}
+use Rattle.cap_io.specs.declared.file_state.Savefile.{Savefile}
+use Rattle.cap_io.specs.declared.file_state.Savefile.TheVariants as file
 use Rattle.cap_io.specs.Blocks.{Enters, KnowsIfAny, packet_in, section_of}
 use Rattle.cap_io.specs.Capture.{Declared, Nothing, PcapFile, PcapngFile, Front, IsUnit, a_pcap_header, a_first_block, a_block, file_after, first_after, front_of, front_of_block, is_pcapng}
 use Rattle.cap_io.specs.Reading.{BeginsBlock, FrontMissing, HasInterface, HeaderCame, IsSized, IsTold, PacketCame, ReadsUnit, Refuses, RestMissing, UnitCame, UnitPassed, declared_by, failures_told, first_link_held, order_held, part_of, most_taken, packet_held, decisive_length, decisive_block_length, section_before, size_of}

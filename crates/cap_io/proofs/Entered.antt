@@ -28,7 +28,7 @@ use Rattle.cap_pcapng.specs.declared.frames.BlockType.TheVariants as type
 use Rattle.cap_pcapng.specs.declared.frames.Frame.{Frame}
 use Rattle.cap_io.specs.Blocks.{Enters, IsEntryFault, PacketFound, packet_in, section_of, told_behind}
 use Rattle.cap_io.specs.Reading.{part_of}
-use Rattle.cap_io.specs.declared.unit.Held.{Held}
+use Rattle.cap_io.specs.declared.file_state.Held.{Held}
 use Rattle.cap_io.proofs.OwnFaults.{all_failing, all_of_options}
 
 -- ---- a packet's data

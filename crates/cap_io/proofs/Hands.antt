@@ -9,9 +9,9 @@ use Rattle.cap_pcap.specs.Record.{field_checks, most_captured, record_head_in}
 use Rattle.cap_octet.specs.declared.fault.Fault.{Fault}
 use Rattle.cap_octet.specs.declared.device.Input.{Ghosts}
 use Rattle.cap_pcapng.specs.Interface.{Described}
-use Rattle.cap_io.specs.declared.unit.Came.{Came}
-use Rattle.cap_io.specs.declared.unit.Held.{Held}
-use Rattle.cap_io.specs.declared.unit.Savefile.{Savefile}
+use Rattle.cap_io.specs.declared.file_state.Came.{Came}
+use Rattle.cap_io.specs.declared.file_state.Held.{Held}
+use Rattle.cap_io.specs.declared.file_state.Savefile.{Savefile}
 use Rattle.cap_io.specs.Reading.{NothingTaken, PacketCame, ReadsUnit, Refuses, UnitCame, declared_by, failures_told, held_of_record, packet_held}
 use Rattle.cap_io.specs.Capture.{Declared, PcapFile}
 use Rattle.cap_io.specs.Source.{SourceView, Reading, IsBetween, TakesNext}

@@ -11,8 +11,8 @@ use Rattle.cap_pcapng.specs.Unit.{packet_of}
 use Rattle.cap_io.specs.declared.source.Stage.{Stage}
 use Rattle.cap_io.specs.declared.source.Stage.TheVariants as stage
 use Rattle.cap_octet.specs.declared.fault.Fault.{Fault}
-use Rattle.cap_io.specs.declared.unit.Held.{Held}
-use Rattle.cap_io.specs.declared.unit.Span.{Span}
+use Rattle.cap_io.specs.declared.file_state.Held.{Held}
+use Rattle.cap_io.specs.declared.file_state.Span.{Span}
 use Rattle.cap_io.specs.Capture.{Declared, Nothing, PcapFile, PcapngFile, AreUnits, no_unit}
 use Rattle.cap_io.proofs.Items.{AreUnits-append}
 use Rattle.cap_io.proofs.Units.{one_unit}

@@ -12,7 +12,7 @@ use Rattle.cap_pcapng.specs.Comment.{comment_in}
 use Rattle.cap_pcapng.specs.Interface.{Described}
 use Rattle.cap_pcapng.specs.Unit.{Section, checks_among, most_interfaces, packet_by, packet_of, section_by}
 use Rattle.cap_pcapng.specs.declared.frames.Frame.{Frame}
-use Rattle.cap_io.specs.declared.unit.Held.{Held}
+use Rattle.cap_io.specs.declared.file_state.Held.{Held}
 use Rattle.cap_io.specs.Reading.{part_of}
 
 -- the same section with these interfaces

@@ -16,12 +16,12 @@ use Rattle.cap_pcapng.specs.Interface.{Described}
 use Rattle.cap_pcapng.specs.Unit.{Section, block_size, order_before, packet_of}
 use Rattle.cap_pcap.specs.declared.head.Head.{Head}
 use Rattle.cap_pcap.specs.declared.head.RecordHead.{RecordHead}
-use Rattle.cap_io.specs.declared.unit.Came.{Came}
-use Rattle.cap_io.specs.declared.unit.Came.TheVariants as came
-use Rattle.cap_io.specs.declared.unit.Held.{Held}
-use Rattle.cap_io.specs.declared.unit.Savefile.{Savefile}
-use Rattle.cap_io.specs.declared.unit.Span.{Span}
-use Rattle.cap_io.specs.declared.unit.Savefile.TheVariants as savefile
+use Rattle.cap_io.specs.declared.file_state.Came.{Came}
+use Rattle.cap_io.specs.declared.file_state.Came.TheVariants as came
+use Rattle.cap_io.specs.declared.file_state.Held.{Held}
+use Rattle.cap_io.specs.declared.file_state.Savefile.{Savefile}
+use Rattle.cap_io.specs.declared.file_state.Span.{Span}
+use Rattle.cap_io.specs.declared.file_state.Savefile.TheVariants as savefile
 use Rattle.cap_io.specs.Capture.{Declared, Nothing, PcapFile, PcapngFile, IsUnit, Front, Whole, Stops, first_after, front_of, is_pcapng}
 
 -- how many bytes a unit may have

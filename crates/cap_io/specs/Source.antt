@@ -5,10 +5,10 @@ use Rattle.cap_octet.specs.declared.fault.Fault.{Fault}
 use Rattle.cap_pcapng.specs.Interface.{AreFew, Described}
 use Rattle.cap_io.specs.declared.source.Stage.{Stage}
 use Rattle.cap_io.specs.declared.source.Stage.TheVariants as stage
-use Rattle.cap_io.specs.declared.unit.Came.{Came}
-use Rattle.cap_io.specs.declared.unit.Came.TheVariants as came
-use Rattle.cap_io.specs.declared.unit.Held.{Held}
-use Rattle.cap_io.specs.declared.unit.Savefile.{Savefile}
+use Rattle.cap_io.specs.declared.file_state.Came.{Came}
+use Rattle.cap_io.specs.declared.file_state.Came.TheVariants as came
+use Rattle.cap_io.specs.declared.file_state.Held.{Held}
+use Rattle.cap_io.specs.declared.file_state.Savefile.{Savefile}
 use Rattle.cap_io.specs.Capture.{Declared, Nothing, PcapFile, PcapngFile, IsUnit, AreUnits, Stops, front_of}
 use Rattle.cap_io.specs.Reading.{most_in_unit, failures_told, HasInterface, IsReason, IsTaken, IsHeld, IsTold, declared_by, packet_held}
 

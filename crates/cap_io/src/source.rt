@@ -1,7 +1,7 @@
 //! Packets of a capture, one at a time.
-use crate::capture::read_unit;
-use crate::reading::{record_held, take_record};
-use crate::unit::{Came, Held, Savefile};
+use crate::file_state::{Came, Held, Savefile};
+use crate::next_unit::read_unit;
+use crate::pcap::{record_held, take_record};
 use cap_octet::{Fault, Input, Packet};
 use cap_pcap::Resolution;
 use cap_pcapng::{Options, Table};

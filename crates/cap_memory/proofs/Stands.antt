@@ -14,7 +14,7 @@ use Rattle.cap_pcapng.specs.Unit.{Section, block_size, checks_among, frame_behin
 use Rattle.cap_pcapng.specs.declared.frames.Frame.{Frame}
 use Rattle.cap_pcapng.proofs.Units.{frame_checks-append, frame_in-append, block_checks-append, parts_in-append, unit_fault-frame, unit_fault-short, unit_fault-block, unit_fault-among}
 use Rattle.cap_io.specs.Blocks.{Enters}
-use Rattle.cap_io.specs.declared.unit.Held.{Held}
+use Rattle.cap_io.specs.declared.file_state.Held.{Held}
 use Rattle.cap_io.proofs.BlocksCame.{BlockCame, FrontSays, WholeCame, block_came, front_says, says_behind}
 use Rattle.cap_io.proofs.BlocksCame as came
 use Rattle.cap_memory.specs.Blocks.{BlockPacketIfAny, BlockStands, IsNoBlock, IsRefusal, held_of}

@@ -11,7 +11,7 @@ use Rattle.cap_pcapng.specs.Unit.{IsBlock, Section, checks_among, interfaces_bef
 use Rattle.cap_pcapng.specs.declared.frames.Frame.{Frame}
 use Rattle.cap_io.specs.Blocks.{Enters, FitsIfAny, packet_in, section_of}
 use Rattle.cap_io.specs.Reading.{part_of}
-use Rattle.cap_io.specs.declared.unit.Held.{Held}
+use Rattle.cap_io.specs.declared.file_state.Held.{Held}
 use Rattle.cap_memory.specs.Layout.{first_of}
 use Rattle.cap_memory.specs.declared.block.BlockRead.{BlockRead}
 use Rattle.cap_memory.specs.declared.block.Entered.{Entered}

@@ -3,7 +3,7 @@ use Rattle.std.proofs.lemmas.List.{take_at}
 use Rattle.cap_io.specs.Capture.{Declared}
 use Rattle.cap_io.specs.Reading.{declared_by, held_of_record, packet_held}
 use Rattle.cap_io.specs.Source.{SourceView, TakesNext, view_of}
-use Rattle.cap_io.specs.declared.unit.Savefile.{Savefile}
+use Rattle.cap_io.specs.declared.file_state.Savefile.{Savefile}
 use Rattle.cap_io.specs.declared.source.Stage.TheVariants as stage
 use Rattle.cap_io.proofs.Hands.{takes-next}
 use Rattle.cap_io.proofs.source.Source.take_next.Goals as goal

@@ -1,7 +1,7 @@
 use Rattle.std.proofs.Common.{◌∙◌, sym}
 use Rattle.cap_pcapng.specs.Interface.{described}
 use Rattle.cap_io.proofs.Entered.{found_by, known_interface, simple_found}
-use Rattle.cap_io.proofs.blocks.simple_packet.Goals as goal
+use Rattle.cap_io.proofs.pcapng.simple_packet.Goals as goal
 
 pub returns : goal.returns
 returns g c =

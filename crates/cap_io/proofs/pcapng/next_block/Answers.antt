@@ -1,7 +1,7 @@
 use Rattle.std.proofs.Common.{rules, refl}
 use Rattle.std.proofs.lemmas.Result.{err_from_is_err_and}
 use Rattle.cap_io.proofs.CapturesCame.{begun-front}
-use Rattle.cap_io.proofs.capture.next_block.Goals as goal
+use Rattle.cap_io.proofs.pcapng.next_block.Goals as goal
 
 pub returns-in_err-read_front : goal.returns-in_err-read_front
 returns-in_err-read_front g c =

@@ -4,7 +4,7 @@ use Rattle.cap_octet.specs.declared.fault.Fault.{Fault}
 use Rattle.cap_pcapng.specs.Block.{IsDescribedIfAny, parts_of}
 use Rattle.cap_io.specs.Blocks.{IsEntryFault}
 use Rattle.cap_io.proofs.Entered.{enhanced_enters, enhanced_room, interface_enters, interface_refused, refused_entry, simple_enters}
-use Rattle.cap_io.proofs.blocks.enter.Goals as goal
+use Rattle.cap_io.proofs.pcapng.enter.Goals as goal
 
 pub returns-in_err-push-in-Ok-Interface-clause-err : goal.returns-in_err-push-in-Ok-Interface-clause-err
 returns-in_err-push-in-Ok-Interface-clause-err g c =

@@ -1,7 +1,7 @@
 use Rattle.std.proofs.Common.{◌∙◌, refl, sym}
 use Rattle.cap_pcapng.specs.Interface.{described}
 use Rattle.cap_io.proofs.Entered.{enhanced_found, found_by, known_interface}
-use Rattle.cap_io.proofs.blocks.enhanced_packet.Goals as goal
+use Rattle.cap_io.proofs.pcapng.enhanced_packet.Goals as goal
 
 pub returns : goal.returns
 returns g c =

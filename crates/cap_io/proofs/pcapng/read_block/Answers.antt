@@ -7,7 +7,7 @@ use Rattle.cap_io.specs.Reading.{first_link_held, section_before}
 use Rattle.cap_io.proofs.BlocksCame.{block_came, entry_refused, frame_refused, front_says, no_room_for_block, rest_of_block, whole_came}
 use Rattle.cap_io.proofs.CapturesCame.{first-again, has-section, interfaces-held, interfaces-kept, order-held, packet-block, passed-block, refused-block, small-behind}
 use Rattle.cap_io.proofs.OwnFaults.{entry-own}
-use Rattle.cap_io.proofs.blocks.read_block.Goals as goal
+use Rattle.cap_io.proofs.pcapng.read_block.Goals as goal
 
 pub returns-in_err-found : goal.returns-in_err-found
 returns-in_err-found g c =

@@ -1,19 +1,23 @@
-//! One block of a pcapng file, read from a device.
+//! The blocks of a pcapng file, read from a device.
 ghost use Rattle.std.specs.Prelude.{◌≡◌, ℕ, ◌+◌, ◌^◌, ◌<◌, ◌≤◌, ◌++◌, ◌∷◌, ◌⊎◌, IfOk, IfErr};
-ghost use Rattle.std.specs.Prelude.{OnErr, [], length};
+ghost use Rattle.std.specs.Prelude.{IsTrue, OnErr, [], is_some, length};
 ghost use Rattle.cap_pcapng.specs.Block.{parts_of};
 ghost use Rattle.cap_pcapng.specs.Answer.{Judges};
 ghost use Rattle.cap_pcapng.specs.Unit.{checks_among};
 ghost use Rattle.cap_pcapng.specs.declared.blocks.Block.TheVariants as a;
 ghost use Rattle.cap_io.specs.Blocks.{Enters, IsEntryFault, PacketFound, section_of, told_behind};
 ghost use Rattle.cap_io.specs.Capture.{first_after};
-ghost use Rattle.cap_io.specs.Reading.{BeginsBlock, IsTold, ReadsUnit};
+ghost use Rattle.cap_io.specs.Reading.{BeginsBlock, IsTold, ReadsUnit, order_held};
 
-use crate::reading::{make_room, read_rest};
-use crate::unit::{Came, Held, Savefile, Span};
+use crate::file_state::{Came, Held, Savefile, Span};
+use crate::unit::{make_room, read_front, read_rest};
 use cap_octet::{Fault, Input, Order};
 use cap_pcapng::{Block, EnhancedBlock, Frame, SimpleBlock, Table, block, frame};
 use std::alloc::Allocator;
+
+/// The bytes of a block in front of its body, and as many behind them as tell a section header's
+/// byte order.
+pub(crate) const BLOCK_FRONT: usize = 12;
 
 /// Where the data of an enhanced packet begin in its block.
 const ENHANCED_DATA: u32 = 28;
@@ -145,4 +149,24 @@ pub(crate) fn read_block<I: Input, A: Allocator>(
             Ok(Came::Passed(size))
         }
     }
+}
+
+/// Reads the next block of a pcapng file.
+pub(crate) fn next_block<I: Input, A: Allocator>(
+    input: &mut I,
+    savefile: &mut Savefile,
+    buffer: &mut Vec<u8, A>,
+    table: &mut Table<A>,
+    held: &mut Held,
+) -> Result<Came, Fault>
+    requires section { IsTrue (is_some (order_held savefile.old)) }
+    requires told { IsTold savefile.old table.old }
+    ensures { ReadsUnit I.Input input.old [] savefile.old table.old result input.new
+        buffer.new.items held.new savefile.new table.new }
+{
+    let mut front = [0; BLOCK_FRONT];
+    if !read_front(input, &mut front)? {
+        return Ok(Came::End);
+    }
+    read_block(input, savefile, &front, buffer, table, held)
 }

@@ -1,7 +1,7 @@
 use Rattle.std.proofs.Common.{rules, refl, sym, ap, ◌∙◌, is_some, not}
 use Rattle.std.proofs.lemmas.Result.{err_from_is_err_and}
 use Rattle.cap_io.proofs.Came.{first_of, no_magic, none_if_not, rest_of_header, joined_front, header_came, header_refused, section_of_bytes}
-use Rattle.cap_io.proofs.reading.read_header.Goals as goal
+use Rattle.cap_io.proofs.pcap.read_header.Goals as goal
 
 pub returns-then-is_none-clause-err : goal.returns-then-is_none-clause-err
 returns-then-is_none-clause-err g c = λ t.

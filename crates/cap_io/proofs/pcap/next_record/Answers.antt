@@ -2,7 +2,7 @@ use Rattle.std.proofs.Common.{rules, ◌+◌, take, refl, arith}
 use Rattle.std.proofs.lemmas.List.{take_at}
 use Rattle.std.proofs.lemmas.Result.{err_from_is_err_and}
 use Rattle.cap_io.proofs.Came.{fields_came, fields_refused, no_room, data_missing, record_came}
-use Rattle.cap_io.proofs.reading.next_record.Goals as goal
+use Rattle.cap_io.proofs.pcap.next_record.Goals as goal
 
 pub returns-in_err-found : goal.returns-in_err-found
 returns-in_err-found g c =

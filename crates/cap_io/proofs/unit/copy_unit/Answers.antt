@@ -1,6 +1,6 @@
 use Rattle.std.proofs.Common.{drop}
 use Rattle.cap_io.proofs.Hands.{copied-front}
-use Rattle.cap_io.proofs.reading.copy_unit.Goals as goal
+use Rattle.cap_io.proofs.unit.copy_unit.Goals as goal
 
 pub returns-then-buffer-ge-SHORT_UNIT-clause-copied :
     goal.returns-then-buffer-ge-SHORT_UNIT-clause-copied

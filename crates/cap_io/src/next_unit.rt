@@ -1,19 +1,16 @@
-//! One unit of a capture of any kind, read from a device.
-ghost use Rattle.std.specs.Prelude.{◌≡◌, ◌++◌, IsTrue, IfOk, IfErr, [], is_some};
+//! The next unit of a file of either format.
+ghost use Rattle.std.specs.Prelude.{◌≡◌, ◌++◌, IsTrue, IfOk, IfErr, []};
 ghost use Rattle.cap_io.specs.Capture.{Nothing};
-ghost use Rattle.cap_io.specs.Reading.{IsTold, Moves, ReadsUnit, Refuses, order_held};
-ghost use Rattle.cap_io.specs.declared.unit.Savefile.TheVariants as file;
+ghost use Rattle.cap_io.specs.Reading.{IsTold, Moves, ReadsUnit, Refuses};
+ghost use Rattle.cap_io.specs.declared.file_state.Savefile.TheVariants as file;
 
-use crate::blocks::read_block;
-use crate::reading::{next_record, read_front, read_header, read_rest};
-use crate::unit::{Came, Held, Savefile};
+use crate::file_state::{Came, Held, Savefile};
+use crate::pcap::{next_record, read_header};
+use crate::pcapng::{BLOCK_FRONT, next_block, read_block};
+use crate::unit::read_rest;
 use cap_octet::{Fault, Input, read_full};
 use cap_pcapng::{Table, begins_section};
 use std::alloc::Allocator;
-
-/// The bytes of a block in front of its body, and as many behind them as tell a section header's
-/// byte order.
-const BLOCK_FRONT: usize = 12;
 
 /// The bytes of the file header of pcap.
 const FILE_HEADER: usize = 24;
@@ -57,26 +54,6 @@ fn first_unit<I: Input, A: Allocator>(
     }
     *savefile = Savefile::Pcap(read_header(input, &first)?);
     Ok(Came::Passed(FILE_HEADER))
-}
-
-/// Reads the next block of a pcapng file.
-fn next_block<I: Input, A: Allocator>(
-    input: &mut I,
-    savefile: &mut Savefile,
-    buffer: &mut Vec<u8, A>,
-    table: &mut Table<A>,
-    held: &mut Held,
-) -> Result<Came, Fault>
-    requires section { IsTrue (is_some (order_held savefile.old)) }
-    requires told { IsTold savefile.old table.old }
-    ensures { ReadsUnit I.Input input.old [] savefile.old table.old result input.new
-        buffer.new.items held.new savefile.new table.new }
-{
-    let mut front = [0; BLOCK_FRONT];
-    if !read_front(input, &mut front)? {
-        return Ok(Came::End);
-    }
-    read_block(input, savefile, &front, buffer, table, held)
 }
 
 /// Reads the next unit of a file of which this much is known, or finds the clean end. A packet

@@ -4,7 +4,7 @@ use Rattle.cap_octet.specs.Device.{Passes}
 use Rattle.cap_octet.specs.Checks.{checked, first_failing}
 use Rattle.cap_pcap.specs.Record.{field_checks, record_head_in}
 use Rattle.cap_io.proofs.Hands.{taken-first}
-use Rattle.cap_io.proofs.reading.take_record.Goals as goal
+use Rattle.cap_io.proofs.pcap.take_record.Goals as goal
 
 pub returns-then-pass-clause-taken : goal.returns-then-pass-clause-taken
 returns-then-pass-clause-taken g c =

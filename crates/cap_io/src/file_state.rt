@@ -1,0 +1,109 @@
+//! What is known of a file and of its current unit.
+ghost use Rattle.std.specs.Prelude.{◌≡◌, ◌+◌, ◌≤◌, length};
+ghost use Rattle.cap_io.specs.Reading.{first_link_held, order_held, part_of};
+
+use cap_octet::Order;
+use cap_pcap::Head;
+
+/// What the units that were read declare of those behind them, beside the interfaces of a section.
+#[derive(Clone, Copy, Debug, PartialEq, Eq)]
+pub(crate) enum Savefile {
+    /// Nothing was read.
+    Unknown,
+    Pcap(Head),
+    /// The byte order of the current section, and the first link type that an interface of the file
+    /// declared.
+    Pcapng(Order, Option<u16>),
+}
+
+impl Savefile {
+    /// The byte order of the current section, if there is one.
+    pub(crate) fn order(self) -> Option<Order>
+        ensures { result ≡ order_held self }
+    {
+        match self {
+            Savefile::Unknown | Savefile::Pcap(_) => None,
+            Savefile::Pcapng(order, _) => Some(order),
+        }
+    }
+
+    /// The first link type that the units declare.
+    pub(crate) fn first_link(self) -> Option<u16>
+        ensures { result ≡ first_link_held self }
+    {
+        match self {
+            Savefile::Unknown => None,
+            Savefile::Pcap(head) => Some(head.link),
+            Savefile::Pcapng(_, first) => first,
+        }
+    }
+}
+
+/// Bytes of a unit.
+#[derive(Clone, Copy, Debug, PartialEq, Eq)]
+pub(crate) struct Span {
+    /// Where they begin in the unit.
+    pub(crate) start: u32,
+    /// How many they are.
+    pub(crate) length: u32,
+}
+
+impl Span {
+    /// So many bytes from this one on.
+    pub(crate) fn new(start: u32, length: u32) -> Self
+        ensures { result ≡ record { start = start; length = length } }
+    {
+        Span { start, length }
+    }
+
+    /// These bytes of a buffer that begins with the unit.
+    pub(crate) fn of(self, bytes: &[u8]) -> &[u8]
+        requires { self.start + self.length ≤ length bytes.now }
+        ensures { result.now ≡ part_of self bytes.now }
+    {
+        &bytes[self.start as usize..][..self.length as usize]
+    }
+}
+
+/// Where a packet lies in its unit, which is at the start of the block buffer, and what is in front
+/// of its data.
+#[derive(Clone, Copy, Debug, PartialEq, Eq)]
+pub(crate) struct Held {
+    /// The size of its unit, in bytes.
+    pub(crate) size: u32,
+    /// Where its data lie.
+    pub(crate) bytes: Span,
+    /// Where the options of its block lie; none but in an enhanced packet.
+    pub(crate) options: Span,
+    /// The number of its interface in its section; 0 in pcap.
+    pub(crate) interface: u32,
+    /// Nanoseconds since 1970-01-01 00:00:00 UTC, below 2^63.
+    pub(crate) time: u64,
+    /// The original length, in bytes.
+    pub(crate) orig: u32,
+}
+
+impl Held {
+    /// Of no packet.
+    pub(crate) fn none() -> Self {
+        Held {
+            size: 0,
+            bytes: Span::new(0, 0),
+            options: Span::new(0, 0),
+            interface: 0,
+            time: 0,
+            orig: 0,
+        }
+    }
+}
+
+/// What came of a read of one unit.
+#[derive(Clone, Copy, Debug, PartialEq, Eq)]
+pub(crate) enum Came {
+    /// A unit of so many bytes, without a packet.
+    Passed(usize),
+    /// A packet; where it lies was written.
+    Packet,
+    /// The clean end.
+    End,
+}
