@@ -1,13 +1,13 @@
 //! What is known of a file and of its current unit.
 ghost use Rattle.std.specs.Prelude.{◌≡◌, ◌+◌, ◌≤◌, length};
-ghost use Rattle.cap_io.specs.Reading.{first_link_held, order_held, part_of};
+ghost use Rattle.cap_io.specs.Reading.{known_first_link, known_order, span_bytes};
 
 use cap_octet::Order;
 use cap_pcap::Head;
 
 /// What the units that were read declare of those behind them, beside the interfaces of a section.
 #[derive(Clone, Copy, Debug, PartialEq, Eq)]
-pub(crate) enum Savefile {
+pub(crate) enum FileState {
     /// Nothing was read.
     Unknown,
     Pcap(Head),
@@ -16,25 +16,25 @@ pub(crate) enum Savefile {
     Pcapng(Order, Option<u16>),
 }
 
-impl Savefile {
+impl FileState {
     /// The byte order of the current section, if there is one.
     pub(crate) fn order(self) -> Option<Order>
-        ensures { result ≡ order_held self }
+        ensures { result ≡ known_order self }
     {
         match self {
-            Savefile::Unknown | Savefile::Pcap(_) => None,
-            Savefile::Pcapng(order, _) => Some(order),
+            FileState::Unknown | FileState::Pcap(_) => None,
+            FileState::Pcapng(order, _) => Some(order),
         }
     }
 
     /// The first link type that the units declare.
     pub(crate) fn first_link(self) -> Option<u16>
-        ensures { result ≡ first_link_held self }
+        ensures { result ≡ known_first_link self }
     {
         match self {
-            Savefile::Unknown => None,
-            Savefile::Pcap(head) => Some(head.link),
-            Savefile::Pcapng(_, first) => first,
+            FileState::Unknown => None,
+            FileState::Pcap(head) => Some(head.link),
+            FileState::Pcapng(_, first) => first,
         }
     }
 }
@@ -59,7 +59,7 @@ impl Span {
     /// These bytes of a buffer that begins with the unit.
     pub(crate) fn of(self, bytes: &[u8]) -> &[u8]
         requires { self.start + self.length ≤ length bytes.now }
-        ensures { result.now ≡ part_of self bytes.now }
+        ensures { result.now ≡ span_bytes self bytes.now }
     {
         &bytes[self.start as usize..][..self.length as usize]
     }
@@ -68,7 +68,7 @@ impl Span {
 /// Where a packet lies in its unit, which is at the start of the block buffer, and what is in front
 /// of its data.
 #[derive(Clone, Copy, Debug, PartialEq, Eq)]
-pub(crate) struct Held {
+pub(crate) struct PacketSpans {
     /// The size of its unit, in bytes.
     pub(crate) size: u32,
     /// Where its data lie.
@@ -83,10 +83,10 @@ pub(crate) struct Held {
     pub(crate) orig: u32,
 }
 
-impl Held {
+impl PacketSpans {
     /// Of no packet.
-    pub(crate) fn none() -> Self {
-        Held {
+    pub(crate) fn of_no_packet() -> Self {
+        PacketSpans {
             size: 0,
             bytes: Span::new(0, 0),
             options: Span::new(0, 0),
@@ -99,9 +99,9 @@ impl Held {
 
 /// What came of a read of one unit.
 #[derive(Clone, Copy, Debug, PartialEq, Eq)]
-pub(crate) enum Came {
+pub(crate) enum NextUnit {
     /// A unit of so many bytes, without a packet.
-    Passed(usize),
+    Other(usize),
     /// A packet; where it lies was written.
     Packet,
     /// The clean end.

@@ -1,10 +1,10 @@
 //! The next unit of a file of either format.
 ghost use Rattle.std.specs.Prelude.{◌≡◌, ◌++◌, IsTrue, IfOk, IfErr, []};
 ghost use Rattle.cap_io.specs.Capture.{Nothing};
-ghost use Rattle.cap_io.specs.Reading.{IsTold, Moves, ReadsUnit, Refuses};
-ghost use Rattle.cap_io.specs.declared.file_state.Savefile.TheVariants as file;
+ghost use Rattle.cap_io.specs.Reading.{IsConsistent, Moves, ReadsUnit, NoUnitCame};
+ghost use Rattle.cap_io.specs.declared.file_state.FileState.TheVariants as state;
 
-use crate::file_state::{Came, Held, Savefile};
+use crate::file_state::{FileState, NextUnit, PacketSpans};
 use crate::pcap::{next_record, read_header};
 use crate::pcapng::{BLOCK_FRONT, next_block, read_block};
 use crate::unit::read_rest;
@@ -20,7 +20,7 @@ fn read_first<I: Input>(input: &mut I) -> Result<[u8; 4], Fault>
     ensures moves { Moves I.Input input.old input.new 0 (λ _. 4) 4 result }
     ensures ok { IfOk result (λ first. IsTrue I.tells → I.unread input.old
         ≡ first ++ I.unread input.new) }
-    ensures err { IfErr result (λ fault. IsTrue I.tells → Refuses Nothing (I.unread input.old)
+    ensures err { IfErr result (λ fault. IsTrue I.tells → NoUnitCame Nothing (I.unread input.old)
         (I.unread input.new) fault) }
 {
     let mut first = [0; 4];
@@ -36,42 +36,42 @@ fn read_first<I: Input>(input: &mut I) -> Result<[u8; 4], Fault>
 /// Reads the first unit of a file: a section header, or the file header of pcap.
 fn first_unit<I: Input, A: Allocator>(
     input: &mut I,
-    savefile: &mut Savefile,
+    file: &mut FileState,
     buffer: &mut Vec<u8, A>,
     table: &mut Table<A>,
-    held: &mut Held,
-) -> Result<Came, Fault>
-    requires unknown { savefile.old ≡ file.Unknown }
+    spans: &mut PacketSpans,
+) -> Result<NextUnit, Fault>
+    requires unknown { file.old ≡ state.Unknown }
     requires empty { table.old ≡ [] }
-    ensures { ReadsUnit I.Input input.old [] savefile.old table.old result input.new
-        buffer.new.items held.new savefile.new table.new }
+    ensures { ReadsUnit I.Input input.old [] file.old table.old result input.new
+        buffer.new.items spans.new file.new table.new }
 {
     let first = read_first(input)?;
     if begins_section(&first) {
         let mut front = [0; BLOCK_FRONT];
         read_rest(input, &first, &mut front, BLOCK_FRONT)?;
-        return read_block(input, savefile, &front, buffer, table, held);
+        return read_block(input, file, &front, buffer, table, spans);
     }
-    *savefile = Savefile::Pcap(read_header(input, &first)?);
-    Ok(Came::Passed(FILE_HEADER))
+    *file = FileState::Pcap(read_header(input, &first)?);
+    Ok(NextUnit::Other(FILE_HEADER))
 }
 
 /// Reads the next unit of a file of which this much is known, or finds the clean end. A packet
 /// is then at the start of the buffer. A fault leaves what is known.
 pub(crate) fn read_unit<I: Input, A: Allocator>(
     input: &mut I,
-    savefile: &mut Savefile,
+    file: &mut FileState,
     buffer: &mut Vec<u8, A>,
     table: &mut Table<A>,
-    held: &mut Held,
-) -> Result<Came, Fault>
-    requires { IsTold savefile.old table.old }
-    ensures { ReadsUnit I.Input input.old [] savefile.old table.old result input.new
-        buffer.new.items held.new savefile.new table.new }
+    spans: &mut PacketSpans,
+) -> Result<NextUnit, Fault>
+    requires { IsConsistent file.old table.old }
+    ensures { ReadsUnit I.Input input.old [] file.old table.old result input.new
+        buffer.new.items spans.new file.new table.new }
 {
-    match &*savefile {
-        Savefile::Unknown => first_unit(input, savefile, buffer, table, held),
-        Savefile::Pcap(head) => next_record(input, head, buffer, held),
-        Savefile::Pcapng(_, _) => next_block(input, savefile, buffer, table, held),
+    match &*file {
+        FileState::Unknown => first_unit(input, file, buffer, table, spans),
+        FileState::Pcap(head) => next_record(input, head, buffer, spans),
+        FileState::Pcapng(_, _) => next_block(input, file, buffer, table, spans),
     }
 }

@@ -5,11 +5,11 @@ ghost use Rattle.cap_pcapng.specs.Frame.{is_section};
 ghost use Rattle.cap_pcapng.specs.Interface.{Described};
 ghost use Rattle.cap_io.specs.Capture.{Nothing};
 ghost use Rattle.cap_io.specs.Reading.{HeaderCame, Moves, NothingTaken, ReadsUnit, RecordTaken};
-ghost use Rattle.cap_io.specs.Reading.{Refuses, held_of_record};
+ghost use Rattle.cap_io.specs.Reading.{NoUnitCame, record_spans};
 ghost use Rattle.cap_pcap.specs.Record.{most_captured};
-ghost use Rattle.cap_io.specs.declared.file_state.Savefile.TheVariants as file;
+ghost use Rattle.cap_io.specs.declared.file_state.FileState.TheVariants as state;
 
-use crate::file_state::{Came, Held, Span};
+use crate::file_state::{NextUnit, PacketSpans, Span};
 use crate::unit::{copy_unit, make_room, read_front, read_rest};
 use cap_octet::{Fault, Input};
 use cap_pcap::{Head, RecordHead, read_head, read_magic, read_record};
@@ -24,7 +24,7 @@ pub(crate) fn read_header<I: Input>(input: &mut I, first: &[u8; 4]) -> Result<He
     ensures moves { Moves I.Input input.old input.new 4 (λ _. 24) 24 result }
     ensures ok { IfOk result (λ head. IsTrue I.tells → HeaderCame (first.now ++ I.unread input.old)
         head (I.unread input.new)) }
-    ensures err { IfErr result (λ fault. IsTrue I.tells → Refuses Nothing
+    ensures err { IfErr result (λ fault. IsTrue I.tells → NoUnitCame Nothing
         (first.now ++ I.unread input.old) (I.unread input.new) fault) }
 {
     if read_magic(first).is_none() {
@@ -67,30 +67,30 @@ pub(crate) fn next_record<I: Input, A: Allocator>(
     input: &mut I,
     head: &Head,
     buffer: &mut Vec<u8, A>,
-    held: &mut Held,
-) -> Result<Came, Fault>
-    ensures { (interfaces : List Described) → ReadsUnit I.Input input.old [] (file.Pcap head.now)
-        interfaces result input.new buffer.new.items held.new (file.Pcap head.now) interfaces }
+    spans: &mut PacketSpans,
+) -> Result<NextUnit, Fault>
+    ensures { (interfaces : List Described) → ReadsUnit I.Input input.old [] (state.Pcap head.now)
+        interfaces result input.new buffer.new.items spans.new (state.Pcap head.now) interfaces }
 {
     let mut front = [0; RECORD_HEAD];
     if !read_front(input, &mut front)? {
-        return Ok(Came::End);
+        return Ok(NextUnit::End);
     }
     let found = read_record(head, &front)?;
     let size = RECORD_HEAD + found.captured as usize;
     make_room(buffer, size)?;
     read_rest(input, &front, buffer.as_mut_slice(), size)?;
-    *held = record_held(&found);
-    Ok(Came::Packet)
+    *spans = record_spans(&found);
+    Ok(NextUnit::Packet)
 }
 
 /// Where the packet of a record lies.
 #[inline(always)]
-pub(crate) fn record_held(found: &RecordHead) -> Held
+pub(crate) fn record_spans(found: &RecordHead) -> PacketSpans
     requires { found.now.captured ≤ most_captured }
-    ensures { result ≡ held_of_record found.now }
+    ensures { result ≡ record_spans found.now }
 {
-    Held {
+    PacketSpans {
         size: RECORD_HEAD as u32 + found.captured,
         bytes: Span::new(RECORD_HEAD as u32, found.captured),
         options: Span::new(RECORD_HEAD as u32, 0),

@@ -10,7 +10,7 @@ use Rattle.cap_octet.specs.Packet.{Captured}
 use Rattle.cap_octet.proofs.Checks.{all_met}
 use Rattle.cap_pcapng.specs.Padding.{padded}
 use Rattle.cap_pcapng.specs.Frame.{most_block}
-use Rattle.cap_pcapng.specs.Encoding.{block_text, comment_text, end_text, fit_checks, interface_body, interface_heading, interface_text, name_text, packet_body, packet_heading, packet_text, padded_text, resolution_text}
+use Rattle.cap_pcapng.specs.Encoding.{block_text, comment_text, end_text, fit_checks, interface_body, interface_header, interface_text, name_text, packet_body, packet_header, packet_text, padded_text, resolution_text}
 
 -- the last of the zeros in front of more bytes, and these
 block_end : (k zeros n : ℕ) (more end : List ℕ) → zeros ≤ k → end ≡ replicate k 0 ++ more → n ≡ k + length more
@@ -82,7 +82,7 @@ pieces bytes option comment zeros size = simp (append_assoc, append-nil)
 -- a packet's block is its pieces, joined
 pub packet_joined : (number zeros : ℕ) (p : Captured) (head option end : List ℕ) → zeros ≤ 7
     → option ++ (p.comment ++ replicate zeros 0) ≡ replicate (padded (length p.bytes) - length p.bytes) 0 ++ comment_text p.comment
-    → head ≡ packet_heading (32 + length p.bytes + length option + length p.comment + zeros) number p
+    → head ≡ packet_header (32 + length p.bytes + length option + length p.comment + zeros) number p
     → end ≡ replicate 7 0 ++ little_bytes 4 (32 + length p.bytes + length option + length p.comment + zeros)
     → head ++ (p.bytes ++ (option ++ (p.comment ++ (take (11 - (7 - zeros)) (drop (7 - zeros) end) ++ [])))) ≡ packet_text number p
 packet_joined number zeros p head option end few behind head_is end_is =
@@ -91,7 +91,7 @@ packet_joined number zeros p head option end few behind head_is end_is =
     let sizes = simp (length-append, length-replicate) at (ap length behind) in
     let whole : size ≡ 12 + length (packet_body number p) = omega (arith, sizes, length-packet_body number p) in
     ap₂ (λ (h t : List ℕ). h ++ (p.bytes ++ (option ++ (p.comment ++ (t ++ []))))) head_is (block_end 7 zeros 11 (little_bytes 4 size) end few end_is refl)
-    ∙ ap (λ (t : List ℕ). packet_heading size number p ++ t)
+    ∙ ap (λ (t : List ℕ). packet_header size number p ++ t)
     (pieces p.bytes option p.comment (replicate zeros 0) (little_bytes 4 size)
     ∙ ap (λ (t : List ℕ). p.bytes ++ t ++ little_bytes 4 size) behind
     ∙ ap (λ (t : List ℕ). t ++ little_bytes 4 size) (sym (append_assoc p.bytes padding (comment_text p.comment))))
@@ -103,7 +103,7 @@ empty (b ∷ bytes) none = absurd (false≢true (sym (ne_eqb (length (b ∷ byte
 
 -- the block of a packet without a comment
 pub plain_joined : (number zeros : ℕ) (p : Captured) (head end : List ℕ) → (length p.comment == 0) ≡ true → zeros < 4 → length p.bytes + zeros ≡ padded (length p.bytes)
-    → head ≡ packet_heading (32 + length p.bytes + zeros) number p
+    → head ≡ packet_header (32 + length p.bytes + zeros) number p
     → end ≡ replicate 7 0 ++ little_bytes 4 (32 + length p.bytes + zeros)
     → head ++ (p.bytes ++ (take (11 - (7 - zeros)) (drop (7 - zeros) end) ++ [])) ≡ packet_text number p
 plain_joined number zeros p head end none few padding_is head_is end_is =
@@ -111,7 +111,7 @@ plain_joined number zeros p head end none few padding_is head_is end_is =
     let size : 32 + length p.bytes + zeros ≡ 32 + length p.bytes + 0 + length p.comment + zeros = omega (arith, ap length comment_is) in
     ap (λ (c : List ℕ). head ++ (p.bytes ++ (c ++ (take (11 - (7 - zeros)) (drop (7 - zeros) end) ++ [])))) (sym comment_is)
     ∙ packet_joined number zeros p head [] end (omega arith) (plain_behind zeros p.bytes p.comment none padding_is)
-    (head_is ∙ ap (λ (s : ℕ). packet_heading s number p) size) (end_is ∙ ap (λ (s : ℕ). replicate 7 0 ++ little_bytes 4 s) size)
+    (head_is ∙ ap (λ (s : ℕ). packet_header s number p) size) (end_is ∙ ap (λ (s : ℕ). replicate 7 0 ++ little_bytes 4 s) size)
 
 -- ---- an interface
 
@@ -140,7 +140,7 @@ regrouped option name zeros r e s = simp (append_assoc, append-nil)
 
 -- an interface's block is its pieces, joined
 pub interface_joined : (link snap padding : ℕ) (name head option end : List ℕ) → padding < 4 → option ++ (name ++ replicate padding 0) ≡ name_text name
-    → head ≡ interface_heading (32 + length option + length name + padding) link snap
+    → head ≡ interface_header (32 + length option + length name + padding) link snap
     → end ≡ replicate 3 0 ++ (resolution_text ++ end_text ++ little_bytes 4 (32 + length option + length name + padding))
     → head ++ (option ++ (name ++ (take (19 - (3 - padding)) (drop (3 - padding) end) ++ []))) ≡ interface_text link snap name
 interface_joined link snap padding name head option end few name_is head_is end_is =
@@ -149,6 +149,6 @@ interface_joined link snap padding name head option end few name_is head_is end_
     let body : length (interface_body link snap name) ≡ length (name_text name) + 20 = simp (length-append) (omega arith) in
     let whole : size ≡ 12 + length (interface_body link snap name) = omega (arith, sizes, body) in
     ap₂ (λ (h t : List ℕ). h ++ (option ++ (name ++ (t ++ [])))) head_is (block_end 3 padding 19 _ end (omega arith) end_is refl)
-    ∙ ap (λ (t : List ℕ). interface_heading size link snap ++ t) (regrouped option name (replicate padding 0) resolution_text end_text (little_bytes 4 size))
-    ∙ ap (λ (t : List ℕ). interface_heading size link snap ++ (t ++ resolution_text ++ end_text ++ little_bytes 4 size)) name_is
+    ∙ ap (λ (t : List ℕ). interface_header size link snap ++ t) (regrouped option name (replicate padding 0) resolution_text end_text (little_bytes 4 size))
+    ∙ ap (λ (t : List ℕ). interface_header size link snap ++ (t ++ resolution_text ++ end_text ++ little_bytes 4 size)) name_is
     ∙ ap (λ (s : ℕ). little_bytes 4 1 ++ little_bytes 4 s ++ interface_body link snap name ++ little_bytes 4 s) whole

@@ -1,6 +1,6 @@
 use Rattle.std.proofs.Common.{rules, refl, sym, ◌∙◌}
 use Rattle.std.proofs.lemmas.Result.{err_from_is_err_and}
-use Rattle.cap_io.proofs.Came.{Refuses-behind, first_of, joined_front, section_of_bytes}
+use Rattle.cap_io.proofs.Came.{NoUnitCame-behind, first_of, joined_front, section_of_bytes}
 use Rattle.cap_io.proofs.CapturesCame.{ReadsUnit-behind, UnitPassed-behind, header_passed, rest_of_front}
 use Rattle.cap_io.proofs.next_unit.first_unit.Goals as goal
 
@@ -10,10 +10,10 @@ returns-in_err-read_rest g c =
     rw (p.1, p.2, c.requires.unknown) (record {
       moves = search rules;
       sized = tt;
-      told = tt;
+      consistent = tt;
       known = tt;
       ok = tt;
-      err = λ t. Refuses-behind _ _ _ c.in_ok-first.first _ (c.in_ok-first.ensures.ok t)
+      err = λ t. NoUnitCame-behind _ _ _ c.in_ok-first.first _ (c.in_ok-first.ensures.ok t)
           (rest_of_front c.in_ok-first.first _ _ _ 12 refl (search rules) (sym c.begins_section.ensures ∙ c.if-begins_section.true) (c.in_err-read_rest.ensures.err t));
       kept = (refl, refl);
     })
@@ -36,7 +36,7 @@ pub returns : goal.returns
 returns g c = rw c.requires.unknown (record {
   moves = search rules;
   sized = search rules;
-  told = tt;
+  consistent = tt;
   known = tt;
   ok = λ t. UnitPassed-behind _ _ _ c.in_ok-first.first _ _ (c.in_ok-first.ensures.ok t) (header_passed _ _ c.in_ok-read_header.field-0 (c.in_ok-read_header.ensures.ok t));
   err = tt;

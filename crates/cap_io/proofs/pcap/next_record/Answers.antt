@@ -10,7 +10,7 @@ returns-in_err-found g c =
     rw (p.1, p.2) (λ interfaces. record {
       moves = search rules;
       sized = tt;
-      told = tt;
+      consistent = tt;
       known = tt;
       ok = tt;
       err = λ t. fields_refused _ _ _ c.read_front.new.front _ _ (rw c.if-not-branch.false at (c.in_ok-read_front.ensures.ok t)) (search rules) c.read_record.ensures.answer c.in_err-found.was;
@@ -23,7 +23,7 @@ returns-in_err-make_room g c =
     rw (p.1, p.2, c.in_err-make_room.ensures.memory) (λ interfaces. record {
       moves = search rules;
       sized = tt;
-      told = tt;
+      consistent = tt;
       known = tt;
       ok = tt;
       err = λ t. no_room _ _ _ c.read_front.new.front (rw c.if-not-branch.false at (c.in_ok-read_front.ensures.ok t)) (search rules);
@@ -36,7 +36,7 @@ returns-in_err-read_rest g c =
     rw (p.1, p.2) (λ interfaces. record {
       moves = search rules;
       sized = tt;
-      told = tt;
+      consistent = tt;
       known = tt;
       ok = tt;
       err = λ t. data_missing _ _ _ _ c.read_front.new.front c.in_ok-found.found _ _ (search rules) (rw c.if-not-branch.false at (c.in_ok-read_front.ensures.ok t)) (search rules)
@@ -45,7 +45,7 @@ returns-in_err-read_rest g c =
     })
 
 pub returns : goal.returns
-returns g c = rw c.record_held.ensures (λ interfaces. record {
+returns g c = rw c.record_spans.ensures (λ interfaces. record {
   moves = search rules;
   sized = (
     record {
@@ -58,7 +58,7 @@ returns g c = rw c.record_held.ensures (λ interfaces. record {
     },
     search rules,
   );
-  told = tt;
+  consistent = tt;
   known = tt;
   ok = λ t.
       record_came _ _ _ _ c.read_front.new.front (take (16 + c.in_ok-found.found.captured) c.read_rest.new.buffer) _ c.in_ok-found.found _ (rw c.if-not-branch.false at (c.in_ok-read_front.ensures.ok t)) (search rules)

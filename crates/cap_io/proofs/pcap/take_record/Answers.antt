@@ -2,7 +2,7 @@ use Rattle.std.proofs.Common.{◌≡◌, ◌+◌, ◌≤◌, ℕ, Bool, Ok, List
 use Rattle.std.proofs.lemmas.List.{take-take}
 use Rattle.cap_octet.specs.Device.{Passes}
 use Rattle.cap_octet.specs.Checks.{checked, first_failing}
-use Rattle.cap_pcap.specs.Record.{field_checks, record_head_in}
+use Rattle.cap_pcap.specs.Record.{field_checks, record_header_in}
 use Rattle.cap_io.proofs.Hands.{taken-first}
 use Rattle.cap_io.proofs.pcap.take_record.Goals as goal
 
@@ -14,11 +14,11 @@ returns-then-pass-clause-taken g c =
     let few : 16 ≤ size = omega arith in
     let front : take 16 buffer ≡ take 16 hand =
     sym (take-take 16 size buffer few) ∙ ap (take 16) c.copy_unit.ensures.copied ∙ take-take 16 size hand few in
-    let F : List ℕ → Type 0 = λ l. checked (first_failing (field_checks c.args.head.now l)) (record_head_in c.args.head.now l) ≡ Ok c.in-Ok.found in
+    let F : List ℕ → Type 0 = λ l. checked (first_failing (field_checks c.args.head.now l)) (record_header_in c.args.head.now l) ≡ Ok c.in-Ok.found in
     let T : Bool → Type 0 = λ b. Passes (g.I.Input.unread c.args.input.now) size b (g.I.Input.unread c.pass.new.self) in
     record {
       says = subst F (sym front) (
-          ap (λ (l : List ℕ). checked (first_failing (field_checks c.args.head.now l)) (record_head_in c.args.head.now l)) (sym c.in_ok-front.ensures.cases.same)
+          ap (λ (l : List ℕ). checked (first_failing (field_checks c.args.head.now l)) (record_header_in c.args.head.now l)) (sym c.in_ok-front.ensures.cases.same)
           ∙ sym c.in-Ok.ensures.answer);
       short = c.in-Ok.ensures.short;
       in_range = c.in-Ok.ensures.in_range;

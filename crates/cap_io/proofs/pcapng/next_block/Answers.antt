@@ -9,9 +9,9 @@ returns-in_err-read_front g c =
     rw (p.1, p.2) (record {
       moves = search rules;
       sized = tt;
-      told = tt;
+      consistent = tt;
       known = tt;
       ok = tt;
-      err = λ t. begun-front c.args.savefile.now c.args.table.now _ _ _ c.requires.section (c.in_err-read_front.ensures.err t);
+      err = λ t. begun-front c.args.file.now c.args.table.now _ _ _ c.requires.section (c.in_err-read_front.ensures.err t);
       kept = (refl, refl);
     })

@@ -3,7 +3,7 @@ use Rattle.std.proofs.lemmas.List.{take_at}
 use Rattle.std.proofs.lemmas.Result.{err_from_is_err_and}
 use Rattle.cap_pcapng.specs.Frame.{frame_in}
 use Rattle.cap_io.specs.Blocks.{section_of}
-use Rattle.cap_io.specs.Reading.{first_link_held, section_before}
+use Rattle.cap_io.specs.Reading.{known_first_link, section_before}
 use Rattle.cap_io.proofs.BlocksCame.{block_came, entry_refused, frame_refused, front_says, no_room_for_block, rest_of_block, whole_came}
 use Rattle.cap_io.proofs.CapturesCame.{first-again, has-section, interfaces-held, interfaces-kept, order-held, packet-block, passed-block, refused-block, small-behind}
 use Rattle.cap_io.proofs.OwnFaults.{entry-own}
@@ -15,11 +15,11 @@ returns-in_err-found g c =
     rw (p.1, p.2) (record {
       moves = search rules;
       sized = tt;
-      told = tt;
+      consistent = tt;
       known = tt;
       ok = tt;
-      err = λ t. refused-block c.args.savefile.now c.args.table.now c.args.front.now _ _ _ (search rules) c.requires.begins
-          (frame_refused (section_before c.args.savefile.now c.args.table.now) c.order.result c.args.front.now _ _ _ (order-held c.args.savefile.now c.args.table.now ∙ sym c.order.ensures) (search rules) c.frame.ensures.answer c.in_err-found.was);
+      err = λ t. refused-block c.args.file.now c.args.table.now c.args.front.now _ _ _ (search rules) c.requires.begins
+          (frame_refused (section_before c.args.file.now c.args.table.now) c.order.result c.args.front.now _ _ _ (order-held c.args.file.now c.args.table.now ∙ sym c.order.ensures) (search rules) c.frame.ensures.answer c.in_err-found.was);
       kept = (refl, refl);
     })
 
@@ -29,11 +29,11 @@ returns-in_err-make_room g c =
     rw (p.1, p.2, c.in_err-make_room.ensures.memory) (record {
       moves = search rules;
       sized = tt;
-      told = tt;
+      consistent = tt;
       known = tt;
       ok = tt;
-      err = λ t. refused-block c.args.savefile.now c.args.table.now c.args.front.now _ _ _ (search rules) c.requires.begins
-          (no_room_for_block (section_before c.args.savefile.now c.args.table.now) c.args.front.now _ (search rules));
+      err = λ t. refused-block c.args.file.now c.args.table.now c.args.front.now _ _ _ (search rules) c.requires.begins
+          (no_room_for_block (section_before c.args.file.now c.args.table.now) c.args.front.now _ (search rules));
       kept = (refl, refl);
     })
 
@@ -43,50 +43,50 @@ returns-in_err-read_rest g c =
     rw (p.1, p.2) (record {
       moves = search rules;
       sized = tt;
-      told = tt;
+      consistent = tt;
       known = tt;
       ok = tt;
-      err = λ t. refused-block c.args.savefile.now c.args.table.now c.args.front.now _ _ _ (search rules) c.requires.begins
-          (rest_of_block (section_before c.args.savefile.now c.args.table.now) c.order.result c.args.front.now _ _ c.in_ok-found.found _ (order-held c.args.savefile.now c.args.table.now ∙ sym c.order.ensures) (search rules)
+      err = λ t. refused-block c.args.file.now c.args.table.now c.args.front.now _ _ _ (search rules) c.requires.begins
+          (rest_of_block (section_before c.args.file.now c.args.table.now) c.order.result c.args.front.now _ _ c.in_ok-found.found _ (order-held c.args.file.now c.args.table.now ∙ sym c.order.ensures) (search rules)
           (front_says c.order.result c.args.front.now _ c.in_ok-found.found c.frame.ensures.answer c.in_ok-found.was) c.in_ok-found.ensures.longest (c.in_err-read_rest.ensures.err t));
       kept = (refl, refl);
     })
 
-pub returns-in_err-spans : goal.returns-in_err-spans
-returns-in_err-spans g c =
-    let p = err_from_is_err_and c.from_residual-in_err-spans.result c.from_residual-in_err-spans.ensures.1 in
+pub returns-in_err-packet : goal.returns-in_err-packet
+returns-in_err-packet g c =
+    let p = err_from_is_err_and c.from_residual-in_err-packet.result c.from_residual-in_err-packet.ensures.1 in
     let moves = c.in_ok-read_rest.ensures.moves in
-    let own = entry-own _ _ _ c.in_err-spans.field-0.0 c.in_err-spans.ensures.err in
+    let own = entry-own _ _ _ c.in_err-packet.field-0.0 c.in_err-packet.ensures.err in
     rw (p.1, p.2) (record {
       moves = record {
         counted = tt;
         grown = moves.grown;
         bounded = tt;
-        few = omega (arith, moves.counted, c.in_ok-found.ensures.longest);
+        at_most = omega (arith, moves.counted, c.in_ok-found.ensures.longest);
         failed = omega (arith, moves.failed, own);
         never = moves.never;
       };
       sized = tt;
-      told = tt;
+      consistent = tt;
       known = tt;
       ok = tt;
-      err = λ t. refused-block c.args.savefile.now c.args.table.now c.args.front.now _ _ _ (search rules) c.requires.begins
-          (entry_refused (section_before c.args.savefile.now c.args.table.now) c.order.result c.args.table.now _ _ _ _ c.in_ok-found.found _ (order-held c.args.savefile.now c.args.table.now ∙ sym c.order.ensures)
-          (interfaces-held c.args.savefile.now c.args.table.now c.args.front.now c.requires.begins c.requires.told) c.in_ok-found.ensures.shortest c.in_ok-found.ensures.longest
+      err = λ t. refused-block c.args.file.now c.args.table.now c.args.front.now _ _ _ (search rules) c.requires.begins
+          (entry_refused (section_before c.args.file.now c.args.table.now) c.order.result c.args.table.now _ _ _ _ c.in_ok-found.found _ (order-held c.args.file.now c.args.table.now ∙ sym c.order.ensures)
+          (interfaces-held c.args.file.now c.args.table.now c.args.front.now c.requires.begins c.requires.consistent) c.in_ok-found.ensures.shortest c.in_ok-found.ensures.longest
           (omega (arith, c.in_ok-make_room.ensures.room, c.deref.ensures.len, ap length c.deref.ensures.value))
           (whole_came c.order.result c.args.front.now _ _ (take c.in_ok-found.found.length c.read_rest.new.buffer) _ c.in_ok-found.found (search rules)
           (front_says c.order.result c.args.front.now _ c.in_ok-found.found c.frame.ensures.answer c.in_ok-found.was)
           (rw (take_at c.read_rest.new.buffer _ c.make_room.new.buffer.len (search rules)) refl) c.in_ok-read_rest.ensures.same (c.in_ok-read_rest.ensures.ok t))
-          (ap (take c.in_ok-found.found.length) c.deref.ensures.value) c.in_err-spans.ensures.err);
-      kept = (refl, c.in_err-spans.ensures.kept);
+          (ap (take c.in_ok-found.found.length) c.deref.ensures.value) c.in_err-packet.ensures.err);
+      kept = (refl, c.in_err-packet.ensures.kept);
     })
 
 pub returns-in-Some : goal.returns-in-Some
 returns-in-Some g c =
     let moves = c.in_ok-read_rest.ensures.moves in
     let frame = c.in_ok-found.found in
-    let enters = rw c.in-Some.is at c.in_ok-spans.ensures.ok in
-    let stays = interfaces-kept frame c.args.table.now c.enter.new.table _ c.in-Some.spans enters in
+    let enters = rw c.in-Some.is at c.in_ok-packet.ensures.ok in
+    let stays = interfaces-kept frame c.args.table.now c.apply_block.new.table _ c.in-Some.packet enters in
     let says = front_says c.order.result c.args.front.now _ frame c.frame.ensures.answer c.in_ok-found.was in
     let small = small-behind _ _ (length c.args.front.now) frame.length (search rules) moves.counted c.in_ok-found.ensures.shortest moves.bounded c.requires.bounded in
     record {
@@ -94,7 +94,7 @@ returns-in-Some g c =
         counted = omega (arith, moves.counted, enters.fits.0);
         grown = moves.grown;
         bounded = λ some. small;
-        few = tt;
+        at_most = tt;
         failed = moves.failed;
         never = moves.never;
       };
@@ -109,12 +109,12 @@ returns-in-Some g c =
         },
         small,
       );
-      told = rw stays c.requires.told;
-      known = has-section c.args.savefile.now c.args.front.now _ frame c.args.table.now c.enter.new.table c.in-Some.spans c.requires.begins (ap (λ o. frame_in o c.args.front.now) (sym c.order.ensures) ∙ says.says) enters enters.known;
-      ok = λ t. packet-block c.args.savefile.now c.args.table.now c.enter.new.table c.args.front.now _ _ _ frame.order frame.length c.in-Some.spans c.requires.begins
-          (omega (arith, c.in_ok-make_room.ensures.room, c.deref.ensures.len, ap length c.deref.ensures.value)) c.requires.told enters.fits.0 stays
-          (block_came (section_before c.args.savefile.now c.args.table.now) c.order.result c.args.table.now c.enter.new.table _ _ _ _ frame _ (order-held c.args.savefile.now c.args.table.now ∙ sym c.order.ensures)
-          (interfaces-held c.args.savefile.now c.args.table.now c.args.front.now c.requires.begins c.requires.told) c.in_ok-found.ensures.shortest
+      consistent = rw stays c.requires.consistent;
+      known = has-section c.args.file.now c.args.front.now _ frame c.args.table.now c.apply_block.new.table c.in-Some.packet c.requires.begins (ap (λ o. frame_in o c.args.front.now) (sym c.order.ensures) ∙ says.says) enters enters.known;
+      ok = λ t. packet-block c.args.file.now c.args.table.now c.apply_block.new.table c.args.front.now _ _ _ frame.order frame.length c.in-Some.packet c.requires.begins
+          (omega (arith, c.in_ok-make_room.ensures.room, c.deref.ensures.len, ap length c.deref.ensures.value)) c.requires.consistent enters.fits.0 stays
+          (block_came (section_before c.args.file.now c.args.table.now) c.order.result c.args.table.now c.apply_block.new.table _ _ _ _ frame _ (order-held c.args.file.now c.args.table.now ∙ sym c.order.ensures)
+          (interfaces-held c.args.file.now c.args.table.now c.args.front.now c.requires.begins c.requires.consistent) c.in_ok-found.ensures.shortest
           (omega (arith, c.in_ok-make_room.ensures.room, c.deref.ensures.len, ap length c.deref.ensures.value))
           (whole_came c.order.result c.args.front.now _ _ (take frame.length c.read_rest.new.buffer) _ frame (search rules) says
           (rw (take_at c.read_rest.new.buffer _ c.make_room.new.buffer.len (search rules)) refl) c.in_ok-read_rest.ensures.same (c.in_ok-read_rest.ensures.ok t))
@@ -127,25 +127,25 @@ pub returns-in-None : goal.returns-in-None
 returns-in-None g c =
     let moves = c.in_ok-read_rest.ensures.moves in
     let frame = c.in_ok-found.found in
-    let enters = rw c.in-None.is at c.in_ok-spans.ensures.ok in
+    let enters = rw c.in-None.is at c.in_ok-packet.ensures.ok in
     let says = front_says c.order.result c.args.front.now _ frame c.frame.ensures.answer c.in_ok-found.was in
     let small = small-behind _ _ (length c.args.front.now) frame.length (search rules) moves.counted c.in_ok-found.ensures.shortest moves.bounded c.requires.bounded in
-    rw (c.link_behind.ensures frame.order, c.first_link.ensures) (record {
+    rw (c.first_link_type.ensures frame.order, c.first_link.ensures) (record {
       moves = record {
         counted = moves.counted;
         grown = moves.grown;
         bounded = λ some. small;
-        few = tt;
+        at_most = tt;
         failed = moves.failed;
         never = moves.never;
       };
       sized = (omega (arith, c.in_ok-found.ensures.shortest), small);
-      told = first-again (first_link_held c.args.savefile.now) (section_of frame.order c.enter.new.table);
+      consistent = first-again (known_first_link c.args.file.now) (section_of frame.order c.apply_block.new.table);
       known = tt;
-      ok = λ t. passed-block c.args.savefile.now c.args.table.now c.enter.new.table c.args.front.now _ _ _ frame.order frame.length c.requires.begins
+      ok = λ t. passed-block c.args.file.now c.args.table.now c.apply_block.new.table c.args.front.now _ _ _ frame.order frame.length c.requires.begins
           (omega (arith, c.in_ok-make_room.ensures.room, c.deref.ensures.len, ap length c.deref.ensures.value))
-          (block_came (section_before c.args.savefile.now c.args.table.now) c.order.result c.args.table.now c.enter.new.table _ _ _ _ frame _ (order-held c.args.savefile.now c.args.table.now ∙ sym c.order.ensures)
-          (interfaces-held c.args.savefile.now c.args.table.now c.args.front.now c.requires.begins c.requires.told) c.in_ok-found.ensures.shortest
+          (block_came (section_before c.args.file.now c.args.table.now) c.order.result c.args.table.now c.apply_block.new.table _ _ _ _ frame _ (order-held c.args.file.now c.args.table.now ∙ sym c.order.ensures)
+          (interfaces-held c.args.file.now c.args.table.now c.args.front.now c.requires.begins c.requires.consistent) c.in_ok-found.ensures.shortest
           (omega (arith, c.in_ok-make_room.ensures.room, c.deref.ensures.len, ap length c.deref.ensures.value))
           (whole_came c.order.result c.args.front.now _ _ (take frame.length c.read_rest.new.buffer) _ frame (search rules) says
           (rw (take_at c.read_rest.new.buffer _ c.make_room.new.buffer.len (search rules)) refl) c.in_ok-read_rest.ensures.same (c.in_ok-read_rest.ensures.ok t))

@@ -16,22 +16,22 @@ returns-then-text-size-clause-err c =
     λ before is same. block_cut before c.args.text.now c.in-Ok.found (omega arith)
     (framed before c.args.section c.args.text.now c.first_12.result c.in-Ok.found is (omega arith) c.first_12.ensures c.in-Ok.ensures.answer) (omega (arith, short))
 
-pub returns-in-Ok-enter-clause-ok : goal.returns-in-Ok-enter-clause-ok
-returns-in-Ok-enter-clause-ok c =
+pub returns-in-Ok-apply_block-clause-ok : goal.returns-in-Ok-apply_block-clause-ok
+returns-in-Ok-apply_block-clause-ok c =
     let many = c.if-text-lt12.false in
     let there = c.if-text-size.false in
-    let e = c.in-Ok-enter.ensures.ok in
+    let e = c.in-Ok-apply_block.ensures.ok in
     record {
-      stands = λ before is same. stands before c.args.section (first_of c.args.count c.args.table.now) (first_of c.in-Ok-enter.entered.interfaces c.enter.new.table) c.args.text.now c.first_12.result
-          c.in-Ok.found c.in-Ok-enter.entered.packet is same (omega arith) c.first_12.ensures c.in-Ok.ensures.answer c.in-Ok.ensures.shortest (omega (arith, there)) e.enters;
+      stands = λ before is same. stands before c.args.section (first_of c.args.count c.args.table.now) (first_of c.in-Ok-apply_block.effect.interfaces c.apply_block.new.table) c.args.text.now c.first_12.result
+          c.in-Ok.found c.in-Ok-apply_block.effect.packet is same (omega arith) c.first_12.ensures c.in-Ok.ensures.answer c.in-Ok.ensures.shortest (omega (arith, there)) e.enters;
       known = e.known;
       few = e.few;
       of = e.of;
     }
 
-pub returns-in-Err-enter-clause-err : goal.returns-in-Err-enter-clause-err
-returns-in-Err-enter-clause-err c =
+pub returns-in-Err-apply_block-clause-err : goal.returns-in-Err-apply_block-clause-err
+returns-in-Err-apply_block-clause-err c =
     let many = c.if-text-lt12.false in
     let there = c.if-text-size.false in
-    no_block c.args.section (first_of c.args.count c.args.table.now) c.args.text.now c.first_12.result c.in-Ok.found (length c.args.table.now) c.in-Err-enter.refusal (omega arith) c.first_12.ensures
-    c.in-Ok.ensures.answer c.in-Ok.ensures.shortest (omega (arith, there)) c.in-Err-enter.ensures.err
+    no_block c.args.section (first_of c.args.count c.args.table.now) c.args.text.now c.first_12.result c.in-Ok.found (length c.args.table.now) c.in-Err-apply_block.refusal (omega arith) c.first_12.ensures
+    c.in-Ok.ensures.answer c.in-Ok.ensures.shortest (omega (arith, there)) c.in-Err-apply_block.ensures.err

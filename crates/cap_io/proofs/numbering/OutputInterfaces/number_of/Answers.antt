@@ -2,13 +2,13 @@ use Rattle.std.proofs.Common.{◌≡◌, map, not, refl, sym, ap, ◌∙◌, rul
 use Rattle.std.specs.Option.{option_map}
 use Rattle.std.proofs.lemmas.Option.{slice_get-map}
 use Rattle.cap_octet.specs.Packet.{captured}
-use Rattle.cap_io.specs.Numbering.{HasPlace, interface_in}
+use Rattle.cap_io.specs.Numbering.{HasNumber, interface_in}
 use Rattle.cap_io.specs.Text.{interface_of}
-use Rattle.cap_io.specs.declared.numbering.Place.{Place}
+use Rattle.cap_io.specs.declared.numbering.InterfaceNumber.{InterfaceNumber}
 use Rattle.cap_io.proofs.Interfaces.{same_interface}
 use Rattle.cap_io.proofs.Keys.{among-keys, number-keys, insert-keys}
 use Rattle.cap_io.proofs.Places.{few-behind, first-behind, place-of-last}
-use Rattle.cap_io.proofs.numbering.OutputInterfaces.place.Goals as goal
+use Rattle.cap_io.proofs.numbering.OutputInterfaces.number_of.Goals as goal
 
 pub returns : goal.returns
 returns g c =
@@ -33,8 +33,8 @@ pub returns-2 : goal.returns-2
 returns-2 g c =
     let keys = c.in_default.self-inside.keys.keys in
     let is : map interface_in keys ≡ c.args.self.now = search rules in
-    let place : Place = record { number = c.in-Ok.index; is_new = c.in-Ok.is_new } in
-    let has : HasPlace (map interface_in keys) (interface_in c.of.result) place (map interface_in c.insert_full.new.self.keys) =
+    let place : InterfaceNumber = record { number = c.in-Ok.index; is_new = c.in-Ok.is_new } in
+    let has : HasNumber (map interface_in keys) (interface_in c.of.result) place (map interface_in c.insert_full.new.self.keys) =
     record {
       number = c.in-Ok.ensures.index ∙ number-keys keys c.of.result;
       is_new = c.in-Ok.ensures.added ∙ ap not (among-keys keys c.of.result);
@@ -46,8 +46,8 @@ pub invariant_of-self-2 : goal.invariant_of-self-2
 invariant_of-self-2 g c =
     let i = interface_of (captured c.args.packet.now) in
     let new = map interface_in c.insert_full.new.self.keys in
-    let place : Place = record { number = c.in-Ok.index; is_new = c.in-Ok.is_new } in
-    let has : HasPlace c.args.self.now i place new = returns-2 g c in (
+    let place : InterfaceNumber = record { number = c.in-Ok.index; is_new = c.in-Ok.is_new } in
+    let has : HasNumber c.args.self.now i place new = returns-2 g c in (
       few-behind c.args.self.now new i place (rw c.self.view_is at c.self.invariant.0) c.requires (search rules) has,
       first-behind c.args.self.now new i place has,
     )

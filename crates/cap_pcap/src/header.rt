@@ -1,9 +1,9 @@
 //! What the headers of a savefile and of its records say.
 ghost use Rattle.std.specs.Prelude.{◌≡◌, ◌/◌, ◌≤◌, ◌<◌, ◌^◌, length, IfOk};
 ghost use Rattle.cap_octet.specs.Checks.{checked, first_failing};
-ghost use Rattle.cap_pcap.specs.Header.{form_in, head_fault, head_in, magic};
+ghost use Rattle.cap_pcap.specs.Header.{form_in, header_fault, header_in, magic};
 ghost use Rattle.cap_pcap.specs.Record.{field_checks, most_captured, nanoseconds_of_part};
-ghost use Rattle.cap_pcap.specs.Record.{parts_of_second, record_head_in};
+ghost use Rattle.cap_pcap.specs.Record.{parts_of_second, record_header_in};
 
 use cap_octet::{Fault, Order, u16_at, u32_at};
 
@@ -113,7 +113,7 @@ pub fn read_magic(bytes: &[u8]) -> Option<(Order, Resolution)>
 /// Reads a file header, or reports the first check that it fails: no magic number, another version
 /// than 2.4, a link type field above 65,535.
 pub fn read_head(bytes: &[u8; 24]) -> Result<Head, Fault>
-    ensures { result ≡ checked (head_fault bytes.now) (head_in bytes.now) }
+    ensures { result ≡ checked (header_fault bytes.now) (header_in bytes.now) }
 {
     let Some((order, resolution)) = read_magic(bytes) else {
         return Err(Fault::NotACaptureFile);
@@ -138,7 +138,7 @@ pub fn read_head(bytes: &[u8; 24]) -> Result<Head, Fault>
 pub fn read_record(head: &Head, bytes: &[u8; 16]) -> Result<RecordHead, Fault>
     ensures answer { result
         ≡ checked (first_failing (field_checks head.now bytes.now))
-        (record_head_in head.now bytes.now) }
+        (record_header_in head.now bytes.now) }
     ensures in_range { IfOk result (λ found. found.time < 2 ^ 63) }
     ensures short { IfOk result (λ found. found.captured ≤ most_captured) }
 {
@@ -160,7 +160,7 @@ pub fn read_record(head: &Head, bytes: &[u8; 16]) -> Result<RecordHead, Fault>
 fn read_unusual(head: &Head, bytes: &[u8; 16]) -> Result<RecordHead, Fault>
     ensures answer { result
         ≡ checked (first_failing (field_checks head.now bytes.now))
-        (record_head_in head.now bytes.now) }
+        (record_header_in head.now bytes.now) }
     ensures in_range { IfOk result (λ found. found.time < 2 ^ 63) }
     ensures short { IfOk result (λ found. found.captured ≤ most_captured) }
 {
@@ -172,7 +172,7 @@ fn read_unusual(head: &Head, bytes: &[u8; 16]) -> Result<RecordHead, Fault>
 fn read_fields(head: &Head, bytes: &[u8; 16]) -> Result<RecordHead, Fault>
     ensures answer { result
         ≡ checked (first_failing (field_checks head.now bytes.now))
-        (record_head_in head.now bytes.now) }
+        (record_header_in head.now bytes.now) }
     ensures in_range { IfOk result (λ found. found.time < 2 ^ 63) }
     ensures short { IfOk result (λ found. found.captured ≤ most_captured) }
 {

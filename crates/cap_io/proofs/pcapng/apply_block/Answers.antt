@@ -4,7 +4,7 @@ use Rattle.cap_octet.specs.declared.fault.Fault.{Fault}
 use Rattle.cap_pcapng.specs.Block.{IsDescribedIfAny, parts_of}
 use Rattle.cap_io.specs.Blocks.{IsEntryFault}
 use Rattle.cap_io.proofs.Entered.{enhanced_enters, enhanced_room, interface_enters, interface_refused, refused_entry, simple_enters}
-use Rattle.cap_io.proofs.pcapng.enter.Goals as goal
+use Rattle.cap_io.proofs.pcapng.apply_block.Goals as goal
 
 pub returns-in_err-push-in-Ok-Interface-clause-err : goal.returns-in_err-push-in-Ok-Interface-clause-err
 returns-in_err-push-in-Ok-Interface-clause-err g c =
@@ -39,5 +39,5 @@ returns-in_ok-simple_packet-in-Ok-Simple-clause-ok g c =
 pub returns-in-Err-clause-err : goal.returns-in-Err-clause-err
 returns-in-Err-clause-err g c =
     let P : Fault → Type 0 = λ fault. IsEntryFault c.args.frame.now c.args.table.now c.args.bytes.now fault in
-    subst P (sym c.refusal.ensures)
+    subst P (sym c.fault_in_full_table.ensures)
     (refused_entry c.args.frame.now c.args.table.now c.args.bytes.now c.in-Err.fault c.requires.whole c.requires.shortest c.in-Err.ensures.refused)
