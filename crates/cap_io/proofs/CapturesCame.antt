@@ -5,6 +5,7 @@ use Rattle.std.proofs.lemmas.Bool.{ltb-false, ltb-true}
 use Rattle.std.specs.List.{slice_get}
 use Rattle.std.specs.Option.{option_map, option_or, option_to_list}
 use Rattle.std.proofs.lemmas.List.{length-append, length-take-le}
+use Rattle.std.proofs.lemmas.List.Elements.{All-nil}
 use Rattle.cap_octet.specs.Packet.{Captured}
 use Rattle.cap_octet.specs.declared.fault.Fault.{Fault}
 use Rattle.cap_octet.specs.declared.fault.Fault.TheVariants.{Truncated}
@@ -14,7 +15,7 @@ use Rattle.cap_octet.specs.Number.{u32_in}
 use Rattle.cap_pcap.specs.declared.header.Head.{Head}
 use Rattle.cap_pcapng.specs.Block.{Parts, SectionParts, InterfaceParts, EnhancedParts, SimpleParts, SkippedParts, body_in, parts_in, parts_in_body}
 use Rattle.cap_pcapng.specs.Frame.{frame_in, is_section, magic_order, order_in, type_in, type_of}
-use Rattle.cap_pcapng.specs.Interface.{Described}
+use Rattle.cap_pcapng.specs.Interface.{Described, FitSection}
 use Rattle.cap_pcapng.specs.Unit.{IsBlock, Section, frame_behind, interfaces_before, order_before, packet_by, packets_in, parts_behind, section_after, section_by, unit_fault}
 use Rattle.cap_pcapng.specs.declared.frames.BlockType.TheVariants as type
 use Rattle.cap_pcapng.proofs.Units.{passes, unit_fault-few}
@@ -237,7 +238,7 @@ packet-block (state.Pcapng own link) interfaces interfaces' front unread buffer 
     let same : section_after (Some section) block ≡ section = section-kept section block p.packet p.stands in
     let kept : section_of order interfaces' ≡ section = sym came.section ∙ same in
     let declared : (s : Section) → s ≡ section → PcapngFile (first_link_after link s) s ≡ PcapngFile link section =
-    λ s e. ap (λ (t : Section). PcapngFile (first_link_after link t) t) e ∙ ap (λ l. PcapngFile l section) told in
+    λ s e. ap (λ (t : Section). PcapngFile (first_link_after link t) t) e ∙ ap (λ l. PcapngFile l section) told.0 in
     let Q : List Captured → Type 0 = λ qs. IsUnit (PcapngFile link section) block qs (file_after link (Some section) block) in
     let R : Declared → Type 0 = λ d. IsUnit (PcapngFile link section) block (p.packet ∷ []) d in
     packet_at_size link section (front ++ unread) buffer spans p.packet (declared_by (state.Pcapng own link) interfaces') size unread' whole
@@ -263,6 +264,15 @@ has-section state.Unknown front block frame interfaces interfaces' spans begins 
     let no_packet : None ≡ Some enters.packet.packet = sym (ap (packet_by interfaces) none) ∙ enters.packet.stands in absurd (cc)
 has-section (state.Pcap head) front block frame interfaces interfaces' spans begins is enters knows = absurd begins
 has-section (state.Pcapng order first) front block frame interfaces interfaces' spans begins is enters knows = knows
+
+none-fit : FitSection []
+none-fit = record { count = omega arith; names = All-nil (λ (i : Described). length i.name ≤ 255) }
+
+-- the interfaces of a section that a block follows are no more than may be
+pub section-fits : (file : FileState) (interfaces : List Described) (front : List ℕ) → BeginsBlock file front → IsConsistent file interfaces → FitSection interfaces
+section-fits state.Unknown interfaces front begins none = rw none none-fit
+section-fits (state.Pcap head) interfaces front begins known = absurd begins
+section-fits (state.Pcapng order first) interfaces front begins known = known.1
 
 -- the bytes that a device gave stay few behind a block, though it be no longer than its front
 pub small-behind : (before behind front size : ℕ) → front ≡ 12 → behind + front ≡ before + size → 12 ≤ size → (front < size → behind < 2 ^ 63) → before < 2 ^ 63 → behind < 2 ^ 63

@@ -12,7 +12,7 @@ use Rattle.cap_pcap.specs.Header.{IsHeader, form_in}
 use Rattle.cap_pcap.specs.Record.{field_checks, most_captured, record_header_in, record_size}
 use Rattle.cap_pcapng.specs.Comment.{comment_in}
 use Rattle.cap_pcapng.specs.Frame.{frame_checks, is_section, most_block}
-use Rattle.cap_pcapng.specs.Interface.{Described}
+use Rattle.cap_pcapng.specs.Interface.{Described, FitSection}
 use Rattle.cap_pcapng.specs.Unit.{Section, block_size, order_before, packet_of}
 use Rattle.cap_pcap.specs.declared.header.Head.{Head}
 use Rattle.cap_pcap.specs.declared.header.RecordHead.{RecordHead}
@@ -126,11 +126,13 @@ known_first_link state.Unknown = None
 known_first_link (state.Pcap head) = Some head.link
 known_first_link (state.Pcapng order first) = first
 
--- Before anything is read there is no interface, and the first link type of a file is known once its section has one.
+-- Before anything is read there is no interface. A section has no more than may be, and the first link type of a file is
+-- known once its section has one.
 abbrev pub IsConsistent : FileState → List Described → Type 0
 IsConsistent state.Unknown interfaces = interfaces ≡ []
 IsConsistent (state.Pcap head) interfaces = Unit {0}
-IsConsistent (state.Pcapng order first) interfaces = first_link_after first (record { order = order; interfaces = interfaces }) ≡ first
+IsConsistent (state.Pcapng order first) interfaces =
+    (first_link_after first (record { order = order; interfaces = interfaces }) ≡ first) × FitSection interfaces
 
 -- ---- the current packet
 

@@ -1,9 +1,14 @@
 //! What is known of a file and of its current unit.
-ghost use Rattle.std.specs.Prelude.{◌≡◌, ◌+◌, ◌≤◌, length};
-ghost use Rattle.cap_io.specs.Reading.{known_first_link, known_order, span_bytes};
+ghost use Rattle.std.specs.Prelude.{◌≡◌, ◌+◌, ◌≤◌, length, take};
+ghost use Rattle.std.specs.Option.{IfSome, option_map};
+ghost use Rattle.cap_octet.specs.Packet.{captured};
+ghost use Rattle.cap_io.specs.Reading.{FitsBuffer, declared_by, known_first_link, known_order};
+ghost use Rattle.cap_io.specs.Reading.{most_in_unit, packet_in_unit, span_bytes};
 
-use cap_octet::Order;
+use cap_octet::{Order, Packet};
 use cap_pcap::Head;
+use cap_pcapng::{Options, Table};
+use std::alloc::Allocator;
 
 /// What the units that were read declare of those behind them, beside the interfaces of a section.
 #[derive(Clone, Copy, Debug, PartialEq, Eq)]
@@ -35,6 +40,47 @@ impl FileState {
             FileState::Unknown => None,
             FileState::Pcap(head) => Some(head.link),
             FileState::Pcapng(_, first) => first,
+        }
+    }
+
+    /// The packet of the unit at the start of a buffer.
+    #[inline(always)]
+    pub(crate) fn packet<'a, A: Allocator>(
+        self,
+        spans: &PacketSpans,
+        buffer: &'a [u8],
+        table: &'a Table<A>,
+    ) -> Option<Packet<'a>>
+        requires { FitsBuffer spans.now buffer.now }
+        ensures packet { option_map captured result ≡ packet_in_unit
+            (declared_by self table.now) spans.now (take spans.now.size buffer.now) }
+        ensures short { IfSome result (λ packet. length packet.bytes.now ≤ most_in_unit) }
+    {
+        let bytes = spans.bytes.of(buffer);
+        match self {
+            FileState::Unknown => None,
+            FileState::Pcap(head) => Some(Packet {
+                link: head.link,
+                snap: head.snap,
+                name: &[],
+                time: spans.time,
+                orig: spans.orig,
+                bytes,
+                comment: &[],
+            }),
+            FileState::Pcapng(order, _) => {
+                let interface = table.get(spans.interface)?;
+                let rest = spans.options.of(buffer);
+                Some(Packet {
+                    link: interface.link,
+                    snap: interface.snap,
+                    name: interface.name,
+                    time: spans.time,
+                    orig: spans.orig,
+                    bytes,
+                    comment: Options { order, rest }.comment(),
+                })
+            }
         }
     }
 }

@@ -87,13 +87,6 @@ impl<A: Allocator + Copy> OutputInterfaces<A> {
 impl<A: Allocator> OutputInterfaces<A> {
     ghost use Rattle.cap_io.specs.Text.{FitFile};
 
-    /// Tells the caller's proof that they are few. Nothing happens at run time.
-    pub fn bounds(&self)
-        ensures { FitFile self.now }
-    {
-        let _ = &self.keys;
-    }
-
     /// Whether a packet's interface is one of these, or one more may be had.
     pub fn has_room(&self, packet: &Packet<'_>) -> bool
         ensures { result ≡ nat_le (length (self.now ++ new_among self.now
@@ -107,7 +100,8 @@ impl<A: Allocator> OutputInterfaces<A> {
     pub fn number_of(&mut self, packet: &Packet<'_>) -> Result<InterfaceNumber, Fault>
         requires { length (self.old ++ new_among self.old (interface_of (captured packet.now))) ≤
             most_output_interfaces }
-        ensures { Numbers self.old (interface_of (captured packet.now)) result self.new }
+        ensures fits { FitFile self.new }
+        ensures number { Numbers self.old (interface_of (captured packet.now)) result self.new }
     {
         if let Some(key) = self.keys.get_index(self.last as usize)
             && key.is_of(packet)

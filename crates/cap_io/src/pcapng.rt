@@ -2,6 +2,7 @@
 ghost use Rattle.std.specs.Prelude.{◌≡◌, ℕ, ◌+◌, ◌^◌, ◌<◌, ◌≤◌, ◌++◌, ◌∷◌, ◌⊎◌, IfOk, IfErr};
 ghost use Rattle.std.specs.Prelude.{IsTrue, OnErr, [], is_some, length};
 ghost use Rattle.cap_pcapng.specs.Block.{parts_of};
+ghost use Rattle.cap_pcapng.specs.Interface.{FitSection};
 ghost use Rattle.cap_pcapng.specs.Answer.{ChecksGive};
 ghost use Rattle.cap_pcapng.specs.Unit.{checks_among};
 ghost use Rattle.cap_pcapng.specs.declared.blocks.Block.TheVariants as a;
@@ -91,11 +92,12 @@ fn apply_block<A: Allocator>(
 ) -> Result<Option<PacketSpans>, Fault>
     requires whole { length bytes.now ≡ frame.now.length }
     requires shortest { 12 ≤ frame.now.length }
+    requires section { FitSection table.old }
+    ensures section { FitSection table.new }
     ensures ok { IfOk result (λ spans. Enters frame.now table.old bytes.now spans table.new) }
     ensures err { IfErr result (IsEntryFault frame.now table.old bytes.now) }
     ensures kept { OnErr result (table.new ≡ table.old) }
 {
-    table.bounds();
     match block(frame, bytes) {
         Ok(Block::Section) => {
             table.clear();

@@ -32,6 +32,7 @@ pub struct Sink<O: Output, A: Allocator> {
 
 impl<O: Output, A: Allocator> Model for Sink<O, A> {
     ghost use Rattle.cap_io.specs.Sink.{SinkView};
+    ghost use Rattle.cap_io.specs.Text.{FitFile};
 
     ghost Value = { SinkView };
 
@@ -43,6 +44,8 @@ impl<O: Output, A: Allocator> Model for Sink<O, A> {
       failures = O.failures s.output;
       room = O.room s.output;
     } };
+
+    ghost invariant = { λ s. FitFile s.interfaces };
 }
 
 impl<O: Output, A: Allocator + Copy> Sink<O, A> {
@@ -83,11 +86,9 @@ impl<O: Output, A: Allocator> Sink<O, A> {
         ensures interfaces { FitFile self.new.interfaces }
     {
         if let SinkState::Broken(fault) = self.state {
-            self.interfaces.bounds();
             return Err(fault);
         }
         let result = self.add(packet);
-        self.interfaces.bounds();
         if let Err(fault) = result {
             self.state = SinkState::Broken(fault);
         }

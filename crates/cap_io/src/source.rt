@@ -4,7 +4,7 @@ use crate::next_unit::read_unit;
 use crate::pcap::{record_spans, take_record};
 use cap_octet::{Fault, Input, Packet};
 use cap_pcap::Resolution;
-use cap_pcapng::{Options, Table};
+use cap_pcapng::Table;
 use std::alloc::Allocator;
 use std::marker::Model;
 
@@ -94,13 +94,11 @@ impl<I: Input, A: Allocator> Source<I, A> {
         ensures phase { self.new.phase ≡ phase_after result }
         ensures interfaces { SectionFits self.new.declared }
     {
-        self.table.bounds();
         match self.stage {
             Stage::Ended => Ok(false),
             Stage::Failed(fault) => Err(fault),
             Stage::Between | Stage::InHand => {
                 let answer = self.advance_to_packet();
-                self.table.bounds();
                 if let Err(fault) = answer {
                     self.stage = Stage::Failed(fault);
                 }
@@ -117,33 +115,7 @@ impl<I: Input, A: Allocator> Source<I, A> {
         let Stage::InHand = self.stage else {
             return None;
         };
-        let spans = &self.spans;
-        let bytes = spans.bytes.of(&self.buffer);
-        match self.file {
-            FileState::Unknown => None,
-            FileState::Pcap(head) => Some(Packet {
-                link: head.link,
-                snap: head.snap,
-                name: &[],
-                time: spans.time,
-                orig: spans.orig,
-                bytes,
-                comment: &[],
-            }),
-            FileState::Pcapng(order, _) => {
-                let interface = self.table.get(spans.interface)?;
-                let rest = spans.options.of(&self.buffer);
-                Some(Packet {
-                    link: interface.link,
-                    snap: interface.snap,
-                    name: interface.name,
-                    time: spans.time,
-                    orig: spans.orig,
-                    bytes,
-                    comment: Options { order, rest }.comment(),
-                })
-            }
-        }
+        self.file.packet(&self.spans, &self.buffer, &self.table)
     }
 
     /// The time of the current packet, in nanoseconds since 1970-01-01 00:00:00 UTC; what `head`

@@ -1,15 +1,12 @@
 -- A block is its pieces, joined.
 use Rattle.std.proofs.Common.{◌≡◌, ℕ, ◌+◌, ◌-◌, ◌<◌, ◌≤◌, List, [], ◌∷◌, ◌++◌, length, take, drop, replicate, None, refl, sym, ap, ap₂, ◌∙◌, arith, append_assoc, length-append, ne_eqb, ◌/◌, ◌%◌, ◌^◌}
 use Rattle.std.specs.Prelude.{◌==◌, false, true}
-use borrow.Author.Tests.{leb-true}
 use Rattle.std.proofs.lemmas.Bool.{false≢true}
 use Rattle.std.proofs.lemmas.List.{append-nil, drop_at, length-replicate, replicate-append-replicate, take_all}
 use Rattle.byteorder.specs.Endian.{little_bytes}
 use Rattle.cap_octet.specs.Checks.{first_failing}
 use Rattle.cap_octet.specs.Packet.{Captured}
-use Rattle.cap_octet.proofs.Checks.{all_met}
 use Rattle.cap_pcapng.specs.Padding.{padded}
-use Rattle.cap_pcapng.specs.Frame.{most_block}
 use Rattle.cap_pcapng.specs.Encoding.{block_text, comment_text, end_text, fit_checks, interface_body, interface_header, interface_text, name_text, packet_body, packet_header, packet_text, padded_text, resolution_text}
 
 -- the last of the zeros in front of more bytes, and these
@@ -29,15 +26,6 @@ pub length-packet_body : (number : ℕ) (p : Captured) → length (packet_body n
 length-packet_body number p =
     length-append (little_bytes 4 number ++ little_bytes 4 (p.time / 2 ^ 32) ++ little_bytes 4 (p.time % 2 ^ 32) ++ little_bytes 4 (length p.bytes) ++ little_bytes 4 p.orig ++ padded_text p.bytes) (comment_text p.comment)
     ∙ ap (λ (n : ℕ). n + length (comment_text p.comment)) (simp (length-append, length-replicate) (omega arith))
-
-length-block_text : (type : ℕ) (body : List ℕ) → length (block_text type body) ≡ 12 + length body
-length-block_text type body = simp (length-append) (omega arith)
-
--- a packet's block that isn't too long
-pub few-packet_text : (number : ℕ) (p : Captured) → first_failing (fit_checks p) ≡ None → length (packet_text number p) < 2 ^ 64
-few-packet_text number p fits =
-    let small : 32 + padded (length p.bytes) + length (comment_text p.comment) ≤ most_block = leb-true _ _ (all_met (fit_checks p) fits).0 in
-    omega (arith, length-packet_body number p, length-block_text 6 (packet_body number p))
 
 -- a comment's bytes with the end of the options are whole fours
 pub length-comment_text : (comment : List ℕ) → (length comment == 0) ≡ false → length (comment_text comment) ≡ 8 + padded (length comment)
@@ -117,10 +105,6 @@ plain_joined number zeros p head end none few padding_is head_is end_is =
 
 pub length-interface_body : (link snap b : ℕ) (bytes : List ℕ) → length (interface_body link snap (b ∷ bytes)) ≡ 24 + padded (length (b ∷ bytes))
 length-interface_body link snap b bytes = simp (length-append, length-replicate) (omega arith)
-
-pub few-interface_text : (link snap : ℕ) (name : List ℕ) → length name ≤ 255 → length (interface_text link snap name) < 2 ^ 64
-few-interface_text link snap [] short = omega arith
-few-interface_text link snap (b ∷ bytes) short = omega (arith, length-interface_body link snap b bytes, length-block_text 1 (interface_body link snap (b ∷ bytes)))
 
 pub unnamed : (padding : ℕ) (name : List ℕ) → (length name == 0) ≡ true → length name + padding ≡ padded (length name) → name ++ replicate padding 0 ≡ name_text name
 unnamed padding [] none padding_is = let zero_is : padding ≡ 0 = omega arith in ap (λ (n : ℕ). replicate n 0) zero_is

@@ -98,13 +98,6 @@ impl<A: Allocator> Table<A> {
         self.entries.len() == MOST_INTERFACES
     }
 
-    /// Tells the caller's proof what holds of every table. Nothing happens at run time.
-    pub fn bounds(&self)
-        ensures { FitSection self.now }
-    {
-        let _ = &self.entries;
-    }
-
     /// Forgets all interfaces, and keeps the memory for those to come.
     pub fn clear(&mut self)
         ensures { self.new ≡ [] }
@@ -117,6 +110,7 @@ impl<A: Allocator> Table<A> {
     pub fn push(&mut self, interface: &Interface<'_>) -> Result<(), Fault>
         ensures pushed { OnOk result (self.new ≡ self.old ++ description_of interface.now ∷ []) }
         ensures kept { OnErr result (self.new ≡ self.old) }
+        ensures section { FitSection self.new }
         ensures full { (result ≡ Err Fault.TooManyInterfaces) ↔ (length self.old ≡ 256) }
         ensures no_memory { IfErr result (λ fault. length self.old < 256 → fault ≡ Fault.NoMemory) }
     {

@@ -11,7 +11,7 @@ returns-in_err-push-in-Ok-Interface-clause-err g c =
     let p = err_from_is_err_and c.from_residual.result c.from_residual.ensures.1 in
     let e = c.in_err-push-in-Ok-Interface.ensures in
     rw (p.1, p.2) (interface_refused c.args.frame.now c.args.table.now c.args.bytes.now c.in-Ok-Interface.found _ c.requires.whole c.requires.shortest
-    (sym (ap parts_of c.in-Ok-Interface.field-0-is) ∙ c.in-Ok-Interface.ensures.parts) c.in-Ok-Interface.ensures.passes c.bounds.ensures.count e.full e.no_memory)
+    (sym (ap parts_of c.in-Ok-Interface.field-0-is) ∙ c.in-Ok-Interface.ensures.parts) c.in-Ok-Interface.ensures.passes c.requires.section.count e.full e.no_memory)
 
 pub enhanced_packet-requires : goal.enhanced_packet-requires
 enhanced_packet-requires g c =
@@ -22,7 +22,7 @@ pub returns-in_ok-push-in-Ok-Interface-clause-ok : goal.returns-in_ok-push-in-Ok
 returns-in_ok-push-in-Ok-Interface-clause-ok g c =
     let e = c.in-Ok-Interface.ensures in
     interface_enters c.args.frame.now c.args.table.now c.push.new.self c.args.bytes.now c.in-Ok-Interface.found c.requires.whole c.requires.shortest
-    (sym (ap parts_of c.in-Ok-Interface.field-0-is) ∙ e.parts) (subst IsDescribedIfAny c.in-Ok-Interface.field-0-is e.described) e.passes c.bounds.ensures.count c.in_ok-push-in-Ok-Interface.ensures.full c.in_ok-push-in-Ok-Interface.ensures.pushed
+    (sym (ap parts_of c.in-Ok-Interface.field-0-is) ∙ e.parts) (subst IsDescribedIfAny c.in-Ok-Interface.field-0-is e.described) e.passes c.requires.section.count c.in_ok-push-in-Ok-Interface.ensures.full c.in_ok-push-in-Ok-Interface.ensures.pushed
 
 pub returns-in_ok-enhanced_packet-in-Ok-Enhanced-clause-ok : goal.returns-in_ok-enhanced_packet-in-Ok-Enhanced-clause-ok
 returns-in_ok-enhanced_packet-in-Ok-Enhanced-clause-ok g c =

@@ -5,7 +5,7 @@ use Rattle.cap_pcapng.specs.Frame.{frame_in}
 use Rattle.cap_io.specs.Blocks.{section_of}
 use Rattle.cap_io.specs.Reading.{known_first_link, section_before}
 use Rattle.cap_io.proofs.BlocksCame.{block_came, entry_refused, frame_refused, front_says, no_room_for_block, rest_of_block, whole_came}
-use Rattle.cap_io.proofs.CapturesCame.{first-again, has-section, interfaces-held, interfaces-kept, order-held, packet-block, passed-block, refused-block, small-behind}
+use Rattle.cap_io.proofs.CapturesCame.{first-again, has-section, interfaces-held, interfaces-kept, order-held, packet-block, passed-block, refused-block, section-fits, small-behind}
 use Rattle.cap_io.proofs.OwnFaults.{entry-own}
 use Rattle.cap_io.proofs.pcapng.read_block.Goals as goal
 
@@ -51,6 +51,9 @@ returns-in_err-read_rest g c =
           (front_says c.order.result c.args.front.now _ c.in_ok-found.found c.frame.ensures.answer c.in_ok-found.was) c.in_ok-found.ensures.longest (c.in_err-read_rest.ensures.err t));
       kept = (refl, refl);
     })
+
+pub apply_block-requires-clause-section : goal.apply_block-requires-clause-section
+apply_block-requires-clause-section g c = section-fits c.args.file.now c.args.table.now c.args.front.now c.requires.begins c.requires.consistent
 
 pub returns-in_err-packet : goal.returns-in_err-packet
 returns-in_err-packet g c =
@@ -140,7 +143,7 @@ returns-in-None g c =
         never = moves.never;
       };
       sized = (omega (arith, c.in_ok-found.ensures.shortest), small);
-      consistent = first-again (known_first_link c.args.file.now) (section_of frame.order c.apply_block.new.table);
+      consistent = (first-again (known_first_link c.args.file.now) (section_of frame.order c.apply_block.new.table), c.in_ok-packet.ensures.section);
       known = tt;
       ok = λ t. passed-block c.args.file.now c.args.table.now c.apply_block.new.table c.args.front.now _ _ _ frame.order frame.length c.requires.begins
           (omega (arith, c.in_ok-make_room.ensures.room, c.deref.ensures.len, ap length c.deref.ensures.value))

@@ -1,8 +1,7 @@
-use Rattle.std.proofs.Common.{◌<◌, length, ◌^◌, ◌≡◌, [], ◌++◌, ◌-◌, List, ℕ, take, drop, replicate, subst, sym, ◌∙◌, arith}
-use Rattle.cap_octet.proofs.Writing.{parts-exactly}
+use Rattle.std.proofs.Common.{◌≡◌, [], ◌++◌, ◌-◌, List, ℕ, take, drop, replicate, subst, sym, ◌∙◌}
 use Rattle.cap_octet.specs.Writer.{WritesExactly}
 use Rattle.cap_pcapng.specs.Encoding.{interface_text, name_text}
-use Rattle.cap_pcapng.proofs.WrittenBlocks.{few-interface_text, interface_joined, named, unnamed}
+use Rattle.cap_pcapng.proofs.WrittenBlocks.{interface_joined, named, unnamed}
 use Rattle.cap_pcapng.proofs.write.write_interface.Given.{Over}
 use Rattle.cap_pcapng.proofs.write.write_interface.Goals.{then-is_empty, else-is_empty}
 use Rattle.cap_pcapng.proofs.write.write_interface.Goals as goal
@@ -22,7 +21,6 @@ joined g c =
 
 pub returns : goal.returns
 returns g c =
-    let P : List ℕ → Type 0 = λ text. length text < 2 ^ 64 → WritesExactly g.O.Output c.args.output.now text c.write_all_parts.result c.write_all_parts.new.output in
-    subst P (joined g c)
-    (parts-exactly g.O.Output _ _ _ c.write_all_parts.result c.write_all_parts.ensures.front c.write_all_parts.ensures.failed c.write_all_parts.ensures.room c.write_all_parts.ensures.told)
-    (few-interface_text c.args.packet.now.link c.args.packet.now.snap c.args.packet.now.name.now (omega arith))
+    let written = c.write_all_parts.ensures in
+    let P : List ℕ → Type 0 = λ text. WritesExactly g.O.Output c.args.output.now text c.write_all_parts.result c.write_all_parts.new.output in
+    subst P (joined g c) (record { front = written.front; failed = written.failed; room = written.room; told = written.told })

@@ -20,7 +20,7 @@ returns-clause-told g c = λ ti.
     subst P c.self.view_is
     (subst O (sym (ap ordering_of c.go_on.ensures.schedule ∙ schedule-order c.self.inside.schedule c.args.input c.advance-result.result))
     (fetches-by old c.args.input c.advance-result.result c.index_mut-cursor.result.now c.advance-result.new.self
-    (subst W (sym c.self.view_is) c.requires.within) c.index_mut-cursor.ensures.value (c.advance-result.ensures.packets ti) c.advance-result.ensures.steps c.advance-result.ensures.is))
+    (subst W (sym c.self.view_is) c.requires.within) c.index_mut-cursor.ensures.value (c.advance-result.ensures.told ti) c.advance-result.ensures.steps c.advance-result.ensures.is))
 
 pub returns-clause-steps : goal.returns-clause-steps
 returns-clause-steps g c =
@@ -32,7 +32,7 @@ returns-clause-steps g c =
     subst P c.self.view_is
     (subst O (sym (ap ordering_of c.go_on.ensures.schedule ∙ schedule-order c.self.inside.schedule c.args.input c.advance-result.result))
     (read_input-steps-by old c.args.input c.advance-result.result c.index_mut-cursor.result.now c.advance-result.new.self
-    (subst W (sym c.self.view_is) c.requires.within) c.index_mut-cursor.ensures.value c.advance-result.ensures.steps c.advance-result.ensures.phase c.advance-result.ensures.interfaces c.advance-result.ensures.is))
+    (subst W (sym c.self.view_is) c.requires.within) c.index_mut-cursor.ensures.value c.advance-result.ensures.steps c.advance-result.ensures.phase c.advance-result.ensures.few c.advance-result.ensures.is))
 
 pub go_on-requires-clause-room : goal.go_on-requires-clause-room
 go_on-requires-clause-room g c =

@@ -10,8 +10,8 @@ use Rattle.cap_io.proofs.Keys.{among-keys, number-keys, insert-keys}
 use Rattle.cap_io.proofs.Places.{few-behind, first-behind, place-of-last}
 use Rattle.cap_io.proofs.numbering.OutputInterfaces.number_of.Goals as goal
 
-pub returns : goal.returns
-returns g c =
+pub returns-clause-number : goal.returns-clause-number
+returns-clause-number g c =
     let i = interface_of (captured c.args.packet.now) in
     let last = c.self.inside.last in
     let there =
@@ -20,8 +20,8 @@ returns g c =
     ∙ ap Some (same_interface (interface_in c.in-Some.key.now) i (sym c.is_of.ensures ∙ c.if-is_of.true)) in
     place-of-last c.args.self.now last i (rw c.self.view_is at c.self.invariant.1) (rw c.self.view_is at there)
 
-pub returns-in_default : goal.returns-in_default
-returns-in_default g c =
+pub returns-in_default-clause-number : goal.returns-in_default-clause-number
+returns-in_default-clause-number g c =
     let keys = c.in_default.self-inside.keys.keys in
     let is : map interface_in keys ≡ c.args.self.now = search rules in (
       refl,
@@ -29,8 +29,8 @@ returns-in_default g c =
       ap (map interface_in) c.in_default-2.ensures.err ∙ is,
     )
 
-pub returns-2 : goal.returns-2
-returns-2 g c =
+pub returns-2-clause-number : goal.returns-2-clause-number
+returns-2-clause-number g c =
     let keys = c.in_default.self-inside.keys.keys in
     let is : map interface_in keys ≡ c.args.self.now = search rules in
     let place : InterfaceNumber = record { number = c.in-Ok.index; is_new = c.in-Ok.is_new } in
@@ -42,12 +42,18 @@ returns-2 g c =
     } in
     rw (c.of.ensures, is) at has
 
+pub returns-2-clause-fits : goal.returns-2-clause-fits
+returns-2-clause-fits g c =
+    let i = interface_of (captured c.args.packet.now) in
+    let new = map interface_in c.insert_full.new.self.keys in
+    let place : InterfaceNumber = record { number = c.in-Ok.index; is_new = c.in-Ok.is_new } in
+    few-behind c.args.self.now new i place (rw c.self.view_is at c.self.invariant.0) c.requires (search rules) (returns-2-clause-number g c)
+
 pub invariant_of-self-2 : goal.invariant_of-self-2
 invariant_of-self-2 g c =
     let i = interface_of (captured c.args.packet.now) in
     let new = map interface_in c.insert_full.new.self.keys in
-    let place : InterfaceNumber = record { number = c.in-Ok.index; is_new = c.in-Ok.is_new } in
-    let has : HasNumber c.args.self.now i place new = returns-2 g c in (
-      few-behind c.args.self.now new i place (rw c.self.view_is at c.self.invariant.0) c.requires (search rules) has,
-      first-behind c.args.self.now new i place has,
+    let place : InterfaceNumber = record { number = c.in-Ok.index; is_new = c.in-Ok.is_new } in (
+      returns-2-clause-fits g c,
+      first-behind c.args.self.now new i place (returns-2-clause-number g c),
     )

@@ -21,13 +21,13 @@ returns-in-Err-clause-answer g c =
     puts-tell old.state old p (Err c.in-Err.fault) _ (λ f e. c.in_default.not-Broken f (ap (λ (s : SinkView). s.state) c.self.view_is ∙ e))
     (λ ps has. puts-err ps old p c.in-Err.fault _ _ has c.in-Err.ensures.answer
     (ap (λ (s : SinkView). record { format = s.format; state = Broken c.in-Err.fault; interfaces = s.interfaces; written = s.written; failures = s.failures; room = s.room }) c.self-2.view_is)
-    c.bounds-2.ensures)
+    c.self-2.invariant)
 
 pub returns-in_default-result : goal.returns-in_default-result
 returns-in_default-result g c =
     let old : SinkView = c.args.self.now in
     let p = captured c.args.packet.now in
-    let few : FitFile c.add-result.new.self.interfaces = subst FitFile (ap (λ (s : SinkView). s.interfaces) c.self-2.view_is) c.bounds-2.ensures in
+    let few : FitFile c.add-result.new.self.interfaces = subst FitFile (ap (λ (s : SinkView). s.interfaces) c.self-2.view_is) c.self-2.invariant in
     rw c.in_default-result.is (record {
       bytes = λ tells. put-writes-tell old.state old p (Ok tt) c.add-result.new.self (λ f e. c.in_default.not-Broken f (ap (λ (s : SinkView). s.state) c.self.view_is ∙ e)) (c.in_default-result.ensures.bytes tells);
       answer = puts-tell old.state old p (Ok tt) c.add-result.new.self (λ f e. c.in_default.not-Broken f (ap (λ (s : SinkView). s.state) c.self.view_is ∙ e))
