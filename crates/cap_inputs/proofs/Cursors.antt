@@ -7,7 +7,7 @@ use Rattle.cap_octet.specs.Packet.{Captured}
 use Rattle.cap_io.specs.Capture.{Placed, first_link_of}
 use Rattle.std.specs.List.{slice_set}
 use Rattle.cap_octet.specs.declared.fault.Fault.{Fault}
-use Rattle.cap_io.specs.Source.{Advances, HasFew, Phase, Reading, Ended, Failed, SourceView, Steps, phase_told}
+use Rattle.cap_io.specs.Source.{Advances, SectionFits, Phase, Reading, Ended, Failed, SourceView, Steps, phase_after}
 use Rattle.cap_inputs.specs.declared.inputs.Schedule.{Schedule}
 use Rattle.cap_inputs.specs.declared.inputs.Schedule.TheVariants.{Turn, Merge}
 use Rattle.cap_inputs.specs.Cursor.{ordering_of, schedule_after, schedule_behind}
@@ -68,7 +68,7 @@ first-none [] = refl
 first-none (x ∷ xs) = first-none xs
 
 pub read_input-steps-by : (inputs : InputsView) (i : ℕ) (r : Result Bool Fault) (old new : InputView) → i < length inputs.cursors → old ≡ get_or inputs.cursors i old
-    → Steps old.source.phase old.source r new.source → new.source.phase ≡ phase_told r → HasFew new.source.declared → new ≡ input_after old r new.source
+    → Steps old.source.phase old.source r new.source → new.source.phase ≡ phase_after r → SectionFits new.source.declared → new ≡ input_after old r new.source
     → ReadSteps inputs i r (with_cursor inputs i new)
 read_input-steps-by inputs i r old new within value steps phase few is = record {
   cursor = old;

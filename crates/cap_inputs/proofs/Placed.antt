@@ -2,7 +2,7 @@
 use Rattle.std.proofs.Common.{◌≡◌, ◌⊎◌, inl, inr, ℕ, zero, suc, ◌+◌, ◌<◌, ◌≤◌, Bool, true, false, List, [], ◌∷◌, ◌++◌, length, map, Result, Ok, Err, refl, sym, ◌∙◌, ap, arith, subst}
 use Rattle.std.specs.List.{slice_set}
 use Rattle.cap_octet.specs.declared.fault.Fault.{Fault}
-use Rattle.cap_io.specs.Source.{Phase, Reading, Ended, Failed, phase_told}
+use Rattle.cap_io.specs.Source.{Phase, Reading, Ended, Failed, phase_after}
 use Rattle.cap_inputs.specs.declared.inputs.Schedule.{Schedule}
 use Rattle.cap_inputs.specs.declared.inputs.Schedule.TheVariants.{Turn, Merge}
 use Rattle.cap_inputs.specs.declared.inputs.Next.{Next}
@@ -185,14 +185,14 @@ phase-unended h p is other = λ e. other (sym is ∙ e)
 
 -- an input is read on
 pub placed-read : (schedule : Schedule) (cursors : List InputView) (i : ℕ) (h h' : InputView) (r : Result Bool Fault) → IsInput cursors i h → IsNextAt schedule cursors (next.Read i)
-    → h'.waiting ≡ is_packet_found r → h'.source.phase ≡ phase_told r → IsPlaced schedule cursors → IsPlaced (schedule_after schedule i r) (slice_set cursors i h')
+    → h'.waiting ≡ is_packet_found r → h'.source.phase ≡ phase_after r → IsPlaced schedule cursors → IsPlaced (schedule_after schedule i r) (slice_set cursors i h')
 placed-read schedule cursors i h h' r a tells waits phase placed =
     let S : List InputView → Type 0 = λ l. IsPlaced (schedule_after schedule i r) l in
     let set : slice_set cursors i h' ≡ a.front ++ h' ∷ a.back = ap (λ (l : List InputView). slice_set l i h') a.splits ∙ set-here a.front a.back h h' i a.place in
     let Q : List InputView → Type 0 = λ l. IsPlaced schedule l in
     subst S (sym set) (by_schedule schedule r tells waits phase (subst Q a.splits placed))
   where
-    by_schedule : (schedule : Schedule) (r : Result Bool Fault) → IsNextAt schedule cursors (next.Read i) → h'.waiting ≡ is_packet_found r → h'.source.phase ≡ phase_told r
+    by_schedule : (schedule : Schedule) (r : Result Bool Fault) → IsNextAt schedule cursors (next.Read i) → h'.waiting ≡ is_packet_found r → h'.source.phase ≡ phase_after r
         → IsPlaced schedule (a.front ++ h ∷ a.back) → IsPlaced (schedule_after schedule i r) (a.front ++ h' ∷ a.back)
     by_schedule (Turn turn) (Ok true) tells waits phase placed =
         let at = turn-split a.front a.back h turn (a.place ∙ tells.0) placed in

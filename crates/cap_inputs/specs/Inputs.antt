@@ -5,7 +5,7 @@ use Rattle.std.specs.Option.{option_or}
 use Rattle.cap_octet.specs.Packet.{Captured}
 use Rattle.cap_octet.specs.declared.fault.Fault.{Fault}
 use Rattle.cap_io.specs.Capture.{Placed, Items, End, items_from, after_packets, first_link_of}
-use Rattle.cap_io.specs.Source.{SourceView, Phase, Reading, Ended, Failed, Advances, HasFew, Steps, phase_told}
+use Rattle.cap_io.specs.Source.{SourceView, Phase, Reading, Ended, Failed, Advances, SectionFits, Steps, phase_after}
 use Rattle.cap_io.specs.Position.{IsAt}
 use Rattle.cap_inputs.specs.declared.inputs.Next.{Next}
 use Rattle.cap_inputs.specs.declared.inputs.Next.TheVariants as next
@@ -164,8 +164,8 @@ pub record ReadSteps (old : InputsView) (i : ℕ) (r : Result Bool Fault) (new :
   pub among : IsInput old.cursors i cursor
   pub source : SourceView
   pub steps : Steps cursor.source.phase cursor.source r source
-  pub phase : source.phase ≡ phase_told r
-  pub few : HasFew source.declared
+  pub phase : source.phase ≡ phase_after r
+  pub few : SectionFits source.declared
   pub is : new ≡ with_cursor old i (input_after cursor r source)
 
 abbrev pub waiting_count : Bool → ℕ

@@ -73,7 +73,7 @@ fn time_in<I: Input, A: Allocator>(source: &Source<I, A>) -> u64
 
 impl<I: Input, A: Allocator> InputCursor<I, A> {
     ghost use Rattle.cap_inputs.specs.Inputs.{InputView, input_after, is_packet_found, input_behind};
-    ghost use Rattle.cap_io.specs.Source.{SourceView, Advances, HasFew, Reading, Steps, phase_told};
+    ghost use Rattle.cap_io.specs.Source.{SourceView, Advances, SectionFits, Reading, Steps, phase_after};
     ghost use Rattle.std.specs.Option.{option_map};
     ghost use Rattle.cap_octet.specs.Packet.{captured};
     ghost use Rattle.cap_io.specs.Capture.{first_link_of, kind_of};
@@ -98,8 +98,8 @@ impl<I: Input, A: Allocator> InputCursor<I, A> {
         ensures told { IsTrue I.tells → Advances self.old.source.phase self.old.source result
             self.new.source }
         ensures steps { Steps self.old.source.phase self.old.source result self.new.source }
-        ensures phase { self.new.source.phase ≡ phase_told result }
-        ensures few { HasFew self.new.source.declared }
+        ensures phase { self.new.source.phase ≡ phase_after result }
+        ensures few { SectionFits self.new.source.declared }
         ensures is { self.new ≡ input_after self.old result self.new.source }
     {
         let result = self.source.advance();

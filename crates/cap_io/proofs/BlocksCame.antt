@@ -15,8 +15,8 @@ use Rattle.cap_pcapng.specs.Unit.{IsBlock, Section, block_size, checks_among, fr
 use Rattle.cap_pcapng.proofs.Units.{passes, frame_checks-append, frame_in-append, unit_fault-frame, unit_fault-short, unit_fault-block, unit_fault-among, parts_in-append, block_checks-append}
 use Rattle.cap_pcapng.specs.declared.frames.Frame.{Frame}
 use Rattle.cap_io.specs.Blocks.{Enters, IsEntryFault, PacketIfAny, packet_in, section_of}
-use Rattle.cap_io.specs.Reading.{RestMissing, part_of, most_in_unit, length_by_front, decisive_block_length}
-use Rattle.cap_io.specs.declared.unit.Held.{Held}
+use Rattle.cap_io.specs.Reading.{RestMissing, span_bytes, most_in_unit, length_by_front, decisive_block_length}
+use Rattle.cap_io.specs.declared.file_state.PacketSpans.{PacketSpans}
 use Rattle.cap_io.proofs.OwnFaults.{entry-not_failed, frame-not_failed}
 
 -- ---- what came
@@ -39,20 +39,20 @@ pub record BlockMissing (before : Option Section) (text unread' : List ℕ) (fau
   pub rest : unread' ≡ drop count text
 
 -- the packet of a block behind others
-pub record BlockPacket (order : Order) (before : Option Section) (block : List ℕ) (held : Held) : Type 0 where
+pub record BlockPacket (order : Order) (before : Option Section) (block : List ℕ) (spans : PacketSpans) : Type 0 where
   pub packet : Captured
   pub stands : packets_in before block ≡ packet ∷ []
-  pub is_lent : packet_in order (interfaces_before before) held (part_of held.bytes block) (part_of held.options block) ≡ Some packet
+  pub is_lent : packet_in order (interfaces_before before) spans (span_bytes spans.bytes block) (span_bytes spans.options block) ≡ Some packet
 
-abbrev pub BlockPacketIfAny : Order → Option Section → List ℕ → Option Held → Type 0
+abbrev pub BlockPacketIfAny : Order → Option Section → List ℕ → Option PacketSpans → Type 0
 BlockPacketIfAny order before block None = packets_in before block ≡ []
-BlockPacketIfAny order before block (Some held) = BlockPacket order before block held
+BlockPacketIfAny order before block (Some spans) = BlockPacket order before block spans
 
 -- a block came, and is at the start of the buffer
-pub record BlockCame (before : Option Section) (text buffer : List ℕ) (order : Order) (size : ℕ) (held : Option Held) (interfaces' : List Described) (unread' : List ℕ) : Type 0 where
+pub record BlockCame (before : Option Section) (text buffer : List ℕ) (order : Order) (size : ℕ) (spans : Option PacketSpans) (interfaces' : List Described) (unread' : List ℕ) : Type 0 where
   pub is_block : IsBlock before (take size buffer)
   pub section : section_after before (take size buffer) ≡ section_of order interfaces'
-  pub packet : BlockPacketIfAny order before (take size buffer) held
+  pub packet : BlockPacketIfAny order before (take size buffer) spans
   pub splits : text ≡ take size buffer ++ unread'
 
 -- ---- the first 12 bytes
@@ -197,20 +197,20 @@ section_same before order interfaces (EnhancedParts number ticks captured orig o
 section_same before order interfaces (SimpleParts orig rest) same = rw same refl
 section_same before order interfaces SkippedParts same = rw same refl
 
-packet_if_any : (order : Order) (before : Option Section) (interfaces : List Described) (block : List ℕ) (parts : Parts) (held : Option Held) → interfaces_before before ≡ interfaces → parts_behind before block ≡ parts
-    → PacketIfAny order interfaces parts block held → BlockPacketIfAny order before block held
+packet_if_any : (order : Order) (before : Option Section) (interfaces : List Described) (block : List ℕ) (parts : Parts) (spans : Option PacketSpans) → interfaces_before before ≡ interfaces → parts_behind before block ≡ parts
+    → PacketIfAny order interfaces parts block spans → BlockPacketIfAny order before block spans
 packet_if_any order before interfaces block parts None same is none = ap₂ (λ (i : List Described) (p : Parts). option_to_list (packet_by i p)) same is ∙ ap option_to_list none
-packet_if_any order before interfaces block parts (Some held) same is stands = record {
+packet_if_any order before interfaces block parts (Some spans) same is stands = record {
   packet = stands.packet;
   stands = ap₂ (λ (i : List Described) (p : Parts). option_to_list (packet_by i p)) same is ∙ ap option_to_list stands.stands;
-  is_lent = ap (λ (i : List Described). packet_in order i held (part_of held.bytes block) (part_of held.options block)) same ∙ stands.is_lent;
+  is_lent = ap (λ (i : List Described). packet_in order i spans (span_bytes spans.bytes block) (span_bytes spans.options block)) same ∙ stands.is_lent;
 }
 
-pub block_came : (before : Option Section) (section : Option Order) (interfaces interfaces' : List Described) (text unread' block buffer : List ℕ) (frame : Frame) (held : Option Held)
+pub block_came : (before : Option Section) (section : Option Order) (interfaces interfaces' : List Described) (text unread' block buffer : List ℕ) (frame : Frame) (spans : Option PacketSpans)
     → order_before before ≡ section → interfaces_before before ≡ interfaces → 12 ≤ frame.length → frame.length ≤ length buffer
-    → WholeCame section text buffer frame unread' → block ≡ take frame.length buffer → Enters frame interfaces block held interfaces'
-    → BlockCame before text buffer frame.order frame.length held interfaces' unread'
-block_came before section interfaces interfaces' text unread' block buffer frame held is same least room came block_is enters =
+    → WholeCame section text buffer frame unread' → block ≡ take frame.length buffer → Enters frame interfaces block spans interfaces'
+    → BlockCame before text buffer frame.order frame.length spans interfaces' unread'
+block_came before section interfaces interfaces' text unread' block buffer frame spans is same least room came block_is enters =
     let size : length block ≡ frame.length = ap length block_is ∙ length-take-le frame.length buffer room in
     let f = framed_block before section block [] frame is (omega arith) (ap (frame_fault section) block_is ∙ came.passes) (ap (frame_in section) block_is ∙ came.says) in
     let framed : first_failing (frame_checks (order_before before) block) ≡ None = ap (λ o. frame_fault o block) is ∙ ap (frame_fault section) block_is ∙ came.passes in
@@ -221,13 +221,13 @@ block_came before section interfaces interfaces' text unread' block buffer frame
     unit_fault-among before block (omega arith) framed (omega arith) blocked
     ∙ ap₂ (λ (i : List Described) (p : Parts). first_failing (checks_among i p)) same parts ∙ enters.among in
     let Q : List ℕ → Type 0 = λ b. IsBlock before b in
-    let R : List ℕ → Type 0 = λ b. BlockPacketIfAny frame.order before b held in
+    let R : List ℕ → Type 0 = λ b. BlockPacketIfAny frame.order before b spans in
     record {
       is_block = subst Q block_is (record { passes = among; whole = omega (arith, size, whole) });
       section =
           ap (section_after before) (sym block_is)
           ∙ ap₂ (λ (o : Order) (p : Parts). section_by before o p) (ap (λ (g : Frame). g.order) f.alone) parts
           ∙ section_same before frame.order interfaces (parts_in frame block) same ∙ enters.section;
-      packet = subst R block_is (packet_if_any frame.order before interfaces block (parts_in frame block) held same parts enters.packet);
+      packet = subst R block_is (packet_if_any frame.order before interfaces block (parts_in frame block) spans same parts enters.packet);
       splits = came.splits;
     }

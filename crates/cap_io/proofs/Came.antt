@@ -7,16 +7,16 @@ use Rattle.cap_octet.specs.Checks.{checked, first_failing}
 use Rattle.cap_octet.specs.declared.fault.Fault.{Fault}
 use Rattle.cap_octet.specs.declared.fault.Fault.TheVariants.{NotACaptureFile, Truncated, ReadFailed, NoMemory}
 use Rattle.cap_octet.proofs.Checks.{checked_ok, checked_err}
-use Rattle.cap_pcap.specs.declared.head.Head.{Head}
-use Rattle.cap_pcap.specs.declared.head.RecordHead.{RecordHead}
-use Rattle.cap_pcap.specs.Header.{form_in, head_fault, head_in}
-use Rattle.cap_pcap.specs.Record.{captured_len, field_checks, record_head_in, record_size, packet_in}
-use Rattle.cap_pcap.proofs.Headers.{head_fault-few, form_in-append, head_fault-append, head_fault-no_magic, head_fault-short}
-use Rattle.cap_pcap.proofs.Records.{field_checks-append, record_head_in-append, captured_len-append, record_fault-few, record_fault-fields, record_fault-short, IsRecord-came}
+use Rattle.cap_pcap.specs.declared.header.Head.{Head}
+use Rattle.cap_pcap.specs.declared.header.RecordHead.{RecordHead}
+use Rattle.cap_pcap.specs.Header.{form_in, header_fault, header_in}
+use Rattle.cap_pcap.specs.Record.{captured_len, field_checks, record_header_in, record_size, packet_in}
+use Rattle.cap_pcap.proofs.Headers.{header_fault-few, form_in-append, header_fault-append, header_fault-no_magic, header_fault-short}
+use Rattle.cap_pcap.proofs.Records.{field_checks-append, record_header_in-append, captured_len-append, record_fault-few, record_fault-fields, record_fault-short, IsRecord-came}
 use Rattle.cap_pcapng.specs.Frame.{is_section}
 use Rattle.cap_pcapng.proofs.Units as block
 use Rattle.cap_io.specs.Capture.{Declared, Nothing, PcapFile, Front, a_pcap_record, front_of, is_pcapng}
-use Rattle.cap_io.specs.Reading.{most_in_unit, most_taken, length_by_front, decisive_length, IsTaken, Refuses, RestMissing, FrontMissing, HeaderCame, PacketCame}
+use Rattle.cap_io.specs.Reading.{most_in_unit, most_taken, length_by_front, decisive_length, IsTaken, NoUnitCame, RestMissing, FrontMissing, HeaderCame, PacketCame}
 use Rattle.cap_io.proofs.Fronts.{front_of-no_header, front_of-no_record, front_of-pcapng, is_section-append, is_pcapng-append, is_pcapng-few, most_taken-block, most_taken-header, most_taken-record, most_taken-front, decisive_length-file, decisive_length-front, decisive_length-header}
 use Rattle.cap_io.proofs.OwnFaults.{fields-not_failed, header-not_failed}
 
@@ -52,45 +52,45 @@ most_taken-file text count few = by_kind (is_pcapng text) refl
         (most_taken-block None None text count (λ none. omega (arith, few, (block.passes None text none).least)) (omega (arith, few)))
     by_kind false is = most_taken-header text count is (omega (arith, few))
 
-pub too_few : (unread unread' : List ℕ) (count : ℕ) → length unread < 4 → count ≤ length unread → unread' ≡ drop count unread → Refuses Nothing unread unread' NotACaptureFile
+pub too_few : (unread unread' : List ℕ) (count : ℕ) → length unread < 4 → count ≤ length unread → unread' ≡ drop count unread → NoUnitCame Nothing unread unread' NotACaptureFile
 too_few unread unread' count few there rest = record {
-  why = inl (front_of-no_header unread NotACaptureFile (is_pcapng-few unread few) (head_fault-few unread few));
+  why = inl (front_of-no_header unread NotACaptureFile (is_pcapng-few unread few) (header_fault-few unread few));
   taken = record { count = count; within = most_taken-file unread count (omega arith); unfinished = λ failed. (cc); there = there; rest = rest };
 }
 
-pub first_failed : (unread unread' : List ℕ) (count : ℕ) → count < 4 → count ≤ length unread → unread' ≡ drop count unread → Refuses Nothing unread unread' ReadFailed
+pub first_failed : (unread unread' : List ℕ) (count : ℕ) → count < 4 → count ≤ length unread → unread' ≡ drop count unread → NoUnitCame Nothing unread unread' ReadFailed
 first_failed unread unread' count few there rest = record {
   why = inr (inl refl);
   taken = record { count = count; within = most_taken-file unread count (omega arith); unfinished = λ failed. decisive_length-file unread count few; there = there; rest = rest };
 }
 
 -- what is refused behind the first four bytes is refused with them
-pub Refuses-behind : (unread unread1 unread2 first : List ℕ) (fault : Fault) → unread ≡ first ++ unread1 → Refuses Nothing (first ++ unread1) unread2 fault → Refuses Nothing unread unread2 fault
-Refuses-behind unread unread1 unread2 first fault splits refuses = let P : List ℕ → Type 0 = λ t. Refuses Nothing t unread2 fault in subst P (sym splits) refuses
+pub NoUnitCame-behind : (unread unread1 unread2 first : List ℕ) (fault : Fault) → unread ≡ first ++ unread1 → NoUnitCame Nothing (first ++ unread1) unread2 fault → NoUnitCame Nothing unread unread2 fault
+NoUnitCame-behind unread unread1 unread2 first fault splits refuses = let P : List ℕ → Type 0 = λ t. NoUnitCame Nothing t unread2 fault in subst P (sym splits) refuses
 
 -- ---- the file header
 
 other_kind : (unread unread' magic : List ℕ) → unread ≡ magic ++ unread' → length magic ≡ 4 → is_section magic ≡ false → is_pcapng unread ≡ false
 other_kind unread unread' magic splits size other = ap is_pcapng splits ∙ is_pcapng-append magic unread' (omega arith) ∙ other
 
-pub no_magic : (unread unread' magic : List ℕ) → unread ≡ magic ++ unread' → length magic ≡ 4 → is_section magic ≡ false → form_in magic ≡ None → Refuses Nothing unread unread' NotACaptureFile
+pub no_magic : (unread unread' magic : List ℕ) → unread ≡ magic ++ unread' → length magic ≡ 4 → is_section magic ≡ false → form_in magic ≡ None → NoUnitCame Nothing unread unread' NotACaptureFile
 no_magic unread unread' magic splits size other none =
     let whole : form_in unread ≡ None = ap form_in splits ∙ form_in-append magic unread' (omega arith) ∙ none in
     let kind : is_pcapng unread ≡ false = other_kind unread unread' magic splits size other in
     record {
-      why = inl (front_of-no_header unread NotACaptureFile kind (head_fault-no_magic unread whole));
+      why = inl (front_of-no_header unread NotACaptureFile kind (header_fault-no_magic unread whole));
       taken = Taken-behind Nothing unread unread' unread' magic NotACaptureFile 0 splits (omega arith) refl (most_taken-header unread (length magic + 0) kind (omega arith)) (λ failed. (cc));
     }
 
 pub rest_of_header : (unread unread1 unread2 magic : List ℕ) (fault : Fault) (whole : ℕ) → whole ≡ 24 → unread ≡ magic ++ unread1 → length magic ≡ 4 → is_section magic ≡ false → is_some (form_in magic) ≡ true
-    → RestMissing (length magic) whole unread1 unread2 fault → Refuses Nothing unread unread2 fault
+    → RestMissing (length magic) whole unread1 unread2 fault → NoUnitCame Nothing unread unread2 fault
 rest_of_header unread unread1 unread2 magic fault whole is splits size other some missing =
     let kind : is_pcapng unread ≡ false = other_kind unread unread1 magic splits size other in
     let form : is_some (form_in unread) ≡ true = ap is_some (ap form_in splits ∙ form_in-append magic unread1 (omega arith)) ∙ some in
     let long : length unread ≡ length magic + length unread1 = ap length splits ∙ length-append magic unread1 in
     record {
       why = elim missing.why [
-        | inl short ↦ inl (rw short.0 (front_of-no_header unread Truncated kind (head_fault-short unread form (omega arith) (omega (arith, short.1)))))
+        | inl short ↦ inl (rw short.0 (front_of-no_header unread Truncated kind (header_fault-short unread form (omega arith) (omega (arith, short.1)))))
         | inr failed ↦ inr (inl failed)
       ];
       taken = Taken-behind Nothing unread unread1 unread2 magic fault missing.count splits missing.there missing.rest (most_taken-header unread (length magic + missing.count) kind (omega (arith, missing.within)))
@@ -110,16 +110,16 @@ joined_front unread unread1 unread2 first bytes size whole splits front rest =
     splits ∙ ap (λ (l : List ℕ). first ++ l) behind ∙ sym (append_assoc first (drop n bytes) unread2)
     ∙ ap (λ (l : List ℕ). l ++ unread2) (ap (λ (l : List ℕ). l ++ drop n bytes) (sym (first_of first bytes size whole front)) ∙ take-append-drop n bytes)
 
-header_says : (unread unread2 bytes : List ℕ) (head : Head) → unread ≡ bytes ++ unread2 → length bytes ≡ 24 → Ok head ≡ checked (head_fault bytes) (head_in bytes) → HeaderCame unread head unread2
+header_says : (unread unread2 bytes : List ℕ) (head : Head) → unread ≡ bytes ++ unread2 → length bytes ≡ 24 → Ok head ≡ checked (header_fault bytes) (header_in bytes) → HeaderCame unread head unread2
 header_says unread unread2 bytes head splits size is =
-    let both = checked_ok (head_fault bytes) (head_in bytes) head (sym is) in
+    let both = checked_ok (header_fault bytes) (header_in bytes) head (sym is) in
     record { bytes = bytes; header = record { passes = both.0; whole = size; says = sym both.1 }; splits = splits }
 
-header_wrong : (unread unread2 bytes : List ℕ) (fault : Fault) → unread ≡ bytes ++ unread2 → length bytes ≡ 24 → is_section bytes ≡ false → Err fault ≡ checked (head_fault bytes) (head_in bytes) → Refuses Nothing unread unread2 fault
+header_wrong : (unread unread2 bytes : List ℕ) (fault : Fault) → unread ≡ bytes ++ unread2 → length bytes ≡ 24 → is_section bytes ≡ false → Err fault ≡ checked (header_fault bytes) (header_in bytes) → NoUnitCame Nothing unread unread2 fault
 header_wrong unread unread2 bytes fault splits size other is =
     let kind : is_pcapng unread ≡ false = ap is_pcapng splits ∙ is_pcapng-append bytes unread2 (omega arith) ∙ other in
-    let fails : head_fault bytes ≡ Some fault = checked_err (head_fault bytes) (head_in bytes) fault (sym is) in
-    let whole : head_fault unread ≡ Some fault = ap head_fault splits ∙ head_fault-append bytes unread2 (omega arith) ∙ fails in
+    let fails : header_fault bytes ≡ Some fault = checked_err (header_fault bytes) (header_in bytes) fault (sym is) in
+    let whole : header_fault unread ≡ Some fault = ap header_fault splits ∙ header_fault-append bytes unread2 (omega arith) ∙ fails in
     record {
       why = inl (front_of-no_header unread fault kind whole);
       taken = Taken-behind Nothing unread unread2 unread2 bytes fault 0 splits (omega arith) refl (most_taken-header unread (length bytes + 0) kind (omega arith))
@@ -132,20 +132,20 @@ section_of_bytes bytes first front enough =
     let joined : first ++ drop (length first) bytes ≡ bytes = ap (λ (l : List ℕ). l ++ drop (length first) bytes) (sym front) ∙ take-append-drop (length first) bytes in
     ap is_section (sym joined) ∙ is_section-append first (drop (length first) bytes) enough
 
-pub header_came : (told : Bool) (unread unread2 bytes : List ℕ) (answer : Result Head Fault) → (IsTrue told → unread ≡ bytes ++ unread2) → length bytes ≡ 24 → answer ≡ checked (head_fault bytes) (head_in bytes)
+pub header_came : (told : Bool) (unread unread2 bytes : List ℕ) (answer : Result Head Fault) → (IsTrue told → unread ≡ bytes ++ unread2) → length bytes ≡ 24 → answer ≡ checked (header_fault bytes) (header_in bytes)
     → IfOk answer (λ head. IsTrue told → HeaderCame unread head unread2)
 header_came told unread unread2 bytes (Ok head) splits size is = λ t. header_says unread unread2 bytes head (splits t) size is
 header_came told unread unread2 bytes (Err fault) splits size is = tt
 
 pub header_refused : (told : Bool) (unread unread2 bytes : List ℕ) (answer : Result Head Fault) → (IsTrue told → unread ≡ bytes ++ unread2) → length bytes ≡ 24 → is_section bytes ≡ false
-    → answer ≡ checked (head_fault bytes) (head_in bytes)
-    → IfErr answer (λ fault. IsTrue told → Refuses Nothing unread unread2 fault)
+    → answer ≡ checked (header_fault bytes) (header_in bytes)
+    → IfErr answer (λ fault. IsTrue told → NoUnitCame Nothing unread unread2 fault)
 header_refused told unread unread2 bytes (Ok head) splits size other is = tt
 header_refused told unread unread2 bytes (Err fault) splits size other is = λ t. header_wrong unread unread2 bytes fault (splits t) size other is
 
 -- ---- a record
 
-pub record_front : (head : Head) (unread unread' : List ℕ) (fault : Fault) → FrontMissing 16 unread unread' fault → Refuses (PcapFile head) unread unread' fault
+pub record_front : (head : Head) (unread unread' : List ℕ) (fault : Fault) → FrontMissing 16 unread unread' fault → NoUnitCame (PcapFile head) unread unread' fault
 record_front head unread unread' fault m = record {
   why = elim m.missing.why [
     | inl short ↦ elim m.some [
@@ -165,18 +165,18 @@ record_front head unread unread' fault m = record {
 
 pub record FieldsCame (head : Head) (front : List ℕ) (found : RecordHead) : Type 0 where
   pub none : first_failing (field_checks head front) ≡ None
-  pub says : found ≡ record_head_in head front
+  pub says : found ≡ record_header_in head front
 
-pub fields_came : (head : Head) (front : List ℕ) (answer : Result RecordHead Fault) (found : RecordHead) → answer ≡ checked (first_failing (field_checks head front)) (record_head_in head front) → answer ≡ Ok found
+pub fields_came : (head : Head) (front : List ℕ) (answer : Result RecordHead Fault) (found : RecordHead) → answer ≡ checked (first_failing (field_checks head front)) (record_header_in head front) → answer ≡ Ok found
     → FieldsCame head front found
 fields_came head front answer found is ok =
-    let both = checked_ok (first_failing (field_checks head front)) (record_head_in head front) found (sym is ∙ ok) in
+    let both = checked_ok (first_failing (field_checks head front)) (record_header_in head front) found (sym is ∙ ok) in
     record { none = both.0; says = sym both.1 }
 
 pub fields_refused : (head : Head) (unread unread1 front : List ℕ) (answer : Result RecordHead Fault) (fault : Fault) → unread ≡ front ++ unread1 → length front ≡ 16
-    → answer ≡ checked (first_failing (field_checks head front)) (record_head_in head front) → answer ≡ Err fault → Refuses (PcapFile head) unread unread1 fault
+    → answer ≡ checked (first_failing (field_checks head front)) (record_header_in head front) → answer ≡ Err fault → NoUnitCame (PcapFile head) unread unread1 fault
 fields_refused head unread unread1 front answer fault splits size is err =
-    let fails = checked_err (first_failing (field_checks head front)) (record_head_in head front) fault (sym is ∙ err) in
+    let fails = checked_err (first_failing (field_checks head front)) (record_header_in head front) fault (sym is ∙ err) in
     let whole : first_failing (field_checks head unread) ≡ Some fault = ap (λ (t : List ℕ). first_failing (field_checks head t)) splits ∙ ap first_failing (field_checks-append head front unread1 (omega arith)) ∙ fails in
     let long : length unread ≡ length front + length unread1 = ap length splits ∙ length-append front unread1 in
     record {
@@ -185,14 +185,14 @@ fields_refused head unread unread1 front answer fault splits size is err =
           (λ failed. absurd (fields-not_failed head front fault fails failed));
     }
 
-pub no_room : (head : Head) (unread unread1 front : List ℕ) → unread ≡ front ++ unread1 → length front ≡ 16 → Refuses (PcapFile head) unread unread1 NoMemory
+pub no_room : (head : Head) (unread unread1 front : List ℕ) → unread ≡ front ++ unread1 → length front ≡ 16 → NoUnitCame (PcapFile head) unread unread1 NoMemory
 no_room head unread unread1 front splits size = record {
   why = inr (inr refl);
   taken = Taken-behind (PcapFile head) unread unread1 unread1 front NoMemory 0 splits (omega arith) refl (most_taken-front head unread (length front + 0) (omega arith)) (λ failed. (cc));
 }
 
 pub data_missing : (head : Head) (unread unread1 unread2 front : List ℕ) (found : RecordHead) (fault : Fault) (size : ℕ) → size ≡ 16 + found.captured → unread ≡ front ++ unread1 → length front ≡ 16 → FieldsCame head front found
-    → 16 + found.captured ≤ most_in_unit → RestMissing (length front) size unread1 unread2 fault → Refuses (PcapFile head) unread unread2 fault
+    → 16 + found.captured ≤ most_in_unit → RestMissing (length front) size unread1 unread2 fault → NoUnitCame (PcapFile head) unread unread2 fault
 data_missing head unread unread1 unread2 front found fault size is splits few fields small missing =
     let long : length unread ≡ length front + length unread1 = ap length splits ∙ length-append front unread1 in
     let said : found.captured ≡ captured_len head front = ap (λ (h : RecordHead). h.captured) fields.says in
@@ -216,7 +216,7 @@ record_came head unread unread1 unread2 front unit buffer found size splits few 
     let rest : unread1 ≡ drop 16 unit ++ unread2 = behind ∙ ap (λ (n : ℕ). drop n unit ++ unread2) few in
     let said : found.captured ≡ captured_len head front = ap (λ (h : RecordHead). h.captured) fields.says in
     let joined : front ++ drop 16 unit ≡ unit = ap (λ (l : List ℕ). l ++ drop 16 unit) (sym same) ∙ take-append-drop 16 unit in
-    let says : record_head_in head unit ≡ found = ap (record_head_in head) (sym joined) ∙ record_head_in-append head front (drop 16 unit) (omega arith) ∙ sym fields.says in
+    let says : record_header_in head unit ≡ found = ap (record_header_in head) (sym joined) ∙ record_header_in-append head front (drop 16 unit) (omega arith) ∙ sym fields.says in
     let bytes : take found.captured (drop 16 unit) ≡ drop 16 unit = take_all found.captured (drop 16 unit) (omega (arith, length-drop 16 unit)) in
     let packet : record { link = head.link; snap = head.snap; name = []; time = found.time; orig = found.orig; bytes = take found.captured (drop 16 unit); comment = [] } ≡ packet_in head unit =
     ap₂ (λ (h : RecordHead) (l : List ℕ). record { link = head.link; snap = head.snap; name = []; time = h.time; orig = h.orig; bytes = l; comment = [] }) (sym says) bytes in

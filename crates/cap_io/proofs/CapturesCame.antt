@@ -5,29 +5,30 @@ use Rattle.std.proofs.lemmas.Bool.{ltb-false, ltb-true}
 use Rattle.std.specs.List.{slice_get}
 use Rattle.std.specs.Option.{option_map, option_or, option_to_list}
 use Rattle.std.proofs.lemmas.List.{length-append, length-take-le}
+use Rattle.std.proofs.lemmas.List.Elements.{All-nil}
 use Rattle.cap_octet.specs.Packet.{Captured}
 use Rattle.cap_octet.specs.declared.fault.Fault.{Fault}
 use Rattle.cap_octet.specs.declared.fault.Fault.TheVariants.{Truncated}
 use Rattle.cap_octet.specs.declared.number.Order.{Order}
 use Rattle.cap_octet.specs.declared.number.Order.TheVariants.{Little}
 use Rattle.cap_octet.specs.Number.{u32_in}
-use Rattle.cap_pcap.specs.declared.head.Head.{Head}
+use Rattle.cap_pcap.specs.declared.header.Head.{Head}
 use Rattle.cap_pcapng.specs.Block.{Parts, SectionParts, InterfaceParts, EnhancedParts, SimpleParts, SkippedParts, body_in, parts_in, parts_in_body}
 use Rattle.cap_pcapng.specs.Frame.{frame_in, is_section, magic_order, order_in, type_in, type_of}
-use Rattle.cap_pcapng.specs.Interface.{Described}
+use Rattle.cap_pcapng.specs.Interface.{Described, FitSection}
 use Rattle.cap_pcapng.specs.Unit.{IsBlock, Section, frame_behind, interfaces_before, order_before, packet_by, packets_in, parts_behind, section_after, section_by, unit_fault}
 use Rattle.cap_pcapng.specs.declared.frames.BlockType.TheVariants as type
 use Rattle.cap_pcapng.proofs.Units.{passes, unit_fault-few}
 use Rattle.cap_octet.specs.declared.device.Input.{Ghosts}
 use Rattle.cap_pcapng.specs.declared.frames.Frame.{Frame}
-use Rattle.cap_io.specs.declared.unit.Came.{Came}
-use Rattle.cap_io.specs.declared.unit.Came.TheVariants as came
-use Rattle.cap_io.specs.declared.unit.Held.{Held}
-use Rattle.cap_io.specs.declared.unit.Savefile.{Savefile}
-use Rattle.cap_io.specs.declared.unit.Savefile.TheVariants as file
+use Rattle.cap_io.specs.declared.file_state.NextUnit.{NextUnit}
+use Rattle.cap_io.specs.declared.file_state.NextUnit.TheVariants as next_unit
+use Rattle.cap_io.specs.declared.file_state.PacketSpans.{PacketSpans}
+use Rattle.cap_io.specs.declared.file_state.FileState.{FileState}
+use Rattle.cap_io.specs.declared.file_state.FileState.TheVariants as state
 use Rattle.cap_io.specs.Blocks.{Enters, KnowsIfAny, packet_in, section_of}
-use Rattle.cap_io.specs.Capture.{Declared, Nothing, PcapFile, PcapngFile, Front, IsUnit, a_pcap_header, a_first_block, a_block, file_after, first_after, front_of, front_of_block, is_pcapng}
-use Rattle.cap_io.specs.Reading.{BeginsBlock, FrontMissing, HasInterface, HeaderCame, IsSized, IsTold, PacketCame, ReadsUnit, Refuses, RestMissing, UnitCame, UnitPassed, declared_by, failures_told, first_link_held, order_held, part_of, most_taken, packet_held, decisive_length, decisive_block_length, section_before, size_of}
+use Rattle.cap_io.specs.Capture.{Declared, Nothing, PcapFile, PcapngFile, Front, IsUnit, a_pcap_header, a_first_block, a_block, file_after, first_link_after, front_of, front_of_block, is_pcapng}
+use Rattle.cap_io.specs.Reading.{BeginsBlock, FrontMissing, HasInterface, HeaderCame, IsSized, IsConsistent, PacketCame, ReadsUnit, NoUnitCame, RestMissing, UnitCame, UnitPassed, declared_by, read_failures, known_first_link, known_order, span_bytes, most_taken, packet_in_unit, decisive_length, decisive_block_length, section_before, size_of}
 use Rattle.cap_io.proofs.BlocksCame.{BlockCame, BlockMissing}
 use Rattle.cap_io.proofs.Came.{Taken-behind, most_taken-file}
 use Rattle.cap_io.proofs.Fronts.{front_of-behind, front_of-pcapng, front_of_block-none, is_pcapng-append, most_taken-block, decisive_length-pcapng, decisive_block_length-few}
@@ -38,7 +39,7 @@ use Rattle.cap_io.proofs.Units.{and_second, first-section}
 -- where a block would stand, its faults are those of the text
 missing-refuses : (declared : Declared) (first : Option ℕ) (before : Option Section) (text unread' : List ℕ) (fault : Fault)
     → front_of declared text ≡ front_of_block (unit_fault before text) first before text → decisive_length declared text ≡ decisive_block_length before text
-    → BlockMissing before text unread' fault → Refuses declared text unread' fault
+    → BlockMissing before text unread' fault → NoUnitCame declared text unread' fault
 missing-refuses declared first before text unread' fault is reads m =
     let P : Front → Type 0 = λ f. m.count ≤ most_taken f in
     record {
@@ -60,24 +61,24 @@ record StandsAt (declared : Declared) (first : Option ℕ) (before : Option Sect
   front : front_of declared text ≡ front_of_block (unit_fault before text) first before text
   reads : decisive_length declared text ≡ decisive_block_length before text
 
-stands_at : (file : Savefile) (interfaces : List Described) (front more : List ℕ) → 12 ≤ length front → BeginsBlock file front
-    → StandsAt (declared_by file interfaces) (first_link_held file) (section_before file interfaces) (front ++ more)
-stands_at file.Unknown interfaces front more enough begins =
+stands_at : (file : FileState) (interfaces : List Described) (front more : List ℕ) → 12 ≤ length front → BeginsBlock file front
+    → StandsAt (declared_by file interfaces) (known_first_link file) (section_before file interfaces) (front ++ more)
+stands_at state.Unknown interfaces front more enough begins =
     let kind : is_pcapng (front ++ more) ≡ true = is_pcapng-append front more (omega arith) ∙ begins in
     record { front = front_of-pcapng (front ++ more) kind; reads = decisive_length-pcapng (front ++ more) kind }
-stands_at (file.Pcap head) interfaces front more enough begins = absurd begins
-stands_at (file.Pcapng order first) interfaces front more enough begins =
+stands_at (state.Pcap head) interfaces front more enough begins = absurd begins
+stands_at (state.Pcapng order first) interfaces front more enough begins =
     record { front = front_of-behind first (section_of order interfaces) (front ++ more) (omega (arith, length-append front more)); reads = refl }
 
-pub refused-block : (file : Savefile) (interfaces : List Described) (front unread unread' : List ℕ) (fault : Fault) → length front ≡ 12 → BeginsBlock file front
-    → BlockMissing (section_before file interfaces) (front ++ unread) unread' fault → Refuses (declared_by file interfaces) (front ++ unread) unread' fault
+pub refused-block : (file : FileState) (interfaces : List Described) (front unread unread' : List ℕ) (fault : Fault) → length front ≡ 12 → BeginsBlock file front
+    → BlockMissing (section_before file interfaces) (front ++ unread) unread' fault → NoUnitCame (declared_by file interfaces) (front ++ unread) unread' fault
 refused-block file interfaces front unread unread' fault few begins m =
     let stands = stands_at file interfaces front unread (omega arith) begins in
-    missing-refuses (declared_by file interfaces) (first_link_held file) (section_before file interfaces) (front ++ unread) unread' fault stands.front stands.reads m
+    missing-refuses (declared_by file interfaces) (known_first_link file) (section_before file interfaces) (front ++ unread) unread' fault stands.front stands.reads m
 
 -- the front of the first block didn't come
 pub rest_of_front : (first unread unread' : List ℕ) (fault : Fault) (size : ℕ) → size ≡ 12 → length first ≡ 4 → is_section first ≡ true → RestMissing (length first) size unread unread' fault
-    → Refuses Nothing (first ++ unread) unread' fault
+    → NoUnitCame Nothing (first ++ unread) unread' fault
 rest_of_front first unread unread' fault size twelve four is missing =
     let kind : is_pcapng (first ++ unread) ≡ true = is_pcapng-append first unread (omega arith) ∙ is in
     let long : length (first ++ unread) ≡ length first + length unread = length-append first unread in
@@ -99,7 +100,7 @@ front-taken link section (b ∷ bytes) count few =
 
 -- the front of a later block didn't come
 block_front : (link : Option ℕ) (section : Section) (unread unread' : List ℕ) (fault : Fault) → FrontMissing 12 unread unread' fault
-    → Refuses (PcapngFile link section) unread unread' fault
+    → NoUnitCame (PcapngFile link section) unread unread' fault
 block_front link section unread unread' fault m =
     elim m.some [
       | inl some ↦ missing-refuses (PcapngFile link section) link (Some section) unread unread' fault (front_of-behind link section unread some) refl (record {
@@ -160,7 +161,7 @@ section-kept section block packet is = by_kind (is_section block) refl
         (ap (λ (b : Bool). unwrap_or (if b then magic_order block else Some section.order) Little) kind) is
 
 -- what is first stays first
-pub first-again : (link : Option ℕ) (section : Section) → first_after (first_after link section) section ≡ first_after link section
+pub first-again : (link : Option ℕ) (section : Section) → first_link_after (first_link_after link section) section ≡ first_link_after link section
 first-again link section = by_link link (option_map (λ (i : Described). i.link) (slice_get section.interfaces 0))
   where
     by_link : (a b : Option ℕ) → option_or (option_or a b) b ≡ option_or a b
@@ -179,42 +180,42 @@ UnitPassed-behind unread unread1 unread' first size declared splits came =
     record { bytes = came.bytes; unit = came.unit; sized = came.sized; splits = splits ∙ came.splits }
 
 -- a packet whose unit has so many bytes
-packet_at_size : (link : Option ℕ) (section : Section) (unread buffer : List ℕ) (held : Held) (packet : Captured) (declared' : Declared) (size : ℕ) (unread' : List ℕ) → held.size ≡ size
-    → packet_held (PcapngFile link section) held (take size buffer) ≡ Some packet
+packet_at_size : (link : Option ℕ) (section : Section) (unread buffer : List ℕ) (spans : PacketSpans) (packet : Captured) (declared' : Declared) (size : ℕ) (unread' : List ℕ) → spans.size ≡ size
+    → packet_in_unit (PcapngFile link section) spans (take size buffer) ≡ Some packet
     → IsUnit (PcapngFile link section) (take size buffer) (packet ∷ []) (PcapngFile link section)
     → declared' ≡ PcapngFile link section
     → unread ≡ take size buffer ++ unread'
-    → PacketCame (PcapngFile link section) unread buffer held declared' unread'
-packet_at_size link section unread buffer held packet declared' size unread' whole lent unit same splits =
+    → PacketCame (PcapngFile link section) unread buffer spans declared' unread'
+packet_at_size link section unread buffer spans packet declared' size unread' whole lent unit same splits =
     let Q : ℕ → Type 0 = λ n. IsUnit (PcapngFile link section) (take n buffer) (packet ∷ []) (PcapngFile link section) in
     record {
       packet = packet;
-      is_lent = ap (λ n. packet_held (PcapngFile link section) held (take n buffer)) whole ∙ lent;
+      is_lent = ap (λ n. packet_in_unit (PcapngFile link section) spans (take n buffer)) whole ∙ lent;
       unit = subst Q (sym whole) unit;
       same = same;
       splits = splits ∙ ap (λ n. take n buffer ++ unread') (sym whole);
     }
 
 -- what is known of a file behind a block without a packet
-pub passed-block : (file : Savefile) (interfaces interfaces' : List Described) (front unread buffer unread' : List ℕ) (order : Order) (size : ℕ) → BeginsBlock file front → size ≤ length buffer
+pub passed-block : (file : FileState) (interfaces interfaces' : List Described) (front unread buffer unread' : List ℕ) (order : Order) (size : ℕ) → BeginsBlock file front → size ≤ length buffer
     → BlockCame (section_before file interfaces) (front ++ unread) buffer order size None interfaces' unread'
-    → UnitPassed (declared_by file interfaces) (front ++ unread) size (PcapngFile (first_after (first_link_held file) (section_of order interfaces')) (section_of order interfaces')) unread'
-passed-block file.Unknown interfaces interfaces' front unread buffer unread' order size begins there came =
+    → UnitPassed (declared_by file interfaces) (front ++ unread) size (PcapngFile (first_link_after (known_first_link file) (section_of order interfaces')) (section_of order interfaces')) unread'
+passed-block state.Unknown interfaces interfaces' front unread buffer unread' order size begins there came =
     let block : List ℕ = take size buffer in
     let Q : List Captured → Type 0 = λ qs. IsUnit Nothing block qs (file_after None None block) in
-    let R : Section → Type 0 = λ s. IsUnit Nothing block [] (PcapngFile (first_after None s) s) in
+    let R : Section → Type 0 = λ s. IsUnit Nothing block [] (PcapngFile (first_link_after None s) s) in
     record {
       bytes = block;
       unit = subst R came.section (subst Q came.packet (a_first_block block came.is_block));
       sized = length-take-le size buffer there;
       splits = came.splits;
     }
-passed-block (file.Pcap head) interfaces interfaces' front unread buffer unread' order size begins there came = absurd begins
-passed-block (file.Pcapng own link) interfaces interfaces' front unread buffer unread' order size begins there came =
+passed-block (state.Pcap head) interfaces interfaces' front unread buffer unread' order size begins there came = absurd begins
+passed-block (state.Pcapng own link) interfaces interfaces' front unread buffer unread' order size begins there came =
     let section = section_of own interfaces in
     let block : List ℕ = take size buffer in
     let Q : List Captured → Type 0 = λ qs. IsUnit (PcapngFile link section) block qs (file_after link (Some section) block) in
-    let R : Section → Type 0 = λ s. IsUnit (PcapngFile link section) block [] (PcapngFile (first_after link s) s) in
+    let R : Section → Type 0 = λ s. IsUnit (PcapngFile link section) block [] (PcapngFile (first_link_after link s) s) in
     record {
       bytes = block;
       unit = subst R came.section (subst Q came.packet (a_block link section block came.is_block));
@@ -223,46 +224,55 @@ passed-block (file.Pcapng own link) interfaces interfaces' front unread buffer u
     }
 
 -- behind a block with a packet the same is known
-pub packet-block : (file : Savefile) (interfaces interfaces' : List Described) (front unread buffer unread' : List ℕ) (order : Order) (size : ℕ) (held : Held) → BeginsBlock file front → size ≤ length buffer
-    → IsTold file interfaces → held.size ≡ size → interfaces' ≡ interfaces
-    → BlockCame (section_before file interfaces) (front ++ unread) buffer order size (Some held) interfaces' unread'
-    → PacketCame (declared_by file interfaces) (front ++ unread) buffer held (declared_by file interfaces') unread'
-packet-block file.Unknown interfaces interfaces' front unread buffer unread' order size held begins there told whole stays came =
+pub packet-block : (file : FileState) (interfaces interfaces' : List Described) (front unread buffer unread' : List ℕ) (order : Order) (size : ℕ) (spans : PacketSpans) → BeginsBlock file front → size ≤ length buffer
+    → IsConsistent file interfaces → spans.size ≡ size → interfaces' ≡ interfaces
+    → BlockCame (section_before file interfaces) (front ++ unread) buffer order size (Some spans) interfaces' unread'
+    → PacketCame (declared_by file interfaces) (front ++ unread) buffer spans (declared_by file interfaces') unread'
+packet-block state.Unknown interfaces interfaces' front unread buffer unread' order size spans begins there told whole stays came =
     let none : [] ≡ came.packet.packet ∷ [] = sym (first-packets (take size buffer) came.is_block) ∙ came.packet.stands in absurd (cc)
-packet-block (file.Pcap head) interfaces interfaces' front unread buffer unread' order size held begins there told whole stays came = absurd begins
-packet-block (file.Pcapng own link) interfaces interfaces' front unread buffer unread' order size held begins there told whole stays came =
+packet-block (state.Pcap head) interfaces interfaces' front unread buffer unread' order size spans begins there told whole stays came = absurd begins
+packet-block (state.Pcapng own link) interfaces interfaces' front unread buffer unread' order size spans begins there told whole stays came =
     let section = section_of own interfaces in
     let block : List ℕ = take size buffer in
     let p = came.packet in
     let same : section_after (Some section) block ≡ section = section-kept section block p.packet p.stands in
     let kept : section_of order interfaces' ≡ section = sym came.section ∙ same in
-    let declared : (s : Section) → s ≡ section → PcapngFile (first_after link s) s ≡ PcapngFile link section =
-    λ s e. ap (λ (t : Section). PcapngFile (first_after link t) t) e ∙ ap (λ l. PcapngFile l section) told in
+    let declared : (s : Section) → s ≡ section → PcapngFile (first_link_after link s) s ≡ PcapngFile link section =
+    λ s e. ap (λ (t : Section). PcapngFile (first_link_after link t) t) e ∙ ap (λ l. PcapngFile l section) told.0 in
     let Q : List Captured → Type 0 = λ qs. IsUnit (PcapngFile link section) block qs (file_after link (Some section) block) in
     let R : Declared → Type 0 = λ d. IsUnit (PcapngFile link section) block (p.packet ∷ []) d in
-    packet_at_size link section (front ++ unread) buffer held p.packet (declared_by (file.Pcapng own link) interfaces') size unread' whole
-    (ap (λ (s : Section). packet_in s.order section.interfaces held (part_of held.bytes block) (part_of held.options block)) (sym kept) ∙ p.is_lent)
+    packet_at_size link section (front ++ unread) buffer spans p.packet (declared_by (state.Pcapng own link) interfaces') size unread' whole
+    (ap (λ (s : Section). packet_in s.order section.interfaces spans (span_bytes spans.bytes block) (span_bytes spans.options block)) (sym kept) ∙ p.is_lent)
     (subst R (declared (section_after (Some section) block) same) (subst Q p.stands (a_block link section block came.is_block)))
     (ap (λ i. PcapngFile link (section_of own i)) stays) came.splits
 
 -- ---- what holds on any device
 
 -- a block with a packet leaves the interfaces
-pub interfaces-kept : (frame : Frame) (interfaces interfaces' : List Described) (block : List ℕ) (held : Held) → Enters frame interfaces block (Some held) interfaces' → interfaces' ≡ interfaces
-interfaces-kept frame interfaces interfaces' block held enters =
+pub interfaces-kept : (frame : Frame) (interfaces interfaces' : List Described) (block : List ℕ) (spans : PacketSpans) → Enters frame interfaces block (Some spans) interfaces' → interfaces' ≡ interfaces
+interfaces-kept frame interfaces interfaces' block spans enters =
     ap (λ (s : Section). s.interfaces) (sym enters.section
     ∙ kept_by (section_of frame.order interfaces) frame.order (parts_in frame block) enters.packet.packet refl (ap option_to_list enters.packet.stands))
 
 -- a section header has none
-pub has-section : (file : Savefile) (front block : List ℕ) (frame : Frame) (interfaces interfaces' : List Described) (held : Held) → BeginsBlock file front
-    → frame_in (order_held file) front ≡ frame → Enters frame interfaces block (Some held) interfaces' → KnowsIfAny interfaces' (Some held) → HasInterface (declared_by file interfaces') held
-has-section file.Unknown front block frame interfaces interfaces' held begins is enters knows =
+pub has-section : (file : FileState) (front block : List ℕ) (frame : Frame) (interfaces interfaces' : List Described) (spans : PacketSpans) → BeginsBlock file front
+    → frame_in (known_order file) front ≡ frame → Enters frame interfaces block (Some spans) interfaces' → KnowsIfAny interfaces' (Some spans) → HasInterface (declared_by file interfaces') spans
+has-section state.Unknown front block frame interfaces interfaces' spans begins is enters knows =
     let kind : frame.block_type ≡ type.Section =
     ap (λ (f : Frame). f.block_type) (sym is) ∙ ap (λ (b : Bool). if b then type.Section else type_of (u32_in (order_in None front) front 0)) begins in
     let none : parts_in frame block ≡ SectionParts = ap (λ k. parts_in_body k frame.order (body_in frame block)) kind in
     let no_packet : None ≡ Some enters.packet.packet = sym (ap (packet_by interfaces) none) ∙ enters.packet.stands in absurd (cc)
-has-section (file.Pcap head) front block frame interfaces interfaces' held begins is enters knows = absurd begins
-has-section (file.Pcapng order first) front block frame interfaces interfaces' held begins is enters knows = knows
+has-section (state.Pcap head) front block frame interfaces interfaces' spans begins is enters knows = absurd begins
+has-section (state.Pcapng order first) front block frame interfaces interfaces' spans begins is enters knows = knows
+
+none-fit : FitSection []
+none-fit = record { count = omega arith; names = All-nil (λ (i : Described). length i.name ≤ 255) }
+
+-- the interfaces of a section that a block follows are no more than may be
+pub section-fits : (file : FileState) (interfaces : List Described) (front : List ℕ) → BeginsBlock file front → IsConsistent file interfaces → FitSection interfaces
+section-fits state.Unknown interfaces front begins none = rw none none-fit
+section-fits (state.Pcap head) interfaces front begins known = absurd begins
+section-fits (state.Pcapng order first) interfaces front begins known = known.1
 
 -- the bytes that a device gave stay few behind a block, though it be no longer than its front
 pub small-behind : (before behind front size : ℕ) → front ≡ 12 → behind + front ≡ before + size → 12 ≤ size → (front < size → behind < 2 ^ 63) → before < 2 ^ 63 → behind < 2 ^ 63
@@ -272,68 +282,68 @@ small-behind before behind front size twelve counted least longer small = by_siz
     by_size true e = longer (ltb-true front size e)
     by_size false e = let most = ltb-false front size e in omega (arith, twelve, counted, least, most, small)
 
-pub order-held : (file : Savefile) (interfaces : List Described) → order_before (section_before file interfaces) ≡ order_held file
-order-held file.Unknown interfaces = refl
-order-held (file.Pcap head) interfaces = refl
-order-held (file.Pcapng order first) interfaces = refl
+pub order-held : (file : FileState) (interfaces : List Described) → order_before (section_before file interfaces) ≡ known_order file
+order-held state.Unknown interfaces = refl
+order-held (state.Pcap head) interfaces = refl
+order-held (state.Pcapng order first) interfaces = refl
 
-pub interfaces-held : (file : Savefile) (interfaces : List Described) (front : List ℕ) → BeginsBlock file front → IsTold file interfaces → interfaces_before (section_before file interfaces) ≡ interfaces
-interfaces-held file.Unknown interfaces front begins told = sym told
-interfaces-held (file.Pcap head) interfaces front begins told = absurd begins
-interfaces-held (file.Pcapng order first) interfaces front begins told = refl
+pub interfaces-held : (file : FileState) (interfaces : List Described) (front : List ℕ) → BeginsBlock file front → IsConsistent file interfaces → interfaces_before (section_before file interfaces) ≡ interfaces
+interfaces-held state.Unknown interfaces front begins told = sym told
+interfaces-held (state.Pcap head) interfaces front begins told = absurd begins
+interfaces-held (state.Pcapng order first) interfaces front begins told = refl
 
 -- ---- a block of a file that has begun
 
-pub begun-front : (file : Savefile) (interfaces : List Described) (unread unread' : List ℕ) (fault : Fault) → IsTrue (is_some (order_held file)) → FrontMissing 12 unread unread' fault
-    → Refuses (declared_by file interfaces) unread unread' fault
-begun-front file.Unknown interfaces unread unread' fault begun m = absurd (cc)
-begun-front (file.Pcap head) interfaces unread unread' fault begun m = absurd (cc)
-begun-front (file.Pcapng order first) interfaces unread unread' fault begun m = block_front first (section_of order interfaces) unread unread' fault m
+pub begun-front : (file : FileState) (interfaces : List Described) (unread unread' : List ℕ) (fault : Fault) → IsTrue (is_some (known_order file)) → FrontMissing 12 unread unread' fault
+    → NoUnitCame (declared_by file interfaces) unread unread' fault
+begun-front state.Unknown interfaces unread unread' fault begun m = absurd (cc)
+begun-front (state.Pcap head) interfaces unread unread' fault begun m = absurd (cc)
+begun-front (state.Pcapng order first) interfaces unread unread' fault begun m = block_front first (section_of order interfaces) unread unread' fault m
 
 -- what reading behind the first bytes of a unit did is what reading it all did
-pub ReadsUnit-behind : {I : Type 0} (device : Ghosts I) (old mid : I) (front : List ℕ) (file : Savefile) (interfaces : List Described) (r : Result Came Fault) (new : I) (buffer : List ℕ) (held : Held) (file' : Savefile) (interfaces' : List Described)
+pub ReadsUnit-behind : {I : Type 0} (device : Ghosts I) (old mid : I) (front : List ℕ) (file : FileState) (interfaces : List Described) (r : Result NextUnit Fault) (new : I) (buffer : List ℕ) (spans : PacketSpans) (file' : FileState) (interfaces' : List Described)
     → device.given mid ≡ device.given old + length front → device.failures mid ≡ device.failures old → device.never_fails mid ≡ device.never_fails old
     → (0 < length front → device.given mid < 2 ^ 63)
     → (IsTrue device.tells → device.unread old ≡ front ++ device.unread mid)
-    → ReadsUnit device mid front file interfaces r new buffer held file' interfaces' → ReadsUnit device old [] file interfaces r new buffer held file' interfaces'
-ReadsUnit-behind device old mid front file interfaces (Ok c) new buffer held file' interfaces' given failed never small splits reads =
+    → ReadsUnit device mid front file interfaces r new buffer spans file' interfaces' → ReadsUnit device old [] file interfaces r new buffer spans file' interfaces'
+ReadsUnit-behind device old mid front file interfaces (Ok c) new buffer spans file' interfaces' given failed never small splits reads =
     let m = reads.moves in
-    let P : List ℕ → Type 0 = λ t. UnitCame (declared_by file interfaces) t buffer held c (declared_by file' interfaces') (device.unread new) in
+    let P : List ℕ → Type 0 = λ t. UnitCame (declared_by file interfaces) t buffer spans c (declared_by file' interfaces') (device.unread new) in
     record {
       moves = record {
         counted = omega (arith, given, m.counted);
         grown = omega (arith, given, m.grown);
         bounded = λ some. is_small c reads.sized some;
-        few = tt;
+        at_most = tt;
         failed = m.failed ∙ ap (λ n. n + 0) failed;
         never = m.never ∙ never;
       };
       sized = reads.sized;
-      told = reads.told;
+      consistent = reads.consistent;
       known = reads.known;
       ok = λ t. subst P (sym (splits t)) (reads.ok t);
       err = tt;
       kept = tt;
     }
   where
-    is_small : (c : Came) → IsSized held c buffer (device.given new) → 0 < size_of held c → device.given new < 2 ^ 63
-    is_small (came.Passed size) sized some = sized.1
-    is_small came.Packet sized some = sized.1
-    is_small came.End sized some = absurd (omega arith)
-ReadsUnit-behind device old mid front file interfaces (Err fault) new buffer held file' interfaces' given failed never small splits reads =
+    is_small : (c : NextUnit) → IsSized spans c buffer (device.given new) → 0 < size_of spans c → device.given new < 2 ^ 63
+    is_small (next_unit.Other size) sized some = sized.1
+    is_small next_unit.Packet sized some = sized.1
+    is_small next_unit.End sized some = absurd (omega arith)
+ReadsUnit-behind device old mid front file interfaces (Err fault) new buffer spans file' interfaces' given failed never small splits reads =
     let m = reads.moves in
-    let P : List ℕ → Type 0 = λ t. Refuses (declared_by file interfaces) t (device.unread new) fault in
+    let P : List ℕ → Type 0 = λ t. NoUnitCame (declared_by file interfaces) t (device.unread new) fault in
     record {
       moves = record {
         counted = tt;
         grown = omega (arith, given, m.grown);
         bounded = tt;
-        few = omega (arith, given, m.few);
-        failed = m.failed ∙ ap (λ n. n + failures_told {X = Came} (Err fault)) failed;
+        at_most = omega (arith, given, m.at_most);
+        failed = m.failed ∙ ap (λ n. n + read_failures {X = NextUnit} (Err fault)) failed;
         never = m.never ∙ never;
       };
       sized = tt;
-      told = tt;
+      consistent = tt;
       known = tt;
       ok = tt;
       err = λ t. subst P (sym (splits t)) (reads.err t);

@@ -12,8 +12,8 @@ use Rattle.cap_octet.specs.declared.number.Order.{Order}
 use Rattle.cap_octet.proofs.Checks.{all_met, met_front}
 use Rattle.cap_pcapng.specs.Block.{Parts, SectionParts, InterfaceParts, EnhancedParts, SimpleParts, SkippedParts, block_checks, block_fault, option_checks, body_checks, body_in, data_checks, parts_in, parts_in_body, parts_of, parts_of_interface, simple_captured}
 use Rattle.cap_pcapng.specs.Comment.{comment_code, comment_in}
-use Rattle.cap_pcapng.specs.Interface.{Described, IsDescribed, described}
-use Rattle.cap_pcapng.specs.InterfaceOptions.{first_value, given}
+use Rattle.cap_pcapng.specs.Interface.{Described, IsDescribed, description_of}
+use Rattle.cap_pcapng.specs.InterfaceOptions.{first_value, fitting_options}
 use Rattle.cap_pcapng.specs.Padding.{padded}
 use Rattle.cap_pcapng.specs.Time.{time_in}
 use Rattle.cap_pcapng.specs.Unit.{checks_among, most_interfaces, packet_by, packet_of, section_by}
@@ -26,9 +26,9 @@ use Rattle.cap_pcapng.specs.declared.blocks.SimpleBlock.{SimpleBlock}
 use Rattle.cap_pcapng.specs.declared.frames.BlockType.{BlockType}
 use Rattle.cap_pcapng.specs.declared.frames.BlockType.TheVariants as type
 use Rattle.cap_pcapng.specs.declared.frames.Frame.{Frame}
-use Rattle.cap_io.specs.Blocks.{Enters, IsEntryFault, PacketFound, packet_in, section_of, told_behind}
-use Rattle.cap_io.specs.Reading.{part_of}
-use Rattle.cap_io.specs.declared.unit.Held.{Held}
+use Rattle.cap_io.specs.Blocks.{Enters, IsEntryFault, PacketFound, packet_in, section_of, fault_among}
+use Rattle.cap_io.specs.Reading.{span_bytes}
+use Rattle.cap_io.specs.declared.file_state.PacketSpans.{PacketSpans}
 use Rattle.cap_io.proofs.OwnFaults.{all_failing, all_of_options}
 
 -- ---- a packet's data
@@ -112,7 +112,7 @@ simple_found interfaces i orig size rest known few = (
     from = refl;
     packet = packet_of i 0 orig (take (simple_captured orig i.snap) rest) [];
     stands = rw known refl;
-    is_lent = rw known (ap (λ items. Some (packet_of i 0 orig (take (simple_captured orig i.snap) rest) (unwrap_or (first_value comment_code (given items)) []))) (options_in-none order));
+    is_lent = rw known (ap (λ items. Some (packet_of i 0 orig (take (simple_captured orig i.snap) rest) (unwrap_or (first_value comment_code (fitting_options items)) []))) (options_in-none order));
     there = captured_fits (simple_captured orig i.snap) rest few;
     behind = lit≤ tt;
     options = omega arith;
@@ -187,36 +187,36 @@ part_lies frame block rest skip at count whole least left there few =
     }
 
 -- the data and the options of a packet that was found in a body are those held of the block
-record HeldLies (frame : Frame) (block rest : List ℕ) (held : Held) : Type 0 where
-  bytes : part_of held.bytes block ≡ take held.bytes.length rest
-  bytes_within : held.bytes.start + held.bytes.length ≤ frame.length
-  options : part_of held.options block ≡ take held.options.length (drop (held.options.start - held.bytes.start) rest)
-  options_within : held.options.start + held.options.length ≤ frame.length
+record HeldLies (frame : Frame) (block rest : List ℕ) (spans : PacketSpans) : Type 0 where
+  bytes : span_bytes spans.bytes block ≡ take spans.bytes.length rest
+  bytes_within : spans.bytes.start + spans.bytes.length ≤ frame.length
+  options : span_bytes spans.options block ≡ take spans.options.length (drop (spans.options.start - spans.bytes.start) rest)
+  options_within : spans.options.start + spans.options.length ≤ frame.length
 
-held_lies : (frame : Frame) (block rest : List ℕ) (skip : ℕ) (held : Held) → length block ≡ frame.length → 12 ≤ frame.length
-    → rest ≡ drop skip (body_in frame block) → skip ≤ length (body_in frame block) → held.bytes.start ≡ 8 + skip → held.bytes.length ≤ length rest
-    → held.bytes.start ≤ held.options.start → held.options.start - held.bytes.start + held.options.length ≤ length rest → HeldLies frame block rest held
-held_lies frame block rest skip held whole least left there from few behind room =
-    let bytes = part_lies frame block rest skip 0 held.bytes.length whole least left there (omega (arith, few)) in
-    let options = part_lies frame block rest skip (held.options.start - held.bytes.start) held.options.length whole least left there room in
-    let data_at : held.bytes.start ≡ 8 + (skip + 0) = omega (arith, from) in
-    let options_at : held.options.start ≡ 8 + (skip + (held.options.start - held.bytes.start)) = omega (arith, from, behind) in
+held_lies : (frame : Frame) (block rest : List ℕ) (skip : ℕ) (spans : PacketSpans) → length block ≡ frame.length → 12 ≤ frame.length
+    → rest ≡ drop skip (body_in frame block) → skip ≤ length (body_in frame block) → spans.bytes.start ≡ 8 + skip → spans.bytes.length ≤ length rest
+    → spans.bytes.start ≤ spans.options.start → spans.options.start - spans.bytes.start + spans.options.length ≤ length rest → HeldLies frame block rest spans
+held_lies frame block rest skip spans whole least left there from few behind room =
+    let bytes = part_lies frame block rest skip 0 spans.bytes.length whole least left there (omega (arith, few)) in
+    let options = part_lies frame block rest skip (spans.options.start - spans.bytes.start) spans.options.length whole least left there room in
+    let data_at : spans.bytes.start ≡ 8 + (skip + 0) = omega (arith, from) in
+    let options_at : spans.options.start ≡ 8 + (skip + (spans.options.start - spans.bytes.start)) = omega (arith, from, behind) in
     record {
-      bytes = ap (λ n. take held.bytes.length (drop n block)) data_at ∙ bytes.same;
+      bytes = ap (λ n. take spans.bytes.length (drop n block)) data_at ∙ bytes.same;
       bytes_within = omega (arith, data_at, bytes.within);
-      options = ap (λ n. take held.options.length (drop n block)) options_at ∙ options.same;
+      options = ap (λ n. take spans.options.length (drop n block)) options_at ∙ options.same;
       options_within = omega (arith, options_at, options.within);
     }
 
 -- ---- a block with a packet
 
-packet_enters : (frame : Frame) (interfaces : List Described) (block rest : List ℕ) (parts : Parts) (skip : ℕ) (held : Held) → length block ≡ frame.length → 12 ≤ frame.length
+packet_enters : (frame : Frame) (interfaces : List Described) (block rest : List ℕ) (parts : Parts) (skip : ℕ) (spans : PacketSpans) → length block ≡ frame.length → 12 ≤ frame.length
     → parts ≡ parts_in frame block → first_failing (block_checks frame block) ≡ None → rest ≡ drop skip (body_in frame block) → skip ≤ length (body_in frame block)
-    → first_failing (checks_among interfaces parts) ≡ None → PacketFound frame.order interfaces parts (8 + skip) frame.length rest held
+    → first_failing (checks_among interfaces parts) ≡ None → PacketFound frame.order interfaces parts (8 + skip) frame.length rest spans
     → section_by (Some (section_of frame.order interfaces)) frame.order parts ≡ section_of frame.order interfaces
-    → Enters frame interfaces block (Some held) interfaces
-packet_enters frame interfaces block rest parts skip held whole least is passes left there among found stays =
-    let lie = held_lies frame block rest skip held whole least left there found.from found.there found.behind found.options in
+    → Enters frame interfaces block (Some spans) interfaces
+packet_enters frame interfaces block rest parts skip spans whole least is passes left there among found stays =
+    let lie = held_lies frame block rest skip spans whole least left there found.from found.there found.behind found.options in
     record {
       passes = passes;
       among = ap (λ p. first_failing (checks_among interfaces p)) (sym is) ∙ among;
@@ -224,7 +224,7 @@ packet_enters frame interfaces block rest parts skip held whole least is passes 
       packet = record {
         packet = found.packet;
         stands = ap (packet_by interfaces) (sym is) ∙ found.stands;
-        is_lent = ap₂ (packet_in frame.order interfaces held) lie.bytes lie.options ∙ found.is_lent;
+        is_lent = ap₂ (packet_in frame.order interfaces spans) lie.bytes lie.options ∙ found.is_lent;
       };
       fits = (found.whole, lie.bytes_within, found.time, lie.options_within);
       known = found.known;
@@ -239,24 +239,24 @@ enhanced_room frame block b whole least is none =
     let size : length (body_in frame block) ≡ frame.length - 12 = length-take-le (frame.length - 12) (drop 8 block) (omega (arith, length-drop 8 block)) in
     omega (arith, size, body.1, ap length body.0, length-drop 20 (body_in frame block), least)
 
-pub enhanced_enters : (frame : Frame) (interfaces : List Described) (block : List ℕ) (b : EnhancedBlock) (held : Held) → length block ≡ frame.length → 12 ≤ frame.length
+pub enhanced_enters : (frame : Frame) (interfaces : List Described) (block : List ℕ) (b : EnhancedBlock) (spans : PacketSpans) → length block ≡ frame.length → 12 ≤ frame.length
     → parts_of (read.Enhanced b) ≡ parts_in frame block → block_fault frame block ≡ None
-    → IsFound (checks_among interfaces (parts_of (read.Enhanced b))) (PacketFound b.order interfaces (parts_of (read.Enhanced b)) 28 frame.length b.rest.now held)
-    → Enters frame interfaces block (Some held) interfaces
-enhanced_enters frame interfaces block b held whole least is none found =
+    → IsFound (checks_among interfaces (parts_of (read.Enhanced b))) (PacketFound b.order interfaces (parts_of (read.Enhanced b)) 28 frame.length b.rest.now spans)
+    → Enters frame interfaces block (Some spans) interfaces
+enhanced_enters frame interfaces block b spans whole least is none found =
     let passes = (block_passes frame block least (omega (arith, whole)) none).0 in
     let body = enhanced_body frame.block_type frame.order b.order (body_in frame block) b.rest.now b.interface b.ticks b.captured b.orig (sym is) (body_passes frame block passes) in
-    let P : Order → Type 0 = λ order. PacketFound order interfaces (parts_of (read.Enhanced b)) 28 frame.length b.rest.now held in
-    packet_enters frame interfaces block b.rest.now (parts_of (read.Enhanced b)) 20 held whole least is passes body.0 body.1 found.0 (subst P body.2 found.1) refl
+    let P : Order → Type 0 = λ order. PacketFound order interfaces (parts_of (read.Enhanced b)) 28 frame.length b.rest.now spans in
+    packet_enters frame interfaces block b.rest.now (parts_of (read.Enhanced b)) 20 spans whole least is passes body.0 body.1 found.0 (subst P body.2 found.1) refl
 
-pub simple_enters : (frame : Frame) (interfaces : List Described) (block : List ℕ) (b : SimpleBlock) (held : Held) → length block ≡ frame.length → 12 ≤ frame.length
+pub simple_enters : (frame : Frame) (interfaces : List Described) (block : List ℕ) (b : SimpleBlock) (spans : PacketSpans) → length block ≡ frame.length → 12 ≤ frame.length
     → parts_of (read.Simple b) ≡ parts_in frame block → block_fault frame block ≡ None
-    → IsFound (checks_among interfaces (parts_of (read.Simple b))) ((order : Order) → PacketFound order interfaces (parts_of (read.Simple b)) 12 frame.length b.rest.now held)
-    → Enters frame interfaces block (Some held) interfaces
-simple_enters frame interfaces block b held whole least is none found =
+    → IsFound (checks_among interfaces (parts_of (read.Simple b))) ((order : Order) → PacketFound order interfaces (parts_of (read.Simple b)) 12 frame.length b.rest.now spans)
+    → Enters frame interfaces block (Some spans) interfaces
+simple_enters frame interfaces block b spans whole least is none found =
     let passes = (block_passes frame block least (omega (arith, whole)) none).0 in
     let body = simple_body frame.block_type frame.order (body_in frame block) b.rest.now b.orig (sym is) (body_passes frame block passes) in
-    packet_enters frame interfaces block b.rest.now (parts_of (read.Simple b)) 4 held whole least is passes body.0 body.1 found.0 (found.1 frame.order) refl
+    packet_enters frame interfaces block b.rest.now (parts_of (read.Simple b)) 4 spans whole least is passes body.0 body.1 found.0 (found.1 frame.order) refl
 
 -- ---- an interface
 
@@ -268,7 +268,7 @@ IsFull r interfaces = IsTooMany r ↔ (length interfaces ≡ 256)
 
 pub interface_enters : (frame : Frame) (interfaces interfaces' : List Described) (block : List ℕ) (b : InterfaceBlock) → length block ≡ frame.length → 12 ≤ frame.length
     → parts_of_interface b ≡ parts_in frame block → IsDescribed b → block_fault frame block ≡ None → length interfaces ≤ 256 → IsFull (Ok tt) interfaces
-    → interfaces' ≡ interfaces ++ described b.interface ∷ [] → Enters frame interfaces block None interfaces'
+    → interfaces' ≡ interfaces ++ description_of b.interface ∷ [] → Enters frame interfaces block None interfaces'
 interface_enters frame interfaces interfaces' block b whole least is says none few room added =
     let passes = block_passes frame block least (omega (arith, whole)) none in
     let options : first_failing (option_checks (parts_of_interface b)) ≡ None = ap (λ p. first_failing (option_checks p)) is ∙ passes.1 in
@@ -317,7 +317,7 @@ interface_refused frame interfaces block b fault whole least is none few full me
 
 -- those of its body don't hang on the interfaces before it
 Stays : Fault → Type 0
-Stays fault = (interfaces : List Described) → told_behind interfaces fault ≡ fault
+Stays fault = (interfaces : List Described) → fault_among interfaces fault ≡ fault
 
 body_stays : (kind : BlockType) (order : Order) (body : List ℕ) → AllByRecursion (λ row. Stays row.1) (body_checks kind order body)
 unfolding Stays
@@ -328,14 +328,14 @@ body_stays type.SimplePacket order body = (λ i. refl, tt)
 body_stays type.EnhancedPacket order body = (λ i. refl, tt)
 body_stays type.Other order body = tt
 
-block_stays : (frame : Frame) (block : List ℕ) (fault : Fault) → first_failing (block_checks frame block) ≡ Some fault → (interfaces : List Described) → told_behind interfaces fault ≡ fault
+block_stays : (frame : Frame) (block : List ℕ) (fault : Fault) → first_failing (block_checks frame block) ≡ Some fault → (interfaces : List Described) → fault_among interfaces fault ≡ fault
 unfolding Stays
 block_stays frame block fault fails =
     all_failing Stays (block_checks frame block) fault (λ i. refl, body_stays frame.block_type frame.order (body_in frame block)) fails
 
 -- those of its options come behind that of how many interfaces there are
 Yields : Fault → Type 0
-Yields fault = (interfaces : List Described) → told_behind interfaces fault ≡ (if nat_lt (length interfaces) most_interfaces then fault else TooManyInterfaces)
+Yields fault = (interfaces : List Described) → fault_among interfaces fault ≡ (if nat_lt (length interfaces) most_interfaces then fault else TooManyInterfaces)
 
 option_yields : (parts : Parts) (fault : Fault) → first_failing (option_checks parts) ≡ Some fault → Yields fault
 unfolding Yields
@@ -356,7 +356,7 @@ among_options interfaces (SimpleParts orig rest) fault fails = (cc)
 among_options interfaces SkippedParts fault fails = (cc)
 
 pub refused_entry : (frame : Frame) (interfaces : List Described) (block : List ℕ) (fault : Fault) → length block ≡ frame.length → 12 ≤ frame.length → block_fault frame block ≡ Some fault
-    → IsEntryFault frame interfaces block (told_behind interfaces fault)
+    → IsEntryFault frame interfaces block (fault_among interfaces fault)
 unfolding Yields
 refused_entry frame interfaces block fault whole least fails =
     elim (block_fails frame block fault least (omega arith) fails) [

@@ -5,9 +5,9 @@ use Rattle.std.proofs.lemmas.List.{length-append}
 use Rattle.cap_octet.specs.declared.fault.Fault.{Fault}
 use Rattle.cap_octet.specs.declared.number.Order.TheVariants.{Little}
 use Rattle.cap_octet.proofs.Numbers.{number_in-append}
-use Rattle.cap_pcap.specs.declared.head.Head.{Head}
+use Rattle.cap_pcap.specs.declared.header.Head.{Head}
 use Rattle.cap_octet.specs.Checks.{first_failing}
-use Rattle.cap_pcap.specs.Header.{form_in, head_fault, head_in}
+use Rattle.cap_pcap.specs.Header.{form_in, header_fault, header_in}
 use Rattle.cap_pcap.specs.Record.{field_checks, record_size, record_fault, packet_in}
 use Rattle.cap_pcap.proofs.Records.{passes}
 use Rattle.cap_pcapng.specs.Frame.{frame_checks, is_section}
@@ -31,7 +31,7 @@ is_pcapng-append front more enough =
 pub is_pcapng-few : (text : List ℕ) → length text < 4 → is_pcapng text ≡ false
 is_pcapng-few text few = ap (λ (b : Bool). b && is_section text) (lt-leb 4 (length text) few)
 
-pub front_of-pcap : (text : List ℕ) → is_pcapng text ≡ false → front_of Nothing text ≡ front_of_header (head_fault text) text
+pub front_of-pcap : (text : List ℕ) → is_pcapng text ≡ false → front_of Nothing text ≡ front_of_header (header_fault text) text
 front_of-pcap text other = ap (λ (b : Bool). front_of_file b text) other
 
 pub front_of-pcapng : (text : List ℕ) → is_pcapng text ≡ true → front_of Nothing text ≡ front_of_block (unit_fault None text) None None text
@@ -39,7 +39,7 @@ front_of-pcapng text is = ap (λ (b : Bool). front_of_file b text) is
 
 -- ---- faults
 
-pub front_of-no_header : (text : List ℕ) (fault : Fault) → is_pcapng text ≡ false → head_fault text ≡ Some fault → front_of Nothing text ≡ Stops (Some fault)
+pub front_of-no_header : (text : List ℕ) (fault : Fault) → is_pcapng text ≡ false → header_fault text ≡ Some fault → front_of Nothing text ≡ Stops (Some fault)
 front_of-no_header text fault other fails = front_of-pcap text other ∙ ap (λ (f : Option Fault). front_of_header f text) fails
 
 pub front_of-no_record : (head : Head) (text : List ℕ) (fault : Fault) → 0 < length text → record_fault head text ≡ Some fault → front_of (PcapFile head) text ≡ Stops (Some fault)
@@ -48,7 +48,7 @@ front_of-no_record head (b ∷ bytes) fault some fails = ap (λ (f : Option Faul
 
 -- ---- units
 
-pub front_of-header : (text : List ℕ) → is_pcapng text ≡ false → head_fault text ≡ None → front_of Nothing text ≡ Whole 24 [] (PcapFile (head_in text))
+pub front_of-header : (text : List ℕ) → is_pcapng text ≡ false → header_fault text ≡ None → front_of Nothing text ≡ Whole 24 [] (PcapFile (header_in text))
 front_of-header text other none = front_of-pcap text other ∙ ap (λ (f : Option Fault). front_of_header f text) none
 
 pub front_of-record : (head : Head) (text : List ℕ) → record_fault head text ≡ None
@@ -75,7 +75,7 @@ front_of_block-none first before text fault fails = ap (λ (f : Option Fault). f
 -- ---- how much is taken at most
 
 pub most_taken-header : (text : List ℕ) (count : ℕ) → is_pcapng text ≡ false → count ≤ 24 → count ≤ most_taken (front_of Nothing text)
-most_taken-header text count other few = let P : Front → Type 0 = λ f. count ≤ most_taken f in subst P (sym (front_of-pcap text other)) (by_fault (head_fault text) few)
+most_taken-header text count other few = let P : Front → Type 0 = λ f. count ≤ most_taken f in subst P (sym (front_of-pcap text other)) (by_fault (header_fault text) few)
   where
     by_fault : (fault : Option Fault) → count ≤ 24 → count ≤ most_taken (front_of_header fault text)
     by_fault None few = few

@@ -3,16 +3,16 @@ use Rattle.std.proofs.Common.{◌≡◌, ℕ, Bool, true, IsTrue, is_some, ◌+�
 use Rattle.std.proofs.lemmas.List.{length-take-le, take-take, take-append-le, take-append-drop, append_assoc}
 use Rattle.cap_octet.specs.Device.{Passes}
 use Rattle.cap_octet.specs.Checks.{checked, first_failing}
-use Rattle.cap_pcap.specs.declared.head.Head.{Head}
-use Rattle.cap_pcap.specs.declared.head.RecordHead.{RecordHead}
-use Rattle.cap_pcap.specs.Record.{field_checks, most_captured, record_head_in}
+use Rattle.cap_pcap.specs.declared.header.Head.{Head}
+use Rattle.cap_pcap.specs.declared.header.RecordHead.{RecordHead}
+use Rattle.cap_pcap.specs.Record.{field_checks, most_captured, record_header_in}
 use Rattle.cap_octet.specs.declared.fault.Fault.{Fault}
 use Rattle.cap_octet.specs.declared.device.Input.{Ghosts}
 use Rattle.cap_pcapng.specs.Interface.{Described}
-use Rattle.cap_io.specs.declared.unit.Came.{Came}
-use Rattle.cap_io.specs.declared.unit.Held.{Held}
-use Rattle.cap_io.specs.declared.unit.Savefile.{Savefile}
-use Rattle.cap_io.specs.Reading.{NothingTaken, PacketCame, ReadsUnit, Refuses, UnitCame, declared_by, failures_told, held_of_record, packet_held}
+use Rattle.cap_io.specs.declared.file_state.NextUnit.{NextUnit}
+use Rattle.cap_io.specs.declared.file_state.PacketSpans.{PacketSpans}
+use Rattle.cap_io.specs.declared.file_state.FileState.{FileState}
+use Rattle.cap_io.specs.Reading.{NothingTaken, PacketCame, ReadsUnit, NoUnitCame, UnitCame, declared_by, read_failures, record_spans, packet_in_unit}
 use Rattle.cap_io.specs.Capture.{Declared, PcapFile}
 use Rattle.cap_io.specs.Source.{SourceView, Reading, IsBetween, TakesNext}
 use Rattle.cap_io.proofs.Passing.{FindsPacket-next}
@@ -31,8 +31,8 @@ taken-first unread unread' hand size starts within passes =
     sym (take-append-drop size unread) ∙ ap₂ (λ (x y : List ℕ). x ++ y) same (sym passes.1)
 
 -- the record that was taken is a unit with a packet
-pub record-taken : (head : Head) (unread unread' buffer : List ℕ) (found : RecordHead) → checked (first_failing (field_checks head (take 16 buffer))) (record_head_in head (take 16 buffer)) ≡ Ok found
-    → 16 + found.captured ≤ length buffer → unread ≡ take (16 + found.captured) buffer ++ unread' → PacketCame (PcapFile head) unread buffer (held_of_record found) (PcapFile head) unread'
+pub record-taken : (head : Head) (unread unread' buffer : List ℕ) (found : RecordHead) → checked (first_failing (field_checks head (take 16 buffer))) (record_header_in head (take 16 buffer)) ≡ Ok found
+    → 16 + found.captured ≤ length buffer → unread ≡ take (16 + found.captured) buffer ++ unread' → PacketCame (PcapFile head) unread buffer (record_spans found) (PcapFile head) unread'
 record-taken head unread unread' buffer found says there splits =
     let size : ℕ = 16 + found.captured in
     let unit : List ℕ = take size buffer in
@@ -46,10 +46,10 @@ record-taken head unread unread' buffer found says there splits =
     (ap (λ (n : ℕ). take n unit) few ∙ first) (ap (λ (n : ℕ). drop n unit ++ unread') (sym few)) refl
 
 -- a device that gave nothing is read as it was
-pub reads-behind : {I : Type 0} (device : Ghosts I) (old mid new : I) (file : Savefile) (interfaces : List Described) (r : Result Came Fault) (buffer : List ℕ) (held : Held) → NothingTaken device old mid
-    → ReadsUnit device mid [] file interfaces r new buffer held file interfaces → ReadsUnit device old [] file interfaces r new buffer held file interfaces
-reads-behind device old mid new file interfaces (Ok came) buffer held nothing reads =
-    let U : List ℕ → Type 0 = λ l. UnitCame (declared_by file interfaces) l buffer held came (declared_by file interfaces) (device.unread new) in
+pub reads-behind : {I : Type 0} (device : Ghosts I) (old mid new : I) (file : FileState) (interfaces : List Described) (r : Result NextUnit Fault) (buffer : List ℕ) (spans : PacketSpans) → NothingTaken device old mid
+    → ReadsUnit device mid [] file interfaces r new buffer spans file interfaces → ReadsUnit device old [] file interfaces r new buffer spans file interfaces
+reads-behind device old mid new file interfaces (Ok came) buffer spans nothing reads =
+    let U : List ℕ → Type 0 = λ l. UnitCame (declared_by file interfaces) l buffer spans came (declared_by file interfaces) (device.unread new) in
     let same = nothing.counted in
     let counted = reads.moves.counted in
     let grown = reads.moves.grown in
@@ -58,33 +58,33 @@ reads-behind device old mid new file interfaces (Ok came) buffer held nothing re
         counted = omega (arith, same, counted);
         grown = omega (arith, same, grown);
         bounded = reads.moves.bounded;
-        few = tt;
+        at_most = tt;
         failed = reads.moves.failed ∙ ap (λ (n : ℕ). n + 0) nothing.failed;
         never = reads.moves.never ∙ nothing.never;
       };
       sized = reads.sized;
-      told = reads.told;
+      consistent = reads.consistent;
       known = reads.known;
       ok = λ t. subst U (nothing.rest t) (reads.ok t);
       err = tt;
       kept = tt;
     }
-reads-behind device old mid new file interfaces (Err fault) buffer held nothing reads =
-    let R : List ℕ → Type 0 = λ l. Refuses (declared_by file interfaces) l (device.unread new) fault in
+reads-behind device old mid new file interfaces (Err fault) buffer spans nothing reads =
+    let R : List ℕ → Type 0 = λ l. NoUnitCame (declared_by file interfaces) l (device.unread new) fault in
     let same = nothing.counted in
-    let few = reads.moves.few in
+    let few = reads.moves.at_most in
     let grown = reads.moves.grown in
     record {
       moves = record {
         counted = tt;
         grown = omega (arith, same, grown);
         bounded = tt;
-        few = omega (arith, same, few);
-        failed = reads.moves.failed ∙ ap (λ (n : ℕ). n + failures_told {X = Came} (Err fault)) nothing.failed;
+        at_most = omega (arith, same, few);
+        failed = reads.moves.failed ∙ ap (λ (n : ℕ). n + read_failures {X = NextUnit} (Err fault)) nothing.failed;
         never = reads.moves.never ∙ nothing.never;
       };
       sized = tt;
-      told = tt;
+      consistent = tt;
       known = tt;
       ok = tt;
       err = λ t. subst R (nothing.rest t) (reads.err t);
@@ -93,20 +93,20 @@ reads-behind device old mid new file interfaces (Err fault) buffer held nothing 
 
 -- a source that stood between units took the next one, which has a packet
 pub takes-next : (tells : Bool) (head : Head) (found : RecordHead) (buffer : List ℕ) (old new : SourceView) → IsBetween old
-    → checked (first_failing (field_checks head (take 16 buffer))) (record_head_in head (take 16 buffer)) ≡ Ok found → found.captured ≤ most_captured → 16 + found.captured ≤ length buffer
+    → checked (first_failing (field_checks head (take 16 buffer))) (record_header_in head (take 16 buffer)) ≡ Ok found → found.captured ≤ most_captured → 16 + found.captured ≤ length buffer
     → new.given ≡ old.given + (16 + found.captured) → new.given < 2 ^ 63 → new.failures ≡ old.failures → new.never_fails ≡ old.never_fails → (IsTrue tells → old.unread ≡ take (16 + found.captured) buffer ++ new.unread)
-    → old.declared ≡ PcapFile head → new.declared ≡ PcapFile head → new.block ≡ take (16 + found.captured) buffer → new.packet ≡ packet_held (PcapFile head) (held_of_record found) (take (16 + found.captured) buffer)
+    → old.declared ≡ PcapFile head → new.declared ≡ PcapFile head → new.block ≡ take (16 + found.captured) buffer → new.packet ≡ packet_in_unit (PcapFile head) (record_spans found) (take (16 + found.captured) buffer)
     → new.offset ≡ old.offset → new.phase ≡ Reading → TakesNext tells old new
 takes-next tells head found buffer old new between says short there given bounded failures never splits was declared block packet offset phase =
-    let held : Held = held_of_record found in
+    let spans : PacketSpans = record_spans found in
     let size : ℕ = 16 + found.captured in
     let whole : length new.block ≡ size = ap length block ∙ length-take-le size buffer there in
     let none : length old.block ≡ 0 = ap length between.block in
     let some : is_some new.packet ≡ true = ap is_some packet in
     record {
-      told = λ t.
+      packet = λ t.
           let came = record-taken head old.unread new.unread buffer found says there (splits t) in
-          FindsPacket-next old new held buffer between (rw (was, declared) came) block (packet ∙ ap (λ (d : Declared). packet_held d held (take size buffer)) (sym declared)) offset phase;
+          FindsPacket-next old new spans buffer between (rw (was, declared) came) block (packet ∙ ap (λ (d : Declared). packet_in_unit d spans (take size buffer)) (sym declared)) offset phase;
       bounds = record {
         given = omega (arith, given);
         failures = failures ∙ sym (add-zero old.failures);

@@ -7,8 +7,8 @@ use Rattle.cap_octet.specs.declared.fault.Fault.{Fault}
 use Rattle.cap_octet.specs.declared.fault.Fault.TheVariants.{BadOption, BadTimeResolution, ReadFailed}
 use Rattle.cap_octet.specs.declared.number.Order.{Order}
 use Rattle.cap_pcapng.specs.Block.{Parts, SectionParts, InterfaceParts, EnhancedParts, SimpleParts, SkippedParts, block_checks, body_checks, body_in, option_checks, parts_in}
-use Rattle.cap_pcap.specs.declared.head.Head.{Head}
-use Rattle.cap_pcap.specs.Header.{head_checks, head_fault}
+use Rattle.cap_pcap.specs.declared.header.Head.{Head}
+use Rattle.cap_pcap.specs.Header.{header_checks, header_fault}
 use Rattle.cap_pcap.specs.Record.{field_checks}
 use Rattle.cap_pcapng.specs.Frame.{frame_checks}
 use Rattle.cap_pcapng.specs.Interface.{Described}
@@ -20,7 +20,7 @@ use Rattle.cap_pcapng.specs.declared.frames.BlockType.{BlockType}
 use Rattle.cap_pcapng.specs.declared.frames.BlockType.TheVariants as type
 use Rattle.cap_pcapng.specs.declared.frames.Frame.{Frame}
 use Rattle.cap_io.specs.Blocks.{IsEntryFault}
-use Rattle.cap_io.specs.Reading.{failures_told}
+use Rattle.cap_io.specs.Reading.{read_failures}
 
 -- ---- the faults of some rows
 
@@ -95,7 +95,7 @@ all_of_options P bad worse SkippedParts = tt
 
 -- a fault that is told where the device did not fail
 abbrev pub IsOwn : Fault → Type 0
-IsOwn fault = failures_told {X = ℕ} (Err fault) ≡ 0
+IsOwn fault = read_failures {X = ℕ} (Err fault) ≡ 0
 
 abbrev AreOwn : List (Bool × Fault) → Type 0
 AreOwn rows = AreAll IsOwn rows
@@ -130,8 +130,8 @@ entry-own frame interfaces block fault is =
 own-not_failed : (fault : Fault) → IsOwn fault → fault ≡ ReadFailed → ⊥
 own-not_failed fault own failed = let told : IsOwn ReadFailed = rw failed at own in omega (arith, told)
 
-pub header-not_failed : (text : List ℕ) (fault : Fault) → head_fault text ≡ Some fault → fault ≡ ReadFailed → ⊥
-header-not_failed text fault fails = own-not_failed fault (all_failing IsOwn (head_checks text) fault (refl, (refl, (refl, (refl, tt)))) fails)
+pub header-not_failed : (text : List ℕ) (fault : Fault) → header_fault text ≡ Some fault → fault ≡ ReadFailed → ⊥
+header-not_failed text fault fails = own-not_failed fault (all_failing IsOwn (header_checks text) fault (refl, (refl, (refl, (refl, tt)))) fails)
 
 pub fields-not_failed : (head : Head) (text : List ℕ) (fault : Fault) → first_failing (field_checks head text) ≡ Some fault → fault ≡ ReadFailed → ⊥
 fields-not_failed head text fault fails = own-not_failed fault (all_failing IsOwn (field_checks head text) fault (refl, (refl, tt)) fails)

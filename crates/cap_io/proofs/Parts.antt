@@ -13,13 +13,13 @@ use Rattle.cap_octet.specs.declared.fault.Fault.{Fault}
 use Rattle.cap_octet.specs.declared.fault.Fault.TheVariants.{WriteFailed}
 use Rattle.cap_octet.specs.declared.format.Format.{Format}
 use Rattle.cap_octet.specs.declared.format.Format.TheVariants.{Pcap, NsecPcap, Pcapng}
-use Rattle.cap_pcap.specs.Encoding.{IsPcap, heading as pcap_heading, resolution_of}
+use Rattle.cap_pcap.specs.Encoding.{IsPcap, file_header as pcap_header, resolution_of}
 use Rattle.cap_pcapng.specs.Encoding.{interface_text, packet_text as pcapng_packet}
-use Rattle.cap_io.specs.declared.numbering.Place.{Place}
+use Rattle.cap_io.specs.declared.numbering.InterfaceNumber.{InterfaceNumber}
 use Rattle.cap_io.specs.declared.sink.SinkState.{SinkState}
-use Rattle.cap_io.specs.Numbering.{HasPlace}
-use Rattle.cap_io.specs.Sink.{Appends, WritesPacket, block_text, description_text, heading_in, packet_in}
-use Rattle.cap_io.specs.Text.{Interface, interface_of, is_among, number_among, descriptions, heading, record_text}
+use Rattle.cap_io.specs.Numbering.{HasNumber}
+use Rattle.cap_io.specs.Sink.{Appends, WritesPacket, block_text, description_text, file_start_in, packet_in}
+use Rattle.cap_io.specs.Text.{Interface, interface_of, is_among, number_among, descriptions, file_start, record_text}
 
 pub appends-as : {E : Type 0} (r : Result (Unit {0}) E) (written bytes bytes' written' : List ℕ) → bytes ≡ bytes' → AppendsOrStops r written bytes written' → AppendsOrStops r written bytes' written'
 appends-as r written bytes bytes' written' same appends = let P : List ℕ → Type 0 = λ b. AppendsOrStops r written b written' in subst P same appends
@@ -54,9 +54,9 @@ appends-behind (Err fault) written done part mid written' first stops = stops-be
 -- by an error that doesn't report where it stopped
 pub appends-exactly : {Device : Type 0} (d : Ghosts Device) (old new : Device) (bytes : List ℕ) (r : Result (Unit {0}) Stopped) (r' : Result (Unit {0}) DeviceFault)
     → is_ok r' ≡ is_ok r → WritesExactly d old bytes r new → Appends d old bytes r' new
-appends-exactly d old new bytes (Ok done) (Ok done') same writes = record { told = writes.told; failed = writes.failed; room = writes.room }
+appends-exactly d old new bytes (Ok done) (Ok done') same writes = record { appended = writes.told; failed = writes.failed; room = writes.room }
 appends-exactly d old new bytes (Err stopped) (Err fault) same writes = record {
-  told = λ tells. (stopped.written, writes.front, writes.told tells);
+  appended = λ tells. (stopped.written, writes.front, writes.told tells);
   failed = writes.failed;
   room = writes.room;
 }
@@ -64,18 +64,18 @@ appends-exactly d old new bytes (Ok done) (Err fault) same writes = absurd (cc)
 appends-exactly d old new bytes (Err stopped) (Ok done) same writes = absurd (cc)
 
 pub appends-nothing : {Device : Type 0} (d : Ghosts Device) (old : Device) → Appends d old [] (Ok tt) old
-appends-nothing d old = record { told = λ tells. sym (append-nil (d.written old)); failed = omega arith; room = refl }
+appends-nothing d old = record { appended = λ tells. sym (append-nil (d.written old)); failed = omega arith; room = refl }
 
 pub appends-stopped : {Device : Type 0} (d : Ghosts Device) (old new : Device) (part more : List ℕ) (fault : DeviceFault) → Appends d old part (Err fault) new → Appends d old (part ++ more) (Err fault) new
 appends-stopped d old new part more fault appends = record {
-  told = λ tells. stops-front (d.written old) part more (d.written new) (appends.told tells);
+  appended = λ tells. stops-front (d.written old) part more (d.written new) (appends.appended tells);
   failed = appends.failed;
   room = appends.room;
 }
 
 pub appends-then : {Device : Type 0} (d : Ghosts Device) (old mid new : Device) (done part : List ℕ) (r : Result (Unit {0}) DeviceFault) → Appends d old done (Ok tt) mid → Appends d mid part r new → Appends d old (done ++ part) r new
 appends-then d old mid new done part r first second = record {
-  told = λ tells. appends-behind r (d.written old) done part (d.written mid) (d.written new) (first.told tells) (second.told tells);
+  appended = λ tells. appends-behind r (d.written old) done part (d.written mid) (d.written new) (first.appended tells) (second.appended tells);
   failed = omega arith;
   room = second.room ∙ first.room;
 }
@@ -87,10 +87,10 @@ is-pcap Pcap is = tt
 is-pcap NsecPcap is = tt
 is-pcap Pcapng is = elim is [ inl e ↦ absurd (cc) | inr e ↦ absurd (cc) ]
 
-pub pcap-heading : (format : Format) (link : ℕ) → IsPcap format → pcap_heading (resolution_of format) link ≡ heading format link
-pcap-heading Pcap link is = refl
-pcap-heading NsecPcap link is = refl
-pcap-heading Pcapng link is = absurd is
+pub pcap-file_header : (format : Format) (link : ℕ) → IsPcap format → pcap_header (resolution_of format) link ≡ file_start format link
+pcap-file_header Pcap link is = refl
+pcap-file_header NsecPcap link is = refl
+pcap-file_header Pcapng link is = absurd is
 
 pub packet-record : (format : Format) (interfaces : List Interface) (p : Captured) → IsPcap format → record_text (resolution_of format) p ≡ packet_in format interfaces p
 packet-record Pcap interfaces p is = refl
@@ -101,7 +101,7 @@ described : (b : Bool) (p : Captured) → description_text (not b) p ≡ descrip
 described true p = refl
 described false p = sym (append-nil (interface_text p.link p.snap p.name))
 
-pub block-place : (old : List Interface) (p : Captured) (place : Place) (new : List Interface) → HasPlace old (interface_of p) place new → block_text place p ≡ packet_in Pcapng old p
+pub block-place : (old : List Interface) (p : Captured) (place : InterfaceNumber) (new : List Interface) → HasNumber old (interface_of p) place new → block_text place p ≡ packet_in Pcapng old p
 block-place old p place new has =
     ap₂ (λ (b : Bool) (n : ℕ). description_text b p ++ pcapng_packet n p) has.is_new has.number
     ∙ ap (λ (l : List ℕ). l ++ pcapng_packet (number_among old (interface_of p)) p) (described (is_among old (interface_of p)) p)
@@ -109,17 +109,17 @@ block-place old p place new has =
 -- ---- what a sink adds
 
 pub record-adds : (r : Result (Unit {0}) DeviceFault) (format : Format) (state : SinkState) (interfaces : List Interface) (p : Captured) (written written' : List ℕ) → (format ≡ Pcap) ⊎ (format ≡ NsecPcap)
-    → AppendsOrStops r written (heading_in format state p.link ++ record_text (resolution_of format) p) written' → AppendsOrStops r written (heading_in format state p.link ++ packet_in format interfaces p) written'
+    → AppendsOrStops r written (file_start_in format state p.link ++ record_text (resolution_of format) p) written' → AppendsOrStops r written (file_start_in format state p.link ++ packet_in format interfaces p) written'
 record-adds r format state interfaces p written written' form appends =
-    let same = ap (λ (l : List ℕ). heading_in format state p.link ++ l) (packet-record format interfaces p (is-pcap format form)) in
+    let same = ap (λ (l : List ℕ). file_start_in format state p.link ++ l) (packet-record format interfaces p (is-pcap format form)) in
     appends-as r written _ _ written' same appends
 
-pub block-adds : (r : Result (Unit {0}) DeviceFault) (format : Format) (state : SinkState) (interfaces : List Interface) (p : Captured) (place : Place) (new : List Interface) (written written' : List ℕ)
-    → format ≡ Pcapng → HasPlace interfaces (interface_of p) place new
-    → AppendsOrStops r written (heading_in Pcapng state p.link ++ block_text place p) written' → AppendsOrStops r written (heading_in format state p.link ++ packet_in format interfaces p) written'
+pub block-adds : (r : Result (Unit {0}) DeviceFault) (format : Format) (state : SinkState) (interfaces : List Interface) (p : Captured) (place : InterfaceNumber) (new : List Interface) (written written' : List ℕ)
+    → format ≡ Pcapng → HasNumber interfaces (interface_of p) place new
+    → AppendsOrStops r written (file_start_in Pcapng state p.link ++ block_text place p) written' → AppendsOrStops r written (file_start_in format state p.link ++ packet_in format interfaces p) written'
 block-adds r format state interfaces p place new written written' form has appends =
-    let P : Format → Type 0 = λ f. AppendsOrStops r written (heading_in f state p.link ++ packet_in f interfaces p) written' in
-    subst P (sym form) (appends-as r written _ _ written' (ap (λ (l : List ℕ). heading_in Pcapng state p.link ++ l) (block-place interfaces p place new has)) appends)
+    let P : Format → Type 0 = λ f. AppendsOrStops r written (file_start_in f state p.link ++ packet_in f interfaces p) written' in
+    subst P (sym form) (appends-as r written _ _ written' (ap (λ (l : List ℕ). file_start_in Pcapng state p.link ++ l) (block-place interfaces p place new has)) appends)
 
 -- a packet that isn't refused, where the device failed
 pub adds-failed : (refusal : Option Fault) (bytes written written' : List ℕ) → Ok (tt {0}) ≡ checked refusal (tt {0}) → Stops written bytes written' → WritesPacket refusal bytes written (Err WriteFailed) written'

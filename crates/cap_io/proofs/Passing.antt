@@ -4,27 +4,27 @@ use Rattle.std.specs.List.{slice_get}
 use Rattle.std.specs.Option.{option_map}
 use Rattle.std.proofs.lemmas.List.{append_assoc, drop-take, take-take, length-append, length-take-le}
 use Rattle.cap_octet.specs.declared.number.Order.{Order}
-use Rattle.cap_pcap.specs.declared.head.Head.{Head}
+use Rattle.cap_pcap.specs.declared.header.Head.{Head}
 use Rattle.cap_pcapng.specs.Interface.{Described}
 use Rattle.cap_pcapng.specs.Comment.{comment_in}
 use Rattle.cap_pcapng.specs.Unit.{packet_of}
 use Rattle.cap_io.specs.declared.source.Stage.{Stage}
 use Rattle.cap_io.specs.declared.source.Stage.TheVariants as stage
 use Rattle.cap_octet.specs.declared.fault.Fault.{Fault}
-use Rattle.cap_io.specs.declared.unit.Held.{Held}
-use Rattle.cap_io.specs.declared.unit.Span.{Span}
+use Rattle.cap_io.specs.declared.file_state.PacketSpans.{PacketSpans}
+use Rattle.cap_io.specs.declared.file_state.Span.{Span}
 use Rattle.cap_io.specs.Capture.{Declared, Nothing, PcapFile, PcapngFile, AreUnits, no_unit}
 use Rattle.cap_io.proofs.Items.{AreUnits-append}
 use Rattle.cap_io.proofs.Units.{one_unit}
-use Rattle.cap_io.specs.Reading.{EndCame, HasInterface, PacketCame, Refuses, UnitPassed, packet_held, part_of}
-use Rattle.cap_io.specs.Source.{SourceView, Continues, Reading, Ended, Passes, IsBetween, IsBroken, FindsPacket, FindsEnd, HoldsIfAny, behind, block_at, left, phase_at}
+use Rattle.cap_io.specs.Reading.{EndCame, HasInterface, PacketCame, NoUnitCame, UnitPassed, packet_in_unit, span_bytes}
+use Rattle.cap_io.specs.Source.{SourceView, Continues, Reading, Ended, SkipsUnits, IsBetween, IsBroken, FindsPacket, FindsEnd, HoldsIfAny, end_offset, block_at, past_unit, phase_at}
 
 -- ---- no unit is gone over
 
-pub stays : (old new : SourceView) → IsBetween old → new.declared ≡ old.declared → new.offset ≡ old.offset → Passes old new old.unread
+pub stays : (old new : SourceView) → IsBetween old → new.declared ≡ old.declared → new.offset ≡ old.offset → SkipsUnits old new old.unread
 stays old new between declared place = record { passed = []; splits = refl; units = rw declared no_unit; offset = rw between.block (omega (arith, place)) }
 
-pub IsBroken-next : (old new : SourceView) (fault : Fault) → IsBetween old → Refuses old.declared old.unread new.unread fault → new.declared ≡ old.declared → new.offset ≡ old.offset
+pub IsBroken-next : (old new : SourceView) (fault : Fault) → IsBetween old → NoUnitCame old.declared old.unread new.unread fault → new.declared ≡ old.declared → new.offset ≡ old.offset
     → new.block ≡ [] → new.packet ≡ None → IsBroken old new fault
 IsBroken-next old new fault between refuses declared place block packet = record {
   rest = old.unread;
@@ -38,7 +38,7 @@ IsBroken-next old new fault between refuses declared place block packet = record
 pub FindsEnd-next : (old new : SourceView) → IsBetween old → EndCame old.declared old.unread new.declared new.unread → new.offset ≡ old.offset
     → new.block ≡ [] → new.packet ≡ None → new.phase ≡ Ended → FindsEnd old new
 FindsEnd-next old new between came place block packet phase = record {
-  passes = let P : List ℕ → Type 0 = λ rest. Passes old new rest in subst P came.over (stays old new between came.same place);
+  passes = let P : List ℕ → Type 0 = λ rest. SkipsUnits old new rest in subst P came.over (stays old new between came.same place);
   ends = rw came.same came.ends;
   unread = came.rest;
   block = block;
@@ -48,49 +48,49 @@ FindsEnd-next old new between came place block packet phase = record {
 
 -- ---- one unit
 
-pub Passes-next : (old new : SourceView) (size : ℕ) → IsBetween old → UnitPassed old.declared old.unread size new.declared new.unread → new.offset ≡ old.offset + size
-    → Passes old new new.unread
-Passes-next old new size between came place = record {
+pub SkipsUnits-next : (old new : SourceView) (size : ℕ) → IsBetween old → UnitPassed old.declared old.unread size new.declared new.unread → new.offset ≡ old.offset + size
+    → SkipsUnits old new new.unread
+SkipsUnits-next old new size between came place = record {
   passed = came.bytes;
   splits = came.splits;
   units = one_unit came.unit;
   offset = rw between.block (omega (arith, place, came.sized));
 }
 
-pub FindsPacket-next : (old new : SourceView) (held : Held) (buffer : List ℕ) → IsBetween old → PacketCame old.declared old.unread buffer held new.declared new.unread
-    → new.block ≡ take held.size buffer → new.packet ≡ packet_held new.declared held (take held.size buffer) → new.offset ≡ old.offset → new.phase ≡ Reading
+pub FindsPacket-next : (old new : SourceView) (spans : PacketSpans) (buffer : List ℕ) → IsBetween old → PacketCame old.declared old.unread buffer spans new.declared new.unread
+    → new.block ≡ take spans.size buffer → new.packet ≡ packet_in_unit new.declared spans (take spans.size buffer) → new.offset ≡ old.offset → new.phase ≡ Reading
     → FindsPacket old new
-FindsPacket-next old new held buffer between came block packet place phase =
-    let P : List ℕ → Type 0 = λ rest. Passes old new rest in record {
+FindsPacket-next old new spans buffer between came block packet place phase =
+    let P : List ℕ → Type 0 = λ rest. SkipsUnits old new rest in record {
       passes = subst P (came.splits ∙ ap (λ (l : List ℕ). l ++ new.unread) (sym block)) (stays old new between came.same place);
       packet = came.packet;
-      held = packet ∙ ap (λ (d : Declared). packet_held d held (take held.size buffer)) came.same ∙ came.is_lent;
+      held = packet ∙ ap (λ (d : Declared). packet_in_unit d spans (take spans.size buffer)) came.same ∙ came.is_lent;
       unit = rw (block, came.same) came.unit;
       phase = phase;
     }
 
 -- ---- units after the unit in hand, and after others
 
-pub Passes-left : (old mid : SourceView) → mid ≡ left old → Passes old mid mid.unread
-Passes-left old mid is = record {
+pub SkipsUnits-left : (old mid : SourceView) → mid ≡ past_unit old → SkipsUnits old mid mid.unread
+SkipsUnits-left old mid is = record {
   passed = [];
   splits = ap (λ (s : SourceView). s.unread) (sym is);
   units = rw (ap (λ (s : SourceView). s.declared) is) no_unit;
   offset = ap (λ (s : SourceView). s.offset) is ∙ omega arith;
 }
 
-pub IsBetween-left : (old mid : SourceView) → old.phase ≡ Reading → mid ≡ left old → IsBetween mid
+pub IsBetween-left : (old mid : SourceView) → old.phase ≡ Reading → mid ≡ past_unit old → IsBetween mid
 IsBetween-left old mid phase is = record {
   phase = ap (λ (s : SourceView). s.phase) is ∙ phase;
   block = ap (λ (s : SourceView). s.block) is;
   packet = ap (λ (s : SourceView). s.packet) is;
 }
 
-pub leaves-counted : (old mid : SourceView) → mid ≡ left old → mid.given + behind old ≡ old.given + behind mid
+pub leaves-counted : (old mid : SourceView) → mid ≡ past_unit old → mid.given + end_offset old ≡ old.given + end_offset mid
 leaves-counted old mid is = rw is (omega arith)
 
-pub Passes-then : (old mid new : SourceView) (rest : List ℕ) → Passes old mid mid.unread → mid.block ≡ [] → Passes mid new rest → Passes old new rest
-Passes-then old mid new rest first none more =
+pub SkipsUnits-then : (old mid new : SourceView) (rest : List ℕ) → SkipsUnits old mid mid.unread → mid.block ≡ [] → SkipsUnits mid new rest → SkipsUnits old new rest
+SkipsUnits-then old mid new rest first none more =
     let place : mid.offset + length mid.block ≡ old.offset + length old.block + length first.passed = rw none (omega (arith, first.offset)) in
     let units : AreUnits old.declared (old.offset + length old.block) (first.passed ++ more.passed) [] new.declared =
     AreUnits-append first.units (rw place at more.units) in
@@ -101,18 +101,18 @@ Passes-then old mid new rest first none more =
       offset = omega (arith, more.offset, place, length-append first.passed more.passed);
     }
 
-pub FindsPacket-then : (old mid new : SourceView) → Passes old mid mid.unread → mid.block ≡ [] → FindsPacket mid new → FindsPacket old new
+pub FindsPacket-then : (old mid new : SourceView) → SkipsUnits old mid mid.unread → mid.block ≡ [] → FindsPacket mid new → FindsPacket old new
 FindsPacket-then old mid new first none finds = record {
-  passes = Passes-then old mid new (new.block ++ new.unread) first none finds.passes;
+  passes = SkipsUnits-then old mid new (new.block ++ new.unread) first none finds.passes;
   packet = finds.packet;
   held = finds.held;
   unit = finds.unit;
   phase = finds.phase;
 }
 
-pub FindsEnd-then : (old mid new : SourceView) → Passes old mid mid.unread → mid.block ≡ [] → FindsEnd mid new → FindsEnd old new
+pub FindsEnd-then : (old mid new : SourceView) → SkipsUnits old mid mid.unread → mid.block ≡ [] → FindsEnd mid new → FindsEnd old new
 FindsEnd-then old mid new first none finds = record {
-  passes = Passes-then old mid new [] first none finds.passes;
+  passes = SkipsUnits-then old mid new [] first none finds.passes;
   ends = finds.ends;
   unread = finds.unread;
   block = finds.block;
@@ -120,10 +120,10 @@ FindsEnd-then old mid new first none finds = record {
   phase = finds.phase;
 }
 
-pub IsBroken-then : (old mid new : SourceView) (fault : Fault) → Passes old mid mid.unread → mid.block ≡ [] → IsBroken mid new fault → IsBroken old new fault
+pub IsBroken-then : (old mid new : SourceView) (fault : Fault) → SkipsUnits old mid mid.unread → mid.block ≡ [] → IsBroken mid new fault → IsBroken old new fault
 IsBroken-then old mid new fault first none broken = record {
   rest = broken.rest;
-  passes = Passes-then old mid new broken.rest first none broken.passes;
+  passes = SkipsUnits-then old mid new broken.rest first none broken.passes;
   why = broken.why;
   taken = broken.taken;
   block = broken.block;
@@ -134,56 +134,56 @@ IsBroken-then old mid new fault first none broken = record {
 
 -- its data or its options, as they lie in the buffer
 pub part-lent : (span : Span) (size : ℕ) (bytes buffer : List ℕ) → span.start + span.length ≤ size → bytes ≡ buffer
-    → part_of span bytes ≡ part_of span (take size buffer)
+    → span_bytes span bytes ≡ span_bytes span (take size buffer)
 part-lent span size bytes buffer within same =
     let whole : span.start + (size - span.start) ≡ size = omega arith in
     let rest : drop span.start (take size buffer) ≡ take (size - span.start) (drop span.start buffer) =
     ap (λ n. drop span.start (take n buffer)) (sym whole) ∙ drop-take span.start (size - span.start) buffer in
-    ap (part_of span) same
+    ap (span_bytes span) same
     ∙ sym (take-take span.length (size - span.start) (drop span.start buffer) (omega arith))
     ∙ ap (take span.length) (sym rest)
 
-pub pcap-lent : (head : Head) (held : Held) (bytes block : List ℕ) → bytes ≡ part_of held.bytes block
-    → Some (record { link = head.link; snap = head.snap; name = []; time = held.time; orig = held.orig; bytes = bytes; comment = [] }) ≡ packet_held (PcapFile head) held block
-pcap-lent head held bytes block same = ap (λ (l : List ℕ). Some (record { link = head.link; snap = head.snap; name = []; time = held.time; orig = held.orig; bytes = l; comment = [] })) same
+pub pcap-lent : (head : Head) (spans : PacketSpans) (bytes block : List ℕ) → bytes ≡ span_bytes spans.bytes block
+    → Some (record { link = head.link; snap = head.snap; name = []; time = spans.time; orig = spans.orig; bytes = bytes; comment = [] }) ≡ packet_in_unit (PcapFile head) spans block
+pcap-lent head spans bytes block same = ap (λ (l : List ℕ). Some (record { link = head.link; snap = head.snap; name = []; time = spans.time; orig = spans.orig; bytes = l; comment = [] })) same
 
-pub pcapng-lent : (order : Order) (first : Option ℕ) (interfaces : List Described) (i : Described) (held : Held) (bytes comment options block : List ℕ) → slice_get interfaces held.interface ≡ Some i
-    → bytes ≡ part_of held.bytes block → comment ≡ comment_in order options → options ≡ part_of held.options block
-    → Some (packet_of i held.time held.orig bytes comment) ≡ packet_held (PcapngFile first (record { order = order; interfaces = interfaces })) held block
-pcapng-lent order first interfaces i held bytes comment options block known same commented optional =
-    ap₂ (λ (l m : List ℕ). Some (packet_of i held.time held.orig l m)) same (commented ∙ ap (comment_in order) optional)
-    ∙ ap (option_map (λ (j : Described). packet_of j held.time held.orig (part_of held.bytes block) (comment_in order (part_of held.options block)))) (sym known)
+pub pcapng-lent : (order : Order) (first : Option ℕ) (interfaces : List Described) (i : Described) (spans : PacketSpans) (bytes comment options block : List ℕ) → slice_get interfaces spans.interface ≡ Some i
+    → bytes ≡ span_bytes spans.bytes block → comment ≡ comment_in order options → options ≡ span_bytes spans.options block
+    → Some (packet_of i spans.time spans.orig bytes comment) ≡ packet_in_unit (PcapngFile first (record { order = order; interfaces = interfaces })) spans block
+pcapng-lent order first interfaces i spans bytes comment options block known same commented optional =
+    ap₂ (λ (l m : List ℕ). Some (packet_of i spans.time spans.orig l m)) same (commented ∙ ap (comment_in order) optional)
+    ∙ ap (option_map (λ (j : Described). packet_of j spans.time spans.orig (span_bytes spans.bytes block) (comment_in order (span_bytes spans.options block)))) (sym known)
 
-pub time-held : (declared : Declared) (held : Held) (block : List ℕ) → HasInterface declared held → Some held.time ≡ option_map (λ p. p.time) (packet_held declared held block)
-time-held Nothing held block known = absurd known
-time-held (PcapFile head) held block known = refl
-time-held (PcapngFile first section) held block known = by_interface (slice_get section.interfaces held.interface) known
+pub time-held : (declared : Declared) (spans : PacketSpans) (block : List ℕ) → HasInterface declared spans → Some spans.time ≡ option_map (λ p. p.time) (packet_in_unit declared spans block)
+time-held Nothing spans block known = absurd known
+time-held (PcapFile head) spans block known = refl
+time-held (PcapngFile first section) spans block known = by_interface (slice_get section.interfaces spans.interface) known
   where
     by_interface : (found : Option Described) → is_some found ≡ true
-        → Some held.time ≡ option_map (λ p. p.time) (option_map (λ (i : Described). packet_of i held.time held.orig (part_of held.bytes block) (comment_in section.order (part_of held.options block))) found)
+        → Some spans.time ≡ option_map (λ p. p.time) (option_map (λ (i : Described). packet_of i spans.time spans.orig (span_bytes spans.bytes block) (comment_in section.order (span_bytes spans.options block))) found)
     by_interface None known = (cc)
     by_interface (Some i) known = refl
 
 -- ---- nothing is in hand
 
-pub stage_between : (now : Stage) (held : Held) (buffer : List ℕ) → phase_at now ≡ Reading → block_at now held buffer ≡ [] → HoldsIfAny now held buffer → now ≡ stage.Between
-stage_between stage.Between held buffer phase none holds = refl
-stage_between stage.InHand held buffer phase none holds =
-    absurd (omega (arith, holds.some, holds.there, sym (length-take-le held.size buffer holds.there) ∙ ap length none))
-stage_between stage.Ended held buffer phase none holds = (cc)
-stage_between (stage.Failed fault) held buffer phase none holds = (cc)
+pub stage_between : (now : Stage) (spans : PacketSpans) (buffer : List ℕ) → phase_at now ≡ Reading → block_at now spans buffer ≡ [] → HoldsIfAny now spans buffer → now ≡ stage.Between
+stage_between stage.Between spans buffer phase none holds = refl
+stage_between stage.InHand spans buffer phase none holds =
+    absurd (omega (arith, holds.some, holds.there, sym (length-take-le spans.size buffer holds.there) ∙ ap length none))
+stage_between stage.Ended spans buffer phase none holds = (cc)
+stage_between (stage.Failed fault) spans buffer phase none holds = (cc)
 
 -- ---- nothing is taken
 
-pub Passes-same : (old mid new : SourceView) → Passes old mid mid.unread → new.declared ≡ mid.declared → new.offset ≡ mid.offset → new.unread ≡ mid.unread → Passes old new new.unread
-Passes-same old mid new passes declared offset unread = record {
+pub SkipsUnits-same : (old mid new : SourceView) → SkipsUnits old mid mid.unread → new.declared ≡ mid.declared → new.offset ≡ mid.offset → new.unread ≡ mid.unread → SkipsUnits old new new.unread
+SkipsUnits-same old mid new passes declared offset unread = record {
   passed = passes.passed;
   splits = rw unread passes.splits;
   units = rw declared passes.units;
   offset = offset ∙ passes.offset;
 }
 
-pub Continues-then : (old mid new : SourceView) (r : Result Bool Fault) → Passes old mid mid.unread → mid.block ≡ [] → Continues mid r new → Continues old r new
+pub Continues-then : (old mid new : SourceView) (r : Result Bool Fault) → SkipsUnits old mid mid.unread → mid.block ≡ [] → Continues mid r new → Continues old r new
 Continues-then old mid new (Ok true) passes block goes = FindsPacket-then old mid new passes block goes
 Continues-then old mid new (Ok false) passes block goes = FindsEnd-then old mid new passes block goes
 Continues-then old mid new (Err fault) passes block goes = IsBroken-then old mid new fault passes block goes

@@ -10,12 +10,12 @@ use Rattle.cap_octet.specs.declared.fault.Fault.TheVariants.{LinkTypesDiffer}
 use Rattle.cap_octet.specs.declared.format.Format.TheVariants.{Pcap, NsecPcap}
 use Rattle.cap_octet.specs.declared.number.Order.TheVariants.{Little}
 use Rattle.cap_octet.proofs.Checks.{all_met, none_failing}
-use Rattle.cap_pcap.specs.Header.{IsHeader, head_checks}
+use Rattle.cap_pcap.specs.Header.{IsHeader, header_checks}
 use Rattle.cap_pcap.specs.Record.{IsRecord, field_checks, most_captured, nanoseconds_of_part, packet_in, parts_of_second}
 use Rattle.cap_pcap.specs.Encoding as pcap
-use Rattle.cap_pcap.specs.declared.head.Head.{Head}
-use Rattle.cap_pcap.specs.declared.head.Resolution.{Resolution}
-use Rattle.cap_pcap.specs.declared.head.Resolution.TheVariants.{Microseconds, Nanoseconds}
+use Rattle.cap_pcap.specs.declared.header.Head.{Head}
+use Rattle.cap_pcap.specs.declared.header.Resolution.{Resolution}
+use Rattle.cap_pcap.specs.declared.header.Resolution.TheVariants.{Microseconds, Nanoseconds}
 use Rattle.cap_pcap.proofs.Records.{record_fault-whole}
 use Rattle.cap_pcapng.proofs.Numerals.{number_at}
 use Rattle.cap_io.specs.Capture.{PcapFile, a_pcap_header, a_pcap_record}
@@ -84,21 +84,21 @@ record-back r link p kept =
 
 -- ---- the file header
 
-header-back : (r : Resolution) (link : ℕ) → link < 2 ^ 16 → IsHeader (pcap.heading r link) (written_head r link)
+header-back : (r : Resolution) (link : ℕ) → link < 2 ^ 16 → IsHeader (pcap.file_header r link) (written_head r link)
 unfolding written_head number_in
 header-back Microseconds link few =
-    let bytes : List ℕ = pcap.heading Microseconds link in
+    let bytes : List ℕ = pcap.file_header Microseconds link in
     let link_is : u32_in Little bytes 20 ≡ link = number_at 4 bytes 20 link [] refl (omega arith) in
     record {
-      passes = none_failing (head_checks bytes) (refl, (refl, (refl, (ap (λ (n : ℕ). nat_lt n 65536) link_is ∙ lt-ltb link 65536 few, tt))));
+      passes = none_failing (header_checks bytes) (refl, (refl, (refl, (ap (λ (n : ℕ). nat_lt n 65536) link_is ∙ lt-ltb link 65536 few, tt))));
       whole = refl;
       says = λ k. record { order = Little; resolution = Microseconds; snap = most_captured; link = sym link_is k };
     }
 header-back Nanoseconds link few =
-    let bytes : List ℕ = pcap.heading Nanoseconds link in
+    let bytes : List ℕ = pcap.file_header Nanoseconds link in
     let link_is : u32_in Little bytes 20 ≡ link = number_at 4 bytes 20 link [] refl (omega arith) in
     record {
-      passes = none_failing (head_checks bytes) (refl, (refl, (refl, (ap (λ (n : ℕ). nat_lt n 65536) link_is ∙ lt-ltb link 65536 few, tt))));
+      passes = none_failing (header_checks bytes) (refl, (refl, (refl, (ap (λ (n : ℕ). nat_lt n 65536) link_is ∙ lt-ltb link 65536 few, tt))));
       whole = refl;
       says = λ k. record { order = Little; resolution = Nanoseconds; snap = most_captured; link = sym link_is k };
     }
@@ -122,11 +122,11 @@ text-nanoseconds : (earlier ps : List Captured) → packets_text NsecPcap earlie
 text-nanoseconds earlier [] = refl
 text-nanoseconds earlier (p ∷ ps) = ap (λ (l : List ℕ). record_text Nanoseconds p ++ l) (text-nanoseconds (earlier ++ p ∷ []) ps)
 
-file-back : (r : Resolution) (link : ℕ) (ps : List Captured) → link < 2 ^ 16 → AllByRecursion (IsKept r link) ps → ReadsBack (pcap.heading r link ++ flat_map (record_text r) ps) ps
+file-back : (r : Resolution) (link : ℕ) (ps : List Captured) → link < 2 ^ 16 → AllByRecursion (IsKept r link) ps → ReadsBack (pcap.file_header r link ++ flat_map (record_text r) ps) ps
 file-back r link ps few kept =
-    let unit = a_pcap_header (pcap.heading r link) (written_head r link) (header-back r link few) in
-    reads-back (pcap.heading r link ++ flat_map (record_text r) ps) ps
-    (holds-unit unit 0 (flat_map (record_text r) ps) ps (records-hold r link (0 + length (pcap.heading r link)) ps kept))
+    let unit = a_pcap_header (pcap.file_header r link) (written_head r link) (header-back r link few) in
+    reads-back (pcap.file_header r link ++ flat_map (record_text r) ps) ps
+    (holds-unit unit 0 (flat_map (record_text r) ps) ps (records-hold r link (0 + length (pcap.file_header r link)) ps kept))
 
 -- ---- what a form carries is kept
 

@@ -13,7 +13,7 @@ use Rattle.cap_pcapng.specs.Laws.{ReadsAs, written_interface, written_section}
 use Rattle.cap_pcapng.specs.Unit.{Section, most_interfaces, packets_in}
 use Rattle.cap_pcapng.specs.Encoding as pcapng
 use Rattle.cap_pcapng.proofs.WrittenBack.{section_back, interface_back, packet_back}
-use Rattle.cap_io.specs.Capture.{Nothing, PcapngFile, IsUnit, a_first_block, a_block, first_after}
+use Rattle.cap_io.specs.Capture.{Nothing, PcapngFile, IsUnit, a_first_block, a_block, first_link_after}
 use Rattle.cap_io.specs.RoundTrip.{Back, InRange, IsCarried}
 use Rattle.cap_io.specs.Text.{Interface, interface_of, is_same, is_among, new_among, first_uses, interfaces_of, number_among, descriptions, packets_text, put_checks, text}
 use Rattle.cap_io.proofs.Backs.{Holds, each-behind, holds-none, holds-unit, reads-back}
@@ -41,16 +41,16 @@ abbrev section_of : List Interface → Section
 section_of interfaces = written_section (map described interfaces)
 
 unit-of : (first : Option ℕ) (before after : Section) (bytes : List ℕ) (ps : List Captured) → ReadsAs (Some before) bytes after ps
-    → IsUnit (PcapngFile first before) bytes ps (PcapngFile (first_after first after) after)
+    → IsUnit (PcapngFile first before) bytes ps (PcapngFile (first_link_after first after) after)
 unit-of first before after bytes ps reads =
-    let P : List Captured → Type 0 = λ qs. IsUnit (PcapngFile first before) bytes qs (PcapngFile (first_after first after) after) in
-    let Q : Section → Type 0 = λ s. IsUnit (PcapngFile first before) bytes (packets_in (Some before) bytes) (PcapngFile (first_after first s) s) in
+    let P : List Captured → Type 0 = λ qs. IsUnit (PcapngFile first before) bytes qs (PcapngFile (first_link_after first after) after) in
+    let Q : Section → Type 0 = λ s. IsUnit (PcapngFile first before) bytes (packets_in (Some before) bytes) (PcapngFile (first_link_after first s) s) in
     subst P reads.holds (subst Q reads.declares (a_block first before bytes reads.is_block))
 
-first-unit : (after : Section) (bytes : List ℕ) (ps : List Captured) → ReadsAs None bytes after ps → IsUnit Nothing bytes ps (PcapngFile (first_after None after) after)
+first-unit : (after : Section) (bytes : List ℕ) (ps : List Captured) → ReadsAs None bytes after ps → IsUnit Nothing bytes ps (PcapngFile (first_link_after None after) after)
 first-unit after bytes ps reads =
-    let P : List Captured → Type 0 = λ qs. IsUnit Nothing bytes qs (PcapngFile (first_after None after) after) in
-    let Q : Section → Type 0 = λ s. IsUnit Nothing bytes (packets_in None bytes) (PcapngFile (first_after None s) s) in
+    let P : List Captured → Type 0 = λ qs. IsUnit Nothing bytes qs (PcapngFile (first_link_after None after) after) in
+    let Q : Section → Type 0 = λ s. IsUnit Nothing bytes (packets_in None bytes) (PcapngFile (first_link_after None s) s) in
     subst P reads.holds (subst Q reads.declares (a_first_block bytes reads.is_block))
 
 -- ---- a packet
@@ -143,4 +143,4 @@ pcapng-back p ps carries =
     let kept = each-behind IsKept (p ∷ ps) (λ earlier q later is. kept-of earlier q (carries.each earlier q later is)) [] (p ∷ ps) refl in
     let unit = first-unit (written_section []) pcapng.section_text [] (section_back None) in
     reads-back (text Pcapng (p ∷ ps)) (p ∷ ps)
-    (holds-unit unit 0 (packets_text Pcapng [] (p ∷ ps)) (p ∷ ps) (packets-hold [] (p ∷ ps) kept carries.few _ _))
+    (holds-unit unit 0 (packets_text Pcapng [] (p ∷ ps)) (p ∷ ps) (packets-hold [] (p ∷ ps) kept carries.interfaces _ _))

@@ -5,9 +5,9 @@ use Rattle.std.proofs.lemmas.Cmp.{nat_eq_equiv, nat_list_eq_equiv}
 use Rattle.std.proofs.lemmas.List.{append-nil}
 use Rattle.std.proofs.lemmas.List.Elements.{All-append, All-nil, All-push}
 use Rattle.std.specs.List.{All}
-use Rattle.cap_io.specs.Numbering.{HasPlace, IsFirst}
-use Rattle.cap_io.specs.Text.{Interface, is_same, is_among, new_among, number_among, most_output_interfaces, AreFew}
-use Rattle.cap_io.specs.declared.numbering.Place.{Place}
+use Rattle.cap_io.specs.Numbering.{HasNumber, IsFirst}
+use Rattle.cap_io.specs.Text.{Interface, is_same, is_among, new_among, number_among, most_output_interfaces, FitFile}
+use Rattle.cap_io.specs.declared.numbering.InterfaceNumber.{InterfaceNumber}
 use Rattle.cap_io.proofs.Interfaces.{same_interface}
 
 some_is : (i j : Interface) → Some i ≡ Some j → i ≡ j
@@ -38,7 +38,7 @@ number-stays : (old : List Interface) (i : Interface) → number_among (old ++ n
 number-stays [] i = ap (λ (b : Bool). cond (not b) 1 0) (same-self i)
 number-stays (x ∷ xs) i = number-by (is_same i x) i xs (number-stays xs i)
 
-pub first-behind : (old new : List Interface) (i : Interface) (place : Place) → HasPlace old i place new → IsFirst place.number new
+pub first-behind : (old new : List Interface) (i : Interface) (place : InterfaceNumber) → HasNumber old i place new → IsFirst place.number new
 first-behind old new i place has j there =
     let at : slice_get new place.number ≡ Some i = rw (has.interfaces, has.number) (at-place old i) in
     let same : j ≡ i = some_is j i (sym there ∙ at) in
@@ -54,8 +54,8 @@ unfolding IsShort
 new-short true i short = All-nil IsShort
 new-short false i short = All-push IsShort [] i (All-nil IsShort) short
 
-pub few-behind : (old new : List Interface) (i : Interface) (place : Place) → AreFew old → length (old ++ new_among old i) ≤ most_output_interfaces → length i.name ≤ 255
-    → HasPlace old i place new → AreFew new
+pub few-behind : (old new : List Interface) (i : Interface) (place : InterfaceNumber) → FitFile old → length (old ++ new_among old i) ≤ most_output_interfaces → length i.name ≤ 255
+    → HasNumber old i place new → FitFile new
 unfolding IsShort
 few-behind old new i place few room short has =
     let names : All IsShort (old ++ new_among old i) = All-append IsShort old (new_among old i) few.names (new-short (is_among old i) i short) in
@@ -70,7 +70,7 @@ among-at (x ∷ xs) zero i there =
 among-at (x ∷ xs) (suc n) i there = ap (λ (b : Bool). is_same i x || b) (among-at xs n i there) ∙ or-true (is_same i x)
 
 pub place-of-last : (interfaces : List Interface) (last : ℕ) (i : Interface) → IsFirst last interfaces → slice_get interfaces last ≡ Some i
-    → HasPlace interfaces i (record { number = last; is_new = false }) interfaces
+    → HasNumber interfaces i (record { number = last; is_new = false }) interfaces
 place-of-last interfaces last i first there =
     let among : is_among interfaces i ≡ true = among-at interfaces last i there in
     record {

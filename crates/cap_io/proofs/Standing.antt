@@ -4,7 +4,7 @@ use Rattle.std.proofs.lemmas.List.{append_assoc, append-nil, length-append}
 use Rattle.cap_octet.specs.declared.fault.Fault.{Fault}
 use Rattle.cap_octet.specs.declared.fault.Fault.TheVariants.{ReadFailed, NoMemory}
 use Rattle.cap_io.specs.Capture.{Declared, Nothing, Placed, placed_at, AreUnits, no_unit, items, items_from, after_packets, ending_by, FaultAt, End, front_of, Stops}
-use Rattle.cap_io.specs.Source.{SourceView, Phase, Reading, Ended, Failed, source_at, Passes, FindsPacket, FindsEnd, FindsFault, Advances, Finds}
+use Rattle.cap_io.specs.Source.{SourceView, Phase, Reading, Ended, Failed, source_at, SkipsUnits, FindsPacket, FindsEnd, FindsFault, Advances, Finds}
 use Rattle.cap_io.specs.Position.{HasPacket, IsAt, IsCutShort}
 use Rattle.cap_io.proofs.Items.{AreUnits-append, items_from-units, items_from-stops}
 use Rattle.cap_io.proofs.Units.{one_unit}
@@ -71,7 +71,7 @@ Advances-sound text done packets s s' r at advances = by_phase s.phase refl adva
     by_phase (Failed fault) e advances = absurd (at.sound fault e)
 
 -- the bytes that a source passed are done
-passed-units : (text done : List ℕ) (packets : List Placed) (s s' : SourceView) (rest : List ℕ) → IsAt text done packets false s → (passes : Passes s s' rest)
+passed-units : (text done : List ℕ) (packets : List Placed) (s s' : SourceView) (rest : List ℕ) → IsAt text done packets false s → (passes : SkipsUnits s s' rest)
     → AreUnits Nothing 0 (done ++ passes.passed) packets s'.declared
 passed-units text done packets s s' rest at passes =
     let place : s.offset + length s.block ≡ length done = at.place ∙ ap length (append-nil done) in
@@ -79,13 +79,13 @@ passed-units text done packets s s' rest at passes =
     AreUnits-append at.units (rw (zero-add, ← place) passes.units) in
     rw (append-nil packets) at units
 
-passed-place : (text done : List ℕ) (packets : List Placed) (s s' : SourceView) (rest : List ℕ) → IsAt text done packets false s → (passes : Passes s s' rest)
+passed-place : (text done : List ℕ) (packets : List Placed) (s s' : SourceView) (rest : List ℕ) → IsAt text done packets false s → (passes : SkipsUnits s s' rest)
     → s'.offset ≡ length (done ++ passes.passed)
 passed-place text done packets s s' rest at passes =
     let place : s.offset + length s.block ≡ length done = at.place ∙ ap length (append-nil done) in
     passes.offset ∙ ap (λ n. n + length passes.passed) place ∙ sym (length-append done passes.passed)
 
-passed-whole : (text done : List ℕ) (packets : List Placed) (s s' : SourceView) (rest : List ℕ) → IsAt text done packets false s → (passes : Passes s s' rest)
+passed-whole : (text done : List ℕ) (packets : List Placed) (s s' : SourceView) (rest : List ℕ) → IsAt text done packets false s → (passes : SkipsUnits s s' rest)
     → text ≡ (done ++ passes.passed) ++ rest
 passed-whole text done packets s s' rest at passes =
     at.whole ∙ ap (λ (x : List ℕ). done ++ x) passes.splits ∙ sym (append_assoc done passes.passed rest)

@@ -14,8 +14,8 @@ use Rattle.cap_pcapng.specs.Padding.{padded}
 use Rattle.cap_pcapng.specs.Encoding as pcapng
 use Rattle.cap_io.specs.declared.sink.SinkState.{SinkState}
 use Rattle.cap_io.specs.declared.sink.SinkState.TheVariants.{Empty, Started, Broken}
-use Rattle.cap_io.specs.Text.{AreFew, Interface, interface_of, interfaces_of, number_among, descriptions, most_output_interfaces, heading, packet_text, packets_text, text, added, has_first_link, put_checks, refused}
-use Rattle.cap_io.specs.Sink.{SinkView, sink_at, state_after, kept_interfaces, HasPut, HasPackets, takes_memory, PutsAfter, WritesPacket, Puts, PutWrites, IsPutAnswer, Finishes, FinishWrites, FinishesEmpty, link_or_ethernet, Adds, checks_in, refusal_in, takes_memory_in, heading_in, packet_in, added_in, state_behind, interfaces_behind, interfaces_left}
+use Rattle.cap_io.specs.Text.{FitFile, Interface, interface_of, interfaces_of, number_among, descriptions, most_output_interfaces, file_start, packet_text, packets_text, text, added_text, has_first_link, put_checks, refusal_of}
+use Rattle.cap_io.specs.Sink.{SinkView, sink_at, state_after, kept_interfaces, HasPut, HasPackets, takes_memory, PutsAfter, WritesPacket, PutsPacket, PutWrites, IsPutAnswer, Finishes, FinishWrites, FinishesEmpty, link_or_ethernet, AddsPacket, checks_in, refusal_in, takes_memory_in, file_start_in, packet_in, added_in, state_after_packet, interfaces_after_packet, interfaces_after_put}
 use Rattle.cap_io.proofs.Interfaces.{interfaces_of-push, among-interfaces_of, new-interfaces_of}
 
 -- ---- faults that refuse no packet
@@ -38,15 +38,15 @@ packets_text-append format earlier (x ∷ xs) ys =
 
 -- a packet adds its part behind the text of those before it
 pub text-more : (format : Format) (ps : List Captured) (p : Captured) (xs : List Captured)
-    → text format (ps ++ p ∷ xs) ≡ text format ps ++ (added format ps p ++ packets_text format (ps ++ p ∷ []) xs)
-text-more format [] p xs = sym (append_assoc (heading format p.link) (packet_text format [] p) (packets_text format (p ∷ []) xs))
+    → text format (ps ++ p ∷ xs) ≡ text format ps ++ (added_text format ps p ++ packets_text format (ps ++ p ∷ []) xs)
+text-more format [] p xs = sym (append_assoc (file_start format p.link) (packet_text format [] p) (packets_text format (p ∷ []) xs))
 text-more format (q ∷ qs) p xs =
-    ap (λ (t : List ℕ). heading format q.link ++ t) (packets_text-append format [] (q ∷ qs) (p ∷ xs))
-    ∙ sym (append_assoc (heading format q.link) (packets_text format [] (q ∷ qs)) (packets_text format (q ∷ qs) (p ∷ xs)))
+    ap (λ (t : List ℕ). file_start format q.link ++ t) (packets_text-append format [] (q ∷ qs) (p ∷ xs))
+    ∙ sym (append_assoc (file_start format q.link) (packets_text format [] (q ∷ qs)) (packets_text format (q ∷ qs) (p ∷ xs)))
 
 -- one packet more
-pub text-push : (format : Format) (ps : List Captured) (p : Captured) → text format (ps ++ p ∷ []) ≡ text format ps ++ added format ps p
-text-push format ps p = text-more format ps p [] ∙ ap (λ (t : List ℕ). text format ps ++ t) (append-nil (added format ps p))
+pub text-push : (format : Format) (ps : List Captured) (p : Captured) → text format (ps ++ p ∷ []) ≡ text format ps ++ added_text format ps p
+text-push format ps p = text-more format ps p [] ∙ ap (λ (t : List ℕ). text format ps ++ t) (append-nil (added_text format ps p))
 
 -- no packet is refused for a failure of the device or of memory
 record_by : (a b c : Bool) (fault : Fault) → IsFailure fault → first_failing ((a, LinkTypesDiffer) ∷ (b, TooLong) ∷ (c, TimeOutOfRange) ∷ []) ≡ Some fault → ⊥
@@ -60,7 +60,7 @@ block_by true true fault is e = (cc)
 block_by true false fault is e = is-failure TooManyOutputInterfaces fault is (cc) (λ f. (cc)) (λ f. (cc))
 block_by false b fault is e = is-failure TooLong fault is (cc) (λ f. (cc)) (λ f. (cc))
 
-pub refused-failure : (format : Format) (ps : List Captured) (p : Captured) (fault : Fault) → IsFailure fault → refused format ps p ≡ Some fault → ⊥
+pub refused-failure : (format : Format) (ps : List Captured) (p : Captured) (fault : Fault) → IsFailure fault → refusal_of format ps p ≡ Some fault → ⊥
 refused-failure Pcap ps p fault is e =
     record_by (has_first_link ps p) (nat_le (length p.bytes) most_captured) (nat_lt (p.time / 1000000000) (2 ^ 32)) fault is e
 refused-failure NsecPcap ps p fault is e =
@@ -68,10 +68,10 @@ refused-failure NsecPcap ps p fault is e =
 refused-failure Pcapng ps p fault is e =
     block_by (nat_le (32 + padded (length p.bytes) + length (pcapng.comment_text p.comment)) most_block) (nat_le (length (interfaces_of (ps ++ p ∷ []))) most_output_interfaces) fault is e
 
-pub refused-write_failed : (format : Format) (ps : List Captured) (p : Captured) → refused format ps p ≡ Some WriteFailed → ⊥
+pub refused-write_failed : (format : Format) (ps : List Captured) (p : Captured) → refusal_of format ps p ≡ Some WriteFailed → ⊥
 refused-write_failed format ps p e = refused-failure format ps p WriteFailed (inl refl) e
 
-pub refused-no_memory : (format : Format) (ps : List Captured) (p : Captured) → refused format ps p ≡ Some NoMemory → ⊥
+pub refused-no_memory : (format : Format) (ps : List Captured) (p : Captured) → refusal_of format ps p ≡ Some NoMemory → ⊥
 refused-no_memory format ps p e = refused-failure format ps p NoMemory (inr refl) e
 
 -- ---- a sink that these packets were put to
@@ -88,11 +88,11 @@ HasPackets-none format written failures room =
 
 -- ---- by what a sink keeps
 
-state-after : (ps : List Captured) (p : Captured) → state_behind (state_after ps) p ≡ state_after (ps ++ p ∷ [])
+state-after : (ps : List Captured) (p : Captured) → state_after_packet (state_after ps) p ≡ state_after (ps ++ p ∷ [])
 state-after [] p = refl
 state-after (q ∷ qs) p = refl
 
-interfaces-after : (format : Format) (ps : List Captured) (p : Captured) → interfaces_behind format (kept_interfaces format ps) p ≡ kept_interfaces format (ps ++ p ∷ [])
+interfaces-after : (format : Format) (ps : List Captured) (p : Captured) → interfaces_after_packet format (kept_interfaces format ps) p ≡ kept_interfaces format (ps ++ p ∷ [])
 interfaces-after Pcap ps p = refl
 interfaces-after NsecPcap ps p = refl
 interfaces-after Pcapng ps p =
@@ -117,46 +117,46 @@ packet-after NsecPcap ps p = refl
 packet-after Pcapng ps p =
     ap (λ (l : List Interface). descriptions l ++ pcapng.packet_text (number_among (interfaces_of ps) (interface_of p)) p) (new-interfaces_of ps (interface_of p))
 
-added-after : (format : Format) (ps : List Captured) (p : Captured) → heading_in format (state_after ps) p.link ++ packet_in format (kept_interfaces format ps) p ≡ added format ps p
-added-after format [] p = ap (λ (l : List ℕ). heading format p.link ++ l) (packet-after format [] p)
+added-after : (format : Format) (ps : List Captured) (p : Captured) → file_start_in format (state_after ps) p.link ++ packet_in format (kept_interfaces format ps) p ≡ added_text format ps p
+added-after format [] p = ap (λ (l : List ℕ). file_start format p.link ++ l) (packet-after format [] p)
 added-after format (q ∷ qs) p = packet-after format (q ∷ qs) p
 
-pub refusal-put : (sink : SinkView) (ps : List Captured) (p : Captured) → HasPut sink ps → refusal_in sink p ≡ refused sink.format ps p
+pub refusal-put : (sink : SinkView) (ps : List Captured) (p : Captured) → HasPut sink ps → refusal_in sink p ≡ refusal_of sink.format ps p
 refusal-put sink ps p has =
     ap₂ (λ (s : SinkState) (l : List Interface). first_failing (checks_in sink.format s l p)) has.state has.interfaces
     ∙ ap first_failing (checks-after sink.format ps p)
 
-pub added-put : (sink : SinkView) (ps : List Captured) (p : Captured) → HasPut sink ps → added_in sink p ≡ added sink.format ps p
+pub added-put : (sink : SinkView) (ps : List Captured) (p : Captured) → HasPut sink ps → added_in sink p ≡ added_text sink.format ps p
 added-put sink ps p has =
-    ap₂ (λ (s : SinkState) (l : List Interface). heading_in sink.format s p.link ++ packet_in sink.format l p) has.state has.interfaces
+    ap₂ (λ (s : SinkState) (l : List Interface). file_start_in sink.format s p.link ++ packet_in sink.format l p) has.state has.interfaces
     ∙ added-after sink.format ps p
 
 takes-put : (sink : SinkView) (ps : List Captured) (p : Captured) → HasPut sink ps → takes_memory_in sink.format sink.interfaces p ≡ takes_memory sink.format ps p
 takes-put sink ps p has = ap (λ (l : List Interface). takes_memory_in sink.format l p) has.interfaces ∙ takes-after sink.format ps p
 
 -- a packet is added
-pub puts-ok : (ps : List Captured) (old : SinkView) (p : Captured) (new : SinkView) → HasPut old ps → Adds old p (Ok tt) new → AreFew new.interfaces → PutsAfter ps old p (Ok tt) new
+pub puts-ok : (ps : List Captured) (old : SinkView) (p : Captured) (new : SinkView) → HasPut old ps → AddsPacket old p (Ok tt) new → FitFile new.interfaces → PutsAfter ps old p (Ok tt) new
 puts-ok ps old p new has adds few = record {
   answer = rw (← refusal-put old ps p has, ← takes-put old ps p has) adds.answer;
-  state = adds.state ∙ ap (λ (s : SinkState). state_behind s p) has.state ∙ state-after ps p;
-  interfaces = adds.interfaces ∙ ap (λ (l : List Interface). interfaces_behind old.format l p) has.interfaces ∙ interfaces-after old.format ps p;
+  state = adds.state ∙ ap (λ (s : SinkState). state_after_packet s p) has.state ∙ state-after ps p;
+  interfaces = adds.interfaces ∙ ap (λ (l : List Interface). interfaces_after_packet old.format l p) has.interfaces ∙ interfaces-after old.format ps p;
   format = adds.format;
-  few = few;
+  bounds = few;
   failures = adds.failures;
   room = adds.room;
   filled = adds.filled;
 }
 
 -- it isn't
-pub puts-err : (ps : List Captured) (old : SinkView) (p : Captured) (fault : Fault) (mid new : SinkView) → HasPut old ps → Adds old p (Err fault) mid
+pub puts-err : (ps : List Captured) (old : SinkView) (p : Captured) (fault : Fault) (mid new : SinkView) → HasPut old ps → AddsPacket old p (Err fault) mid
     → new ≡ record { format = mid.format; state = Broken fault; interfaces = mid.interfaces; written = mid.written; failures = mid.failures; room = mid.room }
-    → AreFew new.interfaces → PutsAfter ps old p (Err fault) new
+    → FitFile new.interfaces → PutsAfter ps old p (Err fault) new
 puts-err ps old p fault mid new has adds is few = record {
   answer = rw (← refusal-put old ps p has, ← takes-put old ps p has) adds.answer;
   state = ap (λ (s : SinkView). s.state) is;
   interfaces = ap (λ (s : SinkView). s.interfaces) is ∙ adds.interfaces
-      ∙ ap₂ (interfaces_left (Err fault)) has.interfaces (ap (λ (l : List Interface). interfaces_behind old.format l p) has.interfaces ∙ interfaces-after old.format ps p);
-  few = few;
+      ∙ ap₂ (interfaces_after_put (Err fault)) has.interfaces (ap (λ (l : List Interface). interfaces_after_packet old.format l p) has.interfaces ∙ interfaces-after old.format ps p);
+  bounds = few;
   format = ap (λ (s : SinkView). s.format) is ∙ adds.format;
   failures = ap (λ (s : SinkView). s.failures) is ∙ adds.failures;
   room = ap (λ (s : SinkView). s.room) is ∙ adds.room;
@@ -165,13 +165,13 @@ puts-err ps old p fault mid new has adds is few = record {
 
 -- what is written of it
 pub writes-put : (ps : List Captured) (old : SinkView) (p : Captured) (r : Result (Unit {0}) Fault) (written' : List ℕ) → HasPut old ps
-    → WritesPacket (refusal_in old p) (added_in old p) old.written r written' → WritesPacket (refused old.format ps p) (added old.format ps p) old.written r written'
+    → WritesPacket (refusal_in old p) (added_in old p) old.written r written' → WritesPacket (refusal_of old.format ps p) (added_text old.format ps p) old.written r written'
 writes-put ps old p r written' has writes = rw (← refusal-put old ps p has, ← added-put old ps p has) writes
 
 -- ---- a put by the state before it
 
 pub puts-tell : (state : SinkState) (old : SinkView) (p : Captured) (r : Result (Unit {0}) Fault) (new : SinkView) → ((fault : Fault) → state ≡ Broken fault → ⊥)
-    → ((ps : List Captured) → HasPut old ps → PutsAfter ps old p r new) → Puts state old p r new
+    → ((ps : List Captured) → HasPut old ps → PutsAfter ps old p r new) → PutsPacket state old p r new
 puts-tell Empty old p r new sound puts = puts
 puts-tell (Started link) old p r new sound puts = puts
 puts-tell (Broken fault) old p r new sound puts = absurd (sound fault refl)
@@ -182,22 +182,22 @@ put-writes-tell Empty old p r new sound writes = λ ps has. writes-put ps old p 
 put-writes-tell (Started link) old p r new sound writes = λ ps has. writes-put ps old p r new.written has writes
 put-writes-tell (Broken fault) old p r new sound writes = absurd (sound fault refl)
 
-answers-after : (ps : List Captured) (old : SinkView) (p : Captured) (r : Result (Unit {0}) Fault) (new : SinkView) → HasPut old ps → Puts (state_after ps) old p r new → PutsAfter ps old p r new
+answers-after : (ps : List Captured) (old : SinkView) (p : Captured) (r : Result (Unit {0}) Fault) (new : SinkView) → HasPut old ps → PutsPacket (state_after ps) old p r new → PutsAfter ps old p r new
 answers-after [] old p r new has puts = puts [] has
 answers-after (q ∷ qs) old p r new has puts = puts (q ∷ qs) has
 
 writes-after : (ps : List Captured) (old : SinkView) (p : Captured) (r : Result (Unit {0}) Fault) (new : SinkView) → HasPut old ps → PutWrites (state_after ps) old p r new
-    → WritesPacket (refused old.format ps p) (added old.format ps p) old.written r new.written
+    → WritesPacket (refusal_of old.format ps p) (added_text old.format ps p) old.written r new.written
 writes-after [] old p r new has writes = writes [] has
 writes-after (q ∷ qs) old p r new has writes = writes (q ∷ qs) has
 
 pub put-answers : (before : List ℕ) (ps : List Captured) (old : SinkView) (p : Captured) (r : Result (Unit {0}) Fault) (new : SinkView)
-    → HasPackets before old ps → Puts old.state old p r new → PutsAfter ps old p r new
+    → HasPackets before old ps → PutsPacket old.state old p r new → PutsAfter ps old p r new
 put-answers before ps old p r new has puts =
-    answers-after ps old p r new has.put (let P : SinkState → Type 0 = λ st. Puts st old p r new in subst P has.put.state puts)
+    answers-after ps old p r new has.put (let P : SinkState → Type 0 = λ st. PutsPacket st old p r new in subst P has.put.state puts)
 
 pub put-writes : (before : List ℕ) (ps : List Captured) (old : SinkView) (p : Captured) (r : Result (Unit {0}) Fault) (new : SinkView)
-    → HasPackets before old ps → PutWrites old.state old p r new → WritesPacket (refused old.format ps p) (added old.format ps p) old.written r new.written
+    → HasPackets before old ps → PutWrites old.state old p r new → WritesPacket (refusal_of old.format ps p) (added_text old.format ps p) old.written r new.written
 put-writes before ps old p r new has writes =
     writes-after ps old p r new has.put (let P : SinkState → Type 0 = λ st. PutWrites st old p r new in subst P has.put.state writes)
 
@@ -206,24 +206,24 @@ taken-answer : (refusal : Option Fault) (takes : Bool) → IsPutAnswer refusal t
 taken-answer None takes answer = refl
 taken-answer (Some fault) takes answer = absurd answer
 
-pub put-taken : (ps : List Captured) (old : SinkView) (p : Captured) (new : SinkView) → PutsAfter ps old p (Ok tt) new → refused old.format ps p ≡ None
-put-taken ps old p new puts = taken-answer (refused old.format ps p) (takes_memory old.format ps p) puts.answer
+pub put-taken : (ps : List Captured) (old : SinkView) (p : Captured) (new : SinkView) → PutsAfter ps old p (Ok tt) new → refusal_of old.format ps p ≡ None
+put-taken ps old p new puts = taken-answer (refusal_of old.format ps p) (takes_memory old.format ps p) puts.answer
 
 written-ok : (refusal : Option Fault) (bytes written written' : List ℕ) → WritesPacket refusal bytes written (Ok tt) written' → written' ≡ written ++ bytes
 written-ok refusal bytes written written' writes = writes
 
 -- by a put it has one packet more
 pub HasPackets-put : (before : List ℕ) (ps : List Captured) (old : SinkView) (p : Captured) (new : SinkView)
-    → HasPackets before old ps → Puts old.state old p (Ok tt) new → PutWrites old.state old p (Ok tt) new → HasPackets before new (ps ++ p ∷ [])
+    → HasPackets before old ps → PutsPacket old.state old p (Ok tt) new → PutWrites old.state old p (Ok tt) new → HasPackets before new (ps ++ p ∷ [])
 HasPackets-put before ps old p new has puts writes =
     let after = put-answers before ps old p (Ok tt) new has puts in
-    let bytes : new.written ≡ old.written ++ added old.format ps p =
-    written-ok (refused old.format ps p) (added old.format ps p) old.written new.written (put-writes before ps old p (Ok tt) new has writes) in
+    let bytes : new.written ≡ old.written ++ added_text old.format ps p =
+    written-ok (refusal_of old.format ps p) (added_text old.format ps p) old.written new.written (put-writes before ps old p (Ok tt) new has writes) in
     record {
       written =
           bytes
           ∙ rw (has.written, after.format)
-          (append_assoc before (text old.format ps) (added old.format ps p) ∙ ap (λ (t : List ℕ). before ++ t) (sym (text-push old.format ps p)));
+          (append_assoc before (text old.format ps) (added_text old.format ps p) ∙ ap (λ (t : List ℕ). before ++ t) (sym (text-push old.format ps p)));
       put = record {
         state = after.state;
         interfaces = after.interfaces ∙ ap (λ (f : Format). kept_interfaces f (ps ++ p ∷ [])) (sym after.format);
@@ -238,7 +238,7 @@ pub finish-none : (before : List ℕ) (old : SinkView) (first : Option ℕ) (r :
 finish-none before old first r new has finishes = let P : SinkState → Type 0 = λ st. Finishes st old first r new in subst P has.put.state finishes
 
 pub finish-none-writes : (before : List ℕ) (old : SinkView) (first : Option ℕ) (r : Result (Unit {0}) Fault) (new : SinkView)
-    → HasPackets before old [] → FinishWrites old.state old first r new → AppendsOrStops r old.written (heading old.format (link_or_ethernet first)) new.written
+    → HasPackets before old [] → FinishWrites old.state old first r new → AppendsOrStops r old.written (file_start old.format (link_or_ethernet first)) new.written
 finish-none-writes before old first r new has writes = let P : SinkState → Type 0 = λ st. FinishWrites st old first r new in subst P has.put.state writes
 
 -- packets were put: all is written

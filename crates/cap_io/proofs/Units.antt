@@ -3,12 +3,12 @@ use Rattle.std.proofs.Common.{◌≡◌, ℕ, Bool, true, false, ◌||◌, ◌&&
 use Rattle.std.proofs.lemmas.List.{append-nil, length-append, length-take-le, take-append-drop, take_at}
 use Rattle.cap_octet.specs.Packet.{Captured}
 use Rattle.cap_octet.specs.declared.fault.Fault.{Fault}
-use Rattle.cap_pcap.specs.declared.head.Head.{Head}
-use Rattle.cap_pcap.specs.declared.head.Resolution.{Resolution}
-use Rattle.cap_pcap.specs.declared.head.Resolution.TheVariants.{Microseconds, Nanoseconds}
-use Rattle.cap_pcap.specs.Header.{form_in, head_checks, head_fault, head_in, magic, IsHeader}
+use Rattle.cap_pcap.specs.declared.header.Head.{Head}
+use Rattle.cap_pcap.specs.declared.header.Resolution.{Resolution}
+use Rattle.cap_pcap.specs.declared.header.Resolution.TheVariants.{Microseconds, Nanoseconds}
+use Rattle.cap_pcap.specs.Header.{form_in, header_checks, header_fault, header_in, magic, IsHeader}
 use Rattle.cap_pcap.specs.Record.{record_fault, record_size, packet_in, IsRecord}
-use Rattle.cap_pcap.proofs.Headers.{head_fault-append, head_fault-none, head_in-append}
+use Rattle.cap_pcap.proofs.Headers.{header_fault-append, header_fault-none, header_in-append}
 use Rattle.cap_pcap.proofs.Records.{passes, IsRecord-front, IsRecord-take}
 use Rattle.std.specs.Prelude.{◌==◌, nat_le}
 use Rattle.std.proofs.lemmas.Bool.{le-leb}
@@ -42,12 +42,12 @@ pub and_second : (a b : Bool) → (a && b) ≡ true → b ≡ true
 and_second true b e = e
 and_second false b e = absurd (cc)
 
-pub header-other : (text : List ℕ) → is_pcapng text ≡ true → head_fault text ≡ None → ⊥
+pub header-other : (text : List ℕ) → is_pcapng text ≡ true → header_fault text ≡ None → ⊥
 header-other text is none =
     let little : u32_in Little text 0 ≡ section_type = eqb-true (u32_in Little text 0) section_type (and_second (nat_le 4 (length text)) (is_section text) is) in
-    let some : is_some (form_in text) ≡ true = and_second (nat_le 4 (length text)) (is_some (form_in text)) (all_met (head_checks text) none).0 in
+    let some : is_some (form_in text) ≡ true = and_second (nat_le 4 (length text)) (is_some (form_in text)) (all_met (header_checks text) none).0 in
     let form = some_form (u32_in Big text 0 == magic Microseconds) (u32_in Big text 0 == magic Nanoseconds) (Big, Microseconds) (Big, Nanoseconds) (rw little at some) in
-    let enough : 4 ≤ length text = omega (arith, head_fault-none text none) in
+    let enough : 4 ≤ length text = omega (arith, header_fault-none text none) in
     elim form [
       | inl e ↦ not_swapped text Microseconds enough little (eqb-true (u32_in Big text 0) (magic Microseconds) e)
       | inr e ↦ not_swapped text Nanoseconds enough little (eqb-true (u32_in Big text 0) (magic Nanoseconds) e)
@@ -64,7 +64,7 @@ first-section text none =
     both true e = refl
     both false e = e
 
-other-header : (text : List ℕ) → head_fault text ≡ None → is_pcapng text ≡ false
+other-header : (text : List ℕ) → header_fault text ≡ None → is_pcapng text ≡ false
 other-header text none = by_bool (is_pcapng text) refl
   where
     by_bool : (b : Bool) → is_pcapng text ≡ b → is_pcapng text ≡ false
@@ -75,9 +75,9 @@ other-header text none = by_bool (is_pcapng text) refl
 
 header-front : (bytes more : List ℕ) (head : Head) → IsHeader bytes head → front_of Nothing (bytes ++ more) ≡ Whole (length bytes) [] (PcapFile head)
 header-front bytes more head is =
-    let none : head_fault (bytes ++ more) ≡ None = head_fault-append bytes more (omega (arith, is.whole)) ∙ is.passes in
+    let none : header_fault (bytes ++ more) ≡ None = header_fault-append bytes more (omega (arith, is.whole)) ∙ is.passes in
     front_of-header (bytes ++ more) (other-header (bytes ++ more) none) none
-    ∙ rw (head_in-append bytes more (omega (arith, is.whole)), is.whole, is.says) refl
+    ∙ rw (header_in-append bytes more (omega (arith, is.whole)), is.whole, is.says) refl
 
 record-front : (head : Head) (bytes more : List ℕ) → IsRecord head bytes → front_of (PcapFile head) (bytes ++ more) ≡ Whole (length bytes) (packet_in head bytes ∷ []) (PcapFile head)
 record-front head bytes more is =
@@ -125,16 +125,16 @@ same_front declared text m n ps qs c d e is =
     let after : c ≡ d = cc in
     rw (← size, ← packets, ← after) is
 
-header-is : (text : List ℕ) (size : ℕ) (packets : List Captured) (after : Declared) (fault : Option Fault) → head_fault text ≡ fault → front_of_header fault text ≡ Whole size packets after → IsFront Nothing text size packets after
+header-is : (text : List ℕ) (size : ℕ) (packets : List Captured) (after : Declared) (fault : Option Fault) → header_fault text ≡ fault → front_of_header fault text ≡ Whole size packets after → IsFront Nothing text size packets after
 header-is text size packets after None none e =
-    let enough : 24 ≤ length text = head_fault-none text none in
+    let enough : 24 ≤ length text = header_fault-none text none in
     let joined : take 24 text ++ drop 24 text ≡ text = take-append-drop 24 text in
     let long : length (take 24 text) ≡ 24 = length-take-le 24 text enough in
-    let passes : head_fault (take 24 text) ≡ None = sym (head_fault-append (take 24 text) (drop 24 text) (omega arith)) ∙ ap head_fault joined ∙ none in
-    let says : head_in text ≡ head_in (take 24 text) = ap head_in (sym joined) ∙ head_in-append (take 24 text) (drop 24 text) (omega arith) in
-    let is : IsFront Nothing text 24 [] (PcapFile (head_in text)) =
-    record { unit = a_pcap_header (take 24 text) (head_in text) (record { passes = passes; whole = long; says = says }); there = enough; some = omega arith } in
-    same_front Nothing text 24 size [] packets (PcapFile (head_in text)) after e is
+    let passes : header_fault (take 24 text) ≡ None = sym (header_fault-append (take 24 text) (drop 24 text) (omega arith)) ∙ ap header_fault joined ∙ none in
+    let says : header_in text ≡ header_in (take 24 text) = ap header_in (sym joined) ∙ header_in-append (take 24 text) (drop 24 text) (omega arith) in
+    let is : IsFront Nothing text 24 [] (PcapFile (header_in text)) =
+    record { unit = a_pcap_header (take 24 text) (header_in text) (record { passes = passes; whole = long; says = says }); there = enough; some = omega arith } in
+    same_front Nothing text 24 size [] packets (PcapFile (header_in text)) after e is
 header-is text size packets after (Some fault) fails e = (cc)
 
 record-is : (head : Head) (text : List ℕ) (size : ℕ) (packets : List Captured) (after : Declared) (fault : Option Fault) → record_fault head text ≡ fault → front_of_record fault head text ≡ Whole size packets after
@@ -162,7 +162,7 @@ block-is declared first before text size packets after (Some fault) fails e unit
 
 file-is : (text : List ℕ) (size : ℕ) (packets : List Captured) (after : Declared) (section : Bool) → front_of_file section text ≡ Whole size packets after → IsFront Nothing text size packets after
 file-is text size packets after true e = block-is Nothing None None text size packets after (unit_fault None text) refl e (λ bytes is. a_first_block bytes is)
-file-is text size packets after false e = header-is text size packets after (head_fault text) refl e
+file-is text size packets after false e = header-is text size packets after (header_fault text) refl e
 
 pub front_of-is : (declared : Declared) (text : List ℕ) (size : ℕ) (packets : List Captured) (after : Declared) → front_of declared text ≡ Whole size packets after → IsFront declared text size packets after
 front_of-is Nothing text size packets after e = file-is text size packets after (is_pcapng text) e

@@ -12,60 +12,60 @@ use Rattle.cap_pcapng.specs.Comment.{comment_in}
 use Rattle.cap_pcapng.specs.Interface.{Described}
 use Rattle.cap_pcapng.specs.Unit.{Section, checks_among, most_interfaces, packet_by, packet_of, section_by}
 use Rattle.cap_pcapng.specs.declared.frames.Frame.{Frame}
-use Rattle.cap_io.specs.declared.unit.Held.{Held}
-use Rattle.cap_io.specs.Reading.{part_of}
+use Rattle.cap_io.specs.declared.file_state.PacketSpans.{PacketSpans}
+use Rattle.cap_io.specs.Reading.{span_bytes}
 
 -- the same section with these interfaces
 abbrev pub section_of : Order → List Described → Section
 section_of order interfaces = record { order = order; interfaces = interfaces }
 
 -- what is held of a packet with these data and options, in this byte order
-abbrev pub packet_in : Order → List Described → Held → (bytes options : List ℕ) → Option Captured
-packet_in order interfaces held bytes options =
-    option_map (λ (i : Described). packet_of i held.time held.orig bytes (comment_in order options)) (slice_get interfaces held.interface)
+abbrev pub packet_in : Order → List Described → PacketSpans → (bytes options : List ℕ) → Option Captured
+packet_in order interfaces spans bytes options =
+    option_map (λ (i : Described). packet_of i spans.time spans.orig bytes (comment_in order options)) (slice_get interfaces spans.interface)
 
 -- the packet of a block of so many bytes, whose data are at the start of what is left of its body, and its options behind
 -- them
-pub record PacketFound (order : Order) (interfaces : List Described) (parts : Parts) (start size : ℕ) (rest : List ℕ) (held : Held) : Type 0 where
-  pub whole : held.size ≡ size
-  pub known : is_some (slice_get interfaces held.interface) ≡ true
-  pub from : held.bytes.start ≡ start
+pub record PacketFound (order : Order) (interfaces : List Described) (parts : Parts) (start size : ℕ) (rest : List ℕ) (spans : PacketSpans) : Type 0 where
+  pub whole : spans.size ≡ size
+  pub known : is_some (slice_get interfaces spans.interface) ≡ true
+  pub from : spans.bytes.start ≡ start
   pub packet : Captured
   pub stands : packet_by interfaces parts ≡ Some packet
-  pub is_lent : packet_in order interfaces held (take held.bytes.length rest) (take held.options.length (drop (held.options.start - held.bytes.start) rest)) ≡ Some packet
-  pub there : held.bytes.length ≤ length rest
-  pub behind : held.bytes.start ≤ held.options.start
-  pub options : held.options.start - held.bytes.start + held.options.length ≤ length rest
-  pub time : held.time < 2 ^ 63
+  pub is_lent : packet_in order interfaces spans (take spans.bytes.length rest) (take spans.options.length (drop (spans.options.start - spans.bytes.start) rest)) ≡ Some packet
+  pub there : spans.bytes.length ≤ length rest
+  pub behind : spans.bytes.start ≤ spans.options.start
+  pub options : spans.options.start - spans.bytes.start + spans.options.length ≤ length rest
+  pub time : spans.time < 2 ^ 63
 
 -- the packet of a block
-pub record PacketStands (order : Order) (interfaces : List Described) (parts : Parts) (block : List ℕ) (held : Held) : Type 0 where
+pub record PacketStands (order : Order) (interfaces : List Described) (parts : Parts) (block : List ℕ) (spans : PacketSpans) : Type 0 where
   pub packet : Captured
   pub stands : packet_by interfaces parts ≡ Some packet
-  pub is_lent : packet_in order interfaces held (part_of held.bytes block) (part_of held.options block) ≡ Some packet
+  pub is_lent : packet_in order interfaces spans (span_bytes spans.bytes block) (span_bytes spans.options block) ≡ Some packet
 
-abbrev pub PacketIfAny : Order → List Described → Parts → List ℕ → Option Held → Type 0
+abbrev pub PacketIfAny : Order → List Described → Parts → List ℕ → Option PacketSpans → Type 0
 PacketIfAny order interfaces parts block None = packet_by interfaces parts ≡ None
-PacketIfAny order interfaces parts block (Some held) = PacketStands order interfaces parts block held
+PacketIfAny order interfaces parts block (Some spans) = PacketStands order interfaces parts block spans
 
 -- what is held of it is in the block
-abbrev pub FitsIfAny : Option Held → ℕ → Type 0
+abbrev pub FitsIfAny : Option PacketSpans → ℕ → Type 0
 FitsIfAny None size = Unit {0}
-FitsIfAny (Some held) size = (held.size ≡ size) × (held.bytes.start + held.bytes.length ≤ size) × (held.time < 2 ^ 63) × (held.options.start + held.options.length ≤ size)
+FitsIfAny (Some spans) size = (spans.size ≡ size) × (spans.bytes.start + spans.bytes.length ≤ size) × (spans.time < 2 ^ 63) × (spans.options.start + spans.options.length ≤ size)
 
 -- and the interface of its packet is known
-abbrev pub KnowsIfAny : List Described → Option Held → Type 0
+abbrev pub KnowsIfAny : List Described → Option PacketSpans → Type 0
 KnowsIfAny interfaces None = Unit {0}
-KnowsIfAny interfaces (Some held) = is_some (slice_get interfaces held.interface) ≡ true
+KnowsIfAny interfaces (Some spans) = is_some (slice_get interfaces spans.interface) ≡ true
 
 -- a block passed all of its checks, and the table of interfaces is that behind it
-pub record Enters (frame : Frame) (interfaces : List Described) (block : List ℕ) (held : Option Held) (interfaces' : List Described) : Type 0 where
+pub record Enters (frame : Frame) (interfaces : List Described) (block : List ℕ) (spans : Option PacketSpans) (interfaces' : List Described) : Type 0 where
   pub passes : first_failing (block_checks frame block) ≡ None
   pub among : first_failing (checks_among interfaces (parts_in frame block)) ≡ None
   pub section : section_by (Some (section_of frame.order interfaces)) frame.order (parts_in frame block) ≡ section_of frame.order interfaces'
-  pub packet : PacketIfAny frame.order interfaces (parts_in frame block) block held
-  pub fits : FitsIfAny held frame.length
-  pub known : KnowsIfAny interfaces' held
+  pub packet : PacketIfAny frame.order interfaces (parts_in frame block) block spans
+  pub fits : FitsIfAny spans frame.length
+  pub known : KnowsIfAny interfaces' spans
 
 -- the first check that a block fails, or out of memory
 abbrev pub IsEntryFault : Frame → List Described → List ℕ → Fault → Type 0
@@ -76,7 +76,7 @@ IsEntryFault frame interfaces block fault =
 
 -- What a block's refusal by itself tells behind these interfaces: that there are as many as may be comes before what its
 -- options tell.
-abbrev pub told_behind : List Described → Fault → Fault
-told_behind interfaces BadOption = if nat_lt (length interfaces) most_interfaces then BadOption else TooManyInterfaces
-told_behind interfaces BadTimeResolution = if nat_lt (length interfaces) most_interfaces then BadTimeResolution else TooManyInterfaces
-told_behind interfaces fault = fault
+abbrev pub fault_among : List Described → Fault → Fault
+fault_among interfaces BadOption = if nat_lt (length interfaces) most_interfaces then BadOption else TooManyInterfaces
+fault_among interfaces BadTimeResolution = if nat_lt (length interfaces) most_interfaces then BadTimeResolution else TooManyInterfaces
+fault_among interfaces fault = fault

@@ -4,11 +4,11 @@ use Rattle.std.specs.List.{slice_get}
 use Rattle.std.specs.Option.{option_map, option_or}
 use Rattle.cap_octet.specs.Packet.{Captured}
 use Rattle.cap_octet.specs.declared.fault.Fault.{Fault}
-use Rattle.cap_pcap.specs.Header.{IsHeader, head_fault, head_in}
+use Rattle.cap_pcap.specs.Header.{IsHeader, header_fault, header_in}
 use Rattle.cap_pcap.specs.Record.{IsRecord, record_fault, record_size, packet_in}
-use Rattle.cap_pcap.specs.declared.head.Head.{Head}
-use Rattle.cap_pcap.specs.declared.head.Resolution.{Resolution}
-use Rattle.cap_pcap.specs.declared.head.Resolution.TheVariants.{Microseconds, Nanoseconds}
+use Rattle.cap_pcap.specs.declared.header.Head.{Head}
+use Rattle.cap_pcap.specs.declared.header.Resolution.{Resolution}
+use Rattle.cap_pcap.specs.declared.header.Resolution.TheVariants.{Microseconds, Nanoseconds}
 use Rattle.cap_pcapng.specs.Frame.{is_section}
 use Rattle.cap_pcapng.specs.Interface.{Described}
 use Rattle.cap_pcapng.specs.Unit.{IsBlock, Section, block_size, packets_in, section_after, unit_fault}
@@ -25,12 +25,12 @@ pub data Declared : Type 0 where
   PcapngFile : (first : Option ℕ) → (section : Section) → Declared
 
 -- the first link type of a file behind a block: the one before it, else that of the section's first interface
-abbrev pub first_after : Option ℕ → Section → Option ℕ
-first_after first section = option_or first (option_map (λ (i : Described). i.link) (slice_get section.interfaces 0))
+abbrev pub first_link_after : Option ℕ → Section → Option ℕ
+first_link_after first section = option_or first (option_map (λ (i : Described). i.link) (slice_get section.interfaces 0))
 
 -- what is declared behind a block
 abbrev pub file_after : Option ℕ → Option Section → List ℕ → Declared
-file_after first before bytes = PcapngFile (first_after first (section_after before bytes)) (section_after before bytes)
+file_after first before bytes = PcapngFile (first_link_after first (section_after before bytes)) (section_after before bytes)
 
 -- These bytes are one unit and hold these packets, given what was declared before it and what is after it.
 pub data IsUnit : Declared → List ℕ → List Captured → Declared → Type 0 where
@@ -70,7 +70,7 @@ pub data Front : Type 0 where
   Stops : (why : Option Fault) → Front
 
 abbrev pub front_of_header : Option Fault → List ℕ → Front
-front_of_header None text = Whole 24 [] (PcapFile (head_in text))
+front_of_header None text = Whole 24 [] (PcapFile (header_in text))
 front_of_header (Some fault) text = Stops (Some fault)
 
 abbrev pub front_of_record : Option Fault → Head → List ℕ → Front
@@ -89,7 +89,7 @@ is_pcapng text = nat_le 4 (length text) && is_section text
 
 abbrev pub front_of_file : Bool → List ℕ → Front
 front_of_file true text = front_of_block (unit_fault None text) None None text
-front_of_file false text = front_of_header (head_fault text) text
+front_of_file false text = front_of_header (header_fault text) text
 
 -- An empty rest is an end only behind a unit.
 abbrev pub front_of : Declared → List ℕ → Front

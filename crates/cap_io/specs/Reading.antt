@@ -9,30 +9,30 @@ use Rattle.cap_octet.specs.Checks.{checked, first_failing}
 use Rattle.cap_octet.specs.declared.number.Order.{Order}
 use Rattle.cap_octet.specs.declared.device.Input.{Ghosts}
 use Rattle.cap_pcap.specs.Header.{IsHeader, form_in}
-use Rattle.cap_pcap.specs.Record.{field_checks, most_captured, record_head_in, record_size}
+use Rattle.cap_pcap.specs.Record.{field_checks, most_captured, record_header_in, record_size}
 use Rattle.cap_pcapng.specs.Comment.{comment_in}
 use Rattle.cap_pcapng.specs.Frame.{frame_checks, is_section, most_block}
-use Rattle.cap_pcapng.specs.Interface.{Described}
+use Rattle.cap_pcapng.specs.Interface.{Described, FitSection}
 use Rattle.cap_pcapng.specs.Unit.{Section, block_size, order_before, packet_of}
-use Rattle.cap_pcap.specs.declared.head.Head.{Head}
-use Rattle.cap_pcap.specs.declared.head.RecordHead.{RecordHead}
-use Rattle.cap_io.specs.declared.unit.Came.{Came}
-use Rattle.cap_io.specs.declared.unit.Came.TheVariants as came
-use Rattle.cap_io.specs.declared.unit.Held.{Held}
-use Rattle.cap_io.specs.declared.unit.Savefile.{Savefile}
-use Rattle.cap_io.specs.declared.unit.Span.{Span}
-use Rattle.cap_io.specs.declared.unit.Savefile.TheVariants as savefile
-use Rattle.cap_io.specs.Capture.{Declared, Nothing, PcapFile, PcapngFile, IsUnit, Front, Whole, Stops, first_after, front_of, is_pcapng}
+use Rattle.cap_pcap.specs.declared.header.Head.{Head}
+use Rattle.cap_pcap.specs.declared.header.RecordHead.{RecordHead}
+use Rattle.cap_io.specs.declared.file_state.NextUnit.{NextUnit}
+use Rattle.cap_io.specs.declared.file_state.NextUnit.TheVariants as next_unit
+use Rattle.cap_io.specs.declared.file_state.PacketSpans.{PacketSpans}
+use Rattle.cap_io.specs.declared.file_state.FileState.{FileState}
+use Rattle.cap_io.specs.declared.file_state.Span.{Span}
+use Rattle.cap_io.specs.declared.file_state.FileState.TheVariants as state
+use Rattle.cap_io.specs.Capture.{Declared, Nothing, PcapFile, PcapngFile, IsUnit, Front, Whole, Stops, first_link_after, front_of, is_pcapng}
 
 -- how many bytes a unit may have
 abbrev pub most_in_unit : ℕ
 most_in_unit = most_block
 
 -- how often the device failed in a call: only a failed read tells that it did
-abbrev pub failures_told : {X : Type 0} → Result X Fault → ℕ
-failures_told (Ok value) = 0
-failures_told (Err ReadFailed) = 1
-failures_told (Err fault) = 0
+abbrev pub read_failures : {X : Type 0} → Result X Fault → ℕ
+read_failures (Ok value) = 0
+read_failures (Err ReadFailed) = 1
+read_failures (Err fault) = 0
 
 -- What reading a unit, or what follows its first `front` bytes, did to a device: with them `count` bytes came, or at most
 -- `most` on an error. A failed read is told exactly where the device failed in this call.
@@ -40,8 +40,8 @@ pub record Moves {I X : Type 0} (device : Ghosts I) (old new : I) (front : ℕ) 
   pub counted : IfOk r (λ x. device.given new + front ≡ device.given old + count x)
   pub grown : device.given old ≤ device.given new
   pub bounded : IfOk r (λ x. front < count x → device.given new < 2 ^ 63)
-  pub few : IfErr r (λ _. device.given new + front ≤ device.given old + most)
-  pub failed : device.failures new ≡ device.failures old + failures_told r
+  pub at_most : IfErr r (λ _. device.given new + front ≤ device.given old + most)
+  pub failed : device.failures new ≡ device.failures old + read_failures r
   pub never : device.never_fails new ≡ device.never_fails old
 
 -- how many bytes are taken at most of a text that begins so: no more than its unit
@@ -78,7 +78,7 @@ pub record IsTaken (declared : Declared) (unread unread' : List ℕ) (fault : Fa
 abbrev pub IsReason : Declared → List ℕ → Fault → Type 0
 IsReason declared unread fault = (front_of declared unread ≡ Stops (Some fault)) ⊎ (fault ≡ ReadFailed) ⊎ (fault ≡ NoMemory)
 
-pub record Refuses (declared : Declared) (unread unread' : List ℕ) (fault : Fault) : Type 0 where
+pub record NoUnitCame (declared : Declared) (unread unread' : List ℕ) (fault : Fault) : Type 0 where
   pub why : IsReason declared unread fault
   pub taken : IsTaken declared unread unread' fault
 
@@ -110,73 +110,75 @@ pub record HeaderCame (unread : List ℕ) (head : Head) (unread' : List ℕ) : T
 
 -- ---- what is declared, as a source holds it
 
-abbrev pub declared_by : Savefile → List Described → Declared
-declared_by savefile.Unknown interfaces = Nothing
-declared_by (savefile.Pcap head) interfaces = PcapFile head
-declared_by (savefile.Pcapng order first) interfaces = PcapngFile first (record { order = order; interfaces = interfaces })
+abbrev pub declared_by : FileState → List Described → Declared
+declared_by state.Unknown interfaces = Nothing
+declared_by (state.Pcap head) interfaces = PcapFile head
+declared_by (state.Pcapng order first) interfaces = PcapngFile first (record { order = order; interfaces = interfaces })
 
 -- the byte order of the current section, and the first link type
-abbrev pub order_held : Savefile → Option Order
-order_held savefile.Unknown = None
-order_held (savefile.Pcap head) = None
-order_held (savefile.Pcapng order first) = Some order
+abbrev pub known_order : FileState → Option Order
+known_order state.Unknown = None
+known_order (state.Pcap head) = None
+known_order (state.Pcapng order first) = Some order
 
-abbrev pub first_link_held : Savefile → Option ℕ
-first_link_held savefile.Unknown = None
-first_link_held (savefile.Pcap head) = Some head.link
-first_link_held (savefile.Pcapng order first) = first
+abbrev pub known_first_link : FileState → Option ℕ
+known_first_link state.Unknown = None
+known_first_link (state.Pcap head) = Some head.link
+known_first_link (state.Pcapng order first) = first
 
--- Before anything is read there is no interface, and the first link type of a file is known once its section has one.
-abbrev pub IsTold : Savefile → List Described → Type 0
-IsTold savefile.Unknown interfaces = interfaces ≡ []
-IsTold (savefile.Pcap head) interfaces = Unit {0}
-IsTold (savefile.Pcapng order first) interfaces = first_after first (record { order = order; interfaces = interfaces }) ≡ first
+-- Before anything is read there is no interface. A section has no more than may be, and the first link type of a file is
+-- known once its section has one.
+abbrev pub IsConsistent : FileState → List Described → Type 0
+IsConsistent state.Unknown interfaces = interfaces ≡ []
+IsConsistent (state.Pcap head) interfaces = Unit {0}
+IsConsistent (state.Pcapng order first) interfaces =
+    (first_link_after first (record { order = order; interfaces = interfaces }) ≡ first) × FitSection interfaces
 
 -- ---- the current packet
 
 -- these bytes of a text
-abbrev pub part_of : Span → List ℕ → List ℕ
-part_of span text = take span.length (drop span.start text)
+abbrev pub span_bytes : Span → List ℕ → List ℕ
+span_bytes span text = take span.length (drop span.start text)
 
 -- its unit lies in the buffer, and its data and its options in its unit
-pub record IsHeld (held : Held) (buffer : List ℕ) : Type 0 where
-  pub bytes : held.bytes.start + held.bytes.length ≤ held.size
-  pub options : held.options.start + held.options.length ≤ held.size
-  pub there : held.size ≤ length buffer
-  pub some : 0 < held.size
-  pub small : held.size ≤ most_in_unit
-  pub time : held.time < 2 ^ 63
+pub record FitsBuffer (spans : PacketSpans) (buffer : List ℕ) : Type 0 where
+  pub bytes : spans.bytes.start + spans.bytes.length ≤ spans.size
+  pub options : spans.options.start + spans.options.length ≤ spans.size
+  pub there : spans.size ≤ length buffer
+  pub some : 0 < spans.size
+  pub small : spans.size ≤ most_in_unit
+  pub time : spans.time < 2 ^ 63
 
-abbrev pub packet_held : Declared → Held → List ℕ → Option Captured
-packet_held Nothing held block = None
-packet_held (PcapFile head) held block = Some (record {
+abbrev pub packet_in_unit : Declared → PacketSpans → List ℕ → Option Captured
+packet_in_unit Nothing spans block = None
+packet_in_unit (PcapFile head) spans block = Some (record {
   link = head.link;
   snap = head.snap;
   name = [];
-  time = held.time;
-  orig = held.orig;
-  bytes = part_of held.bytes block;
+  time = spans.time;
+  orig = spans.orig;
+  bytes = span_bytes spans.bytes block;
   comment = [];
 })
-packet_held (PcapngFile first section) held block =
+packet_in_unit (PcapngFile first section) spans block =
     option_map
-    (λ (i : Described). packet_of i held.time held.orig (part_of held.bytes block) (comment_in section.order (part_of held.options block)))
-    (slice_get section.interfaces held.interface)
+    (λ (i : Described). packet_of i spans.time spans.orig (span_bytes spans.bytes block) (comment_in section.order (span_bytes spans.options block)))
+    (slice_get section.interfaces spans.interface)
 
 -- its interface is known
-abbrev pub HasInterface : Declared → Held → Type 0
-HasInterface Nothing held = ⊥
-HasInterface (PcapFile head) held = Unit {0}
-HasInterface (PcapngFile first section) held = is_some (slice_get section.interfaces held.interface) ≡ true
+abbrev pub HasInterface : Declared → PacketSpans → Type 0
+HasInterface Nothing spans = ⊥
+HasInterface (PcapFile head) spans = Unit {0}
+HasInterface (PcapngFile first section) spans = is_some (slice_get section.interfaces spans.interface) ≡ true
 
-abbrev pub HasInterfaceIfAny : Declared → Held → Came → Type 0
-HasInterfaceIfAny declared held (came.Passed size) = Unit {0}
-HasInterfaceIfAny declared held came.Packet = HasInterface declared held
-HasInterfaceIfAny declared held came.End = Unit {0}
+abbrev pub HasInterfaceIfAny : Declared → PacketSpans → NextUnit → Type 0
+HasInterfaceIfAny declared spans (next_unit.Other size) = Unit {0}
+HasInterfaceIfAny declared spans next_unit.Packet = HasInterface declared spans
+HasInterfaceIfAny declared spans next_unit.End = Unit {0}
 
 -- where the packet of a record lies
-abbrev pub held_of_record : RecordHead → Held
-held_of_record found = record {
+abbrev pub record_spans : RecordHead → PacketSpans
+record_spans found = record {
   size = 16 + found.captured;
   bytes = record { start = 16; length = found.captured };
   options = record { start = 16; length = 0 };
@@ -187,7 +189,7 @@ held_of_record found = record {
 
 -- A record that fails no check was taken from what the device had at hand, to the start of the buffer.
 pub record RecordTaken {I : Type 0} (device : Ghosts I) (head : Head) (old : I) (buffer : List ℕ) (found : RecordHead) (new : I) : Type 0 where
-  pub says : checked (first_failing (field_checks head (take 16 buffer))) (record_head_in head (take 16 buffer)) ≡ Ok found
+  pub says : checked (first_failing (field_checks head (take 16 buffer))) (record_header_in head (take 16 buffer)) ≡ Ok found
   pub short : found.captured ≤ most_captured
   pub in_range : found.time < 2 ^ 63
   pub there : 16 + found.captured ≤ length buffer
@@ -214,12 +216,12 @@ pub record UnitPassed (declared : Declared) (unread : List ℕ) (size : ℕ) (de
   pub splits : unread ≡ bytes ++ unread'
 
 -- a unit with a packet came, and is at the start of the buffer
-pub record PacketCame (declared : Declared) (unread buffer : List ℕ) (held : Held) (declared' : Declared) (unread' : List ℕ) : Type 0 where
+pub record PacketCame (declared : Declared) (unread buffer : List ℕ) (spans : PacketSpans) (declared' : Declared) (unread' : List ℕ) : Type 0 where
   pub packet : Captured
-  pub is_lent : packet_held declared held (take held.size buffer) ≡ Some packet
-  pub unit : IsUnit declared (take held.size buffer) (packet ∷ []) declared
+  pub is_lent : packet_in_unit declared spans (take spans.size buffer) ≡ Some packet
+  pub unit : IsUnit declared (take spans.size buffer) (packet ∷ []) declared
   pub same : declared' ≡ declared
-  pub splits : unread ≡ take held.size buffer ++ unread'
+  pub splits : unread ≡ take spans.size buffer ++ unread'
 
 -- nothing is left behind a unit
 pub record EndCame (declared : Declared) (unread : List ℕ) (declared' : Declared) (unread' : List ℕ) : Type 0 where
@@ -228,44 +230,44 @@ pub record EndCame (declared : Declared) (unread : List ℕ) (declared' : Declar
   pub same : declared' ≡ declared
   pub rest : unread' ≡ []
 
-abbrev pub UnitCame : Declared → List ℕ → List ℕ → Held → Came → Declared → List ℕ → Type 0
-UnitCame declared unread buffer held (came.Passed size) declared' unread' = UnitPassed declared unread size declared' unread'
-UnitCame declared unread buffer held came.Packet declared' unread' = PacketCame declared unread buffer held declared' unread'
-UnitCame declared unread buffer held came.End declared' unread' = EndCame declared unread declared' unread'
+abbrev pub UnitCame : Declared → List ℕ → List ℕ → PacketSpans → NextUnit → Declared → List ℕ → Type 0
+UnitCame declared unread buffer spans (next_unit.Other size) declared' unread' = UnitPassed declared unread size declared' unread'
+UnitCame declared unread buffer spans next_unit.Packet declared' unread' = PacketCame declared unread buffer spans declared' unread'
+UnitCame declared unread buffer spans next_unit.End declared' unread' = EndCame declared unread declared' unread'
 
 -- how many bytes it has
-abbrev pub size_of : Held → Came → ℕ
-size_of held (came.Passed size) = size
-size_of held came.Packet = held.size
-size_of held came.End = 0
+abbrev pub size_of : PacketSpans → NextUnit → ℕ
+size_of spans (next_unit.Other size) = size
+size_of spans next_unit.Packet = spans.size
+size_of spans next_unit.End = 0
 
 -- what holds of it on any device
-abbrev pub IsSized : Held → Came → List ℕ → ℕ → Type 0
-IsSized held (came.Passed size) buffer given = (0 < size) × (given < 2 ^ 63)
-IsSized held came.Packet buffer given = IsHeld held buffer × (given < 2 ^ 63)
-IsSized held came.End buffer given = Unit {0}
+abbrev pub IsSized : PacketSpans → NextUnit → List ℕ → ℕ → Type 0
+IsSized spans (next_unit.Other size) buffer given = (0 < size) × (given < 2 ^ 63)
+IsSized spans next_unit.Packet buffer given = FitsBuffer spans buffer × (given < 2 ^ 63)
+IsSized spans next_unit.End buffer given = Unit {0}
 
 -- ---- what is read
 
 -- the section in front of a block of such a file
-abbrev pub section_before : Savefile → List Described → Option Section
-section_before savefile.Unknown interfaces = None
-section_before (savefile.Pcap head) interfaces = None
-section_before (savefile.Pcapng order first) interfaces = Some (record { order = order; interfaces = interfaces })
+abbrev pub section_before : FileState → List Described → Option Section
+section_before state.Unknown interfaces = None
+section_before (state.Pcap head) interfaces = None
+section_before (state.Pcapng order first) interfaces = Some (record { order = order; interfaces = interfaces })
 
 -- these bytes begin a block: a section header where nothing was read, and any block behind a section
-abbrev pub BeginsBlock : Savefile → List ℕ → Type 0
-BeginsBlock savefile.Unknown front = is_section front ≡ true
-BeginsBlock (savefile.Pcap head) front = ⊥
-BeginsBlock (savefile.Pcapng order first) front = Unit {0}
+abbrev pub BeginsBlock : FileState → List ℕ → Type 0
+BeginsBlock state.Unknown front = is_section front ≡ true
+BeginsBlock (state.Pcap head) front = ⊥
+BeginsBlock (state.Pcapng order first) front = Unit {0}
 
 -- What reading a unit whose first bytes had come did: to the device, to the buffer, to where a packet lies in it, and to
 -- what is known of the file. A fault leaves what is known.
-pub record ReadsUnit {I : Type 0} (device : Ghosts I) (old : I) (front : List ℕ) (file : Savefile) (interfaces : List Described) (r : Result Came Fault) (new : I) (buffer : List ℕ) (held : Held) (file' : Savefile) (interfaces' : List Described) : Type 0 where
-  pub moves : Moves device old new (length front) (size_of held) most_in_unit r
-  pub sized : IfOk r (λ came. IsSized held came buffer (device.given new))
-  pub told : OnOk r (IsTold file' interfaces')
-  pub known : IfOk r (HasInterfaceIfAny (declared_by file' interfaces') held)
-  pub ok : IfOk r (λ came. IsTrue device.tells → UnitCame (declared_by file interfaces) (front ++ device.unread old) buffer held came (declared_by file' interfaces') (device.unread new))
-  pub err : IfErr r (λ fault. IsTrue device.tells → Refuses (declared_by file interfaces) (front ++ device.unread old) (device.unread new) fault)
+pub record ReadsUnit {I : Type 0} (device : Ghosts I) (old : I) (front : List ℕ) (file : FileState) (interfaces : List Described) (r : Result NextUnit Fault) (new : I) (buffer : List ℕ) (spans : PacketSpans) (file' : FileState) (interfaces' : List Described) : Type 0 where
+  pub moves : Moves device old new (length front) (size_of spans) most_in_unit r
+  pub sized : IfOk r (λ came. IsSized spans came buffer (device.given new))
+  pub consistent : OnOk r (IsConsistent file' interfaces')
+  pub known : IfOk r (HasInterfaceIfAny (declared_by file' interfaces') spans)
+  pub ok : IfOk r (λ came. IsTrue device.tells → UnitCame (declared_by file interfaces) (front ++ device.unread old) buffer spans came (declared_by file' interfaces') (device.unread new))
+  pub err : IfErr r (λ fault. IsTrue device.tells → NoUnitCame (declared_by file interfaces) (front ++ device.unread old) (device.unread new) fault)
   pub kept : OnErr r ((file' ≡ file) × (interfaces' ≡ interfaces))

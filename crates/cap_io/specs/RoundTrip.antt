@@ -6,7 +6,7 @@ use Rattle.cap_octet.specs.declared.format.Format.TheVariants.{Pcap, NsecPcap, P
 use Rattle.cap_pcap.specs.Record.{most_captured}
 use Rattle.cap_pcapng.specs.Unit.{most_interfaces}
 use Rattle.cap_io.specs.Capture.{Placed, End, items}
-use Rattle.cap_io.specs.Text.{interfaces_of, refused, text}
+use Rattle.cap_io.specs.Text.{interfaces_of, refusal_of, text}
 
 -- each field of a packet is in its range
 pub record InRange (p : Captured) : Type 0 where
@@ -25,16 +25,16 @@ pub record IsPlain (p : Captured) : Type 0 where
   pub comment : p.comment ≡ []
 
 -- A format keeps all of a packet.
-abbrev pub Keeps : Format → Captured → Type 0
-Keeps Pcap p = IsPlain p × (p.time % 1000 ≡ 0)
-Keeps NsecPcap p = IsPlain p
-Keeps Pcapng p = Unit {0}
+abbrev pub IsLossless : Format → Captured → Type 0
+IsLossless Pcap p = IsPlain p × (p.time % 1000 ≡ 0)
+IsLossless NsecPcap p = IsPlain p
+IsLossless Pcapng p = Unit {0}
 
 -- a packet that comes after these
 pub record IsCarried (format : Format) (earlier : List Captured) (p : Captured) : Type 0 where
   pub in_range : InRange p
-  pub kept : Keeps format p
-  pub taken : refused format earlier p ≡ None
+  pub kept : IsLossless format p
+  pub taken : refusal_of format earlier p ≡ None
 
 -- as many interfaces as are read of a section
 abbrev pub HasFewInterfaces : Format → List Captured → Type 0
@@ -44,7 +44,7 @@ HasFewInterfaces Pcapng ps = length (interfaces_of ps) ≤ most_interfaces
 
 pub record Carries (format : Format) (ps : List Captured) : Type 0 where
   pub each : (earlier : List Captured) (p : Captured) (later : List Captured) → ps ≡ earlier ++ p ∷ later → IsCarried format earlier p
-  pub few : HasFewInterfaces format ps
+  pub interfaces : HasFewInterfaces format ps
 
 -- A text holds these packets, and ends cleanly.
 pub record ReadsBack (text : List ℕ) (ps : List Captured) : Type 0 where

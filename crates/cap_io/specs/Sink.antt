@@ -9,14 +9,14 @@ use Rattle.cap_octet.specs.declared.format.Format.{Format}
 use Rattle.cap_octet.specs.declared.format.Format.TheVariants.{Pcap, NsecPcap, Pcapng}
 use Rattle.cap_octet.specs.Checks.{first_failing}
 use Rattle.cap_pcap.specs.Encoding as pcap
-use Rattle.cap_pcap.specs.declared.head.Resolution.TheVariants.{Microseconds, Nanoseconds}
+use Rattle.cap_pcap.specs.declared.header.Resolution.TheVariants.{Microseconds, Nanoseconds}
 use Rattle.cap_pcapng.specs.Encoding as pcapng
 use Rattle.cap_octet.specs.declared.device.DeviceFault.{DeviceFault}
 use Rattle.cap_octet.specs.declared.device.Output.{Ghosts}
-use Rattle.cap_io.specs.declared.numbering.Place.{Place}
+use Rattle.cap_io.specs.declared.numbering.InterfaceNumber.{InterfaceNumber}
 use Rattle.cap_io.specs.declared.sink.SinkState.{SinkState}
 use Rattle.cap_io.specs.declared.sink.SinkState.TheVariants.{Empty, Started, Broken}
-use Rattle.cap_io.specs.Text.{AreFew, Interface, interface_of, interfaces_of, is_among, new_among, number_among, most_output_interfaces, heading, record_text, descriptions, text, added, refused}
+use Rattle.cap_io.specs.Text.{FitFile, Interface, interface_of, interfaces_of, is_among, new_among, number_among, most_output_interfaces, file_start, record_text, descriptions, text, added_text, refusal_of}
 
 pub record SinkView : Type 0 where
   pub format : Format
@@ -82,17 +82,17 @@ state_put packets p (Err fault) = Broken fault
 
 -- The interfaces that are left of those before a packet and those behind it: it is numbered before its bytes are
 -- written, so where the device fails they are those behind it.
-abbrev pub interfaces_left : Result (Unit {0}) Fault → (before behind : List Interface) → List Interface
-interfaces_left (Ok done) before behind = behind
-interfaces_left (Err WriteFailed) before behind = behind
-interfaces_left (Err fault) before behind = before
+abbrev pub interfaces_after_put : Result (Unit {0}) Fault → (before behind : List Interface) → List Interface
+interfaces_after_put (Ok done) before behind = behind
+interfaces_after_put (Err WriteFailed) before behind = behind
+interfaces_after_put (Err fault) before behind = before
 
 -- what a put does to a sink that these packets were put to, whatever the device
 pub record PutsAfter (packets : List Captured) (old : SinkView) (p : Captured) (r : Result (Unit {0}) Fault) (new : SinkView) : Type 0 where
-  pub answer : IsPutAnswer (refused old.format packets p) (takes_memory old.format packets p) r
+  pub answer : IsPutAnswer (refusal_of old.format packets p) (takes_memory old.format packets p) r
   pub state : new.state ≡ state_put packets p r
-  pub interfaces : new.interfaces ≡ interfaces_left r (kept_interfaces old.format packets) (kept_interfaces old.format (packets ++ p ∷ []))
-  pub few : AreFew new.interfaces
+  pub interfaces : new.interfaces ≡ interfaces_after_put r (kept_interfaces old.format packets) (kept_interfaces old.format (packets ++ p ∷ []))
+  pub bounds : FitFile new.interfaces
   pub format : new.format ≡ old.format
   pub failures : new.failures ≡ old.failures + write_failures r
   pub room : new.room ≡ old.room
@@ -111,14 +111,14 @@ WritesPacket (Some refusal) bytes written (Err fault) written' = written' ≡ wr
 WritesPacket None bytes written (Err fault) written' = BreaksOff fault bytes written written'
 
 -- a sink that failed returns that again, and stays
-abbrev pub Puts : SinkState → SinkView → Captured → Result (Unit {0}) Fault → SinkView → Type 0
-Puts Empty old p r new = (packets : List Captured) → HasPut old packets → PutsAfter packets old p r new
-Puts (Started link) old p r new = (packets : List Captured) → HasPut old packets → PutsAfter packets old p r new
-Puts (Broken fault) old p r new = (r ≡ Err fault) × (new ≡ old)
+abbrev pub PutsPacket : SinkState → SinkView → Captured → Result (Unit {0}) Fault → SinkView → Type 0
+PutsPacket Empty old p r new = (packets : List Captured) → HasPut old packets → PutsAfter packets old p r new
+PutsPacket (Started link) old p r new = (packets : List Captured) → HasPut old packets → PutsAfter packets old p r new
+PutsPacket (Broken fault) old p r new = (r ≡ Err fault) × (new ≡ old)
 
 abbrev pub PutWrites : SinkState → SinkView → Captured → Result (Unit {0}) Fault → SinkView → Type 0
-PutWrites Empty old p r new = (packets : List Captured) → HasPut old packets → WritesPacket (refused old.format packets p) (added old.format packets p) old.written r new.written
-PutWrites (Started link) old p r new = (packets : List Captured) → HasPut old packets → WritesPacket (refused old.format packets p) (added old.format packets p) old.written r new.written
+PutWrites Empty old p r new = (packets : List Captured) → HasPut old packets → WritesPacket (refusal_of old.format packets p) (added_text old.format packets p) old.written r new.written
+PutWrites (Started link) old p r new = (packets : List Captured) → HasPut old packets → WritesPacket (refusal_of old.format packets p) (added_text old.format packets p) old.written r new.written
 PutWrites (Broken fault) old p r new = new ≡ old
 
 -- ---- finish
@@ -153,7 +153,7 @@ Finishes (Broken fault) old first r new = (r ≡ Err fault) × (new ≡ old)
 
 -- the file header or section header is written where nothing was put, or a beginning of it, not the whole
 abbrev pub FinishWrites : SinkState → SinkView → Option ℕ → Result (Unit {0}) Fault → SinkView → Type 0
-FinishWrites Empty old first r new = AppendsOrStops r old.written (heading old.format (link_or_ethernet first)) new.written
+FinishWrites Empty old first r new = AppendsOrStops r old.written (file_start old.format (link_or_ethernet first)) new.written
 FinishWrites (Started link) old first r new = new ≡ old
 FinishWrites (Broken fault) old first r new = new ≡ old
 
@@ -187,10 +187,10 @@ takes_memory_in NsecPcap interfaces p = false
 takes_memory_in Pcapng interfaces p = not (is_among interfaces (interface_of p))
 
 -- the file header or section header is written in front of the first packet
-abbrev pub heading_in : Format → SinkState → ℕ → List ℕ
-heading_in format Empty link = heading format link
-heading_in format (Started first) link = []
-heading_in format (Broken fault) link = []
+abbrev pub file_start_in : Format → SinkState → ℕ → List ℕ
+file_start_in format Empty link = file_start format link
+file_start_in format (Started first) link = []
+file_start_in format (Broken fault) link = []
 
 abbrev pub packet_in : Format → List Interface → Captured → List ℕ
 packet_in Pcap interfaces p = record_text Microseconds p
@@ -199,38 +199,38 @@ packet_in Pcapng interfaces p =
     descriptions (new_among interfaces (interface_of p)) ++ pcapng.packet_text (number_among interfaces (interface_of p)) p
 
 abbrev pub added_in : SinkView → Captured → List ℕ
-added_in sink p = heading_in sink.format sink.state p.link ++ packet_in sink.format sink.interfaces p
+added_in sink p = file_start_in sink.format sink.state p.link ++ packet_in sink.format sink.interfaces p
 
--- a packet of pcapng by the place of its interface
+-- a packet of pcapng by the number of its interface
 abbrev pub description_text : Bool → Captured → List ℕ
 description_text true p = pcapng.interface_text p.link p.snap p.name
 description_text false p = []
 
-abbrev pub block_text : Place → Captured → List ℕ
-block_text place p = description_text place.is_new p ++ pcapng.packet_text place.number p
+abbrev pub block_text : InterfaceNumber → Captured → List ℕ
+block_text interface p = description_text interface.is_new p ++ pcapng.packet_text interface.number p
 
 -- These bytes are appended to a device; or a prefix of them, not the whole, where it failed.
 pub record Appends {Device : Type 0} (d : Ghosts Device) (old : Device) (bytes : List ℕ) (r : Result (Unit {0}) DeviceFault) (new : Device) : Type 0 where
-  pub told : IsTrue d.tells → AppendsOrStops r (d.written old) bytes (d.written new)
+  pub appended : IsTrue d.tells → AppendsOrStops r (d.written old) bytes (d.written new)
   pub failed : d.failures new ≡ d.failures old + failures_of r
   pub room : d.room new ≡ d.room old
 
 -- the state and the interfaces behind a packet
-abbrev pub state_behind : SinkState → Captured → SinkState
-state_behind Empty p = Started p.link
-state_behind (Started link) p = Started link
-state_behind (Broken fault) p = Broken fault
+abbrev pub state_after_packet : SinkState → Captured → SinkState
+state_after_packet Empty p = Started p.link
+state_after_packet (Started link) p = Started link
+state_after_packet (Broken fault) p = Broken fault
 
-abbrev pub interfaces_behind : Format → List Interface → Captured → List Interface
-interfaces_behind Pcap interfaces p = interfaces
-interfaces_behind NsecPcap interfaces p = interfaces
-interfaces_behind Pcapng interfaces p = interfaces ++ new_among interfaces (interface_of p)
+abbrev pub interfaces_after_packet : Format → List Interface → Captured → List Interface
+interfaces_after_packet Pcap interfaces p = interfaces
+interfaces_after_packet NsecPcap interfaces p = interfaces
+interfaces_after_packet Pcapng interfaces p = interfaces ++ new_among interfaces (interface_of p)
 
 -- what adding a packet does to a sink that did not fail, whatever the device
-pub record Adds (old : SinkView) (p : Captured) (r : Result (Unit {0}) Fault) (new : SinkView) : Type 0 where
+pub record AddsPacket (old : SinkView) (p : Captured) (r : Result (Unit {0}) Fault) (new : SinkView) : Type 0 where
   pub answer : IsPutAnswer (refusal_in old p) (takes_memory_in old.format old.interfaces p) r
-  pub state : OnOk r (new.state ≡ state_behind old.state p)
-  pub interfaces : new.interfaces ≡ interfaces_left r old.interfaces (interfaces_behind old.format old.interfaces p)
+  pub state : OnOk r (new.state ≡ state_after_packet old.state p)
+  pub interfaces : new.interfaces ≡ interfaces_after_put r old.interfaces (interfaces_after_packet old.format old.interfaces p)
   pub format : new.format ≡ old.format
   pub failures : new.failures ≡ old.failures + write_failures r
   pub room : new.room ≡ old.room

@@ -2,15 +2,15 @@
 use Rattle.std.specs.Prelude.{◌≡◌, ℕ, ◌+◌, ◌^◌, ◌<◌, ◌≤◌, Bool, true, false, IsTrue, List, [], ◌∷◌, ◌++◌, length, take, Option, None, Some, Result, Ok, Err, OnOk, OnErr, is_some}
 use Rattle.cap_octet.specs.Packet.{Captured}
 use Rattle.cap_octet.specs.declared.fault.Fault.{Fault}
-use Rattle.cap_pcapng.specs.Interface.{AreFew, Described}
+use Rattle.cap_pcapng.specs.Interface.{FitSection, Described}
 use Rattle.cap_io.specs.declared.source.Stage.{Stage}
 use Rattle.cap_io.specs.declared.source.Stage.TheVariants as stage
-use Rattle.cap_io.specs.declared.unit.Came.{Came}
-use Rattle.cap_io.specs.declared.unit.Came.TheVariants as came
-use Rattle.cap_io.specs.declared.unit.Held.{Held}
-use Rattle.cap_io.specs.declared.unit.Savefile.{Savefile}
+use Rattle.cap_io.specs.declared.file_state.NextUnit.{NextUnit}
+use Rattle.cap_io.specs.declared.file_state.NextUnit.TheVariants as next_unit
+use Rattle.cap_io.specs.declared.file_state.PacketSpans.{PacketSpans}
+use Rattle.cap_io.specs.declared.file_state.FileState.{FileState}
 use Rattle.cap_io.specs.Capture.{Declared, Nothing, PcapFile, PcapngFile, IsUnit, AreUnits, Stops, front_of}
-use Rattle.cap_io.specs.Reading.{most_in_unit, failures_told, HasInterface, IsReason, IsTaken, IsHeld, IsTold, declared_by, packet_held}
+use Rattle.cap_io.specs.Reading.{most_in_unit, read_failures, HasInterface, IsReason, IsTaken, FitsBuffer, IsConsistent, declared_by, packet_in_unit}
 
 -- ---- the view
 
@@ -58,24 +58,24 @@ phase_at stage.InHand = Reading
 phase_at stage.Ended = Ended
 phase_at (stage.Failed fault) = Failed fault
 
-abbrev pub block_at : Stage → Held → List ℕ → List ℕ
-block_at stage.Between held buffer = []
-block_at stage.InHand held buffer = take held.size buffer
-block_at stage.Ended held buffer = []
-block_at (stage.Failed fault) held buffer = []
+abbrev pub block_at : Stage → PacketSpans → List ℕ → List ℕ
+block_at stage.Between spans buffer = []
+block_at stage.InHand spans buffer = take spans.size buffer
+block_at stage.Ended spans buffer = []
+block_at (stage.Failed fault) spans buffer = []
 
-abbrev pub packet_at : Stage → Held → Declared → List ℕ → Option Captured
-packet_at stage.Between held declared buffer = None
-packet_at stage.InHand held declared buffer = packet_held declared held (take held.size buffer)
-packet_at stage.Ended held declared buffer = None
-packet_at (stage.Failed fault) held declared buffer = None
+abbrev pub packet_at : Stage → PacketSpans → Declared → List ℕ → Option Captured
+packet_at stage.Between spans declared buffer = None
+packet_at stage.InHand spans declared buffer = packet_in_unit declared spans (take spans.size buffer)
+packet_at stage.Ended spans declared buffer = None
+packet_at (stage.Failed fault) spans declared buffer = None
 
-abbrev pub view_of : Stage → Held → Savefile → List Described → List ℕ → ℕ → List ℕ → ℕ → ℕ → Bool → SourceView
-view_of stage held savefile interfaces buffer offset unread given failures never_fails = record {
+abbrev pub view_of : Stage → PacketSpans → FileState → List Described → List ℕ → ℕ → List ℕ → ℕ → ℕ → Bool → SourceView
+view_of stage spans file interfaces buffer offset unread given failures never_fails = record {
   phase = phase_at stage;
-  declared = declared_by savefile interfaces;
-  packet = packet_at stage held (declared_by savefile interfaces) buffer;
-  block = block_at stage held buffer;
+  declared = declared_by file interfaces;
+  packet = packet_at stage spans (declared_by file interfaces) buffer;
+  block = block_at stage spans buffer;
   offset = offset;
   unread = unread;
   given = given;
@@ -83,30 +83,30 @@ view_of stage held savefile interfaces buffer offset unread given failures never
   never_fails = never_fails;
 }
 
-abbrev pub HoldsIfAny : Stage → Held → List ℕ → Type 0
-HoldsIfAny stage.Between held buffer = Unit {0}
-HoldsIfAny stage.InHand held buffer = IsHeld held buffer
-HoldsIfAny stage.Ended held buffer = Unit {0}
-HoldsIfAny (stage.Failed fault) held buffer = Unit {0}
+abbrev pub HoldsIfAny : Stage → PacketSpans → List ℕ → Type 0
+HoldsIfAny stage.Between spans buffer = Unit {0}
+HoldsIfAny stage.InHand spans buffer = FitsBuffer spans buffer
+HoldsIfAny stage.Ended spans buffer = Unit {0}
+HoldsIfAny (stage.Failed fault) spans buffer = Unit {0}
 
-abbrev pub HasInterfaceIfInHand : Stage → Held → Declared → Type 0
-HasInterfaceIfInHand stage.Between held declared = Unit {0}
-HasInterfaceIfInHand stage.InHand held declared = HasInterface declared held
-HasInterfaceIfInHand stage.Ended held declared = Unit {0}
-HasInterfaceIfInHand (stage.Failed fault) held declared = Unit {0}
+abbrev pub HasInterfaceIfInHand : Stage → PacketSpans → Declared → Type 0
+HasInterfaceIfInHand stage.Between spans declared = Unit {0}
+HasInterfaceIfInHand stage.InHand spans declared = HasInterface declared spans
+HasInterfaceIfInHand stage.Ended spans declared = Unit {0}
+HasInterfaceIfInHand (stage.Failed fault) spans declared = Unit {0}
 
 -- what holds of each source's fields
-pub record IsSound (stage : Stage) (held : Held) (savefile : Savefile) (interfaces : List Described) (offset : ℕ) (buffer : List ℕ) (given : ℕ) : Type 0 where
-  pub fits : offset + length (block_at stage held buffer) < 2 ^ 63
-  pub counted : offset + length (block_at stage held buffer) ≤ given
-  pub lies : HoldsIfAny stage held buffer
-  pub known : HasInterfaceIfInHand stage held (declared_by savefile interfaces)
-  pub told : IsTold savefile interfaces
+pub record IsSound (stage : Stage) (spans : PacketSpans) (file : FileState) (interfaces : List Described) (offset : ℕ) (buffer : List ℕ) (given : ℕ) : Type 0 where
+  pub fits : offset + length (block_at stage spans buffer) < 2 ^ 63
+  pub counted : offset + length (block_at stage spans buffer) ≤ given
+  pub lies : HoldsIfAny stage spans buffer
+  pub known : HasInterfaceIfInHand stage spans (declared_by file interfaces)
+  pub consistent : IsConsistent file interfaces
 
 -- ---- what an advance does
 
 -- The source leaves the current unit and skips these bytes, which are whole units without packets, to `rest`.
-pub record Passes (old new : SourceView) (rest : List ℕ) : Type 0 where
+pub record SkipsUnits (old new : SourceView) (rest : List ℕ) : Type 0 where
   pub passed : List ℕ
   pub splits : old.unread ≡ passed ++ rest
   pub units : AreUnits old.declared (old.offset + length old.block) passed [] new.declared
@@ -114,7 +114,7 @@ pub record Passes (old new : SourceView) (rest : List ℕ) : Type 0 where
 
 -- the next packet is current
 pub record FindsPacket (old new : SourceView) : Type 0 where
-  pub passes : Passes old new (new.block ++ new.unread)
+  pub passes : SkipsUnits old new (new.block ++ new.unread)
   pub packet : Captured
   pub held : new.packet ≡ Some packet
   pub unit : IsUnit new.declared new.block (packet ∷ []) new.declared
@@ -122,7 +122,7 @@ pub record FindsPacket (old new : SourceView) : Type 0 where
 
 -- there is no further packet
 pub record FindsEnd (old new : SourceView) : Type 0 where
-  pub passes : Passes old new []
+  pub passes : SkipsUnits old new []
   pub ends : front_of new.declared [] ≡ Stops None
   pub unread : new.unread ≡ []
   pub block : new.block ≡ []
@@ -132,7 +132,7 @@ pub record FindsEnd (old new : SourceView) : Type 0 where
 -- no unit follows
 pub record IsBroken (old new : SourceView) (fault : Fault) : Type 0 where
   pub rest : List ℕ
-  pub passes : Passes old new rest
+  pub passes : SkipsUnits old new rest
   pub why : IsReason new.declared rest fault
   pub taken : IsTaken new.declared rest new.unread fault
   pub block : new.block ≡ []
@@ -159,26 +159,26 @@ Advances Ended old r new = (r ≡ Ok false) × (new ≡ old)
 Advances (Failed fault) old r new = (r ≡ Err fault) × (new ≡ old)
 
 -- how far an answer brings a source
-abbrev pub phase_told : Result Bool Fault → Phase
-phase_told (Ok true) = Reading
-phase_told (Ok false) = Ended
-phase_told (Err fault) = Failed fault
+abbrev pub phase_after : Result Bool Fault → Phase
+phase_after (Ok true) = Reading
+phase_after (Ok false) = Ended
+phase_after (Err fault) = Failed fault
 
 -- the offset behind the current unit
-abbrev pub behind : SourceView → ℕ
-behind s = s.offset + length s.block
+abbrev pub end_offset : SourceView → ℕ
+end_offset s = s.offset + length s.block
 
 -- the current section has at most 256 interfaces, with names of at most 255 bytes
-abbrev pub HasFew : Declared → Type 0
-HasFew Nothing = Unit {0}
-HasFew (PcapFile head) = Unit {0}
-HasFew (PcapngFile first section) = AreFew section.interfaces
+abbrev pub SectionFits : Declared → Type 0
+SectionFits Nothing = Unit {0}
+SectionFits (PcapFile head) = Unit {0}
+SectionFits (PcapngFile first section) = FitSection section.interfaces
 
 -- what holds of any device
 pub record KeepsBounds (old : SourceView) (r : Result Bool Fault) (new : SourceView) : Type 0 where
   pub given : old.given ≤ new.given
   -- a failed read is told exactly where the device failed in this call
-  pub failures : new.failures ≡ old.failures + failures_told r
+  pub failures : new.failures ≡ old.failures + read_failures r
   -- and a device that never fails didn't
   pub never : new.never_fails ≡ old.never_fails
   pub unfailed : IsTrue old.never_fails → new.failures ≡ old.failures
@@ -189,8 +189,8 @@ pub record KeepsBounds (old : SourceView) (r : Result Bool Fault) (new : SourceV
   -- there is a current packet
   pub packet : r ≡ Ok true → is_some new.packet ≡ true
   -- All bytes that the device gave are skipped or current, but for those of a broken unit: at most one unit's bytes.
-  pub counted : OnOk r (new.given + behind old ≡ old.given + behind new)
-  pub broken : OnErr r ((old.given + behind new ≤ new.given + behind old) × (new.given + behind old ≤ old.given + behind new + most_in_unit))
+  pub counted : OnOk r (new.given + end_offset old ≡ old.given + end_offset new)
+  pub broken : OnErr r ((old.given + end_offset new ≤ new.given + end_offset old) × (new.given + end_offset old ≤ old.given + end_offset new + most_in_unit))
 
 abbrev pub Steps : Phase → SourceView → Result Bool Fault → SourceView → Type 0
 Steps Reading old r new = KeepsBounds old r new
@@ -200,8 +200,8 @@ Steps (Failed fault) old r new = (r ≡ Err fault) × (new ≡ old)
 -- ---- the parts of an advance
 
 -- the current unit is left
-abbrev pub left : SourceView → SourceView
-left s = record {
+abbrev pub past_unit : SourceView → SourceView
+past_unit s = record {
   phase = s.phase;
   declared = s.declared;
   packet = None;
@@ -220,30 +220,30 @@ pub record IsBetween (s : SourceView) : Type 0 where
   pub packet : s.packet ≡ None
 
 -- what a source that reads one unit finds there
-abbrev pub FindsNext : SourceView → Result Came Fault → SourceView → Type 0
-FindsNext old (Ok came.Packet) new = FindsPacket old new
-FindsNext old (Ok (came.Passed size)) new = Passes old new new.unread
-FindsNext old (Ok came.End) new = FindsEnd old new
+abbrev pub FindsNext : SourceView → Result NextUnit Fault → SourceView → Type 0
+FindsNext old (Ok next_unit.Packet) new = FindsPacket old new
+FindsNext old (Ok (next_unit.Other size)) new = SkipsUnits old new new.unread
+FindsNext old (Ok next_unit.End) new = FindsEnd old new
 FindsNext old (Err fault) new = IsBroken old new fault
 
 -- and what holds of any device
-pub record NextBounds (old : SourceView) (r : Result Came Fault) (new : SourceView) : Type 0 where
+pub record NextBounds (old : SourceView) (r : Result NextUnit Fault) (new : SourceView) : Type 0 where
   pub given : old.given ≤ new.given
-  pub failures : new.failures ≡ old.failures + failures_told r
+  pub failures : new.failures ≡ old.failures + read_failures r
   pub never : new.never_fails ≡ old.never_fails
   pub unfailed : IsTrue old.never_fails → new.failures ≡ old.failures
   pub block : length new.block ≤ most_in_unit
-  pub packet : r ≡ Ok came.Packet → (old.given < new.given) × (new.given < 2 ^ 63) × (is_some new.packet ≡ true)
-  pub counted : OnOk r (new.given + behind old ≡ old.given + behind new)
-  pub broken : OnErr r ((old.given + behind new ≤ new.given + behind old) × (new.given + behind old ≤ old.given + behind new + most_in_unit))
-  pub ended : r ≡ Ok came.End → new.phase ≡ Ended
-  pub found : r ≡ Ok came.Packet → new.phase ≡ Reading
-  pub passed : (size : ℕ) → r ≡ Ok (came.Passed size) → (old.given < new.given) × (new.given < 2 ^ 63) × IsBetween new
+  pub packet : r ≡ Ok next_unit.Packet → (old.given < new.given) × (new.given < 2 ^ 63) × (is_some new.packet ≡ true)
+  pub counted : OnOk r (new.given + end_offset old ≡ old.given + end_offset new)
+  pub broken : OnErr r ((old.given + end_offset new ≤ new.given + end_offset old) × (new.given + end_offset old ≤ old.given + end_offset new + most_in_unit))
+  pub ended : r ≡ Ok next_unit.End → new.phase ≡ Ended
+  pub found : r ≡ Ok next_unit.Packet → new.phase ≡ Reading
+  pub passed : (size : ℕ) → r ≡ Ok (next_unit.Other size) → (old.given < new.given) × (new.given < 2 ^ 63) × IsBetween new
 
 -- the next unit, which the device had at hand, is taken: it has a packet
 pub record TakesNext (tells : Bool) (old new : SourceView) : Type 0 where
-  pub told : IsTrue tells → FindsPacket old new
-  pub bounds : NextBounds old (Ok came.Packet) new
+  pub packet : IsTrue tells → FindsPacket old new
+  pub bounds : NextBounds old (Ok next_unit.Packet) new
 
 -- the source stays where it is
 pub record TakesNothing (tells : Bool) (old new : SourceView) : Type 0 where

@@ -9,8 +9,8 @@ use Rattle.cap_octet.specs.declared.fault.Fault.TheVariants.{LinkTypesDiffer, To
 use Rattle.cap_octet.specs.declared.format.Format.{Format}
 use Rattle.cap_octet.specs.declared.format.Format.TheVariants.{Pcap, NsecPcap, Pcapng}
 use Rattle.cap_pcap.specs.Encoding as pcap
-use Rattle.cap_pcap.specs.declared.head.Resolution.{Resolution}
-use Rattle.cap_pcap.specs.declared.head.Resolution.TheVariants.{Microseconds, Nanoseconds}
+use Rattle.cap_pcap.specs.declared.header.Resolution.{Resolution}
+use Rattle.cap_pcap.specs.declared.header.Resolution.TheVariants.{Microseconds, Nanoseconds}
 use Rattle.cap_pcapng.specs.Encoding as pcapng
 
 -- ---- the interfaces of a pcapng file
@@ -52,20 +52,20 @@ abbrev pub most_output_interfaces : ℕ
 most_output_interfaces = 4096
 
 -- what holds of the interfaces of each file
-pub record AreFew (interfaces : List Interface) : Type 0 where
+pub record FitFile (interfaces : List Interface) : Type 0 where
   pub count : length interfaces ≤ most_output_interfaces
   pub names : All (λ i. length i.name ≤ 255) interfaces
 
 -- ---- texts
 
 -- what a file begins with: a file header with this link type, or a section
-abbrev pub heading : Format → ℕ → List ℕ
-heading Pcap link = pcap.heading Microseconds link
-heading NsecPcap link = pcap.heading Nanoseconds link
-heading Pcapng link = pcapng.section_text
+abbrev pub file_start : Format → ℕ → List ℕ
+file_start Pcap link = pcap.file_header Microseconds link
+file_start NsecPcap link = pcap.file_header Nanoseconds link
+file_start Pcapng link = pcapng.section_text
 
 abbrev pub record_text : Resolution → Captured → List ℕ
-record_text resolution p = pcap.record_heading resolution p ++ p.bytes
+record_text resolution p = pcap.record_header resolution p ++ p.bytes
 
 -- the descriptions of interfaces, one after another
 abbrev pub descriptions : List Interface → List ℕ
@@ -89,12 +89,12 @@ packets_text format earlier (p ∷ ps) = packet_text format earlier p ++ packets
 -- The text of a file: its file header has the link type of the first packet. Where there is none, nothing is written.
 abbrev pub text : Format → List Captured → List ℕ
 text format [] = []
-text format (p ∷ ps) = heading format p.link ++ packets_text format [] (p ∷ ps)
+text format (p ∷ ps) = file_start format p.link ++ packets_text format [] (p ∷ ps)
 
 -- what a packet adds to the text of those before it
-abbrev pub added : Format → List Captured → Captured → List ℕ
-added format [] p = heading format p.link ++ packet_text format [] p
-added format (q ∷ qs) p = packet_text format (q ∷ qs) p
+abbrev pub added_text : Format → List Captured → Captured → List ℕ
+added_text format [] p = file_start format p.link ++ packet_text format [] p
+added_text format (q ∷ qs) p = packet_text format (q ∷ qs) p
 
 -- ---- refusals
 
@@ -113,5 +113,5 @@ put_checks Pcapng earlier p =
     ∷ []
 
 -- why a packet that comes after these isn't written
-abbrev pub refused : Format → List Captured → Captured → Option Fault
-refused format earlier p = first_failing (put_checks format earlier p)
+abbrev pub refusal_of : Format → List Captured → Captured → Option Fault
+refusal_of format earlier p = first_failing (put_checks format earlier p)

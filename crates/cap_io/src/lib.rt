@@ -1,11 +1,12 @@
 //! Packets from a device and to a device, one at a time, through one block of memory.
 #![tactic(auto)]
 
-mod blocks;
-mod capture;
+mod file_state;
 pub mod laws;
+mod next_unit;
 mod numbering;
-mod reading;
+mod pcap;
+mod pcapng;
 mod sink;
 mod source;
 mod unit;

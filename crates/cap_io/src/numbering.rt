@@ -22,9 +22,9 @@ pub(crate) struct InterfaceKey {
     name: Name,
 }
 
-/// Where an interface stands among those of a file.
+/// The number of an interface in a file.
 #[derive(Clone, Copy)]
-pub(crate) struct Place {
+pub(crate) struct InterfaceNumber {
     /// How many interfaces come before it.
     pub number: u32,
     /// Whether it was met for the first time.
@@ -61,14 +61,14 @@ pub(crate) struct OutputInterfaces<A: Allocator> {
 
 impl<A: Allocator> Model for OutputInterfaces<A> {
     ghost use Rattle.std.specs.Prelude.{List, map};
-    ghost use Rattle.cap_io.specs.Text.{AreFew, Interface};
+    ghost use Rattle.cap_io.specs.Text.{FitFile, Interface};
     ghost use Rattle.cap_io.specs.Numbering.{IsFirst, interface_in};
 
     ghost Value = { List Interface };
 
     ghost view = { λ s. map interface_in s.keys.keys };
 
-    ghost invariant = { λ s. AreFew (map interface_in s.keys.keys)
+    ghost invariant = { λ s. FitFile (map interface_in s.keys.keys)
         × IsFirst s.last (map interface_in s.keys.keys) };
 }
 
@@ -85,14 +85,7 @@ impl<A: Allocator + Copy> OutputInterfaces<A> {
 }
 
 impl<A: Allocator> OutputInterfaces<A> {
-    ghost use Rattle.cap_io.specs.Text.{AreFew};
-
-    /// Tells the caller's proof that they are few. Nothing happens at run time.
-    pub fn bounds(&self)
-        ensures { AreFew self.now }
-    {
-        let _ = &self.keys;
-    }
+    ghost use Rattle.cap_io.specs.Text.{FitFile};
 
     /// Whether a packet's interface is one of these, or one more may be had.
     pub fn has_room(&self, packet: &Packet<'_>) -> bool
@@ -102,17 +95,18 @@ impl<A: Allocator> OutputInterfaces<A> {
         self.keys.len() < MOST_INTERFACES || self.keys.contains(&InterfaceKey::of(packet))
     }
 
-    /// The place of a packet's interface, which comes last where it is new and must have room; or
+    /// The number of a packet's interface, which comes last where it is new and must have room; or
     /// `NoMemory`, where a new one found none.
-    pub fn place(&mut self, packet: &Packet<'_>) -> Result<Place, Fault>
+    pub fn number_of(&mut self, packet: &Packet<'_>) -> Result<InterfaceNumber, Fault>
         requires { length (self.old ++ new_among self.old (interface_of (captured packet.now))) ≤
             most_output_interfaces }
-        ensures { Numbers self.old (interface_of (captured packet.now)) result self.new }
+        ensures fits { FitFile self.new }
+        ensures number { Numbers self.old (interface_of (captured packet.now)) result self.new }
     {
         if let Some(key) = self.keys.get_index(self.last as usize)
             && key.is_of(packet)
         {
-            return Ok(Place {
+            return Ok(InterfaceNumber {
                 number: self.last,
                 is_new: false,
             });
@@ -121,7 +115,7 @@ impl<A: Allocator> OutputInterfaces<A> {
             return Err(Fault::NoMemory);
         };
         self.last = index as u32;
-        Ok(Place {
+        Ok(InterfaceNumber {
             number: self.last,
             is_new,
         })

@@ -2,7 +2,7 @@
 ghost use Rattle.std.specs.Prelude.{◌≡◌, IsTrue};
 
 use crate::numbering::OutputInterfaces;
-use crate::writing::{check, write_block, write_heading, write_record};
+use crate::writing::{check, write_block, write_file_start, write_record};
 use cap_octet::assigned::LINKTYPE_ETHERNET;
 use cap_octet::{Fault, Format, Output, Packet};
 use std::alloc::Allocator;
@@ -30,6 +30,7 @@ pub struct Sink<O: Output, A: Allocator> {
 
 impl<O: Output, A: Allocator> Model for Sink<O, A> {
     ghost use Rattle.cap_io.specs.Sink.{SinkView};
+    ghost use Rattle.cap_io.specs.Text.{FitFile};
 
     ghost Value = { SinkView };
 
@@ -41,6 +42,8 @@ impl<O: Output, A: Allocator> Model for Sink<O, A> {
       failures = O.failures s.output;
       room = O.room s.output;
     } };
+
+    ghost invariant = { λ s. FitFile s.interfaces };
 }
 
 impl<O: Output, A: Allocator + Copy> Sink<O, A> {
@@ -61,8 +64,8 @@ impl<O: Output, A: Allocator + Copy> Sink<O, A> {
 
 impl<O: Output, A: Allocator> Sink<O, A> {
     ghost use Rattle.cap_octet.specs.Packet.{captured};
-    ghost use Rattle.cap_io.specs.Text.{AreFew};
-    ghost use Rattle.cap_io.specs.Sink.{Adds, Puts, PutWrites, WritesPacket, Finishes};
+    ghost use Rattle.cap_io.specs.Text.{FitFile};
+    ghost use Rattle.cap_io.specs.Sink.{AddsPacket, PutsPacket, PutWrites, WritesPacket, Finishes};
     ghost use Rattle.cap_io.specs.Sink.{FinishWrites, added_in, refusal_in};
 
     /// Appends a packet, behind the file header or section header where it is the first, and in
@@ -75,17 +78,15 @@ impl<O: Output, A: Allocator> Sink<O, A> {
     /// - `NoMemory`: none was left for a new interface (pcapng);
     /// - `WriteFailed`: the device failed in this call.
     pub fn put(&mut self, packet: &Packet<'_>) -> Result<(), Fault>
-        ensures told { IsTrue O.tells → PutWrites self.old.state self.old (captured packet.now)
+        ensures bytes { IsTrue O.tells → PutWrites self.old.state self.old (captured packet.now)
             result self.new }
-        ensures answer { Puts self.old.state self.old (captured packet.now) result self.new }
-        ensures few { AreFew self.new.interfaces }
+        ensures answer { PutsPacket self.old.state self.old (captured packet.now) result self.new }
+        ensures interfaces { FitFile self.new.interfaces }
     {
         if let SinkState::Broken(fault) = self.state {
-            self.interfaces.bounds();
             return Err(fault);
         }
         let result = self.add(packet);
-        self.interfaces.bounds();
         if let Err(fault) = result {
             self.state = SinkState::Broken(fault);
         }
@@ -99,7 +100,7 @@ impl<O: Output, A: Allocator> Sink<O, A> {
     /// `WriteFailed`: the device failed in this call, after a beginning of the header. After an
     /// error of an earlier call it returns that again.
     pub fn finish(&mut self, first: Option<u16>) -> Result<(), Fault>
-        ensures told { IsTrue O.tells → FinishWrites self.old.state self.old first result self.new }
+        ensures bytes { IsTrue O.tells → FinishWrites self.old.state self.old first result self.new }
         ensures answer { Finishes self.old.state self.old first result self.new }
     {
         match self.state {
@@ -107,7 +108,8 @@ impl<O: Output, A: Allocator> Sink<O, A> {
             SinkState::Started(_) => Ok(()),
             SinkState::Empty => {
                 let link = first.unwrap_or(LINKTYPE_ETHERNET);
-                let Ok(()) = write_heading(&mut self.output, self.format, self.state, link) else {
+                let Ok(()) = write_file_start(&mut self.output, self.format, self.state, link)
+                else {
                     self.state = SinkState::Broken(Fault::WriteFailed);
                     return Err(Fault::WriteFailed);
                 };
@@ -129,9 +131,9 @@ impl<O: Output, A: Allocator> Sink<O, A> {
 
     /// Writes a packet, or tells why not.
     fn add(&mut self, packet: &Packet<'_>) -> Result<(), Fault>
-        ensures told { IsTrue O.tells → WritesPacket (refusal_in self.old (captured packet.now))
+        ensures bytes { IsTrue O.tells → WritesPacket (refusal_in self.old (captured packet.now))
             (added_in self.old (captured packet.now)) self.old.written result self.new.written }
-        ensures answer { Adds self.old (captured packet.now) result self.new }
+        ensures answer { AddsPacket self.old (captured packet.now) result self.new }
     {
         check(self.format, self.state, &self.interfaces, packet)?;
         let written = match self.format {
@@ -139,8 +141,8 @@ impl<O: Output, A: Allocator> Sink<O, A> {
                 write_record(&mut self.output, self.format, self.state, packet)
             }
             Format::Pcapng => {
-                let place = self.interfaces.place(packet)?;
-                write_block(&mut self.output, self.state, place, packet)
+                let interface = self.interfaces.number_of(packet)?;
+                write_block(&mut self.output, self.state, interface, packet)
             }
         };
         let Ok(()) = written else {

@@ -1,10 +1,10 @@
 //! Packets of a capture, one at a time.
-use crate::capture::read_unit;
-use crate::reading::{record_held, take_record};
-use crate::unit::{Came, Held, Savefile};
+use crate::file_state::{FileState, NextUnit, PacketSpans};
+use crate::next_unit::read_unit;
+use crate::pcap::{record_spans, take_record};
 use cap_octet::{Fault, Input, Packet};
 use cap_pcap::Resolution;
-use cap_pcapng::{Options, Table};
+use cap_pcapng::Table;
 use std::alloc::Allocator;
 use std::marker::Model;
 
@@ -37,10 +37,10 @@ pub struct Source<I: Input, A: Allocator> {
     input: I,
     buffer: Vec<u8, A>,
     table: Table<A>,
-    savefile: Savefile,
+    file: FileState,
     stage: Stage,
     /// Where the current packet lies, where there is one.
-    held: Held,
+    spans: PacketSpans,
     offset: u64,
 }
 
@@ -49,10 +49,10 @@ impl<I: Input, A: Allocator> Model for Source<I, A> {
 
     ghost Value = { SourceView };
 
-    ghost view = { λ s. view_of s.stage s.held s.savefile s.table s.buffer.items s.offset
+    ghost view = { λ s. view_of s.stage s.spans s.file s.table s.buffer.items s.offset
         (I.unread s.input) (I.given s.input) (I.failures s.input) (I.never_fails s.input) };
 
-    ghost invariant = { λ s. IsSound s.stage s.held s.savefile s.table s.offset
+    ghost invariant = { λ s. IsSound s.stage s.spans s.file s.table s.offset
         s.buffer.items (I.given s.input) };
 }
 
@@ -63,7 +63,7 @@ impl<I: Input, A: Allocator> Source<I, A> {
     ghost use Rattle.cap_io.specs.Capture.{kind_of, first_link_of};
     ghost use Rattle.cap_io.specs.Reading.{most_in_unit};
     ghost use Rattle.cap_io.specs.Source.{Reading, Advances, Continues, FindsNext, IsBetween};
-    ghost use Rattle.cap_io.specs.Source.{KeepsBounds, HasFew, NextBounds, Steps, left, phase_told};
+    ghost use Rattle.cap_io.specs.Source.{KeepsBounds, SectionFits, NextBounds, Steps, past_unit, phase_after};
     ghost use Rattle.cap_io.specs.Source.{TakesNext, TakesNothing, source_at};
 
     /// A source of which nothing is read yet. It takes no memory.
@@ -77,9 +77,9 @@ impl<I: Input, A: Allocator> Source<I, A> {
             input,
             buffer: Vec::new(alloc),
             table: Table::new(alloc),
-            savefile: Savefile::Unknown,
+            file: FileState::Unknown,
             stage: Stage::Between,
-            held: Held::none(),
+            spans: PacketSpans::of_no_packet(),
             offset: 0,
         }
     }
@@ -89,18 +89,16 @@ impl<I: Input, A: Allocator> Source<I, A> {
     /// where the device failed in this call; `NoMemory` where the block or the table of interfaces
     /// could not grow. After a fault it returns that again, and reads nothing.
     pub fn advance(&mut self) -> Result<bool, Fault>
-        ensures told { IsTrue I.tells → Advances self.old.phase self.old result self.new }
+        ensures packets { IsTrue I.tells → Advances self.old.phase self.old result self.new }
         ensures bounds { Steps self.old.phase self.old result self.new }
-        ensures phase { self.new.phase ≡ phase_told result }
-        ensures few { HasFew self.new.declared }
+        ensures phase { self.new.phase ≡ phase_after result }
+        ensures interfaces { SectionFits self.new.declared }
     {
-        self.table.bounds();
         match self.stage {
             Stage::Ended => Ok(false),
             Stage::Failed(fault) => Err(fault),
             Stage::Between | Stage::InHand => {
-                let answer = self.go_on();
-                self.table.bounds();
+                let answer = self.advance_to_packet();
                 if let Err(fault) = answer {
                     self.stage = Stage::Failed(fault);
                 }
@@ -117,33 +115,7 @@ impl<I: Input, A: Allocator> Source<I, A> {
         let Stage::InHand = self.stage else {
             return None;
         };
-        let held = &self.held;
-        let bytes = held.bytes.of(&self.buffer);
-        match self.savefile {
-            Savefile::Unknown => None,
-            Savefile::Pcap(head) => Some(Packet {
-                link: head.link,
-                snap: head.snap,
-                name: &[],
-                time: held.time,
-                orig: held.orig,
-                bytes,
-                comment: &[],
-            }),
-            Savefile::Pcapng(order, _) => {
-                let interface = self.table.get(held.interface)?;
-                let rest = held.options.of(&self.buffer);
-                Some(Packet {
-                    link: interface.link,
-                    snap: interface.snap,
-                    name: interface.name,
-                    time: held.time,
-                    orig: held.orig,
-                    bytes,
-                    comment: Options { order, rest }.comment(),
-                })
-            }
-        }
+        self.file.packet(&self.spans, &self.buffer, &self.table)
     }
 
     /// The time of the current packet, in nanoseconds since 1970-01-01 00:00:00 UTC; what `head`
@@ -152,7 +124,7 @@ impl<I: Input, A: Allocator> Source<I, A> {
         ensures { result ≡ option_map (λ p. p.time) self.now.packet }
     {
         match self.stage {
-            Stage::InHand => Some(self.held.time),
+            Stage::InHand => Some(self.spans.time),
             Stage::Between | Stage::Ended | Stage::Failed(_) => None,
         }
     }
@@ -169,13 +141,13 @@ impl<I: Input, A: Allocator> Source<I, A> {
     pub fn kind(&self) -> Option<Kind>
         ensures { result ≡ kind_of self.now.declared }
     {
-        match self.savefile {
-            Savefile::Unknown => None,
-            Savefile::Pcap(head) => Some(match head.resolution {
+        match self.file {
+            FileState::Unknown => None,
+            FileState::Pcap(head) => Some(match head.resolution {
                 Resolution::Microseconds => Kind::Pcap,
                 Resolution::Nanoseconds => Kind::NsecPcap,
             }),
-            Savefile::Pcapng(_, _) => Some(Kind::Pcapng),
+            FileState::Pcapng(_, _) => Some(Kind::Pcapng),
         }
     }
 
@@ -183,7 +155,7 @@ impl<I: Input, A: Allocator> Source<I, A> {
     pub fn first_link(&self) -> Option<u16>
         ensures { result ≡ first_link_of self.now.declared }
     {
-        self.savefile.first_link()
+        self.file.first_link()
     }
 
     /// The device, as it stands. It takes no memory.
@@ -201,18 +173,18 @@ impl<I: Input, A: Allocator> Source<I, A> {
 
     /// Leaves the current unit and reads the next one with a packet.
     #[inline(always)]
-    fn go_on(&mut self) -> Result<bool, Fault>
+    fn advance_to_packet(&mut self) -> Result<bool, Fault>
         requires { self.old.phase ≡ Reading }
-        ensures told { IsTrue I.tells → Continues self.old result self.new }
+        ensures packets { IsTrue I.tells → Continues self.old result self.new }
         ensures bounds { KeepsBounds self.old result self.new }
-        ensures phase { OnOk result (self.new.phase ≡ phase_told result) }
+        ensures phase { OnOk result (self.new.phase ≡ phase_after result) }
         ensures err { IfErr result (λ _. self.new.block ≡ []) }
     {
-        self.leave();
+        self.leave_unit();
         if self.take_next() {
             return Ok(true);
         }
-        self.read_on()
+        self.skip_to_packet()
     }
 
     /// Takes the next record of a pcap file, if the device has it at hand.
@@ -222,66 +194,66 @@ impl<I: Input, A: Allocator> Source<I, A> {
         ensures found { IsTrue result → TakesNext I.tells self.old self.new }
         ensures nothing { result ≡ false → TakesNothing I.tells self.old self.new }
     {
-        let Savefile::Pcap(head) = &self.savefile else {
+        let FileState::Pcap(head) = &self.file else {
             return false;
         };
         let buffer = self.buffer.as_mut_slice();
         let Some(found) = take_record(&mut self.input, head, buffer) else {
             return false;
         };
-        self.held = record_held(&found);
+        self.spans = record_spans(&found);
         self.stage = Stage::InHand;
         true
     }
 
     /// Goes over units to the next one with a packet.
     #[inline(never)]
-    fn read_on(&mut self) -> Result<bool, Fault>
+    fn skip_to_packet(&mut self) -> Result<bool, Fault>
         requires between { IsBetween self.old }
-        ensures told { IsTrue I.tells → Continues self.old result self.new }
+        ensures packets { IsTrue I.tells → Continues self.old result self.new }
         ensures bounds { KeepsBounds self.old result self.new }
-        ensures phase { OnOk result (self.new.phase ≡ phase_told result) }
+        ensures phase { OnOk result (self.new.phase ≡ phase_after result) }
         ensures err { IfErr result (λ _. self.new.block ≡ []) }
     {
         loop {
-            match self.next()? {
-                Came::Packet => return Ok(true),
-                Came::End => return Ok(false),
-                Came::Passed(_) => {}
+            match self.read_next()? {
+                NextUnit::Packet => return Ok(true),
+                NextUnit::End => return Ok(false),
+                NextUnit::Other(_) => {}
             }
         }
     }
 
     /// Leaves the current unit, if there is one.
-    fn leave(&mut self)
+    fn leave_unit(&mut self)
         requires { self.old.phase ≡ Reading }
-        ensures { self.new ≡ left self.old }
+        ensures { self.new ≡ past_unit self.old }
     {
         if let Stage::InHand = self.stage {
-            self.offset += u64::from(self.held.size);
+            self.offset += u64::from(self.spans.size);
         }
         self.stage = Stage::Between;
     }
 
     /// Goes over one unit, or to the clean end.
-    fn next(&mut self) -> Result<Came, Fault>
+    fn read_next(&mut self) -> Result<NextUnit, Fault>
         requires between { IsBetween self.old }
-        ensures told { IsTrue I.tells → FindsNext self.old result self.new }
+        ensures packets { IsTrue I.tells → FindsNext self.old result self.new }
         ensures bounds { NextBounds self.old result self.new }
         ensures err { OnErr result (IsBetween self.new) }
     {
-        let came = read_unit(
+        let unit = read_unit(
             &mut self.input,
-            &mut self.savefile,
+            &mut self.file,
             &mut self.buffer,
             &mut self.table,
-            &mut self.held,
+            &mut self.spans,
         )?;
-        match came {
-            Came::Packet => self.stage = Stage::InHand,
-            Came::Passed(size) => self.offset += size as u64,
-            Came::End => self.stage = Stage::Ended,
+        match unit {
+            NextUnit::Packet => self.stage = Stage::InHand,
+            NextUnit::Other(size) => self.offset += size as u64,
+            NextUnit::End => self.stage = Stage::Ended,
         }
-        Ok(came)
+        Ok(unit)
     }
 }

@@ -1,109 +1,95 @@
-//! What is held of the units that were read.
-ghost use Rattle.std.specs.Prelude.{◌≡◌, ◌+◌, ◌≤◌, length};
-ghost use Rattle.cap_io.specs.Reading.{first_link_held, order_held, part_of};
+//! The bytes of a unit, read from a device to the start of the block buffer.
+ghost use Rattle.std.specs.Prelude.{◌≡◌, ℕ, ◌+◌, ◌^◌, ◌<◌, ◌≤◌, ◌++◌, true, false, IsTrue, IfOk};
+ghost use Rattle.std.specs.Prelude.{IfErr, OnOk, if◌then◌else◌, length, take, drop, vec_len};
+ghost use Rattle.cap_io.specs.Reading.{FrontCame, FrontMissing, Moves, RestMissing};
 
-use cap_octet::Order;
-use cap_pcap::Head;
+use cap_octet::{Fault, Input, read_full};
+use std::alloc::Allocator;
 
-/// What the units that were read declare of those behind them, beside the interfaces of a section.
-#[derive(Clone, Copy, Debug, PartialEq, Eq)]
-pub(crate) enum Savefile {
-    /// Nothing was read.
-    Unknown,
-    Pcap(Head),
-    /// The byte order of the current section, and the first link type that an interface of the file
-    /// declared.
-    Pcapng(Order, Option<u16>),
-}
+/// The bytes of a unit that is copied in one piece with what follows it. A buffer has room for as
+/// many.
+const SHORT_UNIT: usize = 256;
 
-impl Savefile {
-    /// The byte order of the current section, if there is one.
-    pub(crate) fn order(self) -> Option<Order>
-        ensures { result ≡ order_held self }
-    {
-        match self {
-            Savefile::Unknown | Savefile::Pcap(_) => None,
-            Savefile::Pcapng(order, _) => Some(order),
-        }
+/// Reads the first bytes of a unit that is behind others; `false` is the end of the
+/// file.
+#[inline(always)]
+pub(crate) fn read_front<I: Input>(input: &mut I, front: &mut [u8]) -> Result<bool, Fault>
+    requires { 0 < length front.old }
+    ensures moves { Moves I.Input input.old input.new 0
+        (λ found. if found then length front.old else 0) (length front.old) result }
+    ensures ok { IfOk result (λ found. IsTrue I.tells → FrontCame (I.unread input.old) front.new
+        found (I.unread input.new)) }
+    ensures err { IfErr result (λ fault. IsTrue I.tells → FrontMissing (length front.old)
+        (I.unread input.old) (I.unread input.new) fault) }
+{
+    let room = front.len();
+    let Ok(count) = read_full(input, front) else {
+        return Err(Fault::ReadFailed);
+    };
+    if count == 0 {
+        return Ok(false);
     }
-
-    /// The first link type that the units declare.
-    pub(crate) fn first_link(self) -> Option<u16>
-        ensures { result ≡ first_link_held self }
-    {
-        match self {
-            Savefile::Unknown => None,
-            Savefile::Pcap(head) => Some(head.link),
-            Savefile::Pcapng(_, first) => first,
-        }
+    if count < room {
+        return Err(Fault::Truncated);
     }
+    Ok(true)
 }
 
-/// Bytes of a unit.
-#[derive(Clone, Copy, Debug, PartialEq, Eq)]
-pub(crate) struct Span {
-    /// Where they begin in the unit.
-    pub(crate) start: u32,
-    /// How many they are.
-    pub(crate) length: u32,
-}
-
-impl Span {
-    /// So many bytes from this one on.
-    pub(crate) fn new(start: u32, length: u32) -> Self
-        ensures { result ≡ record { start = start; length = length } }
-    {
-        Span { start, length }
+/// Makes room for a unit of so many bytes. What is in the buffer already is of no use.
+pub(crate) fn make_room<A: Allocator>(buffer: &mut Vec<u8, A>, size: usize) -> Result<(), Fault>
+    ensures room { OnOk result (size ≤ vec_len buffer.new) }
+    ensures memory { IfErr result (λ fault. fault ≡ Fault.NoMemory) }
+{
+    if buffer.len() < size && buffer.resize(size.max(SHORT_UNIT), 0).is_err() {
+        return Err(Fault::NoMemory);
     }
+    Ok(())
+}
 
-    /// These bytes of a buffer that begins with the unit.
-    pub(crate) fn of(self, bytes: &[u8]) -> &[u8]
-        requires { self.start + self.length ≤ length bytes.now }
-        ensures { result.now ≡ part_of self bytes.now }
-    {
-        &bytes[self.start as usize..][..self.length as usize]
+/// Reads what is left of a unit of so many bytes to the start of the buffer, behind the part of it
+/// that came.
+#[inline(always)]
+pub(crate) fn read_rest<I: Input>(
+    input: &mut I,
+    front: &[u8],
+    buffer: &mut [u8],
+    size: usize,
+) -> Result<(), Fault>
+    requires whole { length front.now ≤ size }
+    requires room { size ≤ length buffer.old }
+    ensures moves { Moves I.Input input.old input.new (length front.now) (λ _. size) size result }
+    ensures same { OnOk result (take (length front.now) (take size buffer.new) ≡ front.now) }
+    ensures ok { OnOk result (IsTrue I.tells → I.unread input.old
+        ≡ drop (length front.now) (take size buffer.new) ++ I.unread input.new) }
+    ensures err { IfErr result (λ fault. IsTrue I.tells → RestMissing (length front.now) size
+        (I.unread input.old) (I.unread input.new) fault) }
+{
+    let from = front.len();
+    let unit = &mut buffer[..size];
+    unit[..from].copy_from_slice(front);
+    let rest = &mut unit[from..];
+    let room = rest.len();
+    let Ok(count) = read_full(input, rest) else {
+        return Err(Fault::ReadFailed);
+    };
+    if count < room {
+        return Err(Fault::Truncated);
     }
+    Ok(())
 }
 
-/// Where a packet lies in its unit, which is at the start of the block buffer, and what is in front
-/// of its data.
-#[derive(Clone, Copy, Debug, PartialEq, Eq)]
-pub(crate) struct Held {
-    /// The size of its unit, in bytes.
-    pub(crate) size: u32,
-    /// Where its data lie.
-    pub(crate) bytes: Span,
-    /// Where the options of its block lie; none but in an enhanced packet.
-    pub(crate) options: Span,
-    /// The number of its interface in its section; 0 in pcap.
-    pub(crate) interface: u32,
-    /// Nanoseconds since 1970-01-01 00:00:00 UTC, below 2^63.
-    pub(crate) time: u64,
-    /// The original length, in bytes.
-    pub(crate) orig: u32,
-}
-
-impl Held {
-    /// Of no packet.
-    pub(crate) fn none() -> Self {
-        Held {
-            size: 0,
-            bytes: Span::new(0, 0),
-            options: Span::new(0, 0),
-            interface: 0,
-            time: 0,
-            orig: 0,
-        }
+/// Copies the first `size` bytes, and maybe more.
+// Most units are short. A copy of a fixed size has no branch that hangs on a packet's.
+#[inline(always)]
+pub(crate) fn copy_unit(from: &[u8], buffer: &mut [u8], size: usize)
+    requires there { size ≤ length from.now }
+    requires room { size ≤ length buffer.old }
+    ensures copied { take size buffer.new ≡ take size from.now }
+    ensures room { length buffer.new ≡ length buffer.old }
+{
+    if size <= SHORT_UNIT && SHORT_UNIT <= from.len() && SHORT_UNIT <= buffer.len() {
+        buffer[..SHORT_UNIT].copy_from_slice(&from[..SHORT_UNIT]);
+    } else {
+        buffer[..size].copy_from_slice(&from[..size]);
     }
-}
-
-/// What came of a read of one unit.
-#[derive(Clone, Copy, Debug, PartialEq, Eq)]
-pub(crate) enum Came {
-    /// A unit of so many bytes, without a packet.
-    Passed(usize),
-    /// A packet; where it lies was written.
-    Packet,
-    /// The clean end.
-    End,
 }

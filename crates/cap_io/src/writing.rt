@@ -5,10 +5,10 @@ ghost use Rattle.cap_octet.specs.Packet.{captured};
 ghost use Rattle.cap_pcap.specs.Encoding.{IsPcap, fit_checks, resolution_of};
 ghost use Rattle.cap_pcapng.specs.Encoding.{fit_checks as block_fit_checks};
 ghost use Rattle.cap_io.specs.Text.{record_text};
-ghost use Rattle.cap_io.specs.Sink.{Appends, block_text, checks_in, heading_in};
+ghost use Rattle.cap_io.specs.Sink.{Appends, block_text, checks_in, file_start_in};
 ghost use Rattle.cap_io.specs.declared.sink.SinkState.TheVariants as state;
 
-use crate::numbering::{OutputInterfaces, Place};
+use crate::numbering::{InterfaceNumber, OutputInterfaces};
 use crate::sink::SinkState;
 use cap_octet::{DeviceFault, Fault, Format, Output, Packet, write_parts};
 use cap_pcap::{head_bytes, record_bytes};
@@ -47,8 +47,8 @@ pub(crate) fn check<A: Allocator>(
 /// Writes what a file begins with: a file header, or a section header.
 #[cold]
 #[inline(never)]
-fn begin<O: Output>(output: &mut O, format: Format, link: u16) -> Result<(), DeviceFault>
-    ensures { Appends O.Output output.old (heading_in format state.Empty link) result output.new }
+fn begin_file<O: Output>(output: &mut O, format: Format, link: u16) -> Result<(), DeviceFault>
+    ensures { Appends O.Output output.old (file_start_in format state.Empty link) result output.new }
 {
     match format {
         Format::Pcap | Format::NsecPcap => write_parts(output, &[&head_bytes(format, link)]),
@@ -58,17 +58,17 @@ fn begin<O: Output>(output: &mut O, format: Format, link: u16) -> Result<(), Dev
 
 /// Writes what a file begins with where nothing was put.
 #[inline(always)]
-pub(crate) fn write_heading<O: Output>(
+pub(crate) fn write_file_start<O: Output>(
     output: &mut O,
     format: Format,
     state: SinkState,
     link: u16,
 ) -> Result<(), DeviceFault>
-    ensures { Appends O.Output output.old (heading_in format state link) result output.new }
+    ensures { Appends O.Output output.old (file_start_in format state link) result output.new }
 {
     match state {
         SinkState::Started(_) | SinkState::Broken(_) => Ok(()),
-        SinkState::Empty => begin(output, format, link),
+        SinkState::Empty => begin_file(output, format, link),
     }
 }
 
@@ -81,10 +81,10 @@ pub(crate) fn write_record<O: Output>(
 ) -> Result<(), DeviceFault>
     requires form { IsPcap format }
     requires fits { first_failing (fit_checks (captured packet.now)) ≡ None }
-    ensures { Appends O.Output output.old (heading_in format state packet.now.link
+    ensures { Appends O.Output output.old (file_start_in format state packet.now.link
         ++ record_text (resolution_of format) (captured packet.now)) result output.new }
 {
-    write_heading(output, format, state, packet.link)?;
+    write_file_start(output, format, state, packet.link)?;
     write_parts(output, &[&record_bytes(format, packet), packet.bytes])
 }
 
@@ -93,16 +93,16 @@ pub(crate) fn write_record<O: Output>(
 pub(crate) fn write_block<O: Output>(
     output: &mut O,
     state: SinkState,
-    place: Place,
+    interface: InterfaceNumber,
     packet: &Packet<'_>,
 ) -> Result<(), DeviceFault>
     requires { first_failing (block_fit_checks (captured packet.now)) ≡ None }
-    ensures { Appends O.Output output.old (heading_in Format.Pcapng state packet.now.link
-        ++ block_text place (captured packet.now)) result output.new }
+    ensures { Appends O.Output output.old (file_start_in Format.Pcapng state packet.now.link
+        ++ block_text interface (captured packet.now)) result output.new }
 {
-    write_heading(output, Format::Pcapng, state, packet.link)?;
-    if place.is_new {
+    write_file_start(output, Format::Pcapng, state, packet.link)?;
+    if interface.is_new {
         write_interface(packet, output).map_err(|_| DeviceFault)?;
     }
-    write_packet(place.number, packet, output).map_err(|_| DeviceFault)
+    write_packet(interface.number, packet, output).map_err(|_| DeviceFault)
 }

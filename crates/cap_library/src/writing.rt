@@ -2,7 +2,7 @@
 ghost use Rattle.std.specs.Prelude.{◌≡◌, [], None};
 ghost use Rattle.cap_octet.specs.Checks.{first_failing};
 ghost use Rattle.cap_io.specs.Text.{record_text};
-ghost use Rattle.cap_pcap.specs.Encoding.{heading};
+ghost use Rattle.cap_pcap.specs.Encoding.{file_header};
 ghost use Rattle.cap_pcapng.specs.Encoding.{interface_text, packet_text, section_text};
 ghost use Rattle.cap_memory.specs.Layout.{resolution_by};
 ghost use Rattle.cap_memory.specs.Writing.{block_checks, interface_checks, packet_of};
@@ -44,7 +44,7 @@ pub extern "C" fn capkit_write_file_header(
     buffer: &mut [u8],
     length: &mut usize,
 ) -> u32
-    ensures { WriteTells None (heading (resolution_by nanoseconds) link_type) buffer.old buffer.new
+    ensures { WriteTells None (file_header (resolution_by nanoseconds) link_type) buffer.old buffer.new
         length.new result }
 {
     tell(write_file_header(nanoseconds, link_type, buffer), length)

@@ -8,13 +8,13 @@ use Rattle.cap_octet.specs.declared.fault.Fault.{Fault}
 use Rattle.cap_octet.specs.declared.fault.Fault.TheVariants.{NoMemory}
 use Rattle.cap_octet.specs.declared.number.Order.{Order}
 use Rattle.cap_pcapng.specs.Block.{block_checks, block_fault, body_checks, body_in, option_checks, parts_in, parts_of_interface}
-use Rattle.cap_pcapng.specs.Interface.{Described, IsDescribed, described}
+use Rattle.cap_pcapng.specs.Interface.{Described, IsDescribed, description_of}
 use Rattle.cap_pcapng.specs.Unit.{checks_among}
 use Rattle.cap_pcapng.specs.declared.blocks.InterfaceBlock.{InterfaceBlock}
 use Rattle.cap_pcapng.specs.declared.frames.BlockType.{BlockType}
 use Rattle.cap_pcapng.specs.declared.frames.BlockType.TheVariants as type
 use Rattle.cap_pcapng.specs.declared.frames.Frame.{Frame}
-use Rattle.cap_io.specs.Blocks.{Enters, IsEntryFault, told_behind}
+use Rattle.cap_io.specs.Blocks.{Enters, IsEntryFault, fault_among}
 use Rattle.cap_io.proofs.OwnFaults.{all_failing, all_of_options}
 use Rattle.cap_io.proofs.Entered.{interface_enters, refused_entry}
 use Rattle.cap_pcapng.proofs.WholeBlocks.{block_fails}
@@ -54,7 +54,7 @@ IsChecked frame interfaces block fault =
     ⊎ ((first_failing (block_checks frame block) ≡ None) × (first_failing (checks_among interfaces (parts_in frame block)) ≡ Some fault))
 
 pub refused : (frame : Frame) (interfaces : List Described) (block : List ℕ) (fault told : Fault) → length block ≡ frame.length → 12 ≤ frame.length → block_fault frame block ≡ Some fault
-    → told ≡ told_behind interfaces fault → (told ≡ NoMemory → fault ≡ NoMemory) → IsChecked frame interfaces block told
+    → told ≡ fault_among interfaces fault → (told ≡ NoMemory → fault ≡ NoMemory) → IsChecked frame interfaces block told
 refused frame interfaces block fault told whole least fails is never =
     let P : Fault → Type 0 = λ f. IsEntryFault frame interfaces block f in
     let entry : IsEntryFault frame interfaces block told = subst P (sym is) (refused_entry frame interfaces block fault whole least fails) in
@@ -72,6 +72,6 @@ pub no_room : (frame : Frame) (interfaces : List Described) (block : List ℕ) (
     → parts_of_interface b ≡ parts_in frame block → IsDescribed b → block_fault frame block ≡ None → length interfaces ≤ 256 → (length interfaces ≡ 256 → ⊥)
     → (i : Described) × Enters frame interfaces block None (interfaces ++ i ∷ [])
 no_room frame interfaces block b whole least is says none few not_full = (
-  described b.interface,
-  interface_enters frame interfaces (interfaces ++ described b.interface ∷ []) block b whole least is says none few ((λ e. absurd (cc)), (λ n. absurd (not_full n))) refl,
+  description_of b.interface,
+  interface_enters frame interfaces (interfaces ++ description_of b.interface ∷ []) block b whole least is says none few ((λ e. absurd (cc)), (λ n. absurd (not_full n))) refl,
 )

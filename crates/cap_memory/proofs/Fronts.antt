@@ -7,23 +7,23 @@ use Rattle.cap_octet.specs.Checks.{checked}
 use Rattle.cap_octet.specs.Packet.{Captured}
 use Rattle.cap_octet.specs.declared.number.Order.{Order}
 use Rattle.cap_octet.proofs.Checks.{checked_ok}
-use Rattle.cap_pcap.specs.declared.head.Head.{Head}
-use Rattle.cap_pcap.specs.declared.head.RecordHead.{RecordHead}
-use Rattle.cap_pcap.specs.Record.{record_fault, record_head_in, record_size, packet_in}
-use Rattle.cap_pcap.proofs.Records.{passes, record_head_in-append}
+use Rattle.cap_pcap.specs.declared.header.Head.{Head}
+use Rattle.cap_pcap.specs.declared.header.RecordHead.{RecordHead}
+use Rattle.cap_pcap.specs.Record.{record_fault, record_header_in, record_size, packet_in}
+use Rattle.cap_pcap.proofs.Records.{passes, record_header_in-append}
 use Rattle.cap_pcapng.specs.Comment.{comment_in}
 use Rattle.cap_pcapng.specs.Frame.{is_section}
 use Rattle.cap_pcapng.specs.Interface.{Described}
 use Rattle.cap_pcapng.specs.Unit.{Section, packet_of, packets_in}
 use Rattle.cap_io.specs.Blocks.{section_of}
-use Rattle.cap_io.specs.Capture.{Declared, Nothing, PcapFile, PcapngFile, IsUnit, Whole, a_block, a_first_block, file_after, first_after, front_of, is_pcapng}
+use Rattle.cap_io.specs.Capture.{Declared, Nothing, PcapFile, PcapngFile, IsUnit, Whole, a_block, a_first_block, file_after, first_link_after, front_of, is_pcapng}
 use Rattle.cap_io.proofs.CapturesCame.{first-packets, section-kept}
 use Rattle.cap_io.proofs.Fronts.{front_of-behind, front_of-pcapng, front_of-record, front_of_block-none, is_pcapng-append}
 use Rattle.cap_io.proofs.Units.{front_of-unit}
 use Rattle.cap_memory.specs.Blocks.{Behind, BlockStands, IsNoBlock, IsOfIfAny}
 use Rattle.cap_memory.specs.Layout.{declared_by}
 use Rattle.cap_memory.specs.Units.{ArePlaced, Begins, IsNoUnit, Steps}
-use Rattle.cap_memory.specs.declared.block.Placed.{Placed}
+use Rattle.cap_memory.specs.declared.block.UnitPacket.{UnitPacket}
 use Rattle.cap_memory.specs.declared.block.Refusal.{Refusal}
 use Rattle.cap_memory.specs.declared.block.Refusal.TheVariants as refusal
 use Rattle.cap_memory.specs.declared.layout.Form.{Form}
@@ -47,7 +47,7 @@ part_within text size start count fits =
 
 -- ---- a record
 
-abbrev pub record_placed : Head → RecordHead → Placed
+abbrev pub record_placed : Head → RecordHead → UnitPacket
 record_placed head found = record {
   start = 16;
   length = found.captured;
@@ -61,16 +61,16 @@ record_placed head found = record {
 }
 
 pub record_stands : (head : Head) (text : List ℕ) (found : RecordHead) (known : List Described) (table : List Interface) (count : ℕ)
-    → Ok found ≡ checked (record_fault head text) (record_head_in head text) → count ≤ length table → count ≤ 256
+    → Ok found ≡ checked (record_fault head text) (record_header_in head text) → count ≤ length table → count ≤ 256
     → Steps (form.Pcap head) known text table (record { size = 16 + found.captured; form = form.Pcap head; interfaces = count; packet = Some (record_placed head found) })
 record_stands head text found known table count is fits few =
-    let e = checked_ok (record_fault head text) (record_head_in head text) found (sym is) in
+    let e = checked_ok (record_fault head text) (record_header_in head text) found (sym is) in
     let size : record_size head text ≡ 16 + found.captured = ap (λ (r : RecordHead). 16 + r.captured) e.1 in
     let p = passes head text e.0 in
     let long : length (take (record_size head text) text) ≡ record_size head text = length-take-le (record_size head text) text p.whole in
-    let says : record_head_in head (take (record_size head text) text) ≡ found =
-    sym (record_head_in-append head (take (record_size head text) text) (drop (record_size head text) text) (omega (arith, long, size)))
-    ∙ ap (record_head_in head) (take-append-drop (record_size head text) text) ∙ e.1 in
+    let says : record_header_in head (take (record_size head text) text) ≡ found =
+    sym (record_header_in-append head (take (record_size head text) text) (drop (record_size head text) text) (omega (arith, long, size)))
+    ∙ ap (record_header_in head) (take-append-drop (record_size head text) text) ∙ e.1 in
     record {
       packets = packet_in head (take (record_size head text) text) ∷ [];
       front = front_of-record head text e.0 ∙ ap (λ n. Whole n (packet_in head (take (record_size head text) text) ∷ []) (PcapFile head)) size;
@@ -106,15 +106,15 @@ lent (Some i) time orig bytes comment q e = (i, refl, (cc))
 told : {X : Type 0} (f : Described → X) (found : Option Described) (i : Described) (x : X) → found ≡ Some i → option_map f found ≡ Some x → f i ≡ x
 told f found i x is e = let same : option_map f found ≡ Some (f i) = ap (option_map f) is in (cc)
 
-pub block_front : (declared : Declared) (first : Option ℕ) (before : Option Section) (text : List ℕ) (order : Order) (size : ℕ) (interfaces' : List Described) (packet : Option Placed)
+pub block_front : (declared : Declared) (first : Option ℕ) (before : Option Section) (text : List ℕ) (order : Order) (size : ℕ) (interfaces' : List Described) (packet : Option UnitPacket)
     → BlockStands before text order size interfaces' packet → IsUnit declared (take size text) (packets_in before (take size text)) (file_after first before (take size text))
-    → front_of declared text ≡ Whole size (packets_in before (take size text)) (PcapngFile (first_after first (section_of order interfaces')) (section_of order interfaces'))
+    → front_of declared text ≡ Whole size (packets_in before (take size text)) (PcapngFile (first_link_after first (section_of order interfaces')) (section_of order interfaces'))
 block_front declared first before text order size interfaces' packet b unit =
     ap (front_of declared) (sym (take-append-drop size text)) ∙ front_of-unit unit (drop size text)
     ∙ ap (λ n. Whole n (packets_in before (take size text)) (file_after first before (take size text))) (length-take-le size text b.there)
-    ∙ ap (λ (s : Section). Whole size (packets_in before (take size text)) (PcapngFile (first_after first s) s)) b.section
+    ∙ ap (λ (s : Section). Whole size (packets_in before (take size text)) (PcapngFile (first_link_after first s) s)) b.section
 
-placed_behind : (section : Section) (link : Option ℕ) (text : List ℕ) (order : Order) (size : ℕ) (interfaces' : List Described) (packet : Option Placed)
+placed_behind : (section : Section) (link : Option ℕ) (text : List ℕ) (order : Order) (size : ℕ) (interfaces' : List Described) (packet : Option UnitPacket)
     → BlockStands (Some section) text order size interfaces' packet → IsOfIfAny section.interfaces packet
     → ArePlaced (PcapngFile link (section_of order interfaces')) text size packet (packets_in (Some section) (take size text))
 placed_behind section link text order size interfaces' None b of = b.carries
@@ -140,21 +140,21 @@ placed_behind section link text order size interfaces' (Some p) b of =
       },
     )
 
-placed_first : (link : Option ℕ) (text : List ℕ) (order : Order) (size : ℕ) (interfaces' : List Described) (packet : Option Placed) → BlockStands None text order size interfaces' packet
+placed_first : (link : Option ℕ) (text : List ℕ) (order : Order) (size : ℕ) (interfaces' : List Described) (packet : Option UnitPacket) → BlockStands None text order size interfaces' packet
     → ArePlaced (PcapngFile link (section_of order interfaces')) text size packet (packets_in None (take size text))
 placed_first link text order size interfaces' None b = b.carries
 placed_first link text order size interfaces' (Some p) b =
     let none : [] ≡ b.carries.packet ∷ [] = sym (first-packets (take size text) b.is_block) ∙ b.carries.stands in absurd (cc)
 
 -- what a text begins with, behind what is declared
-pub record BlockUnit (declared : Declared) (first : Option ℕ) (text : List ℕ) (order : Order) (size : ℕ) (interfaces' : List Described) (packet : Option Placed) : Type 0 where
+pub record BlockUnit (declared : Declared) (first : Option ℕ) (text : List ℕ) (order : Order) (size : ℕ) (interfaces' : List Described) (packet : Option UnitPacket) : Type 0 where
   pub packets : List Captured
-  pub front : front_of declared text ≡ Whole size packets (PcapngFile (first_after first (section_of order interfaces')) (section_of order interfaces'))
-  pub placed : ArePlaced (PcapngFile (first_after first (section_of order interfaces')) (section_of order interfaces')) text size packet packets
+  pub front : front_of declared text ≡ Whole size packets (PcapngFile (first_link_after first (section_of order interfaces')) (section_of order interfaces'))
+  pub placed : ArePlaced (PcapngFile (first_link_after first (section_of order interfaces')) (section_of order interfaces')) text size packet packets
   pub there : size ≤ length text
   pub some : 0 < size
 
-pub block_unit : (f : Form) (section : Option Order) (first : Option ℕ) (interfaces : List Described) (text : List ℕ) (order : Order) (size : ℕ) (interfaces' : List Described) (packet : Option Placed)
+pub block_unit : (f : Form) (section : Option Order) (first : Option ℕ) (interfaces : List Described) (text : List ℕ) (order : Order) (size : ℕ) (interfaces' : List Described) (packet : Option UnitPacket)
     → Begins f section first interfaces text → Behind section interfaces (λ before. BlockStands before text order size interfaces' packet) → IsOfIfAny interfaces packet
     → BlockUnit (declared_by f interfaces) first text order size interfaces' packet
 block_unit form.Unknown section first interfaces text order size interfaces' packet begins stands of =
@@ -193,11 +193,11 @@ no_unit form.Unknown section first interfaces text room refusal.NoRoom begins r 
       r.0,
       record {
         size = d.size;
-        first = first_after None (section_of d.order (interfaces ++ d.interface ∷ []));
+        first = first_link_after None (section_of d.order (interfaces ++ d.interface ∷ []));
         section = section_of d.order (interfaces ++ d.interface ∷ []);
         interface = d.interface;
         front = block_front Nothing None None text d.order d.size (interfaces ++ d.interface ∷ []) None b (a_first_block (take d.size text) b.is_block)
-            ∙ ap (λ qs. Whole d.size qs (PcapngFile (first_after None (section_of d.order (interfaces ++ d.interface ∷ []))) (section_of d.order (interfaces ++ d.interface ∷ [])))) b.carries;
+            ∙ ap (λ qs. Whole d.size qs (PcapngFile (first_link_after None (section_of d.order (interfaces ++ d.interface ∷ []))) (section_of d.order (interfaces ++ d.interface ∷ [])))) b.carries;
         more = refl;
       },
     )
@@ -208,11 +208,11 @@ no_unit (form.Pcapng own link) section first interfaces text room refusal.NoRoom
       r.0,
       record {
         size = d.size;
-        first = first_after link (section_of d.order (interfaces ++ d.interface ∷ []));
+        first = first_link_after link (section_of d.order (interfaces ++ d.interface ∷ []));
         section = section_of d.order (interfaces ++ d.interface ∷ []);
         interface = d.interface;
         front = block_front (PcapngFile link (section_of own interfaces)) link (Some (section_of own interfaces)) text d.order d.size (interfaces ++ d.interface ∷ []) None b (a_block link (section_of own interfaces) (take d.size text) b.is_block)
-            ∙ ap (λ qs. Whole d.size qs (PcapngFile (first_after link (section_of d.order (interfaces ++ d.interface ∷ []))) (section_of d.order (interfaces ++ d.interface ∷ [])))) b.carries;
+            ∙ ap (λ qs. Whole d.size qs (PcapngFile (first_link_after link (section_of d.order (interfaces ++ d.interface ∷ []))) (section_of d.order (interfaces ++ d.interface ∷ [])))) b.carries;
         more = refl;
       },
     )

@@ -7,7 +7,7 @@ use Rattle.cap_octet.specs.declared.fault.Fault.{Fault}
 use Rattle.cap_io.specs.Capture.{Declared, Stops, Whole, front_of}
 use Rattle.cap_memory.specs.Layout.{declared_by, declared_in, first_of, form_of, most_known}
 use Rattle.cap_memory.specs.Units.{ArePlaced, Counts, IsFound, IsNoUnit, IsOver, IsPlaced, NextLeaves, Stays, Steps, comment_by, ends, fails, finds, is_full, packet_at, passes}
-use Rattle.cap_memory.specs.declared.block.Placed.{Placed}
+use Rattle.cap_memory.specs.declared.block.UnitPacket.{UnitPacket}
 use Rattle.cap_memory.specs.declared.block.Refusal.TheVariants as refusal
 use Rattle.cap_memory.specs.declared.layout.Form.{Form}
 use Rattle.cap_memory.specs.declared.layout.Form.TheVariants as form
@@ -64,7 +64,7 @@ pub passed : (capture text : List ℕ) (r r' : Reader) (t t' : List Interface) (
     → NextLeaves capture r r' t t' p p found.Unit
 passed capture text r r' t t' p f count s is counts same steps form' interfaces' offset none =
     let b = read capture text r r' t t' f count s is counts same steps form' interfaces' in
-    let P : Option Placed → Type 0 = λ o. ArePlaced (declared_in r' t') (drop r.offset capture) s.size o b.packets in
+    let P : Option UnitPacket → Type 0 = λ o. ArePlaced (declared_in r' t') (drop r.offset capture) s.size o b.packets in
     let empty : b.packets ≡ [] = subst P none b.placed in
     passes s.size (b.front ∙ ap (λ qs. Whole s.size qs (declared_in r' t')) empty) offset b.there refl
 
@@ -72,7 +72,7 @@ passed capture text r r' t t' p f count s is counts same steps form' interfaces'
 part_at : (capture : List ℕ) (at start count : ℕ) → take count (drop start (drop at capture)) ≡ take count (drop (at + start) capture)
 part_at capture at start count = ap (take count) (drop-drop start at capture)
 
-found_at : (capture : List ℕ) (declared : Declared) (at size : ℕ) (p : Placed) (q : Captured) → at ≤ length capture → size ≤ length (drop at capture) → IsPlaced declared (drop at capture) size p q
+found_at : (capture : List ℕ) (declared : Declared) (at size : ℕ) (p : UnitPacket) (q : Captured) → at ≤ length capture → size ≤ length (drop at capture) → IsPlaced declared (drop at capture) size p q
     → IsFound capture declared (packet_at at p) q
 found_at capture declared at size p q inside there is =
     let left : length (drop at capture) ≡ length capture - at = length-drop at capture in
@@ -88,12 +88,12 @@ found_at capture declared at size p q inside there is =
       options = omega (arith, is.options, there, left, inside);
     }
 
-pub found_packet : (capture text : List ℕ) (r r' : Reader) (t t' : List Interface) (p p' : Packet) (f : Form) (count : ℕ) (s : Step) (placed : Placed) → f ≡ form_of r → Counts f r (length t) count
+pub found_packet : (capture text : List ℕ) (r r' : Reader) (t t' : List Interface) (p p' : Packet) (f : Form) (count : ℕ) (s : Step) (placed : UnitPacket) → f ≡ form_of r → Counts f r (length t) count
     → text ≡ drop r.offset capture → Steps f (first_of count t) text t' s → form_of r' ≡ s.form → r'.interfaces ≡ s.interfaces → r'.offset ≡ r.offset + s.size → s.packet ≡ Some placed
     → p' ≡ packet_at r.offset placed → NextLeaves capture r r' t t' p p' found.Packet
 found_packet capture text r r' t t' p p' f count s placed is counts same steps form' interfaces' offset some packet =
     let b = read capture text r r' t t' f count s is counts same steps form' interfaces' in
-    let P : Option Placed → Type 0 = λ o. ArePlaced (declared_in r' t') (drop r.offset capture) s.size o b.packets in
+    let P : Option UnitPacket → Type 0 = λ o. ArePlaced (declared_in r' t') (drop r.offset capture) s.size o b.packets in
     let q = subst P some b.placed in
     let left : length (drop r.offset capture) ≡ length capture - r.offset = length-drop r.offset capture in
     let inside : r.offset ≤ length capture = omega (arith, b.there, left, steps.some) in

@@ -14,13 +14,13 @@ use Rattle.cap_pcapng.specs.Unit.{Section, block_size, checks_among, frame_behin
 use Rattle.cap_pcapng.specs.declared.frames.Frame.{Frame}
 use Rattle.cap_pcapng.proofs.Units.{frame_checks-append, frame_in-append, block_checks-append, parts_in-append, unit_fault-frame, unit_fault-short, unit_fault-block, unit_fault-among}
 use Rattle.cap_io.specs.Blocks.{Enters}
-use Rattle.cap_io.specs.declared.unit.Held.{Held}
+use Rattle.cap_io.specs.declared.file_state.PacketSpans.{PacketSpans}
 use Rattle.cap_io.proofs.BlocksCame.{BlockCame, FrontSays, WholeCame, block_came, front_says, says_behind}
 use Rattle.cap_io.proofs.BlocksCame as came
-use Rattle.cap_memory.specs.Blocks.{BlockPacketIfAny, BlockStands, IsNoBlock, IsRefusal, held_of}
+use Rattle.cap_memory.specs.Blocks.{BlockPacketIfAny, BlockStands, IsNoBlock, IsRefusal, spans_of}
 use Rattle.cap_memory.specs.declared.block.Refusal.{Refusal}
 use Rattle.cap_memory.specs.declared.block.Refusal.TheVariants as refusal
-use Rattle.cap_memory.specs.declared.block.Placed.{Placed}
+use Rattle.cap_memory.specs.declared.block.UnitPacket.{UnitPacket}
 use Rattle.cap_memory.proofs.Entries.{IsChecked}
 
 -- ---- the first 12 bytes
@@ -79,13 +79,13 @@ entry_fails before interfaces text frame fault same enough least room f fails =
           ∙ ap₂ (λ i p. first_failing (checks_among i p)) same parts ∙ among.1
     ]
 
-packet_as : (order : Order) (before : Option Section) (block : List ℕ) (held : Option Held) → came.BlockPacketIfAny order before block held → BlockPacketIfAny order before block held
+packet_as : (order : Order) (before : Option Section) (block : List ℕ) (held : Option PacketSpans) → came.BlockPacketIfAny order before block held → BlockPacketIfAny order before block held
 packet_as order before block None none = none
 packet_as order before block (Some held) p = record { packet = p.packet; stands = p.stands; lies = p.is_lent }
 
-pub stands : (before : Option Section) (section : Option Order) (interfaces interfaces' : List Described) (text front : List ℕ) (frame : Frame) (packet : Option Placed) → order_before before ≡ section
+pub stands : (before : Option Section) (section : Option Order) (interfaces interfaces' : List Described) (text front : List ℕ) (frame : Frame) (packet : Option UnitPacket) → order_before before ≡ section
     → interfaces_before before ≡ interfaces → 12 ≤ length text → front ≡ take 12 text → Ok frame ≡ checked (frame_fault section front) (frame_in section front) → 12 ≤ frame.length
-    → frame.length ≤ length text → Enters frame interfaces (take frame.length text) (option_map (held_of frame.length) packet) interfaces'
+    → frame.length ≤ length text → Enters frame interfaces (take frame.length text) (option_map (spans_of frame.length) packet) interfaces'
     → BlockStands before text frame.order frame.length interfaces' packet
 stands before section interfaces interfaces' text front frame packet is same enough front_is told least room enters =
     let P : List ℕ → Type 0 = λ f. Ok frame ≡ checked (frame_fault section f) (frame_in section f) in
@@ -99,11 +99,11 @@ stands before section interfaces interfaces' text front frame packet is same eno
       says = ap (frame_in section) (sym joined) ∙ frame_in-append section (take 12 text) (drop 12 (take frame.length text)) (omega (arith, few)) ∙ said.says;
       splits = sym (take-append-drop frame.length text);
     } in
-    let b = block_came before section interfaces interfaces' text (drop frame.length text) (take frame.length text) text frame (option_map (held_of frame.length) packet) is same least room whole refl enters in
+    let b = block_came before section interfaces interfaces' text (drop frame.length text) (take frame.length text) text frame (option_map (spans_of frame.length) packet) is same least room whole refl enters in
     record {
       is_block = b.is_block;
       section = b.section;
-      carries = packet_as frame.order before (take frame.length text) (option_map (held_of frame.length) packet) b.packet;
+      carries = packet_as frame.order before (take frame.length text) (option_map (spans_of frame.length) packet) b.packet;
       fits = enters.fits;
       there = room;
       some = omega (arith, least);

@@ -10,13 +10,13 @@ use Rattle.cap_octet.specs.declared.number.Order.{Order}
 use Rattle.cap_pcapng.specs.Unit.{IsBlock, Section, checks_among, interfaces_before, order_before, packets_in, section_after, unit_fault}
 use Rattle.cap_pcapng.specs.declared.frames.Frame.{Frame}
 use Rattle.cap_io.specs.Blocks.{Enters, FitsIfAny, packet_in, section_of}
-use Rattle.cap_io.specs.Reading.{part_of}
-use Rattle.cap_io.specs.declared.unit.Held.{Held}
+use Rattle.cap_io.specs.Reading.{span_bytes}
+use Rattle.cap_io.specs.declared.file_state.PacketSpans.{PacketSpans}
 use Rattle.cap_memory.specs.Layout.{first_of}
 use Rattle.cap_memory.specs.declared.block.BlockRead.{BlockRead}
-use Rattle.cap_memory.specs.declared.block.Entered.{Entered}
+use Rattle.cap_memory.specs.declared.block.BlockEffect.{BlockEffect}
 use Rattle.cap_memory.specs.declared.layout.Interface.{Interface}
-use Rattle.cap_memory.specs.declared.block.Placed.{Placed}
+use Rattle.cap_memory.specs.declared.block.UnitPacket.{UnitPacket}
 use Rattle.cap_memory.specs.declared.block.Refusal.{Refusal}
 use Rattle.cap_memory.specs.declared.block.Refusal.TheVariants as refusal
 
@@ -25,8 +25,8 @@ abbrev pub holds : ℕ → (List Described → Type 0) → Type 0
 holds count P = (interfaces : List Described) → length interfaces ≡ count → P interfaces
 
 -- what is held of a packet in a unit of so many bytes
-abbrev pub held_of : ℕ → Placed → Held
-held_of size p = record {
+abbrev pub spans_of : ℕ → UnitPacket → PacketSpans
+spans_of size p = record {
   size = size;
   bytes = record { start = p.start; length = p.length };
   options = record { start = p.options_start; length = p.options_length };
@@ -36,11 +36,11 @@ held_of size p = record {
 }
 
 -- its link type and snapshot length are those of its interface
-pub record IsOf (interfaces : List Described) (p : Placed) : Type 0 where
+pub record IsOf (interfaces : List Described) (p : UnitPacket) : Type 0 where
   pub link : option_map (λ (i : Described). i.link) (slice_get interfaces p.interface) ≡ Some p.link_type
   pub snap : option_map (λ (i : Described). i.snap) (slice_get interfaces p.interface) ≡ Some p.snap
 
-abbrev pub IsOfIfAny : List Described → Option Placed → Type 0
+abbrev pub IsOfIfAny : List Described → Option UnitPacket → Type 0
 IsOfIfAny interfaces None = Unit {0}
 IsOfIfAny interfaces (Some p) = IsOf interfaces p
 
@@ -52,11 +52,11 @@ IsRefusal frame interfaces block room (refusal.Fault fault) =
 IsRefusal frame interfaces block room refusal.NoRoom = (room ≤ length interfaces) × ((i : Described) × Enters frame interfaces block None (interfaces ++ i ∷ []))
 
 -- a block passes all of its checks; behind it these are the interfaces, and this is its packet
-pub record EntersTable (frame : Frame) (interfaces : List Described) (block : List ℕ) (table' : List Interface) (entered : Entered) : Type 0 where
-  pub enters : Enters frame interfaces block (option_map (held_of frame.length) entered.packet) (first_of entered.interfaces table')
-  pub known : entered.interfaces ≤ length table'
-  pub few : entered.interfaces ≤ 256
-  pub of : IsOfIfAny interfaces entered.packet
+pub record EntersTable (frame : Frame) (interfaces : List Described) (block : List ℕ) (table' : List Interface) (effect : BlockEffect) : Type 0 where
+  pub enters : Enters frame interfaces block (option_map (spans_of frame.length) effect.packet) (first_of effect.interfaces table')
+  pub known : effect.interfaces ≤ length table'
+  pub few : effect.interfaces ≤ 256
+  pub of : IsOfIfAny interfaces effect.packet
 
 -- ---- a block that a text begins with
 
@@ -65,29 +65,29 @@ abbrev pub Behind : Option Order → List Described → (Option Section → Type
 Behind section interfaces P = (before : Option Section) → order_before before ≡ section → interfaces_before before ≡ interfaces → P before
 
 -- its packet, as its parts lie in it
-pub record BlockPacket (order : Order) (before : Option Section) (block : List ℕ) (held : Held) : Type 0 where
+pub record BlockPacket (order : Order) (before : Option Section) (block : List ℕ) (held : PacketSpans) : Type 0 where
   pub packet : Captured
   pub stands : packets_in before block ≡ packet ∷ []
-  pub lies : packet_in order (interfaces_before before) held (part_of held.bytes block) (part_of held.options block) ≡ Some packet
+  pub lies : packet_in order (interfaces_before before) held (span_bytes held.bytes block) (span_bytes held.options block) ≡ Some packet
 
-abbrev pub BlockPacketIfAny : Order → Option Section → List ℕ → Option Held → Type 0
+abbrev pub BlockPacketIfAny : Order → Option Section → List ℕ → Option PacketSpans → Type 0
 BlockPacketIfAny order before block None = packets_in before block ≡ []
 BlockPacketIfAny order before block (Some held) = BlockPacket order before block held
 
 -- it passes all of its checks; behind it these are the interfaces, and this is its packet
-pub record BlockStands (before : Option Section) (text : List ℕ) (order : Order) (size : ℕ) (interfaces' : List Described) (packet : Option Placed) : Type 0 where
+pub record BlockStands (before : Option Section) (text : List ℕ) (order : Order) (size : ℕ) (interfaces' : List Described) (packet : Option UnitPacket) : Type 0 where
   pub is_block : IsBlock before (take size text)
   pub section : section_after before (take size text) ≡ section_of order interfaces'
-  pub carries : BlockPacketIfAny order before (take size text) (option_map (held_of size) packet)
-  pub fits : FitsIfAny (option_map (held_of size) packet) size
+  pub carries : BlockPacketIfAny order before (take size text) (option_map (spans_of size) packet)
+  pub fits : FitsIfAny (option_map (spans_of size) packet) size
   pub there : size ≤ length text
   pub some : 0 < size
 
 pub record BlockIs (section : Option Order) (interfaces : List Described) (text : List ℕ) (table' : List Interface) (read : BlockRead) : Type 0 where
-  pub stands : Behind section interfaces (λ before. BlockStands before text read.order read.size (first_of read.entered.interfaces table') read.entered.packet)
-  pub known : read.entered.interfaces ≤ length table'
-  pub few : read.entered.interfaces ≤ 256
-  pub of : IsOfIfAny interfaces read.entered.packet
+  pub stands : Behind section interfaces (λ before. BlockStands before text read.order read.size (first_of read.effect.interfaces table') read.effect.packet)
+  pub known : read.effect.interfaces ≤ length table'
+  pub few : read.effect.interfaces ≤ 256
+  pub of : IsOfIfAny interfaces read.effect.packet
 
 -- the text begins with a block that passes all checks and declares an interface
 pub record Declares (before : Option Section) (text : List ℕ) (interfaces : List Described) : Type 0 where

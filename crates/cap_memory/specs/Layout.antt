@@ -2,8 +2,8 @@
 use Rattle.std.specs.Prelude.{ℕ, ◌==◌, if◌then◌else◌, min, List, length, map, take, Option, Some, None}
 use Rattle.cap_octet.specs.declared.number.Order.{Order}
 use Rattle.cap_octet.specs.declared.number.Order.TheVariants.{Little, Big}
-use Rattle.cap_pcap.specs.declared.head.Resolution.{Resolution}
-use Rattle.cap_pcap.specs.declared.head.Resolution.TheVariants.{Microseconds, Nanoseconds}
+use Rattle.cap_pcap.specs.declared.header.Resolution.{Resolution}
+use Rattle.cap_pcap.specs.declared.header.Resolution.TheVariants.{Microseconds, Nanoseconds}
 use Rattle.cap_pcapng.specs.Interface.{Described}
 use Rattle.cap_io.specs.Capture.{Declared, Nothing, PcapFile, PcapngFile}
 use Rattle.cap_memory.specs.declared.layout.Form.{Form}

@@ -9,7 +9,7 @@ use Rattle.cap_pcapng.specs.Interface.{Described}
 use Rattle.cap_pcapng.specs.Unit.{Section}
 use Rattle.cap_io.specs.Capture.{Declared, Nothing, PcapFile, PcapngFile, Whole, Stops, front_of, is_pcapng}
 use Rattle.cap_memory.specs.Layout.{declared_by, declared_in, first_of, most_known}
-use Rattle.cap_memory.specs.declared.block.Placed.{Placed}
+use Rattle.cap_memory.specs.declared.block.UnitPacket.{UnitPacket}
 use Rattle.cap_memory.specs.declared.block.Refusal.{Refusal}
 use Rattle.cap_memory.specs.declared.block.Refusal.TheVariants as refusal
 use Rattle.cap_memory.specs.declared.layout.Form.{Form}
@@ -35,7 +35,7 @@ name_by (PcapFile head) number = Some []
 name_by (PcapngFile first section) number = option_map (λ (i : Described). i.name) (slice_get section.interfaces number)
 
 -- a packet of a unit of so many bytes, which begins a text, and where its parts are in the unit
-pub record IsPlaced (declared : Declared) (text : List ℕ) (size : ℕ) (p : Placed) (q : Captured) : Type 0 where
+pub record IsPlaced (declared : Declared) (text : List ℕ) (size : ℕ) (p : UnitPacket) (q : Captured) : Type 0 where
   pub link : q.link ≡ p.link_type
   pub snap : q.snap ≡ p.snap
   pub name : name_by declared p.interface ≡ Some q.name
@@ -46,7 +46,7 @@ pub record IsPlaced (declared : Declared) (text : List ℕ) (size : ℕ) (p : Pl
   pub comment : q.comment ≡ comment_by declared (take p.options_length (drop p.options_start text))
   pub options : p.options_start + p.options_length ≤ size
 
-abbrev pub ArePlaced : Declared → List ℕ → ℕ → Option Placed → List Captured → Type 0
+abbrev pub ArePlaced : Declared → List ℕ → ℕ → Option UnitPacket → List Captured → Type 0
 ArePlaced declared text size None packets = packets ≡ []
 ArePlaced declared text size (Some p) packets = (q : Captured) × (packets ≡ q ∷ []) × IsPlaced declared text size p q
 
@@ -125,7 +125,7 @@ pub data NextLeaves (capture : List ℕ) (r r' : Reader) (t t' : List Interface)
       → NextLeaves capture r r' t t' p p' found.NoRoom
 
 -- where the parts of a packet are, given the place of its unit
-abbrev pub packet_at : ℕ → Placed → Packet
+abbrev pub packet_at : ℕ → UnitPacket → Packet
 packet_at at p = record {
   time = p.time;
   at = at + p.start;

@@ -3,14 +3,14 @@ ghost use Rattle.std.specs.Prelude.{◌≡◌, ℕ, ◌+◌, ◌<◌, ◌≤◌,
 ghost use Rattle.std.specs.Prelude.{Option, drop, take};
 ghost use Rattle.std.specs.Option.{option_map};
 ghost use Rattle.std.specs.List.{slice_get};
-ghost use Rattle.cap_pcapng.specs.Answer.{Judges};
+ghost use Rattle.cap_pcapng.specs.Answer.{ChecksGive};
 ghost use Rattle.cap_pcapng.specs.Block.{parts_of};
-ghost use Rattle.cap_pcapng.specs.Interface.{described};
+ghost use Rattle.cap_pcapng.specs.Interface.{description_of};
 ghost use Rattle.cap_pcapng.specs.Unit.{Section, checks_among, interfaces_before, order_before};
 ghost use Rattle.cap_pcapng.specs.declared.blocks.Block.TheVariants as a;
-ghost use Rattle.cap_io.specs.Blocks.{Enters, PacketFound, told_behind};
+ghost use Rattle.cap_io.specs.Blocks.{Enters, PacketFound, fault_among};
 ghost use Rattle.cap_memory.specs.Layout.{described_of, first_of};
-ghost use Rattle.cap_memory.specs.Blocks.{BlockIs, EntersTable, IsNoBlock, IsOf, IsRefusal, held_of};
+ghost use Rattle.cap_memory.specs.Blocks.{BlockIs, EntersTable, IsNoBlock, IsOf, IsRefusal, spans_of};
 ghost use Rattle.cap_memory.specs.Blocks.{holds};
 
 use crate::layout::Interface;
@@ -30,7 +30,7 @@ const MOST_INTERFACES: usize = 256;
 
 /// A packet, and where its parts are in its unit.
 #[derive(Clone, Copy)]
-pub(crate) struct Placed {
+pub(crate) struct UnitPacket {
     pub(crate) start: u32,
     pub(crate) length: u32,
     pub(crate) options_start: u32,
@@ -53,9 +53,9 @@ pub(crate) enum Refusal {
 
 /// A block that passed all of its checks: how many interfaces there are behind it, and its packet.
 #[derive(Clone, Copy)]
-pub(crate) struct Entered {
+pub(crate) struct BlockEffect {
     pub(crate) interfaces: usize,
-    pub(crate) packet: Option<Placed>,
+    pub(crate) packet: Option<UnitPacket>,
 }
 
 /// The interface with this number among the first of a table.
@@ -74,15 +74,15 @@ fn get(table: &[Interface], count: usize, number: u32) -> Option<&Interface>
 fn put(table: &mut [Interface], count: usize, interface: &ReadInterface<'_>)
     requires { count < length table.old }
     ensures put { first_of (count + 1) table.new
-        ≡ first_of count table.old ++ described interface.now ∷ [] }
+        ≡ first_of count table.old ++ description_of interface.now ∷ [] }
     ensures same { length table.new ≡ length table.old }
 {
     table[count] = Interface::of(interface);
 }
 
 /// The fault of a block that fails by itself, behind the interfaces of a table.
-fn fault_behind(count: usize, fault: Fault) -> Fault
-    ensures told { holds count (λ interfaces. result ≡ told_behind interfaces fault) }
+fn fault_in_full_table(count: usize, fault: Fault) -> Fault
+    ensures fault { holds count (λ interfaces. result ≡ fault_among interfaces fault) }
     ensures never { (result ≡ Fault.NoMemory) → fault ≡ Fault.NoMemory }
 {
     match fault {
@@ -99,20 +99,20 @@ fn enhanced_packet(
     count: usize,
     block: &EnhancedBlock<'_>,
     size: u32,
-) -> Result<Placed, Fault>
+) -> Result<UnitPacket, Fault>
     requires known { count ≤ length table.now }
     requires room { 28 + length block.now.rest.now ≤ size }
-    ensures found { Judges (checks_among (first_of count table.now) (parts_of
+    ensures found { ChecksGive (checks_among (first_of count table.now) (parts_of
         (a.Enhanced block.now))) result (λ packet. PacketFound block.now.order
         (first_of count table.now) (parts_of (a.Enhanced block.now)) 28 size block.now.rest.now
-        (held_of size packet)) }
+        (spans_of size packet)) }
     ensures interface { IfOk result (IsOf (first_of count table.now)) }
 {
     let interface = get(table, count, block.interface).ok_or(Fault::UnknownInterface)?;
     block.data()?;
     let time = interface.clock().time(block.ticks)?;
     let options = block.options().rest.len() as u32;
-    Ok(Placed {
+    Ok(UnitPacket {
         start: ENHANCED_DATA,
         length: block.captured,
         options_start: ENHANCED_DATA + block.rest.len() as u32 - options,
@@ -130,16 +130,16 @@ fn simple_packet(
     table: &[Interface],
     count: usize,
     block: &SimpleBlock<'_>,
-) -> Result<Placed, Fault>
+) -> Result<UnitPacket, Fault>
     requires known { count ≤ length table.now }
-    ensures found { Judges (checks_among (first_of count table.now) (parts_of (a.Simple block.now)))
+    ensures found { ChecksGive (checks_among (first_of count table.now) (parts_of (a.Simple block.now)))
         result (λ packet. (order : Order) (size : ℕ) → PacketFound order (first_of count table.now)
-        (parts_of (a.Simple block.now)) 12 size block.now.rest.now (held_of size packet)) }
+        (parts_of (a.Simple block.now)) 12 size block.now.rest.now (spans_of size packet)) }
     ensures interface { IfOk result (IsOf (first_of count table.now)) }
 {
     let interface = get(table, count, 0).ok_or(Fault::UnknownInterface)?;
     block.data(interface.snap)?;
-    Ok(Placed {
+    Ok(UnitPacket {
         start: SIMPLE_DATA,
         length: block.captured(interface.snap),
         options_start: SIMPLE_DATA,
@@ -154,14 +154,14 @@ fn simple_packet(
 
 /// Makes the checks of a whole block of this frame, and brings the table of interfaces behind it. A
 /// refusal leaves the table unchanged.
-fn enter(
+fn apply_block(
     table: &mut [Interface],
     count: usize,
     frame: &Frame,
     bytes: &[u8],
-) -> Result<Entered, Refusal>
+) -> Result<BlockEffect, Refusal>
     requires known { count ≤ length table.old }
-    requires few { count ≤ 256 }
+    requires bounds { count ≤ 256 }
     requires whole { length bytes.now ≡ frame.now.length }
     requires shortest { 12 ≤ frame.now.length }
     ensures ok { IfOk result (EntersTable frame.now (first_of count table.old) bytes.now
@@ -172,7 +172,7 @@ fn enter(
     ensures kept { OnErr result (table.new ≡ table.old) }
 {
     match block(frame, bytes) {
-        Ok(Block::Section) => Ok(Entered {
+        Ok(Block::Section) => Ok(BlockEffect {
             interfaces: 0,
             packet: None,
         }),
@@ -184,30 +184,30 @@ fn enter(
                 return Err(Refusal::NoRoom);
             }
             put(table, count, &found.interface);
-            Ok(Entered {
+            Ok(BlockEffect {
                 interfaces: count + 1,
                 packet: None,
             })
         }
         Ok(Block::Enhanced(found)) => match enhanced_packet(table, count, &found, frame.length) {
-            Ok(packet) => Ok(Entered {
+            Ok(packet) => Ok(BlockEffect {
                 interfaces: count,
                 packet: Some(packet),
             }),
             Err(fault) => Err(Refusal::Fault(fault)),
         },
         Ok(Block::Simple(found)) => match simple_packet(table, count, &found) {
-            Ok(packet) => Ok(Entered {
+            Ok(packet) => Ok(BlockEffect {
                 interfaces: count,
                 packet: Some(packet),
             }),
             Err(fault) => Err(Refusal::Fault(fault)),
         },
-        Ok(Block::Skipped) => Ok(Entered {
+        Ok(Block::Skipped) => Ok(BlockEffect {
             interfaces: count,
             packet: None,
         }),
-        Err(fault) => Err(Refusal::Fault(fault_behind(count, fault))),
+        Err(fault) => Err(Refusal::Fault(fault_in_full_table(count, fault))),
     }
 }
 
@@ -217,16 +217,7 @@ pub(crate) struct BlockRead {
     pub(crate) size: usize,
     /// The byte order of its section.
     pub(crate) order: Order,
-    pub(crate) entered: Entered,
-}
-
-fn first_12(text: &[u8]) -> [u8; 12]
-    requires { 12 ≤ length text.now }
-    ensures { result ≡ take 12 text.now }
-{
-    let mut first = [0; 12];
-    first.copy_from_slice(&text[..12]);
-    first
+    pub(crate) effect: BlockEffect,
 }
 
 /// Reads the block that a text begins with, behind a section of this byte order or behind none, and
@@ -238,7 +229,7 @@ pub(crate) fn read_block(
     text: &[u8],
 ) -> Result<BlockRead, Refusal>
     requires known { count ≤ length table.old }
-    requires few { count ≤ 256 }
+    requires bounds { count ≤ 256 }
     ensures ok { IfOk result (λ read. BlockIs section (first_of count table.old) text.now table.new
         read) }
     ensures same { length table.new ≡ length table.old }
@@ -246,10 +237,10 @@ pub(crate) fn read_block(
         (length table.old)) }
     ensures kept { OnErr result (table.new ≡ table.old) }
 {
-    if text.len() < 12 {
+    let Some(first) = text.first_chunk::<12>() else {
         return Err(Refusal::Fault(Fault::Truncated));
-    }
-    let found = match frame(section, &first_12(text)) {
+    };
+    let found = match frame(section, first) {
         Ok(found) => found,
         Err(fault) => return Err(Refusal::Fault(fault)),
     };
@@ -257,11 +248,11 @@ pub(crate) fn read_block(
     if text.len() < size {
         return Err(Refusal::Fault(Fault::Truncated));
     }
-    match enter(table, count, &found, &text[..size]) {
-        Ok(entered) => Ok(BlockRead {
+    match apply_block(table, count, &found, &text[..size]) {
+        Ok(effect) => Ok(BlockRead {
             size,
             order: found.order,
-            entered,
+            effect,
         }),
         Err(refusal) => Err(refusal),
     }

@@ -1,6 +1,6 @@
 //! What the caller keeps of a capture, in C's layout.
 ghost use Rattle.std.specs.Prelude.{◌≡◌, ◌≤◌, length};
-ghost use Rattle.cap_pcapng.specs.Interface.{described};
+ghost use Rattle.cap_pcapng.specs.Interface.{description_of};
 ghost use Rattle.cap_memory.specs.Layout.{described_of, form_of, most_known, order_by};
 
 use cap_octet::Order;
@@ -133,7 +133,7 @@ impl Reader {
     pub(crate) fn known(&self, room: usize) -> usize
         ensures value { result ≡ most_known self.now room }
         ensures fits { result ≤ room }
-        ensures few { result ≤ 256 }
+        ensures bounds { result ≤ 256 }
     {
         (self.interfaces as usize).min(room).min(MOST_INTERFACES)
     }
@@ -184,7 +184,7 @@ impl Reader {
 impl Interface {
     /// The same as it was read.
     pub(crate) fn of(read: &ReadInterface<'_>) -> Self
-        ensures { described_of result ≡ described read.now }
+        ensures { described_of result ≡ description_of read.now }
     {
         let mut name = [0; MOST_NAME];
         name[..read.name.len()].copy_from_slice(read.name);

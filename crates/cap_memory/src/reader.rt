@@ -2,15 +2,15 @@
 ghost use Rattle.std.specs.Prelude.{◌≡◌, ℕ, ◌+◌, ◌^◌, ◌≤◌, ◌<◌, IfOk, IfErr, IsTrue, OnErr, List, false, drop, length, take};
 ghost use Rattle.cap_pcapng.specs.Interface.{Described};
 ghost use Rattle.cap_io.specs.Blocks.{section_of};
-ghost use Rattle.cap_io.specs.Capture.{first_after, is_pcapng};
+ghost use Rattle.cap_io.specs.Capture.{first_link_after, is_pcapng};
 ghost use Rattle.cap_memory.specs.Layout.{declared_in, first_of};
 ghost use Rattle.cap_memory.specs.Units.{Begins, Counts, IsBare, IsNoUnit, IsOver, IsSomeFor};
 ghost use Rattle.cap_memory.specs.Units.{NextLeaves, Steps, comment_by, packet_at};
 ghost use Rattle.cap_memory.specs.declared.layout.Form.TheVariants as form;
 
-use crate::block::{Placed, Refusal, read_block};
+use crate::block::{Refusal, UnitPacket, read_block};
 use crate::layout::{Form, Interface, Packet, Reader};
-use crate::pcap::{RECORD_HEADER, head_in, record_in};
+use crate::pcap::{RECORD_HEADER, header_in, record_in};
 use cap_octet::{Fault, Order};
 use cap_pcap::Head;
 use cap_pcapng::{Options, begins_section};
@@ -35,7 +35,7 @@ struct Step {
     size: usize,
     form: Form,
     interfaces: usize,
-    packet: Option<Placed>,
+    packet: Option<UnitPacket>,
 }
 
 /// The bytes from a place on; none where it is past the end.
@@ -48,26 +48,20 @@ fn rest_of(text: &[u8], at: usize) -> &[u8]
     }
 }
 
-fn first_4(text: &[u8]) -> [u8; 4]
-    requires { 4 ≤ length text.now }
-    ensures { result ≡ take 4 text.now }
-{
-    let mut first = [0; 4];
-    first.copy_from_slice(&text[..4]);
-    first
-}
-
 /// Whether a file that begins so is pcapng.
 fn is_pcapng(text: &[u8]) -> bool
     ensures { result ≡ is_pcapng text.now }
 {
-    text.len() >= 4 && begins_section(&first_4(text))
+    match text.first_chunk::<4>() {
+        Some(first) => begins_section(first),
+        None => false,
+    }
 }
 
 /// The first link type of a file behind a block, given that before it and the interfaces behind it.
-fn link_behind(first: Option<u16>, table: &[Interface], count: usize) -> Option<u16>
+fn first_link_type(first: Option<u16>, table: &[Interface], count: usize) -> Option<u16>
     requires { count ≤ length table.now }
-    ensures { (order : Order) → result ≡ first_after first
+    ensures { (order : Order) → result ≡ first_link_after first
         (section_of order (first_of count table.now)) }
 {
     if count == 0 {
@@ -89,7 +83,7 @@ fn record_step(head: &Head, text: &[u8], interfaces: usize) -> Result<Step, Refu
             size: RECORD_HEADER as usize + record.captured as usize,
             form: Form::Pcap(*head),
             interfaces,
-            packet: Some(Placed {
+            packet: Some(UnitPacket {
                 start: RECORD_HEADER,
                 length: record.captured,
                 options_start: RECORD_HEADER,
@@ -115,7 +109,7 @@ fn block_step(
     text: &[u8],
 ) -> Result<Step, Refusal>
     requires known { count ≤ length table.old }
-    requires few { count ≤ 256 }
+    requires bounds { count ≤ 256 }
     requires begins { Begins form section first (first_of count table.old) text.now }
     ensures ok { IfOk result (Steps form (first_of count table.old) text.now table.new) }
     ensures same { length table.new ≡ length table.old }
@@ -125,12 +119,12 @@ fn block_step(
 {
     match read_block(section, table, count, text) {
         Ok(read) => {
-            let link = link_behind(first, table, read.entered.interfaces);
+            let link = first_link_type(first, table, read.effect.interfaces);
             Ok(Step {
                 size: read.size,
                 form: Form::Pcapng(read.order, link),
-                interfaces: read.entered.interfaces,
-                packet: read.entered.packet,
+                interfaces: read.effect.interfaces,
+                packet: read.effect.packet,
             })
         }
         Err(why) => Err(why),
@@ -145,7 +139,7 @@ fn read_unit(
     text: &[u8],
 ) -> Result<Step, Refusal>
     requires known { count ≤ length table.old }
-    requires few { count ≤ 256 }
+    requires bounds { count ≤ 256 }
     requires some { IsSomeFor form text.now }
     requires none { IsBare form count }
     ensures ok { IfOk result (Steps form (first_of count table.old) text.now table.new) }
@@ -159,7 +153,7 @@ fn read_unit(
             if is_pcapng(text) {
                 return block_step(form, None, None, table, count, text);
             }
-            match head_in(text) {
+            match header_in(text) {
                 Ok(head) => Ok(Step {
                     size: 24,
                     form: Form::Pcap(head),
@@ -175,7 +169,7 @@ fn read_unit(
 }
 
 /// A packet of the unit at this place of a capture.
-fn packet_at(at: usize, placed: &Placed) -> Packet
+fn packet_at(at: usize, placed: &UnitPacket) -> Packet
     requires bytes { at + placed.now.start < 2 ^ 64 }
     requires options { at + placed.now.options_start < 2 ^ 64 }
     ensures { result ≡ packet_at at placed.now }
@@ -198,7 +192,7 @@ fn known_in(reader: &Reader, form: Form, room: usize) -> usize
     ensures counts { Counts form reader.now room result }
     ensures bare { IsBare form result }
     ensures fits { result ≤ room }
-    ensures few { result ≤ 256 }
+    ensures bounds { result ≤ 256 }
 {
     match form {
         Form::Unknown => 0,

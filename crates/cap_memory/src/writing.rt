@@ -4,7 +4,7 @@ ghost use Rattle.std.specs.List.{flat_map};
 ghost use Rattle.cap_octet.specs.Checks.{first_failing};
 ghost use Rattle.cap_octet.specs.Packet.{captured};
 ghost use Rattle.cap_io.specs.Text.{record_text};
-ghost use Rattle.cap_pcap.specs.Encoding.{IsPcap, heading, resolution_of};
+ghost use Rattle.cap_pcap.specs.Encoding.{IsPcap, file_header, resolution_of};
 ghost use Rattle.cap_pcapng.specs.Encoding.{fit_checks, interface_text, packet_text, section_text};
 ghost use Rattle.cap_memory.specs.Layout.{resolution_by};
 ghost use Rattle.cap_memory.specs.Writing.{WriteLeaves, block_checks, interface_checks};
@@ -14,7 +14,7 @@ use cap_octet::date::TIME_END;
 use cap_octet::{Fault, Format, Packet};
 use cap_pcap::{head_bytes, record_bytes};
 use cap_pcapng::{
-    interface_end, interface_head, option_head, packet_end, packet_head, padding_behind,
+    interface_end, interface_header, option_header, packet_end, packet_header, padding_behind,
     section_bytes,
 };
 
@@ -75,7 +75,7 @@ fn format_by(nanoseconds: u32) -> Format
 
 /// Puts the file header of a pcap form.
 pub fn write_file_header(nanoseconds: u32, link_type: u16, buffer: &mut [u8]) -> Written
-    ensures { WriteLeaves None (heading (resolution_by nanoseconds) link_type) buffer.old buffer.new
+    ensures { WriteLeaves None (file_header (resolution_by nanoseconds) link_type) buffer.old buffer.new
         result }
 {
     let head = head_bytes(format_by(nanoseconds), link_type);
@@ -154,11 +154,11 @@ fn put_interface(packet: &Packet<'_>, buffer: &mut [u8]) -> Written
 {
     let name = packet.name;
     let padding = padding_behind(name.len());
-    let option = option_head(NAME, name);
+    let option = option_header(NAME, name);
     let start = if name.is_empty() { 7 } else { 3 };
     let option = &option[start..];
     let size = 32 + option.len() + name.len() + padding;
-    let head = interface_head(size as u32, packet);
+    let head = interface_header(size as u32, packet);
     let end = interface_end(size as u32);
     put_parts(&[&head, option, name, &end[3 - padding..]], size, buffer)
 }
@@ -210,16 +210,16 @@ fn put_packet(number: u32, packet: &Packet<'_>, buffer: &mut [u8]) -> Written
     let padding = padding_behind(packet.bytes.len());
     if packet.comment.is_empty() {
         let size = 32 + packet.bytes.len() + padding;
-        let head = packet_head(size as u32, number, packet);
+        let head = packet_header(size as u32, number, packet);
         let end = packet_end(size as u32);
         return put_parts(&[&head, packet.bytes, &end[7 - padding..]], size, buffer);
     }
     let comment = packet.comment;
-    let option = option_head(COMMENT, comment);
+    let option = option_header(COMMENT, comment);
     let option = &option[3 - padding..];
     let zeros = padding_behind(comment.len()) + 4;
     let size = 32 + packet.bytes.len() + option.len() + comment.len() + zeros;
-    let head = packet_head(size as u32, number, packet);
+    let head = packet_header(size as u32, number, packet);
     let end = packet_end(size as u32);
     let parts = [&head[..], packet.bytes, option, comment, &end[7 - zeros..]];
     put_parts(&parts, size, buffer)

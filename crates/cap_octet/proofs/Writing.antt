@@ -1,13 +1,11 @@
 -- Bytes that are written part by part, and where that stops.
-use Rattle.std.proofs.Common.{◌≡◌, ℕ, ◌+◌, ◌%◌, ◌^◌, ◌<◌, List, ◌++◌, length, take, drop, get_or, Result, Ok, Err, IfErr, IsTrue, ap, sym, ◌∙◌, arith, length-append}
+use Rattle.std.proofs.Common.{◌≡◌, ℕ, ◌+◌, ◌<◌, List, ◌++◌, length, take, drop, get_or, Err, ap, sym, ◌∙◌, arith, length-append}
 use Rattle.std.proofs.Math.Seq.{take-append-add}
 use Rattle.std.specs.List.{flat_map}
 use Rattle.std.proofs.lemmas.Grind.{flat_map-append}
 use Rattle.std.proofs.lemmas.List.{append_assoc, take-append-le, take-append-drop, drop_more}
-use Rattle.cap_octet.specs.declared.device.Output.{Ghosts}
 use Rattle.cap_octet.specs.declared.device.Stopped.{Stopped}
-use Rattle.cap_octet.specs.Device.{Stops, WritesAll, WritesParts, failures_of}
-use Rattle.cap_octet.specs.Writer.{WritesExactly}
+use Rattle.cap_octet.specs.Device.{Stops, WritesAll}
 
 -- a part that stopped behind others, and that more would have followed
 pub stops-part : (old mid new done part more : List ℕ) (stopped : Stopped) → mid ≡ old ++ done
@@ -31,41 +29,24 @@ parts_at f parts i d within =
     ∙ ap (λ l. flat_map f (take i parts) ++ flat_map f l) (drop_more parts i d within)
 
 -- a part that stopped behind the ones before it
-pub parts-stop : {X : Type 0} (f : X → List ℕ) (parts : List X) (i : ℕ) (d : X) (before : ℕ) (old mid new : List ℕ) (stopped : Stopped)
-    → i < length parts → before ≡ length (flat_map f (take i parts)) % 2 ^ 64 → mid ≡ old ++ flat_map f (take i parts)
+pub parts-stop : {X : Type 0} (f : X → List ℕ) (parts : List X) (i : ℕ) (d : X) (old mid new : List ℕ) (stopped : Stopped)
+    → i < length parts → mid ≡ old ++ flat_map f (take i parts)
+    → stopped.written < length (f (get_or parts i d)) → WritesAll mid (f (get_or parts i d)) (Err stopped) new → Stops old (flat_map f parts) new
+parts-stop f parts i d old mid new stopped within first less second =
+    rw (parts_at f parts i d within) (stops-part old mid new (flat_map f (take i parts)) (f (get_or parts i d)) (flat_map f (drop (i + 1) parts)) stopped first less second)
+
+-- the same, with how many bytes there are up to where it stopped
+pub parts-stop-at : {X : Type 0} (f : X → List ℕ) (parts : List X) (i : ℕ) (d : X) (before : ℕ) (old mid new : List ℕ) (stopped : Stopped)
+    → i < length parts → before ≡ length (flat_map f (take i parts)) → mid ≡ old ++ flat_map f (take i parts)
     → stopped.written < length (f (get_or parts i d)) → WritesAll mid (f (get_or parts i d)) (Err stopped) new
-    → WritesParts old (flat_map f parts) (Err (record { written = (before + stopped.written) % 2 ^ 64 })) new
-parts-stop f parts i d before old mid new stopped within before_is first less second =
+    → new ≡ old ++ take (before + stopped.written) (flat_map f parts)
+parts-stop-at f parts i d before old mid new stopped within before_is first less second =
     let done : List ℕ = flat_map f (take i parts) in
     let part : List ℕ = f (get_or parts i d) in
     let more : List ℕ = flat_map f (drop (i + 1) parts) in
-    rw (parts_at f parts i d within) (
-      length done + stopped.written,
-      omega (arith, less, length-append done (part ++ more), length-append part more),
-      omega arith,
-      second
-          ∙ ap (λ (x : List ℕ). x ++ take stopped.written part) first
-          ∙ append_assoc old done (take stopped.written part)
-          ∙ ap (λ (x : List ℕ). old ++ (done ++ x)) (sym (take-append-le stopped.written part more (omega (arith, less))))
-          ∙ ap (λ (x : List ℕ). old ++ x) (sym (take-append-add done (part ++ more) stopped.written)),
-    )
-
--- of fewer than 2^64 bytes
-counted : (written written' bytes : List ℕ) (r : Result (Unit {0}) Stopped) → length bytes < 2 ^ 64 → WritesParts written bytes r written' → WritesAll written bytes r written'
-counted written written' bytes (Ok done) few writes = writes
-counted written written' bytes (Err stopped) few writes =
-    let n : ℕ = writes.0 in
-    let less : n < length bytes = writes.1 in
-    let counts : stopped.written ≡ n % 2 ^ 64 = writes.2 in
-    let same : n ≡ stopped.written = omega arith in
-    writes.3 ∙ ap (λ (k : ℕ). written ++ take k bytes) same
-
-pub parts-exactly : {Device : Type 0} (d : Ghosts Device) (old new : Device) (bytes : List ℕ) (r : Result (Unit {0}) Stopped)
-    → IfErr r (λ stopped. stopped.written < length bytes) → d.failures new ≡ d.failures old + failures_of r → d.room new ≡ d.room old
-    → (IsTrue d.tells → WritesParts (d.written old) bytes r (d.written new)) → length bytes < 2 ^ 64 → WritesExactly d old bytes r new
-parts-exactly d old new bytes r front failed room told few = record {
-  front = front;
-  failed = failed;
-  room = room;
-  told = λ tells. counted (d.written old) (d.written new) bytes r few (told tells);
-}
+    rw (parts_at f parts i d within, before_is) (
+    second
+    ∙ ap (λ (x : List ℕ). x ++ take stopped.written part) first
+    ∙ append_assoc old done (take stopped.written part)
+    ∙ ap (λ (x : List ℕ). old ++ (done ++ x)) (sym (take-append-le stopped.written part more (omega (arith, less))))
+    ∙ ap (λ (x : List ℕ). old ++ x) (sym (take-append-add done (part ++ more) stopped.written)))

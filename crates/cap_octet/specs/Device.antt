@@ -1,5 +1,5 @@
 -- What the calls of a device do to its bytes and to the counts that contracts see.
-use Rattle.std.specs.Prelude.{◌≡◌, ℕ, ◌+◌, ◌%◌, ◌^◌, ◌<◌, ◌≤◌, Bool, true, false, List, [], ◌++◌, length, take, drop, Result, Ok, Err, min}
+use Rattle.std.specs.Prelude.{◌≡◌, ℕ, ◌+◌, ◌^◌, ◌<◌, ◌≤◌, Bool, true, false, List, [], ◌++◌, length, take, drop, Result, Ok, Err, min}
 use Rattle.cap_octet.specs.declared.device.DeviceFault.{DeviceFault}
 use Rattle.cap_octet.specs.declared.device.Stopped.{Stopped}
 
@@ -60,11 +60,6 @@ Writes written buf (Err fault) written' = written' ≡ written
 abbrev pub WritesAll : List ℕ → List ℕ → Result (Unit {0}) Stopped → List ℕ → Type 0
 WritesAll written buf (Ok _) written' = written' ≡ written ++ buf
 WritesAll written buf (Err stopped) written' = written' ≡ written ++ take stopped.written buf
-
--- all bytes are appended to what was written; or a prefix of them, not the whole, whose length modulo 2^64 the error states
-abbrev pub WritesParts : List ℕ → List ℕ → Result (Unit {0}) Stopped → List ℕ → Type 0
-WritesParts written bytes (Ok _) written' = written' ≡ written ++ bytes
-WritesParts written bytes (Err stopped) written' = (n : ℕ) × (n < length bytes) × (stopped.written ≡ n % 2 ^ 64) × (written' ≡ written ++ take n bytes)
 
 -- a prefix of the bytes is appended to what was written, not the whole
 abbrev pub Stops : List ℕ → List ℕ → List ℕ → Type 0

@@ -4,7 +4,7 @@ ghost use Rattle.std.specs.Prelude.{IfErr, false, if◌then◌else◌};
 ghost use Rattle.std.specs.List.{flat_map};
 ghost use Rattle.std.specs.Io.{StartsWith};
 ghost use Rattle.cap_octet.specs.Device.{AppendsOrStops, Passes, Reads, Fills, Writes, WritesAll};
-ghost use Rattle.cap_octet.specs.Device.{WritesParts, count_of, failures_of};
+ghost use Rattle.cap_octet.specs.Device.{count_of, failures_of};
 
 /// The device failed in this call.
 #[derive(Clone, Copy, Debug, PartialEq, Eq)]
@@ -209,26 +209,27 @@ fn write_in_turns<O: Output>(output: &mut O, buf: &[u8]) -> Result<(), Stopped>
     Ok(())
 }
 
-/// Writes parts one after another. An error is a failure of the device in this call, and reports
-/// how many bytes, fewer than all, were written before it: that number modulo 2^64.
+/// Writes parts one after another, fewer than 2^64 bytes in all. An error is a failure of the
+/// device in this call, and reports how many bytes, fewer than all, were written before it.
 #[inline(always)]
 pub fn write_all_parts<O: Output>(output: &mut O, parts: &[&[u8]]) -> Result<(), Stopped>
+    requires { length (flat_map (λ part. part.now) parts.now) < 2 ^ 64 }
     ensures front { IfErr result (λ stopped.
         stopped.written < length (flat_map (λ part. part.now) parts.now)) }
     ensures failed { O.failures output.new ≡ O.failures output.old + failures_of result }
     ensures room { O.room output.new ≡ O.room output.old }
     ensures told { IsTrue O.tells
-        → WritesParts (O.written output.old) (flat_map (λ part. part.now) parts.now) result
+        → WritesAll (O.written output.old) (flat_map (λ part. part.now) parts.now) result
         (O.written output.new) }
 {
-    let mut before: usize = 0;
+    let mut before = 0;
     for part in parts {
         if let Err(stopped) = write_all(output, part) {
             return Err(Stopped {
-                written: before.wrapping_add(stopped.written),
+                written: before + stopped.written,
             });
         }
-        before = before.wrapping_add(part.len());
+        before += part.len();
     }
     Ok(())
 }
@@ -242,8 +243,10 @@ pub fn write_parts<O: Output>(output: &mut O, parts: &[&[u8]]) -> Result<(), Dev
     ensures failed { O.failures output.new ≡ O.failures output.old + failures_of result }
     ensures room { O.room output.new ≡ O.room output.old }
 {
-    let Ok(()) = write_all_parts(output, parts) else {
-        return Err(DeviceFault);
-    };
+    for part in parts {
+        if let Err(_) = write_all(output, part) {
+            return Err(DeviceFault);
+        }
+    }
     Ok(())
 }

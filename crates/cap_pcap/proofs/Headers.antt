@@ -7,7 +7,7 @@ use Rattle.cap_octet.specs.declared.number.Order.{Order}
 use Rattle.cap_octet.specs.declared.number.Order.TheVariants.{Little, Big}
 use Rattle.cap_octet.proofs.Checks.{all_met}
 use Rattle.cap_octet.proofs.Numbers.{number_in-append}
-use Rattle.cap_pcap.specs.Header.{form_in, form_of, head_checks, head_fault, head_in}
+use Rattle.cap_pcap.specs.Header.{form_in, form_of, header_checks, header_fault, header_in}
 
 -- ---- more bytes behind
 
@@ -15,13 +15,13 @@ pub form_in-append : (front more : List ℕ) → 4 ≤ length front → form_in 
 form_in-append front more enough =
     rw (number_in-append Little 4 front more 0 (omega arith), number_in-append Big 4 front more 0 (omega arith)) refl
 
-pub head_in-append : (front more : List ℕ) → 24 ≤ length front → head_in (front ++ more) ≡ head_in front
-head_in-append front more enough =
+pub header_in-append : (front more : List ℕ) → 24 ≤ length front → header_in (front ++ more) ≡ header_in front
+header_in-append front more enough =
     let order : Order = (form_of front).0 in
     rw (form_in-append front more (omega arith), number_in-append order 4 front more 16 (omega arith), number_in-append order 4 front more 20 (omega arith)) refl
 
-pub head_fault-append : (front more : List ℕ) → 24 ≤ length front → head_fault (front ++ more) ≡ head_fault front
-head_fault-append front more enough =
+pub header_fault-append : (front more : List ℕ) → 24 ≤ length front → header_fault (front ++ more) ≡ header_fault front
+header_fault-append front more enough =
     let order : Order = (form_of front).0 in
     let size : length (front ++ more) ≡ length front + length more = length-append front more in
     rw (
@@ -37,18 +37,18 @@ head_fault-append front more enough =
 
 -- ---- the first checks
 
-pub head_fault-no_magic : (text : List ℕ) → form_in text ≡ None → head_fault text ≡ Some NotACaptureFile
-head_fault-no_magic text none = rw none (grind arith)
+pub header_fault-no_magic : (text : List ℕ) → form_in text ≡ None → header_fault text ≡ Some NotACaptureFile
+header_fault-no_magic text none = rw none (grind arith)
 
-pub head_fault-few : (text : List ℕ) → length text < 4 → head_fault text ≡ Some NotACaptureFile
-head_fault-few text few = rw (lt-leb 4 (length text) few) refl
+pub header_fault-few : (text : List ℕ) → length text < 4 → header_fault text ≡ Some NotACaptureFile
+header_fault-few text few = rw (lt-leb 4 (length text) few) refl
 
-pub head_fault-short : (text : List ℕ) → is_some (form_in text) ≡ true → 4 ≤ length text → length text < 24 → head_fault text ≡ Some Truncated
-head_fault-short text some enough short = rw (le-leb 4 (length text) enough, some, lt-leb 24 (length text) short) refl
+pub header_fault-short : (text : List ℕ) → is_some (form_in text) ≡ true → 4 ≤ length text → length text < 24 → header_fault text ≡ Some Truncated
+header_fault-short text some enough short = rw (le-leb 4 (length text) enough, some, lt-leb 24 (length text) short) refl
 
 -- ---- all checks
 
-pub head_fault-none : (text : List ℕ) → head_fault text ≡ None → 24 ≤ length text
-head_fault-none text none =
-    let met = all_met (head_checks text) none in
+pub header_fault-none : (text : List ℕ) → header_fault text ≡ None → 24 ≤ length text
+header_fault-none text none =
+    let met = all_met (header_checks text) none in
     leb-true 24 (length text) met.1.0

@@ -7,8 +7,8 @@ use Rattle.cap_octet.specs.declared.fault.Fault.{Fault}
 use Rattle.cap_octet.specs.declared.fault.Fault.TheVariants.{Truncated}
 use Rattle.cap_octet.proofs.Checks.{all_met, failing_front, met_front}
 use Rattle.cap_octet.proofs.Numbers.{number_in-append}
-use Rattle.cap_pcap.specs.declared.head.Head.{Head}
-use Rattle.cap_pcap.specs.Record.{captured_len, record_size, field_checks, record_checks, record_fault, record_head_in, IsRecord}
+use Rattle.cap_pcap.specs.declared.header.Head.{Head}
+use Rattle.cap_pcap.specs.Record.{captured_len, record_size, field_checks, record_checks, record_fault, record_header_in, IsRecord}
 
 -- ---- more bytes behind
 
@@ -19,8 +19,8 @@ pub field_checks-append : (head : Head) (front more : List ℕ) → 16 ≤ lengt
 field_checks-append head front more enough =
     rw (captured_len-append head front more enough, number_in-append head.order 4 front more 4 (omega arith)) refl
 
-pub record_head_in-append : (head : Head) (front more : List ℕ) → 16 ≤ length front → record_head_in head (front ++ more) ≡ record_head_in head front
-record_head_in-append head front more enough =
+pub record_header_in-append : (head : Head) (front more : List ℕ) → 16 ≤ length front → record_header_in head (front ++ more) ≡ record_header_in head front
+record_header_in-append head front more enough =
     rw (
       number_in-append head.order 4 front more 0 (omega arith),
       number_in-append head.order 4 front more 4 (omega arith),

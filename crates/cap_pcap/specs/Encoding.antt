@@ -9,8 +9,8 @@ use Rattle.cap_octet.specs.declared.format.Format.{Format}
 use Rattle.cap_octet.specs.declared.format.Format.TheVariants.{Pcap, NsecPcap, Pcapng}
 use Rattle.cap_pcap.specs.Header.{magic}
 use Rattle.cap_pcap.specs.Record.{most_captured, nanoseconds_of_part}
-use Rattle.cap_pcap.specs.declared.head.Resolution.{Resolution}
-use Rattle.cap_pcap.specs.declared.head.Resolution.TheVariants.{Microseconds, Nanoseconds}
+use Rattle.cap_pcap.specs.declared.header.Resolution.{Resolution}
+use Rattle.cap_pcap.specs.declared.header.Resolution.TheVariants.{Microseconds, Nanoseconds}
 
 -- the formats whose headers are here
 abbrev pub IsPcap : Format → Type 0
@@ -25,14 +25,14 @@ resolution_of NsecPcap = Nanoseconds
 resolution_of Pcapng = Nanoseconds
 
 -- the file header: magic number, version 2.4, two reserved numbers, snap length, link type
-abbrev pub heading : Resolution → ℕ → List ℕ
-heading resolution link =
+abbrev pub file_header : Resolution → ℕ → List ℕ
+file_header resolution link =
     little_bytes 4 (magic resolution) ++ little_bytes 2 2 ++ little_bytes 2 4 ++ little_bytes 4 0 ++ little_bytes 4 0
     ++ little_bytes 4 most_captured ++ little_bytes 4 link
 
 -- what is in front of a packet's data: seconds, the part of a second, captured length, original length
-abbrev pub record_heading : Resolution → Captured → List ℕ
-record_heading resolution p =
+abbrev pub record_header : Resolution → Captured → List ℕ
+record_header resolution p =
     little_bytes 4 (p.time / NANOS_PER_SECOND) ++ little_bytes 4 (p.time % NANOS_PER_SECOND / nanoseconds_of_part resolution)
     ++ little_bytes 4 (length p.bytes) ++ little_bytes 4 p.orig
 

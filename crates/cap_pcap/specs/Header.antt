@@ -6,9 +6,9 @@ use Rattle.cap_octet.specs.declared.fault.Fault.{Fault}
 use Rattle.cap_octet.specs.declared.fault.Fault.TheVariants.{NotACaptureFile, Truncated, BadVersion, BadLinkTypeField}
 use Rattle.cap_octet.specs.declared.number.Order.{Order}
 use Rattle.cap_octet.specs.declared.number.Order.TheVariants.{Little, Big}
-use Rattle.cap_pcap.specs.declared.head.Head.{Head}
-use Rattle.cap_pcap.specs.declared.head.Resolution.{Resolution}
-use Rattle.cap_pcap.specs.declared.head.Resolution.TheVariants.{Microseconds, Nanoseconds}
+use Rattle.cap_pcap.specs.declared.header.Head.{Head}
+use Rattle.cap_pcap.specs.declared.header.Resolution.{Resolution}
+use Rattle.cap_pcap.specs.declared.header.Resolution.TheVariants.{Microseconds, Nanoseconds}
 
 -- the number that the first four bytes are
 abbrev pub magic : Resolution → ℕ
@@ -29,8 +29,8 @@ abbrev pub form_of : List ℕ → Order × Resolution
 form_of text = unwrap_or (form_in text) (Little, Microseconds)
 
 -- the checks of a file header, in order, on a text that begins with it
-abbrev pub head_checks : List ℕ → List (Bool × Fault)
-head_checks text =
+abbrev pub header_checks : List ℕ → List (Bool × Fault)
+header_checks text =
     let order = (form_of text).0 in
     (nat_le 4 (length text) && is_some (form_in text), NotACaptureFile)
     ∷ (nat_le 24 (length text), Truncated)
@@ -39,17 +39,17 @@ head_checks text =
     ∷ []
 
 -- why a text doesn't begin with a file header
-abbrev pub head_fault : List ℕ → Option Fault
-head_fault text = first_failing (head_checks text)
+abbrev pub header_fault : List ℕ → Option Fault
+header_fault text = first_failing (header_checks text)
 
 -- what a file header says
-abbrev pub head_in : List ℕ → Head
-head_in text =
+abbrev pub header_in : List ℕ → Head
+header_in text =
     let form = form_of text in
     record { order = form.0; resolution = form.1; snap = u32_in form.0 text 16; link = u32_in form.0 text 20 }
 
 -- These bytes are a file header, which passes every check and says this.
 pub record IsHeader (bytes : List ℕ) (head : Head) : Type 0 where
-  pub passes : head_fault bytes ≡ None
+  pub passes : header_fault bytes ≡ None
   pub whole : length bytes ≡ 24
-  pub says : head ≡ head_in bytes
+  pub says : head ≡ header_in bytes

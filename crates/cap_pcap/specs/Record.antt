@@ -6,10 +6,10 @@ use Rattle.cap_octet.specs.Number.{u32_in}
 use Rattle.cap_octet.specs.Packet.{Captured}
 use Rattle.cap_octet.specs.declared.fault.Fault.{Fault}
 use Rattle.cap_octet.specs.declared.fault.Fault.TheVariants.{Truncated, TooLong, TimeOutOfRange}
-use Rattle.cap_pcap.specs.declared.head.Head.{Head}
-use Rattle.cap_pcap.specs.declared.head.RecordHead.{RecordHead}
-use Rattle.cap_pcap.specs.declared.head.Resolution.{Resolution}
-use Rattle.cap_pcap.specs.declared.head.Resolution.TheVariants.{Microseconds, Nanoseconds}
+use Rattle.cap_pcap.specs.declared.header.Head.{Head}
+use Rattle.cap_pcap.specs.declared.header.RecordHead.{RecordHead}
+use Rattle.cap_pcap.specs.declared.header.Resolution.{Resolution}
+use Rattle.cap_pcap.specs.declared.header.Resolution.TheVariants.{Microseconds, Nanoseconds}
 
 -- how many captured bytes a record may have
 abbrev pub most_captured : ℕ
@@ -60,8 +60,8 @@ abbrev pub orig_in : Head → List ℕ → ℕ
 orig_in head text = u32_in head.order text 12
 
 -- what the 16 bytes in front of a record's data say
-abbrev pub record_head_in : Head → List ℕ → RecordHead
-record_head_in head text = record {
+abbrev pub record_header_in : Head → List ℕ → RecordHead
+record_header_in head text = record {
   time = time_in head text;
   captured = captured_len head text;
   orig = orig_in head text;

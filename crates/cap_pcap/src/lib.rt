@@ -3,8 +3,8 @@
 //! Nothing here takes memory.
 #![tactic(auto)]
 
-mod head;
+mod header;
 mod write;
 
-pub use head::{Head, RecordHead, Resolution, read_head, read_magic, read_record};
+pub use header::{Head, RecordHead, Resolution, read_head, read_magic, read_record};
 pub use write::{fits, head_bytes, record_bytes};

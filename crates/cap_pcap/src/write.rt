@@ -3,10 +3,10 @@ ghost use Rattle.std.specs.Prelude.{◌≡◌, None};
 ghost use Rattle.cap_octet.specs.Checks.{checked, first_failing};
 ghost use Rattle.cap_octet.specs.Packet.{captured};
 ghost use Rattle.cap_pcap.specs.Header.{magic};
-ghost use Rattle.cap_pcap.specs.Encoding.{IsPcap, heading, record_heading, resolution_of};
+ghost use Rattle.cap_pcap.specs.Encoding.{IsPcap, file_header, record_header, resolution_of};
 ghost use Rattle.cap_pcap.specs.Encoding.{fit_checks};
 
-use crate::head::{MOST_CAPTURED, Resolution};
+use crate::header::{MOST_CAPTURED, Resolution};
 use byteorder::{ByteOrder, LittleEndian};
 use cap_octet::date::NANOS_PER_SECOND;
 use cap_octet::{Fault, Format, Packet};
@@ -43,7 +43,7 @@ pub fn fits(_format: Format, packet: &Packet<'_>) -> Result<(), Fault>
 /// Its caller owes a format other than pcapng.
 pub fn head_bytes(format: Format, link: u16) -> [u8; 24]
     requires { IsPcap format }
-    ensures { result ≡ heading (resolution_of format) link }
+    ensures { result ≡ file_header (resolution_of format) link }
 {
     let mut bytes = [0; 24];
     LittleEndian::write_u32(&mut bytes, written_resolution(format).magic());
@@ -59,7 +59,7 @@ pub fn head_bytes(format: Format, link: u16) -> [u8; 24]
 pub fn record_bytes(format: Format, packet: &Packet<'_>) -> [u8; 16]
     requires form { IsPcap format }
     requires fits { first_failing (fit_checks (captured packet.now)) ≡ None }
-    ensures { result ≡ record_heading (resolution_of format) (captured packet.now) }
+    ensures { result ≡ record_header (resolution_of format) (captured packet.now) }
 {
     let part = written_resolution(format).whole_parts(packet.time % NANOS_PER_SECOND);
     let mut bytes = [0; 16];

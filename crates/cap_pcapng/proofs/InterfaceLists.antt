@@ -10,7 +10,7 @@ use Rattle.cap_octet.specs.Checks.{first_failing}
 use Rattle.cap_octet.specs.declared.fault.Fault.{Fault}
 use Rattle.cap_octet.specs.declared.number.Order.{Order}
 use Rattle.cap_pcapng.specs.Interface.{Adds, IsFound, is_found}
-use Rattle.cap_pcapng.specs.InterfaceOptions.{checks_behind, first_checks, first_value, given, list_checks, name_code, offset_code, offset_told, resolution_code, units_told, value_for}
+use Rattle.cap_pcapng.specs.InterfaceOptions.{checks_behind, first_checks, first_value, fitting_options, list_checks, name_code, offset_code, offset_in_value, resolution_code, units_in_value, value_for}
 use Rattle.cap_pcapng.specs.OptionList.{CodedValue}
 use Rattle.cap_pcapng.specs.Time.{microseconds}
 use Rattle.cap_pcapng.specs.declared.interface.Found.{Found}
@@ -19,7 +19,7 @@ use Rattle.cap_pcapng.specs.declared.interface.Found.{Found}
 pub record HasRead (order : Order) (all rest : List (Result CodedValue Fault)) (found : Found) : Type 0 where
   pub before : List CodedValue
   pub checks : first_failing (list_checks [] all) ≡ first_failing (list_checks before rest)
-  pub joined : given all ≡ before ++ given rest
+  pub joined : fitting_options all ≡ before ++ fitting_options rest
   pub is_found : IsFound order before found
 
 or_later : (test : Bool) (value : List ℕ) (x y z : Option (List ℕ)) → x ≡ option_or y z
@@ -45,13 +45,13 @@ pub IsFound-more : (order : Order) (before : List CodedValue) (o : CodedValue) (
 IsFound-more order before o found more is adds = record {
   name = adds.name ∙ ap (λ v. option_or v (value_for name_code o)) is.name ∙ sym (first_value-push name_code before o);
   units =
-      adds.units ∙ ap (λ v. option_or v (option_map units_told (value_for resolution_code o))) is.units
-      ∙ option_or-map units_told (first_value resolution_code before) (value_for resolution_code o)
-      ∙ ap (option_map units_told) (sym (first_value-push resolution_code before o));
+      adds.units ∙ ap (λ v. option_or v (option_map units_in_value (value_for resolution_code o))) is.units
+      ∙ option_or-map units_in_value (first_value resolution_code before) (value_for resolution_code o)
+      ∙ ap (option_map units_in_value) (sym (first_value-push resolution_code before o));
   offset =
-      adds.offset ∙ ap (λ v. option_or v (option_map (offset_told order) (value_for offset_code o))) is.offset
-      ∙ option_or-map (offset_told order) (first_value offset_code before) (value_for offset_code o)
-      ∙ ap (option_map (offset_told order)) (sym (first_value-push offset_code before o));
+      adds.offset ∙ ap (λ v. option_or v (option_map (offset_in_value order) (value_for offset_code o))) is.offset
+      ∙ option_or-map (offset_in_value order) (first_value offset_code before) (value_for offset_code o)
+      ∙ ap (option_map (offset_in_value order)) (sym (first_value-push offset_code before o));
   short = adds.short is.short;
 }
 
@@ -78,9 +78,9 @@ checks_behind-found order before o found is =
     (is_some found.name) (is_some found.units) (is_some found.offset) _ _ _
     (λ t. ap (λ code. is_some (first_value code before)) (eqb-true o.code name_code t) ∙ sym (sym (is_some-copied found.name) ∙ ap is_some is.name))
     (λ t. ap (λ code. is_some (first_value code before)) (eqb-true o.code resolution_code t)
-    ∙ sym (ap is_some is.units ∙ is_some-map units_told (first_value resolution_code before)))
+    ∙ sym (ap is_some is.units ∙ is_some-map units_in_value (first_value resolution_code before)))
     (λ t. ap (λ code. is_some (first_value code before)) (eqb-true o.code offset_code t)
-    ∙ sym (ap is_some is.offset ∙ is_some-map (offset_told order) (first_value offset_code before)))
+    ∙ sym (ap is_some is.offset ∙ is_some-map (offset_in_value order) (first_value offset_code before)))
 
 -- ---- one item of the iterator
 
@@ -103,7 +103,7 @@ HasRead-more order all left rest o found more read is adds passes = record {
   checks =
       read.checks ∙ ap (λ items. first_failing (list_checks read.before items)) is
       ∙ met_front (checks_behind read.before o) _ (ap first_failing (checks_behind-found order read.before o found read.is_found) ∙ passes);
-  joined = read.joined ∙ ap (λ items. read.before ++ given items) is ∙ sym (append_assoc read.before (o ∷ []) (given rest));
+  joined = read.joined ∙ ap (λ items. read.before ++ fitting_options items) is ∙ sym (append_assoc read.before (o ∷ []) (fitting_options rest));
   is_found = IsFound-more order read.before o found more read.is_found adds;
 }
 
@@ -124,10 +124,10 @@ pub HasRead-passes : (order : Order) (all rest : List (Result CodedValue Fault))
 HasRead-passes order all rest found read over = read.checks ∙ ap (λ items. first_failing (list_checks read.before items)) over
 
 pub HasRead-found : (order : Order) (all rest : List (Result CodedValue Fault)) (found : Found) → HasRead order all rest found → rest ≡ []
-    → IsFound order (given all) found
+    → IsFound order (fitting_options all) found
 HasRead-found order all rest found read over =
     let P : List CodedValue → Type 0 = λ options. IsFound order options found in
-    subst P (sym (read.joined ∙ ap (λ items. read.before ++ given items) over ∙ append-nil read.before)) read.is_found
+    subst P (sym (read.joined ∙ ap (λ items. read.before ++ fitting_options items) over ∙ append-nil read.before)) read.is_found
 
 -- ---- a second has some ticks
 
@@ -135,6 +135,6 @@ some_by : (test : Bool) (n m : ℕ) → 0 < (if test then 10 ^ n else 2 ^ m)
 some_by true n m = let some : 1 ≤ 10 ^ n = one-le-pow n 10 (omega arith) in omega arith
 some_by false n m = let some : 1 ≤ 2 ^ m = one-le-pow m 2 (omega arith) in omega arith
 
-pub units-some : (value : Option (List ℕ)) → 0 < unwrap_or (option_map units_told value) microseconds
+pub units-some : (value : Option (List ℕ)) → 0 < unwrap_or (option_map units_in_value value) microseconds
 units-some None = omega arith
 units-some (Some value) = some_by (nat_lt (slice_index value 0) 128) (slice_index value 0) (slice_index value 0 - 128)

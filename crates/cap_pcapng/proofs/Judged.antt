@@ -2,18 +2,18 @@
 use Rattle.std.proofs.Common.{◌≡◌, Bool, List, None, Some, Result, Ok, Err, IfOk, IfErr}
 use Rattle.cap_octet.specs.Checks.{first_failing}
 use Rattle.cap_octet.specs.declared.fault.Fault.{Fault}
-use Rattle.cap_pcapng.specs.Answer.{Judges}
+use Rattle.cap_pcapng.specs.Answer.{ChecksGive}
 
-pub judged-value : {X : Type 0} → (checks : List (Bool × Fault)) (result : Result X Fault) (Holds : X → Type 0) → Judges checks result Holds → IfOk result Holds
+pub judged-value : {X : Type 0} → (checks : List (Bool × Fault)) (result : Result X Fault) (Holds : X → Type 0) → ChecksGive checks result Holds → IfOk result Holds
 judged-value checks (Ok value) Holds judged = judged.1
 judged-value checks (Err fault) Holds judged = tt
 
-pub judged-passes : {X : Type 0} → (checks : List (Bool × Fault)) (result : Result X Fault) (Holds : X → Type 0) → Judges checks result Holds
+pub judged-passes : {X : Type 0} → (checks : List (Bool × Fault)) (result : Result X Fault) (Holds : X → Type 0) → ChecksGive checks result Holds
     → IfOk result (λ _. first_failing checks ≡ None)
 judged-passes checks (Ok value) Holds judged = judged.0
 judged-passes checks (Err fault) Holds judged = tt
 
-pub judged-fault : {X : Type 0} → (checks : List (Bool × Fault)) (result : Result X Fault) (Holds : X → Type 0) → Judges checks result Holds
+pub judged-fault : {X : Type 0} → (checks : List (Bool × Fault)) (result : Result X Fault) (Holds : X → Type 0) → ChecksGive checks result Holds
     → IfErr result (λ fault. first_failing checks ≡ Some fault)
 judged-fault checks (Ok value) Holds judged = tt
 judged-fault checks (Err fault) Holds judged = judged

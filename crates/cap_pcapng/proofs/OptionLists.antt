@@ -7,7 +7,7 @@ use Rattle.cap_octet.specs.Number.{u16_in}
 use Rattle.cap_octet.specs.declared.fault.Fault.{Fault}
 use Rattle.cap_octet.specs.declared.fault.Fault.TheVariants.{BadOption}
 use Rattle.cap_octet.specs.declared.number.Order.{Order}
-use Rattle.cap_pcapng.specs.InterfaceOptions.{given}
+use Rattle.cap_pcapng.specs.InterfaceOptions.{fitting_options}
 use Rattle.cap_pcapng.specs.OptionList.{CodedValue, item_of, option_at, option_size, ends_at, fits_at, options_in, options_within}
 use Rattle.cap_pcapng.specs.Padding.{padded}
 use Rattle.cap_pcapng.specs.declared.options.BlockOption.{BlockOption}
@@ -126,7 +126,7 @@ misfit-last order [] rest fault is = (cc)
 misfit-last order (b ∷ bytes) rest fault is = misfit_by (ends_at order (b ∷ bytes)) (fits_at order (b ∷ bytes)) _ _ rest fault is
 
 -- no option is given from a value on that doesn't fit
-pub misfit-given : (order : Order) (text : List ℕ) (rest : List (Result CodedValue Fault)) (item : Result BlockOption Fault) → IsErr item
-    → options_in order text ≡ item_of item ∷ rest → given (options_in order text) ≡ []
-misfit-given order text rest (Ok o) misfit is = (cc)
-misfit-given order text rest (Err fault) misfit is = ap given is ∙ ap given (misfit-last order text rest fault is)
+pub misfit-fitting_options : (order : Order) (text : List ℕ) (rest : List (Result CodedValue Fault)) (item : Result BlockOption Fault) → IsErr item
+    → options_in order text ≡ item_of item ∷ rest → fitting_options (options_in order text) ≡ []
+misfit-fitting_options order text rest (Ok o) misfit is = (cc)
+misfit-fitting_options order text rest (Err fault) misfit is = ap fitting_options is ∙ ap fitting_options (misfit-last order text rest fault is)

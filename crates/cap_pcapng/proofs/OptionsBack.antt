@@ -9,7 +9,7 @@ use Rattle.cap_octet.specs.declared.fault.Fault.{Fault}
 use Rattle.cap_octet.specs.declared.number.Order.TheVariants.{Little}
 use Rattle.cap_pcapng.specs.Comment.{comment_code, comment_in}
 use Rattle.cap_pcapng.specs.Interface.{described_by, described_in}
-use Rattle.cap_pcapng.specs.InterfaceOptions.{first_value, given, list_checks}
+use Rattle.cap_pcapng.specs.InterfaceOptions.{first_value, fitting_options, list_checks}
 use Rattle.cap_pcapng.specs.Laws.{written_interface}
 use Rattle.cap_pcapng.specs.OptionList.{CodedValue, option_at, option_size, options_in, options_within}
 use Rattle.cap_pcapng.specs.Padding.{padded}
@@ -68,18 +68,18 @@ checks_back (b ∷ bytes) short = rw (le-leb (length (b ∷ bytes)) 255 short) r
 pub options_pass : (name : List ℕ) → length name ≤ 255 → first_failing (list_checks [] (options_in Little (name_text name ++ resolution_text ++ end_text))) ≡ None
 options_pass name short = ap (λ items. first_failing (list_checks [] items)) (options_back name short) ∙ checks_back name short
 
-described_back : (link snap : ℕ) (name : List ℕ) → described_by link snap Little (given (items_back name)) ≡ written_interface link snap name
+described_back : (link snap : ℕ) (name : List ℕ) → described_by link snap Little (fitting_options (items_back name)) ≡ written_interface link snap name
 described_back link snap [] = refl
 described_back link snap (b ∷ bytes) = refl
 
 pub options_describe : (link snap : ℕ) (name : List ℕ) → length name ≤ 255
     → described_in link snap Little (name_text name ++ resolution_text ++ end_text) ≡ written_interface link snap name
 options_describe link snap name short =
-    ap (λ items. described_by link snap Little (given items)) (options_back name short) ∙ described_back link snap name
+    ap (λ items. described_by link snap Little (fitting_options items)) (options_back name short) ∙ described_back link snap name
 
 -- a comment
 pub comment_back : (comment : List ℕ) → length comment ≤ 65535 → comment_in Little (comment_text comment) ≡ comment
-comment_back [] short = ap (λ items. unwrap_or (first_value comment_code (given items)) []) (options_in-none Little)
+comment_back [] short = ap (λ items. unwrap_or (first_value comment_code (fitting_options items)) []) (options_in-none Little)
 comment_back (b ∷ bytes) short =
-    ap (λ items. unwrap_or (first_value comment_code (given items)) [])
+    ap (λ items. unwrap_or (first_value comment_code (fitting_options items)) [])
     (options_in-option comment_code (b ∷ bytes) end_text (omega arith) (λ is. absurd (omega arith)) (omega arith))

@@ -1,16 +1,13 @@
 -- A block is its pieces, joined.
 use Rattle.std.proofs.Common.{◌≡◌, ℕ, ◌+◌, ◌-◌, ◌<◌, ◌≤◌, List, [], ◌∷◌, ◌++◌, length, take, drop, replicate, None, refl, sym, ap, ap₂, ◌∙◌, arith, append_assoc, length-append, ne_eqb, ◌/◌, ◌%◌, ◌^◌}
 use Rattle.std.specs.Prelude.{◌==◌, false, true}
-use borrow.Author.Tests.{leb-true}
 use Rattle.std.proofs.lemmas.Bool.{false≢true}
 use Rattle.std.proofs.lemmas.List.{append-nil, drop_at, length-replicate, replicate-append-replicate, take_all}
 use Rattle.byteorder.specs.Endian.{little_bytes}
 use Rattle.cap_octet.specs.Checks.{first_failing}
 use Rattle.cap_octet.specs.Packet.{Captured}
-use Rattle.cap_octet.proofs.Checks.{all_met}
 use Rattle.cap_pcapng.specs.Padding.{padded}
-use Rattle.cap_pcapng.specs.Frame.{most_block}
-use Rattle.cap_pcapng.specs.Encoding.{block_text, comment_text, end_text, fit_checks, interface_body, interface_heading, interface_text, name_text, packet_body, packet_heading, packet_text, padded_text, resolution_text}
+use Rattle.cap_pcapng.specs.Encoding.{block_text, comment_text, end_text, fit_checks, interface_body, interface_header, interface_text, name_text, packet_body, packet_header, packet_text, padded_text, resolution_text}
 
 -- the last of the zeros in front of more bytes, and these
 block_end : (k zeros n : ℕ) (more end : List ℕ) → zeros ≤ k → end ≡ replicate k 0 ++ more → n ≡ k + length more
@@ -29,15 +26,6 @@ pub length-packet_body : (number : ℕ) (p : Captured) → length (packet_body n
 length-packet_body number p =
     length-append (little_bytes 4 number ++ little_bytes 4 (p.time / 2 ^ 32) ++ little_bytes 4 (p.time % 2 ^ 32) ++ little_bytes 4 (length p.bytes) ++ little_bytes 4 p.orig ++ padded_text p.bytes) (comment_text p.comment)
     ∙ ap (λ (n : ℕ). n + length (comment_text p.comment)) (simp (length-append, length-replicate) (omega arith))
-
-length-block_text : (type : ℕ) (body : List ℕ) → length (block_text type body) ≡ 12 + length body
-length-block_text type body = simp (length-append) (omega arith)
-
--- a packet's block that isn't too long
-pub few-packet_text : (number : ℕ) (p : Captured) → first_failing (fit_checks p) ≡ None → length (packet_text number p) < 2 ^ 64
-few-packet_text number p fits =
-    let small : 32 + padded (length p.bytes) + length (comment_text p.comment) ≤ most_block = leb-true _ _ (all_met (fit_checks p) fits).0 in
-    omega (arith, length-packet_body number p, length-block_text 6 (packet_body number p))
 
 -- a comment's bytes with the end of the options are whole fours
 pub length-comment_text : (comment : List ℕ) → (length comment == 0) ≡ false → length (comment_text comment) ≡ 8 + padded (length comment)
@@ -82,7 +70,7 @@ pieces bytes option comment zeros size = simp (append_assoc, append-nil)
 -- a packet's block is its pieces, joined
 pub packet_joined : (number zeros : ℕ) (p : Captured) (head option end : List ℕ) → zeros ≤ 7
     → option ++ (p.comment ++ replicate zeros 0) ≡ replicate (padded (length p.bytes) - length p.bytes) 0 ++ comment_text p.comment
-    → head ≡ packet_heading (32 + length p.bytes + length option + length p.comment + zeros) number p
+    → head ≡ packet_header (32 + length p.bytes + length option + length p.comment + zeros) number p
     → end ≡ replicate 7 0 ++ little_bytes 4 (32 + length p.bytes + length option + length p.comment + zeros)
     → head ++ (p.bytes ++ (option ++ (p.comment ++ (take (11 - (7 - zeros)) (drop (7 - zeros) end) ++ [])))) ≡ packet_text number p
 packet_joined number zeros p head option end few behind head_is end_is =
@@ -91,7 +79,7 @@ packet_joined number zeros p head option end few behind head_is end_is =
     let sizes = simp (length-append, length-replicate) at (ap length behind) in
     let whole : size ≡ 12 + length (packet_body number p) = omega (arith, sizes, length-packet_body number p) in
     ap₂ (λ (h t : List ℕ). h ++ (p.bytes ++ (option ++ (p.comment ++ (t ++ []))))) head_is (block_end 7 zeros 11 (little_bytes 4 size) end few end_is refl)
-    ∙ ap (λ (t : List ℕ). packet_heading size number p ++ t)
+    ∙ ap (λ (t : List ℕ). packet_header size number p ++ t)
     (pieces p.bytes option p.comment (replicate zeros 0) (little_bytes 4 size)
     ∙ ap (λ (t : List ℕ). p.bytes ++ t ++ little_bytes 4 size) behind
     ∙ ap (λ (t : List ℕ). t ++ little_bytes 4 size) (sym (append_assoc p.bytes padding (comment_text p.comment))))
@@ -103,7 +91,7 @@ empty (b ∷ bytes) none = absurd (false≢true (sym (ne_eqb (length (b ∷ byte
 
 -- the block of a packet without a comment
 pub plain_joined : (number zeros : ℕ) (p : Captured) (head end : List ℕ) → (length p.comment == 0) ≡ true → zeros < 4 → length p.bytes + zeros ≡ padded (length p.bytes)
-    → head ≡ packet_heading (32 + length p.bytes + zeros) number p
+    → head ≡ packet_header (32 + length p.bytes + zeros) number p
     → end ≡ replicate 7 0 ++ little_bytes 4 (32 + length p.bytes + zeros)
     → head ++ (p.bytes ++ (take (11 - (7 - zeros)) (drop (7 - zeros) end) ++ [])) ≡ packet_text number p
 plain_joined number zeros p head end none few padding_is head_is end_is =
@@ -111,16 +99,12 @@ plain_joined number zeros p head end none few padding_is head_is end_is =
     let size : 32 + length p.bytes + zeros ≡ 32 + length p.bytes + 0 + length p.comment + zeros = omega (arith, ap length comment_is) in
     ap (λ (c : List ℕ). head ++ (p.bytes ++ (c ++ (take (11 - (7 - zeros)) (drop (7 - zeros) end) ++ [])))) (sym comment_is)
     ∙ packet_joined number zeros p head [] end (omega arith) (plain_behind zeros p.bytes p.comment none padding_is)
-    (head_is ∙ ap (λ (s : ℕ). packet_heading s number p) size) (end_is ∙ ap (λ (s : ℕ). replicate 7 0 ++ little_bytes 4 s) size)
+    (head_is ∙ ap (λ (s : ℕ). packet_header s number p) size) (end_is ∙ ap (λ (s : ℕ). replicate 7 0 ++ little_bytes 4 s) size)
 
 -- ---- an interface
 
 pub length-interface_body : (link snap b : ℕ) (bytes : List ℕ) → length (interface_body link snap (b ∷ bytes)) ≡ 24 + padded (length (b ∷ bytes))
 length-interface_body link snap b bytes = simp (length-append, length-replicate) (omega arith)
-
-pub few-interface_text : (link snap : ℕ) (name : List ℕ) → length name ≤ 255 → length (interface_text link snap name) < 2 ^ 64
-few-interface_text link snap [] short = omega arith
-few-interface_text link snap (b ∷ bytes) short = omega (arith, length-interface_body link snap b bytes, length-block_text 1 (interface_body link snap (b ∷ bytes)))
 
 pub unnamed : (padding : ℕ) (name : List ℕ) → (length name == 0) ≡ true → length name + padding ≡ padded (length name) → name ++ replicate padding 0 ≡ name_text name
 unnamed padding [] none padding_is = let zero_is : padding ≡ 0 = omega arith in ap (λ (n : ℕ). replicate n 0) zero_is
@@ -140,7 +124,7 @@ regrouped option name zeros r e s = simp (append_assoc, append-nil)
 
 -- an interface's block is its pieces, joined
 pub interface_joined : (link snap padding : ℕ) (name head option end : List ℕ) → padding < 4 → option ++ (name ++ replicate padding 0) ≡ name_text name
-    → head ≡ interface_heading (32 + length option + length name + padding) link snap
+    → head ≡ interface_header (32 + length option + length name + padding) link snap
     → end ≡ replicate 3 0 ++ (resolution_text ++ end_text ++ little_bytes 4 (32 + length option + length name + padding))
     → head ++ (option ++ (name ++ (take (19 - (3 - padding)) (drop (3 - padding) end) ++ []))) ≡ interface_text link snap name
 interface_joined link snap padding name head option end few name_is head_is end_is =
@@ -149,6 +133,6 @@ interface_joined link snap padding name head option end few name_is head_is end_
     let body : length (interface_body link snap name) ≡ length (name_text name) + 20 = simp (length-append) (omega arith) in
     let whole : size ≡ 12 + length (interface_body link snap name) = omega (arith, sizes, body) in
     ap₂ (λ (h t : List ℕ). h ++ (option ++ (name ++ (t ++ [])))) head_is (block_end 3 padding 19 _ end (omega arith) end_is refl)
-    ∙ ap (λ (t : List ℕ). interface_heading size link snap ++ t) (regrouped option name (replicate padding 0) resolution_text end_text (little_bytes 4 size))
-    ∙ ap (λ (t : List ℕ). interface_heading size link snap ++ (t ++ resolution_text ++ end_text ++ little_bytes 4 size)) name_is
+    ∙ ap (λ (t : List ℕ). interface_header size link snap ++ t) (regrouped option name (replicate padding 0) resolution_text end_text (little_bytes 4 size))
+    ∙ ap (λ (t : List ℕ). interface_header size link snap ++ (t ++ resolution_text ++ end_text ++ little_bytes 4 size)) name_is
     ∙ ap (λ (s : ℕ). little_bytes 4 1 ++ little_bytes 4 s ++ interface_body link snap name ++ little_bytes 4 s) whole

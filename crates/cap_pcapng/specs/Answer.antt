@@ -4,6 +4,6 @@ use Rattle.cap_octet.specs.Checks.{first_failing}
 use Rattle.cap_octet.specs.declared.fault.Fault.{Fault}
 
 -- these checks judge a text, and of the value that is read this holds
-abbrev pub Judges : {X : Type 0} → List (Bool × Fault) → Result X Fault → (X → Type 0) → Type 0
-Judges checks (Ok value) Holds = (first_failing checks ≡ None) × Holds value
-Judges checks (Err fault) Holds = first_failing checks ≡ Some fault
+abbrev pub ChecksGive : {X : Type 0} → List (Bool × Fault) → Result X Fault → (X → Type 0) → Type 0
+ChecksGive checks (Ok value) Holds = (first_failing checks ≡ None) × Holds value
+ChecksGive checks (Err fault) Holds = first_failing checks ≡ Some fault

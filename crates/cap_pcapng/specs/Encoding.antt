@@ -47,8 +47,8 @@ abbrev pub interface_text : (link snap : ℕ) → (name : List ℕ) → List ℕ
 interface_text link snap name = block_text 1 (interface_body link snap name)
 
 -- what of it is in front of the options, in a block of this total length
-abbrev pub interface_heading : (size link snap : ℕ) → List ℕ
-interface_heading size link snap =
+abbrev pub interface_header : (size link snap : ℕ) → List ℕ
+interface_header size link snap =
     little_bytes 4 1 ++ little_bytes 4 size ++ little_bytes 2 link ++ little_bytes 2 0 ++ little_bytes 4 snap
 
 -- a comment and the end of the options; one that is empty isn't written
@@ -66,8 +66,8 @@ abbrev pub packet_text : (number : ℕ) → Captured → List ℕ
 packet_text number p = block_text 6 (packet_body number p)
 
 -- what of it stands in front of the data, in a block of this total length
-abbrev pub packet_heading : (size number : ℕ) → Captured → List ℕ
-packet_heading size number p =
+abbrev pub packet_header : (size number : ℕ) → Captured → List ℕ
+packet_header size number p =
     little_bytes 4 6 ++ little_bytes 4 size ++ little_bytes 4 number ++ little_bytes 4 (p.time / 2 ^ 32)
     ++ little_bytes 4 (p.time % 2 ^ 32) ++ little_bytes 4 (length p.bytes) ++ little_bytes 4 p.orig
 

@@ -2,7 +2,7 @@
 use Rattle.std.specs.Prelude.{◌≡◌, ◌≤◌, ℕ, length, IfSome, ◌==◌, if◌then◌else◌, All, Bool, false, ℤ, pos, List, [], is_some, unwrap_or}
 use Rattle.std.specs.Option.{option_map, option_map_or, option_copied, option_or}
 use Rattle.cap_octet.specs.declared.number.Order.{Order}
-use Rattle.cap_pcapng.specs.InterfaceOptions.{first_value, given, name_code, offset_code, offset_told, resolution_code, units_told, value_for}
+use Rattle.cap_pcapng.specs.InterfaceOptions.{first_value, fitting_options, name_code, offset_code, offset_in_value, resolution_code, units_in_value, value_for}
 use Rattle.cap_pcapng.specs.OptionList.{CodedValue, options_in}
 use Rattle.cap_pcapng.specs.Time.{microseconds}
 use Rattle.cap_pcapng.specs.declared.blocks.InterfaceBlock.{InterfaceBlock}
@@ -19,11 +19,11 @@ pub record Described : Type 0 where
   pub units : ℕ
   pub offset : ℤ
 
-abbrev pub described : Interface → Described
-described i = record { link = i.link; snap = i.snap; name = i.name.now; units = i.clock.units; offset = i.clock.offset }
+abbrev pub description_of : Interface → Described
+description_of i = record { link = i.link; snap = i.snap; name = i.name.now; units = i.clock.units; offset = i.clock.offset }
 
 -- what holds of the interfaces of each section
-pub record AreFew (interfaces : List Described) : Type 0 where
+pub record FitSection (interfaces : List Described) : Type 0 where
   pub count : length interfaces ≤ 256
   pub names : All (λ i. length i.name ≤ 255) interfaces
 
@@ -33,16 +33,16 @@ described_by link snap order options = record {
   link = link;
   snap = snap;
   name = unwrap_or (first_value name_code options) [];
-  units = option_map_or units_told (first_value resolution_code options) microseconds;
-  offset = option_map_or (offset_told order) (first_value offset_code options) (pos 0);
+  units = option_map_or units_in_value (first_value resolution_code options) microseconds;
+  offset = option_map_or (offset_in_value order) (first_value offset_code options) (pos 0);
 }
 
 abbrev pub described_in : (link snap : ℕ) → Order → List ℕ → Described
-described_in link snap order text = described_by link snap order (given (options_in order text))
+described_in link snap order text = described_by link snap order (fitting_options (options_in order text))
 
 -- the interface of a block is that which its options describe
 abbrev pub IsDescribed : InterfaceBlock → Type 0
-IsDescribed b = described b.interface ≡ described_in b.interface.link b.interface.snap b.options.order b.options.rest.now
+IsDescribed b = description_of b.interface ≡ described_in b.interface.link b.interface.snap b.options.order b.options.rest.now
 
 -- ---- while they are read
 
@@ -53,15 +53,15 @@ IsShort found = IfSome found.name (λ name. length name.now ≤ 255)
 -- what was found in these options
 pub record IsFound (order : Order) (options : List CodedValue) (found : Found) : Type 0 where
   pub name : option_copied found.name ≡ first_value name_code options
-  pub units : found.units ≡ option_map units_told (first_value resolution_code options)
-  pub offset : found.offset ≡ option_map (offset_told order) (first_value offset_code options)
+  pub units : found.units ≡ option_map units_in_value (first_value resolution_code options)
+  pub offset : found.offset ≡ option_map (offset_in_value order) (first_value offset_code options)
   pub short : IsShort found
 
 -- what is found once this option is read behind those before it
 pub record Adds (order : Order) (before : Found) (option : CodedValue) (after : Found) : Type 0 where
   pub name : option_copied after.name ≡ option_or (option_copied before.name) (value_for name_code option)
-  pub units : after.units ≡ option_or before.units (option_map units_told (value_for resolution_code option))
-  pub offset : after.offset ≡ option_or before.offset (option_map (offset_told order) (value_for offset_code option))
+  pub units : after.units ≡ option_or before.units (option_map units_in_value (value_for resolution_code option))
+  pub offset : after.offset ≡ option_or before.offset (option_map (offset_in_value order) (value_for offset_code option))
   pub short : IsShort before → IsShort after
 
 -- whether an option of this code was found, if it is looked at

@@ -65,14 +65,14 @@ options_fault order text = first_failing (list_checks [] (options_in order text)
 -- ---- what they say
 
 -- the options whose values fit
-abbrev pub given : List (Result CodedValue Fault) → List CodedValue
-given [] = []
-given (Err fault ∷ items) = given items
-given (Ok option ∷ items) = option ∷ given items
+abbrev pub fitting_options : List (Result CodedValue Fault) → List CodedValue
+fitting_options [] = []
+fitting_options (Err fault ∷ items) = fitting_options items
+fitting_options (Ok option ∷ items) = option ∷ fitting_options items
 
-abbrev pub units_told : List ℕ → ℕ
-units_told value = units_by (slice_index value 0)
+abbrev pub units_in_value : List ℕ → ℕ
+units_in_value value = units_by (slice_index value 0)
 
 -- seconds, in two's complement
-abbrev pub offset_told : Order → List ℕ → ℤ
-offset_told order value = cast_signed w64 (number_in order 8 value 0)
+abbrev pub offset_in_value : Order → List ℕ → ℤ
+offset_in_value order value = cast_signed w64 (number_in order 8 value 0)

@@ -3,7 +3,7 @@ ghost use Rattle.std.specs.Prelude.{◌≡◌, drop, take};
 ghost use Rattle.cap_octet.specs.Checks.{checked, first_failing};
 ghost use Rattle.cap_pcapng.specs.Block.{body_checks, data_checks, parts_in_body, parts_of};
 ghost use Rattle.cap_pcapng.specs.Block.{simple_captured};
-ghost use Rattle.cap_pcapng.specs.Answer.{Judges};
+ghost use Rattle.cap_pcapng.specs.Answer.{ChecksGive};
 ghost use Rattle.cap_pcapng.specs.Padding.{padded};
 ghost use Rattle.cap_pcapng.specs.declared.blocks.Block.TheVariants as a;
 ghost use Rattle.cap_pcapng.specs.declared.frames.BlockType.TheVariants as kind;
@@ -77,7 +77,7 @@ pub(crate) fn check_section(order: Order, body: &[u8]) -> Result<(), Fault>
 /// The captured bytes at the start of what is left of a body, or fault 9 where it is shorter than
 /// they are with their padding.
 fn data_in(rest: &[u8], captured: u32) -> Result<&[u8], Fault>
-    ensures { Judges (data_checks captured rest.now) result
+    ensures { ChecksGive (data_checks captured rest.now) result
         (λ bytes. bytes.now ≡ take captured rest.now) }
 {
     if padded_length(u64::from(captured)) > rest.len() as u64 {
@@ -89,7 +89,7 @@ fn data_in(rest: &[u8], captured: u32) -> Result<&[u8], Fault>
 impl<'a> EnhancedBlock<'a> {
     /// Reads a body, or tells that it is shorter than 20 bytes.
     pub(crate) fn of(order: Order, body: &'a [u8]) -> Result<Self, Fault>
-        ensures { Judges (body_checks kind.EnhancedPacket order body.now) result
+        ensures { ChecksGive (body_checks kind.EnhancedPacket order body.now) result
             (λ b. parts_of (a.Enhanced b) ≡ parts_in_body kind.EnhancedPacket order body.now) }
     {
         if body.len() < 20 {
@@ -109,7 +109,7 @@ impl<'a> EnhancedBlock<'a> {
 
     /// The captured bytes, or fault 9 where the body is shorter than they are with their padding.
     pub fn data(&self) -> Result<&'a [u8], Fault>
-        ensures { Judges (data_checks self.now.captured self.now.rest.now) result
+        ensures { ChecksGive (data_checks self.now.captured self.now.rest.now) result
             (λ bytes. bytes.now ≡ take self.now.captured self.now.rest.now) }
     {
         data_in(self.rest, self.captured)
@@ -128,7 +128,7 @@ impl<'a> EnhancedBlock<'a> {
 impl<'a> SimpleBlock<'a> {
     /// Reads a body, or tells that it is shorter than 4 bytes.
     pub(crate) fn of(order: Order, body: &'a [u8]) -> Result<Self, Fault>
-        ensures { Judges (body_checks kind.SimplePacket order body.now) result
+        ensures { ChecksGive (body_checks kind.SimplePacket order body.now) result
             (λ b. parts_of (a.Simple b) ≡ parts_in_body kind.SimplePacket order body.now) }
     {
         if body.len() < 4 {
@@ -154,7 +154,7 @@ impl<'a> SimpleBlock<'a> {
     /// The captured bytes where the interface has this snap length, or fault 9 where the body is
     /// shorter than they are with their padding.
     pub fn data(&self, snap: u32) -> Result<&'a [u8], Fault>
-        ensures { Judges (data_checks (simple_captured self.now.orig snap) self.now.rest.now) result
+        ensures { ChecksGive (data_checks (simple_captured self.now.orig snap) self.now.rest.now) result
             (λ bytes. bytes.now ≡ take (simple_captured self.now.orig snap) self.now.rest.now) }
     {
         data_in(self.rest, self.captured(snap))

@@ -1,8 +1,8 @@
 //! Interfaces, as their options describe them.
 ghost use Rattle.std.specs.Prelude.{◌≡◌, ◌≤◌, ◌++◌, if◌then◌else◌, [], length, IfOk};
-ghost use Rattle.cap_pcapng.specs.InterfaceOptions.{name_checks, offset_checks, offset_told};
-ghost use Rattle.cap_pcapng.specs.InterfaceOptions.{resolution_checks, units_told};
-ghost use Rattle.cap_pcapng.specs.Answer.{Judges};
+ghost use Rattle.cap_pcapng.specs.InterfaceOptions.{name_checks, offset_checks, offset_in_value};
+ghost use Rattle.cap_pcapng.specs.InterfaceOptions.{resolution_checks, units_in_value};
+ghost use Rattle.cap_pcapng.specs.Answer.{ChecksGive};
 
 use crate::blocks::InterfaceBlock;
 use crate::clock::{Clock, units_of};
@@ -53,7 +53,7 @@ struct Found<'a> {
 
 /// A name, which has at most 255 bytes, else fault 8.
 fn name_in(value: &[u8]) -> Result<&[u8], Fault>
-    ensures { Judges (name_checks value.now) result (λ name. name.now ≡ value.now) }
+    ensures { ChecksGive (name_checks value.now) result (λ name. name.now ≡ value.now) }
 {
     if value.len() > MOST_NAME {
         return Err(Fault::BadOption);
@@ -63,8 +63,8 @@ fn name_in(value: &[u8]) -> Result<&[u8], Fault>
 
 /// The units of a resolution, which has one byte, else fault 8, and is in range, else fault 12.
 fn units_in(value: &[u8]) -> Result<u64, Fault>
-    ensures { Judges (resolution_checks value.now) result
-        (λ units. units ≡ units_told value.now) }
+    ensures { ChecksGive (resolution_checks value.now) result
+        (λ units. units ≡ units_in_value value.now) }
 {
     if value.len() != 1 {
         return Err(Fault::BadOption);
@@ -75,8 +75,8 @@ fn units_in(value: &[u8]) -> Result<u64, Fault>
 /// An offset, which has eight bytes, else fault 8.
 #[tactic(auto, unfolding(cap_octet::specs::Number::number_in))]
 fn offset_in(order: Order, value: &[u8]) -> Result<i64, Fault>
-    ensures { Judges (offset_checks value.now) result
-        (λ offset. offset ≡ offset_told order value.now) }
+    ensures { ChecksGive (offset_checks value.now) result
+        (λ offset. offset ≡ offset_in_value order value.now) }
 {
     if value.len() != 8 {
         return Err(Fault::BadOption);
@@ -89,13 +89,13 @@ fn offset_in(order: Order, value: &[u8]) -> Result<i64, Fault>
 
 impl<'a> Found<'a> {
     ghost use Rattle.cap_pcapng.specs.Interface.{Adds, IsFound, is_found};
-    ghost use Rattle.cap_pcapng.specs.InterfaceOptions.{first_checks, given, list_checks};
+    ghost use Rattle.cap_pcapng.specs.InterfaceOptions.{first_checks, fitting_options, list_checks};
     ghost use Rattle.cap_pcapng.specs.OptionList.{coded_value, options_left};
 
     /// What is found in one option more, or the first check that this fails, if it is the first of
     /// its code.
     fn with(mut self, order: Order, option: BlockOption<'a>) -> Result<Self, Fault>
-        ensures { Judges (if is_found self.entry option.entry.code then []
+        ensures { ChecksGive (if is_found self.entry option.entry.code then []
             else first_checks (coded_value option.entry)) result
             (Adds order self.entry (coded_value option.entry)) }
     {
@@ -112,8 +112,8 @@ impl<'a> Found<'a> {
 
     /// What the options say, or the first check that they fail.
     fn of(options: Options<'a>) -> Result<Self, Fault>
-        ensures { Judges (list_checks [] (options_left options.entry)) result
-            (IsFound options.entry.order (given (options_left options.entry))) }
+        ensures { ChecksGive (list_checks [] (options_left options.entry)) result
+            (IsFound options.entry.order (fitting_options (options_left options.entry))) }
     {
         let mut found = Found {
             name: None,
@@ -136,7 +136,7 @@ impl<'a> InterfaceBlock<'a> {
     /// Reads a body, or tells the first check that it fails: it is shorter than 8 bytes, or one of
     /// its options.
     pub(crate) fn of(order: Order, body: &'a [u8]) -> Result<Self, Fault>
-        ensures found { Judges (body_checks kind.Interface order body.now
+        ensures found { ChecksGive (body_checks kind.Interface order body.now
             ++ option_checks (parts_in_body kind.Interface order body.now)) result
             (λ b. parts_of_interface b ≡ parts_in_body kind.Interface order body.now) }
         ensures described { IfOk result IsDescribed }

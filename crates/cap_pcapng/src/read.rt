@@ -4,7 +4,7 @@ ghost use Rattle.cap_octet.specs.Checks.{checked};
 ghost use Rattle.cap_pcapng.specs.Block.{IsDescribedIfAny, block_fault, body_checks, option_checks};
 ghost use Rattle.cap_pcapng.specs.Block.{parts_in, parts_in_body, parts_of};
 ghost use Rattle.cap_pcapng.specs.Frame.{frame_fault, frame_in, is_section, most_block};
-ghost use Rattle.cap_pcapng.specs.Answer.{Judges};
+ghost use Rattle.cap_pcapng.specs.Answer.{ChecksGive};
 
 use crate::blocks::{Block, EnhancedBlock, InterfaceBlock, SimpleBlock, check_section};
 use crate::frames::{BlockType, Frame, MOST_BLOCK, order_of};
@@ -57,7 +57,7 @@ pub fn frame(section: Option<Order>, bytes: &[u8; 12]) -> Result<Frame, Fault>
 
 /// Reads the body of a block, or tells the first check that it fails.
 fn body_of<'a>(frame: &Frame, body: &'a [u8]) -> Result<Block<'a>, Fault>
-    ensures parts { Judges (body_checks frame.now.block_type frame.now.order body.now
+    ensures parts { ChecksGive (body_checks frame.now.block_type frame.now.order body.now
         ++ option_checks (parts_in_body frame.now.block_type frame.now.order body.now)) result
         (λ block. parts_of block ≡ parts_in_body frame.now.block_type frame.now.order body.now) }
     ensures described { IfOk result IsDescribedIfAny }

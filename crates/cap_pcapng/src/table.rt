@@ -34,10 +34,10 @@ impl Model for Entry {
 }
 
 impl Entry {
-    ghost use Rattle.cap_pcapng.specs.Interface.{described};
+    ghost use Rattle.cap_pcapng.specs.Interface.{description_of};
 
     fn new(interface: &Interface<'_>) -> Self
-        ensures { result ≡ described interface.now }
+        ensures { result ≡ description_of interface.now }
     {
         Entry {
             link: interface.link,
@@ -48,7 +48,7 @@ impl Entry {
     }
 
     fn interface(&self) -> Interface<'_>
-        ensures { described result ≡ self.now }
+        ensures { description_of result ≡ self.now }
     {
         Interface {
             link: self.link,
@@ -67,19 +67,19 @@ pub struct Table<A: Allocator = Global> {
 
 impl<A: Allocator> Model for Table<A> {
     ghost use Rattle.std.specs.Prelude.{List};
-    ghost use Rattle.cap_pcapng.specs.Interface.{AreFew, Described};
+    ghost use Rattle.cap_pcapng.specs.Interface.{FitSection, Described};
 
     ghost Value = { List Described };
 
     ghost view = { λ t. t.entries.items };
 
-    ghost invariant = { λ t. AreFew t.entries.items };
+    ghost invariant = { λ t. FitSection t.entries.items };
 }
 
 impl<A: Allocator> Table<A> {
     ghost use Rattle.std.specs.Prelude.{IfErr, OnErr, slice_get};
     ghost use Rattle.std.specs.Option.{option_map};
-    ghost use Rattle.cap_pcapng.specs.Interface.{AreFew, described};
+    ghost use Rattle.cap_pcapng.specs.Interface.{FitSection, description_of};
 
     /// A table without interfaces. It takes no memory.
     pub fn new(alloc: A) -> Self
@@ -98,13 +98,6 @@ impl<A: Allocator> Table<A> {
         self.entries.len() == MOST_INTERFACES
     }
 
-    /// Tells the caller's proof what holds of every table. Nothing happens at run time.
-    pub fn bounds(&self)
-        ensures { AreFew self.now }
-    {
-        let _ = &self.entries;
-    }
-
     /// Forgets all interfaces, and keeps the memory for those to come.
     pub fn clear(&mut self)
         ensures { self.new ≡ [] }
@@ -115,8 +108,9 @@ impl<A: Allocator> Table<A> {
     /// Gives an interface the next number. A full table is fault 11, and a growth that is refused
     /// fault 16; either leaves the table unchanged.
     pub fn push(&mut self, interface: &Interface<'_>) -> Result<(), Fault>
-        ensures pushed { OnOk result (self.new ≡ self.old ++ described interface.now ∷ []) }
+        ensures pushed { OnOk result (self.new ≡ self.old ++ description_of interface.now ∷ []) }
         ensures kept { OnErr result (self.new ≡ self.old) }
+        ensures section { FitSection self.new }
         ensures full { (result ≡ Err Fault.TooManyInterfaces) ↔ (length self.old ≡ 256) }
         ensures no_memory { IfErr result (λ fault. length self.old < 256 → fault ≡ Fault.NoMemory) }
     {
@@ -130,7 +124,7 @@ impl<A: Allocator> Table<A> {
 
     /// The interface with this number, if there is one.
     pub fn get(&self, number: u32) -> Option<Interface<'_>>
-        ensures { option_map described result ≡ slice_get self.now number }
+        ensures { option_map description_of result ≡ slice_get self.now number }
     {
         self.entries.get(number as usize).map(Entry::interface)
     }

@@ -5,8 +5,8 @@ ghost use Rattle.cap_octet.specs.Checks.{checked, first_failing};
 ghost use Rattle.cap_octet.specs.Writer.{WritesExactly};
 ghost use Rattle.cap_octet.specs.Packet.{captured};
 ghost use Rattle.cap_pcapng.specs.Padding.{padded};
-ghost use Rattle.cap_pcapng.specs.Encoding.{comment_text, end_text, fit_checks, interface_heading};
-ghost use Rattle.cap_pcapng.specs.Encoding.{interface_text, packet_heading, packet_text};
+ghost use Rattle.cap_pcapng.specs.Encoding.{comment_text, end_text, fit_checks, interface_header};
+ghost use Rattle.cap_pcapng.specs.Encoding.{interface_text, packet_header, packet_text};
 ghost use Rattle.cap_pcapng.specs.Encoding.{resolution_text, section_text};
 
 use crate::frames::MOST_BLOCK;
@@ -52,15 +52,15 @@ pub fn section_bytes() -> [u8; 28]
 /// How many zeros stand behind so many bytes.
 pub fn padding_behind(length: usize) -> usize
     ensures padded { length + result ≡ padded length }
-    ensures few { result < 4 }
+    ensures short { result < 4 }
 {
     (4 - length % 4) % 4
 }
 
 /// A packet block's type, total length, interface, time, captured length and original length.
-pub fn packet_head(size: u32, number: u32, packet: &Packet<'_>) -> [u8; 28]
+pub fn packet_header(size: u32, number: u32, packet: &Packet<'_>) -> [u8; 28]
     requires { length packet.now.bytes.now < 2 ^ 32 }
-    ensures { result ≡ packet_heading size number (captured packet.now) }
+    ensures { result ≡ packet_header size number (captured packet.now) }
 {
     let mut bytes = [0; 28];
     LittleEndian::write_u32(&mut bytes, 6);
@@ -74,7 +74,7 @@ pub fn packet_head(size: u32, number: u32, packet: &Packet<'_>) -> [u8; 28]
 }
 
 /// An option's code and length, behind three bytes of padding.
-pub fn option_head(code: u16, value: &[u8]) -> [u8; 7]
+pub fn option_header(code: u16, value: &[u8]) -> [u8; 7]
     requires { length value.now < 2 ^ 16 }
     ensures { result ≡ replicate 3 0 ++ (little_bytes 2 code ++ little_bytes 2 (length value.now)) }
 {
@@ -107,24 +107,24 @@ pub fn write_packet<O: Output>(
     let padding = padding_behind(packet.bytes.len());
     if packet.comment.is_empty() {
         let size = (32 + packet.bytes.len() + padding) as u32;
-        let head = packet_head(size, number, packet);
+        let head = packet_header(size, number, packet);
         let end = packet_end(size);
         return write_all_parts(output, &[&head, packet.bytes, &end[7 - padding..]]);
     }
     let comment = packet.comment;
-    let option = option_head(1, comment);
+    let option = option_header(1, comment);
     let option = &option[3 - padding..];
     let zeros = padding_behind(comment.len()) + 4;
     let size = (32 + packet.bytes.len() + option.len() + comment.len() + zeros) as u32;
-    let head = packet_head(size, number, packet);
+    let head = packet_header(size, number, packet);
     let end = packet_end(size);
     let parts = [&head[..], packet.bytes, option, comment, &end[7 - zeros..]];
     write_all_parts(output, &parts)
 }
 
 /// An interface block's type, total length, link type and snap length.
-pub fn interface_head(size: u32, packet: &Packet<'_>) -> [u8; 16]
-    ensures { result ≡ interface_heading size packet.now.link packet.now.snap }
+pub fn interface_header(size: u32, packet: &Packet<'_>) -> [u8; 16]
+    ensures { result ≡ interface_header size packet.now.link packet.now.snap }
 {
     let mut bytes = [0; 16];
     LittleEndian::write_u32(&mut bytes, 1);
@@ -155,11 +155,11 @@ pub fn write_interface<O: Output>(packet: &Packet<'_>, output: &mut O) -> Result
 {
     let name = packet.name;
     let padding = padding_behind(name.len());
-    let option = option_head(2, name);
+    let option = option_header(2, name);
     let start = if name.is_empty() { 7 } else { 3 };
     let option = &option[start..];
     let size = (32 + option.len() + name.len() + padding) as u32;
-    let head = interface_head(size, packet);
+    let head = interface_header(size, packet);
     let end = interface_end(size);
     write_all_parts(output, &[&head, option, name, &end[3 - padding..]])
 }

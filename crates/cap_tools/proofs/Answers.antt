@@ -9,7 +9,7 @@ use Rattle.cap_octet.specs.declared.fault.Fault.TheVariants.{NoMemory, TooManyPa
 use Rattle.cap_io.specs.Capture.{Placed}
 use Rattle.cap_io.specs.Position.{IsAt}
 use Rattle.cap_io.specs.Sink.{SinkView}
-use Rattle.cap_io.specs.Text.{text, added, packets_text, refused}
+use Rattle.cap_io.specs.Text.{text, added_text, packets_text, refusal_of}
 use Rattle.cap_io.proofs.Standing.{IsAt-decided}
 use Rattle.cap_io.proofs.Texts.{text-more}
 use Rattle.cap_filter.specs.Decisions as chosen
@@ -278,16 +278,16 @@ stops-writing ss before cursors order policy state state' names sink sink' decid
     let tail : List ℕ = packets_text sink.format (packets ++ q ∷ []) grows.packets in
     record {
       failures = ap failures_to is ∙ why.1;
-      bytes = added sink.format packets q;
-      answer = inl (answers why.0 (added sink.format packets q) refl);
+      bytes = added_text sink.format packets q;
+      answer = inl (answers why.0 (added_text sink.format packets q) refl);
       back = tail ++ closes;
       whole =
           ap (λ (l : List Captured). text sink.format l ++ closes) (grows.packets_is ∙ append_assoc packets (q ∷ []) grows.packets)
           ∙ ap (λ (l : List ℕ). l ++ closes) (text-more sink.format packets q grows.packets)
-          ∙ append_assoc (text sink.format packets) (added sink.format packets q ++ tail) closes
-          ∙ ap (λ (l : List ℕ). text sink.format packets ++ l) (append_assoc (added sink.format packets q) tail closes);
+          ∙ append_assoc (text sink.format packets) (added_text sink.format packets q ++ tail) closes
+          ∙ ap (λ (l : List ℕ). text sink.format packets ++ l) (append_assoc (added_text sink.format packets q) tail closes);
       so_far = d.output.written;
-      stops = (let S : Target → Type 0 = λ t. Stops sink.written (added sink.format packets q) (written_to t) in subst S (sym is) why.2);
+      stops = (let S : Target → Type 0 = λ t. Stops sink.written (added_text sink.format packets q) (written_to t) in subst S (sym is) why.2);
     }
 
 -- the device failed at the line of a packet
@@ -327,7 +327,7 @@ stops-line ss before cursors order policy state state' names options bytes after
 -- a packet that passes isn't put into a capture
 unput-capture : (ss : List InputPast) (before : List ℕ) (cursors : List InputView) (order : PacketOrder) (turn : ℕ) (policy : Policy) (state state' : SelectorState) (names : List (List ℕ)) (sink sink' : SinkView) (decided : ℕ) (new : MachineState) (x : Placed) (q : Captured) (o : Option SequenceEnd) (fault : Fault)
     → (d : PacketsDecided ss before (mk cursors order policy state (record { names = names; target = Capture sink }) decided)) → Ahead ss cursors order d.events (Packet turn x)
-    → apply_event policy (AsCapture sink.format) (progress_of d) (Packet turn x) ≡ decide_unless (refused sink.format d.packets q) (progress_of d) turn x state' q o
+    → apply_event policy (AsCapture sink.format) (progress_of d) (Packet turn x) ≡ decide_unless (refusal_of sink.format d.packets q) (progress_of d) turn x state' q o
     → input_spec.IsNext (inputs_at order cursors) (next.Decide turn) → new.inputs ≡ record { order = order; cursors = cursors } → (cursor : InputView) → IsInput new.inputs.cursors turn cursor → cursor.source.offset ≡ x.offset
     → PassesAs (judge policy state (decided + 1) x.packet).verdict q → AnswersNext d new q → WhyUnput fault sink d.packets q sink' → new.output.target ≡ Capture sink'
     → EndLeaves d (unwritten turn fault) new

@@ -4,7 +4,7 @@ use Rattle.std.proofs.lemmas.List.{append_assoc, append-nil, length-append}
 use Rattle.cap_octet.specs.Packet.{Captured}
 use Rattle.cap_octet.specs.declared.fault.Fault.{Fault}
 use Rattle.cap_io.specs.Capture.{Declared, Placed, Items, Ending, End, FaultAt, Stops, items, items_from, after_packets, no_items, front_of, kind_of}
-use Rattle.cap_io.specs.Source.{SourceView, Phase, Ended, FindsPacket, FindsEnd, Finds, Advances, Passes}
+use Rattle.cap_io.specs.Source.{SourceView, Phase, Ended, FindsPacket, FindsEnd, Finds, Advances, SkipsUnits}
 use Rattle.cap_io.specs.Position.{IsAt, pending}
 use Rattle.cap_io.proofs.Items.{items_from-units, items_from-stops}
 use Rattle.cap_io.proofs.Standing.{IsAt-items, items-begin, Advances-sound}
@@ -92,7 +92,7 @@ carries-decided s xs ys h i order bytes p waits held lefts f' fit =
 
 -- ---- a clean end is met
 
-later-stops : (s s' : SourceView) (rest : List ℕ) (why : Option Fault) → (passes : Passes s s' rest) → front_of s'.declared rest ≡ Stops why
+later-stops : (s s' : SourceView) (rest : List ℕ) (why : Option Fault) → (passes : SkipsUnits s s' rest) → front_of s'.declared rest ≡ Stops why
     → (actual_future s).items ≡ no_items s'.declared why s'.offset
 later-stops s s' rest why passes stops =
     ap (items_from s.declared (s.offset + length s.block)) passes.splits
@@ -100,7 +100,7 @@ later-stops s s' rest why passes stops =
     ∙ ap (after_packets []) (items_from-stops s'.declared (s.offset + length s.block + length passes.passed) rest why stops)
     ∙ ap (λ n. no_items s'.declared why n) (sym passes.offset)
 
-pub later-size : (s s' : SourceView) (rest : List ℕ) → (passes : Passes s s' rest) → (actual_future s).size ≡ s'.offset + length rest
+pub later-size : (s s' : SourceView) (rest : List ℕ) → (passes : SkipsUnits s s' rest) → (actual_future s).size ≡ s'.offset + length rest
 later-size s s' rest passes =
     ap (λ (l : List ℕ). s.offset + length s.block + length l) passes.splits
     ∙ ap (λ n. s.offset + length s.block + n) (length-append passes.passed rest)

@@ -8,7 +8,7 @@ use Rattle.cap_octet.specs.declared.fault.Fault.{Fault}
 use Rattle.cap_octet.specs.declared.fault.Fault.TheVariants.{WriteFailed}
 use Rattle.cap_io.specs.Capture.{first_link_of, items}
 use Rattle.cap_io.specs.Sink.{SinkView, FinishesEmpty, HasPackets, link_or_ethernet}
-use Rattle.cap_io.specs.Text.{heading, text}
+use Rattle.cap_io.specs.Text.{file_start, text}
 use Rattle.cap_io.specs.Source.{Ended}
 use Rattle.cap_io.proofs.Texts.{finish-none, finish-none-writes, finish-some}
 use Rattle.cap_inputs.specs.declared.inputs.Next.TheVariants as next
@@ -69,7 +69,7 @@ finish-text : (before : List ℕ) (names : List (List ℕ)) (ps : List Captured)
 finish-text before names [] rs n state (Capture sink) new link has finishes =
     ap written_to finishes.is
     ∙ finish-none-writes before sink link (Ok tt) finishes.sink has finishes.writes
-    ∙ ap (λ (l : List ℕ). l ++ heading sink.format (link_or_ethernet link)) (has.written ∙ append-nil before)
+    ∙ ap (λ (l : List ℕ). l ++ file_start sink.format (link_or_ethernet link)) (has.written ∙ append-nil before)
 finish-text before names (q ∷ qs) rs n state (Capture sink) new link has finishes =
     let same = finish-some before q qs sink link (Ok tt) finishes.sink has finishes.finishes in
     ap written_to finishes.is ∙ ap (λ (v : SinkView). v.written) same.1 ∙ has.written ∙ ap (λ (l : List ℕ). before ++ l) (sym (append-nil (text sink.format (q ∷ qs))))
@@ -98,7 +98,7 @@ FinishLeaves {ss} {before} {old} d (Err fault) new = StopsWriting d new
 record StopsEmpty (before : List ℕ) (sink : SinkView) (packets : List Captured) (link : Option ℕ) (new : Target) : Type 0 where
   pub none : packets ≡ []
   pub failures : failures_to new ≡ sink.failures + 1
-  pub stops : Stops sink.written (heading sink.format (link_or_ethernet link)) (written_to new)
+  pub stops : Stops sink.written (file_start sink.format (link_or_ethernet link)) (written_to new)
 
 finish-empty : (before : List ℕ) (sink : SinkView) (packets : List Captured) (link : Option ℕ) (fault : Fault) (new : Target) → HasPackets before sink packets → Finishes link (Capture sink) (Err fault) new
     → StopsEmpty before sink packets link new
@@ -108,7 +108,7 @@ finish-empty before sink [] link fault new has finishes =
     let empty : FinishesEmpty sink (link_or_ethernet link) (Err fault) finishes.sink = finish-none before sink link (Err fault) finishes.sink has finishes.finishes in
     let told : fault ≡ WriteFailed = empty.answer in
     let failed : finishes.sink.failures ≡ sink.failures + 1 = rw told at empty.failures in
-    let S : Target → Type 0 = λ t. Stops sink.written (heading sink.format (link_or_ethernet link)) (written_to t) in
+    let S : Target → Type 0 = λ t. Stops sink.written (file_start sink.format (link_or_ethernet link)) (written_to t) in
     record {
       none = refl;
       failures = ap failures_to finishes.is ∙ failed;
@@ -126,9 +126,9 @@ finish-stops ss before names (Lines options bytes failures room) cursors order p
 finish-stops ss before names (Capture sink) cursors order policy state decided fault new d stop all link tells inputs finishes =
     let form : Form = AsCapture sink.format in
     let empty : StopsEmpty before sink d.packets (first_declared_link cursors) new.output.target = finish-empty before sink d.packets (first_declared_link cursors) fault new.output.target d.output finishes in
-    let bytes : List ℕ = heading sink.format (link_or_ethernet (first_declared_link cursors)) in
+    let bytes : List ℕ = file_start sink.format (link_or_ethernet (first_declared_link cursors)) in
     let closing_is : bytes ≡ closing_text form (first_link (wholes_of ss)) d.packets =
-    ap (λ (o : Option ℕ). heading sink.format (link_or_ethernet o)) (sym link) ∙ ap (closing_text form (first_link (wholes_of ss))) (sym empty.none) in
+    ap (λ (o : Option ℕ). file_start sink.format (link_or_ethernet o)) (sym link) ∙ ap (closing_text form (first_link (wholes_of ss))) (sym empty.none) in
     record {
       failures = empty.failures;
       bytes = bytes;

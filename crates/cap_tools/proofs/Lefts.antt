@@ -3,7 +3,7 @@ use Rattle.std.proofs.Common.{◌≡◌, ℕ, ◌+◌, ◌*◌, ◌^◌, ◌<◌
 use Rattle.std.proofs.lemmas.List.{length-append}
 use Rattle.std.specs.List.{slice_set}
 use Rattle.cap_octet.specs.declared.fault.Fault.{Fault}
-use Rattle.cap_io.specs.Source.{SourceView, Phase, Reading, Ended, Failed, Steps, behind, phase_told}
+use Rattle.cap_io.specs.Source.{SourceView, Phase, Reading, Ended, Failed, Steps, end_offset, phase_after}
 use Rattle.cap_inputs.specs.Sequence.{PacketOrder, InTurn, ByTime}
 use Rattle.cap_inputs.specs.declared.inputs.Next.TheVariants as next
 use Rattle.cap_inputs.specs.Inputs.{InputView, InputsView, IsInput, IsNext, IsNextIn, IsOpen, MarksDecided, ReadSteps, input_after, input_behind, input_steps_left, is_packet_found, owed_by, steps_left, steps_left_in, steps_owed, with_cursor}
@@ -28,7 +28,7 @@ reads-append (x ∷ xs) ys = let e = reads-append xs ys in omega (arith, e)
 -- what one input for another changes
 record Exchanged (cursors cursors' : List InputView) (h h' : InputView) : Type 0 where
   left : steps_left_in cursors' + input_steps_left h ≡ steps_left_in cursors + input_steps_left h'
-  reads : reads_of cursors' + behind h.source ≡ reads_of cursors + behind h'.source
+  reads : reads_of cursors' + end_offset h.source ≡ reads_of cursors + end_offset h'.source
   owes : owed_in cursors' + owed_by h ≡ owed_in cursors + owed_by h'
   count : length cursors' ≡ length cursors
 
@@ -37,8 +37,8 @@ exchanged cursors i h h' a =
     let set : slice_set cursors i h' ≡ a.front ++ h' ∷ a.back = ap (λ (l : List InputView). slice_set l i h') a.splits ∙ set-here a.front a.back h h' i a.place in
     let left : steps_left_in cursors ≡ steps_left_in a.front + (input_steps_left h + steps_left_in a.back) = ap steps_left_in a.splits ∙ left-append a.front (h ∷ a.back) in
     let left' : steps_left_in (slice_set cursors i h') ≡ steps_left_in a.front + (input_steps_left h' + steps_left_in a.back) = ap steps_left_in set ∙ left-append a.front (h' ∷ a.back) in
-    let reads : reads_of cursors ≡ reads_of a.front + (behind h.source + reads_of a.back) = ap reads_of a.splits ∙ reads-append a.front (h ∷ a.back) in
-    let reads' : reads_of (slice_set cursors i h') ≡ reads_of a.front + (behind h'.source + reads_of a.back) = ap reads_of set ∙ reads-append a.front (h' ∷ a.back) in
+    let reads : reads_of cursors ≡ reads_of a.front + (end_offset h.source + reads_of a.back) = ap reads_of a.splits ∙ reads-append a.front (h ∷ a.back) in
+    let reads' : reads_of (slice_set cursors i h') ≡ reads_of a.front + (end_offset h'.source + reads_of a.back) = ap reads_of set ∙ reads-append a.front (h' ∷ a.back) in
     let owes : owed_in cursors ≡ owed_in a.front + (owed_by h + owed_in a.back) = ap owed_in a.splits ∙ owed-append a.front (h ∷ a.back) in
     let owes' : owed_in (slice_set cursors i h') ≡ owed_in a.front + (owed_by h' + owed_in a.back) = ap owed_in set ∙ owed-append a.front (h' ∷ a.back) in
     let count : length cursors ≡ length a.front + suc (length a.back) = ap length a.splits ∙ length-append a.front (h ∷ a.back) in
@@ -119,10 +119,10 @@ mark_decided-paid inputs inputs' i tells s =
 
 -- ---- an input is read on
 
-grown : (old new : SourceView) → Steps old.phase old (Ok true) new → (old.given < new.given) × (new.given < 2 ^ 63) × (behind old < behind new)
+grown : (old new : SourceView) → Steps old.phase old (Ok true) new → (old.given < new.given) × (new.given < 2 ^ 63) × (end_offset old < end_offset new)
 grown old new steps = by_phase old.phase steps
   where
-    by_phase : (p : Phase) → Steps p old (Ok true) new → (old.given < new.given) × (new.given < 2 ^ 63) × (behind old < behind new)
+    by_phase : (p : Phase) → Steps p old (Ok true) new → (old.given < new.given) × (new.given < 2 ^ 63) × (end_offset old < end_offset new)
     by_phase Reading s = (s.progress refl, s.bounded refl, let more = s.progress refl in let counted = s.counted in omega (arith, more, counted))
     by_phase Ended s = absurd (let e = s.0 in cc)
     by_phase (Failed fault) s = absurd (let e = s.0 in cc)
@@ -136,20 +136,20 @@ kept old new r steps = by_phase old.phase steps
     by_phase (Failed fault) s = let e : new.given ≡ old.given = ap (λ (v : SourceView). v.given) s.1 in omega (arith, e)
 
 -- no bytes are lost at the end
-reads-kept : (old new : SourceView) → Steps old.phase old (Ok false) new → behind old ≤ behind new
+reads-kept : (old new : SourceView) → Steps old.phase old (Ok false) new → end_offset old ≤ end_offset new
 reads-kept old new steps = by_phase old.phase steps
   where
-    by_phase : (p : Phase) → Steps p old (Ok false) new → behind old ≤ behind new
+    by_phase : (p : Phase) → Steps p old (Ok false) new → end_offset old ≤ end_offset new
     by_phase Reading s = let more = s.given in let counted = s.counted in omega (arith, more, counted)
-    by_phase Ended s = let e : behind new ≡ behind old = ap behind s.1 in omega (arith, e)
-    by_phase (Failed fault) s = let e : behind new ≡ behind old = ap behind s.1 in omega (arith, e)
+    by_phase Ended s = let e : end_offset new ≡ end_offset old = ap end_offset s.1 in omega (arith, e)
+    by_phase (Failed fault) s = let e : end_offset new ≡ end_offset old = ap end_offset s.1 in omega (arith, e)
 
 abbrev pub Goes : Result Bool Fault → Type 0
 Goes (Ok b) = Unit {0}
 Goes (Err fault) = ⊥
 
 -- what an input owes that was read on
-after-owes : (r : Result Bool Fault) (h : InputView) (source : SourceView) → source.phase ≡ phase_told r → owed_by (input_after h r source) ≡ steps_owed (is_packet_found r) (phase_told r)
+after-owes : (r : Result Bool Fault) (h : InputView) (source : SourceView) → source.phase ≡ phase_after r → owed_by (input_after h r source) ≡ steps_owed (is_packet_found r) (phase_after r)
 after-owes r h source phase = ap (steps_owed (is_packet_found r)) phase
 
 pub read_input-less : (inputs inputs' : InputsView) (i : ℕ) (r : Result Bool Fault) → IsNext inputs (next.Read i) → ReadSteps inputs i r inputs' → Goes r → steps_left inputs' < steps_left inputs
@@ -158,7 +158,7 @@ read_input-less inputs inputs' i r tells f goes = by_result r f.steps f.phase go
     one : owed_by f.cursor ≡ 1
     one = unready-owes f.cursor (to-read inputs i f.cursor tells f.among)
 
-    by_result : (r : Result Bool Fault) → Steps f.cursor.source.phase f.cursor.source r f.source → f.source.phase ≡ phase_told r → Goes r → steps_left inputs' ≡ steps_left (with_cursor inputs i (input_after f.cursor r f.source)) → steps_left inputs' < steps_left inputs
+    by_result : (r : Result Bool Fault) → Steps f.cursor.source.phase f.cursor.source r f.source → f.source.phase ≡ phase_after r → Goes r → steps_left inputs' ≡ steps_left (with_cursor inputs i (input_after f.cursor r f.source)) → steps_left inputs' < steps_left inputs
     by_result (Err fault) steps phase goes new = absurd goes
     by_result (Ok true) steps phase goes new =
         let more = grown f.cursor.source f.source steps in
@@ -193,7 +193,7 @@ read_input-paid inputs inputs' i r tells f goes = by_result r f.steps f.phase go
     after : Result Bool Fault → InputsView
     after r = with_cursor inputs i (input_after f.cursor r f.source)
 
-    by_result : (r : Result Bool Fault) → Steps f.cursor.source.phase f.cursor.source r f.source → f.source.phase ≡ phase_told r → Goes r → owed inputs' ≡ owed (after r) → most_turns inputs' ≡ most_turns (after r) → IsPaid inputs inputs'
+    by_result : (r : Result Bool Fault) → Steps f.cursor.source.phase f.cursor.source r f.source → f.source.phase ≡ phase_after r → Goes r → owed inputs' ≡ owed (after r) → most_turns inputs' ≡ most_turns (after r) → IsPaid inputs inputs'
     by_result (Err fault) steps phase goes owes' most = absurd goes
     by_result (Ok true) steps phase goes owes' most =
         let more = (grown f.cursor.source f.source steps).2 in

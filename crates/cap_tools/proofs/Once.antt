@@ -3,7 +3,7 @@ use Rattle.std.proofs.Common.{◌≡◌, ℕ, List, [], ◌∷◌, ◌++◌, Opt
 use Rattle.std.proofs.lemmas.List.{append_assoc, append-nil}
 use Rattle.cap_octet.specs.Packet.{Captured}
 use Rattle.cap_io.proofs.Texts.{text-more}
-use Rattle.cap_io.specs.Text.{added, text}
+use Rattle.cap_io.specs.Text.{added_text, text}
 use Rattle.cap_inputs.specs.Sequence.{Complete}
 use Rattle.cap_tools.specs.Reports.{Report, report_text, reports_text}
 use Rattle.cap_tools.specs.Outcome.{Form, AsCapture, AsReports, AsLines, Progress, closing_text, packet_bytes, report_bytes, output_text}
@@ -27,7 +27,7 @@ appended before old new ps rs bytes has is =
 -- ---- a packet more, and a report more
 
 pub packet-more : (form : Form) (ps : List Captured) (q : Captured) (rs : List Report) → output_text form (ps ++ q ∷ []) rs ≡ output_text form ps rs ++ packet_bytes form ps q
-packet-more (AsCapture format) ps q rs = text-more format ps q [] ∙ ap (λ (l : List ℕ). text format ps ++ l) (append-nil (added format ps q))
+packet-more (AsCapture format) ps q rs = text-more format ps q [] ∙ ap (λ (l : List ℕ). text format ps ++ l) (append-nil (added_text format ps q))
 packet-more (AsReports names) ps q rs = sym (append-nil (reports_text names rs))
 packet-more (AsLines options) ps q rs = lines-one options ps q
 

@@ -11,7 +11,7 @@ use Rattle.cap_print.specs.declared.print.Options.{Options}
 use Rattle.cap_print.specs.Rendering.{printed}
 use Rattle.cap_io.specs.Sink as sinks
 use Rattle.cap_io.specs.Sink.{SinkView, HasPackets, PutsAfter, IsPutAnswer, PutWrites, WritesPacket, takes_memory}
-use Rattle.cap_io.specs.Text.{added, refused}
+use Rattle.cap_io.specs.Text.{added_text, refusal_of}
 use Rattle.cap_io.proofs.Texts.{put-answers, put-writes, put-taken, HasPackets-put, refused-write_failed, refused-no_memory}
 use Rattle.cap_tools.specs.Reports.{Report}
 use Rattle.cap_inputs.specs.Sequence.{Complete}
@@ -81,10 +81,10 @@ stays-written : (refusal : Option Fault) (fault : Fault) (bytes output_text outp
 stays-written None fault bytes output_text output_text' is writes = (cc)
 stays-written (Some refusal) fault bytes output_text output_text' is writes = writes
 
-not-refused : (format : Format) (ps : List Captured) (p : Captured) (fault : Fault) → (refused format ps p ≡ Some fault → ⊥) → IsPutAnswer (refused format ps p) (takes_memory format ps p) (Err fault) → refused format ps p ≡ None
-not-refused format ps p fault none answer = by_refusal (refused format ps p) refl answer
+not-refused : (format : Format) (ps : List Captured) (p : Captured) (fault : Fault) → (refusal_of format ps p ≡ Some fault → ⊥) → IsPutAnswer (refusal_of format ps p) (takes_memory format ps p) (Err fault) → refusal_of format ps p ≡ None
+not-refused format ps p fault none answer = by_refusal (refusal_of format ps p) refl answer
   where
-    by_refusal : (refusal : Option Fault) → refused format ps p ≡ refusal → IsPutAnswer refusal (takes_memory format ps p) (Err fault) → refused format ps p ≡ None
+    by_refusal : (refusal : Option Fault) → refusal_of format ps p ≡ refusal → IsPutAnswer refusal (takes_memory format ps p) (Err fault) → refusal_of format ps p ≡ None
     by_refusal None is answer = is
     by_refusal (Some refusal) is answer = absurd (none (is ∙ ap Some (sym answer)))
 
@@ -103,24 +103,24 @@ stayed-written (Some fault) bytes output_text output_text' is writes = writes
 
 -- why a packet that passes isn't put into a capture: the format refuses it; there was no memory; or the device failed
 abbrev pub WhyUnput : Fault → SinkView → List Captured → Captured → SinkView → Type 0
-WhyUnput WriteFailed old ps q new = (refused old.format ps q ≡ None) × (new.failures ≡ old.failures + 1) × Stops old.written (added old.format ps q) new.written
-WhyUnput NoMemory old ps q new = (refused old.format ps q ≡ None) × (takes_memory old.format ps q ≡ true) × (new.written ≡ old.written) × (new.failures ≡ old.failures)
-WhyUnput fault old ps q new = (refused old.format ps q ≡ Some fault) × (new.written ≡ old.written) × (new.failures ≡ old.failures)
+WhyUnput WriteFailed old ps q new = (refusal_of old.format ps q ≡ None) × (new.failures ≡ old.failures + 1) × Stops old.written (added_text old.format ps q) new.written
+WhyUnput NoMemory old ps q new = (refusal_of old.format ps q ≡ None) × (takes_memory old.format ps q ≡ true) × (new.written ≡ old.written) × (new.failures ≡ old.failures)
+WhyUnput fault old ps q new = (refusal_of old.format ps q ≡ Some fault) × (new.written ≡ old.written) × (new.failures ≡ old.failures)
 
 pub unput : (before : List ℕ) (ps : List Captured) (q : Captured) (old new : SinkView) (fault : Fault) → HasPackets before old ps
-    → sinks.Puts old.state old q (Err fault) new → PutWrites old.state old q (Err fault) new → WhyUnput fault old ps q new
+    → sinks.PutsPacket old.state old q (Err fault) new → PutWrites old.state old q (Err fault) new → WhyUnput fault old ps q new
 unput before ps q old new WriteFailed has puts writes =
     let after : PutsAfter ps old q (Err WriteFailed) new = put-answers before ps old q (Err WriteFailed) new has puts in
     let none = not-refused old.format ps q WriteFailed (refused-write_failed old.format ps q) after.answer in
-    (none, after.failures, stopped-within (refused old.format ps q) (added old.format ps q) old.written new.written none (put-writes before ps old q (Err WriteFailed) new has writes))
+    (none, after.failures, stopped-within (refusal_of old.format ps q) (added_text old.format ps q) old.written new.written none (put-writes before ps old q (Err WriteFailed) new has writes))
 unput before ps q old new NoMemory has puts writes =
     let after : PutsAfter ps old q (Err NoMemory) new = put-answers before ps old q (Err NoMemory) new has puts in
     let none = not-refused old.format ps q NoMemory (refused-no_memory old.format ps q) after.answer in
-    (none, memory-taken (refused old.format ps q) (takes_memory old.format ps q) none after.answer, stayed-written (refused old.format ps q) (added old.format ps q) old.written new.written none (put-writes before ps old q (Err NoMemory) new has writes), after.failures ∙ add-zero old.failures)
+    (none, memory-taken (refusal_of old.format ps q) (takes_memory old.format ps q) none after.answer, stayed-written (refusal_of old.format ps q) (added_text old.format ps q) old.written new.written none (put-writes before ps old q (Err NoMemory) new has writes), after.failures ∙ add-zero old.failures)
 unput before ps q old new fault has puts writes =
     let after : PutsAfter ps old q (Err fault) new = put-answers before ps old q (Err fault) new has puts in
-    let is = refusal-is (refused old.format ps q) (takes_memory old.format ps q) fault after.answer (λ same. (cc)) (λ same. (cc)) in
-    (is, stays-written (refused old.format ps q) fault (added old.format ps q) old.written new.written is (put-writes before ps old q (Err fault) new has writes), after.failures ∙ add-zero old.failures)
+    let is = refusal-is (refusal_of old.format ps q) (takes_memory old.format ps q) fault after.answer (λ same. (cc)) (λ same. (cc)) in
+    (is, stays-written (refusal_of old.format ps q) fault (added_text old.format ps q) old.written new.written is (put-writes before ps old q (Err fault) new has writes), after.failures ∙ add-zero old.failures)
 
 -- ---- the clean end
 

@@ -5,7 +5,7 @@ use Rattle.std.proofs.lemmas.List.Elements.{All-nil, All-cons, All-head, All-tai
 use Rattle.cap_octet.specs.declared.fault.Fault.{Fault}
 use Rattle.cap_io.specs.Capture.{Declared, Nothing, PcapFile, PcapngFile}
 use Rattle.cap_io.specs.Reading.{most_in_unit}
-use Rattle.cap_io.specs.Source.{SourceView, Phase, Reading, Ended, Failed, HasFew, Steps}
+use Rattle.cap_io.specs.Source.{SourceView, Phase, Reading, Ended, Failed, SectionFits, Steps}
 use Rattle.cap_tools.specs.declared.output.Writing.{Writing}
 use Rattle.cap_tools.specs.declared.output.Writing.TheVariants as writing
 use Rattle.cap_tools.specs.Output.{Target, Capture, Text, Lines, target_at}
@@ -62,7 +62,7 @@ names-light f (x ∷ xs) all =
     let others = names-light f xs (All-tail (λ x. length (f x) ≤ 255) x xs all) in
     omega (arith, one, others)
 
-declared-light : (d : Declared) → HasFew d → declared_weight d ≤ 274 * 256
+declared-light : (d : Declared) → SectionFits d → declared_weight d ≤ 274 * 256
 declared-light Nothing few = omega arith
 declared-light (PcapFile head) few = omega arith
 declared-light (PcapngFile first section) few =

@@ -4,8 +4,8 @@ use Rattle.std.specs.List.{All}
 use Rattle.cap_octet.specs.declared.fault.Fault.{Fault}
 use Rattle.cap_io.specs.Capture.{Declared, Nothing, PcapFile, PcapngFile}
 use Rattle.cap_io.specs.Reading.{most_in_unit}
-use Rattle.cap_io.specs.Source.{HasFew, behind}
-use Rattle.cap_io.specs.Text.{AreFew, most_output_interfaces}
+use Rattle.cap_io.specs.Source.{SectionFits, end_offset}
+use Rattle.cap_io.specs.Text.{FitFile, most_output_interfaces}
 use Rattle.cap_tools.specs.declared.step.JobEnd.{JobEnd}
 use Rattle.cap_tools.specs.Output.{Target, Capture, Text, Lines}
 use Rattle.cap_inputs.specs.declared.inputs.Next.TheVariants as next
@@ -83,7 +83,7 @@ goes_on (Some end) = false
 -- the bytes that were read of the inputs: those that are skipped, and those of the current units
 abbrev pub reads_of : List InputView → ℕ
 reads_of [] = 0
-reads_of (h ∷ hs) = behind h.source + reads_of hs
+reads_of (h ∷ hs) = end_offset h.source + reads_of hs
 
 -- the steps that follow without a byte more
 abbrev pub owed_in : List InputView → ℕ
@@ -142,10 +142,10 @@ most_weight inputs marks = inputs * most_in_unit + (256 * inputs + most_output_i
 
 -- at most one unit is held of an input, and few interfaces
 abbrev pub IsSmall : InputView → Type 0
-IsSmall h = (length h.source.block ≤ most_in_unit) × HasFew h.source.declared
+IsSmall h = (length h.source.block ≤ most_in_unit) × SectionFits h.source.declared
 
 abbrev pub HasFewInterfaces : Target → Type 0
-HasFewInterfaces (Capture sink) = AreFew sink.interfaces
+HasFewInterfaces (Capture sink) = FitFile sink.interfaces
 HasFewInterfaces (Text written failures room) = Unit {0}
 HasFewInterfaces (Lines options written failures room) = Unit {0}
 

@@ -8,7 +8,7 @@ use Rattle.cap_octet.specs.declared.format.Format.{Format}
 use Rattle.cap_io.specs.declared.source.Kind.{Kind}
 use Rattle.cap_io.specs.Capture.{Placed, Items, first_link_of}
 use Rattle.cap_io.specs.Sink.{takes_memory}
-use Rattle.cap_io.specs.Text.{added, heading, text, refused}
+use Rattle.cap_io.specs.Text.{added_text, file_start, text, refusal_of}
 use Rattle.cap_print.specs.declared.print.Options.{Options}
 use Rattle.cap_print.specs.Rendering.{printed}
 use Rattle.cap_filter.specs.Messages.{fault_message}
@@ -28,7 +28,7 @@ pub data Form : Type 0 where
 
 -- why a packet that comes behind these isn't written
 abbrev pub form_refuses : Form → List Captured → Captured → Option Fault
-form_refuses (AsCapture format) ps p = refused format ps p
+form_refuses (AsCapture format) ps p = refusal_of format ps p
 form_refuses (AsReports names) ps p = None
 form_refuses (AsLines options) ps p = None
 
@@ -128,7 +128,7 @@ output_text (AsLines options) ps rs = lines_text options ps
 
 -- what a packet that passes adds behind those before it
 abbrev pub packet_bytes : Form → List Captured → Captured → List ℕ
-packet_bytes (AsCapture format) ps p = added format ps p
+packet_bytes (AsCapture format) ps p = added_text format ps p
 packet_bytes (AsReports names) ps p = []
 packet_bytes (AsLines options) ps p = printed options p
 
@@ -145,7 +145,7 @@ first_link (r ∷ rs) = option_or (first_link_of r.items.declared) (first_link r
 
 -- what a clean end adds: a capture without packets has its file header or section header
 abbrev pub closing_text : Form → Option ℕ → List Captured → List ℕ
-closing_text (AsCapture format) link [] = heading format (unwrap_or link 1)
+closing_text (AsCapture format) link [] = file_start format (unwrap_or link 1)
 closing_text (AsCapture format) link (p ∷ ps) = []
 closing_text (AsReports names) link ps = []
 closing_text (AsLines options) link ps = []

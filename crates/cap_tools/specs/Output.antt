@@ -81,7 +81,7 @@ HasWritten before d packets reports = HasWrittenTo before d.names d.target packe
 pub record PutsInto (p : Captured) (old : SinkView) (r : Result (Unit {0}) Fault) (new : Target) : Type 0 where
   pub sink : SinkView
   pub is : new ≡ Capture sink
-  pub puts : sinks.Puts old.state old p r sink
+  pub puts : sinks.PutsPacket old.state old p r sink
   pub writes : PutWrites old.state old p r sink
 
 -- what is printed of a packet is appended to lines, or the device failed

@@ -7,10 +7,10 @@ use Rattle.cap_io.specs.Text.{record_text}
 use Rattle.cap_io.proofs.Parts.{appends-as, appends-stopped, appends-then}
 use Rattle.cap_io.proofs.writing.write_record.Goals as goal
 
-pub returns-in_err-write_heading : goal.returns-in_err-write_heading
-returns-in_err-write_heading g c =
+pub returns-in_err-write_file_start : goal.returns-in_err-write_file_start
+returns-in_err-write_file_start g c =
     let e = err_from_is_err_and c.from_residual.result c.from_residual.ensures.1 in
-    rw e.1 (appends-stopped _ _ _ _ _ _ c.in_err-write_heading.ensures)
+    rw e.1 (appends-stopped _ _ _ _ _ _ c.in_err-write_file_start.ensures)
 
 pub returns : goal.returns
 returns g c =
@@ -18,8 +18,8 @@ returns g c =
     let bytes : List ℕ = c.args.packet.now.bytes.now in
     let same : front ++ (bytes ++ []) ≡ record_text (resolution_of c.args.format) (captured c.args.packet.now) =
     ap (λ (l : List ℕ). front ++ l) (append-nil bytes) ∙ ap (λ (l : List ℕ). l ++ bytes) c.record_bytes.ensures in
-    appends-then _ _ _ _ _ _ _ c.in_ok-write_heading.ensures (record {
-      told = λ tells. appends-as c.write_parts.result _ _ _ _ same (c.write_parts.ensures.told tells);
+    appends-then _ _ _ _ _ _ _ c.in_ok-write_file_start.ensures (record {
+      appended = λ tells. appends-as c.write_parts.result _ _ _ _ same (c.write_parts.ensures.told tells);
       failed = c.write_parts.ensures.failed;
       room = c.write_parts.ensures.room;
     })

@@ -6,32 +6,28 @@ use Rattle.cap_memory.proofs.block.read_block.Goals as goal
 
 pub returns-in-Err-clause-err : goal.returns-in-Err-clause-err
 returns-in-Err-clause-err c =
-    let many = c.if-text-lt12.false in
-    λ before is same. frame_fails before c.args.section c.args.text.now c.first_12.result c.in-Err.fault is (omega arith) c.first_12.ensures c.in-Err.ensures.answer
+    λ before is same. frame_fails before c.args.section c.args.text.now c.in-Some.first.now c.in-Err.fault is c.in-Some.ensures.cases.enough c.in-Some.ensures.cases.same c.in-Err.ensures.answer
 
 pub returns-then-text-size-clause-err : goal.returns-then-text-size-clause-err
 returns-then-text-size-clause-err c =
-    let many = c.if-text-lt12.false in
     let short = c.if-text-size.true in
-    λ before is same. block_cut before c.args.text.now c.in-Ok.found (omega arith)
-    (framed before c.args.section c.args.text.now c.first_12.result c.in-Ok.found is (omega arith) c.first_12.ensures c.in-Ok.ensures.answer) (omega (arith, short))
+    λ before is same. block_cut before c.args.text.now c.in-Ok.found (omega (arith, c.in-Some.ensures.cases.enough))
+    (framed before c.args.section c.args.text.now c.in-Some.first.now c.in-Ok.found is c.in-Some.ensures.cases.enough c.in-Some.ensures.cases.same c.in-Ok.ensures.answer) (omega (arith, short))
 
-pub returns-in-Ok-enter-clause-ok : goal.returns-in-Ok-enter-clause-ok
-returns-in-Ok-enter-clause-ok c =
-    let many = c.if-text-lt12.false in
+pub returns-in-Ok-apply_block-clause-ok : goal.returns-in-Ok-apply_block-clause-ok
+returns-in-Ok-apply_block-clause-ok c =
     let there = c.if-text-size.false in
-    let e = c.in-Ok-enter.ensures.ok in
+    let e = c.in-Ok-apply_block.ensures.ok in
     record {
-      stands = λ before is same. stands before c.args.section (first_of c.args.count c.args.table.now) (first_of c.in-Ok-enter.entered.interfaces c.enter.new.table) c.args.text.now c.first_12.result
-          c.in-Ok.found c.in-Ok-enter.entered.packet is same (omega arith) c.first_12.ensures c.in-Ok.ensures.answer c.in-Ok.ensures.shortest (omega (arith, there)) e.enters;
+      stands = λ before is same. stands before c.args.section (first_of c.args.count c.args.table.now) (first_of c.in-Ok-apply_block.effect.interfaces c.apply_block.new.table) c.args.text.now c.in-Some.first.now
+          c.in-Ok.found c.in-Ok-apply_block.effect.packet is same c.in-Some.ensures.cases.enough c.in-Some.ensures.cases.same c.in-Ok.ensures.answer c.in-Ok.ensures.shortest (omega (arith, there)) e.enters;
       known = e.known;
       few = e.few;
       of = e.of;
     }
 
-pub returns-in-Err-enter-clause-err : goal.returns-in-Err-enter-clause-err
-returns-in-Err-enter-clause-err c =
-    let many = c.if-text-lt12.false in
+pub returns-in-Err-apply_block-clause-err : goal.returns-in-Err-apply_block-clause-err
+returns-in-Err-apply_block-clause-err c =
     let there = c.if-text-size.false in
-    no_block c.args.section (first_of c.args.count c.args.table.now) c.args.text.now c.first_12.result c.in-Ok.found (length c.args.table.now) c.in-Err-enter.refusal (omega arith) c.first_12.ensures
-    c.in-Ok.ensures.answer c.in-Ok.ensures.shortest (omega (arith, there)) c.in-Err-enter.ensures.err
+    no_block c.args.section (first_of c.args.count c.args.table.now) c.args.text.now c.in-Some.first.now c.in-Ok.found (length c.args.table.now) c.in-Err-apply_block.refusal c.in-Some.ensures.cases.enough c.in-Some.ensures.cases.same
+    c.in-Ok.ensures.answer c.in-Ok.ensures.shortest (omega (arith, there)) c.in-Err-apply_block.ensures.err

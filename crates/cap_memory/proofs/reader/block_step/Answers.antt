@@ -10,11 +10,11 @@ pub returns-in-Ok-clause-ok : goal.returns-in-Ok-clause-ok
 returns-in-Ok-clause-ok c =
     let e = c.in-Ok.ensures.ok in
     let r = c.in-Ok.read in
-    let u = block_unit c.args.form c.args.section c.args.first (first_of c.args.count c.args.table.now) c.args.text.now r.order r.size (first_of r.entered.interfaces c.read_block.new.table) r.entered.packet
+    let u = block_unit c.args.form c.args.section c.args.first (first_of c.args.count c.args.table.now) c.args.text.now r.order r.size (first_of r.effect.interfaces c.read_block.new.table) r.effect.packet
     c.requires.begins e.stands e.of in
     let P : Option ℕ → Type 0 = λ link. Steps c.args.form (first_of c.args.count c.args.table.now) c.args.text.now c.read_block.new.table
-    (record { size = r.size; form = form.Pcapng r.order link; interfaces = r.entered.interfaces; packet = r.entered.packet }) in
-    subst P (sym (c.link_behind-link.ensures r.order)) (record {
+    (record { size = r.size; form = form.Pcapng r.order link; interfaces = r.effect.interfaces; packet = r.effect.packet }) in
+    subst P (sym (c.first_link_type-link.ensures r.order)) (record {
       packets = u.packets;
       front = u.front;
       placed = u.placed;

@@ -10,14 +10,14 @@ returns-then-is_empty c =
     let p : Captured = captured c.args.packet.now in
     let padding = c.padding_behind-padding.ensures in
     unrefused _ _ _ _ _ c.put_parts.result refl
-    (plain_joined c.args.number _ p _ _ (sym c.is_empty.ensures ∙ c.if-is_empty.true) padding.few padding.padded c.packet_head-head.ensures c.packet_end-end.ensures)
+    (plain_joined c.args.number _ p _ _ (sym c.is_empty.ensures ∙ c.if-is_empty.true) padding.short padding.padded c.packet_header-head.ensures c.packet_end-end.ensures)
     c.put_parts.ensures
 
 pub returns : goal.returns
 returns c =
     let p : Captured = captured c.args.packet.now in
     let padding = c.padding_behind-padding.ensures in
-    let behind = comment_behind _ _ p.bytes p.comment _ (sym c.is_empty.ensures ∙ c.if-is_empty.false) padding.few padding.padded c.padding_behind-zeros.ensures.padded c.option_head-option.ensures in
+    let behind = comment_behind _ _ p.bytes p.comment _ (sym c.is_empty.ensures ∙ c.if-is_empty.false) padding.short padding.padded c.padding_behind-zeros.ensures.padded c.option_header-option.ensures in
     unrefused _ _ _ _ _ c.put_parts-2.result refl
-    (packet_joined c.args.number (c.padding_behind-zeros.result + 4) p _ _ _ (omega (arith, c.padding_behind-zeros.ensures.few)) behind c.packet_head-head-2.ensures c.packet_end-end-2.ensures)
+    (packet_joined c.args.number (c.padding_behind-zeros.result + 4) p _ _ _ (omega (arith, c.padding_behind-zeros.ensures.short)) behind c.packet_header-head-2.ensures c.packet_end-end-2.ensures)
     c.put_parts-2.ensures

@@ -1,7 +1,7 @@
 use Rattle.std.proofs.Common.{[], ℕ, List, arith}
 use Rattle.std.specs.Borrow.{Bor}
 use Rattle.std.proofs.lemmas.List.Folds.{length-flat_map-take}
-use Rattle.cap_octet.proofs.Writing.{parts-stop}
+use Rattle.cap_octet.proofs.Writing.{parts-stop-at}
 use Rattle.cap_octet.proofs.device.write_all_parts.Goals as goal
 
 abbrev none : Bor (List ℕ)
@@ -14,5 +14,15 @@ returns-in-Err-clause-front g c =
 
 pub returns-in-Err-clause-told : goal.returns-in-Err-clause-told
 returns-in-Err-clause-told g c = λ tells.
-    parts-stop (λ (part : Bor (List ℕ)). part.now) c.args.parts.now c.loop-part.part-index none _ _ _ _ c.in-Err.stopped c.loop-part-test.true
+    parts-stop-at (λ (part : Bor (List ℕ)). part.now) c.args.parts.now c.loop-part.part-index none _ _ _ _ c.in-Err.stopped c.loop-part-test.true
     c.loop-part.invariant.before (c.loop-part.invariant.told tells) c.in-Err.ensures.front (c.in-Err.ensures.told tells)
+
+pub overflow_add-result : goal.overflow_add-result
+overflow_add-result g c =
+    let within = length-flat_map-take (λ (part : Bor (List ℕ)). part.now) c.args.parts.now c.loop-part.part-index none c.loop-part-test.true in
+    omega (arith, within, c.in-Err.ensures.front, c.loop-part.invariant.before, c.requires)
+
+pub overflow_add-before : goal.overflow_add-before
+overflow_add-before g c =
+    let within = length-flat_map-take (λ (part : Bor (List ℕ)). part.now) c.args.parts.now c.loop-part.part-index none c.loop-part-test.true in
+    omega (arith, within, c.loop-part.invariant.before, c.requires)

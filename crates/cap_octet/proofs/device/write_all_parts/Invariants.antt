@@ -1,4 +1,4 @@
-use Rattle.std.proofs.Common.{◌≡◌, ◌%◌, ◌^◌, ◌++◌, length, take, IsTrue}
+use Rattle.std.proofs.Common.{◌≡◌, ◌++◌, length, take, IsTrue}
 use Rattle.std.specs.List.{flat_map}
 use Rattle.cap_octet.proofs.device.write_all_parts.Given as goal
 
@@ -6,7 +6,7 @@ abbrev pub invariant-loop-part : goal.invariant-loop-part
 invariant-loop-part g l =
     let output = g.O.Output in
     record {
-      before : l.before ≡ length (flat_map (λ part. part.now) (take l.part-index l.parts)) % 2 ^ 64;
+      before : l.before ≡ length (flat_map (λ part. part.now) (take l.part-index l.parts));
       told : IsTrue output.tells → output.written l.output ≡ output.written l.fn.output ++ flat_map (λ part. part.now) (take l.part-index l.parts);
       failed : output.failures l.output ≡ output.failures l.fn.output;
       room : output.room l.output ≡ output.room l.fn.output;

@@ -1,28 +1,26 @@
-use Rattle.std.proofs.Common.{◌<◌, length, ◌^◌, ◌≡◌, [], ◌++◌, ◌-◌, List, ℕ, take, drop, replicate, subst, sym, ◌∙◌, arith}
-use Rattle.cap_octet.proofs.Writing.{parts-exactly}
+use Rattle.std.proofs.Common.{◌≡◌, [], ◌++◌, ◌-◌, List, ℕ, take, drop, replicate, subst, sym, ◌∙◌}
 use Rattle.cap_octet.specs.Writer.{WritesExactly}
 use Rattle.cap_pcapng.specs.Encoding.{interface_text, name_text}
-use Rattle.cap_pcapng.proofs.WrittenBlocks.{few-interface_text, interface_joined, named, unnamed}
+use Rattle.cap_pcapng.proofs.WrittenBlocks.{interface_joined, named, unnamed}
 use Rattle.cap_pcapng.proofs.write.write_interface.Given.{Over}
 use Rattle.cap_pcapng.proofs.write.write_interface.Goals.{then-is_empty, else-is_empty}
 use Rattle.cap_pcapng.proofs.write.write_interface.Goals as goal
 
-joined : (g : Over) (c : goal.After-write_all_parts g) → c.interface_head-head.result
-    ++ ((take (7 - c.if-is_empty.start) (drop c.if-is_empty.start c.option_head-option.result)) ++ (c.args.packet.now.name.now ++ (take (19 - (3 - c.padding_behind-padding.result)) (drop (3 - c.padding_behind-padding.result) c.interface_end-end.result) ++ [])))
+joined : (g : Over) (c : goal.After-write_all_parts g) → c.interface_header-head.result
+    ++ ((take (7 - c.if-is_empty.start) (drop c.if-is_empty.start c.option_header-option.result)) ++ (c.args.packet.now.name.now ++ (take (19 - (3 - c.padding_behind-padding.result)) (drop (3 - c.padding_behind-padding.result) c.interface_end-end.result) ++ [])))
     ≡ interface_text c.args.packet.now.link c.args.packet.now.snap c.args.packet.now.name.now
 joined g c =
     let name : List ℕ = c.args.packet.now.name.now in
     let padding = c.padding_behind-padding.ensures in
-    let name_is : (take (7 - c.if-is_empty.start) (drop c.if-is_empty.start c.option_head-option.result)) ++ (name ++ replicate c.padding_behind-padding.result 0) ≡ name_text name = elim c.if-is_empty.branch [
+    let name_is : (take (7 - c.if-is_empty.start) (drop c.if-is_empty.start c.option_header-option.result)) ++ (name ++ replicate c.padding_behind-padding.result 0) ≡ name_text name = elim c.if-is_empty.branch [
       | then-is_empty w ↦ rw w.start-is (unnamed _ name (sym c.is_empty.ensures ∙ w.if-is_empty.true) padding.padded)
-      | else-is_empty w ↦ rw w.start-is (named _ name _ (sym c.is_empty.ensures ∙ w.if-is_empty.false) padding.padded c.option_head-option.ensures)
+      | else-is_empty w ↦ rw w.start-is (named _ name _ (sym c.is_empty.ensures ∙ w.if-is_empty.false) padding.padded c.option_header-option.ensures)
     ] in
-    interface_joined c.args.packet.now.link c.args.packet.now.snap c.padding_behind-padding.result name c.interface_head-head.result (take (7 - c.if-is_empty.start) (drop c.if-is_empty.start c.option_head-option.result)) c.interface_end-end.result
-    padding.few name_is c.interface_head-head.ensures c.interface_end-end.ensures
+    interface_joined c.args.packet.now.link c.args.packet.now.snap c.padding_behind-padding.result name c.interface_header-head.result (take (7 - c.if-is_empty.start) (drop c.if-is_empty.start c.option_header-option.result)) c.interface_end-end.result
+    padding.short name_is c.interface_header-head.ensures c.interface_end-end.ensures
 
 pub returns : goal.returns
 returns g c =
-    let P : List ℕ → Type 0 = λ text. length text < 2 ^ 64 → WritesExactly g.O.Output c.args.output.now text c.write_all_parts.result c.write_all_parts.new.output in
-    subst P (joined g c)
-    (parts-exactly g.O.Output _ _ _ c.write_all_parts.result c.write_all_parts.ensures.front c.write_all_parts.ensures.failed c.write_all_parts.ensures.room c.write_all_parts.ensures.told)
-    (few-interface_text c.args.packet.now.link c.args.packet.now.snap c.args.packet.now.name.now (omega arith))
+    let written = c.write_all_parts.ensures in
+    let P : List ℕ → Type 0 = λ text. WritesExactly g.O.Output c.args.output.now text c.write_all_parts.result c.write_all_parts.new.output in
+    subst P (joined g c) (record { front = written.front; failed = written.failed; room = written.room; told = written.told })

@@ -1,18 +1,18 @@
 use Rattle.std.proofs.Common.{ℕ, List, Ok, Err, sym, ap, subst, ◌∙◌}
 use Rattle.cap_octet.specs.Packet.{captured}
 use Rattle.cap_io.specs.declared.sink.SinkState.TheVariants.{Broken}
-use Rattle.cap_io.specs.Text.{AreFew}
+use Rattle.cap_io.specs.Text.{FitFile}
 use Rattle.cap_io.specs.Sink.{SinkView, WritesPacket, refusal_in, added_in}
 use Rattle.cap_io.proofs.Texts.{puts-ok, puts-err, puts-tell, put-writes-tell}
 use Rattle.cap_io.proofs.sink.Sink.put.Goals as goal
 
-pub returns-in-Err-clause-told : goal.returns-in-Err-clause-told
-returns-in-Err-clause-told g c = λ tells.
+pub returns-in-Err-clause-bytes : goal.returns-in-Err-clause-bytes
+returns-in-Err-clause-bytes g c = λ tells.
     let old : SinkView = c.args.self.now in
     let p = captured c.args.packet.now in
     let W : List ℕ → Type 0 = λ w. WritesPacket (refusal_in old p) (added_in old p) old.written (Err c.in-Err.fault) w in
     put-writes-tell old.state old p (Err c.in-Err.fault) _ (λ f e. c.in_default.not-Broken f (ap (λ (s : SinkView). s.state) c.self.view_is ∙ e))
-    (subst W (ap (λ (s : SinkView). s.written) (sym c.self-2.view_is)) (c.in-Err.ensures.told tells))
+    (subst W (ap (λ (s : SinkView). s.written) (sym c.self-2.view_is)) (c.in-Err.ensures.bytes tells))
 
 pub returns-in-Err-clause-answer : goal.returns-in-Err-clause-answer
 returns-in-Err-clause-answer g c =
@@ -21,16 +21,16 @@ returns-in-Err-clause-answer g c =
     puts-tell old.state old p (Err c.in-Err.fault) _ (λ f e. c.in_default.not-Broken f (ap (λ (s : SinkView). s.state) c.self.view_is ∙ e))
     (λ ps has. puts-err ps old p c.in-Err.fault _ _ has c.in-Err.ensures.answer
     (ap (λ (s : SinkView). record { format = s.format; state = Broken c.in-Err.fault; interfaces = s.interfaces; written = s.written; failures = s.failures; room = s.room }) c.self-2.view_is)
-    c.bounds-2.ensures)
+    c.self-2.invariant)
 
 pub returns-in_default-result : goal.returns-in_default-result
 returns-in_default-result g c =
     let old : SinkView = c.args.self.now in
     let p = captured c.args.packet.now in
-    let few : AreFew c.add-result.new.self.interfaces = subst AreFew (ap (λ (s : SinkView). s.interfaces) c.self-2.view_is) c.bounds-2.ensures in
+    let few : FitFile c.add-result.new.self.interfaces = subst FitFile (ap (λ (s : SinkView). s.interfaces) c.self-2.view_is) c.self-2.invariant in
     rw c.in_default-result.is (record {
-      told = λ tells. put-writes-tell old.state old p (Ok tt) c.add-result.new.self (λ f e. c.in_default.not-Broken f (ap (λ (s : SinkView). s.state) c.self.view_is ∙ e)) (c.in_default-result.ensures.told tells);
+      bytes = λ tells. put-writes-tell old.state old p (Ok tt) c.add-result.new.self (λ f e. c.in_default.not-Broken f (ap (λ (s : SinkView). s.state) c.self.view_is ∙ e)) (c.in_default-result.ensures.bytes tells);
       answer = puts-tell old.state old p (Ok tt) c.add-result.new.self (λ f e. c.in_default.not-Broken f (ap (λ (s : SinkView). s.state) c.self.view_is ∙ e))
           (λ ps has. puts-ok ps old p c.add-result.new.self has c.in_default-result.ensures.answer few);
-      few = few;
+      interfaces = few;
     })

@@ -1,9 +1,9 @@
 use Rattle.std.proofs.Common.{◌≡◌, ◌+◌, ◌++◌, ℕ, List, length, take, drop, refl, sym, ap, ◌∙◌, subst}
 use Rattle.std.proofs.lemmas.List.{take_at}
 use Rattle.cap_io.specs.Capture.{Declared}
-use Rattle.cap_io.specs.Reading.{declared_by, held_of_record, packet_held}
+use Rattle.cap_io.specs.Reading.{declared_by, record_spans, packet_in_unit}
 use Rattle.cap_io.specs.Source.{SourceView, TakesNext, view_of}
-use Rattle.cap_io.specs.declared.unit.Savefile.{Savefile}
+use Rattle.cap_io.specs.declared.file_state.FileState.{FileState}
 use Rattle.cap_io.specs.declared.source.Stage.TheVariants as stage
 use Rattle.cap_io.proofs.Hands.{takes-next}
 use Rattle.cap_io.proofs.source.Source.take_next.Goals as goal
@@ -13,13 +13,13 @@ returns-clause-found g c =
     let taken = c.in-Some.ensures.taken in
     let found = c.in-Some.found in
     let buffer : List ℕ = c.take_record.new.buffer in
-    let declared = ap (λ (s : Savefile). declared_by s c.self.inside.table) c.in-Pcap.is in
-    let new : List ℕ → SourceView = λ l. view_of stage.InHand (held_of_record found) c.self.inside.savefile c.self.inside.table l c.self.inside.offset
+    let declared = ap (λ (s : FileState). declared_by s c.self.inside.table) c.in-Pcap.is in
+    let new : List ℕ → SourceView = λ l. view_of stage.InHand (record_spans found) c.self.inside.file c.self.inside.table l c.self.inside.offset
     (g.I.Input.unread c.take_record.new.input) (g.I.Input.given c.take_record.new.input) (g.I.Input.failures c.take_record.new.input) (g.I.Input.never_fails c.take_record.new.input) in
     let P : List ℕ → Type 0 = λ l. TakesNext g.I.Input.tells c.args.self.now (new l) in
     let whole : take c.self.inside.buffer.len (buffer ++ drop (length buffer) c.self.inside.buffer.items) ≡ buffer =
     take_at buffer _ c.self.inside.buffer.len (c.in-Some.ensures.room ∙ c.as_mut_slice-buffer.ensures.len) in
-    rw c.record_held-self-inside.ensures (λ is. subst P (sym whole) (
+    rw c.record_spans-self-inside.ensures (λ is. subst P (sym whole) (
     takes-next g.I.Input.tells c.in-Pcap.head found buffer c.args.self.now (new buffer) c.requires.between taken.says taken.short taken.there
     (taken.counted ∙ ap (λ (v : SourceView). v.given + (16 + found.captured)) c.self.view_is)
     taken.bounded
@@ -28,5 +28,5 @@ returns-clause-found g c =
     (λ t. sym (ap (λ (v : SourceView). v.unread) c.self.view_is) ∙ taken.splits t)
     (sym (ap (λ (v : SourceView). v.declared) c.self.view_is) ∙ declared)
     declared refl
-    (ap (λ (d : Declared). packet_held d (held_of_record found) (take (16 + found.captured) buffer)) declared)
+    (ap (λ (d : Declared). packet_in_unit d (record_spans found) (take (16 + found.captured) buffer)) declared)
     (ap (λ (v : SourceView). v.offset) c.self.view_is) refl))

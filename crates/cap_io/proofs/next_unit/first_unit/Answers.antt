@@ -1,0 +1,44 @@
+use Rattle.std.proofs.Common.{rules, refl, sym, ◌∙◌}
+use Rattle.std.proofs.lemmas.Result.{err_from_is_err_and}
+use Rattle.cap_io.proofs.Came.{NoUnitCame-behind, first_of, joined_front, section_of_bytes}
+use Rattle.cap_io.proofs.CapturesCame.{ReadsUnit-behind, UnitPassed-behind, header_passed, rest_of_front}
+use Rattle.cap_io.proofs.next_unit.first_unit.Goals as goal
+
+pub returns-in_err-read_rest : goal.returns-in_err-read_rest
+returns-in_err-read_rest g c =
+    let p = err_from_is_err_and c.from_residual-in_err-read_rest.result c.from_residual-in_err-read_rest.ensures.1 in
+    rw (p.1, p.2, c.requires.unknown) (record {
+      moves = search rules;
+      sized = tt;
+      consistent = tt;
+      known = tt;
+      ok = tt;
+      err = λ t. NoUnitCame-behind _ _ _ c.in_ok-first.first _ (c.in_ok-first.ensures.ok t)
+          (rest_of_front c.in_ok-first.first _ _ _ 12 refl (search rules) (sym c.begins_section.ensures ∙ c.if-begins_section.true) (c.in_err-read_rest.ensures.err t));
+      kept = (refl, refl);
+    })
+
+pub read_block-requires-clause-begins : goal.read_block-requires-clause-begins
+read_block-requires-clause-begins g c =
+    rw c.requires.unknown (section_of_bytes c.read_rest.new.buffer c.in_ok-first.first (first_of c.in_ok-first.first c.read_rest.new.buffer 12 (search rules) c.in_ok-read_rest.ensures.same) (search rules)
+    ∙ sym c.begins_section.ensures ∙ c.if-begins_section.true)
+
+pub returns-then-begins_section : goal.returns-then-begins_section
+returns-then-begins_section g c =
+    let first = c.in_ok-first.ensures.moves in
+    let rest = c.in_ok-read_rest.ensures.moves in
+    ReadsUnit-behind g.I.Input _ c.read_rest.new.input c.read_rest.new.buffer _ _ _ _ _ _ _ _
+    (search rules) (search rules) (rest.never ∙ first.never) (λ some. search rules)
+    (λ t. joined_front _ _ _ c.in_ok-first.first c.read_rest.new.buffer 12 (search rules) (c.in_ok-first.ensures.ok t) c.in_ok-read_rest.ensures.same (c.in_ok-read_rest.ensures.ok t))
+    c.read_block.ensures
+
+pub returns : goal.returns
+returns g c = rw c.requires.unknown (record {
+  moves = search rules;
+  sized = search rules;
+  consistent = tt;
+  known = tt;
+  ok = λ t. UnitPassed-behind _ _ _ c.in_ok-first.first _ _ (c.in_ok-first.ensures.ok t) (header_passed _ _ c.in_ok-read_header.field-0 (c.in_ok-read_header.ensures.ok t));
+  err = tt;
+  kept = tt;
+})

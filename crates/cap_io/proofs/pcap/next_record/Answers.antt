@@ -1,0 +1,68 @@
+use Rattle.std.proofs.Common.{rules, ◌+◌, take, refl, arith}
+use Rattle.std.proofs.lemmas.List.{take_at}
+use Rattle.std.proofs.lemmas.Result.{err_from_is_err_and}
+use Rattle.cap_io.proofs.Came.{fields_came, fields_refused, no_room, data_missing, record_came}
+use Rattle.cap_io.proofs.pcap.next_record.Goals as goal
+
+pub returns-in_err-found : goal.returns-in_err-found
+returns-in_err-found g c =
+    let p = err_from_is_err_and c.from_residual-in_err-found.result c.from_residual-in_err-found.ensures.1 in
+    rw (p.1, p.2) (λ interfaces. record {
+      moves = search rules;
+      sized = tt;
+      consistent = tt;
+      known = tt;
+      ok = tt;
+      err = λ t. fields_refused _ _ _ c.read_front.new.front _ _ (rw c.if-not-branch.false at (c.in_ok-read_front.ensures.ok t)) (search rules) c.read_record.ensures.answer c.in_err-found.was;
+      kept = (refl, refl);
+    })
+
+pub returns-in_err-make_room : goal.returns-in_err-make_room
+returns-in_err-make_room g c =
+    let p = err_from_is_err_and c.from_residual-in_err-make_room.result c.from_residual-in_err-make_room.ensures.1 in
+    rw (p.1, p.2, c.in_err-make_room.ensures.memory) (λ interfaces. record {
+      moves = search rules;
+      sized = tt;
+      consistent = tt;
+      known = tt;
+      ok = tt;
+      err = λ t. no_room _ _ _ c.read_front.new.front (rw c.if-not-branch.false at (c.in_ok-read_front.ensures.ok t)) (search rules);
+      kept = (refl, refl);
+    })
+
+pub returns-in_err-read_rest : goal.returns-in_err-read_rest
+returns-in_err-read_rest g c =
+    let p = err_from_is_err_and c.from_residual-in_err-read_rest.result c.from_residual-in_err-read_rest.ensures.1 in
+    rw (p.1, p.2) (λ interfaces. record {
+      moves = search rules;
+      sized = tt;
+      consistent = tt;
+      known = tt;
+      ok = tt;
+      err = λ t. data_missing _ _ _ _ c.read_front.new.front c.in_ok-found.found _ _ (search rules) (rw c.if-not-branch.false at (c.in_ok-read_front.ensures.ok t)) (search rules)
+          (fields_came _ _ _ _ c.read_record.ensures.answer c.in_ok-found.was) (omega (arith, c.in_ok-found.ensures.short)) (c.in_err-read_rest.ensures.err t);
+      kept = (refl, refl);
+    })
+
+pub returns : goal.returns
+returns g c = rw c.record_spans.ensures (λ interfaces. record {
+  moves = search rules;
+  sized = (
+    record {
+      bytes = omega arith;
+      options = omega arith;
+      there = rw (take_at c.read_rest.new.buffer _ c.make_room.new.buffer.len (search rules)) (search rules);
+      some = omega arith;
+      small = omega (arith, c.in_ok-found.ensures.short);
+      time = c.in_ok-found.ensures.in_range;
+    },
+    search rules,
+  );
+  consistent = tt;
+  known = tt;
+  ok = λ t.
+      record_came _ _ _ _ c.read_front.new.front (take (16 + c.in_ok-found.found.captured) c.read_rest.new.buffer) _ c.in_ok-found.found _ (rw c.if-not-branch.false at (c.in_ok-read_front.ensures.ok t)) (search rules)
+      (fields_came _ _ _ _ c.read_record.ensures.answer c.in_ok-found.was) refl (search rules) c.in_ok-read_rest.ensures.same (c.in_ok-read_rest.ensures.ok t) (rw (take_at c.read_rest.new.buffer _ c.make_room.new.buffer.len (search rules)) refl);
+  err = tt;
+  kept = tt;
+})

@@ -1,0 +1,158 @@
+use Rattle.std.proofs.Common.{rules, length, take, ap, arith, refl, sym, ◌∙◌}
+use Rattle.std.proofs.lemmas.List.{take_at}
+use Rattle.std.proofs.lemmas.Result.{err_from_is_err_and}
+use Rattle.cap_pcapng.specs.Frame.{frame_in}
+use Rattle.cap_io.specs.Blocks.{section_of}
+use Rattle.cap_io.specs.Reading.{known_first_link, section_before}
+use Rattle.cap_io.proofs.BlocksCame.{block_came, entry_refused, frame_refused, front_says, no_room_for_block, rest_of_block, whole_came}
+use Rattle.cap_io.proofs.CapturesCame.{first-again, has-section, interfaces-held, interfaces-kept, order-held, packet-block, passed-block, refused-block, section-fits, small-behind}
+use Rattle.cap_io.proofs.OwnFaults.{entry-own}
+use Rattle.cap_io.proofs.pcapng.read_block.Goals as goal
+
+pub returns-in_err-found : goal.returns-in_err-found
+returns-in_err-found g c =
+    let p = err_from_is_err_and c.from_residual.result c.from_residual.ensures.1 in
+    rw (p.1, p.2) (record {
+      moves = search rules;
+      sized = tt;
+      consistent = tt;
+      known = tt;
+      ok = tt;
+      err = λ t. refused-block c.args.file.now c.args.table.now c.args.front.now _ _ _ (search rules) c.requires.begins
+          (frame_refused (section_before c.args.file.now c.args.table.now) c.order.result c.args.front.now _ _ _ (order-held c.args.file.now c.args.table.now ∙ sym c.order.ensures) (search rules) c.frame.ensures.answer c.in_err-found.was);
+      kept = (refl, refl);
+    })
+
+pub returns-in_err-make_room : goal.returns-in_err-make_room
+returns-in_err-make_room g c =
+    let p = err_from_is_err_and c.from_residual-in_err-make_room.result c.from_residual-in_err-make_room.ensures.1 in
+    rw (p.1, p.2, c.in_err-make_room.ensures.memory) (record {
+      moves = search rules;
+      sized = tt;
+      consistent = tt;
+      known = tt;
+      ok = tt;
+      err = λ t. refused-block c.args.file.now c.args.table.now c.args.front.now _ _ _ (search rules) c.requires.begins
+          (no_room_for_block (section_before c.args.file.now c.args.table.now) c.args.front.now _ (search rules));
+      kept = (refl, refl);
+    })
+
+pub returns-in_err-read_rest : goal.returns-in_err-read_rest
+returns-in_err-read_rest g c =
+    let p = err_from_is_err_and c.from_residual-in_err-read_rest.result c.from_residual-in_err-read_rest.ensures.1 in
+    rw (p.1, p.2) (record {
+      moves = search rules;
+      sized = tt;
+      consistent = tt;
+      known = tt;
+      ok = tt;
+      err = λ t. refused-block c.args.file.now c.args.table.now c.args.front.now _ _ _ (search rules) c.requires.begins
+          (rest_of_block (section_before c.args.file.now c.args.table.now) c.order.result c.args.front.now _ _ c.in_ok-found.found _ (order-held c.args.file.now c.args.table.now ∙ sym c.order.ensures) (search rules)
+          (front_says c.order.result c.args.front.now _ c.in_ok-found.found c.frame.ensures.answer c.in_ok-found.was) c.in_ok-found.ensures.longest (c.in_err-read_rest.ensures.err t));
+      kept = (refl, refl);
+    })
+
+pub apply_block-requires-clause-section : goal.apply_block-requires-clause-section
+apply_block-requires-clause-section g c = section-fits c.args.file.now c.args.table.now c.args.front.now c.requires.begins c.requires.consistent
+
+pub returns-in_err-packet : goal.returns-in_err-packet
+returns-in_err-packet g c =
+    let p = err_from_is_err_and c.from_residual-in_err-packet.result c.from_residual-in_err-packet.ensures.1 in
+    let moves = c.in_ok-read_rest.ensures.moves in
+    let own = entry-own _ _ _ c.in_err-packet.field-0.0 c.in_err-packet.ensures.err in
+    rw (p.1, p.2) (record {
+      moves = record {
+        counted = tt;
+        grown = moves.grown;
+        bounded = tt;
+        at_most = omega (arith, moves.counted, c.in_ok-found.ensures.longest);
+        failed = omega (arith, moves.failed, own);
+        never = moves.never;
+      };
+      sized = tt;
+      consistent = tt;
+      known = tt;
+      ok = tt;
+      err = λ t. refused-block c.args.file.now c.args.table.now c.args.front.now _ _ _ (search rules) c.requires.begins
+          (entry_refused (section_before c.args.file.now c.args.table.now) c.order.result c.args.table.now _ _ _ _ c.in_ok-found.found _ (order-held c.args.file.now c.args.table.now ∙ sym c.order.ensures)
+          (interfaces-held c.args.file.now c.args.table.now c.args.front.now c.requires.begins c.requires.consistent) c.in_ok-found.ensures.shortest c.in_ok-found.ensures.longest
+          (omega (arith, c.in_ok-make_room.ensures.room, c.deref.ensures.len, ap length c.deref.ensures.value))
+          (whole_came c.order.result c.args.front.now _ _ (take c.in_ok-found.found.length c.read_rest.new.buffer) _ c.in_ok-found.found (search rules)
+          (front_says c.order.result c.args.front.now _ c.in_ok-found.found c.frame.ensures.answer c.in_ok-found.was)
+          (rw (take_at c.read_rest.new.buffer _ c.make_room.new.buffer.len (search rules)) refl) c.in_ok-read_rest.ensures.same (c.in_ok-read_rest.ensures.ok t))
+          (ap (take c.in_ok-found.found.length) c.deref.ensures.value) c.in_err-packet.ensures.err);
+      kept = (refl, c.in_err-packet.ensures.kept);
+    })
+
+pub returns-in-Some : goal.returns-in-Some
+returns-in-Some g c =
+    let moves = c.in_ok-read_rest.ensures.moves in
+    let frame = c.in_ok-found.found in
+    let enters = rw c.in-Some.is at c.in_ok-packet.ensures.ok in
+    let stays = interfaces-kept frame c.args.table.now c.apply_block.new.table _ c.in-Some.packet enters in
+    let says = front_says c.order.result c.args.front.now _ frame c.frame.ensures.answer c.in_ok-found.was in
+    let small = small-behind _ _ (length c.args.front.now) frame.length (search rules) moves.counted c.in_ok-found.ensures.shortest moves.bounded c.requires.bounded in
+    record {
+      moves = record {
+        counted = omega (arith, moves.counted, enters.fits.0);
+        grown = moves.grown;
+        bounded = λ some. small;
+        at_most = tt;
+        failed = moves.failed;
+        never = moves.never;
+      };
+      sized = (
+        record {
+          bytes = omega (arith, enters.fits.0, enters.fits.1);
+          options = omega (arith, enters.fits.0, enters.fits.3);
+          there = omega (arith, enters.fits.0, c.in_ok-make_room.ensures.room, c.deref.ensures.len, ap length c.deref.ensures.value);
+          some = omega (arith, enters.fits.0, c.in_ok-found.ensures.shortest);
+          small = omega (arith, enters.fits.0, c.in_ok-found.ensures.longest);
+          time = enters.fits.2;
+        },
+        small,
+      );
+      consistent = rw stays c.requires.consistent;
+      known = has-section c.args.file.now c.args.front.now _ frame c.args.table.now c.apply_block.new.table c.in-Some.packet c.requires.begins (ap (λ o. frame_in o c.args.front.now) (sym c.order.ensures) ∙ says.says) enters enters.known;
+      ok = λ t. packet-block c.args.file.now c.args.table.now c.apply_block.new.table c.args.front.now _ _ _ frame.order frame.length c.in-Some.packet c.requires.begins
+          (omega (arith, c.in_ok-make_room.ensures.room, c.deref.ensures.len, ap length c.deref.ensures.value)) c.requires.consistent enters.fits.0 stays
+          (block_came (section_before c.args.file.now c.args.table.now) c.order.result c.args.table.now c.apply_block.new.table _ _ _ _ frame _ (order-held c.args.file.now c.args.table.now ∙ sym c.order.ensures)
+          (interfaces-held c.args.file.now c.args.table.now c.args.front.now c.requires.begins c.requires.consistent) c.in_ok-found.ensures.shortest
+          (omega (arith, c.in_ok-make_room.ensures.room, c.deref.ensures.len, ap length c.deref.ensures.value))
+          (whole_came c.order.result c.args.front.now _ _ (take frame.length c.read_rest.new.buffer) _ frame (search rules) says
+          (rw (take_at c.read_rest.new.buffer _ c.make_room.new.buffer.len (search rules)) refl) c.in_ok-read_rest.ensures.same (c.in_ok-read_rest.ensures.ok t))
+          (ap (take frame.length) c.deref.ensures.value) enters);
+      err = tt;
+      kept = tt;
+    }
+
+pub returns-in-None : goal.returns-in-None
+returns-in-None g c =
+    let moves = c.in_ok-read_rest.ensures.moves in
+    let frame = c.in_ok-found.found in
+    let enters = rw c.in-None.is at c.in_ok-packet.ensures.ok in
+    let says = front_says c.order.result c.args.front.now _ frame c.frame.ensures.answer c.in_ok-found.was in
+    let small = small-behind _ _ (length c.args.front.now) frame.length (search rules) moves.counted c.in_ok-found.ensures.shortest moves.bounded c.requires.bounded in
+    rw (c.first_link_type.ensures frame.order, c.first_link.ensures) (record {
+      moves = record {
+        counted = moves.counted;
+        grown = moves.grown;
+        bounded = λ some. small;
+        at_most = tt;
+        failed = moves.failed;
+        never = moves.never;
+      };
+      sized = (omega (arith, c.in_ok-found.ensures.shortest), small);
+      consistent = (first-again (known_first_link c.args.file.now) (section_of frame.order c.apply_block.new.table), c.in_ok-packet.ensures.section);
+      known = tt;
+      ok = λ t. passed-block c.args.file.now c.args.table.now c.apply_block.new.table c.args.front.now _ _ _ frame.order frame.length c.requires.begins
+          (omega (arith, c.in_ok-make_room.ensures.room, c.deref.ensures.len, ap length c.deref.ensures.value))
+          (block_came (section_before c.args.file.now c.args.table.now) c.order.result c.args.table.now c.apply_block.new.table _ _ _ _ frame _ (order-held c.args.file.now c.args.table.now ∙ sym c.order.ensures)
+          (interfaces-held c.args.file.now c.args.table.now c.args.front.now c.requires.begins c.requires.consistent) c.in_ok-found.ensures.shortest
+          (omega (arith, c.in_ok-make_room.ensures.room, c.deref.ensures.len, ap length c.deref.ensures.value))
+          (whole_came c.order.result c.args.front.now _ _ (take frame.length c.read_rest.new.buffer) _ frame (search rules) says
+          (rw (take_at c.read_rest.new.buffer _ c.make_room.new.buffer.len (search rules)) refl) c.in_ok-read_rest.ensures.same (c.in_ok-read_rest.ensures.ok t))
+          (ap (take frame.length) c.deref.ensures.value) enters);
+      err = tt;
+      kept = tt;
+    })

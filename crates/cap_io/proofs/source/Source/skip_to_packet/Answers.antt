@@ -1,0 +1,39 @@
+use Rattle.std.proofs.Common.{◌∙◌, ap, arith, Ok, refl}
+use Rattle.std.proofs.lemmas.Result.{err_from_is_err_and}
+use Rattle.cap_io.proofs.Passing.{FindsEnd-then, FindsPacket-then, IsBroken-then, SkipsUnits-then, stays}
+use Rattle.cap_io.proofs.source.Source.skip_to_packet.Goals as goal
+
+pub loop-init : goal.loop-init
+loop-init g c = record {
+  packets = λ t. stays c.args.self.now c.args.self.now c.requires.between refl refl;
+  between = c.requires.between;
+  given = omega arith;
+  failures = refl;
+  never = refl;
+  counted = refl;
+}
+
+pub returns-in_err-read_next-clause-packets : goal.returns-in_err-read_next-clause-packets
+returns-in_err-read_next-clause-packets g c =
+    let p = err_from_is_err_and c.from_residual.result c.from_residual.ensures.1 in
+    rw (p.1, p.2) (λ t. IsBroken-then c.args.self.now c.loop.self c.read_next.new.self c.in_err-read_next.field-0.0 (c.loop.invariant.packets t) c.loop.invariant.between.block (c.in_err-read_next.ensures.packets t))
+
+pub returns-in-Packet-clause-packets : goal.returns-in-Packet-clause-packets
+returns-in-Packet-clause-packets g c = λ t.
+    FindsPacket-then c.args.self.now c.loop.self c.read_next.new.self (c.loop.invariant.packets t) c.loop.invariant.between.block (rw c.in-Packet.is at (c.in_ok-read_next.ensures.packets t))
+
+pub returns-in-End-clause-packets : goal.returns-in-End-clause-packets
+returns-in-End-clause-packets g c = λ t.
+    FindsEnd-then c.args.self.now c.loop.self c.read_next.new.self (c.loop.invariant.packets t) c.loop.invariant.between.block (rw c.in-End.is at (c.in_ok-read_next.ensures.packets t))
+
+pub loop-preserved : goal.loop-preserved
+loop-preserved g c =
+    let bounds = c.in_ok-read_next.ensures.bounds in
+    let passed = bounds.passed _ (ap Ok c.in-Other.is) in record {
+      packets = λ t. SkipsUnits-then c.args.self.now c.loop.self c.read_next.new.self _ (c.loop.invariant.packets t) c.loop.invariant.between.block (rw c.in-Other.is at (c.in_ok-read_next.ensures.packets t));
+      between = passed.2;
+      given = omega (arith, c.loop.invariant.given, bounds.given);
+      failures = bounds.failures ∙ omega (arith, c.loop.invariant.failures);
+      never = bounds.never ∙ c.loop.invariant.never;
+      counted = omega (arith, bounds.counted, c.loop.invariant.counted);
+    }

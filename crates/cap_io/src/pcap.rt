@@ -1,0 +1,101 @@
+//! The units of a pcap file, read from a device.
+ghost use Rattle.std.specs.Prelude.{◌≡◌, ℕ, ◌+◌, ◌^◌, ◌<◌, ◌≤◌, ◌++◌, false, IsTrue, IfOk, IfErr};
+ghost use Rattle.std.specs.Prelude.{List, [], length, IfSome, IsNone};
+ghost use Rattle.cap_pcapng.specs.Frame.{is_section};
+ghost use Rattle.cap_pcapng.specs.Interface.{Described};
+ghost use Rattle.cap_io.specs.Capture.{Nothing};
+ghost use Rattle.cap_io.specs.Reading.{HeaderCame, Moves, NothingTaken, ReadsUnit, RecordTaken};
+ghost use Rattle.cap_io.specs.Reading.{NoUnitCame, record_spans};
+ghost use Rattle.cap_pcap.specs.Record.{most_captured};
+ghost use Rattle.cap_io.specs.declared.file_state.FileState.TheVariants as state;
+
+use crate::file_state::{NextUnit, PacketSpans, Span};
+use crate::unit::{copy_unit, make_room, read_front, read_rest};
+use cap_octet::{Fault, Input};
+use cap_pcap::{Head, RecordHead, read_head, read_magic, read_record};
+use std::alloc::Allocator;
+
+/// The bytes of a record in front of its data.
+const RECORD_HEAD: usize = 16;
+
+/// Reads the file header of pcap behind its first four bytes.
+pub(crate) fn read_header<I: Input>(input: &mut I, first: &[u8; 4]) -> Result<Head, Fault>
+    requires { is_section first.now ≡ false }
+    ensures moves { Moves I.Input input.old input.new 4 (λ _. 24) 24 result }
+    ensures ok { IfOk result (λ head. IsTrue I.tells → HeaderCame (first.now ++ I.unread input.old)
+        head (I.unread input.new)) }
+    ensures err { IfErr result (λ fault. IsTrue I.tells → NoUnitCame Nothing
+        (first.now ++ I.unread input.old) (I.unread input.new) fault) }
+{
+    if read_magic(first).is_none() {
+        return Err(Fault::NotACaptureFile);
+    }
+    let mut bytes = [0; 24];
+    read_rest(input, first, &mut bytes, 24)?;
+    read_head(&bytes)
+}
+
+/// Takes the next record to the start of the buffer, where the device has all of it at hand, the
+/// buffer has room for it, and it fails no check.
+#[inline(always)]
+pub(crate) fn take_record<I: Input>(
+    input: &mut I,
+    head: &Head,
+    buffer: &mut [u8],
+) -> Option<RecordHead>
+    ensures taken { IfSome result (λ found. RecordTaken I.Input head.now input.old buffer.new found
+        input.new) }
+    ensures nothing { IsNone result → NothingTaken I.Input input.old input.new }
+    ensures room { length buffer.new ≡ length buffer.old }
+{
+    let hand = input.at_hand();
+    let front = hand.first_chunk::<RECORD_HEAD>()?;
+    let Ok(found) = read_record(head, front) else {
+        return None;
+    };
+    let size = RECORD_HEAD + found.captured as usize;
+    if size > hand.len() || size > buffer.len() {
+        return None;
+    }
+    copy_unit(hand, buffer, size);
+    if input.pass(size) { Some(found) } else { None }
+}
+
+/// Reads the next record to the start of the buffer, and writes where its packet lies. Its limits
+/// are looked at before the buffer grows.
+pub(crate) fn next_record<I: Input, A: Allocator>(
+    input: &mut I,
+    head: &Head,
+    buffer: &mut Vec<u8, A>,
+    spans: &mut PacketSpans,
+) -> Result<NextUnit, Fault>
+    ensures { (interfaces : List Described) → ReadsUnit I.Input input.old [] (state.Pcap head.now)
+        interfaces result input.new buffer.new.items spans.new (state.Pcap head.now) interfaces }
+{
+    let mut front = [0; RECORD_HEAD];
+    if !read_front(input, &mut front)? {
+        return Ok(NextUnit::End);
+    }
+    let found = read_record(head, &front)?;
+    let size = RECORD_HEAD + found.captured as usize;
+    make_room(buffer, size)?;
+    read_rest(input, &front, buffer.as_mut_slice(), size)?;
+    *spans = record_spans(&found);
+    Ok(NextUnit::Packet)
+}
+
+/// Where the packet of a record lies.
+#[inline(always)]
+pub(crate) fn record_spans(found: &RecordHead) -> PacketSpans
+    requires { found.now.captured ≤ most_captured }
+    ensures { result ≡ record_spans found.now }
+{
+    PacketSpans {
+        size: RECORD_HEAD as u32 + found.captured,
+        bytes: Span::new(RECORD_HEAD as u32, found.captured),
+        options: Span::new(RECORD_HEAD as u32, 0),
+        interface: 0,
+        time: found.time,
+        orig: found.orig,
+    }
+}

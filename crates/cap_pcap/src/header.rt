@@ -1,0 +1,191 @@
+//! What the headers of a savefile and of its records say.
+ghost use Rattle.std.specs.Prelude.{◌≡◌, ◌/◌, ◌≤◌, ◌<◌, ◌^◌, length, IfOk};
+ghost use Rattle.cap_octet.specs.Checks.{checked, first_failing};
+ghost use Rattle.cap_pcap.specs.Header.{form_in, header_fault, header_in, magic};
+ghost use Rattle.cap_pcap.specs.Record.{field_checks, most_captured, nanoseconds_of_part};
+ghost use Rattle.cap_pcap.specs.Record.{parts_of_second, record_header_in};
+
+use cap_octet::date::NANOS_PER_SECOND;
+use cap_octet::{Fault, Order, u16_at, u32_at};
+
+/// The magic number of a savefile with microseconds.
+const MICROSECOND_MAGIC: u32 = 0xa1b2_c3d4;
+
+/// The magic number of a savefile with nanoseconds.
+const NANOSECOND_MAGIC: u32 = 0xa1b2_3c4d;
+
+/// The greatest number of captured bytes in a record.
+pub(crate) const MOST_CAPTURED: u32 = 262_144;
+
+/// The parts of a second in which a savefile counts.
+#[derive(Clone, Copy, Debug, PartialEq, Eq)]
+pub enum Resolution {
+    Microseconds,
+    Nanoseconds,
+}
+
+/// What a file header says of all packets behind it.
+#[derive(Clone, Copy, Debug, PartialEq, Eq)]
+pub struct Head {
+    /// The byte order of all numbers in the file.
+    pub order: Order,
+    pub resolution: Resolution,
+    /// The snap length, in bytes.
+    pub snap: u32,
+    /// The link type (tcpdump.org's list of LINKTYPE_ values).
+    pub link: u16,
+}
+
+/// What a record says of its packet.
+#[derive(Clone, Copy, Debug, PartialEq, Eq)]
+pub struct RecordHead {
+    /// Nanoseconds since 1970-01-01 00:00:00 UTC.
+    pub time: u64,
+    /// The captured length, in bytes.
+    pub captured: u32,
+    /// The original length, in bytes.
+    pub orig: u32,
+}
+
+impl Resolution {
+    /// The magic number of a savefile of this resolution.
+    pub(crate) fn magic(self) -> u32
+        ensures { result ≡ magic self }
+    {
+        match self {
+            Resolution::Microseconds => MICROSECOND_MAGIC,
+            Resolution::Nanoseconds => NANOSECOND_MAGIC,
+        }
+    }
+
+    /// How many parts make a second.
+    fn parts(self) -> u32
+        ensures { result ≡ parts_of_second self }
+    {
+        match self {
+            Resolution::Microseconds => 1_000_000,
+            Resolution::Nanoseconds => NANOS_PER_SECOND as u32,
+        }
+    }
+
+    /// How many nanoseconds a part is.
+    pub(crate) fn nanoseconds(self) -> u64
+        ensures { result ≡ nanoseconds_of_part self }
+    {
+        match self {
+            Resolution::Microseconds => 1_000,
+            Resolution::Nanoseconds => 1,
+        }
+    }
+
+    /// How many whole parts so many nanoseconds are. Each divisor is a constant, which costs no
+    /// division.
+    pub(crate) fn whole_parts(self, nanoseconds: u64) -> u64
+        ensures { result ≡ nanoseconds / nanoseconds_of_part self }
+    {
+        match self {
+            Resolution::Microseconds => nanoseconds / 1_000,
+            Resolution::Nanoseconds => nanoseconds,
+        }
+    }
+}
+
+/// The byte order and the resolution that the first four bytes of a savefile tell, `None` where
+/// they are no magic number in either order. The caller knows four bytes to be there.
+pub fn read_magic(bytes: &[u8]) -> Option<(Order, Resolution)>
+    requires { 4 ≤ length bytes.now }
+    ensures { result ≡ form_in bytes.now }
+{
+    match u32_at(Order::Little, bytes, 0) {
+        MICROSECOND_MAGIC => return Some((Order::Little, Resolution::Microseconds)),
+        NANOSECOND_MAGIC => return Some((Order::Little, Resolution::Nanoseconds)),
+        _ => {}
+    }
+    match u32_at(Order::Big, bytes, 0) {
+        MICROSECOND_MAGIC => Some((Order::Big, Resolution::Microseconds)),
+        NANOSECOND_MAGIC => Some((Order::Big, Resolution::Nanoseconds)),
+        _ => None,
+    }
+}
+
+/// Reads a file header, or reports the first check that it fails: no magic number, another version
+/// than 2.4, a link type field above 65,535.
+pub fn read_head(bytes: &[u8; 24]) -> Result<Head, Fault>
+    ensures { result ≡ checked (header_fault bytes.now) (header_in bytes.now) }
+{
+    let Some((order, resolution)) = read_magic(bytes) else {
+        return Err(Fault::NotACaptureFile);
+    };
+    if u16_at(order, bytes, 4) != 2 || u16_at(order, bytes, 6) != 4 {
+        return Err(Fault::BadVersion);
+    }
+    let link = u32_at(order, bytes, 20);
+    if link > 0xffff {
+        return Err(Fault::BadLinkTypeField);
+    }
+    Ok(Head {
+        order,
+        resolution,
+        snap: u32_at(order, bytes, 16),
+        link: link as u16,
+    })
+}
+
+/// Reads what is before a record's data, or reports the first check that its fields fail: more than
+/// 262,144 captured bytes, a part of a second that is a whole one or more.
+pub fn read_record(head: &Head, bytes: &[u8; 16]) -> Result<RecordHead, Fault>
+    ensures answer { result
+        ≡ checked (first_failing (field_checks head.now bytes.now))
+        (record_header_in head.now bytes.now) }
+    ensures in_range { IfOk result (λ found. found.time < 2 ^ 63) }
+    ensures short { IfOk result (λ found. found.captured ≤ most_captured) }
+{
+    // Most files are of this order and resolution. Where both are known, no choice is left.
+    if let (Order::Little, Resolution::Microseconds) = (head.order, head.resolution) {
+        let usual = Head {
+            order: Order::Little,
+            resolution: Resolution::Microseconds,
+            ..*head
+        };
+        return read_fields(&usual, bytes);
+    }
+    read_unusual(head, bytes)
+}
+
+/// The same, out of the way of the usual files.
+#[cold]
+#[inline(never)]
+fn read_unusual(head: &Head, bytes: &[u8; 16]) -> Result<RecordHead, Fault>
+    ensures answer { result
+        ≡ checked (first_failing (field_checks head.now bytes.now))
+        (record_header_in head.now bytes.now) }
+    ensures in_range { IfOk result (λ found. found.time < 2 ^ 63) }
+    ensures short { IfOk result (λ found. found.captured ≤ most_captured) }
+{
+    read_fields(head, bytes)
+}
+
+/// The same, each field by itself.
+#[inline(always)]
+fn read_fields(head: &Head, bytes: &[u8; 16]) -> Result<RecordHead, Fault>
+    ensures answer { result
+        ≡ checked (first_failing (field_checks head.now bytes.now))
+        (record_header_in head.now bytes.now) }
+    ensures in_range { IfOk result (λ found. found.time < 2 ^ 63) }
+    ensures short { IfOk result (λ found. found.captured ≤ most_captured) }
+{
+    let captured = u32_at(head.order, bytes, 8);
+    if captured > MOST_CAPTURED {
+        return Err(Fault::TooLong);
+    }
+    let part = u32_at(head.order, bytes, 4);
+    if part >= head.resolution.parts() {
+        return Err(Fault::TimeOutOfRange);
+    }
+    let seconds = u64::from(u32_at(head.order, bytes, 0));
+    Ok(RecordHead {
+        time: seconds * NANOS_PER_SECOND + u64::from(part) * head.resolution.nanoseconds(),
+        captured,
+        orig: u32_at(head.order, bytes, 12),
+    })
+}
