@@ -73,25 +73,14 @@ impl<A: Allocator> Walk<A> {
     fn finish_truth(&mut self, entry: usize)
         ensures { self.new ≡ finish_truth (block self.old.code entry) self.old }
     {
-        self.to = match self.truths.pop() {
-            None => Targets {
-                yes: entry,
-                no: entry,
-            },
-            Some(
-                LeftTruth {
-                    join: Join::And,
-                    to,
-                },
-            ) => Targets {
-                yes: entry,
-                no: to.no,
-            },
-            Some(LeftTruth { join: Join::Or, to }) => Targets {
-                yes: to.yes,
-                no: entry,
+        let (yes, no) = match self.truths.pop() {
+            None => (entry, entry),
+            Some(left) => match left.join {
+                Join::And => (entry, left.to.no),
+                Join::Or => (left.to.yes, entry),
             },
         };
+        self.to = Targets { yes, no };
     }
 
     /// The operands of a relation are emitted: the tests of its accessors stand in front of them.
