@@ -1,5 +1,6 @@
 -- What becomes of each packet of a job: by its policy, by what was met so far, and by its number and the packet.
 use Rattle.std.specs.Prelude.{◌≡◌, ℕ, ◌+◌, ◌-◌, ◌^◌, ◌==◌, ◌&&◌, Bool, true, false, if◌then◌else◌, nat_lt, nat_le, List, [], ◌∷◌, ◌++◌, length, take, drop, Option, None, Some}
+use Rattle.cap_octet.specs.Date.{TIME_END}
 use Rattle.cap_octet.specs.Packet.{Captured}
 use Rattle.cap_octet.specs.declared.fault.Fault.{Fault}
 use Rattle.cap_octet.specs.declared.fault.Fault.TheVariants.{TimeOutOfRange, TooManyPackets}
@@ -113,7 +114,7 @@ changed s p time = record {
 -- a time that is moved, where it stays in range
 abbrev pub moved : Shift → ℕ → Option ℕ
 moved shift.None time = Some time
-moved (shift.Later by) time = if nat_lt (time + by) (2 ^ 63) then Some (time + by) else None
+moved (shift.Later by) time = if nat_lt (time + by) TIME_END then Some (time + by) else None
 moved (shift.Earlier by) time = if nat_le by time then Some (time - by) else None
 
 abbrev pub with_mark : ℕ → Mark → SelectorState → SelectorState

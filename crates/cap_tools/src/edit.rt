@@ -9,12 +9,10 @@ ghost use Rattle.cap_tools.specs.Edits.{PassesUnique};
 ghost use Rattle.cap_tools.specs.Reports.{Tally};
 
 use cap_filter::command::{Edit, Shift};
+use cap_octet::date::TIME_END;
 use cap_octet::{Fault, Packet};
 use cap_window::Window;
 use std::alloc::Allocator;
-
-/// From this time on none is written.
-const MOST_TIME: u64 = 1 << 63;
 
 fn is_from(start: Option<u64>, time: u64) -> bool
     ensures { result ≡ is_from start time }
@@ -75,7 +73,7 @@ fn moved(shift: Shift, time: u64) -> Option<u64>
     match shift {
         Shift::None => Some(time),
         Shift::Later(by) => {
-            if by < MOST_TIME - time {
+            if by < TIME_END - time {
                 Some(time + by)
             } else {
                 None
