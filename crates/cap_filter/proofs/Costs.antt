@@ -5,15 +5,15 @@ use Rattle.flt_bpf.specs.Content.{Content}
 use Rattle.flt_lang.specs.Tree.{Expression, empty, truth}
 use Rattle.flt_lang.specs.Counts.{bound_of}
 use Rattle.flt_gen.specs.declared.link.Link.{Link}
-use Rattle.cap_filter.specs.Programs.{AreMade, IsMade, IsSound, count_of, met_on, ran_at, spent_in}
+use Rattle.cap_filter.specs.Programs.{AreMade, IsMade, HasPrograms, steps_of_run, met_on, ran_at, spent_in}
 use Rattle.cap_filter.specs.Links.{link_types}
 use Rattle.cap_filter.specs.FilterRules.{by_reading}
 use Rattle.cap_filter.specs.Filters.{most_cost}
 
-made-cost : (program : Content) (e : Expression) (link : Link) (p : Captured) → IsMade program e link → count_of (met_on p program.insns) ≤ bound_of e
+made-cost : (program : Content) (e : Expression) (link : Link) (p : Captured) → IsMade program e link → steps_of_run (met_on p program.insns) ≤ bound_of e
 made-cost program e link p made =
     let d = made.right.decides p.bytes p.orig in
-    let is : count_of (met_on p program.insns) ≡ d.count = ap count_of d.answered in
+    let is : steps_of_run (met_on p program.insns) ≡ d.count = ap steps_of_run d.answered in
     omega (arith, is, d.few, made.right.bounded)
 
 cost-at : (e : Expression) (rows : List (ℕ × Link)) (programs : List Content) (i : ℕ) (p : Captured) → AreMade e rows programs → spent_in (ran_at i p programs) ≤ spent_in programs + bound_of e
@@ -22,6 +22,6 @@ cost-at e [] (program ∷ programs) i p made = absurd made
 cost-at e (row ∷ rows) (program ∷ programs) zero p made = let few = made-cost program e row.1 p made.0 in omega (arith, few)
 cost-at e (row ∷ rows) (program ∷ programs) (suc i) p made = let few = cost-at e rows programs i p made.1 in omega (arith, few)
 
-pub bounded-ran : (e : Expression) (programs : List Content) (i : ℕ) (p : Captured) → IsSound e programs → spent_in (ran_at i p programs) ≤ spent_in programs + most_cost (by_reading e)
+pub bounded-ran : (e : Expression) (programs : List Content) (i : ℕ) (p : Captured) → HasPrograms e programs → spent_in (ran_at i p programs) ≤ spent_in programs + most_cost (by_reading e)
 bounded-ran empty programs i p sound = absurd sound.some
 bounded-ran (truth a) programs i p sound = cost-at (truth a) link_types programs i p sound.made

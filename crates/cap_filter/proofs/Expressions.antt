@@ -11,18 +11,18 @@ use Rattle.flt_lang.specs.Nesting.{IsTooDeep}
 use Rattle.flt_lang.specs.Filled.{filled}
 use Rattle.flt_lang.specs.Resolved.{fill_fault}
 use Rattle.flt_lang.specs.Checks.{check_fault}
-use Rattle.cap_filter.specs.Expressions.{IsRead, IsSettled, HasFault, IsExpression, IsRefused, by_tokens, too_deep, no_tree, by_tree, IsReasonFor}
+use Rattle.cap_filter.specs.Expressions.{HasTree, IsSettled, HasFault, IsExpression, IsTextRefused, by_tokens, too_deep, no_tree, by_tree, IsTextFault}
 
-pub reason : (text : List ℕ) (refusal : ExprFault) → IsRefused text refusal → IsReasonFor text refusal
+pub reason : (text : List ℕ) (refusal : ExprFault) → IsTextRefused text refusal → IsTextFault text refusal
 reason text fault.Memory refused = tt
 reason text refusal refused = refused
 
-pub lexed-reason : (text : List ℕ) (refusal : ExprFault) → (refusal ≢ fault.Memory → Tokens text (Err refusal)) → IsReasonFor text refusal
+pub lexed-reason : (text : List ℕ) (refusal : ExprFault) → (refusal ≢ fault.Memory → Tokens text (Err refusal)) → IsTextFault text refusal
 lexed-reason text fault.Memory tells = tt
 lexed-reason text refusal tells = by_tokens (tells (λ same. (cc)))
 
 pub parsed-reads : (text : List ℕ) (tokens : List Token) (r : Result Expression ExprFault) → Tokens text (Ok tokens)
-    → (r ≡ Err fault.NestedTooDeep) ↔ IsTooDeep tokens → IfOk r (λ tree. Reads (kinds_of tokens) tree) → IfOk r (λ tree. IsRead text tree)
+    → (r ≡ Err fault.NestedTooDeep) ↔ IsTooDeep tokens → IfOk r (λ tree. Reads (kinds_of tokens) tree) → IfOk r (λ tree. HasTree text tree)
 parsed-reads text tokens (Ok tree) lexed deep reads = record {
   tokens = tokens;
   lexed = lexed;
@@ -35,7 +35,7 @@ pub parsed-refused : (text : List ℕ) (tokens : List Token) (r : Result Express
     → (r ≡ Err fault.NestedTooDeep) ↔ IsTooDeep tokens
     → (r ≡ Err fault.NotAnExpression → (tree : Expression) → Reads (kinds_of tokens) tree → ⊥)
     → IfErr r (λ f. (f ≡ fault.NestedTooDeep) ⊎ (f ≡ fault.NotAnExpression) ⊎ (f ≡ fault.Memory))
-    → IfErr r (IsReasonFor text)
+    → IfErr r (IsTextFault text)
 parsed-refused text tokens (Ok tree) lexed deep none why = tt
 parsed-refused text tokens (Err refusal) lexed deep none why =
     elim why [
@@ -54,12 +54,12 @@ pub settled-refused : {X : Type 0} (tree e : Expression) (r : Result X ExprFault
 settled-refused tree e (Ok x) fills fits why = tt
 settled-refused tree e (Err refusal) fills fits why = inr (fits, sym (ap check_fault fills) ∙ why)
 
-pub expression-ok : {X : Type 0} (of : X → Expression) (text : List ℕ) (tree : Expression) (r : Result X ExprFault) → IsRead text tree
+pub expression-ok : {X : Type 0} (of : X → Expression) (text : List ℕ) (tree : Expression) (r : Result X ExprFault) → HasTree text tree
     → IfOk r (λ x. IsSettled tree (of x)) → IfOk r (λ x. IsExpression text (of x))
 expression-ok of text tree (Ok x) read settled = record { tree = tree; read = read; settled = settled }
 expression-ok of text tree (Err refusal) read settled = tt
 
-pub expression-refused : {X : Type 0} (text : List ℕ) (tree : Expression) (r : Result X ExprFault) → IsRead text tree
-    → IfErr r (HasFault tree) → IfErr r (IsReasonFor text)
+pub expression-refused : {X : Type 0} (text : List ℕ) (tree : Expression) (r : Result X ExprFault) → HasTree text tree
+    → IfErr r (HasFault tree) → IfErr r (IsTextFault text)
 expression-refused text tree (Ok x) read why = tt
 expression-refused text tree (Err refusal) read why = reason text refusal (by_tree read why)

@@ -17,10 +17,10 @@ use Rattle.flt_gen.specs.declared.link.Link.TheVariants.{Ether}
 use Rattle.flt_gen.specs.Correct.{IsProgramOf}
 use Rattle.flt_gen.specs.Elementary.{Reading, Yes, No, Rejected}
 use Rattle.flt_gen.specs.Reading.{holds}
-use Rattle.cap_filter.specs.Decisions.{Answers}
-use Rattle.cap_filter.specs.Programs.{AreMade, IsMade, IsSound, count_of, met_on, ran_at, ran_if, ran_on}
-use Rattle.cap_filter.specs.Links.{link_at, link_of, link_types, place_of}
-use Rattle.cap_filter.specs.FilterRules.{by_reading, expression_decides, passing, read_on}
+use Rattle.cap_filter.specs.Decisions.{ReturnsDecision}
+use Rattle.cap_filter.specs.Programs.{AreMade, IsMade, HasPrograms, steps_of_run, met_on, ran_at, ran_if, ran_on}
+use Rattle.cap_filter.specs.Links.{link_of_row, link_of, link_types, row_of_link_type}
+use Rattle.cap_filter.specs.FilterRules.{by_reading, expression_decides, decision_of, read_on}
 use Rattle.cap_filter.specs.Filters.{spent_on}
 
 -- ---- the answer
@@ -32,14 +32,14 @@ zero-unless : (a : ℕ) → (a ≢ 0 → ⊥) → not (nat_eq a 0) ≡ false
 zero-unless zero never = refl
 zero-unless (suc a) never = absurd (never (λ (same : suc a ≡ 0). absurd (omega arith)))
 
-answers-by : (r : Reading) (a : ℕ) → (a ≢ 0) ↔ (r ≡ Yes) → Answers (passing r) (Ok (not (nat_eq a 0)))
+answers-by : (r : Reading) (a : ℕ) → (a ≢ 0) ↔ (r ≡ Yes) → ReturnsDecision (decision_of r) (Ok (not (nat_eq a 0)))
 answers-by Yes a right = nonzero a (right.1 refl)
 answers-by No a right = zero-unless a (λ other. let same : No ≡ Yes = right.0 other in absurd (cc))
 answers-by Rejected a right = zero-unless a (λ other. let same : Rejected ≡ Yes = right.0 other in absurd (cc))
 
 -- a program for an expression accepts a packet where it passes
 pub run-answers : (prog : List Insn) (e : Expression) (link : Link) (p : List ℕ) (n answer count : ℕ) → IsProgramOf prog e link → machine prog p n (length prog) ≡ Answered answer count
-    → Answers (passing (holds e link p n)) (Ok (not (nat_eq answer 0)))
+    → ReturnsDecision (decision_of (holds e link p n)) (Ok (not (nat_eq answer 0)))
 run-answers prog e link p n answer count is met =
     let d = is.decides p n in
     let both : Answered d.answer d.count ≡ Answered answer count = sym d.answered ∙ met in
@@ -95,7 +95,7 @@ made-ran e (row ∷ rows) (program ∷ programs) (suc i) p made = (made.0, made-
 ran : (p : Captured) (before after : Content) (answer count : ℕ) → met_on p before.insns ≡ Answered answer count → after.insns ≡ before.insns
     → after.spent ≡ min (before.spent + count) (2 ^ 128 - 1) → after ≡ ran_on p before
 ran p before after answer count met same spent =
-    let cost : count_of (met_on p before.insns) ≡ count = ap count_of met in
+    let cost : steps_of_run (met_on p before.insns) ≡ count = ap steps_of_run met in
     let made : List Insn → ℕ → Content = λ insns spent. record { insns = insns; spent = spent } in
     ap (λ l. made l after.spent) same ∙ ap (λ n. made before.insns n) (spent ∙ ap (λ n. min (before.spent + n) (2 ^ 128 - 1)) (sym cost))
 
@@ -132,32 +132,32 @@ position-within test xs i is = by_test (nat_lt (position_or_len test xs) (length
     by_test false less is = (cc is)
 
 -- a link type's row is in the table
-pub place-within : (e : Expression) (programs : List Content) (n i : ℕ) → IsSound e programs → place_of n ≡ Some i → i < length programs
+pub place-within : (e : Expression) (programs : List Content) (n i : ℕ) → HasPrograms e programs → row_of_link_type n ≡ Some i → i < length programs
 place-within e programs n i sound is =
     subst (λ count. i < count) (sym (made-length e link_types programs sound.made)) (position-within (λ row. row.0 == n) link_types i is)
 
 -- a link type without a row has no link
-pub answers-none : (e : Expression) (programs : List Content) (p : Captured) → IsSound e programs → place_of p.link ≡ None → Answers (expression_decides e p) (Err LinkTypeNotFiltered)
+pub answers-none : (e : Expression) (programs : List Content) (p : Captured) → HasPrograms e programs → row_of_link_type p.link ≡ None → ReturnsDecision (expression_decides e p) (Err LinkTypeNotFiltered)
 answers-none empty programs p sound none = absurd sound.some
 answers-none (truth a) programs p sound none = rw none refl
 
 -- the program of its row accepts it where a packet passes
-pub answers-at : (e : Expression) (programs : List Content) (p : Captured) (i answer count : ℕ) → IsSound e programs → place_of p.link ≡ Some i
-    → ((d : Content) → met_on p (get_or programs i d).insns ≡ Answered answer count) → Answers (expression_decides e p) (Ok (not (nat_eq answer 0)))
+pub answers-at : (e : Expression) (programs : List Content) (p : Captured) (i answer count : ℕ) → HasPrograms e programs → row_of_link_type p.link ≡ Some i
+    → ((d : Content) → met_on p (get_or programs i d).insns ≡ Answered answer count) → ReturnsDecision (expression_decides e p) (Ok (not (nat_eq answer 0)))
 answers-at empty programs p i answer count sound is met = absurd sound.some
 answers-at (truth a) programs p i answer count sound is met =
     let row : ℕ × Link = get_or link_types i (0, Ether) in
     let here : slice_get link_types i ≡ Some row = slice_get-get_or link_types i (0, Ether) (position-within (λ row. row.0 == p.link) link_types i is) in
-    let linked : link_of p.link ≡ Some row.1 = ap link_at is ∙ ap (λ (o : Option (ℕ × Link)). option_map (λ (row : ℕ × Link). row.1) o) here in
+    let linked : link_of p.link ≡ Some row.1 = ap link_of_row is ∙ ap (λ (o : Option (ℕ × Link)). option_map (λ (row : ℕ × Link). row.1) o) here in
     let none : Content = record { insns = []; spent = 0 } in
     let program : Content = get_or programs i none in
-    subst (λ (l : Option Link). Answers (read_on (truth a) l p) (Ok (not (nat_eq answer 0)))) (sym linked)
+    subst (λ (l : Option Link). ReturnsDecision (read_on (truth a) l p) (Ok (not (nat_eq answer 0)))) (sym linked)
     (run-answers program.insns (truth a) row.1 p.bytes p.orig answer count (made-at (truth a) link_types programs i row none sound.made here).right (met none))
 
-pub sound-ran : (e : Expression) (programs : List Content) (p : Captured) (i : ℕ) → IsSound e programs → IsSound e (ran_at i p programs)
+pub sound-ran : (e : Expression) (programs : List Content) (p : Captured) (i : ℕ) → HasPrograms e programs → HasPrograms e (ran_at i p programs)
 sound-ran e programs p i sound = record { some = sound.some; made = made-ran e link_types programs i p sound.made }
 
 -- which program an expression runs that isn't empty
-pub reading-spends : (e : Expression) (programs : List Content) (p : Captured) (place : Option ℕ) → IsSound e programs → place_of p.link ≡ place → spent_on (by_reading e) p programs ≡ ran_if place p programs
+pub reading-spends : (e : Expression) (programs : List Content) (p : Captured) (place : Option ℕ) → HasPrograms e programs → row_of_link_type p.link ≡ place → spent_on (by_reading e) p programs ≡ ran_if place p programs
 reading-spends empty programs p place sound is = absurd sound.some
 reading-spends (truth a) programs p place sound is = rw is refl

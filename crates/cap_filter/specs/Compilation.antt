@@ -8,7 +8,7 @@ use Rattle.flt_lang.specs.Tree as tree
 use Rattle.flt_gen.specs.declared.link.Link.{Link}
 use Rattle.flt_gen.specs.Correct.{IsProgramOf}
 use Rattle.cap_filter.specs.declared.refusal.Refusal.TheVariants.{Expression}
-use Rattle.cap_filter.specs.Expressions.{IsExpression, IsReasonFor}
+use Rattle.cap_filter.specs.Expressions.{IsExpression, IsTextFault}
 use Rattle.cap_filter.specs.Messages.{refusal_message, refusal_status}
 use Rattle.cap_filter.specs.Outcome.{OutputView, OutputFails, OnlyTells}
 
@@ -41,7 +41,7 @@ pub record Compiles (text : List ℕ) (link : Link) (name : List ℕ) (out out' 
 -- the text is refused, or there was no memory, and nothing is written
 pub record ExpressionFails (text : List ℕ) (out out' : OutputView) (message : List ℕ) (status : ℕ) : Type 0 where
   pub fault : ExprFault
-  pub why : IsReasonFor text fault
+  pub why : IsTextFault text fault
   pub tells : OnlyTells (refusal_message (Expression fault)) (refusal_status (Expression fault)) out out' message status
 
 abbrev pub CompileLeaves : List ℕ → Link → List ℕ → OutputView → OutputView → List ℕ → ℕ → Type 0

@@ -12,9 +12,9 @@ abbrev pub keep_if : Bool → Decision
 keep_if kept = if kept then Keep else Skip
 
 -- whether a packet is kept, by its decision: a refusal is returned as it is
-abbrev pub Answers : Decision → Result Bool Fault → Type 0
-Answers (Refuse refusal) r = r ≡ Err refusal
-Answers Keep (Ok kept) = kept ≡ true
-Answers Skip (Ok kept) = kept ≡ false
-Answers Keep (Err fault) = ⊥
-Answers Skip (Err fault) = ⊥
+abbrev pub ReturnsDecision : Decision → Result Bool Fault → Type 0
+ReturnsDecision (Refuse refusal) r = r ≡ Err refusal
+ReturnsDecision Keep (Ok kept) = kept ≡ true
+ReturnsDecision Skip (Ok kept) = kept ≡ false
+ReturnsDecision Keep (Err fault) = ⊥
+ReturnsDecision Skip (Err fault) = ⊥

@@ -12,7 +12,7 @@ use Rattle.flt_lang.specs.Resolved.{fill_fault}
 use Rattle.flt_lang.specs.Checks.{check_fault}
 
 -- the text has these tokens, and they have this tree
-pub record IsRead (text : List ℕ) (tree : Expression) : Type 0 where
+pub record HasTree (text : List ℕ) (tree : Expression) : Type 0 where
   pub tokens : List Token
   pub lexed : Tokens text (Ok tokens)
   pub shallow : ¬ IsTooDeep tokens
@@ -32,18 +32,18 @@ HasFault tree refusal =
 -- the text is an expression, and this is its tree with all that is left out filled in
 pub record IsExpression (text : List ℕ) (e : Expression) : Type 0 where
   pub tree : Expression
-  pub read : IsRead text tree
+  pub read : HasTree text tree
   pub settled : IsSettled tree e
 
 -- the text is refused by the first of its faults: that of its tokens (E1 to E4), of their nesting (E6), of the grammar (E5),
 -- of their tree
-pub data IsRefused (text : List ℕ) : ExprFault → Type 0 where
-  by_tokens : {refusal : ExprFault} → Tokens text (Err refusal) → IsRefused text refusal
-  too_deep : {tokens : List Token} → Tokens text (Ok tokens) → IsTooDeep tokens → IsRefused text fault.NestedTooDeep
-  no_tree : {tokens : List Token} → Tokens text (Ok tokens) → ¬ IsTooDeep tokens → ((tree : Expression) → Reads (kinds_of tokens) tree → ⊥) → IsRefused text fault.NotAnExpression
-  by_tree : {tree : Expression} {refusal : ExprFault} → IsRead text tree → HasFault tree refusal → IsRefused text refusal
+pub data IsTextRefused (text : List ℕ) : ExprFault → Type 0 where
+  by_tokens : {refusal : ExprFault} → Tokens text (Err refusal) → IsTextRefused text refusal
+  too_deep : {tokens : List Token} → Tokens text (Ok tokens) → IsTooDeep tokens → IsTextRefused text fault.NestedTooDeep
+  no_tree : {tokens : List Token} → Tokens text (Ok tokens) → ¬ IsTooDeep tokens → ((tree : Expression) → Reads (kinds_of tokens) tree → ⊥) → IsTextRefused text fault.NotAnExpression
+  by_tree : {tree : Expression} {refusal : ExprFault} → HasTree text tree → HasFault tree refusal → IsTextRefused text refusal
 
 -- Why there is no tree of a text: it is refused; memory may be refused whatever the text is.
-abbrev pub IsReasonFor : List ℕ → ExprFault → Type 0
-IsReasonFor text fault.Memory = Unit {0}
-IsReasonFor text refusal = IsRefused text refusal
+abbrev pub IsTextFault : List ℕ → ExprFault → Type 0
+IsTextFault text fault.Memory = Unit {0}
+IsTextFault text refusal = IsTextRefused text refusal

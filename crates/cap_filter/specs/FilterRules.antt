@@ -16,7 +16,7 @@ use Rattle.cap_filter.specs.declared.command.Print.{Print}
 use Rattle.cap_filter.specs.declared.refusal.Refusal.{Refusal}
 use Rattle.cap_filter.specs.declared.refusal.Refusal.TheVariants as refusal
 use Rattle.cap_filter.specs.Decisions.{Decision, Keep, Skip, Refuse, keep_if}
-use Rattle.cap_filter.specs.Expressions.{IsExpression, IsReasonFor}
+use Rattle.cap_filter.specs.Expressions.{IsExpression, IsTextFault}
 use Rattle.cap_filter.specs.Links.{link_of}
 
 -- ---- which packets pass
@@ -27,14 +27,14 @@ pub data Rule : Type 0 where
   by_answer : (prog : List Insn) → Rule
 
 -- a packet passes where an expression matches; one that is rejected doesn't
-abbrev pub passing : Reading → Decision
-passing Yes = Keep
-passing No = Skip
-passing Rejected = Skip
+abbrev pub decision_of : Reading → Decision
+decision_of Yes = Keep
+decision_of No = Skip
+decision_of Rejected = Skip
 
 abbrev pub read_on : Expression → Option Link → Captured → Decision
 read_on e None p = Refuse LinkTypeNotFiltered
-read_on e (Some link) p = passing (holds e link p.bytes p.orig)
+read_on e (Some link) p = decision_of (holds e link p.bytes p.orig)
 
 -- all packets pass the empty expression
 abbrev pub expression_decides : Expression → Captured → Decision
@@ -61,7 +61,7 @@ IsRule words (Some text) (by_answer prog) = IsListing text prog × IsValid prog
 
 -- why they are none
 abbrev pub IsWhy : List ℕ → Option (List ℕ) → Refusal → Type 0
-IsWhy words None (refusal.Expression fault) = IsReasonFor words fault
+IsWhy words None (refusal.Expression fault) = IsTextFault words fault
 IsWhy words None (refusal.Listing fault) = ⊥
 IsWhy words None (refusal.Program fault at) = ⊥
 IsWhy words (Some text) (refusal.Expression fault) = ⊥
@@ -69,5 +69,5 @@ IsWhy words (Some text) (refusal.Listing fault) = listing.IsReasonFor text fault
 IsWhy words (Some text) (refusal.Program fault at) = (prog : List Insn) × IsListing text prog × BreaksFirst prog fault at
 
 -- the bytes of a listing, where there is one
-abbrev pub code_of : {Z : Type 0} → Print Z → Option (List ℕ)
-code_of print = option_map (λ text. text.items) print.code
+abbrev pub listing_of : {Z : Type 0} → Print Z → Option (List ℕ)
+listing_of print = option_map (λ text. text.items) print.code

@@ -7,7 +7,7 @@ use Rattle.flt_lang.specs.Tree.{empty, truth}
 use Rattle.cap_filter.specs.declared.filter.Filter.{Filter}
 use Rattle.cap_filter.specs.declared.filter.Filter.TheVariants as filter
 use Rattle.cap_filter.specs.Programs.{AreMade, ran_if}
-use Rattle.cap_filter.specs.Links.{link_types, place_of}
+use Rattle.cap_filter.specs.Links.{link_types, row_of_link_type}
 use Rattle.cap_filter.specs.FilterRules.{Rule, by_reading, by_answer}
 
 -- ---- the filter
@@ -32,7 +32,7 @@ AreNew (by_answer prog) programs = programs ≡ record { insns = prog; spent = 0
 -- the place of the program that decides the packets of a link type, if one is needed
 abbrev pub place_by : Rule → ℕ → Option ℕ
 place_by (by_reading empty) n = None
-place_by (by_reading (truth a)) n = place_of n
+place_by (by_reading (truth a)) n = row_of_link_type n
 place_by (by_answer prog) n = Some 0
 
 -- how many instructions deciding a packet meets at most: what the bound of the expression says, or all of a listing's

@@ -11,13 +11,13 @@ unfoldable pub link_types : List (ℕ × Link)
 link_types = (link_type Ether, Ether) ∷ (link_type Raw, Raw) ∷ (link_type Cooked, Cooked) ∷ []
 
 -- the row of a link type, from 0 on
-abbrev pub place_of : ℕ → Option ℕ
-place_of n = position (λ row. row.0 == n) link_types
+abbrev pub row_of_link_type : ℕ → Option ℕ
+row_of_link_type n = position (λ row. row.0 == n) link_types
 
-abbrev pub link_at : Option ℕ → Option Link
-link_at None = None
-link_at (Some i) = option_map (λ row. row.1) (slice_get link_types i)
+abbrev pub link_of_row : Option ℕ → Option Link
+link_of_row None = None
+link_of_row (Some i) = option_map (λ row. row.1) (slice_get link_types i)
 
 -- the link of a link type, if expressions are read on it
 abbrev pub link_of : ℕ → Option Link
-link_of n = link_at (place_of n)
+link_of n = link_of_row (row_of_link_type n)

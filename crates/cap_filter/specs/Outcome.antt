@@ -11,8 +11,8 @@ pub record OutputView : Type 0 where
   pub written : List ℕ
   pub failures : ℕ
 
-abbrev pub seen : List ℕ → ℕ → OutputView
-seen written failures = record { written = written; failures = failures }
+abbrev pub output_view : List ℕ → ℕ → OutputView
+output_view written failures = record { written = written; failures = failures }
 
 -- A message is written whole; or it is lost, in whole or past a beginning, where its device failed.
 pub record IsTold (tells : Bool) (old : OutputView) (message : List ℕ) (new : OutputView) : Type 0 where

@@ -44,16 +44,16 @@ AreMade e (row ∷ rows) [] = ⊥
 AreMade e (row ∷ rows) (program ∷ programs) = IsMade program e row.1 × AreMade e rows programs
 
 -- the expression isn't empty, and has its program for each link type
-pub record IsSound (e : Expression) (programs : List Content) : Type 0 where
+pub record HasPrograms (e : Expression) (programs : List Content) : Type 0 where
   pub some : IsTruth e
   pub made : AreMade e link_types programs
 
 -- ---- runs
 
 -- how many instructions a run met that came to an answer
-abbrev pub count_of : Progress → ℕ
-count_of (Answered answer count) = count
-count_of _ = 0
+abbrev pub steps_of_run : Progress → ℕ
+steps_of_run (Answered answer count) = count
+steps_of_run _ = 0
 
 -- what a program comes to on a packet
 abbrev pub met_on : Captured → List Insn → Progress
@@ -61,7 +61,7 @@ met_on p prog = machine prog p.bytes p.orig (length prog)
 
 -- a program behind a run on a packet: what it spent rose by the instructions that it met
 abbrev pub ran_on : Captured → Content → Content
-ran_on p program = record { insns = program.insns; spent = min (program.spent + count_of (met_on p program.insns)) (2 ^ 128 - 1) }
+ran_on p program = record { insns = program.insns; spent = min (program.spent + steps_of_run (met_on p program.insns)) (2 ^ 128 - 1) }
 
 -- programs, of which the one at this place ran on a packet
 abbrev pub ran_at : ℕ → Captured → List Content → List Content

@@ -1,7 +1,7 @@
 //! Compilations: from an expression to a listing.
 ghost use Rattle.std.specs.Prelude.{IfOk, IfErr};
 ghost use Rattle.cap_filter.specs.Compilation.{IsCompiled};
-ghost use Rattle.cap_filter.specs.Expressions.{IsReasonFor};
+ghost use Rattle.cap_filter.specs.Expressions.{IsTextFault};
 
 use crate::expression::read_expression;
 use flt_bpf::Program;
@@ -17,7 +17,7 @@ pub fn compile_text<A: Allocator + Copy + Drop>(
     link: Link,
 ) -> Result<Program<A>, ExprFault>
     ensures compiled { IfOk result (λ program. IsCompiled text.now link program.insns) }
-    ensures refused { IfErr result (IsReasonFor text.now) }
+    ensures refused { IfErr result (IsTextFault text.now) }
 {
     let checked = read_expression(alloc, text)?;
     match generate(alloc, &checked, link) {

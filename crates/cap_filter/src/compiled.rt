@@ -4,7 +4,7 @@ ghost use Rattle.cap_octet.specs.Packet.{captured};
 ghost use Rattle.flt_bpf.specs.Content.{Content};
 ghost use Rattle.flt_bpf.specs.Machine.{Answered};
 ghost use Rattle.cap_filter.specs.Programs.{AreMade, met_on, ran_at};
-ghost use Rattle.cap_filter.specs.Links.{place_of};
+ghost use Rattle.cap_filter.specs.Links.{row_of_link_type};
 
 use cap_octet::assigned::{LINKTYPE_ETHERNET, LINKTYPE_LINUX_SLL, LINKTYPE_RAW};
 use cap_octet::{Fault, Packet};
@@ -31,7 +31,7 @@ pub struct Compiled<A: Allocator> {
 
 impl<A: Allocator> Model for Compiled<A> {
     ghost use Rattle.std.specs.Coded.{codes};
-    ghost use Rattle.cap_filter.specs.Programs.{CompiledView, IsSound, expression_code};
+    ghost use Rattle.cap_filter.specs.Programs.{CompiledView, HasPrograms, expression_code};
 
     ghost Value = { CompiledView };
 
@@ -39,7 +39,7 @@ impl<A: Allocator> Model for Compiled<A> {
 
     ghost view = { λ c. record { tree = c.tree.expr; programs = c.programs.items } };
 
-    ghost invariant = { λ c. IsSound c.tree.expr c.programs.items };
+    ghost invariant = { λ c. HasPrograms c.tree.expr c.programs.items };
 }
 
 fn place_in(table: &[(u16, Link)], number: u16) -> Option<usize>
@@ -51,7 +51,7 @@ fn place_in(table: &[(u16, Link)], number: u16) -> Option<usize>
 /// The row of a link type in the table, if expressions are read on it.
 #[tactic(auto, unfolding(crate::specs::Links::link_types))]
 fn place_of(number: u16) -> Option<usize>
-    ensures { result ≡ place_of number }
+    ensures { result ≡ row_of_link_type number }
 {
     place_in(&LINK_TYPES, number)
 }
@@ -93,7 +93,7 @@ fn run_at<A: Allocator>(
 impl<A: Allocator> Compiled<A> {
     ghost use Rattle.std.specs.Prelude.{◌≡◌, ◌+◌, ◌≤◌, All, IfOk};
     ghost use Rattle.cap_octet.specs.Packet.{captured};
-    ghost use Rattle.cap_filter.specs.Decisions.{Answers};
+    ghost use Rattle.cap_filter.specs.Decisions.{ReturnsDecision};
     ghost use Rattle.cap_filter.specs.Programs.{AreMade, IsTruth, spent_in};
     ghost use Rattle.cap_filter.specs.Links.{link_types};
     ghost use Rattle.cap_filter.specs.FilterRules.{by_reading, expression_decides};
@@ -116,7 +116,8 @@ impl<A: Allocator> Compiled<A> {
 
     /// Whether a packet matches. It takes no memory; `LinkTypeNotFiltered` is its only error.
     pub fn passes(&mut self, packet: &Packet<'_>) -> Result<bool, Fault>
-        ensures answers { Answers (expression_decides self.old.tree (captured packet.now)) result }
+        ensures answers { ReturnsDecision (expression_decides self.old.tree (captured packet.now))
+            result }
         ensures tree { self.new.tree ≡ self.old.tree }
         ensures spends { self.new.programs ≡ spent_on (by_reading self.old.tree)
             (captured packet.now) self.old.programs }

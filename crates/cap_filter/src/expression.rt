@@ -1,6 +1,6 @@
 //! Expressions, from their text to a checked tree.
 ghost use Rattle.std.specs.Prelude.{IfOk, IfErr};
-ghost use Rattle.cap_filter.specs.Expressions.{HasFault, IsExpression, IsRead, IsReasonFor};
+ghost use Rattle.cap_filter.specs.Expressions.{HasFault, IsExpression, HasTree, IsTextFault};
 ghost use Rattle.cap_filter.specs.Expressions.{IsSettled};
 
 use flt_lang::{Checked, Expr, check, parse, resolve};
@@ -9,8 +9,8 @@ use std::alloc::Allocator;
 
 /// The tree of a text, as it is written.
 fn read_tree<A: Allocator + Copy + Drop>(alloc: A, text: &str) -> Result<Expr<A>, ExprFault>
-    ensures read { IfOk result (λ tree. IsRead text.now tree) }
-    ensures refused { IfErr result (IsReasonFor text.now) }
+    ensures read { IfOk result (λ tree. HasTree text.now tree) }
+    ensures refused { IfErr result (IsTextFault text.now) }
 {
     match lex(alloc, text) {
         Ok(tokens) => parse(alloc, &tokens),
@@ -36,7 +36,7 @@ pub fn read_expression<A: Allocator + Copy + Drop>(
     text: &str,
 ) -> Result<Checked<A>, ExprFault>
     ensures expression { IfOk result (λ checked. IsExpression text.now checked.expr) }
-    ensures refused { IfErr result (IsReasonFor text.now) }
+    ensures refused { IfErr result (IsTextFault text.now) }
 {
     match read_tree(alloc, text) {
         Ok(tree) => settle(tree),

@@ -26,7 +26,7 @@ pub enum Filter<A: Allocator> {
 impl<A: Allocator> Filter<A> {
     ghost use Rattle.std.specs.Prelude.{◌≡◌, ◌+◌, ◌≤◌};
     ghost use Rattle.cap_octet.specs.Packet.{captured};
-    ghost use Rattle.cap_filter.specs.Decisions.{Answers};
+    ghost use Rattle.cap_filter.specs.Decisions.{ReturnsDecision};
     ghost use Rattle.cap_filter.specs.FilterRules.{rule_decides};
     ghost use Rattle.cap_filter.specs.Programs.{spent_in};
     ghost use Rattle.cap_filter.specs.Filters.{most_cost, programs_of, rule_of, spent_on};
@@ -36,7 +36,8 @@ impl<A: Allocator> Filter<A> {
     /// The one error is `LinkTypeNotFiltered`: an expression isn't read on packets of this link
     /// type.
     pub fn passes(&mut self, packet: &Packet<'_>) -> Result<bool, Fault>
-        ensures answers { Answers (rule_decides (rule_of self.old) (captured packet.now)) result }
+        ensures answers { ReturnsDecision (rule_decides (rule_of self.old) (captured packet.now))
+            result }
         ensures rule { rule_of self.new ≡ rule_of self.old }
         ensures spends { programs_of self.new ≡ spent_on (rule_of self.old) (captured packet.now)
             (programs_of self.old) }

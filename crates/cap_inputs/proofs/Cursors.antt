@@ -12,7 +12,7 @@ use Rattle.cap_inputs.specs.declared.inputs.Schedule.{Schedule}
 use Rattle.cap_inputs.specs.declared.inputs.Schedule.TheVariants.{Turn, Merge}
 use Rattle.cap_inputs.specs.Cursor.{ordering_of, schedule_after, schedule_behind}
 use Rattle.cap_inputs.specs.Inputs.{never_failing}
-use Rattle.cap_inputs.specs.Inputs.{InputView, InputsView, InputPast, AreInputsBehind, KnowGreatest, IsInput, ReadsInput, ReadSteps, greatest_of, input_after, first_declared_link, input_behind, time_of, with_cursor}
+use Rattle.cap_inputs.specs.Inputs.{InputView, InputsView, InputPast, AreInputsBehind, KnowGreatest, IsInput, ReadsInput, ReadSteps, greatest_of, input_after, first_declared_link, input_behind, packet_time, with_cursor}
 
 pub get-among : (cursors : List InputView) (i : ℕ) (h d : InputView) → i < length cursors → h ≡ get_or cursors i d → IsInput cursors i h
 get-among [] i h d within is = absurd (omega (arith, within))
@@ -106,7 +106,7 @@ greatest-more (p ∷ ps) x = ap (max p.packet.time) (greatest-more ps x) ∙ max
 -- one more packet is done
 pub greatest-decided : (h : InputView) (p : Captured) (offset : ℕ) (ps : List Placed) → h.source.packet ≡ Some p → h.greatest ≡ greatest_of ps → (input_behind h).greatest ≡ greatest_of (ps ++ record { offset = offset; packet = p } ∷ [])
 greatest-decided h p offset ps held knows =
-    ap (λ (o : Option Captured). max h.greatest (time_of o)) held
+    ap (λ (o : Option Captured). max h.greatest (packet_time o)) held
     ∙ ap (λ (n : ℕ). max n p.time) knows
     ∙ sym (greatest-more ps (record { offset = offset; packet = p }))
 

@@ -10,9 +10,9 @@ use Rattle.cap_inputs.specs.declared.queue.Waiting.{Waiting}
 use Rattle.cap_inputs.specs.declared.inputs.Schedule.{Schedule}
 use Rattle.cap_inputs.specs.declared.inputs.Schedule.TheVariants.{Turn, Merge}
 use Rattle.cap_inputs.specs.declared.inputs.Next.TheVariants as next
-use Rattle.cap_inputs.specs.Queue.{Queue, NotAfter, Precedes, IsFirst, is_entered}
+use Rattle.cap_inputs.specs.Queue.{Queue, NotAfter, Precedes, IsFirstWaiting, is_entered}
 use Rattle.cap_octet.specs.declared.fault.Fault.{Fault}
-use Rattle.cap_inputs.specs.Cursor.{Enters, HasPlaceFor, HoldsQueue, IsNextAt, IsQueued, Leaves, TakesFirst, first_schedule, is_merge, schedule_after, schedule_behind, waiting_total, waits_with}
+use Rattle.cap_inputs.specs.Cursor.{EntersQueue, HasPlaceFor, HoldsQueue, IsNextAt, IsQueued, Leaves, TakesFirst, first_schedule, is_merge, schedule_after, schedule_behind, waiting_total, waits_with}
 use Rattle.cap_inputs.specs.Inputs.{InputView, NoneWaits, IsLeast, KeysOver, KeysFrom, IsInput, is_packet_found, key_of, waiting_count}
 use Rattle.cap_inputs.specs.Sequence.{order_of}
 use Rattle.cap_inputs.proofs.Cursors.{set-here}
@@ -232,7 +232,7 @@ waits-among (h ∷ hs) t (suc i) e =
     }
 
 -- the first entry is of the least key, and of the lowest input with it
-pub first-least : (cursors : List InputView) (first last : ℕ) (q : Queue) (w : Waiting) → IsQueued cursors first last q → IsFirst w q.waiting → IsLeast cursors w.input
+pub first-least : (cursors : List InputView) (first last : ℕ) (q : Queue) (w : Waiting) → IsQueued cursors first last q → IsFirstWaiting w q.waiting → IsLeast cursors w.input
 first-least cursors first last q w was is =
     let found = waits-among cursors w.time w.input (sym (was.entered w.time w.input) ∙ is.0) in
     let a = found.among in
@@ -410,7 +410,7 @@ room-for (Merge first last) cursors i h waits q a tells was merge =
 
 -- an input is read on
 pub queue-read : (schedule : Schedule) (cursors : List InputView) (i : ℕ) (h h' : InputView) (r : Result Bool Fault) (q q' : Queue) → IsInput cursors i h → IsNextAt schedule cursors (next.Read i)
-    → h'.waiting ≡ is_packet_found r → Enters (is_packet_found r && is_merge schedule) (record { time = key_of h'; input = i }) q q' → HoldsQueue schedule cursors q → HoldsQueue (schedule_after schedule i r) (slice_set cursors i h') q'
+    → h'.waiting ≡ is_packet_found r → EntersQueue (is_packet_found r && is_merge schedule) (record { time = key_of h'; input = i }) q q' → HoldsQueue schedule cursors q → HoldsQueue (schedule_after schedule i r) (slice_set cursors i h') q'
 queue-read (Turn turn) cursors i h h' (Ok true) q q' a tells waits enters was = tt
 queue-read (Turn turn) cursors i h h' (Ok false) q q' a tells waits enters was = tt
 queue-read (Turn turn) cursors i h h' (Err fault) q q' a tells waits enters was = tt

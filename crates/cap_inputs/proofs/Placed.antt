@@ -7,7 +7,7 @@ use Rattle.cap_inputs.specs.declared.inputs.Schedule.{Schedule}
 use Rattle.cap_inputs.specs.declared.inputs.Schedule.TheVariants.{Turn, Merge}
 use Rattle.cap_inputs.specs.declared.inputs.Next.{Next}
 use Rattle.cap_inputs.specs.declared.inputs.Next.TheVariants as next
-use Rattle.cap_inputs.specs.Cursor.{AreToRead, IsNextAt, IsPlaced, IsTurnOf, first_schedule, ordering_of, schedule_after, schedule_behind}
+use Rattle.cap_inputs.specs.Cursor.{AreToRead, IsNextAt, IsScheduled, IsTurnOf, first_schedule, ordering_of, schedule_after, schedule_behind}
 use Rattle.cap_inputs.specs.Sequence.{PacketOrder, InTurn, ByTime}
 use Rattle.cap_inputs.specs.Inputs.{InputView, AllEnded, AllReady, IsInput, IsNextIn, IsOpen, IsReady, NoneEnded, NoneWaits, input_behind, is_packet_found}
 use Rattle.cap_inputs.proofs.Cursors.{set-here}
@@ -124,7 +124,7 @@ read-again (x ∷ xs) ys h i is front back waits unended =
 -- ---- what is next
 
 -- what is next at the cursor is next of the inputs
-pub next-is : (schedule : Schedule) (cursors : List InputView) (r : Next) → IsPlaced schedule cursors → IsNextAt schedule cursors r → IsNextIn (ordering_of schedule) cursors r
+pub next-is : (schedule : Schedule) (cursors : List InputView) (r : Next) → IsScheduled schedule cursors → IsNextAt schedule cursors r → IsNextIn (ordering_of schedule) cursors r
 next-is (Turn turn) cursors (next.Read i) placed tells =
     let a = tells.1.among in
     let P : List InputView → Type 0 = λ l. IsTurnOf turn l in
@@ -145,7 +145,7 @@ next-is (Merge n u) cursors (next.Decide i) placed tells = (all-ready n u cursor
 next-is (Merge n u) cursors next.Finish placed tells = (tells.1, all-ended cursors tells.1 (all-ready n u cursors tells.0 placed))
 
 -- and the other way round, of an input
-pub read-at : (schedule : Schedule) (cursors : List InputView) (i : ℕ) → IsPlaced schedule cursors → IsNextIn (ordering_of schedule) cursors (next.Read i) → IsNextAt schedule cursors (next.Read i)
+pub read-at : (schedule : Schedule) (cursors : List InputView) (i : ℕ) → IsScheduled schedule cursors → IsNextIn (ordering_of schedule) cursors (next.Read i) → IsNextAt schedule cursors (next.Read i)
 read-at (Turn turn) cursors i placed tells =
     let P : List InputView → Type 0 = λ l. IsTurnOf turn l in (
       sym tells.among.place ∙ turn-is tells.among.front tells.among.back tells.cursor turn (subst P tells.among.splits placed) tells.front tells.unended,
@@ -156,7 +156,7 @@ read-at (Merge n u) cursors i placed tells =
     let at = read-is tells.among.front tells.among.back tells.cursor n u (subst P tells.among.splits placed) tells.front tells.waits tells.unended in
     record { is = sym tells.among.place ∙ at.0; before = at.1; cursor = tells.cursor; among = tells.among }
 
-pub decide-at : (schedule : Schedule) (cursors : List InputView) (i : ℕ) → IsPlaced schedule cursors → IsNextIn (ordering_of schedule) cursors (next.Decide i) → IsNextAt schedule cursors (next.Decide i)
+pub decide-at : (schedule : Schedule) (cursors : List InputView) (i : ℕ) → IsScheduled schedule cursors → IsNextIn (ordering_of schedule) cursors (next.Decide i) → IsNextAt schedule cursors (next.Decide i)
 decide-at (Turn turn) cursors i placed tells =
     let P : List InputView → Type 0 = λ l. IsTurnOf turn l in (
       sym tells.among.place ∙ turn-is tells.among.front tells.among.back tells.cursor turn (subst P tells.among.splits placed) tells.front tells.unended,
@@ -185,15 +185,15 @@ phase-unended h p is other = λ e. other (sym is ∙ e)
 
 -- an input is read on
 pub placed-read : (schedule : Schedule) (cursors : List InputView) (i : ℕ) (h h' : InputView) (r : Result Bool Fault) → IsInput cursors i h → IsNextAt schedule cursors (next.Read i)
-    → h'.waiting ≡ is_packet_found r → h'.source.phase ≡ phase_after r → IsPlaced schedule cursors → IsPlaced (schedule_after schedule i r) (slice_set cursors i h')
+    → h'.waiting ≡ is_packet_found r → h'.source.phase ≡ phase_after r → IsScheduled schedule cursors → IsScheduled (schedule_after schedule i r) (slice_set cursors i h')
 placed-read schedule cursors i h h' r a tells waits phase placed =
-    let S : List InputView → Type 0 = λ l. IsPlaced (schedule_after schedule i r) l in
+    let S : List InputView → Type 0 = λ l. IsScheduled (schedule_after schedule i r) l in
     let set : slice_set cursors i h' ≡ a.front ++ h' ∷ a.back = ap (λ (l : List InputView). slice_set l i h') a.splits ∙ set-here a.front a.back h h' i a.place in
-    let Q : List InputView → Type 0 = λ l. IsPlaced schedule l in
+    let Q : List InputView → Type 0 = λ l. IsScheduled schedule l in
     subst S (sym set) (by_schedule schedule r tells waits phase (subst Q a.splits placed))
   where
     by_schedule : (schedule : Schedule) (r : Result Bool Fault) → IsNextAt schedule cursors (next.Read i) → h'.waiting ≡ is_packet_found r → h'.source.phase ≡ phase_after r
-        → IsPlaced schedule (a.front ++ h ∷ a.back) → IsPlaced (schedule_after schedule i r) (a.front ++ h' ∷ a.back)
+        → IsScheduled schedule (a.front ++ h ∷ a.back) → IsScheduled (schedule_after schedule i r) (a.front ++ h' ∷ a.back)
     by_schedule (Turn turn) (Ok true) tells waits phase placed =
         let at = turn-split a.front a.back h turn (a.place ∙ tells.0) placed in
         turn-join a.front (h' ∷ a.back) turn (a.place ∙ tells.0) at.0 (phase-unended h' Reading phase (λ e. (cc)), at.1.1)
@@ -217,16 +217,16 @@ placed-read schedule cursors i h h' r a tells waits phase placed =
 
 -- the current packet of an input is decided
 pub placed-decided : (schedule : Schedule) (cursors : List InputView) (i : ℕ) (h : InputView) → IsInput cursors i h → IsNextAt schedule cursors (next.Decide i)
-    → h.source.phase ≡ Reading → IsPlaced schedule cursors → IsPlaced (schedule_behind schedule i) (slice_set cursors i (input_behind h))
+    → h.source.phase ≡ Reading → IsScheduled schedule cursors → IsScheduled (schedule_behind schedule i) (slice_set cursors i (input_behind h))
 placed-decided schedule cursors i h a tells phase placed =
-    let S : List InputView → Type 0 = λ l. IsPlaced (schedule_behind schedule i) l in
+    let S : List InputView → Type 0 = λ l. IsScheduled (schedule_behind schedule i) l in
     let set : slice_set cursors i (input_behind h) ≡ a.front ++ input_behind h ∷ a.back = ap (λ (l : List InputView). slice_set l i (input_behind h)) a.splits ∙ set-here a.front a.back h (input_behind h) i a.place in
     subst S (sym set) (by_schedule schedule tells placed)
   where
     unended : IsOpen (input_behind h)
     unended = phase-unended (input_behind h) Reading phase (λ e. (cc))
 
-    by_schedule : (schedule : Schedule) → IsNextAt schedule cursors (next.Decide i) → IsPlaced schedule cursors → IsPlaced (schedule_behind schedule i) (a.front ++ input_behind h ∷ a.back)
+    by_schedule : (schedule : Schedule) → IsNextAt schedule cursors (next.Decide i) → IsScheduled schedule cursors → IsScheduled (schedule_behind schedule i) (a.front ++ input_behind h ∷ a.back)
     by_schedule (Turn turn) tells placed =
         let P : List InputView → Type 0 = λ l. IsTurnOf turn l in
         let at = turn-split a.front a.back h turn (a.place ∙ tells.0) (subst P a.splits placed) in
@@ -247,15 +247,15 @@ fresh-to-read f [] idle unended = tt
 fresh-to-read f (x ∷ xs) idle unended = (idle x, unended x, fresh-to-read f xs idle unended)
 
 pub placed-first : {X : Type 0} (f : X → InputView) (xs : List X) (cursors : List InputView) (order : PacketOrder) (schedule : Schedule) → ((x : X) → (f x).waiting ≡ false) → ((x : X) → (f x).source.phase ≡ Reading) → cursors ≡ map f xs
-    → schedule ≡ first_schedule order (length cursors) → IsPlaced schedule cursors
+    → schedule ≡ first_schedule order (length cursors) → IsScheduled schedule cursors
 placed-first {X = X} f xs cursors order schedule idle phase is at =
-    let S : Schedule → Type 0 = λ p. IsPlaced p cursors in
-    let C : List InputView → Type 0 = λ l. IsPlaced (first_schedule order (length l)) l in
+    let S : Schedule → Type 0 = λ p. IsScheduled p cursors in
+    let C : List InputView → Type 0 = λ l. IsScheduled (first_schedule order (length l)) l in
     subst S (sym at) (subst C (sym is) (by_order order))
   where
     unended : (x : X) → IsOpen (f x)
     unended x = phase-unended (f x) Reading (phase x) (λ e. (cc))
 
-    by_order : (order : PacketOrder) → IsPlaced (first_schedule order (length (map f xs))) (map f xs)
+    by_order : (order : PacketOrder) → IsScheduled (first_schedule order (length (map f xs))) (map f xs)
     by_order InTurn = turn-join [] (map f xs) 0 refl tt (fresh-unended f xs unended)
     by_order ByTime = fresh-to-read f xs idle unended

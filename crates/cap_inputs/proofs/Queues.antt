@@ -11,7 +11,7 @@ use Rattle.std.proofs.lemmas.Bool.Decides.{nat_tests}
 use Rattle.std.proofs.lemmas.Bool.{cases_order}
 use Rattle.std.specs.Ordering.{is_lt, nat_cmp, ordering_then}
 use Rattle.cap_inputs.specs.declared.queue.Waiting.{Waiting}
-use Rattle.cap_inputs.specs.Queue.{Precedes, NotAfter, inputs_of, IsOnceEach, IsFirst, is_entered}
+use Rattle.cap_inputs.specs.Queue.{Precedes, NotAfter, inputs_of, IsOnceEach, IsFirstWaiting, is_entered}
 
 -- the order of time, then number
 abbrev pub time_then_input : Waiting → Waiting → Ordering
@@ -75,6 +75,6 @@ top_entered x (r ∷ rs) some top = rw (sym top) (entered_first x.0 (bare rs))
 
 -- the heap's top comes first
 pub top_first : (R : Reverse Waiting → Reverse Waiting → Ordering) (x : Reverse Waiting) (rs : List (Reverse Waiting))
-    → ((x y : Reverse Waiting) → R x y ≡ time_then_input y.0 x.0) → IsUpperBound R x rs → 0 < length rs → x ≡ get_or rs 0 x → IsFirst x.0 (bare rs)
+    → ((x y : Reverse Waiting) → R x y ≡ time_then_input y.0 x.0) → IsUpperBound R x rs → 0 < length rs → x ≡ get_or rs 0 x → IsFirstWaiting x.0 (bare rs)
 top_first R x rs means bound some top =
     (top_entered x rs some top, all_not_after R x rs (λ y h. not_after x.0 y.0 (ap is_lt (sym (means x y)) ∙ h)) bound)

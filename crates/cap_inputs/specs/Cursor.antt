@@ -51,9 +51,9 @@ AreToRead zero (suc last) (h ∷ hs) = (h.waiting ≡ false) × IsOpen h × AreT
 AreToRead (suc next) zero (h ∷ hs) = AllReady (h ∷ hs)
 AreToRead (suc next) (suc last) (h ∷ hs) = IsReady h × AreToRead next last hs
 
-abbrev pub IsPlaced : Schedule → List InputView → Type 0
-IsPlaced (Turn turn) cursors = IsTurnOf turn cursors
-IsPlaced (Merge next last) cursors = AreToRead next last cursors
+abbrev pub IsScheduled : Schedule → List InputView → Type 0
+IsScheduled (Turn turn) cursors = IsTurnOf turn cursors
+IsScheduled (Merge next last) cursors = AreToRead next last cursors
 
 -- whether an input's packet waits, with this key
 abbrev pub waits_with : List InputView → ℕ → ℕ → Bool
@@ -87,9 +87,9 @@ abbrev pub HasPlaceFor : Queue → ℕ → Type 0
 HasPlaceFor q input = (length q.waiting < q.room) × All (λ w. w.input ≢ input) q.waiting
 
 -- an entry came to the others, or not
-abbrev pub Enters : Bool → Waiting → Queue → Queue → Type 0
-Enters true entry old new = IsPermutation (entry ∷ old.waiting) new.waiting × (old.room ≤ new.room)
-Enters false entry old new = new ≡ old
+abbrev pub EntersQueue : Bool → Waiting → Queue → Queue → Type 0
+EntersQueue true entry old new = IsPermutation (entry ∷ old.waiting) new.waiting × (old.room ≤ new.room)
+EntersQueue false entry old new = new ≡ old
 
 abbrev pub TakesFirst : Option Waiting → Queue → Queue → Type 0
 TakesFirst None old new = old.waiting ≡ []
@@ -112,14 +112,14 @@ IsAtCursor cursors turn (next.Read i) = (i ≡ turn) × IsAmong cursors i false
 IsAtCursor cursors turn (next.Decide i) = (i ≡ turn) × IsAmong cursors i true
 IsAtCursor cursors turn next.Finish = length cursors ≤ turn
 
-pub record IsRead (cursors : List InputView) (next last i : ℕ) : Type 0 where
+pub record IsReadOn (cursors : List InputView) (next last i : ℕ) : Type 0 where
   pub is : i ≡ next
   pub before : next < last
   pub cursor : InputView
   pub among : IsInput cursors i cursor
 
 abbrev pub IsNextOfMerge : List InputView → ℕ → ℕ → Next → Type 0
-IsNextOfMerge cursors first last (next.Read i) = IsRead cursors first last i
+IsNextOfMerge cursors first last (next.Read i) = IsReadOn cursors first last i
 IsNextOfMerge cursors first last (next.Decide i) = (last ≤ first ⊎ length cursors ≤ first) × IsLeast cursors i
 IsNextOfMerge cursors first last next.Finish = (last ≤ first ⊎ length cursors ≤ first) × NoneWaits cursors
 

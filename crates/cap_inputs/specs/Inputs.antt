@@ -82,11 +82,11 @@ pub record InputPast : Type 0 where
   pub done : List ℕ
   pub packets : List Placed
 
-abbrev pub items_with : InputPast → InputView → Future → InputItems
-items_with s h f = record { greatest = 0; items = after_packets s.packets (after_packets (waiting_packets h.waiting h.source) f.items); size = f.size }
+abbrev pub input_items : InputPast → InputView → Future → InputItems
+input_items s h f = record { greatest = 0; items = after_packets s.packets (after_packets (waiting_packets h.waiting h.source) f.items); size = f.size }
 
 abbrev pub inputs_with : List InputPast → List InputView → List Future → List InputItems
-inputs_with (s ∷ ss) (h ∷ hs) (f ∷ fs) = items_with s h f ∷ inputs_with ss hs fs
+inputs_with (s ∷ ss) (h ∷ hs) (f ∷ fs) = input_items s h f ∷ inputs_with ss hs fs
 inputs_with [] hs fs = []
 inputs_with (s ∷ ss) [] fs = []
 inputs_with (s ∷ ss) (h ∷ hs) [] = []
@@ -200,13 +200,13 @@ steps_left f = steps_left_in f.cursors
 
 -- ---- keys
 
-abbrev pub time_of : Option Captured → ℕ
-time_of None = 0
-time_of (Some p) = p.time
+abbrev pub packet_time : Option Captured → ℕ
+packet_time None = 0
+packet_time (Some p) = p.time
 
 -- the greatest time up to and with the current packet
 abbrev pub key_of : InputView → ℕ
-key_of h = max h.greatest (time_of h.source.packet)
+key_of h = max h.greatest (packet_time h.source.packet)
 
 -- where a packet waits, its key is over this; or at least this
 abbrev pub KeysOver : ℕ → List InputView → Type 0
@@ -292,7 +292,7 @@ IsNext inputs r = IsNextIn inputs.order inputs.cursors r
 
 -- the current packet is decided
 abbrev pub input_behind : InputView → InputView
-input_behind h = record { source = h.source; waiting = false; greatest = max h.greatest (time_of h.source.packet) }
+input_behind h = record { source = h.source; waiting = false; greatest = max h.greatest (packet_time h.source.packet) }
 
 pub record MarksDecided (old : InputsView) (i : ℕ) (new : InputsView) : Type 0 where
   pub cursor : InputView

@@ -16,8 +16,8 @@ abbrev pub is_entered : List Waiting → ℕ → ℕ → Bool
 is_entered ws time input = list_any (λ w. (w.time == time) && (w.input == input)) ws
 
 -- it waits, and no other comes before it
-abbrev pub IsFirst : Waiting → List Waiting → Type 0
-IsFirst w ws = IsTrue (is_entered ws w.time w.input) × All (NotAfter w) ws
+abbrev pub IsFirstWaiting : Waiting → List Waiting → Type 0
+IsFirstWaiting w ws = IsTrue (is_entered ws w.time w.input) × All (NotAfter w) ws
 
 -- the inputs that wait
 abbrev pub inputs_of : List Waiting → List ℕ

@@ -2,12 +2,14 @@
 ghost use Rattle.std.specs.Prelude.{◌≡◌, ◌&&◌, [], true, ◌<◌, ◌≤◌, ◌-◌, ◌^◌, IsTrue, false, length};
 ghost use Rattle.std.specs.Prelude.{map};
 ghost use Rattle.std.specs.Option.{IfSome};
-ghost use Rattle.cap_inputs.specs.Cursor.{Enters, HasPlaceFor, IsAtCursor, IsNextOfMerge, IsQueued};
+ghost use Rattle.cap_inputs.specs.Cursor.{EntersQueue, HasPlaceFor, IsAtCursor, IsNextOfMerge};
+ghost use Rattle.cap_inputs.specs.Cursor.{IsQueued};
 ghost use Rattle.cap_inputs.specs.Cursor.{Leaves, first_schedule, is_merge, schedule_after};
 ghost use Rattle.cap_inputs.specs.Cursor.{schedule_behind};
 ghost use Rattle.cap_inputs.specs.Fresh.{fresh_view, fresh_input};
 ghost use Rattle.cap_inputs.specs.Sequence.{order_of};
-ghost use Rattle.cap_inputs.specs.Inputs.{first_declared_link, is_packet_found, key_of, time_of};
+ghost use Rattle.cap_inputs.specs.Inputs.{first_declared_link, is_packet_found, key_of};
+ghost use Rattle.cap_inputs.specs.Inputs.{packet_time};
 
 use crate::queue::{Queue, Waiting};
 use cap_io::{Kind, Source};
@@ -30,13 +32,13 @@ pub struct InputCursor<I: Input, A: Allocator> {
 impl<I: Input, A: Allocator> Model for InputCursor<I, A> {
     ghost use Rattle.std.specs.Prelude.{◌≡◌, is_some, true};
     ghost use Rattle.cap_io.specs.Source.{Reading};
-    ghost use Rattle.cap_inputs.specs.Inputs.{InputView, time_of};
+    ghost use Rattle.cap_inputs.specs.Inputs.{InputView, packet_time};
 
     ghost Value = { InputView };
 
     ghost view = { λ h. record { source = h.source; waiting = h.waiting; greatest = h.greatest } };
 
-    ghost invariant = { λ h. (h.time ≡ time_of h.source.packet)
+    ghost invariant = { λ h. (h.time ≡ packet_time h.source.packet)
         × (h.waiting ≡ true → is_some h.source.packet ≡ true)
         × (h.waiting ≡ true → h.source.phase ≡ Reading) };
 }
@@ -63,7 +65,7 @@ pub enum Next {
 
 /// The time of the current packet, 0 where there is none.
 fn time_in<I: Input, A: Allocator>(source: &Source<I, A>) -> u64
-    ensures { result ≡ time_of source.now.packet }
+    ensures { result ≡ packet_time source.now.packet }
 {
     match source.time() {
         Some(time) => time,
@@ -72,8 +74,10 @@ fn time_in<I: Input, A: Allocator>(source: &Source<I, A>) -> u64
 }
 
 impl<I: Input, A: Allocator> InputCursor<I, A> {
-    ghost use Rattle.cap_inputs.specs.Inputs.{InputView, input_after, is_packet_found, input_behind};
-    ghost use Rattle.cap_io.specs.Source.{SourceView, Advances, SectionFits, Reading, Steps, phase_after};
+    ghost use Rattle.cap_inputs.specs.Inputs.{InputView, input_after, is_packet_found};
+    ghost use Rattle.cap_inputs.specs.Inputs.{input_behind};
+    ghost use Rattle.cap_io.specs.Source.{SourceView, Advances, SectionFits, Reading, Steps};
+    ghost use Rattle.cap_io.specs.Source.{phase_after};
     ghost use Rattle.std.specs.Option.{option_map};
     ghost use Rattle.cap_octet.specs.Packet.{captured};
     ghost use Rattle.cap_io.specs.Capture.{first_link_of, kind_of};
@@ -164,7 +168,7 @@ pub struct Inputs<I: Input, A: Allocator> {
 }
 
 impl<I: Input, A: Allocator> Model for Inputs<I, A> {
-    ghost use Rattle.cap_inputs.specs.Cursor.{HoldsQueue, IsPlaced, ordering_of};
+    ghost use Rattle.cap_inputs.specs.Cursor.{HoldsQueue, IsScheduled, ordering_of};
     ghost use Rattle.cap_inputs.specs.Inputs.{InputsView};
 
     ghost Value = { InputsView };
@@ -172,7 +176,7 @@ impl<I: Input, A: Allocator> Model for Inputs<I, A> {
     ghost view = { λ f. record { order = ordering_of f.schedule; cursors = f.cursors.items } };
 
     ghost invariant = { λ f. HoldsQueue f.schedule f.cursors.items f.queue
-        × IsPlaced f.schedule f.cursors.items };
+        × IsScheduled f.schedule f.cursors.items };
 }
 
 impl<I: Input, A: Allocator> Inputs<I, A> {
@@ -330,7 +334,7 @@ fn go_on<A: Allocator>(
     requires room { (is_packet_found read && is_merge schedule.old) ≡ true
         → HasPlaceFor queue.old entry.input }
     requires few { entry.input < 2 ^ 64 - 1 }
-    ensures queue { Enters (is_packet_found read && is_merge schedule.old) entry queue.old
+    ensures queue { EntersQueue (is_packet_found read && is_merge schedule.old) entry queue.old
         queue.new }
     ensures schedule { schedule.new ≡ schedule_after schedule.old entry.input read }
 {

@@ -35,7 +35,7 @@ impl<A: Allocator> Queue<A> {
     ghost use Rattle.std.specs.Prelude.{◌≡◌, ◌≢◌, ◌<◌, ◌≤◌, [], ◌∷◌, length, IfOk, MatchOption};
     ghost use Rattle.std.specs.List.{All};
     ghost use Rattle.std.specs.List.Sorted.{IsPermutation};
-    ghost use Rattle.cap_inputs.specs.Queue.{queue, IsFirst, Precedes};
+    ghost use Rattle.cap_inputs.specs.Queue.{queue, IsFirstWaiting, Precedes};
 
     /// A queue with room for so many inputs. It takes its memory here.
     pub fn new(alloc: A, room: usize) -> Result<Self, AllocError>
@@ -58,7 +58,8 @@ impl<A: Allocator> Queue<A> {
 
     /// The input that comes first.
     pub fn peek(&self) -> Option<Waiting>
-        ensures { MatchOption result (self.now.waiting ≡ []) (λ w. IsFirst w self.now.waiting) }
+        ensures { MatchOption result (self.now.waiting
+            ≡ []) (λ w. IsFirstWaiting w self.now.waiting) }
     {
         let Some(Reverse(first)) = self.heap.peek() else {
             return None;

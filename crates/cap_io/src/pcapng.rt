@@ -43,7 +43,8 @@ fn enhanced_packet<A: Allocator>(
     size: u32,
 ) -> Result<PacketSpans, Fault>
     requires { 28 + length block.now.rest.now ≤ size }
-    ensures { ChecksGive (checks_among table.now (parts_of (a.Enhanced block.now))) result (PacketFound
+    ensures { ChecksGive (checks_among table.now (parts_of (a.Enhanced block.now))) result
+        (PacketFound
         block.now.order table.now (parts_of (a.Enhanced block.now)) 28 size block.now.rest.now) }
 {
     let interface = table.get(block.interface).ok_or(Fault::UnknownInterface)?;

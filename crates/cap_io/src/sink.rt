@@ -100,7 +100,8 @@ impl<O: Output, A: Allocator> Sink<O, A> {
     /// `WriteFailed`: the device failed in this call, after a beginning of the header. After an
     /// error of an earlier call it returns that again.
     pub fn finish(&mut self, first: Option<u16>) -> Result<(), Fault>
-        ensures bytes { IsTrue O.tells → FinishWrites self.old.state self.old first result self.new }
+        ensures bytes { IsTrue O.tells
+            → FinishWrites self.old.state self.old first result self.new }
         ensures answer { Finishes self.old.state self.old first result self.new }
     {
         match self.state {

@@ -57,13 +57,15 @@ impl<I: Input, A: Allocator> Model for Source<I, A> {
 }
 
 impl<I: Input, A: Allocator> Source<I, A> {
-    ghost use Rattle.std.specs.Prelude.{◌≡◌, ◌+◌, ◌≤◌, IsTrue, OnOk, OnErr, IfErr, [], false, length};
+    ghost use Rattle.std.specs.Prelude.{◌≡◌, ◌+◌, ◌≤◌, IsTrue, OnOk, OnErr, IfErr, [], false};
+    ghost use Rattle.std.specs.Prelude.{length};
     ghost use Rattle.std.specs.Option.{IfSome, option_map};
     ghost use Rattle.cap_octet.specs.Packet.{captured};
     ghost use Rattle.cap_io.specs.Capture.{kind_of, first_link_of};
     ghost use Rattle.cap_io.specs.Reading.{most_in_unit};
     ghost use Rattle.cap_io.specs.Source.{Reading, Advances, Continues, FindsNext, IsBetween};
-    ghost use Rattle.cap_io.specs.Source.{KeepsBounds, SectionFits, NextBounds, Steps, past_unit, phase_after};
+    ghost use Rattle.cap_io.specs.Source.{KeepsBounds, SectionFits, NextBounds, Steps, past_unit};
+    ghost use Rattle.cap_io.specs.Source.{phase_after};
     ghost use Rattle.cap_io.specs.Source.{TakesNext, TakesNothing, source_at};
 
     /// A source of which nothing is read yet. It takes no memory.

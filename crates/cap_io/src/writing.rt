@@ -48,7 +48,8 @@ pub(crate) fn check<A: Allocator>(
 #[cold]
 #[inline(never)]
 fn begin_file<O: Output>(output: &mut O, format: Format, link: u16) -> Result<(), DeviceFault>
-    ensures { Appends O.Output output.old (file_start_in format state.Empty link) result output.new }
+    ensures { Appends O.Output output.old (file_start_in format state.Empty link) result
+        output.new }
 {
     match format {
         Format::Pcap | Format::NsecPcap => write_parts(output, &[&head_bytes(format, link)]),

@@ -9,7 +9,7 @@ use Rattle.flt_lang.specs.Grammar.{Reads, kinds_of}
 use Rattle.flt_lang.specs.Tree.{Expression}
 use Rattle.flt_lang.proofs.Complete.{complete}
 use Rattle.flt_lang.proofs.NodesBack.{same_nodes}
-use Rattle.cap_filter.specs.Expressions.{IsExpression, IsRead}
+use Rattle.cap_filter.specs.Expressions.{IsExpression, HasTree}
 use Rattle.cap_library.specs.Bounding.{IsBound}
 use Rattle.cap_library.specs.Compiling.{IsFor}
 
@@ -19,7 +19,7 @@ one_tree tokens more a b same reads_a reads_b =
     let nodes = sym (complete (subst P same reads_a)) ∙ complete reads_b in
     same_nodes a b (cc)
 
-one_reading : (text : List ℕ) (a b : Expression) → IsRead text a → IsRead text b → a ≡ b
+one_reading : (text : List ℕ) (a b : Expression) → HasTree text a → HasTree text b → a ≡ b
 one_reading text a b x y =
     let answers = same_answer x.lexed y.lexed in
     one_tree x.tokens y.tokens a b (cc) x.reads y.reads

@@ -4,8 +4,8 @@ use Rattle.std.specs.Str.{IsUtf8, IsValidUpTo}
 use Rattle.flt_bpf.specs.declared.insn.Insn.{Insn}
 use Rattle.flt_lang.specs.Counts.{bound_of}
 use Rattle.flt_lang.specs.Tree.{Expression}
-use Rattle.cap_filter.specs.Expressions.{IsExpression, IsReasonFor}
-use Rattle.cap_library.specs.Compiling.{IsFor, number_of, status_of}
+use Rattle.cap_filter.specs.Expressions.{IsExpression, IsTextFault}
+use Rattle.cap_library.specs.Compiling.{IsFor, failure_number, failure_status}
 use Rattle.cap_library.specs.declared.compiling.Failure.{Failure}
 use Rattle.cap_library.specs.declared.compiling.Failure.TheVariants.{Text, NotUtf8, LinkType, NoRoom}
 
@@ -19,18 +19,18 @@ pub record IsBound (text : List ℕ) (number : ℕ) : Type 0 where
 
 -- why a text has none
 abbrev pub IsTextFailure : List ℕ → Failure → Type 0
-IsTextFailure text (Text refusal) = IsReasonFor text refusal
+IsTextFailure text (Text refusal) = IsTextFault text refusal
 IsTextFailure text (NotUtf8 at) = (¬ IsUtf8 text) × IsValidUpTo text at
 IsTextFailure text LinkType = ⊥
 IsTextFailure text (NoRoom needed) = ⊥
 
-pub record HasNone (text : List ℕ) (number status : ℕ) : Type 0 where
+pub record HasNoBound (text : List ℕ) (number status : ℕ) : Type 0 where
   pub failure : Failure
   pub why : IsTextFailure text failure
-  pub told : status ≡ status_of failure
-  pub where_at : number ≡ number_of failure
+  pub told : status ≡ failure_status failure
+  pub where_at : number ≡ failure_number failure
 
 -- 0 and the bound, or another status and where the text is wrong
 pub data BoundLeaves (text : List ℕ) (number : ℕ) : ℕ → Type 0 where
   is_bounded : IsBound text number → BoundLeaves text number 0
-  has_none : {status : ℕ} → HasNone text number status → BoundLeaves text number status
+  has_none : {status : ℕ} → HasNoBound text number status → BoundLeaves text number status

@@ -3,21 +3,21 @@ use Rattle.std.specs.Prelude.{ℕ, ◌==◌, ◌&&◌, ◌||◌, ◌%◌, if◌t
 use Rattle.std.specs.List.{list_all}
 use Rattle.flt_bpf.specs.declared.insn.Insn.{Insn}
 
-abbrev pub half : ℕ
-half = 2147483648
+abbrev pub half_of_places : ℕ
+half_of_places = 2147483648
 
 -- X stays below 2^31: ldx #k, ldx M[k], ldx len, tax
 abbrev pub keeps_x_small : Insn → Bool
 keeps_x_small i =
-    if i.code == 1 then nat_lt i.k half
+    if i.code == 1 then nat_lt i.k half_of_places
     else (if (i.code == 97) || (i.code == 129) || (i.code == 7) then false
     else true)
 
 -- loads at k and at X + k, the length, shifts by X
 abbrev pub runs_alike : Bool → Insn → Bool
 runs_alike small i =
-    if (i.code == 32) || (i.code == 40) || (i.code == 48) || (i.code == 177) then nat_lt i.k half
-    else (if (i.code == 64) || (i.code == 72) || (i.code == 80) then small && nat_lt i.k half
+    if (i.code == 32) || (i.code == 40) || (i.code == 48) || (i.code == 177) then nat_lt i.k half_of_places
+    else (if (i.code == 64) || (i.code == 72) || (i.code == 80) then small && nat_lt i.k half_of_places
     else (if (i.code == 128) || (i.code == 129) || (i.code == 108) || (i.code == 124) then false
     else true))
 
@@ -37,14 +37,14 @@ wants w i behind =
     else wanted_at behind 0))))
 
 -- the same of each place of a program
-abbrev pub wanted : ℕ → List Insn → List Bool
-wanted w [] = []
-wanted w (i ∷ is) = wants w i (wanted w is) ∷ wanted w is
+abbrev pub words_wanted : ℕ → List Insn → List Bool
+words_wanted w [] = []
+words_wanted w (i ∷ is) = wants w i (words_wanted w is) ∷ words_wanted w is
 
 -- of the first n words none is read before it is written
 abbrev pub writes_first : ℕ → List Insn → Bool
 writes_first zero insns = true
-writes_first (suc n) insns = writes_first n insns && not (wanted_at (wanted n insns) 0)
+writes_first (suc n) insns = writes_first n insns && not (wanted_at (words_wanted n insns) 0)
 
 abbrev pub is_portable : List Insn → ℕ
 is_portable insns =

@@ -1,8 +1,9 @@
 //! Compilations into the caller's memory.
 ghost use Rattle.std.specs.Prelude.{◌≡◌, ◌≤◌, IfOk, IfErr, OnErr, length};
 ghost use Rattle.cap_filter.specs.Links.{link_of};
-ghost use Rattle.cap_library.specs.Compiling.{CompileLeaves, IsFailure, Writes, number_of};
-ghost use Rattle.cap_library.specs.Compiling.{status_of};
+ghost use Rattle.cap_library.specs.Compiling.{CompilesText, IsFailure, WritesProgram};
+ghost use Rattle.cap_library.specs.Compiling.{failure_number};
+ghost use Rattle.cap_library.specs.Compiling.{failure_status};
 
 use cap_filter::compile::compile_text;
 use cap_octet::assigned::{LINKTYPE_ETHERNET, LINKTYPE_LINUX_SLL, LINKTYPE_RAW};
@@ -44,7 +45,8 @@ fn compile_into(
     link_type: u16,
     insns: &mut [Insn],
 ) -> Result<usize, Failure>
-    ensures written { IfOk result (λ count. Writes text.now link_type insns.old insns.new count) }
+    ensures written { IfOk result (λ count. WritesProgram text.now link_type insns.old insns.new
+        count) }
     ensures failed { IfErr result (IsFailure text.now link_type (length insns.old)) }
     ensures kept { OnErr result (insns.new ≡ insns.old) }
 {
@@ -71,7 +73,7 @@ fn compile_into(
 impl Failure {
     /// The status that C sees.
     pub(crate) fn status(self) -> u32
-        ensures { result ≡ status_of self }
+        ensures { result ≡ failure_status self }
     {
         match self {
             Failure::Text(ExprFault::TooLong) => 1,
@@ -95,7 +97,7 @@ impl Failure {
 
     /// The place, or the room that is needed, that C sees beside it; else 0.
     pub(crate) fn number(self) -> usize
-        ensures { result ≡ number_of self }
+        ensures { result ≡ failure_number self }
     {
         match self {
             Failure::Text(fault) => match fault.place() {
@@ -123,7 +125,7 @@ pub extern "C" fn capkit_compile(
     insns: &mut [Insn],
     number: &mut usize,
 ) -> u32
-    ensures { CompileLeaves text.now link_type insns.old insns.new number.new result }
+    ensures { CompilesText text.now link_type insns.old insns.new number.new result }
 {
     match compile_into(alloc, text, link_type, insns) {
         Ok(count) => {

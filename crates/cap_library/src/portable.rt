@@ -1,7 +1,7 @@
 //! Whether a program gives the same answers on libpcap's machine and on Linux's.
 ghost use Rattle.std.specs.Prelude.{◌≡◌, ◌≤◌, length};
 ghost use Rattle.std.specs.List.{list_all};
-ghost use Rattle.cap_library.specs.Portable.{is_portable, keeps_x_small, runs_alike, wanted};
+ghost use Rattle.cap_library.specs.Portable.{is_portable, keeps_x_small, runs_alike, words_wanted};
 ghost use Rattle.cap_library.specs.Portable.{wanted_at, wants, writes_first};
 
 use flt_bpf::Insn;
@@ -82,7 +82,7 @@ fn wants(insn: &Insn, word: u32, behind: &[bool]) -> bool
 /// Notes of each place whether a run from there on may read a word of memory before it writes it.
 fn mark_wanted(insns: &[Insn], word: u32, marks: &mut [bool])
     requires { length marks.old ≡ length insns.now }
-    ensures { marks.new ≡ wanted word insns.now }
+    ensures { marks.new ≡ words_wanted word insns.now }
 {
     let mut place = insns.len();
     while place > 0 {
@@ -96,7 +96,7 @@ fn mark_wanted(insns: &[Insn], word: u32, marks: &mut [bool])
 /// memory, and Linux refuses the program.
 fn reads_first(insns: &[Insn], word: u32) -> bool
     requires { length insns.now ≤ 4096 }
-    ensures { result ≡ wanted_at (wanted word insns.now) 0 }
+    ensures { result ≡ wanted_at (words_wanted word insns.now) 0 }
 {
     let mut marks = [false; MOST_ATTACHED];
     let marks = &mut marks[..insns.len()];

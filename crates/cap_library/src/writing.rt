@@ -44,7 +44,8 @@ pub extern "C" fn capkit_write_file_header(
     buffer: &mut [u8],
     length: &mut usize,
 ) -> u32
-    ensures { WriteTells None (file_header (resolution_by nanoseconds) link_type) buffer.old buffer.new
+    ensures { WriteTells None (file_header (resolution_by nanoseconds) link_type) buffer.old
+        buffer.new
         length.new result }
 {
     tell(write_file_header(nanoseconds, link_type, buffer), length)

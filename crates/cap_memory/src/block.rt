@@ -1,5 +1,6 @@
 //! One block of a pcapng capture in memory, in the caller's table of interfaces.
-ghost use Rattle.std.specs.Prelude.{◌≡◌, ℕ, ◌+◌, ◌<◌, ◌≤◌, ◌++◌, ◌∷◌, [], IfOk, IfErr, OnErr, length};
+ghost use Rattle.std.specs.Prelude.{◌≡◌, ℕ, ◌+◌, ◌<◌, ◌≤◌, ◌++◌, ◌∷◌, [], IfOk, IfErr, OnErr};
+ghost use Rattle.std.specs.Prelude.{length};
 ghost use Rattle.std.specs.Prelude.{Option, drop, take};
 ghost use Rattle.std.specs.Option.{option_map};
 ghost use Rattle.std.specs.List.{slice_get};
@@ -10,7 +11,8 @@ ghost use Rattle.cap_pcapng.specs.Unit.{Section, checks_among, interfaces_before
 ghost use Rattle.cap_pcapng.specs.declared.blocks.Block.TheVariants as a;
 ghost use Rattle.cap_io.specs.Blocks.{Enters, PacketFound, fault_among};
 ghost use Rattle.cap_memory.specs.Layout.{described_of, first_of};
-ghost use Rattle.cap_memory.specs.Blocks.{BlockIs, EntersTable, IsNoBlock, IsOf, IsRefusal, spans_of};
+ghost use Rattle.cap_memory.specs.Blocks.{BlockIs, EntersTable, IsNoBlock, IsOf, IsRefusal};
+ghost use Rattle.cap_memory.specs.Blocks.{spans_of};
 ghost use Rattle.cap_memory.specs.Blocks.{holds};
 
 use crate::layout::Interface;
@@ -132,7 +134,8 @@ fn simple_packet(
     block: &SimpleBlock<'_>,
 ) -> Result<UnitPacket, Fault>
     requires known { count ≤ length table.now }
-    ensures found { ChecksGive (checks_among (first_of count table.now) (parts_of (a.Simple block.now)))
+    ensures found { ChecksGive (checks_among (first_of count table.now) (parts_of (a.Simple
+        block.now)))
         result (λ packet. (order : Order) (size : ℕ) → PacketFound order (first_of count table.now)
         (parts_of (a.Simple block.now)) 12 size block.now.rest.now (spans_of size packet)) }
     ensures interface { IfOk result (IsOf (first_of count table.now)) }

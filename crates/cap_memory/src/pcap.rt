@@ -25,7 +25,8 @@ pub(crate) fn header_in(text: &[u8]) -> Result<Head, Fault>
 
 /// The record that a text begins with, or the first check that fails.
 pub(crate) fn record_in(head: &Head, text: &[u8]) -> Result<RecordHead, Fault>
-    ensures { result ≡ checked (record_fault head.now text.now) (record_header_in head.now text.now) }
+    ensures { result ≡ checked (record_fault head.now text.now) (record_header_in head.now
+        text.now) }
 {
     let Some(bytes) = text.first_chunk::<16>() else {
         return Err(Fault::Truncated);

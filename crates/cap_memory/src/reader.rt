@@ -1,5 +1,6 @@
 //! The units of a capture in memory, one at a time.
-ghost use Rattle.std.specs.Prelude.{◌≡◌, ℕ, ◌+◌, ◌^◌, ◌≤◌, ◌<◌, IfOk, IfErr, IsTrue, OnErr, List, false, drop, length, take};
+ghost use Rattle.std.specs.Prelude.{◌≡◌, ℕ, ◌+◌, ◌^◌, ◌≤◌, ◌<◌, IfOk, IfErr, IsTrue, OnErr, List};
+ghost use Rattle.std.specs.Prelude.{false, drop, length, take};
 ghost use Rattle.cap_pcapng.specs.Interface.{Described};
 ghost use Rattle.cap_io.specs.Blocks.{section_of};
 ghost use Rattle.cap_io.specs.Capture.{first_link_after, is_pcapng};

@@ -75,7 +75,8 @@ fn format_by(nanoseconds: u32) -> Format
 
 /// Puts the file header of a pcap form.
 pub fn write_file_header(nanoseconds: u32, link_type: u16, buffer: &mut [u8]) -> Written
-    ensures { WriteLeaves None (file_header (resolution_by nanoseconds) link_type) buffer.old buffer.new
+    ensures { WriteLeaves None (file_header (resolution_by nanoseconds) link_type) buffer.old
+        buffer.new
         result }
 {
     let head = head_bytes(format_by(nanoseconds), link_type);

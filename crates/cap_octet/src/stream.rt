@@ -1,5 +1,6 @@
 //! Devices over std's buffered readers and writers.
-ghost use Rattle.std.specs.Prelude.{◌≡◌, ℕ, ◌+◌, ◌≤◌, ◌<◌, ◌^◌, ◌||◌, IsTrue, IfOk, None, false, []};
+ghost use Rattle.std.specs.Prelude.{◌≡◌, ℕ, ◌+◌, ◌≤◌, ◌<◌, ◌^◌, ◌||◌, IsTrue, IfOk, None, false};
+ghost use Rattle.std.specs.Prelude.{[]};
 ghost use Rattle.std.specs.Prelude.{if◌then◌else◌, is_err, is_some, length};
 ghost use Rattle.std.proofs.Common.{rules};
 ghost use Rattle.std.specs.Io.Buffered.{reader_buffer, reader_remaining, writer_contents};

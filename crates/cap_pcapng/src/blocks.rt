@@ -154,7 +154,8 @@ impl<'a> SimpleBlock<'a> {
     /// The captured bytes where the interface has this snap length, or fault 9 where the body is
     /// shorter than they are with their padding.
     pub fn data(&self, snap: u32) -> Result<&'a [u8], Fault>
-        ensures { ChecksGive (data_checks (simple_captured self.now.orig snap) self.now.rest.now) result
+        ensures { ChecksGive (data_checks (simple_captured self.now.orig snap) self.now.rest.now)
+            result
             (λ bytes. bytes.now ≡ take (simple_captured self.now.orig snap) self.now.rest.now) }
     {
         data_in(self.rest, self.captured(snap))

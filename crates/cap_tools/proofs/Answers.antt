@@ -16,7 +16,7 @@ use Rattle.cap_filter.specs.Decisions as chosen
 use Rattle.cap_filter.specs.Decisions.{Decision}
 use Rattle.cap_filter.specs.FilterRules as rule_spec
 use Rattle.cap_filter.specs.Links.{link_of}
-use Rattle.cap_filter.specs.FilterRules.{Rule, rule_decides, read_on, passing, answering}
+use Rattle.cap_filter.specs.FilterRules.{Rule, rule_decides, read_on, decision_of, answering}
 use Rattle.flt_bpf.specs.Machine as bpf
 use Rattle.flt_bpf.specs.Machine.{machine, Answered}
 use Rattle.flt_lang.specs.Tree.{Expression, empty, truth}
@@ -35,12 +35,12 @@ use Rattle.cap_tools.specs.Verdict as judged_spec
 use Rattle.cap_tools.specs.Selector.{PolicyState, GrowsByOne, IsWithin, IsVerdict}
 use Rattle.cap_print.specs.declared.print.Options.{Options}
 use Rattle.cap_print.specs.Rendering.{printed}
-use Rattle.cap_tools.specs.Outcome.{Form, AsCapture, AsLines, Progress, IsNextEvent, lines_text, no_progress, decide_unless, apply_verdict, apply_event, apply_events, final_progress, packet_bytes, form_refuses, end_with, final_text, first_link, output_text}
+use Rattle.cap_tools.specs.Outcome.{Form, AsCapture, AsLines, JobProgress, IsNextEvent, lines_text, no_progress, decide_unless, apply_verdict, apply_event, apply_events, final_progress, packet_bytes, form_refuses, end_with, final_text, first_link, output_text}
 use Rattle.cap_tools.specs.Outcome as course_spec
-use Rattle.cap_tools.specs.Output.{JobOutputView, Target, Capture, Text, Lines, HasWritten, Puts, form_at, form_to, output_at, written_to, failures_to}
+use Rattle.cap_tools.specs.Output.{JobOutputView, Target, Capture, Text, Lines, HasWritten, PutsIntoOutput, form_at, form_to, output_at, written_to, failures_to}
 use Rattle.cap_inputs.specs.Inputs.{InputView, InputsView, Future, InputPast, AreInputsBehind, AreSettled, IsInput, input_behind, actual_future, inputs_with, items_left, inputs_left, sequence_left, most_steps}
 use Rattle.cap_inputs.specs.Inputs as input_spec
-use Rattle.cap_tools.specs.Machine.{MachineState, PacketsDecided, GoesOn, Comes, Decides, Offers, StopsWriting, NextPacket, EndLeaves, progress_at, progress_of, progress_over, form_of, wholes_of, work_of, written_by, unwritten, sieve}
+use Rattle.cap_tools.specs.Machine.{MachineState, PacketsDecided, GoesOn, CompletesOutput, DecidesPacket, Offers, StopsWriting, NextPacket, EndLeaves, progress_at, progress_of, progress_over, output_form, wholes_of, work_of, written_by, end_of_failed_write, sieve}
 use Rattle.cap_tools.proofs.Splits.{At, stands-split, stands-join, stands-length, rests-join, finish-here, come-on}
 use Rattle.cap_tools.proofs.Coming.{carries-decided, come-first, true-wholes, true-fit, true-fits}
 use Rattle.cap_tools.proofs.Outputs.{drained-text, PutOk, put-ok, WhyUnput, lines-more, unput, closing-some}
@@ -58,7 +58,7 @@ end_if true = Some Complete
 end_if false = None
 
 -- what is written and how far the job is where a packet is decided
-pub record Took (policy : Policy) (w : Progress) (before : List ℕ) (i : ℕ) (x : Placed) (state' : SelectorState) (old new : JobOutputView) (last : Bool) : Type 0 where
+pub record Took (policy : Policy) (w : JobProgress) (before : List ℕ) (i : ℕ) (x : Placed) (state' : SelectorState) (old new : JobOutputView) (last : Bool) : Type 0 where
   pub passed : List Captured
   -- one at most
   pub few : (passed ≡ []) ⊎ ((q : Captured) × (passed ≡ q ∷ []))
@@ -68,11 +68,11 @@ pub record Took (policy : Policy) (w : Progress) (before : List ℕ) (i : ℕ) (
   pub failures : failures_to new.target ≡ failures_to old.target
   pub names : new.names ≡ old.names
 
-goes-by : (policy : Policy) (form : Form) (w : Progress) (i : ℕ) (x : Placed) (v : Verdict) (state' : SelectorState) → v ≡ (judge policy w.state (w.decided + 1) x.packet).verdict → state' ≡ (judge policy w.state (w.decided + 1) x.packet).state
+goes-by : (policy : Policy) (form : Form) (w : JobProgress) (i : ℕ) (x : Placed) (v : Verdict) (state' : SelectorState) → v ≡ (judge policy w.state (w.decided + 1) x.packet).verdict → state' ≡ (judge policy w.state (w.decided + 1) x.packet).state
     → apply_event policy form w (Packet i x) ≡ apply_verdict form w i x v state'
 goes-by policy form w i x v state' one other = rw (one, other) refl
 
-put-took : (policy : Policy) (w : Progress) (before : List ℕ) (i : ℕ) (x : Placed) (q : Captured) (state' : SelectorState) (old new : JobOutputView) (last : Bool) → HasWritten before old w.packets w.reports → new.names ≡ old.names → Puts q old.target (Ok tt) new.target
+put-took : (policy : Policy) (w : JobProgress) (before : List ℕ) (i : ℕ) (x : Placed) (q : Captured) (state' : SelectorState) (old new : JobOutputView) (last : Bool) → HasWritten before old w.packets w.reports → new.names ≡ old.names → PutsIntoOutput q old.target (Ok tt) new.target
     → apply_event policy (form_at old) w (Packet i x) ≡ decide_unless (form_refuses (form_at old) w.packets q) w i x state' q (end_if last)
     → Took policy w before i x state' old new last
 put-took policy w before i x q state' old new last has names puts went =
@@ -87,7 +87,7 @@ put-took policy w before i x q state' old new last has names puts went =
       names = names;
     }
 
-pub took : (policy : Policy) (w : Progress) (before : List ℕ) (i : ℕ) (x : Placed) (old new : JobOutputView) (last : Bool) (state' : SelectorState) (v : code.Verdict) (q : Captured) → HasWritten before old w.packets w.reports
+pub took : (policy : Policy) (w : JobProgress) (before : List ℕ) (i : ℕ) (x : Placed) (old new : JobOutputView) (last : Bool) (state' : SelectorState) (v : code.Verdict) (q : Captured) → HasWritten before old w.packets w.reports
     → IsVerdict (judge policy w.state (w.decided + 1) x.packet) (Ok v) q state' → new.names ≡ old.names → Offers v q old.target (Ok last) new.target → Took policy w before i x state' old new last
 took policy w before i x old new last state' code_verdict.Pass q has told names offers =
     rw offers.0 (put-took policy w before i x q state' old new false has names offers.1 (goes-by policy (form_at old) w i x (Pass q) state' told.0 told.1))
@@ -122,7 +122,7 @@ pub is-next : (ss : List InputPast) (before : List ℕ) (cursors : List InputVie
 is-next ss before cursors order policy state output decided e d ahead = record {
   later = ahead.more.events;
   is = ap (λ (s : Sequence). s.events) ahead.is;
-  goes = ap (λ (w : Progress). w.end) d.progress;
+  goes = ap (λ (w : JobProgress). w.end) d.progress;
 }
 
 pub next-true : (us vs : List InputPast) (s : InputPast) (before : List ℕ) (xs ys : List InputView) (h : InputView) (order : PacketOrder) (turn : ℕ) (policy : Policy) (state : SelectorState) (output : JobOutputView) (decided : ℕ) (p : Captured)
@@ -226,20 +226,20 @@ decided-goes us vs s before xs ys h order turn policy state state' output output
 -- ---- it is the last, or it is refused
 
 -- the job ends at the current packet
-pub stops-course : (ss : List InputPast) (cursors : List InputView) (order : PacketOrder) (es : List Event) (e : Event) (policy : Policy) (form : Form) (w w' : Progress) (c : SequenceEnd) → Ahead ss cursors order es e → apply_events policy form no_progress es ≡ w → w.end ≡ None
+pub stops-course : (ss : List InputPast) (cursors : List InputView) (order : PacketOrder) (es : List Event) (e : Event) (policy : Policy) (form : Form) (w w' : JobProgress) (c : SequenceEnd) → Ahead ss cursors order es e → apply_events policy form no_progress es ≡ w → w.end ≡ None
     → apply_event policy form w e ≡ w' → w'.end ≡ Some c → final_progress policy form (sequence_of order (wholes_of ss)) ≡ w'
 stops-course ss cursors order es e policy form w w' c ahead far on went end =
     course-stop policy form (sequence_of order (wholes_of ss)) ahead.more es e w w' c ahead.is far (ap (λ (o : Option SequenceEnd). course_spec.unless_ended o w (apply_event policy form w e)) on ∙ went) end
 
 -- the last packet passed
-pub record LastTook (policy : Policy) (w : Progress) (before : List ℕ) (i : ℕ) (x : Placed) (state' : SelectorState) (old new : JobOutputView) : Type 0 where
+pub record LastTook (policy : Policy) (w : JobProgress) (before : List ℕ) (i : ℕ) (x : Placed) (state' : SelectorState) (old new : JobOutputView) : Type 0 where
   pub packet : Captured
   pub went : apply_event policy (form_at old) w (Packet i x) ≡ course_spec.decide w state' (packet ∷ []) (Some Complete)
   pub output : HasWritten before new (w.packets ++ packet ∷ []) w.reports
   pub form : form_at new ≡ form_at old
   pub failures : failures_to new.target ≡ failures_to old.target
 
-pub last-took : (policy : Policy) (w : Progress) (before : List ℕ) (i : ℕ) (x : Placed) (old new : JobOutputView) (state' : SelectorState) (v : code.Verdict) (q : Captured) → IsVerdict (judge policy w.state (w.decided + 1) x.packet) (Ok v) q state' → new.names ≡ old.names → Offers v q old.target (Ok true) new.target
+pub last-took : (policy : Policy) (w : JobProgress) (before : List ℕ) (i : ℕ) (x : Placed) (old new : JobOutputView) (state' : SelectorState) (v : code.Verdict) (q : Captured) → IsVerdict (judge policy w.state (w.decided + 1) x.packet) (Ok v) q state' → new.names ≡ old.names → Offers v q old.target (Ok true) new.target
     → HasWritten before old w.packets w.reports → LastTook policy w before i x state' old new
 last-took policy w before i x old new state' code_verdict.Pass q told names offers has = absurd (let b = offers.0 in cc)
 last-took policy w before i x old new state' code_verdict.PassLast q told names offers has =
@@ -257,7 +257,7 @@ last-took policy w before i x old new state' code_verdict.Skip q told names offe
 
 -- the next packet that would be written, as a failed write has it
 abbrev AnswersNext : {ss : List InputPast} {before : List ℕ} {old : MachineState} → PacketsDecided ss before old → MachineState → Captured → Type 0
-AnswersNext {ss} {before} {old} d new q = form_refuses (form_of old) d.packets q ≡ None → (bytes : List ℕ) → bytes ≡ packet_bytes (form_of old) d.packets q → NextPacket d new bytes
+AnswersNext {ss} {before} {old} d new q = form_refuses (output_form old) d.packets q ≡ None → (bytes : List ℕ) → bytes ≡ packet_bytes (output_form old) d.packets q → NextPacket d new bytes
 
 -- the device failed at a packet
 stops-writing : (ss : List InputPast) (before : List ℕ) (cursors : List InputView) (order : PacketOrder) (policy : Policy) (state state' : SelectorState) (names : List (List ℕ)) (sink sink' : SinkView) (decided : ℕ) (new : MachineState) (e : Event) (q : Captured) (o : Option SequenceEnd)
@@ -268,9 +268,9 @@ stops-writing : (ss : List InputPast) (before : List ℕ) (cursors : List InputV
 stops-writing ss before cursors order policy state state' names sink sink' decided new e q o d ahead went answers why is =
     let form : Form = AsCapture sink.format in
     let packets : List Captured = d.packets in
-    let w : Progress = progress_of d in
-    let w' : Progress = course_spec.decide w state' (q ∷ []) o in
-    let all : Progress = final_progress policy form (sequence_of order (wholes_of ss)) in
+    let w : JobProgress = progress_of d in
+    let w' : JobProgress = course_spec.decide w state' (q ∷ []) o in
+    let all : JobProgress = final_progress policy form (sequence_of order (wholes_of ss)) in
     let grows : Grows w' all = course-grows policy form (sequence_of order (wholes_of ss)) ahead.more (d.events ++ e ∷ []) w'
     (ahead.is ∙ ap (λ (l : List Event). record { events = l; end = ahead.more.end }) (sym (append_assoc d.events (e ∷ []) ahead.more.events)))
     (progress-next policy form d.events e w w' d.progress went) in
@@ -299,9 +299,9 @@ stops-line : (ss : List InputPast) (before : List ℕ) (cursors : List InputView
 stops-line ss before cursors order policy state state' names options bytes after failures room decided new e q o d ahead went answers stops is =
     let form : Form = AsLines options in
     let packets : List Captured = d.packets in
-    let w : Progress = progress_of d in
-    let w' : Progress = course_spec.decide w state' (q ∷ []) o in
-    let all : Progress = final_progress policy form (sequence_of order (wholes_of ss)) in
+    let w : JobProgress = progress_of d in
+    let w' : JobProgress = course_spec.decide w state' (q ∷ []) o in
+    let all : JobProgress = final_progress policy form (sequence_of order (wholes_of ss)) in
     let grows : Grows w' all = course-grows policy form (sequence_of order (wholes_of ss)) ahead.more (d.events ++ e ∷ []) w'
     (ahead.is ∙ ap (λ (l : List Event). record { events = l; end = ahead.more.end }) (sym (append_assoc d.events (e ∷ []) ahead.more.events)))
     (progress-next policy form d.events e w w' d.progress went) in
@@ -330,7 +330,7 @@ unput-capture : (ss : List InputPast) (before : List ℕ) (cursors : List InputV
     → apply_event policy (AsCapture sink.format) (progress_of d) (Packet turn x) ≡ decide_unless (refusal_of sink.format d.packets q) (progress_of d) turn x state' q o
     → input_spec.IsNext (inputs_at order cursors) (next.Decide turn) → new.inputs ≡ record { order = order; cursors = cursors } → (cursor : InputView) → IsInput new.inputs.cursors turn cursor → cursor.source.offset ≡ x.offset
     → PassesAs (judge policy state (decided + 1) x.packet).verdict q → AnswersNext d new q → WhyUnput fault sink d.packets q sink' → new.output.target ≡ Capture sink'
-    → EndLeaves d (unwritten turn fault) new
+    → EndLeaves d (end_of_failed_write turn fault) new
 unput-capture ss before cursors order turn policy state state' names sink sink' decided new x q o WriteFailed d ahead went tells same_feed cursor among offset passes answers why is =
     stops-writing ss before cursors order policy state state' names sink sink' decided new (Packet turn x) q o d ahead
     (went ∙ ap (λ (f : Option Fault). decide_unless f (progress_of d) turn x state' q o) why.0) answers why is
@@ -355,7 +355,7 @@ unput-capture ss before cursors order turn policy state state' names sink sink' 
     }
 unput-capture ss before cursors order turn policy state state' names sink sink' decided new x q o fault d ahead went tells same_feed cursor among offset passes answers why is =
     let m : MachineState = mk cursors order policy state (record { names = names; target = Capture sink }) decided in
-    let w : Progress = progress_of d in
+    let w : JobProgress = progress_of d in
     let stop : final_progress policy (AsCapture sink.format) (sequence_of order (wholes_of ss)) ≡ end_with w (FaultIn turn fault x.offset) =
     stops-course ss cursors order d.events (Packet turn x) policy (AsCapture sink.format) w (end_with w (FaultIn turn fault x.offset)) (FaultIn turn fault x.offset) ahead d.progress refl
     (went ∙ ap (λ (f : Option Fault). decide_unless f w turn x state' q o) why.0) refl in
@@ -369,14 +369,14 @@ unput-leaves : (ss : List InputPast) (before : List ℕ) (cursors : List InputVi
     → (d : PacketsDecided ss before (mk cursors order policy state (record { names = names; target = target }) decided)) → Ahead ss cursors order d.events (Packet turn x)
     → apply_event policy (form_to names target) (progress_of d) (Packet turn x) ≡ decide_unless (form_refuses (form_to names target) d.packets q) (progress_of d) turn x state' q o
     → input_spec.IsNext (inputs_at order cursors) (next.Decide turn) → new.inputs ≡ record { order = order; cursors = cursors } → (cursor : InputView) → IsInput new.inputs.cursors turn cursor → cursor.source.offset ≡ x.offset
-    → PassesAs (judge policy state (decided + 1) x.packet).verdict q → AnswersNext d new q → Puts q target (Err fault) new.output.target
-    → EndLeaves d (unwritten turn fault) new
+    → PassesAs (judge policy state (decided + 1) x.packet).verdict q → AnswersNext d new q → PutsIntoOutput q target (Err fault) new.output.target
+    → EndLeaves d (end_of_failed_write turn fault) new
 unput-leaves ss before cursors order turn policy state state' names (Capture sink) decided new x q o fault d ahead went tells same_feed cursor among offset passes answers puts =
     unput-capture ss before cursors order turn policy state state' names sink puts.sink decided new x q o fault d ahead went tells same_feed cursor among offset passes answers
     (unput before d.packets q sink puts.sink fault d.output puts.puts puts.writes) puts.is
 unput-leaves ss before cursors order turn policy state state' names (Text bytes failures room) decided new x q o fault d ahead went tells same_feed cursor among offset passes answers puts = absurd (let e = puts.0 in cc)
 unput-leaves ss before cursors order turn policy state state' names (Lines options bytes failures room) decided new x q o fault d ahead went tells same_feed cursor among offset passes answers puts =
-    let L : Fault → Type 0 = λ f. EndLeaves d (unwritten turn f) new in
+    let L : Fault → Type 0 = λ f. EndLeaves d (end_of_failed_write turn f) new in
     subst L (sym puts.fault)
     (stops-line ss before cursors order policy state state' names options bytes puts.after failures room decided new (Packet turn x) q o d ahead went answers puts.appends puts.is)
 
@@ -384,9 +384,9 @@ reject-leaves : (ss : List InputPast) (before : List ℕ) (cursors : List InputV
     → (d : PacketsDecided ss before (mk cursors order policy state output decided)) → Ahead ss cursors order d.events (Packet turn x)
     → IsVerdict (judge policy state (decided + 1) x.packet) (Err fault) x.packet state'
     → (cursor : InputView) → IsInput new.inputs.cursors turn cursor → cursor.source.offset ≡ x.offset → new.output ≡ output → (fault ≡ WriteFailed → ⊥)
-    → EndLeaves d (unwritten turn fault) new
+    → EndLeaves d (end_of_failed_write turn fault) new
 reject-leaves ss before cursors order turn policy state state' output decided new x fault d ahead told cursor among offset same device =
-    let w : Progress = progress_of d in
+    let w : JobProgress = progress_of d in
     let kept : written_by new ≡ written_to output.target = ap (λ (v : JobOutputView). written_to v.target) same in
     let B : Type 0 = EndLeaves d (end.FaultIn turn fault) new in
     let breaks : B = record {
@@ -399,7 +399,7 @@ reject-leaves ss before cursors order turn policy state state' output decided ne
     } in
     other fault device breaks
   where
-    other : (f : Fault) → (f ≡ WriteFailed → ⊥) → EndLeaves d (end.FaultIn turn f) new → EndLeaves d (unwritten turn f) new
+    other : (f : Fault) → (f ≡ WriteFailed → ⊥) → EndLeaves d (end.FaultIn turn f) new → EndLeaves d (end_of_failed_write turn f) new
     other WriteFailed device breaks = absurd (device refl)
     other f device breaks = breaks
 
@@ -419,7 +419,7 @@ own-link : (e : Expression) (o : Option Link) (p : Captured) → OwnDecision (re
 own-link e None p = λ is. (cc)
 own-link e (Some link) p = by_reading (holds e link p.bytes p.orig)
   where
-    by_reading : (r : Reading) → OwnDecision (passing r)
+    by_reading : (r : Reading) → OwnDecision (decision_of r)
     by_reading Yes = tt
     by_reading No = tt
     by_reading Rejected = tt
@@ -472,13 +472,13 @@ never-device policy state state' number p fault told is = (let P : Verdict → T
 -- what an answer leaves: `new` is the machine where the packet is decided, `failed` where it isn't
 abbrev pub AnswerLeaves : {ss : List InputPast} {before : List ℕ} {old : MachineState} → PacketsDecided ss before old → ℕ → Result Bool Fault → MachineState → MachineState → Type 0
 AnswerLeaves {ss} {before} {old} d i (Ok false) new failed = GoesOn d new
-AnswerLeaves {ss} {before} {old} d i (Ok true) new failed = Comes (wholes_of ss) d new Complete
-AnswerLeaves {ss} {before} {old} d i (Err fault) new failed = EndLeaves d (unwritten i fault) failed
+AnswerLeaves {ss} {before} {old} d i (Ok true) new failed = CompletesOutput (wholes_of ss) d new Complete
+AnswerLeaves {ss} {before} {old} d i (Err fault) new failed = EndLeaves d (end_of_failed_write i fault) failed
 
 answer-core : (us vs : List InputPast) (s : InputPast) (before : List ℕ) (xs ys : List InputView) (h : InputView) (order : PacketOrder) (turn : ℕ) (policy : Policy) (state state' : SelectorState) (output output' : JobOutputView) (decided : ℕ) (p : Captured) (r : Result Bool Fault)
     → DecideLaws order turn xs ys h → input_spec.IsNext (inputs_at order (xs ++ h ∷ ys)) (next.Decide turn) → AreInputsBehind us xs → At s h → AreInputsBehind vs ys → h.source.packet ≡ Some p → state'.passed ≤ decided + 1 → GrowsByOne state.tally state'.tally
     → (d : PacketsDecided (us ++ s ∷ vs) before (mk (xs ++ h ∷ ys) order policy state output decided))
-    → output'.names ≡ output.names → Decides (Some p) (decided + 1) (sieve (record { policy = policy; state = state }) output.target) r (sieve (record { policy = policy; state = state' }) output'.target)
+    → output'.names ≡ output.names → DecidesPacket (Some p) (decided + 1) (sieve (record { policy = policy; state = state }) output.target) r (sieve (record { policy = policy; state = state' }) output'.target)
     → AnswerLeaves d turn r (mk (xs ++ input_behind h ∷ ys) order policy state' output' (decided + 1)) (mk (xs ++ h ∷ ys) order policy state' output' decided)
 answer-core us vs s before xs ys h order turn policy state state' output output' decided p (Ok false) laws tells front at back held within grows d names decides =
     elim decides [
@@ -489,18 +489,18 @@ answer-core us vs s before xs ys h order turn policy state state' output output'
 answer-core us vs s before xs ys h order turn policy state state' output output' decided p (Ok true) laws tells front at back held within grows d names decides =
     elim decides [
       | inl j ↦
-          let w : Progress = progress_at (mk (xs ++ h ∷ ys) order policy state output decided) d.packets d.reports in
+          let w : JobProgress = progress_at (mk (xs ++ h ∷ ys) order policy state output decided) d.packets d.reports in
           let x : Placed = record { offset = h.source.offset; packet = p } in
           let l = last-took policy w before turn x output output' state' j.answer j.packet j.told names j.offers d.output in
           let stop = stops-course (us ++ s ∷ vs) (xs ++ h ∷ ys) order d.events (Packet turn x) policy (form_at output) w (course_spec.decide w state' (l.packet ∷ []) (Some Complete)) Complete
           (next-true us vs s before xs ys h order turn policy state output decided p laws front at back held d) d.progress refl l.went refl in
           record {
-            ends = ap (λ (v : Progress). v.end) stop;
+            ends = ap (λ (v : JobProgress). v.end) stop;
             written =
                 closing-some before output'.names (form_at output) output'.target (first_link (wholes_of (us ++ s ∷ vs))) (d.packets ++ l.packet ∷ []) d.reports (decided + 1) state' l.output l.form (some d.packets l.packet)
-                ∙ ap (λ (v : Progress). before ++ final_text (form_at output) (first_link (wholes_of (us ++ s ∷ vs))) v) (sym stop);
+                ∙ ap (λ (v : JobProgress). before ++ final_text (form_at output) (first_link (wholes_of (us ++ s ∷ vs))) v) (sym stop);
             once = once-packet (first_link (wholes_of (us ++ s ∷ vs))) before w (progress_over (mk (xs ++ h ∷ ys) order policy state output decided) (wholes_of (us ++ s ∷ vs))) output output' l.packet d.output l.output l.form
-                (ap (λ (v : Progress). v.packets) stop) (ap (λ (v : Progress). v.reports) stop);
+                (ap (λ (v : JobProgress). v.packets) stop) (ap (λ (v : JobProgress). v.reports) stop);
             device = l.failures;
           }
       | inr x ↦ absurd (let e = x.answer in cc)
@@ -529,7 +529,7 @@ answer-core us vs s before xs ys h order turn policy state state' output output'
     ahead : Ahead (us ++ s ∷ vs) (xs ++ h ∷ ys) order d.events (Packet turn x)
     ahead = next-true us vs s before xs ys h order turn policy state output decided p laws front at back held d
 
-    w : Progress
+    w : JobProgress
     w = progress_at (mk (xs ++ h ∷ ys) order policy state output decided) d.packets d.reports
 
     answers : (q : Captured) → PassesAs (judge policy state (decided + 1) p).verdict q → AnswersNext d failed q
@@ -548,7 +548,7 @@ answer-core us vs s before xs ys h order turn policy state state' output output'
       inputs = refl;
     }
 
-    by_verdict_of : (v : code.Verdict) (q : Captured) → IsVerdict (judge policy state (decided + 1) p) (Ok v) q state' → Offers v q output.target (Err fault) output'.target → EndLeaves d (unwritten turn fault) failed
+    by_verdict_of : (v : code.Verdict) (q : Captured) → IsVerdict (judge policy state (decided + 1) p) (Ok v) q state' → Offers v q output.target (Err fault) output'.target → EndLeaves d (end_of_failed_write turn fault) failed
     by_verdict_of code_verdict.Pass q told offers =
         unput-leaves (us ++ s ∷ vs) before (xs ++ h ∷ ys) order turn policy state state' output.names output.target decided failed x q None fault d ahead
         (goes-by policy (form_at output) w turn x (Pass q) state' told.0 told.1) tells refl h here refl (let A : Verdict → Type 0 = λ v. PassesAs v q in subst A told.0 refl) (answers q (let A : Verdict → Type 0 = λ v. PassesAs v q in subst A told.0 refl)) offers
@@ -559,7 +559,7 @@ answer-core us vs s before xs ys h order turn policy state state' output output'
 
 pub answer-leaves : (ss : List InputPast) (before : List ℕ) (cursors : List InputView) (order : PacketOrder) (policy : Policy) (state : SelectorState) (output : JobOutputView) (decided i : ℕ) (r : Result Bool Fault) (h : InputView) (selector' : PolicyState) (output' : JobOutputView)
     → output'.names ≡ output.names → input_spec.IsNext (inputs_at order cursors) (next.Decide i) → IsInput cursors i h → selector'.policy ≡ policy → (state.passed ≤ decided + 1 → selector'.state.passed ≤ decided + 1) → GrowsByOne state.tally selector'.state.tally → decided ≤ most_steps
-    → (state.passed < decided + 1 → IsWithin most_steps state.tally → Decides h.source.packet (decided + 1) (sieve (record { policy = policy; state = state }) output.target) r (sieve selector' output'.target))
+    → (state.passed < decided + 1 → IsWithin most_steps state.tally → DecidesPacket h.source.packet (decided + 1) (sieve (record { policy = policy; state = state }) output.target) r (sieve selector' output'.target))
     → (d : PacketsDecided ss before (mk cursors order policy state output decided))
     → AnswerLeaves d i r (mk (slice_set cursors i (input_behind h)) order policy selector'.state output' (decided + 1)) (mk cursors order policy selector'.state output' decided)
 answer-leaves ss before cursors order policy state output decided i r other selector' output' names tells among_other asks passes grows few decides d =
@@ -575,8 +575,8 @@ answer-leaves ss before cursors order policy state output decided i r other sele
     let was : IsAt st.here.text st.here.done st.here.packets true h.source = subst W at.laws.waits st.at in
     let has = was.waits refl in
     let within : state.passed < decided + 1 = (let l = d.passed in omega (arith, l)) in
-    let C : Option Captured → Type 0 = λ o. Decides o (decided + 1) (sieve (record { policy = policy; state = state }) output.target) r (sieve selector' output'.target) in
-    let C' : Policy → Type 0 = λ k. Decides (Some has.packet) (decided + 1) (sieve (record { policy = policy; state = state }) output.target) r (sieve (record { policy = k; state = selector'.state }) output'.target) in
+    let C : Option Captured → Type 0 = λ o. DecidesPacket o (decided + 1) (sieve (record { policy = policy; state = state }) output.target) r (sieve selector' output'.target) in
+    let C' : Policy → Type 0 = λ k. DecidesPacket (Some has.packet) (decided + 1) (sieve (record { policy = policy; state = state }) output.target) r (sieve (record { policy = k; state = selector'.state }) output'.target) in
     let held : other.source.packet ≡ Some has.packet = ap (λ (v : InputView). v.source.packet) same ∙ has.held in
     let chosen = subst C' asks (subst C held (decides within (within-more decided most_steps state.tally few d.counted))) in
     let cursors' : slice_set cursors i (input_behind h) ≡ among.front ++ input_behind h ∷ among.back = ap (λ (l : List InputView). slice_set l i (input_behind h)) among.splits ∙ set-here among.front among.back h (input_behind h) i among.place in

@@ -17,7 +17,7 @@ use Rattle.cap_filter.specs.Compilation.{CompileLeaves}
 use Rattle.cap_filter.specs.declared.refusal.Refusal.{Refusal}
 use Rattle.cap_filter.specs.declared.refusal.Refusal.TheVariants as refusal
 use Rattle.cap_filter.specs.Messages.{fault_message, refusal_message, refusal_status, write_failed_message}
-use Rattle.cap_filter.specs.Outcome.{OutputView, IsTold, Runs, seen}
+use Rattle.cap_filter.specs.Outcome.{OutputView, IsTold, Runs, output_view}
 use Rattle.cap_inputs.specs.Fresh.{FreshInput, fresh_view, nothing_done}
 use Rattle.cap_inputs.specs.Inputs.{InputView, InputsView, InputPast, input_after, never_failing, offset_at}
 use Rattle.cap_inputs.specs.Sequence.{InputItems, Event, Packet, InputEnd, SequenceEnd, Complete, FaultIn, PacketOrder, InTurn, ByTime, whole_input}
@@ -26,12 +26,12 @@ use Rattle.cap_tools.specs.declared.output.Writing.TheVariants as writing
 use Rattle.cap_tools.specs.Call.{Call, RunResult}
 use Rattle.cap_tools.specs.Commands.{RunsBy}
 use Rattle.cap_tools.specs.FirstStep.{filtering, output_of, output_name}
-use Rattle.cap_tools.specs.Jobs.{JobView, JobRuns, end_status, end_text, first_job}
+use Rattle.cap_tools.specs.Jobs.{JobView, JobRuns, end_status, end_message, first_job}
 use Rattle.cap_tools.specs.declared.step.JobEnd.{JobEnd}
 use Rattle.cap_tools.specs.declared.step.JobEnd.TheVariants as end
 use Rattle.cap_io.specs.Source.{SourceView}
-use Rattle.cap_tools.specs.Machine.{MachineState, PacketsDecided, Comes, EndLeaves, EndsByCut, NextPacket, NextReport, NextClosing, StopsWriting, WantsMemory, asks_report, failures_by, form_of, progress_of, texts, wholes_of, work_of, written_by}
-use Rattle.cap_tools.specs.Outcome.{Form, Outcome, Progress, Work, IsNextEvent, apply_event, apply_verdict, closing_text, end_input, cut_at, decide_unless, first_link, form_refuses, form_takes_memory, message, outcome, packet_bytes, progress_behind, report_bytes, status, text_behind, text_of_progress}
+use Rattle.cap_tools.specs.Machine.{MachineState, PacketsDecided, CompletesOutput, EndLeaves, EndsByCut, NextPacket, NextReport, NextClosing, StopsWriting, WantsMemory, asks_report, failures_by, output_form, progress_of, texts, wholes_of, work_of, written_by}
+use Rattle.cap_tools.specs.Outcome.{Form, Outcome, JobProgress, Work, IsNextEvent, apply_event, apply_verdict, closing_text, end_input, cut_at, decide_unless, first_link, form_refuses, form_takes_memory, message, outcome, packet_bytes, progress_behind, report_bytes, status, text_behind, text_of_progress}
 use Rattle.cap_tools.specs.Output.{failures_to, form_to, target_at, written_to}
 use Rattle.cap_tools.specs.Reports.{name_at}
 use Rattle.cap_tools.specs.Run.{CommandRuns, HasCutInput, HasLackedMemory, HasLeft, HasLostOutput, IsNextAnswer, IsPolicy, IsWhyRefused, IsWork, by_end, by_event, ends, form_asked, input_cut, listing_answer, listing_outcome, next_judgement, no_memory, of_listing, of_packets, of_refusal, output_failed, packets_answer, refusal_outcome, whole_inputs}
@@ -84,8 +84,8 @@ first-wholes (o ∷ os) = ap (λ (l : List InputItems). whole_input o.text ∷ l
 
 first-output : (asked : Assignment) (call : Call) → output_of (first_job asked call) ≡ call.output
 first-output asked call =
-    ap (λ (w : List ℕ). seen w (failures_to (target_at asked.writing call.output.written call.output.failures call.room))) (first-written asked.writing call.output.written call.output.failures call.room)
-    ∙ ap (seen call.output.written) (first-failures asked.writing call.output.written call.output.failures call.room)
+    ap (λ (w : List ℕ). output_view w (failures_to (target_at asked.writing call.output.written call.output.failures call.room))) (first-written asked.writing call.output.written call.output.failures call.room)
+    ∙ ap (output_view call.output.written) (first-failures asked.writing call.output.written call.output.failures call.room)
 
 first-name : (asked : Assignment) (call : Call) → output_name (first_job asked call) ≡ name_at call.names (length call.inputs)
 first-name asked call = ap (name_at call.names) (length-map call.inputs fresh_view)
@@ -129,7 +129,7 @@ at-place f xs ys i b is has = comes-of f (slice_get xs i) b (sym (slice_get-map 
 -- ---- what the next answer adds
 
 -- a packet that passes
-passes-adds : (form : Form) (w : Progress) (i : ℕ) (x : Placed) (v : Verdict) (state : SelectorState) (q : Captured) → PassesAs v q → form_refuses form w.packets q ≡ None
+passes-adds : (form : Form) (w : JobProgress) (i : ℕ) (x : Placed) (v : Verdict) (state : SelectorState) (q : Captured) → PassesAs v q → form_refuses form w.packets q ≡ None
     → text_of_progress form (apply_verdict form w i x v state) ≡ text_of_progress form w ++ packet_bytes form w.packets q
 passes-adds form w i x (Pass p) state q is taken =
     rw is (ap (λ (o : Option Fault). text_of_progress form (decide_unless o w i x state q None)) taken ∙ packet-more form w.packets q w.reports)
@@ -139,7 +139,7 @@ passes-adds form w i x Skip state q is taken = absurd is
 passes-adds form w i x (Refuse fault) state q is taken = absurd is
 
 -- a report
-report-adds : (order : PacketOrder) (policy : Policy) (form : Form) (w : Progress) (i : ℕ) (kind : Option Kind) (size : ℕ) → asks_report order policy ≡ true
+report-adds : (order : PacketOrder) (policy : Policy) (form : Form) (w : JobProgress) (i : ℕ) (kind : Option Kind) (size : ℕ) → asks_report order policy ≡ true
     → text_of_progress form (end_input policy w i kind size) ≡ text_of_progress form w ++ report_bytes form (record { input = i; kind = kind; size = size; tally = w.state.tally })
 report-adds ByTime policy form w i kind size asks = (cc)
 report-adds InTurn Count form w i kind size asks = report-more form w.packets w.reports (record { input = i; kind = kind; size = size; tally = w.state.tally })
@@ -165,21 +165,21 @@ next-answer ss before old new bytes d next =
             (behind-one (InputEnd report.input kind size)
             ∙ report-adds old.inputs.order old.policy form w report.input kind size report.policy
             ∙ joins (sym report.bytes_are))
-        | inr closing ↦ by_end d.events closing.comes refl (closing.bytes_are ∙ ap (λ (v : Progress). closing_text form (first_link (wholes_of ss)) v.packets) (sym d.progress))
+        | inr closing ↦ by_end d.events closing.comes refl (closing.bytes_are ∙ ap (λ (v : JobProgress). closing_text form (first_link (wholes_of ss)) v.packets) (sym d.progress))
       ]
     ]
   where
     form : Form
-    form = form_of old
+    form = output_form old
 
-    w : Progress
+    w : JobProgress
     w = progress_of d
 
     behind-one : (e : Event) → text_behind (work_of old) (d.events ++ e ∷ []) ≡ text_of_progress form (apply_event old.policy form w e)
     behind-one e = ap (text_of_progress form) (progress-next old.policy form d.events e w (apply_event old.policy form w e) d.progress refl)
 
     joins : {added : List ℕ} → added ≡ bytes → text_of_progress form w ++ added ≡ text_behind (work_of old) d.events ++ bytes
-    joins {added} is = ap (λ (l : List ℕ). text_of_progress form w ++ l) is ∙ ap (λ (v : Progress). text_of_progress form v ++ bytes) (sym d.progress)
+    joins {added} is = ap (λ (l : List ℕ). text_of_progress form w ++ l) is ∙ ap (λ (v : JobProgress). text_of_progress form v ++ bytes) (sym d.progress)
 
 -- the inputs are as many as before
 same-count : (ss : List InputPast) (before : List ℕ) (old new : MachineState) (bytes : List ℕ) (d : PacketsDecided ss before old) → NextPacket d new bytes ⊎ NextReport d new bytes ⊎ NextClosing d new bytes
@@ -230,7 +230,7 @@ packets-run asked call first r b runs = by_end runs.end refl runs.leaves
     all-of rs rs' is = ap (λ (n : List (List ℕ)). outcome w n rs) b.names ∙ ap (λ (l : List InputItems). outcome w call.names l) is
 
     text : List ℕ
-    text = end_text names runs.last.inputs.cursors runs.end
+    text = end_message names runs.last.inputs.cursors runs.end
 
     reported : {message : List ℕ} → text ≡ message → IsTold call.tells call.messages message r.messages
     reported {message} is = told-as call.tells first.err call.messages r.messages text message is b.err runs.told
@@ -238,14 +238,14 @@ packets-run asked call first r b runs = by_end runs.end refl runs.leaves
     so-far : written_by old ≡ before ++ text_behind w d.events
     so-far =
         drained-text before old.output.names old.output.target d.packets d.reports d.output
-        ∙ ap (λ (v : Progress). before ++ text_of_progress (form_of old) v) (sym d.progress)
+        ∙ ap (λ (v : JobProgress). before ++ text_of_progress (output_form old) v) (sym d.progress)
         ∙ ap (λ (v : Work). before ++ text_behind v d.events) work-is
 
     unfailed : failures_by old ≡ call.output.failures
     unfailed = runs.progress.output ∙ b.failures
 
     -- the outcome of inputs with these items is left
-    left : (rs rs' : List InputItems) (close : SequenceEnd) → rs ≡ rs' → Comes rs d runs.last close → text ≡ message names (Some close) → end_status runs.end ≡ status (Some close)
+    left : (rs rs' : List InputItems) (close : SequenceEnd) → rs ≡ rs' → CompletesOutput rs d runs.last close → text ≡ message names (Some close) → end_status runs.end ≡ status (Some close)
         → HasLeft call (outcome w call.names rs') r
     left rs rs' close same comes says is =
         let whole : outcome (work_of old) names rs ≡ outcome w call.names rs' = ap (λ (v : Work). outcome v names rs) work-is ∙ all-of rs rs' same in
@@ -257,11 +257,11 @@ packets-run asked call first r b runs = by_end runs.end refl runs.leaves
           status = runs.status_is ∙ is ∙ ap status (sym comes.ends) ∙ ap (λ (o : Outcome). o.status) whole;
         }
 
-    whole-ends : (close : SequenceEnd) → Comes (wholes_of runs.progress.past) d runs.last close → text ≡ message names (Some close) → end_status runs.end ≡ status (Some close) → CommandRuns asked call r
+    whole-ends : (close : SequenceEnd) → CompletesOutput (wholes_of runs.progress.past) d runs.last close → text ≡ message names (Some close) → end_status runs.end ≡ status (Some close) → CommandRuns asked call r
     whole-ends close comes says is = ends (outcome w call.names (whole_inputs call)) (of_packets w b.work) (left (wholes_of runs.progress.past) (whole_inputs call) close wholes-are comes says is)
 
     says : (input : ℕ) (fault : Fault) (offset : ℕ) → runs.end ≡ end.FaultIn input fault → offset_at runs.last.inputs.cursors input ≡ offset → text ≡ fault_message (name_at names input) offset fault
-    says input fault offset is place = ap (end_text names runs.last.inputs.cursors) is ∙ ap (λ n. fault_message (name_at names input) n fault) place
+    says input fault offset is place = ap (end_message names runs.last.inputs.cursors) is ∙ ap (λ n. fault_message (name_at names input) n fault) place
 
     cuts : (input : ℕ) (fault : Fault) (after : SourceView) → runs.end ≡ end.FaultIn input fault → offset_at runs.last.inputs.cursors input ≡ after.offset → EndsByCut d runs.last input fault after → HasCutInput call w r
     cuts input fault after is place cut =
@@ -294,10 +294,10 @@ packets-run asked call first r b runs = by_end runs.end refl runs.leaves
         let e : Event = Packet input wants.packet in
         let V : Work → Type 0 = λ v. IsNextEvent v (wholes_of runs.progress.past) d.events e in
         let L : List InputItems → Type 0 = λ l. IsNextEvent w l d.events e in
-        let G : Progress → Type 0 = λ v. PassesAs (judge old.policy v.state (v.decided + 1) wants.packet.packet).verdict wants.kept in
-        let F : Progress → Type 0 = λ v. form_refuses (form_of old) v.packets wants.kept ≡ None in
+        let G : JobProgress → Type 0 = λ v. PassesAs (judge old.policy v.state (v.decided + 1) wants.packet.packet).verdict wants.kept in
+        let F : JobProgress → Type 0 = λ v. form_refuses (output_form old) v.packets wants.kept ≡ None in
         let R : Work → Type 0 = λ v. form_refuses v.form (progress_behind v d.events).packets wants.kept ≡ None in
-        let M : Progress → Type 0 = λ v. form_takes_memory (form_of old) v.packets wants.kept ≡ true in
+        let M : JobProgress → Type 0 = λ v. form_takes_memory (output_form old) v.packets wants.kept ≡ true in
         let T : Work → Type 0 = λ v. form_takes_memory v.form (progress_behind v d.events).packets wants.kept ≡ true in
         let J : Work → Type 0 = λ v. PassesAs (next_judgement v d.events wants.packet.packet).verdict wants.kept in
         record {
@@ -335,14 +335,14 @@ packets-run asked call first r b runs = by_end runs.end refl runs.leaves
           answer = packets_answer w b.work (subst L wholes-are (subst V work-is (next-answer runs.progress.past before old runs.last bytes d stops.answer)));
           stops = subst R (sym runs.written) (subst S so-far stops.stops);
           failures = runs.failures ∙ stops.failures ∙ ap (λ n. n + 1) unfailed;
-          message = reported (ap (end_text names runs.last.inputs.cursors) is
+          message = reported (ap (end_message names runs.last.inputs.cursors) is
               ∙ ap (λ (n : List (List ℕ)). write_failed_message (name_at n (length runs.last.inputs.cursors))) b.names
               ∙ ap (λ n. write_failed_message (name_at call.names n)) count);
           status = runs.status_is ∙ ap end_status is;
         }
 
     by_end : (e : JobEnd) → runs.end ≡ e → EndLeaves d e runs.last → CommandRuns asked call r
-    by_end end.Complete is comes = whole-ends Complete comes (ap (end_text names runs.last.inputs.cursors) is) (ap end_status is)
+    by_end end.Complete is comes = whole-ends Complete comes (ap (end_message names runs.last.inputs.cursors) is) (ap end_status is)
     by_end (end.FaultIn input fault) is breaks =
         let place = offset-here runs.last.inputs.cursors input breaks.cursor breaks.among in
         elim breaks.why [

@@ -9,7 +9,7 @@ use Rattle.cap_io.specs.Position.{IsAt, pending}
 use Rattle.cap_io.proofs.Items.{items_from-units, items_from-stops}
 use Rattle.cap_io.proofs.Standing.{IsAt-items, items-begin, Advances-sound}
 use Rattle.cap_inputs.specs.Sequence.{InputItems, Event, Packet, InputEnd, FaultIn, Sequence, sequence_of, sequence_in_turn, input_sequence, with_front, whole_input, PacketOrder}
-use Rattle.cap_inputs.specs.Inputs.{InputView, InputsView, Future, InputPast, AreInputsBehind, AreFutures, AreSettled, actual_future, waiting_packets, packets_at, items_with, inputs_with, items_left, inputs_left, sequence_left, no_future, input_after, input_behind}
+use Rattle.cap_inputs.specs.Inputs.{InputView, InputsView, Future, InputPast, AreInputsBehind, AreFutures, AreSettled, actual_future, waiting_packets, packets_at, input_items, inputs_with, items_left, inputs_left, sequence_left, no_future, input_after, input_behind}
 use Rattle.cap_tools.specs.Machine.{wholes_of}
 use Rattle.cap_tools.specs.Outcome.{ComeFirst}
 use Rattle.cap_tools.proofs.Splits.{At, Fit, Carries}
@@ -168,7 +168,7 @@ true-size s h at =
     pending_of : List ℕ
     pending_of = pending h.waiting h.source.block
 
-pub true-whole : (s : InputPast) (h : InputView) → At s h → items_with s h (actual_future h.source) ≡ whole_input s.text
+pub true-whole : (s : InputPast) (h : InputView) → At s h → input_items s h (actual_future h.source) ≡ whole_input s.text
 true-whole s h at =
     ap (λ (i : Items). record { greatest = 0; items = i; size = (actual_future h.source).size }) (true-items s h at h.waiting refl)
     ∙ ap (λ n. record { greatest = 0; items = items s.text; size = n }) (true-size s h at)

@@ -4,7 +4,7 @@ use Rattle.cap_filter.specs.Messages.{refusal_message}
 use Rattle.flt_bpf.specs.Content.{Content}
 use Rattle.cap_filter.specs.FilterRules.{Rule, IsRule}
 use Rattle.cap_filter.specs.Filters.{AreNew}
-use Rattle.cap_filter.specs.Outcome.{OutputView, IsTold, Runs, seen}
+use Rattle.cap_filter.specs.Outcome.{OutputView, IsTold, Runs, output_view}
 use Rattle.cap_filter.specs.Compilation.{CompileLeaves, ListingLeaves}
 use Rattle.cap_filter.specs.declared.refusal.Refusal.TheVariants.{Expression}
 use Rattle.flt_words.specs.declared.fault.ExprFault.{ExprFault}
@@ -14,7 +14,7 @@ use Rattle.cap_tools.specs.declared.job.Turn.TheVariants as turn
 use Rattle.cap_inputs.specs.Inputs.{InputPast}
 use Rattle.cap_tools.specs.Machine.{written_by, failures_by}
 use Rattle.cap_tools.specs.Call.{RunResult}
-use Rattle.cap_tools.specs.Jobs.{JobView, Decided, IsUnderWay, JobGives, JobRuns, EndsJob, end_text}
+use Rattle.cap_tools.specs.Jobs.{JobView, Decided, IsUnderWay, JobGives, JobRuns, EndsJob, end_message}
 use Rattle.cap_tools.specs.FirstStep.{filtering, output_of, output_name}
 use Rattle.cap_tools.specs.Start.{FilterAsked, Preparing, ReadsFilter, Compiles}
 use Rattle.cap_tools.specs.Commands.{GivesBy, DecidedBy, RunsBy, ListsSome, RefusesExpression}
@@ -100,9 +100,9 @@ under-more tells first job new ss before gives d prepared done names policy (goe
 ended : (tells : Bool) (from job new : JobView) (ss : List InputPast) (before : List ℕ) (r : RunResult) (progress : IsUnderWay ss before from job) → job.err ≡ from.err → job.machine.output.names ≡ from.machine.output.names
     → EndsJob tells job r.status new → r.output.written ≡ written_by new.machine → r.output.failures ≡ failures_by new.machine → r.messages ≡ new.err → JobRuns ss before tells from r
 ended tells from job new ss before r progress same names ends written failures is =
-    let N : List (List ℕ) → Type 0 = λ l. IsTold tells job.err (end_text l new.machine.inputs.cursors ends.end) new.err in
-    let F : OutputView → Type 0 = λ v. IsTold tells v (end_text from.machine.output.names new.machine.inputs.cursors ends.end) new.err in
-    let T : OutputView → Type 0 = λ v. IsTold tells from.err (end_text from.machine.output.names new.machine.inputs.cursors ends.end) v in
+    let N : List (List ℕ) → Type 0 = λ l. IsTold tells job.err (end_message l new.machine.inputs.cursors ends.end) new.err in
+    let F : OutputView → Type 0 = λ v. IsTold tells v (end_message from.machine.output.names new.machine.inputs.cursors ends.end) new.err in
+    let T : OutputView → Type 0 = λ v. IsTold tells from.err (end_message from.machine.output.names new.machine.inputs.cursors ends.end) v in
     record {
       old = job;
       last = new.machine;
@@ -117,7 +117,7 @@ ended tells from job new ss before r progress same names ends written failures i
     }
 
 output-is : (new : JobView) (out : OutputView) → out.written ≡ written_by new.machine → out.failures ≡ failures_by new.machine → out ≡ output_of new
-output-is new out written failures = ap (λ (w : List ℕ). seen w out.failures) written ∙ ap (seen (written_by new.machine)) failures
+output-is new out written failures = ap (λ (w : List ℕ). output_view w out.failures) written ∙ ap (output_view (written_by new.machine)) failures
 
 listed : (tells : Bool) (words : List ℕ) (link : Link) (old new : JobView) (r : RunResult) → r.output ≡ output_of new → r.messages ≡ new.err → ListsSome words link tells old r.status new
     → Runs (λ message. CompileLeaves words link (output_name old) (output_of old) r.output message r.status) tells old.err r.messages

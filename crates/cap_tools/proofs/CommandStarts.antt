@@ -4,7 +4,7 @@ use Rattle.std.proofs.lemmas.List.{append-nil}
 use Rattle.cap_octet.specs.declared.device.Stopped.{Stopped}
 use Rattle.flt_bpf.specs.Listing.{listing}
 use Rattle.cap_filter.specs.Messages.{write_failed_message}
-use Rattle.cap_tools.specs.Output.{Target, Capture, Text, Lines, Lists, output_at, target_at, written_to, failures_to}
+use Rattle.cap_tools.specs.Output.{Target, Capture, Text, Lines, ListsText, output_at, target_at, written_to, failures_to}
 use Rattle.cap_tools.specs.Reports.{name_at, nothing_counted}
 use Rattle.cap_tools.specs.Machine.{MachineState, written_by}
 use Rattle.cap_tools.specs.Messages.{MessagesView}
@@ -22,14 +22,14 @@ use Rattle.cap_tools.specs.declared.output.Writing.TheVariants as writing
 use Rattle.cap_inputs.specs.Sequence.{InTurn}
 use Rattle.cap_tools.specs.Verdict.{Count, KeepAll}
 use Rattle.cap_tools.specs.Call.{Call, RunResult}
-use Rattle.cap_tools.specs.Jobs.{JobView, first_job, machine_at, end_text}
+use Rattle.cap_tools.specs.Jobs.{JobView, first_job, machine_at, end_message}
 use Rattle.cap_inputs.specs.Fresh.{fresh_inputs, nothing_done}
 use Rattle.cap_inputs.specs.Sequence.{order_of}
 use Rattle.cap_tools.specs.declared.step.JobEnd.TheVariants as end
 use Rattle.cap_inputs.specs.Inputs.{InputsView}
 use Rattle.cap_tools.specs.FirstStep.{EndsList, is_text, output_by}
 use Rattle.cap_tools.specs.Step.{ending}
-use Rattle.cap_tools.specs.Start.{Assignment, Preparing, assigned}
+use Rattle.cap_tools.specs.Start.{Assignment, Preparing, assignment}
 use Rattle.cap_tools.specs.Selector.{SelectorView, state_with}
 use Rattle.cap_tools.specs.Commands.{IsReadyIf, CompileGives, DecidedBy, RunsBy, RunsCommand}
 use Rattle.cap_tools.proofs.Programs.{new-for}
@@ -61,7 +61,7 @@ few-inputs (command.Compile compile) n is = let none = eqb-true n 0 is in omega 
 
 -- the job that was made of these parts is that of the command
 pub first-made : {Z : Type 0} (c : Command Z) (call : Call) (a : Assignment) (inputs : InputsView) (selector : SelectorView) (messages : MessagesView) (target : Target)
-    → a.preparing ≡ (assigned c).preparing → a.order ≡ (assigned c).order → a.policy ≡ (assigned c).policy → a.writing ≡ (assigned c).writing
+    → a.preparing ≡ (assignment c).preparing → a.order ≡ (assignment c).order → a.policy ≡ (assignment c).policy → a.writing ≡ (assignment c).writing
     → inputs ≡ fresh_inputs a.order call.inputs → selector ≡ record { policy = a.policy; state = state_with 0 nothing_counted; programs = [] }
     → messages ≡ record { names = call.names; device = call.messages } → target ≡ target_at a.writing call.output.written call.output.failures call.room
     → record {
@@ -71,33 +71,33 @@ pub first-made : {Z : Type 0} (c : Command Z) (call : Call) (a : Assignment) (in
       err = messages.device;
       turns = 0;
       done = None;
-    } ≡ first_job (assigned c) call
+    } ≡ first_job (assignment c) call
 first-made c call a inputs selector messages target same_preparing same_order same_policy same_writing is judged told written =
     rw (is, judged, told, written, same_preparing, same_order, same_policy, same_writing) refl
 
 -- what a command reads or compiles first is not begun, and no step was made
 pub first-ready : {Z : Type 0} (c : Command Z) (call : Call) → length call.inputs ≤ most_inputs
-    → IsReadyIf (assigned c).preparing (first_job (assigned c) call)
+    → IsReadyIf (assignment c).preparing (first_job (assignment c) call)
 first-ready (command.Edit edit) call few = tt
 first-ready (command.Merge merge) call few = tt
 first-ready command.Infos call few = tt
-first-ready (command.Print print) call few = record { turns = refl; done = refl; programs = refl; left = first-less (assigned (command.Print print)).order call.inputs few; few = first-few (assigned (command.Print print)).order call.inputs }
+first-ready (command.Print print) call few = record { turns = refl; done = refl; programs = refl; left = first-less (assignment (command.Print print)).order call.inputs few; few = first-few (assignment (command.Print print)).order call.inputs }
 first-ready (command.Compile compile) call few =
-    (record { turns = refl; done = refl; programs = refl; left = first-less (assigned (command.Compile compile)).order call.inputs few; few = first-few (assigned (command.Compile compile)).order call.inputs }, refl)
+    (record { turns = refl; done = refl; programs = refl; left = first-less (assignment (command.Compile compile)).order call.inputs few; few = first-few (assignment (command.Compile compile)).order call.inputs }, refl)
 
 -- nothing is decided of the inputs
 pub first-decided : {Z : Type 0} (c : Command Z) (call : Call)
-    → DecidedBy (assigned c).preparing (map nothing_done call.inputs) call.output.written (first_job (assigned c) call)
-first-decided (command.Edit edit) call = record { packets = nothing-decided (assigned (command.Edit edit)).order call.inputs call.output.written (assigned (command.Edit edit)).policy call.names (assigned (command.Edit edit)).writing call.output.failures call.room; programs = refl }
+    → DecidedBy (assignment c).preparing (map nothing_done call.inputs) call.output.written (first_job (assignment c) call)
+first-decided (command.Edit edit) call = record { packets = nothing-decided (assignment (command.Edit edit)).order call.inputs call.output.written (assignment (command.Edit edit)).policy call.names (assignment (command.Edit edit)).writing call.output.failures call.room; programs = refl }
 first-decided (command.Merge merge) call = record { packets = nothing-decided (order_of (not merge.append)) call.inputs call.output.written KeepAll call.names (writing.Capture merge.format) call.output.failures call.room; programs = refl }
 first-decided command.Infos call = record { packets = nothing-decided InTurn call.inputs call.output.written Count call.names writing.Text call.output.failures call.room; programs = refl }
-first-decided (command.Print print) call = λ rule is programs made. record { packets = nothing-decided (assigned (command.Print print)).order call.inputs call.output.written _ call.names (assigned (command.Print print)).writing call.output.failures call.room; programs = new-for rule programs made }
+first-decided (command.Print print) call = λ rule is programs made. record { packets = nothing-decided (assignment (command.Print print)).order call.inputs call.output.written _ call.names (assignment (command.Print print)).writing call.output.failures call.room; programs = new-for rule programs made }
 first-decided (command.Compile compile) call = tt
 
 -- a command runs from its beginning
 pub command-begun : {Z : Type 0} (c : Command Z) (call : Call) (job : JobView) (r : RunResult)
-    → job ≡ first_job (assigned c) call → (job.done ≡ None → RunsCommand call.tells job r)
-    → RunsBy (assigned c).preparing (map nothing_done call.inputs) call.output.written call.tells (first_job (assigned c) call) r
+    → job ≡ first_job (assignment c) call → (job.done ≡ None → RunsCommand call.tells job r)
+    → RunsBy (assignment c).preparing (map nothing_done call.inputs) call.output.written call.tells (first_job (assignment c) call) r
 command-begun c call job r is runs =
     let P : JobView → Type 0 = λ v. v.done ≡ None → RunsCommand call.tells v r in
     subst P is runs refl (map nothing_done call.inputs) call.output.written (first-decided c call)
@@ -108,10 +108,10 @@ abbrev ListsInto : List Insn → Bool → MachineState → OutputView → ℕ �
 ListsInto insns tells old err status new err' =
     Runs (ListingLeaves insns (name_at old.output.names (length old.inputs.cursors)) (output_by old) (output_by new) status) tells err err'
 
-pub lists-ok : (insns : List Insn) (tells : Bool) (old new : MachineState) (err : OutputView) → is_text old.output.target ≡ true → Lists (listing insns) old.output.target (Ok tt) new.output.target → ListsInto insns tells old err 0 new err
+pub lists-ok : (insns : List Insn) (tells : Bool) (old new : MachineState) (err : OutputView) → is_text old.output.target ≡ true → ListsText (listing insns) old.output.target (Ok tt) new.output.target → ListsInto insns tells old err 0 new err
 lists-ok insns tells old new err text lists = by_target old.output.target refl text lists
   where
-    by_target : (t : Target) → old.output.target ≡ t → is_text t ≡ true → Lists (listing insns) t (Ok tt) new.output.target → ListsInto insns tells old err 0 new err
+    by_target : (t : Target) → old.output.target ≡ t → is_text t ≡ true → ListsText (listing insns) t (Ok tt) new.output.target → ListsInto insns tells old err 0 new err
     by_target (Capture sink) is text to = absurd (let e = text in cc)
     by_target (Lines options written failures room) is text to = absurd (let e = text in cc)
     by_target (Text written failures room) is text to =
@@ -124,11 +124,11 @@ lists-ok insns tells old new err text lists = by_target old.output.target refl t
           told = record { answer = Ok tt; told = λ te. sym (append-nil err.written); counted = sym (add-zero err.failures) };
         }
 
-pub lists-err : (insns : List Insn) (tells : Bool) (old new : MachineState) (stopped : Stopped) (err err' : OutputView) → is_text old.output.target ≡ true → Lists (listing insns) old.output.target (Err stopped) new.output.target
+pub lists-err : (insns : List Insn) (tells : Bool) (old new : MachineState) (stopped : Stopped) (err err' : OutputView) → is_text old.output.target ≡ true → ListsText (listing insns) old.output.target (Err stopped) new.output.target
     → IsTold tells err (write_failed_message (name_at old.output.names (length old.inputs.cursors))) err' → ListsInto insns tells old err 1 new err'
 lists-err insns tells old new stopped err err' text lists told = by_target old.output.target refl text lists
   where
-    by_target : (t : Target) → old.output.target ≡ t → is_text t ≡ true → Lists (listing insns) t (Err stopped) new.output.target → ListsInto insns tells old err 1 new err'
+    by_target : (t : Target) → old.output.target ≡ t → is_text t ≡ true → ListsText (listing insns) t (Err stopped) new.output.target → ListsInto insns tells old err 1 new err'
     by_target (Capture sink) is text to = absurd (let e = text in cc)
     by_target (Lines options written failures room) is text to = absurd (let e = text in cc)
     by_target (Text written failures room) is text to =
@@ -148,15 +148,15 @@ lists-err insns tells old new stopped err err' text lists told = by_target old.o
           quiet = λ none. (cc);
         }
 
-pub listed-ok : (insns : List Insn) (tells : Bool) (old mid new : JobView) → is_text old.machine.output.target ≡ true → Lists (listing insns) old.machine.output.target (Ok tt) mid.machine.output.target → mid.err ≡ old.err
+pub listed-ok : (insns : List Insn) (tells : Bool) (old mid new : JobView) → is_text old.machine.output.target ≡ true → ListsText (listing insns) old.machine.output.target (Ok tt) mid.machine.output.target → mid.err ≡ old.err
     → new ≡ ending end.Complete new.err mid → new.err ≡ mid.err → EndsList insns tells old (turn.Done 0) new
 listed-ok insns tells old mid new text lists same is quiet =
     let M : MachineState → Type 0 = λ m. ListsInto insns tells old.machine old.err 0 m old.err in
     let E : OutputView → Type 0 = λ v. ListsInto insns tells old.machine old.err 0 new.machine v in
     record { runs = subst E (sym (quiet ∙ same)) (subst M (sym (ap (λ (j : JobView). j.machine) is)) (lists-ok insns tells old.machine mid.machine old.err text lists)) }
 
-pub listed-err : (insns : List Insn) (tells : Bool) (old mid new : JobView) (stopped : Stopped) → is_text old.machine.output.target ≡ true → Lists (listing insns) old.machine.output.target (Err stopped) mid.machine.output.target → mid.machine.output.names ≡ old.machine.output.names → mid.err ≡ old.err → mid.machine.inputs ≡ old.machine.inputs
-    → new ≡ ending end.OutputFailed new.err mid → IsTold tells mid.err (end_text mid.machine.output.names mid.machine.inputs.cursors end.OutputFailed) new.err → EndsList insns tells old (turn.Done 1) new
+pub listed-err : (insns : List Insn) (tells : Bool) (old mid new : JobView) (stopped : Stopped) → is_text old.machine.output.target ≡ true → ListsText (listing insns) old.machine.output.target (Err stopped) mid.machine.output.target → mid.machine.output.names ≡ old.machine.output.names → mid.err ≡ old.err → mid.machine.inputs ≡ old.machine.inputs
+    → new ≡ ending end.OutputFailed new.err mid → IsTold tells mid.err (end_message mid.machine.output.names mid.machine.inputs.cursors end.OutputFailed) new.err → EndsList insns tells old (turn.Done 1) new
 listed-err insns tells old mid new stopped text lists names same inputs is told =
     let M : MachineState → Type 0 = λ m. ListsInto insns tells old.machine old.err 1 m new.err in
     let N : List (List ℕ) → Type 0 = λ l. IsTold tells mid.err (write_failed_message (name_at l (length mid.machine.inputs.cursors))) new.err in

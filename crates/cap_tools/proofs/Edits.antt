@@ -9,15 +9,15 @@ use Rattle.cap_window.specs.declared.mark.Mark.{Mark}
 use Rattle.cap_window.specs.Marks.{mark_of, has_same, last}
 use Rattle.cap_window.proofs.Marks.{last-last}
 use Rattle.cap_inputs.specs.Sequence.{Packet, FaultIn}
-use Rattle.cap_tools.specs.Verdict.{Judgement, Edit, EditRule, SelectorState, initial_state, changed, is_selected, moved, passes, refuses, selects, skipped, unique, with_mark}
-use Rattle.cap_tools.specs.Outcome.{Form, AsReports, Progress, apply_verdict, next_progress, end_with, apply_events}
-use Rattle.cap_tools.specs.Edits.{PassesUnique, coming, is_repeated, selected, unique_behind}
+use Rattle.cap_tools.specs.Verdict.{Judgement, Edit, EditRule, SelectorState, initial_state, edited_packet_with, is_selected, shifted_time, passes, refuses, selects, skip_judgement, unique, with_mark}
+use Rattle.cap_tools.specs.Outcome.{Form, AsReports, JobProgress, apply_verdict, next_progress, end_with, apply_events}
+use Rattle.cap_tools.specs.Edits.{PassesUnique, coming, is_repeated, packets_selected, unique_behind}
 use Rattle.cap_tools.proofs.Selectors.{few}
 
 abbrev reports : Form
 reports = AsReports []
 
-abbrev under_way : ℕ → SelectorState → List Captured → Progress
+abbrev under_way : ℕ → SelectorState → List Captured → JobProgress
 under_way k state out = record { decided = k; state = state; packets = out; reports = []; end = None }
 
 abbrev placed : Captured → Placed
@@ -30,7 +30,7 @@ IsKept (Some n) before window = window ≡ last (n - 1) before
 
 record Noted (n : Option ℕ) (state : SelectorState) (before : List Mark) (p : Captured) (b : Bool) : Type 0 where
   state' : SelectorState
-  is : unique n state p ≡ (if b then skipped state' else passes state' p)
+  is : unique n state p ≡ (if b then skip_judgement state' else passes state' p)
   kept : IsKept n (before ++ mark_of p.bytes ∷ []) state'.window
 
 noted : (n : Option ℕ) (state : SelectorState) (before : List Mark) (p : Captured) (b : Bool) → IsKept n before state.window → is_repeated n before (mark_of p.bytes) ≡ b → Noted n state before p b
@@ -46,7 +46,7 @@ noted (Some n) state before p b kept is =
     }
 
 -- what ended stays
-ended-stays : (s : EditRule) (w : Progress) (ps : List Captured) (fault : Fault) (offset : ℕ) → (apply_events (Edit s) reports (end_with w (FaultIn 0 fault offset)) (coming ps)).packets ≡ w.packets
+ended-stays : (s : EditRule) (w : JobProgress) (ps : List Captured) (fault : Fault) (offset : ℕ) → (apply_events (Edit s) reports (end_with w (FaultIn 0 fault offset)) (coming ps)).packets ≡ w.packets
 ended-stays s w [] fault offset = refl
 ended-stays s w (p ∷ ps) fault offset = ended-stays s w ps fault offset
 
@@ -55,7 +55,7 @@ step-is : (s : EditRule) (k : ℕ) (state : SelectorState) (out : List Captured)
 step-is s k state out p j less is = ap (λ (v : Judgement). apply_verdict reports (under_way k state out) 0 (placed p) v.verdict v.state) (few (Edit s) state (k + 1) p refl less ∙ is)
 
 abbrev Passes : EditRule → ℕ → SelectorState → List Mark → List Captured → List Captured → Type 0
-Passes s k state before out ps = (apply_events (Edit s) reports (under_way k state out) (coming ps)).packets ≡ out ++ unique_behind s.window before (selected s (k + 1) ps)
+Passes s k state before out ps = (apply_events (Edit s) reports (under_way k state out) (coming ps)).packets ≡ out ++ unique_behind s.window before (packets_selected s (k + 1) ps)
 
 -- one packet, where those behind it pass so
 passes-next : (s : EditRule) (k : ℕ) (state : SelectorState) (before : List Mark) (out : List Captured) (p : Captured) (ps : List Captured) → k + 1 < 2 ^ 63 → IsKept s.window before state.window
@@ -63,45 +63,45 @@ passes-next : (s : EditRule) (k : ℕ) (state : SelectorState) (before : List Ma
     → Passes s k state before out (p ∷ ps)
 passes-next s k state before out p ps near kept next = by_selected (is_selected s (k + 1) p) refl
   where
-    by_unique : (time : ℕ) → is_selected s (k + 1) p ≡ true → moved s.shift p.time ≡ Some time → (b : Bool) → is_repeated s.window before (mark_of (changed s p time).bytes) ≡ b → Passes s k state before out (p ∷ ps)
+    by_unique : (time : ℕ) → is_selected s (k + 1) p ≡ true → shifted_time s.shift p.time ≡ Some time → (b : Bool) → is_repeated s.window before (mark_of (edited_packet_with s p time).bytes) ≡ b → Passes s k state before out (p ∷ ps)
     by_unique time is at_time true same =
-        let q : Captured = changed s p time in
+        let q : Captured = edited_packet_with s p time in
         let n : Noted s.window state before q true = noted s.window state before q true kept same in
-        let step = step-is s k state out p (skipped n.state') near (rw (is, at_time) n.is) in
-        let rest : unique_behind s.window before (selected s (k + 1) (p ∷ ps)) ≡ unique_behind s.window (before ++ mark_of q.bytes ∷ []) (selected s (k + 1 + 1) ps) = rw (is, at_time, same) refl in
-        ap (λ (w : Progress). (apply_events (Edit s) reports w (coming ps)).packets) step
+        let step = step-is s k state out p (skip_judgement n.state') near (rw (is, at_time) n.is) in
+        let rest : unique_behind s.window before (packets_selected s (k + 1) (p ∷ ps)) ≡ unique_behind s.window (before ++ mark_of q.bytes ∷ []) (packets_selected s (k + 1 + 1) ps) = rw (is, at_time, same) refl in
+        ap (λ (w : JobProgress). (apply_events (Edit s) reports w (coming ps)).packets) step
         ∙ next n.state' (before ++ mark_of q.bytes ∷ []) (out ++ []) n.kept
-        ∙ ap (λ (o : List Captured). o ++ unique_behind s.window (before ++ mark_of q.bytes ∷ []) (selected s (k + 1 + 1) ps)) (append-nil out)
+        ∙ ap (λ (o : List Captured). o ++ unique_behind s.window (before ++ mark_of q.bytes ∷ []) (packets_selected s (k + 1 + 1) ps)) (append-nil out)
         ∙ ap (λ (l : List Captured). out ++ l) (sym rest)
     by_unique time is at_time false same =
-        let q : Captured = changed s p time in
+        let q : Captured = edited_packet_with s p time in
         let n : Noted s.window state before q false = noted s.window state before q false kept same in
-        let u : List Captured = unique_behind s.window (before ++ mark_of q.bytes ∷ []) (selected s (k + 1 + 1) ps) in
+        let u : List Captured = unique_behind s.window (before ++ mark_of q.bytes ∷ []) (packets_selected s (k + 1 + 1) ps) in
         let step = step-is s k state out p (passes n.state' q) near (rw (is, at_time) n.is) in
-        let rest : unique_behind s.window before (selected s (k + 1) (p ∷ ps)) ≡ q ∷ u = rw (is, at_time, same) refl in
-        ap (λ (w : Progress). (apply_events (Edit s) reports w (coming ps)).packets) step
+        let rest : unique_behind s.window before (packets_selected s (k + 1) (p ∷ ps)) ≡ q ∷ u = rw (is, at_time, same) refl in
+        ap (λ (w : JobProgress). (apply_events (Edit s) reports w (coming ps)).packets) step
         ∙ next (passes n.state' q).state (before ++ mark_of q.bytes ∷ []) (out ++ q ∷ []) n.kept
         ∙ append_assoc out (q ∷ []) u
         ∙ ap (λ (l : List Captured). out ++ l) (sym rest)
 
-    by_moved : is_selected s (k + 1) p ≡ true → (o : Option ℕ) → moved s.shift p.time ≡ o → Passes s k state before out (p ∷ ps)
+    by_moved : is_selected s (k + 1) p ≡ true → (o : Option ℕ) → shifted_time s.shift p.time ≡ o → Passes s k state before out (p ∷ ps)
     by_moved is None beyond =
         let step = step-is s k state out p (refuses state TimeOutOfRange) near (rw (is, beyond) refl) in
-        let none : selected s (k + 1) (p ∷ ps) ≡ [] = rw (is, beyond) refl in
-        ap (λ (w : Progress). (apply_events (Edit s) reports w (coming ps)).packets) step
+        let none : packets_selected s (k + 1) (p ∷ ps) ≡ [] = rw (is, beyond) refl in
+        ap (λ (w : JobProgress). (apply_events (Edit s) reports w (coming ps)).packets) step
         ∙ ended-stays s (under_way k state out) ps TimeOutOfRange 0
         ∙ sym (append-nil out)
         ∙ ap (λ (l : List Captured). out ++ unique_behind s.window before l) (sym none)
-    by_moved is (Some time) at_time = by_unique time is at_time (is_repeated s.window before (mark_of (changed s p time).bytes)) refl
+    by_moved is (Some time) at_time = by_unique time is at_time (is_repeated s.window before (mark_of (edited_packet_with s p time).bytes)) refl
 
     by_selected : (b : Bool) → is_selected s (k + 1) p ≡ b → Passes s k state before out (p ∷ ps)
-    by_selected true is = by_moved is (moved s.shift p.time) refl
+    by_selected true is = by_moved is (shifted_time s.shift p.time) refl
     by_selected false is =
-        let step = step-is s k state out p (skipped state) near (rw is refl) in
-        let rest : selected s (k + 1) (p ∷ ps) ≡ selected s (k + 1 + 1) ps = rw is refl in
-        ap (λ (w : Progress). (apply_events (Edit s) reports w (coming ps)).packets) step
+        let step = step-is s k state out p (skip_judgement state) near (rw is refl) in
+        let rest : packets_selected s (k + 1) (p ∷ ps) ≡ packets_selected s (k + 1 + 1) ps = rw is refl in
+        ap (λ (w : JobProgress). (apply_events (Edit s) reports w (coming ps)).packets) step
         ∙ next state before (out ++ []) kept
-        ∙ ap (λ (o : List Captured). o ++ unique_behind s.window before (selected s (k + 1 + 1) ps)) (append-nil out)
+        ∙ ap (λ (o : List Captured). o ++ unique_behind s.window before (packets_selected s (k + 1 + 1) ps)) (append-nil out)
         ∙ ap (λ (l : List Captured). out ++ unique_behind s.window before l) (sym rest)
 
 passes-unique : (s : EditRule) (k : ℕ) (state : SelectorState) (before : List Mark) (out ps : List Captured) → k + length ps < 2 ^ 63 → IsKept s.window before state.window → Passes s k state before out ps

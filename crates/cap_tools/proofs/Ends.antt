@@ -8,8 +8,8 @@ use Rattle.cap_inputs.specs.Sequence.{PacketOrder}
 use Rattle.cap_tools.specs.Verdict.{Policy}
 use Rattle.cap_tools.specs.Outcome.{Form}
 use Rattle.cap_inputs.specs.Inputs.{InputView, InputPast, IsInput}
-use Rattle.cap_tools.specs.Machine.{MachineState, StepGives, form_of, work_of}
-use Rattle.cap_tools.specs.Jobs.{IsUnderWay, JobView, EndsJob, end_text, end_status}
+use Rattle.cap_tools.specs.Machine.{MachineState, StepGives, output_form, work_of}
+use Rattle.cap_tools.specs.Jobs.{IsUnderWay, JobView, EndsJob, end_message, end_status}
 use Rattle.cap_inputs.specs.Inputs.{offset_at, offset_of}
 use Rattle.cap_tools.specs.Step.{IsStep, ending}
 
@@ -24,8 +24,8 @@ pub same-work : (ss : List InputPast) (before : List ℕ) (first old : JobView) 
 same-work ss before first old progress =
     let m = old.machine in
     let o = first.machine in
-    ap (λ (order : PacketOrder). record { order = order; policy = m.policy; form = form_of m }) progress.order
-    ∙ ap (λ (a : Policy). record { order = o.inputs.order; policy = a; form = form_of m }) progress.policy
+    ap (λ (order : PacketOrder). record { order = order; policy = m.policy; form = output_form m }) progress.order
+    ∙ ap (λ (a : Policy). record { order = o.inputs.order; policy = a; form = output_form m }) progress.policy
     ∙ ap (λ (f : Form). record { order = o.inputs.order; policy = o.policy; form = f }) progress.form
 
 pub clean-status : (e : JobEnd) → end_status e ≡ 0 → e ≡ end.Complete
@@ -35,12 +35,12 @@ clean-status end.OutputFailed is = (cc)
 
 -- a step that ended the job, and its report
 pub step-ends : (inputs_tell output_tells tells : Bool) (old mid new : JobView) (e : JobEnd) → IsTrue inputs_tell → IsTrue output_tells → IsStep inputs_tell output_tells old (Some e) mid → new ≡ ending e new.err mid
-    → IsTold tells mid.err (end_text mid.machine.output.names mid.machine.inputs.cursors e) new.err → (e ≡ end.Complete → new.err ≡ mid.err) → EndsJob tells old (end_status e) new
+    → IsTold tells mid.err (end_message mid.machine.output.names mid.machine.inputs.cursors e) new.err → (e ≡ end.Complete → new.err ≡ mid.err) → EndsJob tells old (end_status e) new
 step-ends inputs_tell output_tells tells old mid new e ti to step is told quiet =
     let M : MachineState → Type 0 = λ m. StepGives old.machine (Some e) m in
-    let N : List (List ℕ) → Type 0 = λ l. IsTold tells mid.err (end_text l mid.machine.inputs.cursors e) new.err in
-    let C : MachineState → Type 0 = λ m. IsTold tells mid.err (end_text old.machine.output.names m.inputs.cursors e) new.err in
-    let F : OutputView → Type 0 = λ v. IsTold tells v (end_text old.machine.output.names new.machine.inputs.cursors e) new.err in
+    let N : List (List ℕ) → Type 0 = λ l. IsTold tells mid.err (end_message l mid.machine.inputs.cursors e) new.err in
+    let C : MachineState → Type 0 = λ m. IsTold tells mid.err (end_message old.machine.output.names m.inputs.cursors e) new.err in
+    let F : OutputView → Type 0 = λ v. IsTold tells v (end_message old.machine.output.names new.machine.inputs.cursors e) new.err in
     let same : new.machine ≡ mid.machine = ap (λ (j : JobView). j.machine) is in
     record {
       end = e;

@@ -17,12 +17,12 @@ use Rattle.cap_tools.specs.Reports.{Report, Tally}
 use Rattle.cap_inputs.specs.Sequence.{InputItems, Event, FaultIn, PacketOrder, InTurn, ByTime, Sequence, sequence_of, with_front, whole_input}
 use Rattle.cap_tools.specs.Verdict.{Policy, Edit, Filter, KeepAll, Count, SelectorState}
 use Rattle.cap_tools.specs.Selector as selecting
-use Rattle.cap_tools.specs.Selector.{PolicyState, IsWithin, emptied, is_count}
-use Rattle.cap_tools.specs.Outcome.{Form, AsReports, Progress, cut_at, no_progress, apply_events, final_progress, end_with, final_text, output_text, text_at_end, first_link}
+use Rattle.cap_tools.specs.Selector.{PolicyState, IsWithin, with_empty_tally, is_count}
+use Rattle.cap_tools.specs.Outcome.{Form, AsReports, JobProgress, cut_at, no_progress, apply_events, final_progress, end_with, final_text, output_text, text_at_end, first_link}
 use Rattle.cap_tools.specs.Output.{JobOutputView, Target, Capture, Text, Lines, HasWritten, Reports, form_at, written_to, failures_to}
-use Rattle.cap_inputs.specs.Inputs.{InputView, InputsView, Future, InputPast, AreInputsBehind, AreSettled, IsInput, ReadsInput, IsNext, waiting_packets, input_after, actual_future, items_with, inputs_with, inputs_left, sequence_left, is_in_turn}
+use Rattle.cap_inputs.specs.Inputs.{InputView, InputsView, Future, InputPast, AreInputsBehind, AreSettled, IsInput, ReadsInput, IsNext, waiting_packets, input_after, actual_future, input_items, inputs_with, inputs_left, sequence_left, is_in_turn}
 use Rattle.cap_tools.specs.Reports.{report_text, reports_text}
-use Rattle.cap_tools.specs.Machine.{MachineState, AppendsOnce, PacketsDecided, GoesOn, Comes, BreaksAt, WhyBroken, StopsWriting, StepLeaves, Closes, ClosesBy, asks_report, report_at, unless_failed, progress_at, progress_of, progress_over, form_of, failures_by, written_by, wholes_of, sieve}
+use Rattle.cap_tools.specs.Machine.{MachineState, AppendsOnce, PacketsDecided, GoesOn, CompletesOutput, BreaksAt, WhyBroken, StopsWriting, StepLeaves, Closes, ClosesBy, asks_report, report_at, unless_failed, progress_at, progress_of, progress_over, output_form, failures_by, written_by, wholes_of, sieve}
 use Rattle.cap_tools.proofs.Splits.{At, Fit, stands-split, stands-join, stands-length, fits-join, wholes-join, rests-join, finish-here, come-on}
 use Rattle.cap_tools.proofs.Coming.{carries-found, carries-closed, come-first, true-wholes, true-fits, finds}
 use Rattle.cap_tools.proofs.Outputs.{drained-text, ReportOk, report-ok, reports-more}
@@ -134,7 +134,7 @@ closed-goes : (us vs : List InputPast) (s : InputPast) (before : List ℕ) (xs y
 closed-goes us vs s before xs ys h s' order turn policy state output decided state' output' reports laws front at back advances never d goes final_text once form failures names passed counted =
     let found : FindsEnd h.source s' = finds s h s' (Ok false) at laws.waits advances in
     let out = closed-out us vs s before xs ys h s' order turn policy state output decided laws front at back advances found d in
-    let w : Progress = progress_at (mk (xs ++ h ∷ ys) order policy state output decided) d.packets d.reports in
+    let w : JobProgress = progress_at (mk (xs ++ h ∷ ys) order policy state output decided) d.packets d.reports in
     let es : List Event = laws.closed_events (kind_of s'.declared) s'.offset in
     record {
       input = turn;
@@ -151,7 +151,7 @@ closed-goes us vs s before xs ys h s' order turn policy state output decided sta
         packets = d.packets;
         reports = reports;
         progress = ap (λ (f : Form). apply_events policy f no_progress (d.events ++ es)) form
-            ∙ progress-append policy (form_at output) no_progress d.events es ∙ ap (λ (v : Progress). apply_events policy (form_at output) v es) d.progress
+            ∙ progress-append policy (form_at output) no_progress d.events es ∙ ap (λ (v : JobProgress). apply_events policy (form_at output) v es) d.progress
             ∙ laws.closed_way policy (form_at output) w (kind_of s'.declared) s'.offset refl ∙ goes;
         output = final_text;
         passed = passed;
@@ -183,14 +183,14 @@ wholes_of-length (u ∷ us) = ap suc (wholes_of-length us)
 -- what the output has where the job ends by a fault behind what is decided
 pub comes-broken : (ss : List InputPast) (before : List ℕ) (m : MachineState) (rs : List InputItems) (d : PacketsDecided ss before m) (new : MachineState) (input : ℕ) (fault : Fault) (offset : ℕ)
     → progress_over m rs ≡ end_with (progress_of d) (FaultIn input fault offset) → written_by new ≡ written_by m → failures_by new ≡ failures_by m
-    → Comes rs d new (FaultIn input fault offset)
+    → CompletesOutput rs d new (FaultIn input fault offset)
 comes-broken ss before m rs d new input fault offset is same device = record {
-  ends = ap (λ (w : Progress). w.end) is;
+  ends = ap (λ (w : JobProgress). w.end) is;
   written =
       same ∙ drained-text before m.output.names m.output.target d.packets d.reports d.output
-      ∙ ap (λ (l : List ℕ). before ++ l) (sym (append-nil (output_text (form_of m) d.packets d.reports)))
-      ∙ ap (λ (w : Progress). before ++ final_text (form_of m) (first_link rs) w) (sym is);
-  once = once-nothing (first_link rs) (progress_of d) (progress_over m rs) m.output new.output (ap (λ (w : Progress). w.packets) is) (ap (λ (w : Progress). w.reports) is) same;
+      ∙ ap (λ (l : List ℕ). before ++ l) (sym (append-nil (output_text (output_form m) d.packets d.reports)))
+      ∙ ap (λ (w : JobProgress). before ++ final_text (output_form m) (first_link rs) w) (sym is);
+  once = once-nothing (first_link rs) (progress_of d) (progress_over m rs) m.output new.output (ap (λ (w : JobProgress). w.packets) is) (ap (λ (w : JobProgress). w.reports) is) same;
   device = device;
 }
 
@@ -278,8 +278,8 @@ broken-ends us vs s before xs ys h s' fault order turn policy state output decid
         (ap (sequence_of order)
         (ap (λ (l : List Placed). wholes_of us ++ record { greatest = 0; items = record { packets = l; declared = s'.declared; ending = FaultAt fault s'.offset }; size = length s.text } ∷ wholes_of vs) (sym (append-nil s.packets))
         ∙ ap (λ b. wholes_of us ++ record { greatest = 0; items = after s.packets b; size = length s.text } ∷ wholes_of vs) (sym laws.waits)
-        ∙ ap (λ (l : List InputItems). l ++ items_with s h f ∷ wholes_of vs) (sym (true-wholes us xs front))
-        ∙ ap (λ (l : List InputItems). inputs_with us xs (laters xs) ++ items_with s h f ∷ l) (sym (true-wholes vs ys back))
+        ∙ ap (λ (l : List InputItems). l ++ input_items s h f ∷ wholes_of vs) (sym (true-wholes us xs front))
+        ∙ ap (λ (l : List InputItems). inputs_with us xs (laters xs) ++ input_items s h f ∷ l) (sym (true-wholes vs ys back))
         ∙ sym (wholes-join us vs s xs ys h (laters xs) (laters ys) f front (true-fits us xs front)))
         ∙ d.come (laters xs ++ f ∷ laters ys) (fits-join xs ys h (laters xs) (laters ys) f (true-fits us xs front) fit (true-fits vs ys back))
         ∙ ap (λ (l : List InputItems). with_front d.events (sequence_left order (xs ++ h ∷ ys) l)) (rests-join xs ys h (laters xs) (laters ys) f (true-fits us xs front) ∙ ap (λ b. inputs_left xs (laters xs) ++ rest_as b ∷ inputs_left ys (laters ys)) laws.waits)
@@ -288,17 +288,17 @@ broken-ends us vs s before xs ys h s' fault order turn policy state output decid
 
 -- ---- an input is reported
 
-quiet-closed : (o : PacketOrder) (policy : Policy) (w : Progress) (i : ℕ) (kind : Option Kind) (size : ℕ) → asks_report o policy ≡ false → closed_in o policy w i kind size ≡ w
+quiet-closed : (o : PacketOrder) (policy : Policy) (w : JobProgress) (i : ℕ) (kind : Option Kind) (size : ℕ) → asks_report o policy ≡ false → closed_in o policy w i kind size ≡ w
 quiet-closed ByTime policy w i kind size is = refl
 quiet-closed InTurn Count w i kind size is = (cc)
 quiet-closed InTurn (Edit s) w i kind size is = refl
 quiet-closed InTurn (Filter rule count) w i kind size is = refl
 quiet-closed InTurn KeepAll w i kind size is = refl
 
-abbrev pub with_report : Progress → Report → Progress
-with_report w r = record { decided = w.decided; state = emptied w.state; packets = w.packets; reports = w.reports ++ r ∷ []; end = w.end }
+abbrev pub with_report : JobProgress → Report → JobProgress
+with_report w r = record { decided = w.decided; state = with_empty_tally w.state; packets = w.packets; reports = w.reports ++ r ∷ []; end = w.end }
 
-told-closed : (o : PacketOrder) (policy : Policy) (w : Progress) (i : ℕ) (kind : Option Kind) (size : ℕ) → asks_report o policy ≡ true
+told-closed : (o : PacketOrder) (policy : Policy) (w : JobProgress) (i : ℕ) (kind : Option Kind) (size : ℕ) → asks_report o policy ≡ true
     → closed_in o policy w i kind size ≡ with_report w (record { input = i; kind = kind; size = size; tally = w.state.tally })
 told-closed ByTime policy w i kind size is = (cc)
 told-closed InTurn Count w i kind size is = refl
@@ -326,19 +326,19 @@ report-stops us vs s before xs ys h s' order turn policy state names (Text bytes
     let report : Report = report_at turn h' state.tally in
     let found : FindsEnd h.source s' = finds s h s' (Ok false) at laws.waits advances in
     let out = closed-out us vs s before xs ys h s' order turn policy state output decided laws front at back advances found d in
-    let w : Progress = progress_at (mk (xs ++ h ∷ ys) order policy state output decided) d.packets d.reports in
+    let w : JobProgress = progress_at (mk (xs ++ h ∷ ys) order policy state output decided) d.packets d.reports in
     let es : List Event = laws.closed_events (kind_of s'.declared) s'.offset in
-    let w' : Progress = with_report w report in
+    let w' : JobProgress = with_report w report in
     let ss' : List InputPast = us ++ read-out s found.passes.passed ∷ vs in
     let hs' : List InputView = xs ++ h' ∷ ys in
     let fs : List Future = map (λ (v : InputView). actual_future v.source) hs' in
     let far : apply_events policy form no_progress (d.events ++ es) ≡ w' =
-    progress-append policy form no_progress d.events es ∙ ap (λ (v : Progress). apply_events policy form v es) d.progress
+    progress-append policy form no_progress d.events es ∙ ap (λ (v : JobProgress). apply_events policy form v es) d.progress
     ∙ laws.closed_way policy form w (kind_of s'.declared) s'.offset refl ∙ told-closed order policy w turn (kind_of s'.declared) s'.offset asks in
     let is : sequence_of order (wholes_of (us ++ s ∷ vs)) ≡ with_front (d.events ++ es) (sequence_left order hs' (inputs_left hs' fs)) =
     ap (sequence_of order) (wholes_of-join us vs s ∙ sym (wholes_of-join us vs (read-out s found.passes.passed)) ∙ sym (true-wholes ss' hs' out.behind))
     ∙ out.come fs (true-fits ss' hs' out.behind) in
-    let all : Progress = final_progress policy form (sequence_of order (wholes_of (us ++ s ∷ vs))) in
+    let all : JobProgress = final_progress policy form (sequence_of order (wholes_of (us ++ s ∷ vs))) in
     let grows : Grows w' all = course-grows policy form (sequence_of order (wholes_of (us ++ s ∷ vs))) (sequence_left order hs' (inputs_left hs' fs)) (d.events ++ es) w' is far in
     let ending : List ℕ = text_at_end all.end form (first_link (wholes_of (us ++ s ∷ vs))) all.packets in
     let own : List ℕ = report_text names report in
@@ -361,7 +361,7 @@ report-stops us vs s before xs ys h s' order turn policy state names (Text bytes
           later = (sequence_left order hs' (inputs_left hs' fs)).events;
           is = ap (λ (q : Sequence). q.events) is ∙ append_assoc d.events es (sequence_left order hs' (inputs_left hs' fs)).events
               ∙ ap (λ (l : List Event). d.events ++ (l ++ (sequence_left order hs' (inputs_left hs' fs)).events)) (laws.closed_one (in-turn order policy asks) (kind_of s'.declared) s'.offset);
-          goes = ap (λ (v : Progress). v.end) d.progress;
+          goes = ap (λ (v : JobProgress). v.end) d.progress;
         };
         policy = asks;
         bytes_are = refl;
@@ -396,14 +396,14 @@ closed-core us vs s before xs ys h s' order turn policy state output decided r s
     report = report_at turn (input_after h (Ok false) s') state.tally
 
     by_answer : (answer : Result (Unit {0}) DeviceFault) → output'.names ≡ output.names → Reports (report_text output.names report) output.target answer output'.target
-        → StepLeaves d (unless_failed answer) (mk (xs ++ input_after h (Ok false) s' ∷ ys) order policy (emptied state) output' decided)
+        → StepLeaves d (unless_failed answer) (mk (xs ++ input_after h (Ok false) s' ∷ ys) order policy (with_empty_tally state) output' decided)
     by_answer (Ok done) names reports =
         let ok : ReportOk before d.packets d.reports report output.names output'.names output.target output'.target =
         report-ok before d.packets d.reports report output.names output'.names output.target output'.target names d.output reports in
-        closed-goes us vs s before xs ys h s' order turn policy state output decided (emptied state) output' (d.reports ++ report ∷ []) laws front at back advances (never-kept h.source s' (Ok false) steps) d
+        closed-goes us vs s before xs ys h s' order turn policy state output decided (with_empty_tally state) output' (d.reports ++ report ∷ []) laws front at back advances (never-kept h.source s' (Ok false) steps) d
         (told-closed order policy (progress_at old d.packets d.reports) turn (kind_of s'.declared) s'.offset asks)
         ok.output (once-report (first_link (wholes_of (us ++ s ∷ vs))) before (progress_of d) (with_report (progress_of d) report) output output' report d.output ok.output ok.form refl refl) ok.form ok.failures names d.passed (omega arith, omega arith, omega arith)
-    by_answer (Err fault) names reports = report-stops us vs s before xs ys h s' order turn policy state output.names output.target decided (emptied state) output' fault laws tells front at back advances steps d asks reports
+    by_answer (Err fault) names reports = report-stops us vs s before xs ys h s' order turn policy state output.names output.target decided (with_empty_tally state) output' fault laws tells front at back advances steps d asks reports
 
 -- ---- all of them
 

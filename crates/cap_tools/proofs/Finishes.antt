@@ -15,11 +15,11 @@ use Rattle.cap_inputs.specs.declared.inputs.Next.TheVariants as next
 use Rattle.cap_tools.specs.Reports.{Report}
 use Rattle.cap_inputs.specs.Sequence.{Event, InputItems, Complete, sequence_of, with_front, PacketOrder}
 use Rattle.cap_tools.specs.Verdict.{Policy, SelectorState}
-use Rattle.cap_tools.specs.Outcome.{Form, AsCapture, Progress, closing_text, final_progress, lines_text, end_with, final_text, first_link}
-use Rattle.cap_tools.specs.Output.{JobOutputView, Target, Capture, Text, Lines, HasWrittenTo, Finishes, form_at, form_to, written_to, failures_to}
+use Rattle.cap_tools.specs.Outcome.{Form, AsCapture, JobProgress, closing_text, final_progress, lines_text, end_with, final_text, first_link}
+use Rattle.cap_tools.specs.Output.{JobOutputView, Target, Capture, Text, Lines, HasWrittenTo, EndsOutput, form_at, form_to, written_to, failures_to}
 use Rattle.cap_inputs.specs.Inputs.{InputView, Future, InputPast, AreInputsBehind, IsNext, actual_future, first_declared_link, AllEnded}
 use Rattle.cap_tools.specs.Reports.{reports_text}
-use Rattle.cap_tools.specs.Machine.{MachineState, PacketsDecided, Comes, StopsWriting, progress_at, progress_of, progress_over, wholes_of}
+use Rattle.cap_tools.specs.Machine.{MachineState, PacketsDecided, CompletesOutput, StopsWriting, progress_at, progress_of, progress_over, wholes_of}
 use Rattle.cap_tools.proofs.Splits.{At}
 use Rattle.cap_tools.proofs.Coming.{true-whole, true-wholes, true-fit, true-fits}
 use Rattle.cap_tools.proofs.Outcomes.{course-close}
@@ -60,11 +60,11 @@ links (s ∷ ss) (h ∷ hs) st ended =
     ap (λ (o : Option ℕ). option_or o (first_link (wholes_of ss))) (declared-one s h st.0 ended.0)
     ∙ ap (option_or (first_link_of h.source.declared)) (links ss hs st.1 ended.1)
 
-abbrev over : MachineState → List Captured → List Report → Progress
+abbrev over : MachineState → List Captured → List Report → JobProgress
 over m packets reports = end_with (progress_at m packets reports) Complete
 
 -- what is written of a job that met its clean end
-finish-text : (before : List ℕ) (names : List (List ℕ)) (ps : List Captured) (rs : List Report) (n : ℕ) (state : SelectorState) (target new : Target) (link : Option ℕ) → HasWrittenTo before names target ps rs → Finishes link target (Ok tt) new
+finish-text : (before : List ℕ) (names : List (List ℕ)) (ps : List Captured) (rs : List Report) (n : ℕ) (state : SelectorState) (target new : Target) (link : Option ℕ) → HasWrittenTo before names target ps rs → EndsOutput link target (Ok tt) new
     → written_to new ≡ before ++ final_text (form_to names target) link (record { decided = n; state = state; packets = ps; reports = rs; end = Some Complete })
 finish-text before names [] rs n state (Capture sink) new link has finishes =
     ap written_to finishes.is
@@ -79,7 +79,7 @@ finish-text before names ps rs n state (Lines options bytes failures room) new l
     ap written_to finishes.1 ∙ has ∙ ap (λ (l : List ℕ). before ++ l) (sym (append-nil (lines_text options ps)))
 
 -- it is written without a failure
-finish-device : (before : List ℕ) (names : List (List ℕ)) (ps : List Captured) (rs : List Report) (target new : Target) (link : Option ℕ) → HasWrittenTo before names target ps rs → Finishes link target (Ok tt) new
+finish-device : (before : List ℕ) (names : List (List ℕ)) (ps : List Captured) (rs : List Report) (target new : Target) (link : Option ℕ) → HasWrittenTo before names target ps rs → EndsOutput link target (Ok tt) new
     → failures_to new ≡ failures_to target
 finish-device before names [] rs (Capture sink) new link has finishes =
     let empty : FinishesEmpty sink (link_or_ethernet link) (Ok tt) finishes.sink = finish-none before sink link (Ok tt) finishes.sink has finishes.finishes in
@@ -91,7 +91,7 @@ finish-device before names ps rs (Text bytes failures room) new link has finishe
 finish-device before names ps rs (Lines options bytes failures room) new link has finishes = ap failures_to finishes.1
 
 abbrev pub FinishLeaves : {ss : List InputPast} {before : List ℕ} {old : MachineState} → PacketsDecided ss before old → Result (Unit {0}) Fault → MachineState → Type 0
-FinishLeaves {ss} {before} {old} d (Ok done) new = Comes (wholes_of ss) d new Complete
+FinishLeaves {ss} {before} {old} d (Ok done) new = CompletesOutput (wholes_of ss) d new Complete
 FinishLeaves {ss} {before} {old} d (Err fault) new = StopsWriting d new
 
 -- the device failed at the file header of a capture, which has no packets then
@@ -100,7 +100,7 @@ record StopsEmpty (before : List ℕ) (sink : SinkView) (packets : List Captured
   pub failures : failures_to new ≡ sink.failures + 1
   pub stops : Stops sink.written (file_start sink.format (link_or_ethernet link)) (written_to new)
 
-finish-empty : (before : List ℕ) (sink : SinkView) (packets : List Captured) (link : Option ℕ) (fault : Fault) (new : Target) → HasPackets before sink packets → Finishes link (Capture sink) (Err fault) new
+finish-empty : (before : List ℕ) (sink : SinkView) (packets : List Captured) (link : Option ℕ) (fault : Fault) (new : Target) → HasPackets before sink packets → EndsOutput link (Capture sink) (Err fault) new
     → StopsEmpty before sink packets link new
 finish-empty before sink (q ∷ qs) link fault new has finishes =
     absurd (let same = finish-some before q qs sink link (Err fault) finishes.sink has finishes.finishes in let e = same.0 in cc)
@@ -119,7 +119,7 @@ finish-stops : (ss : List InputPast) (before : List ℕ) (names : List (List ℕ
     → (d : PacketsDecided ss before (mk cursors order policy state (record { names = names; target = target }) decided))
     → final_progress policy (form_to names target) (sequence_of order (wholes_of ss)) ≡ over (mk cursors order policy state (record { names = names; target = target }) decided) d.packets d.reports
     → sequence_of order (wholes_of ss) ≡ record { events = d.events; end = Complete }
-    → first_link (wholes_of ss) ≡ first_declared_link cursors → IsNext (inputs_at order cursors) next.Finish → new.inputs ≡ record { order = order; cursors = cursors } → Finishes (first_declared_link cursors) target (Err fault) new.output.target
+    → first_link (wholes_of ss) ≡ first_declared_link cursors → IsNext (inputs_at order cursors) next.Finish → new.inputs ≡ record { order = order; cursors = cursors } → EndsOutput (first_declared_link cursors) target (Err fault) new.output.target
     → StopsWriting d new
 finish-stops ss before names (Text bytes failures room) cursors order policy state decided fault new d stop all link tells inputs finishes = absurd (let e = finishes.0 in cc)
 finish-stops ss before names (Lines options bytes failures room) cursors order policy state decided fault new d stop all link tells inputs finishes = absurd (let e = finishes.0 in cc)
@@ -132,17 +132,17 @@ finish-stops ss before names (Capture sink) cursors order policy state decided f
     record {
       failures = empty.failures;
       bytes = bytes;
-      answer = inr (inr (record { next = tells; comes = record { is = all; goes = ap (λ (w : Progress). w.end) d.progress }; bytes_are = closing_is; inputs = inputs }));
+      answer = inr (inr (record { next = tells; comes = record { is = all; goes = ap (λ (w : JobProgress). w.end) d.progress }; bytes_are = closing_is; inputs = inputs }));
       back = [];
       whole =
-          ap (λ (w : Progress). final_text form (first_link (wholes_of ss)) w) stop
+          ap (λ (w : JobProgress). final_text form (first_link (wholes_of ss)) w) stop
           ∙ ap (λ (l : List ℕ). text sink.format d.packets ++ l) (sym closing_is ∙ sym (append-nil bytes));
       so_far = d.output.written;
       stops = empty.stops;
     }
 
 pub finish-leaves : (ss : List InputPast) (before : List ℕ) (cursors : List InputView) (order : PacketOrder) (policy : Policy) (state : SelectorState) (output : JobOutputView) (decided : ℕ) (r : Result (Unit {0}) Fault) (new : MachineState)
-    → IsNext (inputs_at order cursors) next.Finish → new.inputs ≡ record { order = order; cursors = cursors } → Finishes (first_declared_link cursors) output.target r new.output.target → (d : PacketsDecided ss before (mk cursors order policy state output decided))
+    → IsNext (inputs_at order cursors) next.Finish → new.inputs ≡ record { order = order; cursors = cursors } → EndsOutput (first_declared_link cursors) output.target r new.output.target → (d : PacketsDecided ss before (mk cursors order policy state output decided))
     → FinishLeaves d r new
 finish-leaves ss before cursors order policy state output decided (Ok done) new tells inputs finishes d =
     let at : OverAt order cursors = over-at order cursors tells in
@@ -153,10 +153,10 @@ finish-leaves ss before cursors order policy state output decided (Ok done) new 
     finish-text before output.names d.packets d.reports decided state output.target new.output.target (first_declared_link cursors) d.output finishes
     ∙ ap (λ (o : Option ℕ). before ++ final_text (form_at output) o (over m d.packets d.reports)) (sym link) in
     record {
-      ends = ap (λ (w : Progress). w.end) stop;
-      written = text_is ∙ ap (λ (w : Progress). before ++ final_text (form_at output) (first_link (wholes_of ss)) w) (sym stop);
+      ends = ap (λ (w : JobProgress). w.end) stop;
+      written = text_is ∙ ap (λ (w : JobProgress). before ++ final_text (form_at output) (first_link (wholes_of ss)) w) (sym stop);
       once = once-closing (first_link (wholes_of ss)) before (progress_of d) (progress_over m (wholes_of ss)) output new.output d.output text_is
-          (ap (λ (w : Progress). w.packets) stop) (ap (λ (w : Progress). w.reports) stop) (ap (λ (w : Progress). w.end) stop);
+          (ap (λ (w : JobProgress). w.packets) stop) (ap (λ (w : JobProgress). w.reports) stop) (ap (λ (w : JobProgress). w.end) stop);
       device = finish-device before output.names d.packets d.reports output.target new.output.target (first_declared_link cursors) d.output finishes;
     }
 finish-leaves ss before cursors order policy state output decided (Err fault) new tells inputs finishes d =

@@ -2,7 +2,7 @@
 use Rattle.std.proofs.Common.{ℕ, ◌+◌, ◌≤◌, Option, None, Some, arith, Bool}
 use Rattle.cap_inputs.specs.Inputs.{InputsView, most_steps}
 use Rattle.cap_tools.specs.Jobs.{IsCounted}
-use Rattle.cap_tools.specs.Bounds.{HasFewTurns, IsPaid, most_turns, owed}
+use Rattle.cap_tools.specs.Bounds.{HasFewTurns, IsPaid, most_turns, steps_owed_in_all}
 use Rattle.cap_filter.specs.Outcome.{OutputView}
 use Rattle.cap_tools.specs.Start.{Preparing}
 use Rattle.cap_tools.specs.Jobs.{JobView}
@@ -20,7 +20,7 @@ paid-turns : (turns owes most owes' most' : ℕ) → owes' + 1 + most ≤ owes +
 paid-turns turns owes most owes' most' paid few = omega (arith, paid, few)
 
 pub few-kept : (done : Option ℕ) (turns : ℕ) (inputs inputs' : InputsView) → IsPaid inputs inputs' → HasFewTurns done turns inputs → HasFewTurns done turns inputs'
-few-kept None turns inputs inputs' paid few = paid-turns turns (owed inputs) (most_turns inputs) (owed inputs') (most_turns inputs') paid few
+few-kept None turns inputs inputs' paid few = paid-turns turns (steps_owed_in_all inputs) (most_turns inputs) (steps_owed_in_all inputs') (most_turns inputs') paid few
 few-kept (Some status) turns inputs inputs' paid few = tt
 
 -- a step reads what it read, whatever becomes of its messages and of the count of steps

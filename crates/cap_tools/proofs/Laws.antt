@@ -9,8 +9,8 @@ use Rattle.cap_io.specs.Source.{Phase, Reading, Ended, Failed}
 use Rattle.cap_inputs.specs.declared.inputs.Next.TheVariants as next
 use Rattle.cap_inputs.specs.Sequence.{InputItems, Event, Packet, InputEnd, SequenceEnd, Complete, FaultIn, PacketOrder, InTurn, ByTime, with_front, sequence_in_turn, sequence_by_time, fault_in_front, sequence_of_entries, sort_entries, all_entries, unless_fault}
 use Rattle.cap_tools.specs.Verdict.{Policy}
-use Rattle.cap_tools.specs.Outcome.{Form, Progress, apply_events, end_input, unless_ended}
-use Rattle.cap_inputs.specs.Inputs.{InputView, InputPast, Future, AreFutures, AreInputsBehind, AllEnded, AllReady, IsInput, IsNextIn, IsOpen, IsReady, KeysOver, KeysFrom, NoneEnded, NoneWaits, ended_count, input_behind, items_left, inputs_left, key_of, one_more_if_ended, sequence_left, time_of}
+use Rattle.cap_tools.specs.Outcome.{Form, JobProgress, apply_events, end_input, unless_ended}
+use Rattle.cap_inputs.specs.Inputs.{InputView, InputPast, Future, AreFutures, AreInputsBehind, AllEnded, AllReady, IsInput, IsNextIn, IsOpen, IsReady, KeysOver, KeysFrom, NoneEnded, NoneWaits, ended_count, input_behind, items_left, inputs_left, key_of, one_more_if_ended, sequence_left, packet_time}
 use Rattle.cap_tools.proofs.Splits.{At, Fit, fits-join, rests-join, rests-length}
 use Rattle.cap_tools.proofs.Coming.{from_turn, left-decided, turn-closes, turn-broken}
 use Rattle.cap_inputs.proofs.Order.{merged-broken}
@@ -70,7 +70,7 @@ over-of k [] over ready = tt
 over-of k (h ∷ hs) over ready = (one over.0 ready.0, over-of k hs over.1 ready.1)
   where
     one : (h.waiting ≡ true → k < key_of h) → InputFrom 0 h → InputOver k h
-    one keys (waits_from p w held l) = waits_over p w held (let P : Option Captured → Type 0 = λ o. k < max h.greatest (time_of o) in subst P held (keys w))
+    one keys (waits_from p w held l) = waits_over p w held (let P : Option Captured → Type 0 = λ o. k < max h.greatest (packet_time o) in subst P held (keys w))
     one keys (ended_from w e) = ended_over w e
 
 from-of : (k : ℕ) (hs : List InputView) → KeysFrom k hs → InputsFrom 0 hs → InputsFrom k hs
@@ -78,7 +78,7 @@ from-of k [] from ready = tt
 from-of k (h ∷ hs) from ready = (one from.0 ready.0, from-of k hs from.1 ready.1)
   where
     one : (h.waiting ≡ true → k ≤ key_of h) → InputFrom 0 h → InputFrom k h
-    one keys (waits_from p w held l) = waits_from p w held (let P : Option Captured → Type 0 = λ o. k ≤ max h.greatest (time_of o) in subst P held (keys w))
+    one keys (waits_from p w held l) = waits_from p w held (let P : Option Captured → Type 0 = λ o. k ≤ max h.greatest (packet_time o) in subst P held (keys w))
     one keys (ended_from w e) = ended_from w e
 
 pub record ReadyAt (xs ys : List InputView) : Type 0 where
@@ -92,7 +92,7 @@ ready-split (x ∷ xs) ys h ready = let more = ready-split xs ys h ready.1 in re
 -- ---- an input is read on
 
 -- what closing an input is to the progress
-abbrev pub closed_in : PacketOrder → Policy → Progress → ℕ → Option Kind → ℕ → Progress
+abbrev pub closed_in : PacketOrder → Policy → JobProgress → ℕ → Option Kind → ℕ → JobProgress
 closed_in InTurn policy w i kind size = end_input policy w i kind size
 closed_in ByTime policy w i kind size = w
 
@@ -106,7 +106,7 @@ pub record ReadLaws (order : PacketOrder) (i : ℕ) (xs ys : List InputView) (h 
   pub closed_left : (h' : InputView) → h'.source.phase ≡ Ended → (declared : Declared) (g size : ℕ) (fs gs : List Future) → AreFutures xs fs → AreFutures ys gs
       → sequence_left order (xs ++ h ∷ ys) (inputs_left xs fs ++ record { greatest = g; items = no_items declared None 0; size = size } ∷ inputs_left ys gs)
       ≡ with_front (closed_events (kind_of declared) size) (sequence_left order (xs ++ h' ∷ ys) (inputs_left xs fs ++ record { greatest = g; items = no_items declared None 0; size = size } ∷ inputs_left ys gs))
-  pub closed_way : (policy : Policy) (form : Form) (w : Progress) (kind : Option Kind) (size : ℕ) → w.end ≡ None → apply_events policy form w (closed_events kind size) ≡ closed_in order policy w i kind size
+  pub closed_way : (policy : Policy) (form : Form) (w : JobProgress) (kind : Option Kind) (size : ℕ) → w.end ≡ None → apply_events policy form w (closed_events kind size) ≡ closed_in order policy w i kind size
   pub broken_left : (declared : Declared) (fault : Fault) (offset g size : ℕ) (fs gs : List Future) → AreFutures xs fs → AreFutures ys gs
       → sequence_left order (xs ++ h ∷ ys) (inputs_left xs fs ++ record { greatest = g; items = no_items declared (Some fault) offset; size = size } ∷ inputs_left ys gs) ≡ record { events = []; end = FaultIn i fault offset }
 
@@ -188,7 +188,7 @@ merge-left : (i : ℕ) (xs ys : List InputView) (h : InputView) → length xs �
     → sequence_by_time (inputs_left xs fs ++ items_left h f ∷ inputs_left ys gs) ≡ with_front (Packet i (record { offset = h.source.offset; packet = p }) ∷ []) (sequence_by_time (inputs_left xs fs ++ items_left (input_behind h) f ∷ inputs_left ys gs))
 merge-left i xs ys h here waits ready over from p held f fit fs gs before behind_fits =
     let r = ready-split xs ys h ready in
-    let key : key_of h ≡ max h.greatest p.time = ap (λ (o : Option Captured). max h.greatest (time_of o)) held in
+    let key : key_of h ≡ max h.greatest p.time = ap (λ (o : Option Captured). max h.greatest (packet_time o)) held in
     let O : ℕ → Type 0 = λ k. InputsOver k xs in
     let F : ℕ → Type 0 = λ k. InputsFrom k ys in
     let B : List InputItems → Type 0 = λ l. fault_in_front 0 l ≡ Complete in

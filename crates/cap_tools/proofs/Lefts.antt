@@ -8,7 +8,7 @@ use Rattle.cap_inputs.specs.Sequence.{PacketOrder, InTurn, ByTime}
 use Rattle.cap_inputs.specs.declared.inputs.Next.TheVariants as next
 use Rattle.cap_inputs.specs.Inputs.{InputView, InputsView, IsInput, IsNext, IsNextIn, IsOpen, MarksDecided, ReadSteps, input_after, input_behind, input_steps_left, is_packet_found, owed_by, steps_left, steps_left_in, steps_owed, with_cursor}
 use Rattle.cap_inputs.proofs.Cursors.{set-here}
-use Rattle.cap_tools.specs.Bounds.{IsPaid, most_turns, owed, owed_in, reads_of}
+use Rattle.cap_tools.specs.Bounds.{IsPaid, most_turns, steps_owed_in_all, owed_in, reads_of}
 use Rattle.cap_tools.proofs.Fetches.{among-same}
 
 -- ---- one input for another
@@ -113,7 +113,7 @@ mark_decided-paid inputs inputs' i tells s =
     let count = d.one.count in
     let two = d.owed_two in
     let most = d.owes in
-    let owes' : owed inputs' ≡ owed_in (slice_set inputs.cursors i (input_behind s.cursor)) = ap owed s.is in
+    let owes' : steps_owed_in_all inputs' ≡ owed_in (slice_set inputs.cursors i (input_behind s.cursor)) = ap steps_owed_in_all s.is in
     let turns' : most_turns inputs' ≡ 2 * reads_of (slice_set inputs.cursors i (input_behind s.cursor)) + length (slice_set inputs.cursors i (input_behind s.cursor)) + 1 = ap most_turns s.is in
     omega (arith, owes, reads, count, two, most, owes', turns')
 
@@ -185,7 +185,7 @@ read_input-kept inputs inputs' i (Err fault) tells f =
     omega (arith, given, left, owes, one, new)
 
 pub read_input-paid : (inputs inputs' : InputsView) (i : ℕ) (r : Result Bool Fault) → IsNext inputs (next.Read i) → ReadSteps inputs i r inputs' → Goes r → IsPaid inputs inputs'
-read_input-paid inputs inputs' i r tells f goes = by_result r f.steps f.phase goes (ap owed f.is) (ap most_turns f.is)
+read_input-paid inputs inputs' i r tells f goes = by_result r f.steps f.phase goes (ap steps_owed_in_all f.is) (ap most_turns f.is)
   where
     one : owed_by f.cursor ≡ 1
     one = unready-owes f.cursor (to-read inputs i f.cursor tells f.among)
@@ -193,7 +193,7 @@ read_input-paid inputs inputs' i r tells f goes = by_result r f.steps f.phase go
     after : Result Bool Fault → InputsView
     after r = with_cursor inputs i (input_after f.cursor r f.source)
 
-    by_result : (r : Result Bool Fault) → Steps f.cursor.source.phase f.cursor.source r f.source → f.source.phase ≡ phase_after r → Goes r → owed inputs' ≡ owed (after r) → most_turns inputs' ≡ most_turns (after r) → IsPaid inputs inputs'
+    by_result : (r : Result Bool Fault) → Steps f.cursor.source.phase f.cursor.source r f.source → f.source.phase ≡ phase_after r → Goes r → steps_owed_in_all inputs' ≡ steps_owed_in_all (after r) → most_turns inputs' ≡ most_turns (after r) → IsPaid inputs inputs'
     by_result (Err fault) steps phase goes owes' most = absurd goes
     by_result (Ok true) steps phase goes owes' most =
         let more = (grown f.cursor.source f.source steps).2 in

@@ -16,12 +16,12 @@ use Rattle.cap_window.specs.declared.mark.Mark.{Mark}
 use Rattle.cap_window.specs.Marks.{mark_of, has_same, last}
 use Rattle.cap_window.proofs.Marks.{last-last}
 use Rattle.cap_inputs.specs.Sequence.{Event, Packet, Complete, FaultIn}
-use Rattle.cap_tools.specs.Verdict.{Policy, Count, Filter, Edit, EditRule, Judgement, PassLast, Pass, SelectorState, initial_state, changed, filters, is_last, is_selected, judge_by, moved, passes, refuses, selects, skipped, unique, with_mark}
-use Rattle.cap_tools.specs.Reports.{Tally, counted}
-use Rattle.cap_tools.specs.Outcome.{Form, AsReports, Progress, apply_verdict, next_progress, end_with, apply_events}
-use Rattle.cap_tools.specs.Edits.{coming, is_repeated, selected, unique_behind}
+use Rattle.cap_tools.specs.Verdict.{Policy, Count, Filter, Edit, EditRule, Judgement, PassLast, Pass, SelectorState, initial_state, edited_packet_with, filters, is_last, is_selected, judge_by, shifted_time, passes, refuses, selects, skip_judgement, unique, with_mark}
+use Rattle.cap_tools.specs.Reports.{Tally, tally_with}
+use Rattle.cap_tools.specs.Outcome.{Form, AsReports, JobProgress, apply_verdict, next_progress, end_with, apply_events}
+use Rattle.cap_tools.specs.Edits.{coming, is_repeated, packets_selected, unique_behind}
 use Rattle.cap_tools.specs.Selector.{is_count}
-use Rattle.cap_tools.specs.Lists.{CountsAll, EndsOutOfRange, HasLastMarks, PassesFiltered, arriving, ascends, at_most, ends_at, final, first_out_of_range, greatest, kept, least, marks, packets_of, tally_of, times}
+use Rattle.cap_tools.specs.Lists.{CountsAll, EndsOutOfRange, HasLastMarks, PassesFiltered, arriving, ascends, at_most, end_at_time, final, first_out_of_range, greatest, packets_kept, least, marks, packets_of, tally_of, times}
 use Rattle.cap_tools.proofs.Outcomes.{progress-ended}
 use Rattle.cap_tools.proofs.Selectors.{few}
 
@@ -77,7 +77,7 @@ least-behind (q ∷ ps) p = rw (not-none (length ps)) (sym (least-next q.time (t
 tally : ℕ → ℕ → ℕ → ℕ → ℕ → ℕ → Bool → Tally
 tally a b c d e f g = record { count = a; data_size = b; captured_size = c; least = d; greatest = e; last = f; strict = g }
 
-counted-next : (ps : List Captured) (p : Captured) → counted (tally_of ps) p ≡ tally_of (ps ++ p ∷ [])
+counted-next : (ps : List Captured) (p : Captured) → tally_with (tally_of ps) p ≡ tally_of (ps ++ p ∷ [])
 counted-next ps p =
     let a = length-next ps p in
     let b = sum-next (λ (q : Captured). q.orig) ps p in
@@ -88,15 +88,15 @@ counted-next ps p =
     let g = ascends-next (times ps) p.time in
     rw (times-next ps p, a, b, c, d, e, f, g) refl
 
-abbrev under_way : ℕ → SelectorState → List Captured → Progress
+abbrev under_way : ℕ → SelectorState → List Captured → JobProgress
 under_way k state out = record { decided = k; state = state; packets = out; reports = []; end = None }
 
 counts-all : (names : List (List ℕ)) (k : ℕ) (state : SelectorState) (out front ps : List Captured) → state.tally ≡ tally_of front
     → (apply_events Count (AsReports names) (under_way k state out) (coming ps)).state.tally ≡ tally_of (front ++ ps)
 counts-all names k state out front [] is = is ∙ ap tally_of (sym (append-nil front))
 counts-all names k state out front (p ∷ ps) is =
-    counts-all names (k + 1) (record { passed = state.passed; window = state.window; tally = counted state.tally p }) (out ++ []) (front ++ p ∷ []) ps
-    (ap (λ (t : Tally). counted t p) is ∙ counted-next front p) ∙ ap tally_of (append_assoc front (p ∷ []) ps)
+    counts-all names (k + 1) (record { passed = state.passed; window = state.window; tally = tally_with state.tally p }) (out ++ []) (front ++ p ∷ []) ps
+    (ap (λ (t : Tally). tally_with t p) is ∙ counted-next front p) ∙ ap tally_of (append_assoc front (p ∷ []) ps)
 
 pub counts_all : CountsAll
 counts_all names ps = counts-all names 0 initial_state [] [] ps refl
@@ -145,7 +145,7 @@ at-none None = refl
 at-none (Some n) = take-nil n
 
 abbrev Filtered : Rule → Option ℕ → ℕ → SelectorState → List Captured → List Captured → Type 0
-Filtered rule count k state out ps = (apply_events (Filter rule count) reports (under_way k state out) (coming ps)).packets ≡ out ++ at_most (still count state.passed) (kept rule ps)
+Filtered rule count k state out ps = (apply_events (Filter rule count) reports (under_way k state out) (coming ps)).packets ≡ out ++ at_most (still count state.passed) (packets_kept rule ps)
 
 abbrev one-more : SelectorState → SelectorState
 one-more state = record { passed = state.passed + 1; window = state.window; tally = state.tally }
@@ -155,40 +155,40 @@ filtered-next : (rule : Rule) (count : Option ℕ) (k : ℕ) (state : SelectorSt
     → ((state' : SelectorState) (out' : List Captured) → IsBelow count state'.passed → Filtered rule count (k + 1) state' out' ps) → Filtered rule count k state out (p ∷ ps)
 filtered-next rule count k state out p ps near below next = by_decision (rule_decides rule p) refl
   where
-    behind : Judgement → Progress
+    behind : Judgement → JobProgress
     behind j = apply_events (Filter rule count) reports (apply_verdict reports (under_way k state out) 0 (placed p) j.verdict j.state) (coming ps)
 
     to : (j : Judgement) → filters (rule_decides rule p) count state p ≡ j → (apply_events (Filter rule count) reports (under_way k state out) (coming (p ∷ ps))).packets ≡ (behind j).packets
-    to j is = ap (λ (w : Progress). (apply_events (Filter rule count) reports w (coming ps)).packets) (step-is (Filter rule count) k state out (placed p) j refl near is)
+    to j is = ap (λ (w : JobProgress). (apply_events (Filter rule count) reports w (coming ps)).packets) (step-is (Filter rule count) k state out (placed p) j refl near is)
 
     by_count : rule_decides rule p ≡ Keep → (b : Bool) → is_last count (state.passed + 1) ≡ b → Filtered rule count k state out (p ∷ ps)
     by_count is true last =
         let j : Judgement = record { verdict = PassLast p; state = one-more state } in
-        let rest : at_most (still count state.passed) (kept rule (p ∷ ps)) ≡ p ∷ [] = rw is (at-last count state.passed p (kept rule ps) last) in
+        let rest : at_most (still count state.passed) (packets_kept rule (p ∷ ps)) ≡ p ∷ [] = rw is (at-last count state.passed p (packets_kept rule ps) last) in
         to j (rw (is, last) refl)
-        ∙ ap (λ (w : Progress). w.packets) (progress-ended (Filter rule count) reports (apply_verdict reports (under_way k state out) 0 (placed p) (PassLast p) (one-more state)) (coming ps) Complete refl)
+        ∙ ap (λ (w : JobProgress). w.packets) (progress-ended (Filter rule count) reports (apply_verdict reports (under_way k state out) 0 (placed p) (PassLast p) (one-more state)) (coming ps) Complete refl)
         ∙ ap (λ (l : List Captured). out ++ l) (sym rest)
     by_count is false last =
         let j : Judgement = record { verdict = Pass p; state = one-more state } in
-        let more = before-last count state.passed p (kept rule ps) below last in
-        let rest : at_most (still count state.passed) (kept rule (p ∷ ps)) ≡ p ∷ at_most (still count (state.passed + 1)) (kept rule ps) = rw is more.0 in
+        let more = before-last count state.passed p (packets_kept rule ps) below last in
+        let rest : at_most (still count state.passed) (packets_kept rule (p ∷ ps)) ≡ p ∷ at_most (still count (state.passed + 1)) (packets_kept rule ps) = rw is more.0 in
         to j (rw (is, last) refl)
         ∙ next (one-more state) (out ++ p ∷ []) more.1
-        ∙ append_assoc out (p ∷ []) (at_most (still count (state.passed + 1)) (kept rule ps))
+        ∙ append_assoc out (p ∷ []) (at_most (still count (state.passed + 1)) (packets_kept rule ps))
         ∙ ap (λ (l : List Captured). out ++ l) (sym rest)
 
     by_decision : (d : Decision) → rule_decides rule p ≡ d → Filtered rule count k state out (p ∷ ps)
     by_decision Keep is = by_count is (is_last count (state.passed + 1)) refl
     by_decision chosen.Skip is =
-        let rest : kept rule (p ∷ ps) ≡ kept rule ps = rw is refl in
-        to (skipped state) (rw is refl)
+        let rest : packets_kept rule (p ∷ ps) ≡ packets_kept rule ps = rw is refl in
+        to (skip_judgement state) (rw is refl)
         ∙ next state (out ++ []) below
-        ∙ ap (λ (o : List Captured). o ++ at_most (still count state.passed) (kept rule ps)) (append-nil out)
+        ∙ ap (λ (o : List Captured). o ++ at_most (still count state.passed) (packets_kept rule ps)) (append-nil out)
         ∙ ap (λ (l : List Captured). out ++ at_most (still count state.passed) l) (sym rest)
     by_decision (chosen.Refuse fault) is =
-        let rest : kept rule (p ∷ ps) ≡ [] = rw is refl in
+        let rest : packets_kept rule (p ∷ ps) ≡ [] = rw is refl in
         to (refuses state fault) (rw is refl)
-        ∙ ap (λ (w : Progress). w.packets) (progress-ended (Filter rule count) reports (end_with (under_way k state out) (FaultIn 0 fault 0)) (coming ps) (FaultIn 0 fault 0) refl)
+        ∙ ap (λ (w : JobProgress). w.packets) (progress-ended (Filter rule count) reports (end_with (under_way k state out) (FaultIn 0 fault 0)) (coming ps) (FaultIn 0 fault 0) refl)
         ∙ sym (append-nil out)
         ∙ ap (λ (l : List Captured). out ++ l) (sym (at-none (still count state.passed)))
         ∙ ap (λ (l : List Captured). out ++ at_most (still count state.passed) l) (sym rest)
@@ -208,7 +208,7 @@ below-first (Some n) some = some
 
 pub passes_filtered : PassesFiltered
 passes_filtered rule count ps some less =
-    filtered rule count 0 initial_state [] ps (omega arith) (below-first count some) ∙ ap (λ (o : Option ℕ). at_most o (kept rule ps)) (all-still count)
+    filtered rule count 0 initial_state [] ps (omega arith) (below-first count some) ∙ ap (λ (o : Option ℕ). at_most o (packets_kept rule ps)) (all-still count)
 
 -- ---- an edit
 
@@ -218,30 +218,30 @@ IsKept None before window = Unit {0}
 IsKept (Some n) before window = window ≡ last (n - 1) before
 
 kept-as : (n : Option ℕ) (before before' window : List Mark) → before ≡ before' → IsKept n before window → IsKept n before' window
-kept-as n before before' window same kept = subst (λ (ms : List Mark). IsKept n ms window) same kept
+kept-as n before before' window same kept = subst (λ (ms : List Mark). IsKept n ms window) same packets_kept
 
 record Noted (n : Option ℕ) (state : SelectorState) (before : List Mark) (p : Captured) (b : Bool) : Type 0 where
   state' : SelectorState
-  is : unique n state p ≡ (if b then skipped state' else passes state' p)
+  is : unique n state p ≡ (if b then skip_judgement state' else passes state' p)
   kept : IsKept n (before ++ mark_of p.bytes ∷ []) state'.window
 
 noted : (n : Option ℕ) (state : SelectorState) (before : List Mark) (p : Captured) (b : Bool) → IsKept n before state.window → is_repeated n before (mark_of p.bytes) ≡ b → Noted n state before p b
-noted None state before p true kept is = (cc)
-noted None state before p false kept is = record { state' = state; is = refl; kept = tt }
-noted (Some n) state before p b kept is =
+noted None state before p true packets_kept is = (cc)
+noted None state before p false packets_kept is = record { state' = state; is = refl; kept = tt }
+noted (Some n) state before p b packets_kept is =
     let m : Mark = mark_of p.bytes in
-    let same : has_same state.window m ≡ b = ap (λ (ms : List Mark). has_same ms m) kept ∙ is in
+    let same : has_same state.window m ≡ b = ap (λ (ms : List Mark). has_same ms m) packets_kept ∙ is in
     record {
       state' = with_mark (n - 1) m state;
       is = rw same refl;
-      kept = ap (λ (ms : List Mark). last (n - 1) (ms ++ m ∷ [])) kept ∙ last-last (n - 1) before m;
+      packets_kept = ap (λ (ms : List Mark). last (n - 1) (ms ++ m ∷ [])) packets_kept ∙ last-last (n - 1) before m;
     }
 
 -- how far a job is behind packets, the first with this number, where these passed and these marks came before
-record Follows (s : EditRule) (number : ℕ) (before : List Mark) (out : List Captured) (ps : List Placed) (w : Progress) : Type 0 where
-  passed : w.packets ≡ out ++ unique_behind s.window before (selected s number (packets_of ps))
-  kept : IsKept s.window (before ++ marks (selected s number (packets_of ps))) w.state.window
-  end : w.end ≡ ends_at (first_out_of_range s number ps)
+record Follows (s : EditRule) (number : ℕ) (before : List Mark) (out : List Captured) (ps : List Placed) (w : JobProgress) : Type 0 where
+  passed : w.packets ≡ out ++ unique_behind s.window before (packets_selected s number (packets_of ps))
+  kept : IsKept s.window (before ++ marks (packets_selected s number (packets_of ps))) w.state.window
+  end : w.end ≡ end_at_time (first_out_of_range s number ps)
 
 abbrev Goes : EditRule → ℕ → SelectorState → List Mark → List Captured → List Placed → Type 0
 Goes s k state before out ps = Follows s (k + 1) before out ps (apply_events (Edit s) reports (under_way k state out) (arriving ps))
@@ -249,76 +249,76 @@ Goes s k state before out ps = Follows s (k + 1) before out ps (apply_events (Ed
 -- one packet, where those behind it are followed so
 follows-next : (s : EditRule) (k : ℕ) (state : SelectorState) (before : List Mark) (out : List Captured) (p : Placed) (ps : List Placed) → k + 1 < 2 ^ 63 → IsKept s.window before state.window
     → ((state' : SelectorState) (before' : List Mark) (out' : List Captured) → IsKept s.window before' state'.window → Goes s (k + 1) state' before' out' ps) → Goes s k state before out (p ∷ ps)
-follows-next s k state before out p ps near kept next = by_selected (is_selected s (k + 1) p.packet) refl
+follows-next s k state before out p ps near packets_kept next = by_selected (is_selected s (k + 1) p.packet) refl
   where
-    To : Progress → Type 0
+    To : JobProgress → Type 0
     To w = Follows s (k + 1) before out (p ∷ ps) w
 
-    behind : Judgement → Progress
+    behind : Judgement → JobProgress
     behind j = apply_events (Edit s) reports (apply_verdict reports (under_way k state out) 0 p j.verdict j.state) (arriving ps)
 
     to : (j : Judgement) → selects s state (k + 1) p.packet ≡ j → To (behind j) → Goes s k state before out (p ∷ ps)
-    to j is follows = subst To (sym (ap (λ (w : Progress). apply_events (Edit s) reports w (arriving ps)) (step-is (Edit s) k state out p j refl near is))) follows
+    to j is follows = subst To (sym (ap (λ (w : JobProgress). apply_events (Edit s) reports w (arriving ps)) (step-is (Edit s) k state out p j refl near is))) follows
 
     -- what is selected behind the packet
     more : List Captured
-    more = selected s (k + 1 + 1) (packets_of ps)
+    more = packets_selected s (k + 1 + 1) (packets_of ps)
 
-    at_time : (time : ℕ) (u : List Captured) (w : Progress) → is_selected s (k + 1) p.packet ≡ true → moved s.shift p.packet.time ≡ Some time
-        → Follows s (k + 1 + 1) (before ++ mark_of (changed s p.packet time).bytes ∷ []) (out ++ u) ps w
-        → unique_behind s.window before (changed s p.packet time ∷ more) ≡ u ++ unique_behind s.window (before ++ mark_of (changed s p.packet time).bytes ∷ []) more → To w
+    at_time : (time : ℕ) (u : List Captured) (w : JobProgress) → is_selected s (k + 1) p.packet ≡ true → shifted_time s.shift p.packet.time ≡ Some time
+        → Follows s (k + 1 + 1) (before ++ mark_of (edited_packet_with s p.packet time).bytes ∷ []) (out ++ u) ps w
+        → unique_behind s.window before (edited_packet_with s p.packet time ∷ more) ≡ u ++ unique_behind s.window (before ++ mark_of (edited_packet_with s p.packet time).bytes ∷ []) more → To w
     at_time time u w is timed f same =
-        let q : Captured = changed s p.packet time in
-        let rest : selected s (k + 1) (packets_of (p ∷ ps)) ≡ q ∷ more = rw (is, timed) refl in
+        let q : Captured = edited_packet_with s p.packet time in
+        let rest : packets_selected s (k + 1) (packets_of (p ∷ ps)) ≡ q ∷ more = rw (is, timed) refl in
         let after : List Mark = before ++ mark_of q.bytes ∷ [] in
         record {
           passed = f.passed
               ∙ append_assoc out u (unique_behind s.window after more)
               ∙ ap (λ (l : List Captured). out ++ l) (sym same)
               ∙ ap (λ (l : List Captured). out ++ unique_behind s.window before l) (sym rest);
-          kept = kept-as s.window (after ++ marks more) (before ++ marks (selected s (k + 1) (packets_of (p ∷ ps)))) w.state.window
+          packets_kept = kept-as s.window (after ++ marks more) (before ++ marks (packets_selected s (k + 1) (packets_of (p ∷ ps)))) w.state.window
               (append_assoc before (mark_of q.bytes ∷ []) (marks more) ∙ ap (λ (l : List Captured). before ++ marks l) (sym rest)) f.kept;
           end = rw (is, timed) f.end;
         }
 
-    by_unique : (time : ℕ) → is_selected s (k + 1) p.packet ≡ true → moved s.shift p.packet.time ≡ Some time → (b : Bool) → is_repeated s.window before (mark_of (changed s p.packet time).bytes) ≡ b
+    by_unique : (time : ℕ) → is_selected s (k + 1) p.packet ≡ true → shifted_time s.shift p.packet.time ≡ Some time → (b : Bool) → is_repeated s.window before (mark_of (edited_packet_with s p.packet time).bytes) ≡ b
         → Goes s k state before out (p ∷ ps)
     by_unique time is timed true same =
-        let q : Captured = changed s p.packet time in
-        let n : Noted s.window state before q true = noted s.window state before q true kept same in
-        to (skipped n.state') (rw (is, timed) n.is)
-        (at_time time [] (behind (skipped n.state')) is timed (next n.state' (before ++ mark_of q.bytes ∷ []) (out ++ []) n.kept) (rw same refl))
+        let q : Captured = edited_packet_with s p.packet time in
+        let n : Noted s.window state before q true = noted s.window state before q true packets_kept same in
+        to (skip_judgement n.state') (rw (is, timed) n.is)
+        (at_time time [] (behind (skip_judgement n.state')) is timed (next n.state' (before ++ mark_of q.bytes ∷ []) (out ++ []) n.kept) (rw same refl))
     by_unique time is timed false same =
-        let q : Captured = changed s p.packet time in
-        let n : Noted s.window state before q false = noted s.window state before q false kept same in
+        let q : Captured = edited_packet_with s p.packet time in
+        let n : Noted s.window state before q false = noted s.window state before q false packets_kept same in
         to (passes n.state' q) (rw (is, timed) n.is)
         (at_time time (q ∷ []) (behind (passes n.state' q)) is timed (next (passes n.state' q).state (before ++ mark_of q.bytes ∷ []) (out ++ q ∷ []) n.kept) (rw same refl))
 
-    by_moved : is_selected s (k + 1) p.packet ≡ true → (o : Option ℕ) → moved s.shift p.packet.time ≡ o → Goes s k state before out (p ∷ ps)
+    by_moved : is_selected s (k + 1) p.packet ≡ true → (o : Option ℕ) → shifted_time s.shift p.packet.time ≡ o → Goes s k state before out (p ∷ ps)
     by_moved is None beyond =
-        let none : selected s (k + 1) (packets_of (p ∷ ps)) ≡ [] = rw (is, beyond) refl in
-        let ended : Progress = end_with (under_way k state out) (FaultIn 0 TimeOutOfRange p.offset) in
+        let none : packets_selected s (k + 1) (packets_of (p ∷ ps)) ≡ [] = rw (is, beyond) refl in
+        let ended : JobProgress = end_with (under_way k state out) (FaultIn 0 TimeOutOfRange p.offset) in
         let here : To ended = record {
           passed = sym (append-nil out) ∙ ap (λ (l : List Captured). out ++ unique_behind s.window before l) (sym none);
-          kept = kept-as s.window before (before ++ marks (selected s (k + 1) (packets_of (p ∷ ps)))) state.window
-              (sym (append-nil before) ∙ ap (λ (l : List Captured). before ++ marks l) (sym none)) kept;
+          packets_kept = kept-as s.window before (before ++ marks (packets_selected s (k + 1) (packets_of (p ∷ ps)))) state.window
+              (sym (append-nil before) ∙ ap (λ (l : List Captured). before ++ marks l) (sym none)) packets_kept;
           end = rw (is, beyond) refl;
         } in
         to (refuses state TimeOutOfRange) (rw (is, beyond) refl)
         (subst To (sym (progress-ended (Edit s) reports ended (arriving ps) (FaultIn 0 TimeOutOfRange p.offset) refl)) here)
-    by_moved is (Some time) timed = by_unique time is timed (is_repeated s.window before (mark_of (changed s p.packet time).bytes)) refl
+    by_moved is (Some time) timed = by_unique time is timed (is_repeated s.window before (mark_of (edited_packet_with s p.packet time).bytes)) refl
 
     by_selected : (b : Bool) → is_selected s (k + 1) p.packet ≡ b → Goes s k state before out (p ∷ ps)
-    by_selected true is = by_moved is (moved s.shift p.packet.time) refl
+    by_selected true is = by_moved is (shifted_time s.shift p.packet.time) refl
     by_selected false is =
-        let rest : selected s (k + 1) (packets_of (p ∷ ps)) ≡ more = rw is refl in
-        let f : Goes s (k + 1) state before (out ++ []) ps = next state before (out ++ []) kept in
-        to (skipped state) (rw is refl)
+        let rest : packets_selected s (k + 1) (packets_of (p ∷ ps)) ≡ more = rw is refl in
+        let f : Goes s (k + 1) state before (out ++ []) ps = next state before (out ++ []) packets_kept in
+        to (skip_judgement state) (rw is refl)
         record {
           passed = f.passed
               ∙ ap (λ (o : List Captured). o ++ unique_behind s.window before more) (append-nil out)
               ∙ ap (λ (l : List Captured). out ++ unique_behind s.window before l) (sym rest);
-          kept = kept-as s.window (before ++ marks more) (before ++ marks (selected s (k + 1) (packets_of (p ∷ ps)))) (behind (skipped state)).state.window
+          packets_kept = kept-as s.window (before ++ marks more) (before ++ marks (packets_selected s (k + 1) (packets_of (p ∷ ps)))) (behind (skip_judgement state)).state.window
               (ap (λ (l : List Captured). before ++ marks l) (sym rest)) f.kept;
           end = rw is f.end;
         }
@@ -327,11 +327,11 @@ follows : (s : EditRule) (k : ℕ) (state : SelectorState) (before : List Mark) 
     → Goes s k state before out ps
 follows s k state before out [] less kept = record {
   passed = sym (append-nil out);
-  kept = kept-as s.window before (before ++ []) state.window (sym (append-nil before)) kept;
+  packets_kept = kept-as s.window before (before ++ []) state.window (sym (append-nil before)) packets_kept;
   end = refl;
 }
-follows s k state before out (p ∷ ps) less kept =
-    follows-next s k state before out p ps (omega arith) kept (λ state' before' out' kept'. follows s (k + 1) state' before' out' ps (omega arith) kept')
+follows s k state before out (p ∷ ps) less packets_kept =
+    follows-next s k state before out p ps (omega arith) packets_kept (λ state' before' out' kept'. follows s (k + 1) state' before' out' ps (omega arith) kept')
 
 none-dropped : (k : ℕ) (ms : List Mark) → ms ≡ [] → drop k ms ≡ []
 none-dropped zero ms none = none
@@ -366,12 +366,12 @@ places-length [] = refl
 places-length (p ∷ ps) = ap suc (places-length ps)
 
 window-as : (n : ℕ) (o : Option ℕ) (before window : List Mark) → o ≡ Some n → IsKept o before window → window ≡ last (n - 1) before
-window-as n o before window is kept = subst (λ (x : Option ℕ). IsKept x before window) is kept
+window-as n o before window is kept = subst (λ (x : Option ℕ). IsKept x before window) is packets_kept
 
 pub has_last_marks : HasLastMarks
 has_last_marks s n ps is less =
     let same = places-length ps in
     let f = follows-first s (places ps) (omega (arith, same, less)) in
     ap (λ (es : List Event). (apply_events (Edit s) reports (under_way 0 initial_state []) es).state.window) (coming-as ps)
-    ∙ window-as n s.window (marks (selected s 1 (packets_of (places ps)))) (apply_events (Edit s) reports (under_way 0 initial_state []) (arriving (places ps))).state.window is f.kept
-    ∙ ap (λ (qs : List Captured). last (n - 1) (marks (selected s 1 qs))) (packets-as ps)
+    ∙ window-as n s.window (marks (packets_selected s 1 (packets_of (places ps)))) (apply_events (Edit s) reports (under_way 0 initial_state []) (arriving (places ps))).state.window is f.kept
+    ∙ ap (λ (qs : List Captured). last (n - 1) (marks (packets_selected s 1 qs))) (packets-as ps)

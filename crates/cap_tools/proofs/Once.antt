@@ -6,12 +6,12 @@ use Rattle.cap_io.proofs.Texts.{text-more}
 use Rattle.cap_io.specs.Text.{added_text, text}
 use Rattle.cap_inputs.specs.Sequence.{Complete}
 use Rattle.cap_tools.specs.Reports.{Report, report_text, reports_text}
-use Rattle.cap_tools.specs.Outcome.{Form, AsCapture, AsReports, AsLines, Progress, closing_text, packet_bytes, report_bytes, output_text}
+use Rattle.cap_tools.specs.Outcome.{Form, AsCapture, AsReports, AsLines, JobProgress, closing_text, packet_bytes, report_bytes, output_text}
 use Rattle.cap_tools.specs.Output.{JobOutputView, HasWritten, form_at, written_to}
 use Rattle.cap_tools.specs.Machine.{AppendsOnce, nothing, packet, report, closes}
 use Rattle.cap_tools.proofs.Outputs.{drained-text, lines-one, reports-more}
 
-pub once-nothing : (link : Option ℕ) (far next : Progress) (old new : JobOutputView) → next.packets ≡ far.packets → next.reports ≡ far.reports → written_to new.target ≡ written_to old.target → AppendsOnce link far next old new
+pub once-nothing : (link : Option ℕ) (far next : JobProgress) (old new : JobOutputView) → next.packets ≡ far.packets → next.reports ≡ far.reports → written_to new.target ≡ written_to old.target → AppendsOnce link far next old new
 once-nothing link far next old new packets reports same = record {
   bytes = [];
   appended = same ∙ sym (append-nil (written_to old.target));
@@ -39,7 +39,7 @@ report-more (AsReports names) ps rs r =
     ∙ ap (λ (l : List ℕ). reports_text names rs ++ l) (append-nil (report_text names r))
 report-more (AsLines options) ps rs r = sym (append-nil (output_text (AsLines options) ps rs))
 
-pub once-packet : (link : Option ℕ) (before : List ℕ) (far next : Progress) (old new : JobOutputView) (q : Captured) → HasWritten before old far.packets far.reports → HasWritten before new (far.packets ++ q ∷ []) far.reports → form_at new ≡ form_at old
+pub once-packet : (link : Option ℕ) (before : List ℕ) (far next : JobProgress) (old new : JobOutputView) (q : Captured) → HasWritten before old far.packets far.reports → HasWritten before new (far.packets ++ q ∷ []) far.reports → form_at new ≡ form_at old
     → next.packets ≡ far.packets ++ q ∷ [] → next.reports ≡ far.reports → AppendsOnce link far next old new
 once-packet link before far next old new q has after same packets reports = record {
   bytes = packet_bytes (form_at old) far.packets q;
@@ -50,7 +50,7 @@ once-packet link before far next old new q has after same packets reports = reco
   one = packet q packets reports refl;
 }
 
-pub once-report : (link : Option ℕ) (before : List ℕ) (far next : Progress) (old new : JobOutputView) (r : Report) → HasWritten before old far.packets far.reports → HasWritten before new far.packets (far.reports ++ r ∷ []) → form_at new ≡ form_at old
+pub once-report : (link : Option ℕ) (before : List ℕ) (far next : JobProgress) (old new : JobOutputView) (r : Report) → HasWritten before old far.packets far.reports → HasWritten before new far.packets (far.reports ++ r ∷ []) → form_at new ≡ form_at old
     → next.packets ≡ far.packets → next.reports ≡ far.reports ++ r ∷ [] → AppendsOnce link far next old new
 once-report link before far next old new r has after same packets reports = record {
   bytes = report_bytes (form_at old) r;
@@ -62,7 +62,7 @@ once-report link before far next old new r has after same packets reports = reco
 }
 
 -- a clean end
-pub once-closing : (link : Option ℕ) (before : List ℕ) (far next : Progress) (old new : JobOutputView) → HasWritten before old far.packets far.reports
+pub once-closing : (link : Option ℕ) (before : List ℕ) (far next : JobProgress) (old new : JobOutputView) → HasWritten before old far.packets far.reports
     → written_to new.target ≡ before ++ (output_text (form_at old) far.packets far.reports ++ closing_text (form_at old) link far.packets)
     → next.packets ≡ far.packets → next.reports ≡ far.reports → next.end ≡ Some Complete → AppendsOnce link far next old new
 once-closing link before far next old new has is packets reports ends = record {

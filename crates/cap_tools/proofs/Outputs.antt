@@ -17,7 +17,7 @@ use Rattle.cap_tools.specs.Reports.{Report}
 use Rattle.cap_inputs.specs.Sequence.{Complete}
 use Rattle.cap_tools.specs.Verdict.{SelectorState}
 use Rattle.cap_tools.specs.Outcome.{Form, AsCapture, AsReports, AsLines, closing_text, lines_text, final_text, form_refuses, output_text}
-use Rattle.cap_tools.specs.Output.{Target, Capture, Text, Lines, HasWrittenTo, Puts, Reports, form_to, written_to, failures_to}
+use Rattle.cap_tools.specs.Output.{Target, Capture, Text, Lines, HasWrittenTo, PutsIntoOutput, Reports, form_to, written_to, failures_to}
 use Rattle.cap_tools.specs.Reports.{report_text, reports_text}
 
 -- what is written is the form's
@@ -48,7 +48,7 @@ pub record PutOk (before : List ℕ) (ps : List Captured) (rs : List Report) (q 
   pub failures : failures_to new ≡ failures_to old
 
 pub put-ok : (before : List ℕ) (ps : List Captured) (rs : List Report) (q : Captured) (names names' : List (List ℕ)) (old new : Target) → names' ≡ names → HasWrittenTo before names old ps rs
-    → Puts q old (Ok tt) new → PutOk before ps rs q names names' old new
+    → PutsIntoOutput q old (Ok tt) new → PutOk before ps rs q names names' old new
 put-ok before ps rs q names names' (Capture sink) new same has puts =
     let after : PutsAfter ps sink q (Ok tt) puts.sink = put-answers before ps sink q (Ok tt) puts.sink has puts.puts in
     rw puts.is (record {

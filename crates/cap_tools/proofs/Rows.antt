@@ -9,7 +9,7 @@ use Rattle.cap_filter.specs.FilterRules.{by_reading}
 use Rattle.cap_inputs.specs.Sequence.{InputItems, InTurn, ByTime, sequence_of, Packet, Complete, FaultIn, whole_input}
 use Rattle.cap_filter.specs.declared.command.Shift.TheVariants as shift
 use Rattle.cap_tools.specs.Verdict.{Edit, Filter, Count}
-use Rattle.cap_tools.specs.Outcome.{AsCapture, AsReports, Outcome, Progress, Work, outcome, final_progress}
+use Rattle.cap_tools.specs.Outcome.{AsCapture, AsReports, Outcome, JobProgress, Work, outcome, final_progress}
 use Rattle.cap_io.specs.declared.source.Kind.TheVariants as kind
 use Rattle.cap_octet.specs.Calendar.{day_from_epoch}
 use Rattle.cap_octet.specs.Date.{date_text}
@@ -47,7 +47,7 @@ merge-empty = refl
 
 -- ---- a count before a fault
 
-one : Progress
+one : JobProgress
 one = final_progress (Filter (by_reading empty) (Some 1)) (AsReports []) (sequence_of InTurn (held (placed 24 7 ∷ []) (FaultAt Truncated 44) ∷ []))
 
 count-before-fault : (one.packets ≡ at_time 7 ∷ []) × (one.end ≡ Some Complete)
@@ -59,7 +59,7 @@ count-before-fault = (refl, refl)
 abbrev letter : ℕ → Placed
 letter x = record { offset = 24; packet = record { link = 1; snap = 0; name = []; time = 0; orig = 1; bytes = x ∷ []; comment = [] } }
 
-dups : Progress
+dups : JobProgress
 dups = final_progress
     (Edit (record { ranges = []; keep = false; start = None; stop = None; chop_start = 0; chop_end = 0; snap = None; shift = shift.None; window = Some 3 }))
     (AsReports [])
@@ -70,7 +70,7 @@ unfolding dups md5 digest_bytes hash_after compress rounds block_words
 duplicate-window = refl
 
 -- what isn't selected isn't in the window
-deleted : Progress
+deleted : JobProgress
 deleted = final_progress
     (Edit (record { ranges = (2, 2) ∷ []; keep = false; start = None; stop = None; chop_start = 0; chop_end = 0; snap = None; shift = shift.None; window = Some 2 }))
     (AsReports [])
@@ -84,7 +84,7 @@ abbrev of_bytes : List ℕ → Placed
 of_bytes bytes = record { offset = 24; packet = record { link = 1; snap = 0; name = []; time = 0; orig = length bytes; bytes = bytes; comment = [] } }
 
 -- bytes that are cut off aren't compared
-cut : Progress
+cut : JobProgress
 cut = final_progress
     (Edit (record { ranges = []; keep = false; start = None; stop = None; chop_start = 0; chop_end = 0; snap = Some 4; shift = shift.None; window = Some 2 }))
     (AsReports [])
@@ -96,7 +96,7 @@ equal-when-cut = refl
 
 -- ---- times and cuts
 
-in_time : Progress
+in_time : JobProgress
 in_time = final_progress
     (Edit (record { ranges = []; keep = false; start = Some 2000000000; stop = Some 3000000000; chop_start = 0; chop_end = 0; snap = None; shift = shift.None; window = None }))
     (AsReports [])
@@ -106,7 +106,7 @@ time-window : map (λ p. p.time) in_time.packets ≡ 2000000000 ∷ []
 unfolding in_time
 time-window = refl
 
-chopped : Progress
+chopped : JobProgress
 chopped = final_progress
     (Edit (record { ranges = []; keep = false; start = None; stop = None; chop_start = 2; chop_end = 1; snap = Some 4; shift = shift.None; window = None }))
     (AsReports [])

@@ -4,7 +4,7 @@ use Rattle.cap_io.specs.Capture.{Placed}
 use Rattle.cap_io.specs.Source.{Ended}
 use Rattle.cap_io.specs.Position.{IsAt}
 use Rattle.cap_inputs.specs.Sequence.{InputItems, Event, sequence_of, with_front, PacketOrder}
-use Rattle.cap_inputs.specs.Inputs.{InputView, Future, InputPast, AreInputsBehind, AreFutures, AreSettled, items_with, inputs_with, items_left, inputs_left, no_future, sequence_left}
+use Rattle.cap_inputs.specs.Inputs.{InputView, Future, InputPast, AreInputsBehind, AreFutures, AreSettled, input_items, inputs_with, items_left, inputs_left, no_future, sequence_left}
 use Rattle.cap_tools.specs.Machine.{finish_at}
 
 abbrev pub At : InputPast → InputView → Type 0
@@ -66,13 +66,13 @@ fits-join (x ∷ xs) ys h [] gs f before fit with_front = absurd before
 fits-join (x ∷ xs) ys h (g ∷ fs) gs f before fit with_front = (before.0, fits-join xs ys h fs gs f before.1 fit with_front)
 
 pub wholes-join : (us vs : List InputPast) (s : InputPast) (xs ys : List InputView) (h : InputView) (fs gs : List Future) (f : Future) → AreInputsBehind us xs → AreFutures xs fs
-    → inputs_with (us ++ s ∷ vs) (xs ++ h ∷ ys) (fs ++ f ∷ gs) ≡ inputs_with us xs fs ++ items_with s h f ∷ inputs_with vs ys gs
+    → inputs_with (us ++ s ∷ vs) (xs ++ h ∷ ys) (fs ++ f ∷ gs) ≡ inputs_with us xs fs ++ input_items s h f ∷ inputs_with vs ys gs
 wholes-join [] vs s [] ys h [] gs f st fits = refl
 wholes-join [] vs s [] ys h (g ∷ fs) gs f st fits = absurd fits
 wholes-join [] vs s (x ∷ xs) ys h fs gs f st fits = absurd st
 wholes-join (a ∷ us) vs s [] ys h fs gs f st fits = absurd st
 wholes-join (a ∷ us) vs s (x ∷ xs) ys h [] gs f st fits = absurd fits
-wholes-join (a ∷ us) vs s (x ∷ xs) ys h (g ∷ fs) gs f st fits = ap (λ (l : List InputItems). items_with a x g ∷ l) (wholes-join us vs s xs ys h fs gs f st.1 fits.1)
+wholes-join (a ∷ us) vs s (x ∷ xs) ys h (g ∷ fs) gs f st fits = ap (λ (l : List InputItems). input_items a x g ∷ l) (wholes-join us vs s xs ys h fs gs f st.1 fits.1)
 
 pub rests-join : (xs ys : List InputView) (h : InputView) (fs gs : List Future) (f : Future) → AreFutures xs fs → inputs_left (xs ++ h ∷ ys) (fs ++ f ∷ gs) ≡ inputs_left xs fs ++ items_left h f ∷ inputs_left ys gs
 rests-join [] ys h [] gs f fits = refl
@@ -97,7 +97,7 @@ finish-here (a ∷ us) vs s i bytes packets place = rw (← place) (ap (λ (l : 
 pub record Carries (s s' : InputPast) (xs ys : List InputView) (h h' : InputView) (order : PacketOrder) (new : List Event) (f' : Future) : Type 0 where
   pub future : Future
   pub fit : Fit h future
-  pub same : items_with s h future ≡ items_with s' h' f'
+  pub same : input_items s h future ≡ input_items s' h' f'
   pub left_is : (fs gs : List Future) → AreFutures xs fs → AreFutures ys gs → sequence_left order (xs ++ h ∷ ys) (inputs_left xs fs ++ items_left h future ∷ inputs_left ys gs) ≡ with_front new (sequence_left order (xs ++ h' ∷ ys) (inputs_left xs fs ++ items_left h' f' ∷ inputs_left ys gs))
 
 pub come-on : (us vs : List InputPast) (s s' : InputPast) (xs ys : List InputView) (h h' : InputView) (order : PacketOrder) (es new : List Event) → AreInputsBehind us xs

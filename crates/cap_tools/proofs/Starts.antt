@@ -12,8 +12,8 @@ use Rattle.cap_inputs.specs.Sequence.{InputItems, sequence_in_turn, sequence_by_
 use Rattle.cap_tools.specs.Verdict.{Policy}
 use Rattle.cap_inputs.specs.Fresh.{FreshInput, fresh_view, nothing_done, fresh_inputs}
 use Rattle.cap_tools.specs.Selector.{state_with}
-use Rattle.cap_inputs.specs.Inputs.{Future, AreInputsBehind, KnowGreatest, AreFutures, AreSettled, ended_count, inputs_with, inputs_left, items_with, steps_left_in, steps_left, most_steps}
-use Rattle.cap_tools.specs.Bounds.{reads_of, owed, owed_in, most_turns}
+use Rattle.cap_inputs.specs.Inputs.{Future, AreInputsBehind, KnowGreatest, AreFutures, AreSettled, ended_count, inputs_with, inputs_left, input_items, steps_left_in, steps_left, most_steps}
+use Rattle.cap_tools.specs.Bounds.{reads_of, steps_owed_in_all, owed_in, most_turns}
 use Rattle.cap_tools.specs.Machine.{PacketsDecided}
 use Rattle.cap_tools.proofs.Coming.{come-first}
 use Rattle.cap_tools.proofs.Fetches.{mk}
@@ -26,7 +26,7 @@ start-wholes : (os : List FreshInput) (fs : List Future) → AreFutures (map fre
 start-wholes [] [] fits = refl
 start-wholes [] (f ∷ fs) fits = absurd fits
 start-wholes (o ∷ os) [] fits = absurd fits
-start-wholes (o ∷ os) (f ∷ fs) fits = ap (λ (l : List InputItems). items_with (nothing_done o) (fresh_view o) f ∷ l) (start-wholes os fs fits.1)
+start-wholes (o ∷ os) (f ∷ fs) fits = ap (λ (l : List InputItems). input_items (nothing_done o) (fresh_view o) f ∷ l) (start-wholes os fs fits.1)
 
 -- nothing is written
 start-drained : (before : List ℕ) (names : List (List ℕ)) (w : Writing) (failures room : ℕ) → HasWrittenTo before names (target_at w before failures room) [] []
@@ -81,7 +81,7 @@ start-owed [] = (refl, refl)
 start-owed (o ∷ os) = let e = start-owed os in let r = e.0 in let w = e.1 in (omega (arith, r), omega (arith, w))
 
 -- nothing is owed but for the ends of the inputs
-pub first-few : (order : PacketOrder) (os : List FreshInput) → owed (fresh_inputs order os) < most_turns (fresh_inputs order os)
+pub first-few : (order : PacketOrder) (os : List FreshInput) → steps_owed_in_all (fresh_inputs order os) < most_turns (fresh_inputs order os)
 first-few order os = let e = start-owed os in let r = e.0 in let w = e.1 in omega (arith, r, w)
 
 pub same-count : {X : Type 0} (f : X → FreshInput) (xs : List X) → length (map f xs) ≡ length xs

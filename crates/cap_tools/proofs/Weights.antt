@@ -13,7 +13,7 @@ use Rattle.cap_inputs.specs.Inputs.{InputView, InputsView, IsInput, ReadSteps, M
 use Rattle.cap_tools.specs.Selector.{HasFewMarks}
 use Rattle.cap_inputs.specs.Fresh.{FreshInput, fresh_view}
 use Rattle.cap_tools.specs.Machine.{MachineState}
-use Rattle.cap_tools.specs.Bounds.{HasFewInterfaces, IsBounded, IsLight, IsSmall, declared_weight, inputs_weight, names_weight, target_weight}
+use Rattle.cap_tools.specs.Bounds.{HasFewOutputInterfaces, IsBounded, IsLight, IsSmall, declared_weight, inputs_weight, names_weight, target_weight}
 
 -- ---- one input for another
 
@@ -48,7 +48,7 @@ pub small-first : (os : List FreshInput) → All IsSmall (map fresh_view os)
 small-first [] = All-nil IsSmall
 small-first (o ∷ os) = All-cons IsSmall (fresh_view o) (map fresh_view os) (omega arith, tt) (small-first os)
 
-pub few-first : (w : Writing) (written : List ℕ) (failures room : ℕ) → HasFewInterfaces (target_at w written failures room)
+pub few-first : (w : Writing) (written : List ℕ) (failures room : ℕ) → HasFewOutputInterfaces (target_at w written failures room)
 few-first (writing.Capture format) written failures room = record { count = omega arith; names = All-nil _ }
 few-first writing.Text written failures room = tt
 few-first (writing.Lines options) written failures room = tt
@@ -79,7 +79,7 @@ cursors-light (h ∷ hs) all =
     let others = cursors-light hs (All-tail IsSmall h hs all) in
     omega (arith, block, names, others)
 
-target-light : (t : Target) → HasFewInterfaces t → target_weight t ≤ 274 * 4096
+target-light : (t : Target) → HasFewOutputInterfaces t → target_weight t ≤ 274 * 4096
 target-light (Capture sink) few =
     let names = names-light (λ i. i.name) sink.interfaces few.names in
     let count = few.count in

@@ -74,9 +74,9 @@ pub data StepReads (tells goes : Bool) (old new : JobView) : Type 0 where
   leaves_one : (input : ℕ) → goes ≡ false → LeavesOne old input new → StepReads tells goes old new
   reads_nothing : goes ≡ false → ReadsNothing old new → StepReads tells goes old new
 
-abbrev pub goes_on : Option JobEnd → Bool
-goes_on None = true
-goes_on (Some end) = false
+abbrev pub step_goes_on : Option JobEnd → Bool
+step_goes_on None = true
+step_goes_on (Some end) = false
 
 -- ---- how many steps were made
 
@@ -90,8 +90,8 @@ abbrev pub owed_in : List InputView → ℕ
 owed_in [] = 0
 owed_in (h ∷ hs) = owed_by h + owed_in hs
 
-abbrev pub owed : InputsView → ℕ
-owed f = owed_in f.cursors
+abbrev pub steps_owed_in_all : InputsView → ℕ
+steps_owed_in_all f = owed_in f.cursors
 
 -- two steps for each byte, one for each input, and one that reads a filter
 abbrev pub most_turns : InputsView → ℕ
@@ -99,11 +99,11 @@ most_turns f = 2 * reads_of f.cursors + length f.cursors + 1
 
 -- a step that goes on is one of those that were owed, or it read bytes that pay for it and for what is owed now
 abbrev pub IsPaid : InputsView → InputsView → Type 0
-IsPaid old new = owed new + 1 + most_turns old ≤ owed old + most_turns new
+IsPaid old new = steps_owed_in_all new + 1 + most_turns old ≤ steps_owed_in_all old + most_turns new
 
 -- the steps that were made, with those that are owed, are no more than what was read pays for
 abbrev pub HasFewTurns : Option ℕ → ℕ → InputsView → Type 0
-HasFewTurns None turns inputs = turns + owed inputs ≤ most_turns inputs
+HasFewTurns None turns inputs = turns + steps_owed_in_all inputs ≤ most_turns inputs
 HasFewTurns (Some status) turns inputs = Unit {0}
 
 -- ---- what a job holds
@@ -144,13 +144,13 @@ most_weight inputs marks = inputs * most_in_unit + (256 * inputs + most_output_i
 abbrev pub IsSmall : InputView → Type 0
 IsSmall h = (length h.source.block ≤ most_in_unit) × SectionFits h.source.declared
 
-abbrev pub HasFewInterfaces : Target → Type 0
-HasFewInterfaces (Capture sink) = FitFile sink.interfaces
-HasFewInterfaces (Text written failures room) = Unit {0}
-HasFewInterfaces (Lines options written failures room) = Unit {0}
+abbrev pub HasFewOutputInterfaces : Target → Type 0
+HasFewOutputInterfaces (Capture sink) = FitFile sink.interfaces
+HasFewOutputInterfaces (Text written failures room) = Unit {0}
+HasFewOutputInterfaces (Lines options written failures room) = Unit {0}
 
 abbrev pub IsBounded : InputsView → Target → Type 0
-IsBounded inputs target = All IsSmall inputs.cursors × HasFewInterfaces target
+IsBounded inputs target = All IsSmall inputs.cursors × HasFewOutputInterfaces target
 
 -- What a job holds of each input is bounded, and of all of them; a window of n packets has n - 1 marks, and there is none
 -- where no duplicates are searched for.

@@ -2,12 +2,12 @@
 use Rattle.std.specs.Prelude.{ℕ, Bool, List, map}
 use Rattle.cap_octet.specs.declared.device.Input as input
 use Rattle.cap_octet.specs.declared.device.Output as output
-use Rattle.cap_filter.specs.Outcome.{OutputView, seen}
+use Rattle.cap_filter.specs.Outcome.{OutputView, output_view}
 use Rattle.cap_inputs.specs.Fresh.{FreshInput, fresh_input}
 
 -- a device that is written to
 abbrev pub device_view : {O : Type 0} → output.Ghosts O → O → OutputView
-device_view device o = seen (device.written o) (device.failures o)
+device_view device o = output_view (device.written o) (device.failures o)
 
 -- A call, beside its command: the names of the inputs, then of the output; the inputs; the output, with how many bytes it
 -- takes at least before it fails; and the messages' device, with whether it tells its bytes.

@@ -7,7 +7,7 @@ use Rattle.flt_words.specs.declared.fault.ExprFault.{ExprFault}
 use Rattle.cap_filter.specs.declared.refusal.Refusal.{Refusal}
 use Rattle.cap_filter.specs.declared.refusal.Refusal.TheVariants as refusal
 use Rattle.cap_filter.specs.Compilation.{IsCompiled, CompileLeaves}
-use Rattle.cap_filter.specs.Expressions.{IsReasonFor}
+use Rattle.cap_filter.specs.Expressions.{IsTextFault}
 use Rattle.cap_filter.specs.Messages.{refusal_message, refusal_status}
 use Rattle.cap_filter.specs.FilterRules.{Rule, IsRule, IsWhy}
 use Rattle.cap_filter.specs.Filters.{AreNew}
@@ -21,16 +21,16 @@ use Rattle.cap_inputs.specs.Inputs.{InputPast, steps_left}
 use Rattle.cap_tools.specs.Bounds.{IsLight, StepReads, most_turns}
 use Rattle.cap_tools.specs.Call.{RunResult}
 use Rattle.cap_tools.specs.Jobs.{JobView, Decided, IsStatus, JobGives, JobRuns, done_by}
-use Rattle.cap_tools.specs.FirstStep.{IsFresh, Lists, Refuses, filtering, is_text, output_of, output_name}
+use Rattle.cap_tools.specs.FirstStep.{IsFresh, WritesListing, RefusesStart, filtering, is_text, output_of, output_name}
 
 -- a job that still prepares made no step; what is compiled is written as text
-abbrev pub IsReady : Preparing → JobView → Type 0
-IsReady (ReadsFilter asked) j = IsFresh j
-IsReady (Compiles words link) j = IsFresh j × (is_text j.machine.output.target ≡ true)
+abbrev pub HasMadeNoStep : Preparing → JobView → Type 0
+HasMadeNoStep (ReadsFilter asked) j = IsFresh j
+HasMadeNoStep (Compiles words link) j = IsFresh j × (is_text j.machine.output.target ≡ true)
 
 abbrev pub IsReadyIf : Option Preparing → JobView → Type 0
 IsReadyIf None j = Unit {0}
-IsReadyIf (Some preparing) j = IsReady preparing j
+IsReadyIf (Some preparing) j = HasMadeNoStep preparing j
 
 -- ---- the first step
 
@@ -46,7 +46,7 @@ pub record IsFiltered (asked : FilterAsked) (old new : JobView) : Type 0 where
 pub record RefusesFilter (asked : FilterAsked) (tells : Bool) (old : JobView) (status : ℕ) (new : JobView) : Type 0 where
   pub refusal : Refusal
   pub why : IsWhy asked.words asked.code refusal
-  pub refuses : Refuses refusal tells old status new
+  pub refuses : RefusesStart refusal tells old status new
 
 abbrev pub FilterGives : FilterAsked → Bool → JobView → Turn → JobView → Type 0
 FilterGives asked tells old turn.More new = IsFiltered asked old new
@@ -56,13 +56,13 @@ FilterGives asked tells old (turn.Done status) new = RefusesFilter asked tells o
 pub record ListsSome (words : List ℕ) (link : Link) (tells : Bool) (old : JobView) (status : ℕ) (new : JobView) : Type 0 where
   pub prog : List Insn
   pub compiled : IsCompiled words link prog
-  pub lists : Lists prog tells old status new
+  pub lists : WritesListing prog tells old status new
 
 -- the expression is refused, or there was no memory for it
 pub record RefusesExpression (words : List ℕ) (tells : Bool) (old : JobView) (status : ℕ) (new : JobView) : Type 0 where
   pub fault : ExprFault
-  pub why : IsReasonFor words fault
-  pub refuses : Refuses (refusal.Expression fault) tells old status new
+  pub why : IsTextFault words fault
+  pub refuses : RefusesStart (refusal.Expression fault) tells old status new
 
 abbrev pub CompileGives : List ℕ → Link → Bool → JobView → Turn → JobView → Type 0
 CompileGives words link tells old turn.More new = ⊥
@@ -107,7 +107,7 @@ pub record KeepsFirst (old : JobView) (r : Turn) (new : JobView) : Type 0 where
 
 -- What every step of a job keeps, whatever the devices: it prepares no more, its end is known, a step is counted where it
 -- was under way, and what it holds is bounded.
-pub record Keeps (old : JobView) (r : Turn) (new : JobView) : Type 0 where
+pub record StepKeeps (old : JobView) (r : Turn) (new : JobView) : Type 0 where
   pub prepared : new.preparing ≡ None
   pub done : new.done ≡ done_by r
   pub status : IsStatus r

@@ -6,7 +6,7 @@ use Rattle.cap_filter.specs.declared.refusal.Refusal.{Refusal}
 use Rattle.cap_filter.specs.Compilation.{ListingLeaves}
 use Rattle.cap_filter.specs.Messages.{refusal_message, refusal_status}
 use Rattle.cap_filter.specs.FilterRules.{Rule}
-use Rattle.cap_filter.specs.Outcome.{OutputView, IsTold, Runs, seen}
+use Rattle.cap_filter.specs.Outcome.{OutputView, IsTold, Runs, output_view}
 use Rattle.cap_tools.specs.declared.job.Turn.{Turn}
 use Rattle.cap_tools.specs.declared.job.Turn.TheVariants as turn
 use Rattle.cap_tools.specs.Output.{Target, Capture, Text, Lines}
@@ -14,7 +14,7 @@ use Rattle.cap_tools.specs.Verdict.{Policy, Filter}
 use Rattle.cap_tools.specs.Selector.{state_with}
 use Rattle.cap_inputs.specs.Inputs.{steps_left, most_steps}
 use Rattle.cap_tools.specs.Reports.{name_at, nothing_counted}
-use Rattle.cap_tools.specs.Bounds.{most_turns, owed}
+use Rattle.cap_tools.specs.Bounds.{most_turns, steps_owed_in_all}
 use Rattle.cap_tools.specs.Machine.{MachineState, written_by, failures_by}
 use Rattle.cap_tools.specs.Jobs.{JobView}
 
@@ -24,7 +24,7 @@ pub record IsFresh (j : JobView) : Type 0 where
   pub done : j.done ≡ None
   pub programs : j.programs ≡ []
   pub left : steps_left j.machine.inputs < most_steps
-  pub few : owed j.machine.inputs < most_turns j.machine.inputs
+  pub few : steps_owed_in_all j.machine.inputs < most_turns j.machine.inputs
 
 abbrev pub is_text : Target → Bool
 is_text (Capture sink) = false
@@ -59,7 +59,7 @@ refusing refusal err j = record {
 
 -- the output
 abbrev pub output_by : MachineState → OutputView
-output_by m = seen (written_by m) (failures_by m)
+output_by m = output_view (written_by m) (failures_by m)
 
 abbrev pub output_of : JobView → OutputView
 output_of j = output_by j.machine
@@ -69,15 +69,15 @@ abbrev pub output_name : JobView → List ℕ
 output_name j = name_at j.machine.output.names (length j.machine.inputs.cursors)
 
 -- It is refused, or there was no memory for it, and nothing is read or written. A message that can't be written is lost.
-pub record Refuses (refusal : Refusal) (tells : Bool) (old : JobView) (status : ℕ) (new : JobView) : Type 0 where
+pub record RefusesStart (refusal : Refusal) (tells : Bool) (old : JobView) (status : ℕ) (new : JobView) : Type 0 where
   pub status_is : status ≡ refusal_status refusal
   pub told : IsTold tells old.err (refusal_message refusal) new.err
   pub new_is : new ≡ refusing refusal new.err old
 
 -- a listing is written, or a prefix of it where the output's device failed, and the job ended
-pub record Lists (insns : List Insn) (tells : Bool) (old : JobView) (status : ℕ) (new : JobView) : Type 0 where
+pub record WritesListing (insns : List Insn) (tells : Bool) (old : JobView) (status : ℕ) (new : JobView) : Type 0 where
   pub runs : Runs (ListingLeaves insns (output_name old) (output_of old) (output_of new) status) tells old.err new.err
 
 abbrev pub EndsList : List Insn → Bool → JobView → Turn → JobView → Type 0
 EndsList insns tells old turn.More new = ⊥
-EndsList insns tells old (turn.Done status) new = Lists insns tells old status new
+EndsList insns tells old (turn.Done status) new = WritesListing insns tells old status new

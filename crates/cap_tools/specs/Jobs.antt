@@ -14,7 +14,7 @@ use Rattle.cap_inputs.specs.Inputs.{InputView, InputsView, InputPast, most_steps
 use Rattle.cap_inputs.specs.Fresh.{fresh_inputs}
 use Rattle.cap_tools.specs.Call.{Call, RunResult}
 use Rattle.flt_bpf.specs.Content.{Content}
-use Rattle.cap_tools.specs.Machine.{MachineState, PacketsDecided, GoesOn, EndLeaves, StepGives, form_of, written_by, failures_by, texts}
+use Rattle.cap_tools.specs.Machine.{MachineState, PacketsDecided, GoesOn, EndLeaves, StepGives, output_form, written_by, failures_by, texts}
 use Rattle.cap_inputs.specs.Inputs.{never_failing}
 
 -- ---- the view
@@ -67,10 +67,10 @@ IsCounted (Some status) turns left = (turns ≤ most_steps + 1) × (status ≤ 2
 -- ---- how it ends
 
 -- what is reported of it
-abbrev pub end_text : List (List ℕ) → List InputView → JobEnd → List ℕ
-end_text names cursors end.Complete = []
-end_text names cursors (end.FaultIn input fault) = fault_message (name_at names input) (offset_at cursors input) fault
-end_text names cursors end.OutputFailed = write_failed_message (name_at names (length cursors))
+abbrev pub end_message : List (List ℕ) → List InputView → JobEnd → List ℕ
+end_message names cursors end.Complete = []
+end_message names cursors (end.FaultIn input fault) = fault_message (name_at names input) (offset_at cursors input) fault
+end_message names cursors end.OutputFailed = write_failed_message (name_at names (length cursors))
 
 abbrev pub end_status : JobEnd → ℕ
 end_status end.Complete = 0
@@ -84,7 +84,7 @@ end_status end.OutputFailed = 1
 pub record EndsJob (tells : Bool) (old : JobView) (status : ℕ) (new : JobView) : Type 0 where
   pub end : JobEnd
   pub leaves : StepGives old.machine (Some end) new.machine
-  pub told : IsTold tells old.err (end_text old.machine.output.names new.machine.inputs.cursors end) new.err
+  pub told : IsTold tells old.err (end_message old.machine.output.names new.machine.inputs.cursors end) new.err
   -- where all went well nothing is reported
   pub quiet : status ≡ 0 → new.err ≡ old.err
   pub status_is : status ≡ end_status end
@@ -120,7 +120,7 @@ pub record IsUnderWay (ss : List InputPast) (before : List ℕ) (first j : JobVi
   pub texts : texts past ≡ texts ss
   pub decided : Decided past before j
   pub policy : j.machine.policy ≡ first.machine.policy
-  pub form : form_of j.machine ≡ form_of first.machine
+  pub form : output_form j.machine ≡ output_form first.machine
   pub output : failures_by j.machine ≡ failures_by first.machine
   pub names : j.machine.output.names ≡ first.machine.output.names
   pub order : j.machine.inputs.order ≡ first.machine.inputs.order
@@ -137,6 +137,6 @@ pub record JobRuns (ss : List InputPast) (before : List ℕ) (tells : Bool) (fir
   pub leaves : EndLeaves progress.decided.packets end last
   pub written : r.output.written ≡ written_by last
   pub failures : r.output.failures ≡ failures_by last
-  pub told : IsTold tells first.err (end_text first.machine.output.names last.inputs.cursors end) r.messages
+  pub told : IsTold tells first.err (end_message first.machine.output.names last.inputs.cursors end) r.messages
   pub quiet : r.status ≡ 0 → r.messages ≡ first.err
   pub status_is : r.status ≡ end_status end

@@ -10,10 +10,10 @@ use Rattle.cap_filter.specs.FilterRules.{Rule, rule_decides}
 use Rattle.cap_window.specs.declared.mark.Mark.{Mark}
 use Rattle.cap_window.specs.Marks.{mark_of, last}
 use Rattle.cap_inputs.specs.Sequence.{Event, Packet, SequenceEnd, FaultIn}
-use Rattle.cap_tools.specs.Verdict.{Count, Filter, Edit, EditRule, is_selected, moved}
+use Rattle.cap_tools.specs.Verdict.{Count, Filter, Edit, EditRule, is_selected, shifted_time}
 use Rattle.cap_tools.specs.Reports.{Tally}
 use Rattle.cap_tools.specs.Outcome.{AsReports, no_progress, apply_events}
-use Rattle.cap_tools.specs.Edits.{coming, selected, unique_behind}
+use Rattle.cap_tools.specs.Edits.{coming, packets_selected, unique_behind}
 
 -- ---- what is counted
 
@@ -69,9 +69,9 @@ kept_by Skip p rest = rest
 kept_by (Refuse fault) p rest = []
 
 -- the packets that a rule keeps, up to the first that it refuses
-abbrev pub kept : Rule → List Captured → List Captured
-kept rule [] = []
-kept rule (p ∷ ps) = kept_by (rule_decides rule p) p (kept rule ps)
+abbrev pub packets_kept : Rule → List Captured → List Captured
+packets_kept rule [] = []
+packets_kept rule (p ∷ ps) = kept_by (rule_decides rule p) p (packets_kept rule ps)
 
 -- the first so many, or all
 abbrev pub at_most : Option ℕ → List Captured → List Captured
@@ -81,7 +81,7 @@ at_most (Some n) ps = take n ps
 -- of fewer than 2^63 packets those pass that the rule keeps, the first so many where a count is given
 abbrev pub PassesFiltered : Type 0
 PassesFiltered = (rule : Rule) (count : Option ℕ) (ps : List Captured) → IfSome count (λ (n : ℕ). 0 < n) → length ps < 2 ^ 63
-    → (apply_events (Filter rule count) (AsReports []) no_progress (coming ps)).packets ≡ at_most count (kept rule ps)
+    → (apply_events (Filter rule count) (AsReports []) no_progress (coming ps)).packets ≡ at_most count (packets_kept rule ps)
 
 -- ---- the window of an edit
 
@@ -92,7 +92,7 @@ marks ps = map (λ (p : Captured). mark_of p.bytes) ps
 -- behind fewer than 2^63 packets the window has the marks of the last n - 1 that were selected
 abbrev pub HasLastMarks : Type 0
 HasLastMarks = (s : EditRule) (n : ℕ) (ps : List Captured) → s.window ≡ Some n → length ps < 2 ^ 63
-    → (apply_events (Edit s) (AsReports []) no_progress (coming ps)).state.window ≡ last (n - 1) (marks (selected s 1 ps))
+    → (apply_events (Edit s) (AsReports []) no_progress (coming ps)).state.window ≡ last (n - 1) (marks (packets_selected s 1 ps))
 
 -- ---- how an edit ends
 
@@ -107,7 +107,7 @@ packets_of ps = map (λ (p : Placed). p.packet) ps
 
 -- whether the packet with this number is selected, and its time leaves its range by the shift
 abbrev pub leaves_range : EditRule → ℕ → Captured → Bool
-leaves_range s number p = is_selected s number p && is_none (moved s.shift p.time)
+leaves_range s number p = is_selected s number p && is_none (shifted_time s.shift p.time)
 
 -- where the first lies that does, the first of all having this number
 abbrev pub first_out_of_range : EditRule → ℕ → List Placed → Option ℕ
@@ -115,13 +115,13 @@ first_out_of_range s number [] = None
 first_out_of_range s number (p ∷ ps) = if leaves_range s number p.packet then Some p.offset else first_out_of_range s (number + 1) ps
 
 -- the job goes on where there is none, and else it ends there, for its time
-abbrev pub ends_at : Option ℕ → Option SequenceEnd
-ends_at None = None
-ends_at (Some offset) = Some (FaultIn 0 TimeOutOfRange offset)
+abbrev pub end_at_time : Option ℕ → Option SequenceEnd
+end_at_time None = None
+end_at_time (Some offset) = Some (FaultIn 0 TimeOutOfRange offset)
 
 -- An edit of fewer than 2^63 packets ends at the first that is selected and whose time leaves its range; what passes is
 -- what is unique of what is selected in front of it.
 abbrev pub EndsOutOfRange : Type 0
 EndsOutOfRange = (s : EditRule) (ps : List Placed) → length ps < 2 ^ 63
-    → ((apply_events (Edit s) (AsReports []) no_progress (arriving ps)).end ≡ ends_at (first_out_of_range s 1 ps))
-    × ((apply_events (Edit s) (AsReports []) no_progress (arriving ps)).packets ≡ unique_behind s.window [] (selected s 1 (packets_of ps)))
+    → ((apply_events (Edit s) (AsReports []) no_progress (arriving ps)).end ≡ end_at_time (first_out_of_range s 1 ps))
+    × ((apply_events (Edit s) (AsReports []) no_progress (arriving ps)).packets ≡ unique_behind s.window [] (packets_selected s 1 (packets_of ps)))

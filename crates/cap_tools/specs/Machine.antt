@@ -15,12 +15,12 @@ use Rattle.cap_tools.specs.declared.selector.Verdict.TheVariants as code_verdict
 use Rattle.cap_tools.specs.declared.step.JobEnd.{JobEnd}
 use Rattle.cap_tools.specs.declared.step.JobEnd.TheVariants as end
 use Rattle.cap_tools.specs.Reports.{Report, Tally, report_text}
-use Rattle.cap_tools.specs.Output.{JobOutputView, Target, HasWritten, Puts, Reports, form_at, written_to, failures_to}
+use Rattle.cap_tools.specs.Output.{JobOutputView, Target, HasWritten, PutsIntoOutput, Reports, form_at, written_to, failures_to}
 use Rattle.cap_inputs.specs.Sequence.{Event, Packet, InputEnd, SequenceEnd, Complete, FaultIn, InputItems, PacketOrder, InTurn, ByTime, sequence_of, whole_input}
 use Rattle.cap_tools.specs.Verdict.{Policy, SelectorState, PassesAs, judge}
-use Rattle.cap_tools.specs.Selector.{PolicyState, SelectorView, IsWithin, emptied, is_count, most_spent, spent_by_verdict}
+use Rattle.cap_tools.specs.Selector.{PolicyState, SelectorView, IsWithin, with_empty_tally, is_count, most_spent, spent_by_verdict}
 use Rattle.cap_tools.specs.Selector as selecting
-use Rattle.cap_tools.specs.Outcome.{Form, Progress, Work, ComeFirst, IsNextEvent, AreAllEvents, cut_at, no_progress, apply_events, final_progress, final_text, output_text, closing_text, first_link, packet_bytes, report_bytes, form_refuses, form_takes_memory}
+use Rattle.cap_tools.specs.Outcome.{Form, JobProgress, Work, ComeFirst, IsNextEvent, AreAllEvents, cut_at, no_progress, apply_events, final_progress, final_text, output_text, closing_text, first_link, packet_bytes, report_bytes, form_refuses, form_takes_memory}
 use Rattle.cap_inputs.specs.Inputs.{InputsView, InputView, InputPast, AreInputsBehind, KnowGreatest, AreSettled, IsInput, ReadsInput, IsNext, input_after, never_failing}
 
 -- ---- the view
@@ -34,12 +34,12 @@ pub record MachineState : Type 0 where
   -- how many packets are decided
   pub decided : ℕ
 
-abbrev pub form_of : MachineState → Form
-form_of m = form_at m.output
+abbrev pub output_form : MachineState → Form
+output_form m = form_at m.output
 
 -- in which order its packets come, how they are judged, and in which form they are written
 abbrev pub work_of : MachineState → Work
-work_of m = record { order = m.inputs.order; policy = m.policy; form = form_of m }
+work_of m = record { order = m.inputs.order; policy = m.policy; form = output_form m }
 
 abbrev pub written_by : MachineState → List ℕ
 written_by m = written_to m.output.target
@@ -56,7 +56,7 @@ abbrev pub wholes_of : List InputPast → List InputItems
 wholes_of ss = map whole_input (texts ss)
 
 -- how far the job is, with these packets and reports
-abbrev pub progress_at : MachineState → List Captured → List Report → Progress
+abbrev pub progress_at : MachineState → List Captured → List Report → JobProgress
 progress_at m packets reports = record { decided = m.decided; state = m.state; packets = packets; reports = reports; end = None }
 
 -- Of each input some bytes are done: their packets are decided, in the job's order, with their greatest time known, and
@@ -71,7 +71,7 @@ pub record PacketsDecided (ss : List InputPast) (before : List ℕ) (m : Machine
   pub come : AreSettled ss m.inputs events
   pub packets : List Captured
   pub reports : List Report
-  pub progress : apply_events m.policy (form_of m) no_progress events ≡ progress_at m packets reports
+  pub progress : apply_events m.policy (output_form m) no_progress events ≡ progress_at m packets reports
   pub output : HasWritten before m.output packets reports
   pub passed : m.state.passed ≤ m.decided
   pub counted : IsWithin m.decided m.state.tally
@@ -80,8 +80,8 @@ pub record PacketsDecided (ss : List InputPast) (before : List ℕ) (m : Machine
 
 -- what a call returns that says whether the packet is the last
 abbrev pub PutsAs : Bool → Captured → Target → Result Bool Fault → Target → Type 0
-PutsAs last p old (Ok b) new = (b ≡ last) × Puts p old (Ok tt) new
-PutsAs last p old (Err fault) new = Puts p old (Err fault) new
+PutsAs last p old (Ok b) new = (b ≡ last) × PutsIntoOutput p old (Ok tt) new
+PutsAs last p old (Err fault) new = PutsIntoOutput p old (Err fault) new
 
 abbrev pub Offers : code.Verdict → Captured → Target → Result Bool Fault → Target → Type 0
 Offers code_verdict.Pass p old r new = PutsAs false p old r new
@@ -111,9 +111,9 @@ pub record Rejects (p : Captured) (number : ℕ) (old : Sieve Target) (r : Resul
   pub answer : r ≡ Err fault
   pub same : new.output ≡ old.output
 
-abbrev pub Decides : Option Captured → ℕ → Sieve Target → Result Bool Fault → Sieve Target → Type 0
-Decides None number old r new = ⊥
-Decides (Some p) number old r new = Judges p number old r new ⊎ Rejects p number old r new
+abbrev pub DecidesPacket : Option Captured → ℕ → Sieve Target → Result Bool Fault → Sieve Target → Type 0
+DecidesPacket None number old r new = ⊥
+DecidesPacket (Some p) number old r new = Judges p number old r new ⊎ Rejects p number old r new
 
 -- what deciding the current packet cost
 abbrev pub Spends : Option Captured → SelectorView → ℕ → SelectorView → Type 0
@@ -138,7 +138,7 @@ pub record ReportsOn (input : ℕ) (cursor : InputView) (old : Sieve JobOutputVi
   pub reports : Reports (report_text old.output.names (report_at input cursor old.selector.state.tally)) old.output.target answer new.output.target
   pub names : new.output.names ≡ old.output.names
   pub is : r ≡ unless_failed answer
-  pub selector_is : new.selector ≡ record { policy = old.selector.policy; state = emptied old.selector.state }
+  pub selector_is : new.selector ≡ record { policy = old.selector.policy; state = with_empty_tally old.selector.state }
 
 abbrev pub ClosesBy : Bool → ℕ → InputView → Sieve JobOutputView → Option JobEnd → Sieve JobOutputView → Type 0
 ClosesBy false input cursor old r new = (r ≡ None) × (new.selector ≡ old.selector) × (new.output ≡ old.output)
@@ -150,9 +150,9 @@ pub record Closes (inputs : InputsView) (input : ℕ) (old : Sieve JobOutputView
   pub among : IsInput inputs.cursors input cursor
   pub by : ClosesBy (asks_report inputs.order old.selector.policy) input cursor old r new
 
-abbrev pub unwritten : ℕ → Fault → JobEnd
-unwritten input WriteFailed = end.OutputFailed
-unwritten input fault = end.FaultIn input fault
+abbrev pub end_of_failed_write : ℕ → Fault → JobEnd
+end_of_failed_write input WriteFailed = end.OutputFailed
+end_of_failed_write input fault = end.FaultIn input fault
 
 -- ---- what a step leaves
 
@@ -164,20 +164,20 @@ finish_at (s ∷ ss) (suc i) bytes packets = s ∷ finish_at ss i bytes packets
 
 -- What a step adds to the output, where the job is at `far` before the step and at `next` behind it: nothing, a packet
 -- that passes, the report of an input, or what a clean end adds.
-pub data OneAnswer (form : Form) (link : Option ℕ) (far next : Progress) (bytes : List ℕ) : Type 0 where
+pub data OneAnswer (form : Form) (link : Option ℕ) (far next : JobProgress) (bytes : List ℕ) : Type 0 where
   nothing : next.packets ≡ far.packets → next.reports ≡ far.reports → bytes ≡ [] → OneAnswer form link far next bytes
   packet : (p : Captured) → next.packets ≡ far.packets ++ p ∷ [] → next.reports ≡ far.reports → bytes ≡ packet_bytes form far.packets p → OneAnswer form link far next bytes
   report : (r : Report) → next.packets ≡ far.packets → next.reports ≡ far.reports ++ r ∷ [] → bytes ≡ report_bytes form r → OneAnswer form link far next bytes
   closes : next.packets ≡ far.packets → next.reports ≡ far.reports → next.end ≡ Some Complete → bytes ≡ closing_text form link far.packets → OneAnswer form link far next bytes
 
 -- What a step appends to the output is one answer, or nothing.
-pub record AppendsOnce (link : Option ℕ) (far next : Progress) (old new : JobOutputView) : Type 0 where
+pub record AppendsOnce (link : Option ℕ) (far next : JobProgress) (old new : JobOutputView) : Type 0 where
   pub bytes : List ℕ
   pub appended : written_to new.target ≡ written_to old.target ++ bytes
   pub one : OneAnswer (form_at old) link far next bytes
 
 -- how far the job is
-abbrev pub progress_of : {ss : List InputPast} {before : List ℕ} {m : MachineState} → PacketsDecided ss before m → Progress
+abbrev pub progress_of : {ss : List InputPast} {before : List ℕ} {m : MachineState} → PacketsDecided ss before m → JobProgress
 progress_of {ss} {before} {m} d = progress_at m d.packets d.reports
 
 -- it goes on, and finished some bytes of one input
@@ -189,7 +189,7 @@ pub record GoesOn {ss : List InputPast} {before : List ℕ} {old : MachineState}
   pub past_is : past ≡ finish_at ss input finished packets
   pub decided : PacketsDecided past before new
   pub at_most_one : new.decided ≤ old.decided + 1
-  pub form : form_of new ≡ form_of old
+  pub form : output_form new ≡ output_form old
   pub once : AppendsOnce (first_link (wholes_of ss)) (progress_of d) (progress_of decided) old.output new.output
   -- the output's device didn't fail
   pub output : failures_by new ≡ failures_by old
@@ -198,13 +198,13 @@ pub record GoesOn {ss : List InputPast} {before : List ℕ} {old : MachineState}
   pub never : never_failing new.inputs.cursors ≡ never_failing old.inputs.cursors
 
 -- how far a job comes over inputs with these items
-abbrev pub progress_over : MachineState → List InputItems → Progress
-progress_over m rs = final_progress m.policy (form_of m) (sequence_of m.inputs.order rs)
+abbrev pub progress_over : MachineState → List InputItems → JobProgress
+progress_over m rs = final_progress m.policy (output_form m) (sequence_of m.inputs.order rs)
 
 -- the output is all that the job writes of inputs with these items, and they end so
-pub record Comes {ss : List InputPast} {before : List ℕ} {old : MachineState} (rs : List InputItems) (d : PacketsDecided ss before old) (new : MachineState) (close : SequenceEnd) : Type 0 where
+pub record CompletesOutput {ss : List InputPast} {before : List ℕ} {old : MachineState} (rs : List InputItems) (d : PacketsDecided ss before old) (new : MachineState) (close : SequenceEnd) : Type 0 where
   pub ends : (progress_over old rs).end ≡ Some close
-  pub written : written_by new ≡ before ++ final_text (form_of old) (first_link rs) (progress_over old rs)
+  pub written : written_by new ≡ before ++ final_text (output_form old) (first_link rs) (progress_over old rs)
   pub once : AppendsOnce (first_link rs) (progress_of d) (progress_over old rs) old.output new.output
   -- the output's device didn't fail
   pub device : failures_by new ≡ failures_by old
@@ -224,7 +224,7 @@ pub record EndsByCut {ss : List InputPast} {before : List ℕ} {old : MachineSta
   pub next : IsNext old.inputs (next.Read input)
   pub advances : Advances cursor.source.phase cursor.source (Err fault) after
   pub why : ((fault ≡ ReadFailed) × (cursor.source.failures < after.failures) × (cursor.source.never_fails ≡ false)) ⊎ (fault ≡ NoMemory)
-  pub comes : Comes (cut_at (wholes_of ss) input held) d new (FaultIn input fault after.offset)
+  pub comes : CompletesOutput (cut_at (wholes_of ss) input held) d new (FaultIn input fault after.offset)
 
 -- There was no memory to write the current packet of this input, which is the next of the order, begins where `after` stands
 -- and is kept: the output stays.
@@ -235,8 +235,8 @@ pub record WantsMemory {ss : List InputPast} {before : List ℕ} {old : MachineS
   pub place : after.offset ≡ packet.offset
   pub kept : Captured
   pub passes : PassesAs (judge old.policy old.state (old.decided + 1) packet.packet).verdict kept
-  pub taken : form_refuses (form_of old) d.packets kept ≡ None
-  pub takes : form_takes_memory (form_of old) d.packets kept ≡ true
+  pub taken : form_refuses (output_form old) d.packets kept ≡ None
+  pub takes : form_takes_memory (output_form old) d.packets kept ≡ true
   pub inputs : new.inputs ≡ old.inputs
   pub why : fault ≡ NoMemory
   pub written : written_by new ≡ written_by old
@@ -253,8 +253,8 @@ pub record NextPacket {ss : List InputPast} {before : List ℕ} {old : MachineSt
   pub comes : IsNextEvent (work_of old) (wholes_of ss) d.events (Packet input (record { offset = cursor.source.offset; packet = packet }))
   pub passed : Captured
   pub passes : PassesAs (judge old.policy old.state (old.decided + 1) packet).verdict passed
-  pub taken : form_refuses (form_of old) d.packets passed ≡ None
-  pub bytes_are : bytes ≡ packet_bytes (form_of old) d.packets passed
+  pub taken : form_refuses (output_form old) d.packets passed ≡ None
+  pub bytes_are : bytes ≡ packet_bytes (output_form old) d.packets passed
   pub inputs : new.inputs ≡ old.inputs
 
 -- next is an input that is read to its end in this step, and reported; this is its report
@@ -264,13 +264,13 @@ pub record NextReport {ss : List InputPast} {before : List ℕ} {old : MachineSt
   pub fetches : ReadsInput old.inputs input (Ok false) new.inputs
   pub comes : IsNextEvent (work_of old) (wholes_of ss) d.events (InputEnd input (kind_of fetches.source.declared) fetches.source.offset)
   pub policy : asks_report old.inputs.order old.policy ≡ true
-  pub bytes_are : bytes ≡ report_bytes (form_of old) (report_at input (input_after fetches.cursor (Ok false) fetches.source) old.state.tally)
+  pub bytes_are : bytes ≡ report_bytes (output_form old) (report_at input (input_after fetches.cursor (Ok false) fetches.source) old.state.tally)
 
 -- all inputs were read; this is what a clean end adds
 pub record NextClosing {ss : List InputPast} {before : List ℕ} {old : MachineState} (d : PacketsDecided ss before old) (new : MachineState) (bytes : List ℕ) : Type 0 where
   pub next : IsNext old.inputs next.Finish
   pub comes : AreAllEvents (work_of old) (wholes_of ss) d.events
-  pub bytes_are : bytes ≡ closing_text (form_of old) (first_link (wholes_of ss)) d.packets
+  pub bytes_are : bytes ≡ closing_text (output_form old) (first_link (wholes_of ss)) d.packets
   pub inputs : new.inputs ≡ old.inputs
 
 -- The output's device failed in this step, after a prefix of what comes next in the whole output.
@@ -279,14 +279,14 @@ pub record StopsWriting {ss : List InputPast} {before : List ℕ} {old : Machine
   pub bytes : List ℕ
   pub answer : NextPacket d new bytes ⊎ NextReport d new bytes ⊎ NextClosing d new bytes
   pub back : List ℕ
-  pub whole : final_text (form_of old) (first_link (wholes_of ss)) (progress_over old (wholes_of ss)) ≡ output_text (form_of old) d.packets d.reports ++ (bytes ++ back)
-  pub so_far : written_by old ≡ before ++ output_text (form_of old) d.packets d.reports
+  pub whole : final_text (output_form old) (first_link (wholes_of ss)) (progress_over old (wholes_of ss)) ≡ output_text (output_form old) d.packets d.reports ++ (bytes ++ back)
+  pub so_far : written_by old ≡ before ++ output_text (output_form old) d.packets d.reports
   pub stops : Stops (written_by old) bytes (written_by new)
 
 -- the inputs end so, or the current packet is refused; or the input is cut short; or there was no memory
 abbrev pub WhyBroken : {ss : List InputPast} {before : List ℕ} {old : MachineState} → PacketsDecided ss before old → MachineState → ℕ → Fault → SourceView → Type 0
 WhyBroken {ss} {before} {old} d new input fault after =
-    Comes (wholes_of ss) d new (FaultIn input fault after.offset) ⊎ EndsByCut d new input fault after ⊎ WantsMemory d new input fault after
+    CompletesOutput (wholes_of ss) d new (FaultIn input fault after.offset) ⊎ EndsByCut d new input fault after ⊎ WantsMemory d new input fault after
 
 pub record BreaksAt {ss : List InputPast} {before : List ℕ} {old : MachineState} (d : PacketsDecided ss before old) (new : MachineState) (input : ℕ) (fault : Fault) : Type 0 where
   pub cursor : InputView
@@ -294,7 +294,7 @@ pub record BreaksAt {ss : List InputPast} {before : List ℕ} {old : MachineStat
   pub why : WhyBroken d new input fault cursor.source
 
 abbrev pub EndLeaves : {ss : List InputPast} {before : List ℕ} {old : MachineState} → PacketsDecided ss before old → JobEnd → MachineState → Type 0
-EndLeaves {ss} {before} {old} d end.Complete new = Comes (wholes_of ss) d new Complete
+EndLeaves {ss} {before} {old} d end.Complete new = CompletesOutput (wholes_of ss) d new Complete
 EndLeaves {ss} {before} {old} d (end.FaultIn input fault) new = BreaksAt d new input fault
 EndLeaves {ss} {before} {old} d end.OutputFailed new = StopsWriting d new
 

@@ -42,18 +42,18 @@ form_takes_memory (AsLines options) ps p = false
 
 -- How far a job is: how many packets are decided, what was met, the packets that passed, the reports, and how it
 -- ended, where it did.
-pub record Progress : Type 0 where
+pub record JobProgress : Type 0 where
   pub decided : ℕ
   pub state : SelectorState
   pub packets : List Captured
   pub reports : List Report
   pub end : Option SequenceEnd
 
-abbrev pub no_progress : Progress
+abbrev pub no_progress : JobProgress
 no_progress = record { decided = 0; state = initial_state; packets = []; reports = []; end = None }
 
 -- one packet is decided
-abbrev pub decide : Progress → SelectorState → List Captured → Option SequenceEnd → Progress
+abbrev pub decide : JobProgress → SelectorState → List Captured → Option SequenceEnd → JobProgress
 decide w state new end = record {
   decided = w.decided + 1;
   state = state;
@@ -63,22 +63,22 @@ decide w state new end = record {
 }
 
 -- a packet isn't decided: the job ends at it
-abbrev pub end_with : Progress → SequenceEnd → Progress
+abbrev pub end_with : JobProgress → SequenceEnd → JobProgress
 end_with w close = record { decided = w.decided; state = w.state; packets = w.packets; reports = w.reports; end = Some close }
 
 -- the packet that passes is written, or the form refuses it
-abbrev pub decide_unless : Option Fault → Progress → ℕ → Placed → SelectorState → Captured → Option SequenceEnd → Progress
+abbrev pub decide_unless : Option Fault → JobProgress → ℕ → Placed → SelectorState → Captured → Option SequenceEnd → JobProgress
 decide_unless None w input p state q end = decide w state (q ∷ []) end
 decide_unless (Some fault) w input p state q end = end_with w (FaultIn input fault p.offset)
 
-abbrev pub apply_verdict : Form → Progress → ℕ → Placed → Verdict → SelectorState → Progress
+abbrev pub apply_verdict : Form → JobProgress → ℕ → Placed → Verdict → SelectorState → JobProgress
 apply_verdict form w input p (Pass q) state = decide_unless (form_refuses form w.packets q) w input p state q None
 apply_verdict form w input p (PassLast q) state = decide_unless (form_refuses form w.packets q) w input p state q (Some Complete)
 apply_verdict form w input p Skip state = decide w state [] None
 apply_verdict form w input p (Refuse fault) state = end_with w (FaultIn input fault p.offset)
 
 -- an input that was read to its end is reported, where reports are asked
-abbrev pub end_input : Policy → Progress → ℕ → Option Kind → ℕ → Progress
+abbrev pub end_input : Policy → JobProgress → ℕ → Option Kind → ℕ → JobProgress
 end_input Count w input kind size = record {
   decided = w.decided;
   state = record { passed = w.state.passed; window = w.state.window; tally = nothing_counted };
@@ -88,30 +88,30 @@ end_input Count w input kind size = record {
 }
 end_input policy w input kind size = w
 
-abbrev pub apply_event : Policy → Form → Progress → Event → Progress
+abbrev pub apply_event : Policy → Form → JobProgress → Event → JobProgress
 apply_event policy form w (Packet input p) =
     apply_verdict form w input p (judge policy w.state (w.decided + 1) p.packet).verdict (judge policy w.state (w.decided + 1) p.packet).state
 apply_event policy form w (InputEnd input kind size) = end_input policy w input kind size
 
 -- what ended stays
-abbrev pub unless_ended : Option SequenceEnd → Progress → Progress → Progress
+abbrev pub unless_ended : Option SequenceEnd → JobProgress → JobProgress → JobProgress
 unless_ended None w next = next
 unless_ended (Some close) w next = w
 
 -- how far a job is behind an event
-abbrev pub next_progress : Policy → Form → Progress → Event → Progress
+abbrev pub next_progress : Policy → Form → JobProgress → Event → JobProgress
 next_progress policy form w e = unless_ended w.end w (apply_event policy form w e)
 
 -- and behind events
-abbrev pub apply_events : Policy → Form → Progress → List Event → Progress
+abbrev pub apply_events : Policy → Form → JobProgress → List Event → JobProgress
 apply_events policy form w [] = w
 apply_events policy form w (e ∷ es) = apply_events policy form (next_progress policy form w e) es
 
-abbrev pub end_unless_ended : Progress → SequenceEnd → Progress
+abbrev pub end_unless_ended : JobProgress → SequenceEnd → JobProgress
 end_unless_ended w close = unless_ended w.end w (end_with w close)
 
 -- how far a job comes over a whole sequence
-abbrev pub final_progress : Policy → Form → Sequence → Progress
+abbrev pub final_progress : Policy → Form → Sequence → JobProgress
 final_progress policy form s = end_unless_ended (apply_events policy form no_progress s.events) s.end
 
 -- ---- what comes of it
@@ -154,7 +154,7 @@ abbrev pub text_at_end : Option SequenceEnd → Form → Option ℕ → List Cap
 text_at_end (Some Complete) form link ps = closing_text form link ps
 text_at_end end form link ps = []
 
-abbrev pub final_text : Form → Option ℕ → Progress → List ℕ
+abbrev pub final_text : Form → Option ℕ → JobProgress → List ℕ
 final_text form link w = output_text form w.packets w.reports ++ text_at_end w.end form link w.packets
 
 abbrev pub message : List (List ℕ) → Option SequenceEnd → List ℕ
@@ -177,7 +177,7 @@ pub record Work : Type 0 where
   pub policy : Policy
   pub form : Form
 
-abbrev pub outcome_at : Work → List (List ℕ) → List InputItems → Progress → Outcome
+abbrev pub outcome_at : Work → List (List ℕ) → List InputItems → JobProgress → Outcome
 outcome_at work names rs w = record {
   output = final_text work.form (first_link rs) w;
   messages = message names w.end;
@@ -202,10 +202,10 @@ pub record ComeFirst (order : Sequence) (es : List Event) : Type 0 where
   pub is : order ≡ with_front es later
 
 -- how far a job with this work is behind these events, and what is written then
-abbrev pub progress_behind : Work → List Event → Progress
+abbrev pub progress_behind : Work → List Event → JobProgress
 progress_behind work es = apply_events work.policy work.form no_progress es
 
-abbrev pub text_of_progress : Form → Progress → List ℕ
+abbrev pub text_of_progress : Form → JobProgress → List ℕ
 text_of_progress form w = output_text form w.packets w.reports
 
 abbrev pub text_behind : Work → List Event → List ℕ

@@ -92,13 +92,13 @@ pub record Prints (bytes written : List ℕ) (failures : ℕ) (r : Result (Unit 
   pub is : new ≡ lines after (failures + failures_of r)
 
 -- a packet is written, where packets are
-abbrev pub Puts : Captured → Target → Result (Unit {0}) Fault → Target → Type 0
-Puts p (Capture sink) r new = PutsInto p sink r new
-Puts p (Text written failures room) r new = (r ≡ Ok tt) × (new ≡ Text written failures room)
-Puts p (Lines options written failures room) r new = Prints (printed options p) written failures r (λ w f. Lines options w f room) new
+abbrev pub PutsIntoOutput : Captured → Target → Result (Unit {0}) Fault → Target → Type 0
+PutsIntoOutput p (Capture sink) r new = PutsInto p sink r new
+PutsIntoOutput p (Text written failures room) r new = (r ≡ Ok tt) × (new ≡ Text written failures room)
+PutsIntoOutput p (Lines options written failures room) r new = Prints (printed options p) written failures r (λ w f. Lines options w f room) new
 
 -- a text is appended, or the device failed
-pub record Appends {E : Type 0} (bytes written : List ℕ) (failures room : ℕ) (r : Result (Unit {0}) E) (new : Target) : Type 0 where
+pub record AppendsText {E : Type 0} (bytes written : List ℕ) (failures room : ℕ) (r : Result (Unit {0}) E) (new : Target) : Type 0 where
   pub after : List ℕ
   pub appends : AppendsOrStops r written bytes after
   pub is : new ≡ Text after (failures + failures_of r) room
@@ -106,14 +106,14 @@ pub record Appends {E : Type 0} (bytes written : List ℕ) (failures room : ℕ)
 -- a report is written, where reports are
 abbrev pub Reports : List ℕ → Target → Result (Unit {0}) DeviceFault → Target → Type 0
 Reports bytes (Capture sink) r new = (r ≡ Ok tt) × (new ≡ Capture sink)
-Reports bytes (Text written failures room) r new = Appends bytes written failures room r new
+Reports bytes (Text written failures room) r new = AppendsText bytes written failures room r new
 Reports bytes (Lines options written failures room) r new = (r ≡ Ok tt) × (new ≡ Lines options written failures room)
 
 -- a listing is written, where text is
-abbrev pub Lists : List ℕ → Target → Result (Unit {0}) Stopped → Target → Type 0
-Lists bytes (Capture sink) r new = (r ≡ Ok tt) × (new ≡ Capture sink)
-Lists bytes (Text written failures room) r new = Appends bytes written failures room r new
-Lists bytes (Lines options written failures room) r new = (r ≡ Ok tt) × (new ≡ Lines options written failures room)
+abbrev pub ListsText : List ℕ → Target → Result (Unit {0}) Stopped → Target → Type 0
+ListsText bytes (Capture sink) r new = (r ≡ Ok tt) × (new ≡ Capture sink)
+ListsText bytes (Text written failures room) r new = AppendsText bytes written failures room r new
+ListsText bytes (Lines options written failures room) r new = (r ≡ Ok tt) × (new ≡ Lines options written failures room)
 
 -- a capture is finished
 pub record FinishesInto (first : Option ℕ) (old : SinkView) (r : Result (Unit {0}) Fault) (new : Target) : Type 0 where
@@ -123,7 +123,7 @@ pub record FinishesInto (first : Option ℕ) (old : SinkView) (r : Result (Unit 
   pub writes : FinishWrites old.state old first r sink
 
 -- what is written is ended
-abbrev pub Finishes : Option ℕ → Target → Result (Unit {0}) Fault → Target → Type 0
-Finishes first (Capture sink) r new = FinishesInto first sink r new
-Finishes first (Text written failures room) r new = (r ≡ Ok tt) × (new ≡ Text written failures room)
-Finishes first (Lines options written failures room) r new = (r ≡ Ok tt) × (new ≡ Lines options written failures room)
+abbrev pub EndsOutput : Option ℕ → Target → Result (Unit {0}) Fault → Target → Type 0
+EndsOutput first (Capture sink) r new = FinishesInto first sink r new
+EndsOutput first (Text written failures room) r new = (r ≡ Ok tt) × (new ≡ Text written failures room)
+EndsOutput first (Lines options written failures room) r new = (r ≡ Ok tt) × (new ≡ Lines options written failures room)

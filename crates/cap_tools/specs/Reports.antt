@@ -23,8 +23,8 @@ pub record Tally : Type 0 where
 abbrev pub nothing_counted : Tally
 nothing_counted = record { count = 0; data_size = 0; captured_size = 0; least = 0; greatest = 0; last = 0; strict = true }
 
-abbrev pub counted : Tally → Captured → Tally
-counted t p = record {
+abbrev pub tally_with : Tally → Captured → Tally
+tally_with t p = record {
   count = t.count + 1;
   data_size = t.data_size + p.orig;
   captured_size = t.captured_size + length p.bytes;
@@ -35,8 +35,8 @@ counted t p = record {
 }
 
 -- one packet more fits the tally's numbers
-abbrev pub HasRoom : Tally → Type 0
-HasRoom t = (t.count < 2 ^ 127) × (t.data_size < 2 ^ 127) × (t.captured_size < 2 ^ 127)
+abbrev pub FitsTally : Tally → Type 0
+FitsTally t = (t.count < 2 ^ 127) × (t.data_size < 2 ^ 127) × (t.captured_size < 2 ^ 127)
 
 -- ---- reports
 

@@ -13,7 +13,7 @@ use Rattle.flt_gen.specs.declared.link.Link.{Link}
 use Rattle.cap_filter.specs.declared.refusal.Refusal.{Refusal}
 use Rattle.cap_filter.specs.declared.refusal.Refusal.TheVariants as refusal
 use Rattle.cap_filter.specs.Compilation.{IsCompiled}
-use Rattle.cap_filter.specs.Expressions.{IsReasonFor}
+use Rattle.cap_filter.specs.Expressions.{IsTextFault}
 use Rattle.cap_filter.specs.FilterRules.{Rule, IsRule, IsWhy}
 use Rattle.cap_filter.specs.Messages.{fault_message, no_memory_message, refusal_message, refusal_status, write_failed_message}
 use Rattle.cap_filter.specs.Outcome.{IsTold}
@@ -57,7 +57,7 @@ whole_inputs call = map (λ (input : FreshInput). whole_input input.text) call.i
 abbrev pub IsWhyRefused : Option Preparing → Refusal → Type 0
 IsWhyRefused None why = ⊥
 IsWhyRefused (Some (ReadsFilter filter)) why = IsWhy filter.words filter.code why
-IsWhyRefused (Some (Compiles words link)) (refusal.Expression fault) = IsReasonFor words fault
+IsWhyRefused (Some (Compiles words link)) (refusal.Expression fault) = IsTextFault words fault
 IsWhyRefused (Some (Compiles words link)) why = ⊥
 
 abbrev pub refusal_outcome : Refusal → Outcome

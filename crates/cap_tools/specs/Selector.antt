@@ -107,9 +107,9 @@ is_count (Filter rule count) = false
 is_count KeepAll = false
 is_count Count = true
 
-abbrev pub count_of : Policy → Option ℕ
-count_of (Filter rule count) = count
-count_of policy = None
+abbrev pub count_limit : Policy → Option ℕ
+count_limit (Filter rule count) = count
+count_limit policy = None
 
 -- a verdict on a packet that is to be written so, where it passes
 abbrev pub verdict_of : code.Verdict → Captured → Verdict
@@ -117,9 +117,9 @@ verdict_of code_verdict.Pass p = Pass p
 verdict_of code_verdict.PassLast p = PassLast p
 verdict_of code_verdict.Skip p = judged.Skip
 
-abbrev pub passing : Captured → Bool → Verdict
-passing p true = PassLast p
-passing p false = Pass p
+abbrev pub verdict_if : Captured → Bool → Verdict
+verdict_if p true = PassLast p
+verdict_if p false = Pass p
 
 -- what is returned of a packet, and what is made of it: what it is to be, or its refusal
 abbrev pub IsVerdict : Judgement → Result code.Verdict Fault → Captured → SelectorState → Type 0
@@ -128,10 +128,10 @@ IsVerdict j (Err fault) p state = j.verdict ≡ Refuse fault
 
 -- What is returned of a packet where so many may pass: whether it passes, the packet as it does, and the state beside
 -- those that passed; or its refusal.
-abbrev pub Keeps : Option ℕ → Judgement → Result Bool Fault → Captured → SelectorState → Type 0
-Keeps count j (Ok false) p state = (j.verdict ≡ judged.Skip) × (j.state ≡ state)
-Keeps count j (Ok true) p state = j ≡ counts count state p
-Keeps count j (Err fault) p state = j.verdict ≡ Refuse fault
+abbrev pub ReturnsVerdict : Option ℕ → Judgement → Result Bool Fault → Captured → SelectorState → Type 0
+ReturnsVerdict count j (Ok false) p state = (j.verdict ≡ judged.Skip) × (j.state ≡ state)
+ReturnsVerdict count j (Ok true) p state = j ≡ counts count state p
+ReturnsVerdict count j (Err fault) p state = j.verdict ≡ Refuse fault
 
 -- ---- the window
 
@@ -173,10 +173,10 @@ abbrev pub GrowsByOne : Tally → Tally → Type 0
 GrowsByOne old new = (new.count ≤ old.count + 1) × (new.data_size ≤ old.data_size + 2 ^ 32) × (new.captured_size ≤ old.captured_size + most_in_unit)
 
 -- nothing is counted
-abbrev pub emptied : SelectorState → SelectorState
-emptied s = record { passed = s.passed; window = s.window; tally = nothing_counted }
+abbrev pub with_empty_tally : SelectorState → SelectorState
+with_empty_tally s = record { passed = s.passed; window = s.window; tally = nothing_counted }
 
 -- what was counted is taken, where reports are asked
 abbrev pub TakesTally : Bool → PolicyState → Option Tally → PolicyState → Type 0
 TakesTally false old r new = (r ≡ None) × (new ≡ old)
-TakesTally true old r new = (r ≡ Some old.state.tally) × (new ≡ record { policy = old.policy; state = emptied old.state })
+TakesTally true old r new = (r ≡ Some old.state.tally) × (new ≡ record { policy = old.policy; state = with_empty_tally old.state })

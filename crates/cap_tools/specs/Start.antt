@@ -6,7 +6,7 @@ use Rattle.flt_gen.specs.declared.link.Link.{Link}
 use Rattle.cap_filter.specs.declared.command.Command.{Command}
 use Rattle.cap_filter.specs.declared.command.Print.{Print}
 use Rattle.cap_filter.specs.declared.command.Command.TheVariants as command
-use Rattle.cap_filter.specs.FilterRules.{code_of}
+use Rattle.cap_filter.specs.FilterRules.{listing_of}
 use Rattle.cap_tools.specs.declared.start.Preparation.{Preparation}
 use Rattle.cap_tools.specs.declared.start.Preparation.TheVariants as preparation
 use Rattle.cap_tools.specs.declared.output.Writing.{Writing}
@@ -22,7 +22,7 @@ pub record FilterAsked : Type 0 where
   pub count : Option ℕ
 
 abbrev pub asked_by : {Z : Type 0} → Print Z → FilterAsked
-asked_by print = record { words = string_bytes print.expr; code = code_of print; count = print.count }
+asked_by print = record { words = string_bytes print.expr; code = listing_of print; count = print.count }
 
 -- what a job does before its first packet: it reads a filter, or it compiles an expression, and nothing else
 pub data Preparing : Type 0 where
@@ -45,14 +45,14 @@ abbrev pub lines_unless : Option Format → Options → Writing
 lines_unless None options = writing.Lines options
 lines_unless (Some format) options = writing.Capture format
 
-abbrev pub assigned : {Z : Type 0} → Command Z → Assignment
-assigned (command.Edit edit) = record { preparing = None; policy = Edit (edit_rule_of edit); order = InTurn; writing = writing.Capture edit.format }
-assigned (command.Merge merge) = record { preparing = None; policy = KeepAll; order = order_of (not merge.append); writing = writing.Capture merge.format }
-assigned command.Infos = record { preparing = None; policy = Count; order = InTurn; writing = writing.Text }
-assigned (command.Print print) = record {
+abbrev pub assignment : {Z : Type 0} → Command Z → Assignment
+assignment (command.Edit edit) = record { preparing = None; policy = Edit (edit_rule_of edit); order = InTurn; writing = writing.Capture edit.format }
+assignment (command.Merge merge) = record { preparing = None; policy = KeepAll; order = order_of (not merge.append); writing = writing.Capture merge.format }
+assignment command.Infos = record { preparing = None; policy = Count; order = InTurn; writing = writing.Text }
+assignment (command.Print print) = record {
   preparing = Some (ReadsFilter (asked_by print));
   policy = KeepAll;
   order = InTurn;
   writing = lines_unless print.write (record { link = print.link; bytes = print.bytes });
 }
-assigned (command.Compile compile) = record { preparing = Some (Compiles (string_bytes compile.expr) compile.link); policy = KeepAll; order = InTurn; writing = writing.Text }
+assignment (command.Compile compile) = record { preparing = Some (Compiles (string_bytes compile.expr) compile.link); policy = KeepAll; order = InTurn; writing = writing.Text }

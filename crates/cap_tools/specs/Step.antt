@@ -6,13 +6,13 @@ use Rattle.cap_inputs.specs.Inputs.{steps_left}
 use Rattle.cap_tools.specs.Selector.{HavePrograms}
 use Rattle.cap_tools.specs.Machine.{StepGives}
 use Rattle.cap_tools.specs.Jobs.{JobView, end_status}
-use Rattle.cap_tools.specs.Bounds.{IsLight, IsPaid, StepReads, goes_on}
+use Rattle.cap_tools.specs.Bounds.{IsLight, IsPaid, StepReads, step_goes_on}
 
 -- What a step leaves, where the inputs tell their bytes, and the output does; and what holds of any device. Messages and
 -- steps are not touched.
 pub record IsStep (inputs_tell output_tells : Bool) (old : JobView) (r : Option JobEnd) (new : JobView) : Type 0 where
   pub told : IsTrue inputs_tell → IsTrue output_tells → StepGives old.machine r new.machine
-  pub reads : StepReads inputs_tell (goes_on r) old new
+  pub reads : StepReads inputs_tell (step_goes_on r) old new
   pub progress : r ≡ None → steps_left new.machine.inputs < steps_left old.machine.inputs
   pub paid : r ≡ None → IsPaid old.machine.inputs new.machine.inputs
   pub light : IsLight new.machine

@@ -10,7 +10,7 @@ use Rattle.cap_filter.specs.Decisions as chosen
 use Rattle.cap_filter.specs.Decisions.{Decision}
 use Rattle.cap_filter.specs.FilterRules.{Rule, rule_decides}
 use Rattle.cap_filter.specs.Selection.{is_kept}
-use Rattle.cap_tools.specs.Reports.{Tally, nothing_counted, counted}
+use Rattle.cap_tools.specs.Reports.{Tally, nothing_counted, tally_with}
 use Rattle.cap_window.specs.declared.mark.Mark.{Mark}
 use Rattle.cap_window.specs.Marks.{mark_of, has_same, last}
 
@@ -65,8 +65,8 @@ pub record Judgement : Type 0 where
 abbrev pub passes : SelectorState → Captured → Judgement
 passes s p = record { verdict = Pass p; state = record { passed = s.passed + 1; window = s.window; tally = s.tally } }
 
-abbrev pub skipped : SelectorState → Judgement
-skipped s = record { verdict = Skip; state = s }
+abbrev pub skip_judgement : SelectorState → Judgement
+skip_judgement s = record { verdict = Skip; state = s }
 
 abbrev pub refuses : SelectorState → Fault → Judgement
 refuses s fault = record { verdict = Refuse fault; state = s }
@@ -91,31 +91,31 @@ abbrev pub without_last : ℕ → List ℕ → List ℕ
 without_last n bytes = take (length bytes - n) bytes
 
 -- the start is removed before the end; what is shorter becomes empty
-abbrev pub chopped : EditRule → List ℕ → List ℕ
-chopped s bytes = without_last s.chop_end (without_first s.chop_start bytes)
+abbrev pub bytes_after_chop : EditRule → List ℕ → List ℕ
+bytes_after_chop s bytes = without_last s.chop_end (without_first s.chop_start bytes)
 
 -- at most so many bytes
-abbrev pub snapped : Option ℕ → List ℕ → List ℕ
-snapped None bytes = bytes
-snapped (Some snap) bytes = take snap bytes
+abbrev pub bytes_within_snap : Option ℕ → List ℕ → List ℕ
+bytes_within_snap None bytes = bytes
+bytes_within_snap (Some snap) bytes = take snap bytes
 
 -- the original length and the comment stay
-abbrev pub changed : EditRule → Captured → ℕ → Captured
-changed s p time = record {
+abbrev pub edited_packet_with : EditRule → Captured → ℕ → Captured
+edited_packet_with s p time = record {
   link = p.link;
   snap = p.snap;
   name = p.name;
   time = time;
   orig = p.orig;
-  bytes = snapped s.snap (chopped s p.bytes);
+  bytes = bytes_within_snap s.snap (bytes_after_chop s p.bytes);
   comment = p.comment;
 }
 
 -- a time that is moved, where it stays in range
-abbrev pub moved : Shift → ℕ → Option ℕ
-moved shift.None time = Some time
-moved (shift.Later by) time = if nat_lt (time + by) TIME_END then Some (time + by) else None
-moved (shift.Earlier by) time = if nat_le by time then Some (time - by) else None
+abbrev pub shifted_time : Shift → ℕ → Option ℕ
+shifted_time shift.None time = Some time
+shifted_time (shift.Later by) time = if nat_lt (time + by) TIME_END then Some (time + by) else None
+shifted_time (shift.Earlier by) time = if nat_le by time then Some (time - by) else None
 
 abbrev pub with_mark : ℕ → Mark → SelectorState → SelectorState
 with_mark most mark s = record { passed = s.passed; window = last most (s.window ++ mark ∷ []); tally = s.tally }
@@ -123,14 +123,14 @@ with_mark most mark s = record { passed = s.passed; window = last most (s.window
 -- A packet whose mark is that of one of the n - 1 before it is skipped; its mark enters the window all the same.
 abbrev pub unique : Option ℕ → SelectorState → Captured → Judgement
 unique None s p = passes s p
-unique (Some n) s p = if has_same s.window (mark_of p.bytes) then skipped (with_mark (n - 1) (mark_of p.bytes) s) else passes (with_mark (n - 1) (mark_of p.bytes) s) p
+unique (Some n) s p = if has_same s.window (mark_of p.bytes) then skip_judgement (with_mark (n - 1) (mark_of p.bytes) s) else passes (with_mark (n - 1) (mark_of p.bytes) s) p
 
-abbrev pub timed : EditRule → SelectorState → Captured → Option ℕ → Judgement
-timed s state p None = refuses state TimeOutOfRange
-timed s state p (Some time) = unique s.window state (changed s p time)
+abbrev pub judgement_by_time : EditRule → SelectorState → Captured → Option ℕ → Judgement
+judgement_by_time s state p None = refuses state TimeOutOfRange
+judgement_by_time s state p (Some time) = unique s.window state (edited_packet_with s p time)
 
 abbrev pub selects : EditRule → SelectorState → ℕ → Captured → Judgement
-selects s state number p = if is_selected s number p then timed s state p (moved s.shift p.time) else skipped state
+selects s state number p = if is_selected s number p then judgement_by_time s state p (shifted_time s.shift p.time) else skip_judgement state
 
 -- ---- filters
 
@@ -147,7 +147,7 @@ counts count s p = record {
 
 abbrev pub filters : Decision → Option ℕ → SelectorState → Captured → Judgement
 filters chosen.Keep count s p = counts count s p
-filters chosen.Skip count s p = skipped s
+filters chosen.Skip count s p = skip_judgement s
 filters (chosen.Refuse fault) count s p = refuses s fault
 
 -- ---- all of it
@@ -158,7 +158,7 @@ judge_by (Filter rule count) state number p = filters (rule_decides rule p) coun
 judge_by KeepAll state number p = passes state p
 judge_by Count state number p = record {
   verdict = Skip;
-  state = record { passed = state.passed; window = state.window; tally = counted state.tally p };
+  state = record { passed = state.passed; window = state.window; tally = tally_with state.tally p };
 }
 
 -- there are fewer than 2^63 packets, but where they are counted alone

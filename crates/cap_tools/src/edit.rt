@@ -2,9 +2,11 @@
 ghost use Rattle.std.specs.Prelude.{ℕ, ◌≡◌, ◌^◌, ◌<◌, ◌≤◌, IfSome, None, Ok, Option, length};
 ghost use Rattle.cap_octet.specs.Packet.{captured};
 ghost use Rattle.cap_io.specs.Reading.{most_in_unit};
-ghost use Rattle.cap_tools.specs.Verdict.{changed, is_before, is_from, is_selected, moved, selects};
-ghost use Rattle.cap_tools.specs.Verdict.{snapped, unique, without_first, without_last};
-ghost use Rattle.cap_tools.specs.Selector.{IsWindowFor, Keeps, marks_in, edit_rule_of, state_of};
+ghost use Rattle.cap_tools.specs.Verdict.{edited_packet_with, is_before, is_from, is_selected};
+ghost use Rattle.cap_tools.specs.Verdict.{shifted_time, selects};
+ghost use Rattle.cap_tools.specs.Verdict.{bytes_within_snap, unique, without_first, without_last};
+ghost use Rattle.cap_tools.specs.Selector.{IsWindowFor, ReturnsVerdict, marks_in, edit_rule_of};
+ghost use Rattle.cap_tools.specs.Selector.{state_of};
 ghost use Rattle.cap_tools.specs.Edits.{PassesUnique};
 ghost use Rattle.cap_tools.specs.Reports.{Tally};
 
@@ -56,7 +58,7 @@ fn without_last(count: u32, bytes: &[u8]) -> &[u8]
 
 /// At most so many bytes.
 fn snapped(snap: Option<u32>, bytes: &[u8]) -> &[u8]
-    ensures { result.now ≡ snapped snap bytes.now }
+    ensures { result.now ≡ bytes_within_snap snap bytes.now }
 {
     match snap {
         Some(snap) => &bytes[..bytes.len().min(snap as usize)],
@@ -67,7 +69,7 @@ fn snapped(snap: Option<u32>, bytes: &[u8]) -> &[u8]
 /// A time that is moved, where it stays in range.
 fn moved(shift: Shift, time: u64) -> Option<u64>
     requires { time < 2 ^ 63 }
-    ensures value { result ≡ moved shift time }
+    ensures value { result ≡ shifted_time shift time }
     ensures range { IfSome result (λ time. time < 2 ^ 63) }
 {
     match shift {
@@ -86,7 +88,8 @@ fn moved(shift: Shift, time: u64) -> Option<u64>
 /// The packet at this time, with the bytes that the edit leaves of it.
 fn changed<'a, A: Allocator>(edit: &Edit<A>, packet: &Packet<'a>, time: u64) -> Packet<'a>
     requires { time < 2 ^ 63 }
-    ensures value { captured result ≡ changed (edit_rule_of edit.now) (captured packet.now) time }
+    ensures value { captured result
+        ≡ edited_packet_with (edit_rule_of edit.now) (captured packet.now) time }
     ensures short { length result.bytes.now ≤ length packet.now.bytes.now }
 {
     let rest = without_first(edit.chop_start, packet.bytes);
@@ -106,7 +109,8 @@ fn changed<'a, A: Allocator>(edit: &Edit<A>, packet: &Packet<'a>, time: u64) -> 
 fn is_unique<A: Allocator>(window: &mut Option<Window<A>>, packet: &Packet<'_>) -> bool
     requires { length packet.now.bytes.now ≤ most_in_unit }
     ensures told { (n : Option ℕ) (passed : ℕ) (tally : Tally) → IsWindowFor n window.old
-        → Keeps None (unique n (state_of passed (marks_in window.old) tally) (captured packet.now))
+        → ReturnsVerdict None (unique n (state_of passed (marks_in window.old) tally) (captured
+        packet.now))
         (Ok result) (captured packet.now) (state_of passed (marks_in window.new) tally) }
     ensures window { (n : Option ℕ) → IsWindowFor n window.old → IsWindowFor n window.new }
 {
@@ -127,7 +131,8 @@ pub(crate) fn select<A: Allocator>(
     requires short { length packet.old.bytes.now ≤ most_in_unit }
     requires window { IsWindowFor edit.now.window window.old }
     ensures told { (passed : ℕ) (tally : Tally)
-        → Keeps None (selects (edit_rule_of edit.now) (state_of passed (marks_in window.old) tally)
+        → ReturnsVerdict None (selects (edit_rule_of edit.now) (state_of passed (marks_in
+        window.old) tally)
         number (captured packet.old))
         result (captured packet.new) (state_of passed (marks_in window.new) tally) }
     ensures window { IsWindowFor edit.now.window window.new }

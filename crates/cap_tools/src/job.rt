@@ -2,15 +2,15 @@
 ghost use Rattle.std.specs.Prelude.{ℕ, ◌≡◌, ◌+◌, ◌<◌, ◌≤◌, IfErr, IfOk, IsTrue, None, Some, length};
 ghost use Rattle.std.specs.Prelude.{map, string_bytes, true, vec_len};
 ghost use Rattle.cap_filter.specs.Command.{is_proper};
-ghost use Rattle.cap_filter.specs.Outcome.{IsTold, seen};
+ghost use Rattle.cap_filter.specs.Outcome.{IsTold, output_view};
 ghost use Rattle.cap_tools.specs.Bounds.{IsLight, ReadsNothing, StepReads, most_turns};
 ghost use Rattle.cap_tools.specs.Call.{call_of, device_view, run_result};
 ghost use Rattle.cap_tools.specs.Commands.{RunsCommand};
 ghost use Rattle.cap_inputs.specs.Inputs.{most_steps, steps_left};
 ghost use Rattle.cap_inputs.specs.Inputs as input_spec;
-ghost use Rattle.cap_tools.specs.Jobs.{end_status, end_text};
+ghost use Rattle.cap_tools.specs.Jobs.{end_status, end_message};
 ghost use Rattle.cap_tools.specs.Run.{CommandRuns};
-ghost use Rattle.cap_tools.specs.Start.{assigned};
+ghost use Rattle.cap_tools.specs.Start.{assignment};
 
 use crate::messages::Messages;
 use crate::output::JobOutput;
@@ -108,9 +108,10 @@ impl<I: Input, O: Output, E: Output, A: Allocator + Copy + Drop> Job<I, O, E, A>
     ghost use Rattle.cap_filter.specs.Filters.{AreNew, programs_of, rule_of};
     ghost use Rattle.cap_filter.specs.Messages.{refusal_status};
     ghost use Rattle.cap_tools.specs.Commands.{CompileGives, DecidedBy, FilterGives, GivesBy};
-    ghost use Rattle.cap_tools.specs.Commands.{Keeps, KeepsFirst, PreparesBy, PreparesOnly};
+    ghost use Rattle.cap_tools.specs.Commands.{StepKeeps, KeepsFirst, PreparesBy, PreparesOnly};
     ghost use Rattle.cap_tools.specs.Commands.{StepReadsBy};
-    ghost use Rattle.cap_tools.specs.FirstStep.{EndsList, IsFresh, Refuses, filtering, is_text};
+    ghost use Rattle.cap_tools.specs.FirstStep.{EndsList, IsFresh, RefusesStart, filtering};
+    ghost use Rattle.cap_tools.specs.FirstStep.{is_text};
     ghost use Rattle.cap_tools.specs.Jobs.{IsStatus, JobGives, done_by, first_job};
     ghost use Rattle.cap_inputs.specs.Fresh.{fresh_input};
     ghost use Rattle.cap_tools.specs.Jobs.{turn_goes_on};
@@ -133,7 +134,7 @@ impl<I: Input, O: Output, E: Output, A: Allocator + Copy + Drop> Job<I, O, E, A>
     where
         I: Drop,
         requires proper { is_proper command (vec_len inputs) ≡ true }
-        ensures fresh { IfOk result (λ job. job ≡ first_job (assigned command)
+        ensures fresh { IfOk result (λ job. job ≡ first_job (assignment command)
             (call_of I.Input O.Output E.Output (map string_bytes names.items) inputs.items out
             err)) }
         ensures decided { IfOk result (λ job. DecidedBy job.preparing
@@ -176,7 +177,7 @@ impl<I: Input, O: Output, E: Output, A: Allocator + Copy + Drop> Job<I, O, E, A>
         ensures told { IsTrue I.tells → IsTrue O.tells → self.old.done ≡ None
             → GivesBy self.old.preparing E.tells self.old result self.new }
         ensures prepares { PreparesBy self.old.preparing O.tells E.tells self.old result self.new }
-        ensures keeps { Keeps self.old result self.new }
+        ensures keeps { StepKeeps self.old result self.new }
         ensures reads { StepReadsBy self.old.preparing I.tells (turn_goes_on result)
             self.old self.new }
     {
@@ -339,7 +340,7 @@ impl<I: Input, O: Output, E: Output, A: Allocator + Copy + Drop> Job<I, O, E, A>
         requires few { self.old.turns ≤ most_steps }
         ensures done { result ≡ Turn.Done (end_status end) }
         ensures ended { self.new ≡ ending end self.new.err self.old }
-        ensures told { IsTold E.tells self.old.err (end_text self.old.machine.output.names
+        ensures told { IsTold E.tells self.old.err (end_message self.old.machine.output.names
             self.old.machine.inputs.cursors end) self.new.err }
         ensures quiet { end ≡ JobEnd.Complete → self.new.err ≡ self.old.err }
     {
@@ -372,7 +373,7 @@ impl<I: Input, O: Output, E: Output, A: Allocator + Copy + Drop> Job<I, O, E, A>
         requires taken { self.old.preparing ≡ None }
         ensures done { result ≡ Turn.Done (refusal_status refusal) }
         ensures status { IsStatus result }
-        ensures refused { Refuses refusal E.tells self.old (refusal_status refusal) self.new }
+        ensures refused { RefusesStart refusal E.tells self.old (refusal_status refusal) self.new }
         ensures light { IsLight self.new.machine }
         ensures sound { HavePrograms self.new.machine.policy self.new.programs }
     {
@@ -413,7 +414,7 @@ impl<I: Input, O: Output, E: Output, A: Allocator + Copy + Drop> Job<I, O, E, A>
         I: Drop,
         ensures written { O.written result.0 ≡ written_by self.machine }
         ensures failures { O.failures result.0 ≡ failures_by self.machine }
-        ensures messages { seen (E.written result.1) (E.failures result.1) ≡ self.err }
+        ensures messages { output_view (E.written result.1) (E.failures result.1) ≡ self.err }
     {
         (self.output.into_output(), self.messages.into_device())
     }
@@ -461,7 +462,7 @@ where
     A: Allocator + Copy + Drop,
     requires proper { is_proper command (vec_len inputs) ≡ true }
     ensures status { result.0 ≤ 2 }
-    ensures told { IsTrue I.tells → IsTrue O.tells → CommandRuns (assigned command)
+    ensures told { IsTrue I.tells → IsTrue O.tells → CommandRuns (assignment command)
         (call_of I.Input O.Output E.Output (map string_bytes names.items) inputs.items out err)
         (run_result result.0 (device_view O.Output result.1) (device_view E.Output result.2)) }
 {

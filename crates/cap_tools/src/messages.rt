@@ -2,7 +2,7 @@
 ghost use Rattle.std.specs.Prelude.{◌≡◌, ◌+◌, IsTrue, map};
 ghost use Rattle.std.specs.String.{string_bytes};
 ghost use Rattle.cap_octet.specs.Device.{AppendsOrStops, failures_of};
-ghost use Rattle.cap_tools.specs.Jobs.{end_text};
+ghost use Rattle.cap_tools.specs.Jobs.{end_message};
 ghost use Rattle.cap_tools.specs.Reports.{name_at};
 
 use crate::step::JobEnd;
@@ -24,14 +24,14 @@ pub struct Messages<E: Output, A: Allocator> {
 impl<E: Output, A: Allocator> Model for Messages<E, A> {
     ghost use Rattle.std.specs.Prelude.{map};
     ghost use Rattle.std.specs.String.{string_bytes};
-    ghost use Rattle.cap_filter.specs.Outcome.{seen};
+    ghost use Rattle.cap_filter.specs.Outcome.{output_view};
     ghost use Rattle.cap_tools.specs.Messages.{MessagesView};
 
     ghost Value = { MessagesView };
 
     ghost view = { λ m. record {
       names = map string_bytes m.names.items;
-      device = seen (E.written m.device) (E.failures m.device);
+      device = output_view (E.written m.device) (E.failures m.device);
     } };
 }
 
@@ -39,15 +39,15 @@ impl<E: Output, A: Allocator> Messages<E, A> {
     ghost use Rattle.std.specs.Prelude.{◌≡◌, map};
     ghost use Rattle.std.specs.String.{string_bytes};
     ghost use Rattle.cap_filter.specs.Messages.{refusal_message};
-    ghost use Rattle.cap_filter.specs.Outcome.{IsTold, seen};
-    ghost use Rattle.cap_tools.specs.Jobs.{end_text};
+    ghost use Rattle.cap_filter.specs.Outcome.{IsTold, output_view};
+    ghost use Rattle.cap_tools.specs.Jobs.{end_message};
     ghost use Rattle.cap_tools.specs.Reports.{name_at};
 
     /// Messages of a job over files of these names: of the inputs, then of the output.
     pub fn new(device: E, names: Vec<String<A>, A>) -> Self
         ensures { result ≡ record {
           names = map string_bytes names.items;
-          device = seen (E.written device) (E.failures device);
+          device = output_view (E.written device) (E.failures device);
         } }
     {
         Messages { device, names }
@@ -65,7 +65,7 @@ impl<E: Output, A: Allocator> Messages<E, A> {
     where
         A: Copy + Drop,
         ensures told { IsTold E.tells self.old.device
-            (end_text self.old.names inputs.now.cursors end) self.new.device }
+            (end_message self.old.names inputs.now.cursors end) self.new.device }
         ensures quiet { end ≡ JobEnd.Complete → self.new ≡ self.old }
         ensures names { self.new.names ≡ self.old.names }
     {
@@ -85,7 +85,7 @@ impl<E: Output, A: Allocator> Messages<E, A> {
     pub fn into_device(self) -> E
     where
         A: Drop,
-        ensures { seen (E.written result) (E.failures result) ≡ self.device }
+        ensures { output_view (E.written result) (E.failures result) ≡ self.device }
     {
         self.device
     }
@@ -99,7 +99,7 @@ fn tell<I: Input, E: Output, A: Allocator + Copy + Drop>(
     end: JobEnd,
 ) -> Result<(), DeviceFault>
     ensures told { IsTrue E.tells → AppendsOrStops result (E.written device.old)
-        (end_text (map string_bytes names.now.items) inputs.now.cursors end)
+        (end_message (map string_bytes names.now.items) inputs.now.cursors end)
         (E.written device.new) }
     ensures failed { E.failures device.new ≡ E.failures device.old + failures_of result }
     ensures quiet { end ≡ JobEnd.Complete → device.new ≡ device.old }

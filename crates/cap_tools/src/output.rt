@@ -48,8 +48,9 @@ impl<O: Output, A: Allocator> Model for JobOutput<O, A> {
 impl<O: Output, A: Allocator> JobOutput<O, A> {
     ghost use Rattle.std.specs.Prelude.{◌≡◌, IsTrue};
     ghost use Rattle.cap_octet.specs.Packet.{captured};
-    ghost use Rattle.cap_tools.specs.Bounds.{HasFewInterfaces};
-    ghost use Rattle.cap_tools.specs.Output.{Finishes, Lists, Puts, Reports, failures_to};
+    ghost use Rattle.cap_tools.specs.Bounds.{HasFewOutputInterfaces};
+    ghost use Rattle.cap_tools.specs.Output.{EndsOutput, ListsText, PutsIntoOutput, Reports};
+    ghost use Rattle.cap_tools.specs.Output.{failures_to};
     ghost use Rattle.cap_tools.specs.Output.{target_at, written_to};
     ghost use Rattle.cap_tools.specs.Reports.{file_report};
     ghost use Rattle.flt_bpf.specs.Listing.{listing};
@@ -71,8 +72,9 @@ impl<O: Output, A: Allocator> JobOutput<O, A> {
 
     /// Writes a packet, where packets are written.
     pub fn put(&mut self, packet: &Packet<'_>) -> Result<(), Fault>
-        ensures told { IsTrue O.tells → Puts (captured packet.now) self.old result self.new }
-        ensures few { HasFewInterfaces self.old → HasFewInterfaces self.new }
+        ensures told { IsTrue O.tells
+            → PutsIntoOutput (captured packet.now) self.old result self.new }
+        ensures few { HasFewOutputInterfaces self.old → HasFewOutputInterfaces self.new }
     {
         match &mut self.device {
             Device::Capture(sink) => sink.put(packet),
@@ -85,7 +87,7 @@ impl<O: Output, A: Allocator> JobOutput<O, A> {
     pub fn report(&mut self, name: &str, report: &Report) -> Result<(), DeviceFault>
         ensures told { IsTrue O.tells → Reports (file_report name.now report.now.kind
             report.now.size report.now.tally) self.old result self.new }
-        ensures few { HasFewInterfaces self.old → HasFewInterfaces self.new }
+        ensures few { HasFewOutputInterfaces self.old → HasFewOutputInterfaces self.new }
     {
         match &mut self.device {
             Device::Capture(_) => Ok(()),
@@ -96,8 +98,9 @@ impl<O: Output, A: Allocator> JobOutput<O, A> {
 
     /// Writes the listing of a program, where text is written.
     pub fn list(&mut self, program: &Program<A>) -> Result<(), Stopped>
-        ensures told { IsTrue O.tells → Lists (listing program.now.insns) self.old result self.new }
-        ensures few { HasFewInterfaces self.old → HasFewInterfaces self.new }
+        ensures told { IsTrue O.tells
+            → ListsText (listing program.now.insns) self.old result self.new }
+        ensures few { HasFewOutputInterfaces self.old → HasFewOutputInterfaces self.new }
     {
         match &mut self.device {
             Device::Capture(_) => Ok(()),
@@ -108,8 +111,8 @@ impl<O: Output, A: Allocator> JobOutput<O, A> {
 
     /// Ends what is written: a capture without packets gets its file header, with this link type.
     pub fn finish(&mut self, first: Option<u16>) -> Result<(), Fault>
-        ensures told { IsTrue O.tells → Finishes first self.old result self.new }
-        ensures few { HasFewInterfaces self.old → HasFewInterfaces self.new }
+        ensures told { IsTrue O.tells → EndsOutput first self.old result self.new }
+        ensures few { HasFewOutputInterfaces self.old → HasFewOutputInterfaces self.new }
     {
         match &mut self.device {
             Device::Capture(sink) => sink.finish(first),

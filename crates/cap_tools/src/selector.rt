@@ -6,8 +6,10 @@ ghost use Rattle.cap_io.specs.Reading.{most_in_unit};
 ghost use Rattle.cap_filter.specs.Programs.{spent_in};
 ghost use Rattle.cap_inputs.specs.Inputs.{most_steps};
 ghost use Rattle.cap_tools.specs.Verdict.{is_last, judge_by};
-ghost use Rattle.cap_tools.specs.Selector.{IsWindowFor, Keeps, count_of, is_count, marks_in};
-ghost use Rattle.cap_tools.specs.Selector.{most_spent, passing, policy_of, programs_in, spent_by};
+ghost use Rattle.cap_tools.specs.Selector.{IsWindowFor, ReturnsVerdict, count_limit, is_count};
+ghost use Rattle.cap_tools.specs.Selector.{marks_in};
+ghost use Rattle.cap_tools.specs.Selector.{most_spent, verdict_if, policy_of, programs_in};
+ghost use Rattle.cap_tools.specs.Selector.{spent_by};
 ghost use Rattle.cap_tools.specs.Selector.{state_of, verdict_of, window_of};
 ghost use Rattle.cap_tools.specs.Reports.{Tally, nothing_counted};
 ghost use Rattle.cap_window.specs.View.{window};
@@ -107,7 +109,7 @@ impl<A: Allocator> Policy<A> {
         requires short { length packet.old.bytes.now ≤ most_in_unit }
         requires window { IsWindowFor (window_of (policy_of self.old)) window.old }
         ensures told { (passed : ℕ) (tally : Tally) → is_count (policy_of self.old) ≡ false
-            → Keeps (count_of (policy_of self.old)) (judge_by (policy_of self.old)
+            → ReturnsVerdict (count_limit (policy_of self.old)) (judge_by (policy_of self.old)
             (state_of passed (marks_in window.old) tally) number (captured packet.old))
             result (captured packet.new) (state_of passed (marks_in window.new) tally) }
         ensures window { IsWindowFor (window_of (policy_of self.old)) window.new }
@@ -149,7 +151,7 @@ impl<A: Allocator> Policy<A> {
     }
 
     fn count(&self) -> Option<u64>
-        ensures { result ≡ count_of (policy_of self.now) }
+        ensures { result ≡ count_limit (policy_of self.now) }
     {
         match self {
             Policy::Filter(_, count) => *count,
@@ -258,7 +260,7 @@ impl<A: Allocator> Selector<A> {
 }
 
 fn passing(last: bool) -> Verdict
-    ensures { (p : Captured) → verdict_of result p ≡ passing p last }
+    ensures { (p : Captured) → verdict_of result p ≡ verdict_if p last }
 {
     if last {
         Verdict::PassLast

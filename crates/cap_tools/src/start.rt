@@ -1,11 +1,11 @@
 //! What a command asks of its job, and what the job does before its first packet.
 ghost use Rattle.std.specs.Prelude.{◌≡◌, [], IfErr, IfOk, None, Some, false, string_bytes};
 ghost use Rattle.std.specs.Option.{option_map};
-ghost use Rattle.cap_filter.specs.FilterRules.{IsRule, IsWhy, code_of};
+ghost use Rattle.cap_filter.specs.FilterRules.{IsRule, IsWhy, listing_of};
 ghost use Rattle.cap_filter.specs.Filters.{AreNew, programs_of, rule_of};
 ghost use Rattle.cap_tools.specs.Selector.{HavePrograms, policy_of, programs_in};
 ghost use Rattle.cap_inputs.specs.Sequence.{order_of};
-ghost use Rattle.cap_tools.specs.Start.{assigned, lines_unless, preparing_of};
+ghost use Rattle.cap_tools.specs.Start.{assignment, lines_unless, preparing_of};
 
 use crate::output::Writing;
 use crate::selector::Policy;
@@ -83,10 +83,11 @@ fn prepared_by<A: Allocator>(preparation: Preparation<A>, writing: Writing) -> A
 
 /// What a command asks for. The filter of a print is read in the first step.
 pub fn assignment_of<A: Allocator>(command: Command<A>) -> Assignment<A>
-    ensures preparing { option_map preparing_of result.preparation ≡ (assigned command).preparing }
-    ensures policy { policy_of result.policy ≡ (assigned command).policy }
-    ensures order { order_of result.merges ≡ (assigned command).order }
-    ensures writing { result.writing ≡ (assigned command).writing }
+    ensures preparing { option_map preparing_of result.preparation
+        ≡ (assignment command).preparing }
+    ensures policy { policy_of result.policy ≡ (assignment command).policy }
+    ensures order { order_of result.merges ≡ (assignment command).order }
+    ensures writing { result.writing ≡ (assignment command).writing }
     ensures programs { programs_in result.policy ≡ [] }
     ensures sound { HavePrograms (policy_of result.policy) (programs_in result.policy) }
 {
@@ -116,10 +117,11 @@ pub fn read_filter<A: Allocator + Copy + Drop>(
     alloc: A,
     print: &Print<A>,
 ) -> Result<Filter<A>, Refusal>
-    ensures rule { IfOk result (λ filter. IsRule (string_bytes print.now.expr) (code_of print.now)
+    ensures rule { IfOk result (λ filter. IsRule (string_bytes print.now.expr) (listing_of
+        print.now)
         (rule_of filter)) }
     ensures programs { IfOk result (λ filter. AreNew (rule_of filter) (programs_of filter)) }
-    ensures refused { IfErr result (IsWhy (string_bytes print.now.expr) (code_of print.now)) }
+    ensures refused { IfErr result (IsWhy (string_bytes print.now.expr) (listing_of print.now)) }
 {
     let words = print.expr.as_str();
     match &print.code {

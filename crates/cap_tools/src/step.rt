@@ -1,12 +1,12 @@
 //! The parts of a step: a packet is decided, or an input that was read to its end is reported.
 ghost use Rattle.std.specs.Prelude.{◌≡◌, ◌<◌, ◌≤◌, IsTrue, false, length, true};
 ghost use Rattle.cap_octet.specs.Packet.{captured};
-ghost use Rattle.cap_tools.specs.Bounds.{HasFewInterfaces};
+ghost use Rattle.cap_tools.specs.Bounds.{HasFewOutputInterfaces};
 ghost use Rattle.cap_inputs.specs.Inputs.{most_steps};
 ghost use Rattle.cap_tools.specs.Output.{output_at};
 ghost use Rattle.cap_tools.specs.Selector.{GrowsByOne, HasFewMarks, IsWithin, policy_state};
-ghost use Rattle.cap_tools.specs.Machine.{Closes, Decides, Offers, Spends, asks_report};
-ghost use Rattle.cap_tools.specs.Machine.{sieve, unwritten};
+ghost use Rattle.cap_tools.specs.Machine.{Closes, DecidesPacket, Offers, Spends, asks_report};
+ghost use Rattle.cap_tools.specs.Machine.{sieve, end_of_failed_write};
 
 use crate::messages::Messages;
 use crate::output::JobOutput;
@@ -35,7 +35,7 @@ fn put<O: Output, A: Allocator>(
 ) -> Result<bool, Fault>
     ensures told { IsTrue O.tells → Offers verdict (captured packet.now) output.old result
         output.new }
-    ensures few { HasFewInterfaces output.old → HasFewInterfaces output.new }
+    ensures few { HasFewOutputInterfaces output.old → HasFewOutputInterfaces output.new }
 {
     let last = match verdict {
         Verdict::Pass => false,
@@ -58,14 +58,15 @@ pub(crate) fn decide<I: Input, O: Output, A: Allocator + Copy + Drop>(
     requires { cursor.now.waiting ≡ true }
     ensures told { IsTrue O.tells → selector.old.state.passed < number
         → IsWithin most_steps selector.old.state.tally
-        → Decides cursor.now.source.packet number (sieve (policy_state selector.old) output.old)
+        → DecidesPacket cursor.now.source.packet number (sieve (policy_state selector.old)
+        output.old)
         result (sieve (policy_state selector.new) output.new) }
     ensures policy { selector.new.policy ≡ selector.old.policy }
     ensures spends { Spends cursor.now.source.packet selector.old number selector.new }
     ensures passed { selector.old.state.passed ≤ number → selector.new.state.passed ≤ number }
     ensures counted { GrowsByOne selector.old.state.tally selector.new.state.tally }
     ensures marks { HasFewMarks selector.new.policy selector.new.state }
-    ensures few { HasFewInterfaces output.old → HasFewInterfaces output.new }
+    ensures few { HasFewOutputInterfaces output.old → HasFewOutputInterfaces output.new }
 {
     let mut packet = cursor.packet().unwrap();
     let verdict = selector.judge(number, &mut packet)?;
@@ -89,7 +90,7 @@ pub(crate) fn close<I: Input, O: Output, E: Output, A: Allocator>(
     ensures policy { selector.new.policy ≡ selector.old.policy }
     ensures marks { HasFewMarks selector.old.policy selector.old.state
         → HasFewMarks selector.new.policy selector.new.state }
-    ensures few { HasFewInterfaces output.old → HasFewInterfaces output.new }
+    ensures few { HasFewOutputInterfaces output.old → HasFewOutputInterfaces output.new }
     ensures kept { asks_report inputs.now.order selector.old.policy ≡ false
         → output.new ≡ output.old }
 {
@@ -113,7 +114,7 @@ pub(crate) fn close<I: Input, O: Output, E: Output, A: Allocator>(
 
 /// Where a packet was not decided: the output's device failed, or the packet is refused.
 pub(crate) fn unwritten(input: usize, fault: Fault) -> JobEnd
-    ensures { result ≡ unwritten input fault }
+    ensures { result ≡ end_of_failed_write input fault }
 {
     match fault {
         Fault::WriteFailed => JobEnd::OutputFailed,

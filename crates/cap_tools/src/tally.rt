@@ -52,7 +52,7 @@ impl Model for Tally {
 impl Tally {
     ghost use Rattle.std.specs.Prelude.{◌≡◌, ◌+◌, ◌^◌, ◌≤◌, length};
     ghost use Rattle.cap_octet.specs.Packet.{captured};
-    ghost use Rattle.cap_tools.specs.Reports.{HasRoom, counted, nothing_counted};
+    ghost use Rattle.cap_tools.specs.Reports.{FitsTally, tally_with, nothing_counted};
 
     /// No packets.
     pub fn new() -> Self
@@ -71,7 +71,7 @@ impl Tally {
 
     /// The tally with one packet more, exact where there is room for it.
     pub fn counted(self, packet: &Packet<'_>) -> Self
-        ensures counted { HasRoom self → result ≡ counted self (captured packet.now) }
+        ensures counted { FitsTally self → result ≡ tally_with self (captured packet.now) }
         ensures count { result.count ≤ self.count + 1 }
         ensures data { result.data_size ≤ self.data_size + 2 ^ 32 }
         ensures bytes { result.captured_size ≤ self.captured_size + length packet.now.bytes.now }

@@ -8,13 +8,13 @@ use Rattle.std.specs.Int.{w32, from_le_bytes}
 use Rattle.std.specs.Prelude.{take}
 use Rattle.cap_window.specs.declared.links.Links.{Links}
 use Rattle.cap_window.specs.declared.mark.Mark.{Mark}
-use Rattle.cap_window.specs.Index.{IsHung, IsIndex, IsPlaced, IsSound, IsTree, Empty, Topped, HasNone, but, every, half, has_hash, hash_of, link_at, links_at, mark_at}
+use Rattle.cap_window.specs.Index.{IsHung, IsIndex, IsPutOnTop, IsSoundIndex, IsMarkTree, Empty, Topped, HasNoMark, but, every, marks_with_bit, has_hash, hash_of, link_by_bit, links_at, mark_at}
 use Rattle.cap_window.specs.Marks.{last}
 use Rattle.cap_window.proofs.Trees.{raised, reframed, rewanted}
 
 -- the oldest mark goes
-dropped : (ms : List Mark) (ls : List Links) (class wanted : Mark → Bool) (depth limit d less : ℕ) → IsTree ms ls class wanted depth limit d → limit ≡ less + 1
-    → IsTree (drop 1 ms) (drop 1 ls) class wanted depth less d
+dropped : (ms : List Mark) (ls : List Links) (class wanted : Mark → Bool) (depth limit d less : ℕ) → IsMarkTree ms ls class wanted depth limit d → limit ≡ less + 1
+    → IsMarkTree (drop 1 ms) (drop 1 ls) class wanted depth less d
 dropped ms ls class wanted depth limit d less (Empty _ _ _ _ _ past none) one =
     Empty class wanted depth less d (omega arith)
     (λ j low high is want. none (1 + j) (omega arith) (omega arith)
@@ -30,9 +30,9 @@ dropped ms ls class wanted depth limit d less (Topped _ _ _ _ _ top place step b
           Topped class wanted depth less d (top - 1) (omega arith) step (subst (λ (m : Mark). IsTrue (class m)) (sym mark) belongs)
           (λ j low high is want. none (1 + j) (omega arith) (omega arith)
           (subst (λ (m : Mark). IsTrue (class m)) (get_or_after_one ms j _) is) (subst (λ (m : Mark). IsTrue (wanted m)) (get_or_after_one ms j _) want))
-          (λ bit. subst (λ (l : Links). IsTree (drop 1 ms) (drop 1 ls) (half class depth bit) (but wanted (mark_at (drop 1 ms) (top - 1))) (depth + 1) (top - 1) (link_at l bit)) (sym link)
-          (subst (λ (m : Mark). IsTree (drop 1 ms) (drop 1 ls) (half class depth bit) (but wanted m) (depth + 1) (top - 1) (link_at (links_at ls top) bit)) (sym mark)
-          (dropped ms ls (half class depth bit) (but wanted (mark_at ms top)) (depth + 1) top (link_at (links_at ls top) bit) (top - 1) (below bit) (omega arith)))))
+          (λ bit. subst (λ (l : Links). IsMarkTree (drop 1 ms) (drop 1 ls) (marks_with_bit class depth bit) (but wanted (mark_at (drop 1 ms) (top - 1))) (depth + 1) (top - 1) (link_by_bit l bit)) (sym link)
+          (subst (λ (m : Mark). IsMarkTree (drop 1 ms) (drop 1 ls) (marks_with_bit class depth bit) (but wanted m) (depth + 1) (top - 1) (link_by_bit (links_at ls top) bit)) (sym mark)
+          (dropped ms ls (marks_with_bit class depth bit) (but wanted (mark_at ms top)) (depth + 1) top (link_by_bit (links_at ls top) bit) (top - 1) (below bit) (omega arith)))))
     ]
 
 -- the newest mark is in no tree yet
@@ -40,7 +40,7 @@ pub record IsAwaiting (mask : ℕ) (ms : List Mark) (ls : List Links) (heads : L
   pub long : length ls ≡ length ms
   pub some : 0 < length ms
   pub there : mark_at ms (length ms - 1) ≡ e
-  pub trees : (h : ℕ) → h < length heads → IsTree ms ls (has_hash mask h) every 0 (length ms - 1) (newest + 1 - get_or heads h 0)
+  pub trees : (h : ℕ) → h < length heads → IsMarkTree ms ls (has_hash mask h) every 0 (length ms - 1) (newest + 1 - get_or heads h 0)
 
 awaiting_append : (mask : ℕ) (ms : List Mark) (ls : List Links) (heads : List ℕ) (newest : ℕ) (e : Mark) (l : Links) → IsIndex mask ms ls heads newest
     → IsAwaiting mask (ms ++ e ∷ []) (ls ++ l ∷ []) heads newest e
@@ -83,7 +83,7 @@ hash_fits mask e heads wide = omega (arith, wide, and_le_r (from_le_bytes w32 (t
 
 -- the window without its oldest mark, and with one more
 awaiting_push : (mask : ℕ) (ms : List Mark) (most : ℕ) (ls : List Links) (link_most : ℕ) (heads : List ℕ) (newest : ℕ) (e : Mark) (l : Links)
-    → IsSound mask ms most ls link_most heads newest → 0 < length (last most (ms ++ e ∷ []))
+    → IsSoundIndex mask ms most ls link_most heads newest → 0 < length (last most (ms ++ e ∷ []))
     → IsAwaiting mask (last most (ms ++ e ∷ [])) (drop (length (ls ++ l ∷ []) - link_most) (ls ++ l ∷ [])) heads newest e
 awaiting_push mask ms most ls link_most heads newest e l s some =
     let a = awaiting_append mask ms ls heads newest e l s.index in
@@ -94,7 +94,7 @@ awaiting_push mask ms most ls link_most heads newest e l s some =
     rw (s.same_capacity, a.long) (awaiting_keep k mask (ms ++ e ∷ []) (ls ++ l ∷ []) heads newest e (omega arith) (omega arith) a)
 
 pub sound_hung : (mask : ℕ) (ms : List Mark) (most : ℕ) (ls : List Links) (link_most : ℕ) (heads : List ℕ) (newest : ℕ) (e : Mark) (l : Links)
-    → IsSound mask ms most ls link_most heads newest → 0 < length (last most (ms ++ e ∷ []))
+    → IsSoundIndex mask ms most ls link_most heads newest → 0 < length (last most (ms ++ e ∷ []))
     → IsHung (last most (ms ++ e ∷ [])) (drop (length (ls ++ l ∷ []) - link_most) (ls ++ l ∷ [])) (has_hash mask (hash_of mask e))
     (length (last most (ms ++ e ∷ [])) - 1) (newest + 1 - get_or heads (hash_of mask e) 0)
 sound_hung mask ms most ls link_most heads newest e l s some =
@@ -131,7 +131,7 @@ index_lowered mask ms ls heads heads' newest new few less l i = record {
 -- the newest mark is in its tree
 index_placed : (mask : ℕ) (ms : List Mark) (ls new : List Links) (heads : List ℕ) (newest : ℕ) (e : Mark) → IsAwaiting mask ms ls heads newest e
     → length heads ≡ mask + 1 → length new ≡ length ms → length ms ≤ newest + 1 → ((h : ℕ) → h < length heads → get_or heads h 0 ≤ newest)
-    → IsPlaced ms ls new (has_hash mask (hash_of mask e)) (length ms - 1) → IsIndex mask ms new (set heads (hash_of mask e) (newest + 1)) (newest + 1)
+    → IsPutOnTop ms ls new (has_hash mask (hash_of mask e)) (length ms - 1) → IsIndex mask ms new (set heads (hash_of mask e) (newest + 1)) (newest + 1)
 index_placed mask ms ls new heads newest e a wide long counted small placed =
     let x = hash_of mask e in
     let inside : x < length heads = hash_fits mask e heads wide in
@@ -181,12 +181,12 @@ index_without mask ms ls heads newest none long small = record {
 
 -- the fields of a window after a mark came, whose marks kept their numbers or got smaller ones
 pub sound_push : (mask : ℕ) (ms : List Mark) (most : ℕ) (ls : List Links) (link_most : ℕ) (heads heads' : List ℕ) (newest : ℕ) (e : Mark) (l : Links) (placed : List Links) (new : ℕ)
-    → IsSound mask ms most ls link_most heads newest → IsLowered (set heads (hash_of mask e) (newest + 1)) heads' (newest + 1 - new)
+    → IsSoundIndex mask ms most ls link_most heads newest → IsLowered (set heads (hash_of mask e) (newest + 1)) heads' (newest + 1 - new)
     → length (last most (ms ++ e ∷ [])) ≤ new → new ≤ newest + 1 → new + 1 < 2 ^ 32 → length placed ≡ length (last most (ms ++ e ∷ []))
     → (0 < length (last most (ms ++ e ∷ []))
-    → IsPlaced (last most (ms ++ e ∷ [])) (drop (length (ls ++ l ∷ []) - link_most) (ls ++ l ∷ [])) placed (has_hash mask (hash_of mask e))
+    → IsPutOnTop (last most (ms ++ e ∷ [])) (drop (length (ls ++ l ∷ []) - link_most) (ls ++ l ∷ [])) placed (has_hash mask (hash_of mask e))
     (length (last most (ms ++ e ∷ [])) - 1))
-    → IsSound mask (last most (ms ++ e ∷ [])) most placed link_most heads' new
+    → IsSoundIndex mask (last most (ms ++ e ∷ [])) most placed link_most heads' new
 sound_push mask ms most ls link_most heads heads' newest e l placed new s lowered few less room long is_placed =
     let kept = last most (ms ++ e ∷ []) in
     let inside : hash_of mask e < length heads = hash_fits mask e heads s.wide in
@@ -219,7 +219,7 @@ sound_push mask ms most ls link_most heads heads' newest e l placed new s lowere
 
 -- a window without marks
 pub sound_new : (mask capacity : ℕ) (heads : List ℕ) → capacity + 1 < 2 ^ 32 → length heads ≡ mask + 1 → ((h : ℕ) → h < length heads → get_or heads h 0 ≡ 0)
-    → IsSound mask [] capacity [] capacity heads 0
+    → IsSoundIndex mask [] capacity [] capacity heads 0
 sound_new mask capacity heads few wide zeros = record {
   index = index_without mask [] [] heads 0 refl refl (λ h lt. let zero_head = zeros h lt in omega arith);
   same_capacity = refl;

@@ -9,16 +9,16 @@ use Rattle.std.specs.Bool.{Decides, one_answer}
 use Rattle.std.specs.List.{Contains}
 use Rattle.std.specs.Str.{bytes_eq}
 use Rattle.cap_window.specs.declared.mark.Mark.{Mark}
-use Rattle.cap_window.specs.Marks.{is_same, has_same, last}
+use Rattle.cap_window.specs.Marks.{is_same_mark, has_same, last}
 
 abbrev with_digest : ℕ → List ℕ → Mark
 with_digest length digest = record { length = length; digest = digest }
 
-pub is_same-Decides : (x y : Mark) → Decides (is_same x y) (x ≡ y)
+pub is_same-Decides : (x y : Mark) → Decides (is_same_mark x y) (x ≡ y)
 is_same-Decides x y =
-    let parts : Decides (is_same x y) ((x.length ≡ y.length) × (x.digest ≡ y.digest)) =
+    let parts : Decides (is_same_mark x y) ((x.length ≡ y.length) × (x.digest ≡ y.digest)) =
     Decides-and (x.length == y.length) (bytes_eq x.digest y.digest) (Decides-eqb x.length y.length) (bytes_eq-Decides x.digest y.digest) in
-    Decides-like (is_same x y) (λ same. equal same.0 same.1) (λ e. (ap (λ (m : Mark). m.length) e, ap (λ (m : Mark). m.digest) e)) parts
+    Decides-like (is_same_mark x y) (λ same. equal same.0 same.1) (λ e. (ap (λ (m : Mark). m.length) e, ap (λ (m : Mark). m.digest) e)) parts
   where
     equal : x.length ≡ y.length → x.digest ≡ y.digest → x ≡ y
     equal a b = ap (λ (n : ℕ). with_digest n x.digest) a ∙ ap (λ (d : List ℕ). with_digest y.length d) b
@@ -26,7 +26,7 @@ is_same-Decides x y =
 has_same-Decides : (ms : List Mark) (m : Mark) → Decides (has_same ms m) (Contains ms m)
 has_same-Decides ms m = (
   Contains-from_any (λ x y. (is_same-Decides x y).0) m ms,
-  λ has. list_any_at (is_same m) ms has.0 m has.1 ((is_same-Decides m _).1 (sym has.2)),
+  λ has. list_any_at (is_same_mark m) ms has.0 m has.1 ((is_same-Decides m _).1 (sym has.2)),
 )
 
 -- what a window returns, as a test

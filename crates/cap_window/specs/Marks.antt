@@ -9,12 +9,12 @@ use Rattle.cap_window.specs.declared.mark.Mark.{Mark}
 abbrev pub mark_of : List ℕ → Mark
 mark_of bytes = record { length = length bytes; digest = md5 bytes }
 
-abbrev pub is_same : Mark → Mark → Bool
-is_same x y = x.length == y.length && pointwise nat_eq x.digest y.digest
+abbrev pub is_same_mark : Mark → Mark → Bool
+is_same_mark x y = x.length == y.length && pointwise nat_eq x.digest y.digest
 
 -- whether one of the marks is the same
 abbrev pub has_same : List Mark → Mark → Bool
-has_same marks m = list_any (is_same m) marks
+has_same marks m = list_any (is_same_mark m) marks
 
 -- the last n of them, or all where there are fewer
 abbrev pub last : ℕ → List Mark → List Mark

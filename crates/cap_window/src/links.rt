@@ -1,6 +1,6 @@
 //! How the marks of one hash hang together.
 ghost use Rattle.std.specs.Prelude.{◌≡◌, ◌-◌, ◌<◌, ◌^◌, Bool, length};
-ghost use Rattle.cap_window.specs.Index.{IsHung, IsPlaced, is_one};
+ghost use Rattle.cap_window.specs.Index.{IsHung, IsPutOnTop, is_one};
 ghost use Rattle.cap_window.specs.declared.mark.Mark.{Mark};
 
 use crate::mark::{Mark, same};
@@ -17,12 +17,12 @@ pub struct Links {
 
 impl Links {
     ghost use Rattle.std.specs.Prelude.{◌≡◌, ◌+◌, ◌^◌, ◌-◌, min, not};
-    ghost use Rattle.cap_window.specs.Index.{link_at};
+    ghost use Rattle.cap_window.specs.Index.{link_by_bit};
 
     /// The link to the marks with this bit.
     #[inline]
     pub fn link(&self, bit: bool) -> u32
-        ensures { result ≡ link_at self.now bit }
+        ensures { result ≡ link_by_bit self.now bit }
     {
         if bit { self.ones } else { self.zeros }
     }
@@ -42,8 +42,8 @@ impl Links {
     /// The same links but one.
     #[inline]
     fn with(self, bit: bool, step: u32) -> Links
-        ensures bit { link_at result bit ≡ step }
-        ensures other { link_at result (not bit) ≡ link_at self (not bit) }
+        ensures bit { link_by_bit result bit ≡ step }
+        ensures other { link_by_bit result (not bit) ≡ link_by_bit self (not bit) }
     {
         if bit {
             Links { ones: step, ..self }
@@ -86,7 +86,7 @@ pub fn place_newest<A: Allocator>(
     ensures capacity { links.new.capacity ≡ links.old.capacity }
     ensures placed { 0 < length marks.now.items → (class : Mark → Bool)
         → IsHung marks.now.items links.old.items class (length marks.now.items - 1) step
-        → IsPlaced marks.now.items links.old.items links.new.items class
+        → IsPutOnTop marks.now.items links.old.items links.new.items class
         (length marks.now.items - 1) }
 {
     if marks.is_empty() {

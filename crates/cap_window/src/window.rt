@@ -30,14 +30,14 @@ pub struct Window<A: Allocator> {
 }
 
 impl<A: Allocator> Model for Window<A> {
-    ghost use Rattle.cap_window.specs.Index.{IsSound};
+    ghost use Rattle.cap_window.specs.Index.{IsSoundIndex};
     ghost use Rattle.cap_window.specs.View.{WindowView, window};
 
     ghost Value = { WindowView };
 
     ghost view = { λ w. window w.marks.items w.marks.capacity };
 
-    ghost invariant = { λ w. IsSound w.mask w.marks.items w.marks.capacity w.links.items
+    ghost invariant = { λ w. IsSoundIndex w.mask w.marks.items w.marks.capacity w.links.items
         w.links.capacity w.heads.items w.newest };
 }
 

@@ -1,6 +1,7 @@
 //! A command over files and standard streams.
 ghost use Rattle.std.specs.Prelude.{◌≡◌, ◌≢◌, ◌<◌, ◌≤◌, ◌&&◌, ◌||◌, ℕ, not, is_none, IfErr, IfOk};
-ghost use Rattle.std.specs.Prelude.{codes, is_some, option_map, string_bytes, unwrap_or, IsOkAnd, List, [], ◌∷◌, ◌++◌, IfSome, IsSome, IsUtf8, OnOk, true, false};
+ghost use Rattle.std.specs.Prelude.{codes, is_some, option_map, string_bytes, unwrap_or, IsOkAnd};
+ghost use Rattle.std.specs.Prelude.{List, [], ◌∷◌, ◌++◌, IfSome, IsSome, IsUtf8, OnOk, true, false};
 ghost use Rattle.std.specs.Prelude.{Ok, length, vec_len};
 ghost use Rattle.std.specs.Global.{Vec};
 ghost use Rattle.std.specs.IoError.{error_kind};

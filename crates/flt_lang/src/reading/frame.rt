@@ -4,7 +4,8 @@
 
 ghost use Rattle.std.specs.Prelude.{◌≡◌, reverse};
 ghost use Rattle.flt_lang.specs.Grammar.{level};
-ghost use Rattle.flt_lang.specs.Machine.{precedence, operand_precedence, token_precedence, enclosed_operand};
+ghost use Rattle.flt_lang.specs.Machine.{precedence, operand_precedence, token_precedence};
+ghost use Rattle.flt_lang.specs.Machine.{enclosed_operand};
 ghost use Rattle.flt_lang.specs.Machine.{sort_of, node_of};
 
 use crate::node::Node;

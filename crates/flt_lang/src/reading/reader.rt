@@ -411,7 +411,8 @@ impl<A: Allocator> Reader<A> {
             ≡ Some (r.0, (self.new.frames, r.1, self.new.nodes))) }
         ensures within { IfOk result (λ r. r.0 ≤ length rest.now) }
         ensures none { result ≡ Err ExprFault.NotAnExpression
-            → after_token_at first (kinds_of rest.now) self.old.frames operand self.old.nodes ≡ None }
+            → after_token_at first (kinds_of rest.now) self.old.frames operand self.old.nodes
+            ≡ None }
         ensures err { IfErr result IsReadFault }
     {
         match first {
@@ -443,7 +444,8 @@ impl<A: Allocator> Reader<A> {
             ≡ Some (r.0, (self.new.frames, r.1, self.new.nodes))) }
         ensures within { IfOk result (λ r. r.0 ≤ length rest.now) }
         ensures none { result ≡ Err ExprFault.NotAnExpression
-            → after_operand (first ∷ kinds_of rest.now) self.old.frames operand self.old.nodes ≡ None }
+            → after_operand (first ∷ kinds_of rest.now) self.old.frames operand self.old.nodes
+            ≡ None }
         ensures err { IfErr result IsReadFault }
     {
         match prefix_len(operand, first, rest) {

@@ -2,7 +2,7 @@ use Rattle.std.proofs.Common.{◌<◌, ◌∙◌, length, ap, sym, subst}
 use Rattle.std.specs.List.{slice_set}
 use Rattle.cap_inputs.specs.declared.inputs.Schedule.{Schedule}
 use Rattle.cap_inputs.specs.declared.inputs.Next.TheVariants as next
-use Rattle.cap_inputs.specs.Cursor.{HoldsQueue, IsNextAt, IsPlaced, ordering_of}
+use Rattle.cap_inputs.specs.Cursor.{HoldsQueue, IsNextAt, IsScheduled, ordering_of}
 use Rattle.cap_inputs.specs.Sequence.{PacketOrder}
 use Rattle.cap_inputs.specs.Inputs.{InputsView, InputView, MarksDecided, IsNext, input_behind, with_cursor}
 use Rattle.cap_inputs.proofs.Cursors.{behind-order, get-among}
@@ -30,11 +30,11 @@ invariant_of-self g c =
     let at : IsNextAt c.self.inside.schedule c.self.inside.cursors.items (next.Decide c.args.input) = decide-at c.self.inside.schedule c.self.inside.cursors.items c.args.input c.self.invariant.1 (subst T (sym c.self.view_is) c.requires.next) in
     let reading = c.mark_decided.ensures.reading (decided-waits c.self.inside.schedule c.self.inside.cursors.items c.args.input c.index_mut.result.now a at) in
     let P : Schedule → Type 0 = λ p. HoldsQueue p (slice_set c.self.inside.cursors.items c.args.input c.mark_decided.new.self) c.go_back.new.queue in
-    let S : InputView → Type 0 = λ h. IsPlaced c.go_back.new.schedule (slice_set c.self.inside.cursors.items c.args.input h) in (
+    let S : InputView → Type 0 = λ h. IsScheduled c.go_back.new.schedule (slice_set c.self.inside.cursors.items c.args.input h) in (
       subst P (sym c.go_back.ensures.schedule)
           (settled-in c.self.inside.schedule c.self.inside.cursors.items c.args.input c.mark_decided.new.self c.self.inside.queue c.go_back.new.queue
           at (ap (λ (h : InputView). h.waiting) c.mark_decided.ensures.behind) c.go_back.ensures.queue c.self.invariant.0),
       subst S (sym c.mark_decided.ensures.behind)
-          (let R : Schedule → Type 0 = λ p. IsPlaced p (slice_set c.self.inside.cursors.items c.args.input (input_behind c.index_mut.result.now)) in
+          (let R : Schedule → Type 0 = λ p. IsScheduled p (slice_set c.self.inside.cursors.items c.args.input (input_behind c.index_mut.result.now)) in
           subst R (sym c.go_back.ensures.schedule) (placed-decided c.self.inside.schedule c.self.inside.cursors.items c.args.input c.index_mut.result.now a at reading c.self.invariant.1)),
     )

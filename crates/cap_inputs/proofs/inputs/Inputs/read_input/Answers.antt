@@ -2,7 +2,7 @@ use Rattle.std.proofs.Common.{◌<◌, ◌&&◌, ℕ, ap, sym, ◌∙◌, subst,
 use Rattle.std.specs.List.{slice_set}
 use Rattle.cap_inputs.specs.declared.inputs.Schedule.{Schedule}
 use Rattle.cap_inputs.specs.declared.inputs.Next.TheVariants as next
-use Rattle.cap_inputs.specs.Cursor.{Enters, HoldsQueue, IsNextAt, IsPlaced, is_merge, ordering_of}
+use Rattle.cap_inputs.specs.Cursor.{EntersQueue, HoldsQueue, IsNextAt, IsScheduled, is_merge, ordering_of}
 use Rattle.cap_inputs.specs.Sequence.{PacketOrder}
 use Rattle.cap_inputs.specs.Inputs.{InputsView, ReadsInput, ReadSteps, InputView, IsNext, is_packet_found}
 use Rattle.cap_inputs.proofs.Cursors.{get-among, fetches-by, read_input-steps-by, schedule-order}
@@ -49,10 +49,10 @@ invariant_of-self g c =
     let a = get-among c.self.inside.cursors.items c.args.input c.index_mut-cursor.result.now c.index_mut-cursor.result.now (subst W (sym c.self.view_is) c.requires.within) c.index_mut-cursor.ensures.value in
     let at : IsNextAt c.self.inside.schedule c.self.inside.cursors.items (next.Read c.args.input) = read-at c.self.inside.schedule c.self.inside.cursors.items c.args.input c.self.invariant.1 (subst T (sym c.self.view_is) c.requires.next) in
     let waits = ap (λ (h : InputView). h.waiting) c.advance-result.ensures.is in
-    let K : ℕ → Type 0 = λ n. Enters (is_packet_found c.advance-result.result && is_merge c.self.inside.schedule) (record { time = n; input = c.args.input }) c.self.inside.queue c.go_on.new.queue in
+    let K : ℕ → Type 0 = λ n. EntersQueue (is_packet_found c.advance-result.result && is_merge c.self.inside.schedule) (record { time = n; input = c.args.input }) c.self.inside.queue c.go_on.new.queue in
     let cursors' = slice_set c.self.inside.cursors.items c.args.input c.advance-result.new.self in
     let P : Schedule → Type 0 = λ p. HoldsQueue p cursors' c.go_on.new.queue in
-    let Q : Schedule → Type 0 = λ p. IsPlaced p cursors' in (
+    let Q : Schedule → Type 0 = λ p. IsScheduled p cursors' in (
       subst P (sym c.go_on.ensures.schedule)
           (queue-read c.self.inside.schedule c.self.inside.cursors.items c.args.input c.index_mut-cursor.result.now c.advance-result.new.self c.advance-result.result c.self.inside.queue c.go_on.new.queue
           a at waits (subst K c.key.ensures c.go_on.ensures.queue) c.self.invariant.0),

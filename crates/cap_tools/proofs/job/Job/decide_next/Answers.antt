@@ -8,7 +8,7 @@ use Rattle.cap_inputs.specs.Inputs.{InputsView, InputView, InputPast, input_behi
 use Rattle.cap_inputs.specs.Inputs as input_spec
 use Rattle.cap_tools.specs.Verdict.{Policy}
 use Rattle.cap_tools.specs.Selector.{SelectorView, policy_state}
-use Rattle.cap_tools.specs.Machine.{MachineState, PacketsDecided, EndLeaves, StepGives, unwritten}
+use Rattle.cap_tools.specs.Machine.{MachineState, PacketsDecided, EndLeaves, StepGives, end_of_failed_write}
 use Rattle.cap_tools.specs.Start.{Preparing, preparing_of}
 use Rattle.std.specs.Option.{option_map}
 use Rattle.cap_tools.specs.Jobs.{machine_at, JobView}
@@ -68,10 +68,10 @@ returns-in-Err g c =
     let N : JobView → Type 0 = λ v. input_spec.IsNext v.machine.inputs (next.Decide c.args.input) in
     let tells = subst N (sym c.self.view_is) c.requires.next in
     let h = held c.cursor.result.now.source.packet c.self.inside.selector (c.self.inside.decided + 1) c.decide.new.selector c.decide.ensures.spends in
-    let P : JobView → Type 0 = λ v. IsStep g.I.Input.tells g.O.Output.tells v (Some (unwritten c.args.input c.in-Err.fault)) new in
+    let P : JobView → Type 0 = λ v. IsStep g.I.Input.tells g.O.Output.tells v (Some (end_of_failed_write c.args.input c.in-Err.fault)) new in
     rw c.unwritten.ensures (subst P c.self.view_is (record {
       told = λ ti to ss before d.
-          let K : Policy → Type 0 = λ k. EndLeaves d (unwritten c.args.input c.in-Err.fault) (left k) in
+          let K : Policy → Type 0 = λ k. EndLeaves d (end_of_failed_write c.args.input c.in-Err.fault) (left k) in
           subst K (sym c.in-Err.ensures.policy)
           (answer-leaves ss before m.inputs.cursors m.inputs.order m.policy m.state m.output m.decided c.args.input (Err c.in-Err.fault) c.cursor.result.now (policy_state j) (output_at c.self.inside.messages.names c.decide.new.output) refl tells c.cursor.ensures c.in-Err.ensures.policy c.in-Err.ensures.passed c.in-Err.ensures.counted (let i = c.self.invariant.0 in omega (arith, i)) (c.in-Err.ensures.told to) d);
       reads = leaves_one c.args.input refl (record {

@@ -4,7 +4,7 @@ use Rattle.cap_tools.specs.Output.{output_at}
 use Rattle.cap_tools.specs.Messages.{MessagesView}
 use Rattle.cap_tools.specs.Start.{Preparing, preparing_of}
 use Rattle.std.specs.Option.{option_map}
-use Rattle.cap_tools.specs.Jobs.{JobView, end_text}
+use Rattle.cap_tools.specs.Jobs.{JobView, end_message}
 use Rattle.cap_tools.specs.Step.{ending}
 use Rattle.cap_tools.proofs.job.Job.end.Goals as goal
 
@@ -24,7 +24,7 @@ returns-clause-ended g c =
 
 pub returns-clause-told : goal.returns-clause-told
 returns-clause-told g c =
-    let P : JobView → Type 0 = λ v. IsTold g.E.Output.tells v.err (end_text v.machine.output.names v.machine.inputs.cursors c.args.end) c.end.new.self.device in
+    let P : JobView → Type 0 = λ v. IsTold g.E.Output.tells v.err (end_message v.machine.output.names v.machine.inputs.cursors c.args.end) c.end.new.self.device in
     subst P c.self.view_is c.end.ensures.told
 
 pub returns-clause-quiet : goal.returns-clause-quiet

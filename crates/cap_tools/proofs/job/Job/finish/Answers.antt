@@ -4,7 +4,7 @@ use Rattle.cap_filter.specs.Outcome.{OutputView}
 use Rattle.cap_inputs.specs.declared.inputs.Next.TheVariants as next
 use Rattle.cap_tools.specs.declared.step.JobEnd.{JobEnd}
 use Rattle.cap_tools.specs.declared.step.JobEnd.TheVariants as end
-use Rattle.cap_tools.specs.Output.{output_at, Finishes}
+use Rattle.cap_tools.specs.Output.{output_at, EndsOutput}
 use Rattle.cap_inputs.specs.Inputs.{InputPast}
 use Rattle.cap_inputs.specs.Inputs as input_spec
 use Rattle.cap_tools.specs.Machine.{MachineState, PacketsDecided, EndLeaves}
@@ -27,7 +27,7 @@ returns g c =
     let new : JobView = record { preparing = preparing; machine = left; programs = c.self.inside.selector.programs; err = err; turns = c.self.inside.turns; done = c.self.inside.done } in
     let N : JobView → Type 0 = λ v. input_spec.IsNext v.machine.inputs next.Finish in
     let tells = subst N (sym c.self.view_is) c.requires.next in
-    let F : Option ℕ → Type 0 = λ o. Finishes o m.output.target c.finish.result left.output.target in
+    let F : Option ℕ → Type 0 = λ o. EndsOutput o m.output.target c.finish.result left.output.target in
     let all : (ss : List InputPast) (before : List ℕ) (d : PacketsDecided ss before m) → IsTrue g.O.Output.tells → FinishLeaves d c.finish.result left = λ ss before d to.
     finish-leaves ss before m.inputs.cursors m.inputs.order m.policy m.state m.output m.decided c.finish.result left tells refl (subst F c.first_link-first.ensures (c.finish.ensures.told to)) d in
     let S : JobEnd → JobView → Type 0 = λ e v. IsStep g.I.Input.tells g.O.Output.tells v (Some e) new in

@@ -3,7 +3,7 @@ use Rattle.std.proofs.Common.{◌≡◌, ◌≤◌, List, map, length, string_by
 use Rattle.std.specs.List.{All}
 use Rattle.std.specs.Option.{option_map}
 use Rattle.flt_bpf.specs.Content.{Content}
-use Rattle.cap_tools.specs.Bounds.{HasFewInterfaces, IsSmall, most_turns, owed}
+use Rattle.cap_tools.specs.Bounds.{HasFewOutputInterfaces, IsSmall, most_turns, steps_owed_in_all}
 use Rattle.cap_tools.specs.Output.{Target}
 use Rattle.cap_tools.specs.Reports.{nothing_counted}
 use Rattle.cap_inputs.specs.Inputs.{InputsView, steps_left}
@@ -28,11 +28,11 @@ invariant_of-result g c =
     let within : length call.inputs ≤ most_inputs = omega (arith, proper, count) in
     let bound = first-left order call.inputs within in
     let left : steps_left c.in-Some.inputs ≡ steps_left (fresh_inputs order call.inputs) = ap steps_left c.in-Some.ensures in
-    let owes : owed c.in-Some.inputs ≡ owed (fresh_inputs order call.inputs) = ap owed c.in-Some.ensures in
+    let owes : steps_owed_in_all c.in-Some.inputs ≡ steps_owed_in_all (fresh_inputs order call.inputs) = ap steps_owed_in_all c.in-Some.ensures in
     let most : most_turns c.in-Some.inputs ≡ most_turns (fresh_inputs order call.inputs) = ap most_turns c.in-Some.ensures in
     let turns = first-few order call.inputs in
     let cursors : All IsSmall c.in-Some.inputs.cursors = (let P : InputsView → Type 0 = λ f. All IsSmall f.cursors in subst P (sym c.in-Some.ensures) (small-first call.inputs)) in
-    let few : HasFewInterfaces c.new-output.result = (let P : Target → Type 0 = λ t. HasFewInterfaces t in subst P (sym c.new-output.ensures) (few-first c.assignment_of-preparation.result.writing _ _ _)) in
+    let few : HasFewOutputInterfaces c.new-output.result = (let P : Target → Type 0 = λ t. HasFewOutputInterfaces t in subst P (sym c.new-output.ensures) (few-first c.assignment_of-preparation.result.writing _ _ _)) in
     let marks : HasFewMarks c.in-Ok.selector.policy c.in-Ok.selector.state = (let P : SelectorView → Type 0 = λ v. HasFewMarks v.policy v.state in subst P (sym c.in-Ok.ensures) (omega arith)) in
     let sound : HavePrograms c.in-Ok.selector.policy c.in-Ok.selector.programs = (let P : SelectorView → Type 0 = λ v. HavePrograms v.policy v.programs in subst P (sym c.in-Ok.ensures) c.assignment_of-preparation.ensures.sound) in
     let a : Assignment = record { preparing = option_map preparing_of c.assignment_of-preparation.result.preparation; policy = policy_of c.assignment_of-preparation.result.policy; order = order; writing = c.assignment_of-preparation.result.writing } in

@@ -4,7 +4,7 @@ use Rattle.cap_filter.specs.Messages.{refusal_status}
 use Rattle.cap_tools.specs.Output.{output_at}
 use Rattle.cap_tools.specs.Start.{Preparing, preparing_of}
 use Rattle.cap_tools.specs.Jobs.{JobView, machine_at}
-use Rattle.cap_tools.specs.FirstStep.{Refuses}
+use Rattle.cap_tools.specs.FirstStep.{RefusesStart}
 use Rattle.cap_tools.proofs.Weights.{is-light}
 use Rattle.cap_tools.proofs.job.Job.refuse.Goals as goal
 
@@ -20,7 +20,7 @@ returns-clause-refused g c =
       turns = c.self.inside.turns + 1;
       done = Some status;
     } in
-    let P : JobView → Type 0 = λ v. Refuses c.args.refusal g.E.Output.tells v (refusal_status c.args.refusal) (with preparing c.refuse.new.self.names c.status-status.result) in
+    let P : JobView → Type 0 = λ v. RefusesStart c.args.refusal g.E.Output.tells v (refusal_status c.args.refusal) (with preparing c.refuse.new.self.names c.status-status.result) in
     let N : Option Preparing → JobView = λ p. with p c.refuse.new.self.names c.status-status.result in
     subst P c.self.view_is (record { status_is = refl; told = c.refuse.ensures.told; new_is = ap N none ∙ ap₂ (with None) c.refuse.ensures.names c.status-status.ensures })
 

@@ -1,10 +1,10 @@
 use Rattle.std.proofs.Common.{subst}
-use Rattle.cap_filter.specs.Outcome.{IsTold, seen}
+use Rattle.cap_filter.specs.Outcome.{IsTold, output_view}
 use Rattle.cap_tools.specs.Messages.{MessagesView}
-use Rattle.cap_tools.specs.Jobs.{end_text}
+use Rattle.cap_tools.specs.Jobs.{end_message}
 use Rattle.cap_tools.proofs.messages.Messages.end.Goals as goal
 
 pub returns-clause-told : goal.returns-clause-told
 returns-clause-told g c =
-    let P : MessagesView → Type 0 = λ v. IsTold g.E.Output.tells v.device (end_text v.names c.args.inputs.now.cursors c.args.end) (seen (g.E.Output.written c.tell.new.device) (g.E.Output.failures c.tell.new.device)) in
+    let P : MessagesView → Type 0 = λ v. IsTold g.E.Output.tells v.device (end_message v.names c.args.inputs.now.cursors c.args.end) (output_view (g.E.Output.written c.tell.new.device) (g.E.Output.failures c.tell.new.device)) in
     subst P c.self.view_is (record { answer = c.tell.result; told = c.tell.ensures.told; counted = c.tell.ensures.failed })

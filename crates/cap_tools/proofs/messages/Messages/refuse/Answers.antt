@@ -1,10 +1,10 @@
 use Rattle.std.proofs.Common.{subst}
 use Rattle.cap_filter.specs.Messages.{refusal_message}
-use Rattle.cap_filter.specs.Outcome.{IsTold, seen}
+use Rattle.cap_filter.specs.Outcome.{IsTold, output_view}
 use Rattle.cap_tools.specs.Messages.{MessagesView}
 use Rattle.cap_tools.proofs.messages.Messages.refuse.Goals as goal
 
 pub returns-clause-told : goal.returns-clause-told
 returns-clause-told g c =
-    let P : MessagesView → Type 0 = λ v. IsTold g.E.Output.tells v.device (refusal_message c.args.refusal) (seen (g.E.Output.written c.tell_refusal.new.output) (g.E.Output.failures c.tell_refusal.new.output)) in
+    let P : MessagesView → Type 0 = λ v. IsTold g.E.Output.tells v.device (refusal_message c.args.refusal) (output_view (g.E.Output.written c.tell_refusal.new.output) (g.E.Output.failures c.tell_refusal.new.output)) in
     subst P c.self.view_is (record { answer = c.tell_refusal.result; told = c.tell_refusal.ensures.told; counted = c.tell_refusal.ensures.failed })

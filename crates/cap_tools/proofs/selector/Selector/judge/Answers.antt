@@ -4,7 +4,7 @@ use Rattle.cap_octet.specs.declared.fault.Fault.TheVariants.{TooManyPackets}
 use Rattle.cap_tools.specs.declared.selector.Verdict.TheVariants as code
 use Rattle.cap_inputs.specs.Inputs.{most_steps}
 use Rattle.cap_tools.specs.Verdict.{Judgement, SelectorState, is_last, judge_by, refuses, judge}
-use Rattle.cap_tools.specs.Selector.{SelectorView, IsWithin, Keeps, IsVerdict, policy_of, count_of, is_count, marks_in, passing, state_of, verdict_of}
+use Rattle.cap_tools.specs.Selector.{SelectorView, IsWithin, ReturnsVerdict, IsVerdict, policy_of, count_limit, is_count, marks_in, verdict_if, state_of, verdict_of}
 use Rattle.cap_tools.proofs.Selectors.{few, too-many, tells-count, tells-none, tells-passed, within-room}
 use Rattle.cap_tools.proofs.selector.Selector.judge.Goals as goal
 use Rattle.cap_tools.proofs.selector.Selector.judge.Goals.{then-passed-number, else-passed-number}
@@ -31,11 +31,11 @@ returns-then-not-branch-clause-told g c = λ within counted.
     let judges : is_count (policy_of w.policy) ≡ false = sym c.counts.ensures ∙ c.if-counts.false in
     let state : SelectorState = state_of w.passed (marks_in w.window) w.tally in
     let after : SelectorState = state_of w.passed (marks_in c.keeps.new.window) w.tally in
-    let K : Bool → Type 0 = λ b. Keeps (count_of (policy_of w.policy)) (judge_by (policy_of w.policy) state c.args.number p) (Ok b) q after in
+    let K : Bool → Type 0 = λ b. ReturnsVerdict (count_limit (policy_of w.policy)) (judge_by (policy_of w.policy) state c.args.number p) (Ok b) q after in
     let keeps : K false = subst K c.if-not-branch.true (c.in_ok-keeps.ensures.told w.passed w.tally judges) in
     let P : SelectorView → Type 0 = λ v. IsVerdict (judge v.policy v.state c.args.number p) (Ok code.Skip) q after in
     subst P c.self.view_is (rw (few (policy_of w.policy) state c.args.number p judges c.if-number-ge-MOST_PACKETS.false)
-    (tells-none (count_of (policy_of w.policy)) (judge_by (policy_of w.policy) state c.args.number p) after q code.Skip keeps refl))
+    (tells-none (count_limit (policy_of w.policy)) (judge_by (policy_of w.policy) state c.args.number p) after q code.Skip keeps refl))
 
 pub returns-clause-told : goal.returns-clause-told
 returns-clause-told g c = λ within counted.
@@ -45,10 +45,10 @@ returns-clause-told g c = λ within counted.
     let judges : is_count (policy_of w.policy) ≡ false = sym c.counts.ensures ∙ c.if-counts.false in
     let state : SelectorState = state_of w.passed (marks_in w.window) w.tally in
     let after : SelectorState = state_of w.passed (marks_in c.keeps.new.window) w.tally in
-    let K : Bool → Type 0 = λ b. Keeps (count_of (policy_of w.policy)) (judge_by (policy_of w.policy) state c.args.number p) (Ok b) q after in
+    let K : Bool → Type 0 = λ b. ReturnsVerdict (count_limit (policy_of w.policy)) (judge_by (policy_of w.policy) state c.args.number p) (Ok b) q after in
     let keeps : K true = subst K c.if-not-branch.false (c.in_ok-keeps.ensures.told w.passed w.tally judges) in
-    let is : verdict_of c.passing.result q ≡ passing q (is_last (count_of (policy_of c.if-passed-number.self-inside.policy)) c.if-passed-number.self-inside.passed) =
-    c.passing.ensures q ∙ ap (passing q) (c.is_last-last.ensures ∙ ap (λ (n : Option ℕ). is_last n c.if-passed-number.self-inside.passed) c.count.ensures) in
+    let is : verdict_of c.passing.result q ≡ verdict_if q (is_last (count_limit (policy_of c.if-passed-number.self-inside.policy)) c.if-passed-number.self-inside.passed) =
+    c.passing.ensures q ∙ ap (verdict_if q) (c.is_last-last.ensures ∙ ap (λ (n : Option ℕ). is_last n c.if-passed-number.self-inside.passed) c.count.ensures) in
     let few_before : w.passed < c.args.number = (let N : SelectorView → Type 0 = λ v. v.state.passed < c.args.number in subst N (sym c.self.view_is) within) in
     elim c.if-passed-number.branch [
       | then-passed-number b ↦ (let last = rw b.self-inside-is at is in
