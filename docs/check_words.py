@@ -1,10 +1,11 @@
 #!/usr/bin/env python3
-"""Lists private words in the pages and in comments, each with the word of the field that is to stand there.
+"""Lists private words in pages, comments and identifiers, each with the word of the field that is to stand there.
 
 usage: check_words.py [FILE..]
 
-Without files it reads the pages (but the glossary) and the comments of the crates' src/ and specs/. Code between backticks
-and in fenced blocks is left out. The status is 1 if a word is found.
+Without files it reads the pages (but the glossary), and of the crates' src/ and specs/ the comments and the identifiers.
+Code between backticks and in fenced blocks of pages, and texts between double quotes in code, are left out. The status
+is 1 if a word is found.
 """
 import pathlib
 import re
@@ -34,6 +35,27 @@ WORDS = [
     (r"\blooked for in this order\b", "checked in this order"),
     (r"\bstands? (for\b|in\b(?! (front|place|either)))", "means, is in"),
 ]
+# Words that no identifier has among those that it joins.
+IDENTIFIERS = {
+    "heading": "file_header, section_header",
+    "headings": "headers",
+    "looseness": "precedence",
+    "stood": "the past of an input",
+    "laid": "order",
+    "fed": "sequence",
+}
+
+
+def words_of(identifier):
+    """The words that an identifier joins, by underscores or capitals, in small letters."""
+    return [word.lower() for word in re.findall(r"[A-Z]?[a-z]+|[A-Z]+(?![a-z])", identifier)]
+
+
+def identifiers(path):
+    """The numbered lines of a file of code, without comments and texts."""
+    mark = {".rt": "//", ".antt": "--"}.get(path.suffix)
+    for number, line in enumerate(path.read_text().splitlines() if mark else [], 1):
+        yield number, re.sub(r'"[^"]*"', "", line).partition(mark)[0]
 
 
 def readable(path):
@@ -54,6 +76,11 @@ found = [
     f"{path.relative_to(ROOT)}:{number}: {match.group(0)}: {better}"
     for path in files for number, line in readable(path)
     for word, better in WORDS for match in re.finditer(word, line)
+]
+found += [
+    f"{path.relative_to(ROOT)}:{number}: {name}: {IDENTIFIERS[word]}"
+    for path in files for number, line in identifiers(path)
+    for name in re.findall(r"[A-Za-z_]\w*", line) for word in words_of(name) if word in IDENTIFIERS
 ]
 print(*found, sep="\n", end="\n" if found else "")
 sys.exit(1 if found else 0)

@@ -14,7 +14,7 @@ use std::str;
 const LAST: u64 = (1 << 63) - 1;
 
 /// How many bytes the file header or section header of a format has.
-fn heading_size(format: Format) -> usize {
+fn header_size(format: Format) -> usize {
     match format {
         Format::Pcapng => 28,
         Format::Pcap | Format::NsecPcap => 24,
@@ -73,7 +73,7 @@ fn made(fuzzer: &mut Fuzzer<'_>, capture: &Capture) {
 fn cut(fuzzer: &mut Fuzzer<'_>, bytes: &[u8], whole: &Outcome, format: Format) {
     let size = fuzzer.random.place(bytes.len());
     let short = fuzzer.copy(bytes.get(..size).unwrap_or_default(), format);
-    let is_met = short.written.len() <= heading_size(format)
+    let is_met = short.written.len() <= header_size(format)
         || whole.written.starts_with(&short.written);
     fuzzer.compare(Property::Cut, is_met, (&whole.written, &short.written));
 }

@@ -1,9 +1,7 @@
 -- Digits that write a number, and the tests on them.
-use Rattle.std.proofs.Common.{◌≡◌, ℕ, ◌<◌, ◌≤◌, ◌^◌, List, [], ◌∷◌, length, refl, Bool, true, false, nat_lt, ◌&&◌, ◌==◌, arith}
+use Rattle.std.proofs.Common.{◌≡◌, ℕ, ◌<◌, ◌≤◌, ◌^◌, List, length, refl, true, false, ◌==◌, arith}
 use Rattle.std.proofs.lemmas.Bool.Decides.{nat_tests}
-use Rattle.std.specs.Char.{digit_value}
-use Rattle.std.specs.List.{list_all}
-use Rattle.std.specs.Str.Parse.{AllDigits, digits_value}
+use Rattle.std.specs.Str.Parse.{digits_value}
 use Rattle.cap_octet.specs.Digits.{are_digits}
 use Rattle.cap_octet.proofs.Numerals.{digits_from_test, digits_pass}
 use Rattle.flt_words.specs.Numbers.{Writes, is_word_sized}

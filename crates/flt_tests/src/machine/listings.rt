@@ -150,7 +150,7 @@ fn each_growth_of_a_listing_is_refused(rt: HostRuntime) -> Result<(), Fail> {
     Ok(())
 }
 
-/// Whether a fault is told so.
+/// Whether a fault is reported so.
 fn is_told_as(alloc: Global, fault: ListingFault, text: &str) -> Result<bool, AllocError> {
     Ok(format!(in alloc; "{fault}")?.as_str() == text)
 }
