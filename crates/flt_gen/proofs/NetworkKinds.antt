@@ -1,5 +1,5 @@
 -- The test of a kind of network header reads what the packet's network header is.
-use Rattle.std.proofs.Common.{◌≡◌, get_or-drop, ℕ, zero, suc, ◌+◌, ◌*◌, ◌/◌, ◌%◌, ◌<◌, ◌≤◌, List, length, drop, Bool, true, false, nat_lt, nat_le, ◌==◌, Option, Some, None, refl, sym, ap, subst, ◌∙◌, arith, if◌then◌else◌}
+use Rattle.std.proofs.Common.{◌≡◌, get_or-drop, ℕ, ◌+◌, ◌*◌, ◌/◌, ◌%◌, ◌<◌, List, length, drop, Bool, true, false, nat_lt, nat_le, ◌==◌, Some, None, refl, sym, ap, subst, ◌∙◌, arith, if◌then◌else◌}
 use Rattle.std.specs.Prelude.{◌↔◌, ◌^◌, All, bit_and, slice_index}
 use Rattle.std.proofs.lemmas.Bool.Decides.{nat_tests}
 use Rattle.std.proofs.lemmas.Grind.{and_high_numeral}
@@ -11,7 +11,7 @@ use Rattle.cap_octet.specs.declared.network.NetworkHeader.TheVariants.{Known, Ot
 use Rattle.cap_octet.specs.declared.network.NetworkKind.{NetworkKind}
 use Rattle.cap_octet.specs.declared.network.NetworkKind.TheVariants.{Ipv4, Ipv6, Arp, Rarp}
 use Rattle.cap_octet.specs.declared.number.Order.TheVariants.{Big}
-use Rattle.flt_bpf.specs.declared.operation.Width.TheVariants.{HalfWord, Byte}
+use Rattle.flt_bpf.specs.declared.operation.Width.TheVariants.{HalfWord}
 use Rattle.flt_bpf.specs.Machine.{number_at}
 use Rattle.flt_gen.specs.declared.link.Link.{Link}
 use Rattle.flt_gen.specs.declared.link.Link.TheVariants.{Ether, Raw, Cooked}
