@@ -446,17 +446,17 @@ own-unique : (window : Option ℕ) (state : SelectorState) (p : Captured) → Ow
 own-unique None state p = tt
 own-unique (Some n) state p =
     elim (has_same state.window (mark_of p.bytes))
-    as (λ b. Own (if b then judged_spec.skipped (judged_spec.with_mark (n - 1) (mark_of p.bytes) state) else judged_spec.passes (judged_spec.with_mark (n - 1) (mark_of p.bytes) state) p).verdict)
+    as (λ b. Own (if b then judged_spec.skip_judgement (judged_spec.with_mark (n - 1) (mark_of p.bytes) state) else judged_spec.passes (judged_spec.with_mark (n - 1) (mark_of p.bytes) state) p).verdict)
     [ true ↦ tt | false ↦ tt ]
 
-own-timed : (s : EditRule) (state : SelectorState) (p : Captured) (o : Option ℕ) → Own (judged_spec.timed s state p o).verdict
+own-timed : (s : EditRule) (state : SelectorState) (p : Captured) (o : Option ℕ) → Own (judged_spec.judgement_by_time s state p o).verdict
 own-timed s state p None = λ is. (cc)
-own-timed s state p (Some time) = own-unique s.window state (judged_spec.changed s p time)
+own-timed s state p (Some time) = own-unique s.window state (judged_spec.edited_packet_with s p time)
 
 own-judged : (policy : Policy) (state : SelectorState) (number : ℕ) (p : Captured) → Own (judged_spec.judge_by policy state number p).verdict
 own-judged (Edit s) state number p =
-    elim (judged_spec.is_selected s number p) as (λ b. Own (if b then judged_spec.timed s state p (judged_spec.moved s.shift p.time) else judged_spec.skipped state).verdict)
-    [ true ↦ own-timed s state p (judged_spec.moved s.shift p.time) | false ↦ tt ]
+    elim (judged_spec.is_selected s number p) as (λ b. Own (if b then judged_spec.judgement_by_time s state p (judged_spec.shifted_time s.shift p.time) else judged_spec.skip_judgement state).verdict)
+    [ true ↦ own-timed s state p (judged_spec.shifted_time s.shift p.time) | false ↦ tt ]
 own-judged (Filter rule count) state number p = own-filters (rule_decides rule p) count state p (own-decision rule p)
 own-judged KeepAll state number p = tt
 own-judged Count state number p = tt

@@ -21,7 +21,7 @@ use Rattle.cap_tools.specs.Reports.{Tally, tally_with}
 use Rattle.cap_tools.specs.Outcome.{Form, AsReports, JobProgress, apply_verdict, next_progress, end_with, apply_events}
 use Rattle.cap_tools.specs.Edits.{coming, is_repeated, packets_selected, unique_behind}
 use Rattle.cap_tools.specs.Selector.{is_count}
-use Rattle.cap_tools.specs.Lists.{CountsAll, EndsOutOfRange, HasLastMarks, PassesFiltered, arriving, ascends, at_most, end_at_time, final, first_out_of_range, greatest, packets_kept, least, marks, packets_of, tally_of, times}
+use Rattle.cap_tools.specs.Lists.{CountsAll, EndsOutOfRange, HasLastMarks, PassesFiltered, arriving, ascends, at_most, end_at_time, final, first_out_of_range, greatest, packets_kept as kept, least, marks, packets_of, tally_of, times}
 use Rattle.cap_tools.proofs.Outcomes.{progress-ended}
 use Rattle.cap_tools.proofs.Selectors.{few}
 
@@ -145,7 +145,7 @@ at-none None = refl
 at-none (Some n) = take-nil n
 
 abbrev Filtered : Rule → Option ℕ → ℕ → SelectorState → List Captured → List Captured → Type 0
-Filtered rule count k state out ps = (apply_events (Filter rule count) reports (under_way k state out) (coming ps)).packets ≡ out ++ at_most (still count state.passed) (packets_kept rule ps)
+Filtered rule count k state out ps = (apply_events (Filter rule count) reports (under_way k state out) (coming ps)).packets ≡ out ++ at_most (still count state.passed) (kept rule ps)
 
 abbrev one-more : SelectorState → SelectorState
 one-more state = record { passed = state.passed + 1; window = state.window; tally = state.tally }
@@ -164,29 +164,29 @@ filtered-next rule count k state out p ps near below next = by_decision (rule_de
     by_count : rule_decides rule p ≡ Keep → (b : Bool) → is_last count (state.passed + 1) ≡ b → Filtered rule count k state out (p ∷ ps)
     by_count is true last =
         let j : Judgement = record { verdict = PassLast p; state = one-more state } in
-        let rest : at_most (still count state.passed) (packets_kept rule (p ∷ ps)) ≡ p ∷ [] = rw is (at-last count state.passed p (packets_kept rule ps) last) in
+        let rest : at_most (still count state.passed) (kept rule (p ∷ ps)) ≡ p ∷ [] = rw is (at-last count state.passed p (kept rule ps) last) in
         to j (rw (is, last) refl)
         ∙ ap (λ (w : JobProgress). w.packets) (progress-ended (Filter rule count) reports (apply_verdict reports (under_way k state out) 0 (placed p) (PassLast p) (one-more state)) (coming ps) Complete refl)
         ∙ ap (λ (l : List Captured). out ++ l) (sym rest)
     by_count is false last =
         let j : Judgement = record { verdict = Pass p; state = one-more state } in
-        let more = before-last count state.passed p (packets_kept rule ps) below last in
-        let rest : at_most (still count state.passed) (packets_kept rule (p ∷ ps)) ≡ p ∷ at_most (still count (state.passed + 1)) (packets_kept rule ps) = rw is more.0 in
+        let more = before-last count state.passed p (kept rule ps) below last in
+        let rest : at_most (still count state.passed) (kept rule (p ∷ ps)) ≡ p ∷ at_most (still count (state.passed + 1)) (kept rule ps) = rw is more.0 in
         to j (rw (is, last) refl)
         ∙ next (one-more state) (out ++ p ∷ []) more.1
-        ∙ append_assoc out (p ∷ []) (at_most (still count (state.passed + 1)) (packets_kept rule ps))
+        ∙ append_assoc out (p ∷ []) (at_most (still count (state.passed + 1)) (kept rule ps))
         ∙ ap (λ (l : List Captured). out ++ l) (sym rest)
 
     by_decision : (d : Decision) → rule_decides rule p ≡ d → Filtered rule count k state out (p ∷ ps)
     by_decision Keep is = by_count is (is_last count (state.passed + 1)) refl
     by_decision chosen.Skip is =
-        let rest : packets_kept rule (p ∷ ps) ≡ packets_kept rule ps = rw is refl in
+        let rest : kept rule (p ∷ ps) ≡ kept rule ps = rw is refl in
         to (skip_judgement state) (rw is refl)
         ∙ next state (out ++ []) below
-        ∙ ap (λ (o : List Captured). o ++ at_most (still count state.passed) (packets_kept rule ps)) (append-nil out)
+        ∙ ap (λ (o : List Captured). o ++ at_most (still count state.passed) (kept rule ps)) (append-nil out)
         ∙ ap (λ (l : List Captured). out ++ at_most (still count state.passed) l) (sym rest)
     by_decision (chosen.Refuse fault) is =
-        let rest : packets_kept rule (p ∷ ps) ≡ [] = rw is refl in
+        let rest : kept rule (p ∷ ps) ≡ [] = rw is refl in
         to (refuses state fault) (rw is refl)
         ∙ ap (λ (w : JobProgress). w.packets) (progress-ended (Filter rule count) reports (end_with (under_way k state out) (FaultIn 0 fault 0)) (coming ps) (FaultIn 0 fault 0) refl)
         ∙ sym (append-nil out)
@@ -208,7 +208,7 @@ below-first (Some n) some = some
 
 pub passes_filtered : PassesFiltered
 passes_filtered rule count ps some less =
-    filtered rule count 0 initial_state [] ps (omega arith) (below-first count some) ∙ ap (λ (o : Option ℕ). at_most o (packets_kept rule ps)) (all-still count)
+    filtered rule count 0 initial_state [] ps (omega arith) (below-first count some) ∙ ap (λ (o : Option ℕ). at_most o (kept rule ps)) (all-still count)
 
 -- ---- an edit
 
@@ -218,7 +218,7 @@ IsKept None before window = Unit {0}
 IsKept (Some n) before window = window ≡ last (n - 1) before
 
 kept-as : (n : Option ℕ) (before before' window : List Mark) → before ≡ before' → IsKept n before window → IsKept n before' window
-kept-as n before before' window same kept = subst (λ (ms : List Mark). IsKept n ms window) same packets_kept
+kept-as n before before' window same kept = subst (λ (ms : List Mark). IsKept n ms window) same kept
 
 record Noted (n : Option ℕ) (state : SelectorState) (before : List Mark) (p : Captured) (b : Bool) : Type 0 where
   state' : SelectorState
@@ -226,15 +226,15 @@ record Noted (n : Option ℕ) (state : SelectorState) (before : List Mark) (p : 
   kept : IsKept n (before ++ mark_of p.bytes ∷ []) state'.window
 
 noted : (n : Option ℕ) (state : SelectorState) (before : List Mark) (p : Captured) (b : Bool) → IsKept n before state.window → is_repeated n before (mark_of p.bytes) ≡ b → Noted n state before p b
-noted None state before p true packets_kept is = (cc)
-noted None state before p false packets_kept is = record { state' = state; is = refl; kept = tt }
-noted (Some n) state before p b packets_kept is =
+noted None state before p true kept is = (cc)
+noted None state before p false kept is = record { state' = state; is = refl; kept = tt }
+noted (Some n) state before p b kept is =
     let m : Mark = mark_of p.bytes in
-    let same : has_same state.window m ≡ b = ap (λ (ms : List Mark). has_same ms m) packets_kept ∙ is in
+    let same : has_same state.window m ≡ b = ap (λ (ms : List Mark). has_same ms m) kept ∙ is in
     record {
       state' = with_mark (n - 1) m state;
       is = rw same refl;
-      packets_kept = ap (λ (ms : List Mark). last (n - 1) (ms ++ m ∷ [])) packets_kept ∙ last-last (n - 1) before m;
+      kept = ap (λ (ms : List Mark). last (n - 1) (ms ++ m ∷ [])) kept ∙ last-last (n - 1) before m;
     }
 
 -- how far a job is behind packets, the first with this number, where these passed and these marks came before
@@ -249,7 +249,7 @@ Goes s k state before out ps = Follows s (k + 1) before out ps (apply_events (Ed
 -- one packet, where those behind it are followed so
 follows-next : (s : EditRule) (k : ℕ) (state : SelectorState) (before : List Mark) (out : List Captured) (p : Placed) (ps : List Placed) → k + 1 < 2 ^ 63 → IsKept s.window before state.window
     → ((state' : SelectorState) (before' : List Mark) (out' : List Captured) → IsKept s.window before' state'.window → Goes s (k + 1) state' before' out' ps) → Goes s k state before out (p ∷ ps)
-follows-next s k state before out p ps near packets_kept next = by_selected (is_selected s (k + 1) p.packet) refl
+follows-next s k state before out p ps near kept next = by_selected (is_selected s (k + 1) p.packet) refl
   where
     To : JobProgress → Type 0
     To w = Follows s (k + 1) before out (p ∷ ps) w
@@ -276,7 +276,7 @@ follows-next s k state before out p ps near packets_kept next = by_selected (is_
               ∙ append_assoc out u (unique_behind s.window after more)
               ∙ ap (λ (l : List Captured). out ++ l) (sym same)
               ∙ ap (λ (l : List Captured). out ++ unique_behind s.window before l) (sym rest);
-          packets_kept = kept-as s.window (after ++ marks more) (before ++ marks (packets_selected s (k + 1) (packets_of (p ∷ ps)))) w.state.window
+          kept = kept-as s.window (after ++ marks more) (before ++ marks (packets_selected s (k + 1) (packets_of (p ∷ ps)))) w.state.window
               (append_assoc before (mark_of q.bytes ∷ []) (marks more) ∙ ap (λ (l : List Captured). before ++ marks l) (sym rest)) f.kept;
           end = rw (is, timed) f.end;
         }
@@ -285,12 +285,12 @@ follows-next s k state before out p ps near packets_kept next = by_selected (is_
         → Goes s k state before out (p ∷ ps)
     by_unique time is timed true same =
         let q : Captured = edited_packet_with s p.packet time in
-        let n : Noted s.window state before q true = noted s.window state before q true packets_kept same in
+        let n : Noted s.window state before q true = noted s.window state before q true kept same in
         to (skip_judgement n.state') (rw (is, timed) n.is)
         (at_time time [] (behind (skip_judgement n.state')) is timed (next n.state' (before ++ mark_of q.bytes ∷ []) (out ++ []) n.kept) (rw same refl))
     by_unique time is timed false same =
         let q : Captured = edited_packet_with s p.packet time in
-        let n : Noted s.window state before q false = noted s.window state before q false packets_kept same in
+        let n : Noted s.window state before q false = noted s.window state before q false kept same in
         to (passes n.state' q) (rw (is, timed) n.is)
         (at_time time (q ∷ []) (behind (passes n.state' q)) is timed (next (passes n.state' q).state (before ++ mark_of q.bytes ∷ []) (out ++ q ∷ []) n.kept) (rw same refl))
 
@@ -300,8 +300,8 @@ follows-next s k state before out p ps near packets_kept next = by_selected (is_
         let ended : JobProgress = end_with (under_way k state out) (FaultIn 0 TimeOutOfRange p.offset) in
         let here : To ended = record {
           passed = sym (append-nil out) ∙ ap (λ (l : List Captured). out ++ unique_behind s.window before l) (sym none);
-          packets_kept = kept-as s.window before (before ++ marks (packets_selected s (k + 1) (packets_of (p ∷ ps)))) state.window
-              (sym (append-nil before) ∙ ap (λ (l : List Captured). before ++ marks l) (sym none)) packets_kept;
+          kept = kept-as s.window before (before ++ marks (packets_selected s (k + 1) (packets_of (p ∷ ps)))) state.window
+              (sym (append-nil before) ∙ ap (λ (l : List Captured). before ++ marks l) (sym none)) kept;
           end = rw (is, beyond) refl;
         } in
         to (refuses state TimeOutOfRange) (rw (is, beyond) refl)
@@ -312,13 +312,13 @@ follows-next s k state before out p ps near packets_kept next = by_selected (is_
     by_selected true is = by_moved is (shifted_time s.shift p.packet.time) refl
     by_selected false is =
         let rest : packets_selected s (k + 1) (packets_of (p ∷ ps)) ≡ more = rw is refl in
-        let f : Goes s (k + 1) state before (out ++ []) ps = next state before (out ++ []) packets_kept in
+        let f : Goes s (k + 1) state before (out ++ []) ps = next state before (out ++ []) kept in
         to (skip_judgement state) (rw is refl)
         record {
           passed = f.passed
               ∙ ap (λ (o : List Captured). o ++ unique_behind s.window before more) (append-nil out)
               ∙ ap (λ (l : List Captured). out ++ unique_behind s.window before l) (sym rest);
-          packets_kept = kept-as s.window (before ++ marks more) (before ++ marks (packets_selected s (k + 1) (packets_of (p ∷ ps)))) (behind (skip_judgement state)).state.window
+          kept = kept-as s.window (before ++ marks more) (before ++ marks (packets_selected s (k + 1) (packets_of (p ∷ ps)))) (behind (skip_judgement state)).state.window
               (ap (λ (l : List Captured). before ++ marks l) (sym rest)) f.kept;
           end = rw is f.end;
         }
@@ -327,11 +327,11 @@ follows : (s : EditRule) (k : ℕ) (state : SelectorState) (before : List Mark) 
     → Goes s k state before out ps
 follows s k state before out [] less kept = record {
   passed = sym (append-nil out);
-  packets_kept = kept-as s.window before (before ++ []) state.window (sym (append-nil before)) packets_kept;
+  kept = kept-as s.window before (before ++ []) state.window (sym (append-nil before)) kept;
   end = refl;
 }
-follows s k state before out (p ∷ ps) less packets_kept =
-    follows-next s k state before out p ps (omega arith) packets_kept (λ state' before' out' kept'. follows s (k + 1) state' before' out' ps (omega arith) kept')
+follows s k state before out (p ∷ ps) less kept =
+    follows-next s k state before out p ps (omega arith) kept (λ state' before' out' kept'. follows s (k + 1) state' before' out' ps (omega arith) kept')
 
 none-dropped : (k : ℕ) (ms : List Mark) → ms ≡ [] → drop k ms ≡ []
 none-dropped zero ms none = none
@@ -366,7 +366,7 @@ places-length [] = refl
 places-length (p ∷ ps) = ap suc (places-length ps)
 
 window-as : (n : ℕ) (o : Option ℕ) (before window : List Mark) → o ≡ Some n → IsKept o before window → window ≡ last (n - 1) before
-window-as n o before window is kept = subst (λ (x : Option ℕ). IsKept x before window) is packets_kept
+window-as n o before window is kept = subst (λ (x : Option ℕ). IsKept x before window) is kept
 
 pub has_last_marks : HasLastMarks
 has_last_marks s n ps is less =
