@@ -20,7 +20,7 @@ pub fn checked<A: Allocator + Clone>(alloc: A, text: &str) -> Result<Checked<A>,
 }
 
 /// The program of a text.
-fn compiled(alloc: Global, text: &str, link: Link) -> Result<Program<Global>, ExprFault> {
+pub fn compiled(alloc: Global, text: &str, link: Link) -> Result<Program<Global>, ExprFault> {
     let expr = checked(alloc, text)?;
     Ok(generate(alloc, &expr, link)?)
 }

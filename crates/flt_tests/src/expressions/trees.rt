@@ -1,6 +1,7 @@
 //! Which trees texts have.
 
-use crate::compiler::checked;
+use crate::compiler::compiled;
+use flt_gen::Link;
 use flt_words::ExprFault;
 use std::alloc::{AllocError, Global};
 use std::test::Fail;
@@ -36,11 +37,11 @@ fn reads_as(rt: HostRuntime) -> Result<(), Fail> {
     Ok(())
 }
 
-/// Whether two texts have one tree.
+/// Whether two texts have one tree, by its program: the trees of these tests have one each.
 fn are_one(alloc: Global, left: &str, right: &str) -> Result<bool, ExprFault> {
-    let left = checked(alloc, left)?;
-    let right = checked(alloc, right)?;
-    Ok(left.expr.nodes() == right.expr.nodes())
+    let left = compiled(alloc, left, Link::Ether)?;
+    let right = compiled(alloc, right, Link::Ether)?;
+    Ok(left.insns() == right.insns())
 }
 
 /// The operators, each with its level: a lower one binds more tightly.
