@@ -21,7 +21,7 @@ use Rattle.flt_gen.specs.declared.link.Link.{Link}
 use Rattle.flt_gen.specs.declared.link.Link.TheVariants.{Ether, Raw, Cooked}
 use Rattle.flt_gen.specs.declared.elementary.FrameKind.{FrameKind}
 use Rattle.flt_gen.specs.declared.elementary.FrameKind.TheVariants as kind
-use Rattle.flt_gen.specs.declared.elementary.Place.{Place}
+use Rattle.flt_gen.specs.declared.elementary.Offset.{Offset}
 use Rattle.flt_gen.specs.declared.elementary.Elementary.{Elementary}
 use Rattle.flt_gen.specs.declared.elementary.Ports.{Ports}
 use Rattle.flt_gen.specs.declared.elementary.Ports.TheVariants.{One, Between, Several}
@@ -339,7 +339,7 @@ bare_transport (Some protocol.Udp) s t f h = bare_guard t f h
 bare_transport (Some _) s t f h = bare_one _
 
 -- numbers that are looked for on a side, or on either
-bare_among : (place : Place) (width : Width) (bs : List ℕ) → Searchable bs → Bare (Among (whole_field place width) bs)
+bare_among : (place : Offset) (width : Width) (bs : List ℕ) → Searchable bs → Bare (Among (whole_field place width) bs)
 bare_among place width bs h = record { no_nodes = refl; no_words = refl; apt = λ p. h }
 
 pub bare_any : (d : Direction) (at : Sides) (f : ℕ) (bs : List ℕ) → Searchable bs → Bare (any_sides d at f bs)

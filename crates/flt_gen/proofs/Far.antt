@@ -17,9 +17,9 @@ use Rattle.flt_words.specs.declared.token.Protocol.{Protocol}
 use Rattle.flt_words.specs.declared.token.Protocol.TheVariants.{Ether, Tcp, Udp, Icmp}
 use Rattle.flt_lang.specs.Tree.{NumberTree, literal, len, named, load, negated, applied}
 use Rattle.flt_gen.specs.declared.link.Link.{Link}
-use Rattle.flt_gen.specs.declared.elementary.Place.{Place}
-use Rattle.flt_gen.specs.declared.elementary.Place.TheVariants.{At, Past}
-use Rattle.flt_gen.specs.declared.elementary.Elementary.TheVariants.{Known, Field}
+use Rattle.flt_gen.specs.declared.elementary.Offset.{Offset}
+use Rattle.flt_gen.specs.declared.elementary.Offset.TheVariants.{Fixed, AfterHeader}
+use Rattle.flt_gen.specs.declared.elementary.Elementary.TheVariants.{Outcome, Field}
 use Rattle.flt_bpf.specs.Instructions.{operation_of, code_of}
 use Rattle.flt_gen.specs.Elementary.{network}
 use Rattle.flt_gen.specs.Numbers.{width_of}
@@ -157,9 +157,9 @@ branch_needed : (t : Test) (o : Operand) (k hit miss : ℕ) (c : List Insn) → 
 unfolding emit_branch
 branch_needed t o k hit miss c h = needed_choice t o k hit miss c h _ _ _ refl refl refl
 
-field_needed : (place : Place) (w : Width) (c : List Insn) → JumpsAreNeeded c → JumpsAreNeeded (emit_field place w c)
-field_needed (At k) w c h = needed_put c _ (load_no_jump w) h
-field_needed (Past header k) w c h = needed_put _ _ (λ e. absurd (omega arith)) (needed_put c _ (indirect_no_jump w) h)
+field_needed : (place : Offset) (w : Width) (c : List Insn) → JumpsAreNeeded c → JumpsAreNeeded (emit_field place w c)
+field_needed (Fixed k) w c h = needed_put c _ (load_no_jump w) h
+field_needed (AfterHeader header k) w c h = needed_put _ _ (λ e. absurd (omega arith)) (needed_put c _ (indirect_no_jump w) h)
 
 mask_needed : (mask : Option ℕ) (c : List Insn) → JumpsAreNeeded c → JumpsAreNeeded (emit_mask mask c)
 mask_needed None c h = h
@@ -231,11 +231,11 @@ pub record Placed (e : Block) (c : List Insn) : Type 0 where
   pub extends : Extends c e.code
 
 elementary_needed : (known : Knowledge) (t : Elementary) (hit miss : ℕ) (c : List Insn) → hit ≤ length c → miss ≤ length c → JumpsAreNeeded c → JumpsAreNeeded (tail c hit) → JumpsAreNeeded (tail c miss) → Placed (emit_elementary known t hit miss c) c
-elementary_needed known (Known true) hit miss c lh lm n h m = record { needed = record { code = n; block = h }; inside = lh; extends = extends_none c }
-elementary_needed known (Known false) hit miss c lh lm n h m = record { needed = record { code = n; block = m }; inside = lm; extends = extends_none c }
+elementary_needed known (Outcome true) hit miss c lh lm n h m = record { needed = record { code = n; block = h }; inside = lh; extends = extends_none c }
+elementary_needed known (Outcome false) hit miss c lh lm n h m = record { needed = record { code = n; block = m }; inside = lm; extends = extends_none c }
 elementary_needed known (Field k) hit miss c lh lm n h m =
     record {
-      needed = needed_top _ (field_needed k.place k.width _ (mask_needed k.mask _ (comparison_needed k.comparison Constant k.value _ _ c n)));
+      needed = needed_top _ (field_needed k.offset k.width _ (mask_needed k.mask _ (comparison_needed k.comparison Constant k.value _ _ c n)));
       inside = omega arith;
       extends = test_extends k _ _ c;
     }
@@ -295,7 +295,7 @@ emitted_needed link known (Choose t a b) hit miss c lh lm n h m =
     record { needed = pt.needed; inside = pt.inside; extends = extends_on c e.code _ pb.extends (extends_on e.code d.code _ pa.extends pt.extends) }
 emitted_needed link known (Among f vs) hit miss c lh lm n h m =
     record {
-      needed = needed_top _ (field_needed f.place f.width _ (mask_needed f.mask _ (search_needed LEVELS vs (target c known f.place always hit) (target c known f.place always miss) c n)));
+      needed = needed_top _ (field_needed f.offset f.width _ (mask_needed f.mask _ (search_needed LEVELS vs (target c known f.offset always hit) (target c known f.offset always miss) c n)));
       inside = omega arith;
       extends = emitted_extends link known (Among f vs) hit miss c;
     }

@@ -2,22 +2,22 @@
 use Rattle.std.proofs.Common.{◌≡◌, ℕ, zero, suc, ◌-◌, List, [], ◌∷◌, length, drop, Bool, true, false, ◌<◌, refl, sym, ap, ◌∙◌, arith}
 use Rattle.std.specs.Prelude.{◌==◌, if◌then◌else◌}
 use Rattle.flt_bpf.specs.declared.insn.Insn.{Insn}
-use Rattle.flt_gen.specs.declared.elementary.Elementary.TheVariants.{Known}
+use Rattle.flt_gen.specs.declared.elementary.Elementary.TheVariants.{Outcome}
 use Rattle.flt_gen.specs.declared.elementary.Fact.{Fact}
 use Rattle.flt_gen.specs.declared.follow.Knowledge.{Knowledge}
 use Rattle.flt_gen.specs.Follow.{fact, facts_of, onward, step_from, follow, MOST_STEPS, agreed_place, followed_place}
 
-onward_alone : (own : Fact) (b : Bool) (fs : List Fact) (place : ℕ) (c : List Insn) → onward (own ∷ fact (Known b) true ∷ fs) place c ≡ onward (own ∷ fs) place c
+onward_alone : (own : Fact) (b : Bool) (fs : List Fact) (place : ℕ) (c : List Insn) → onward (own ∷ fact (Outcome b) true ∷ fs) place c ≡ onward (own ∷ fs) place c
 onward_alone own b fs place [] = refl
 onward_alone own b fs place (i ∷ []) = refl
 onward_alone own b fs place (i ∷ m ∷ []) = refl
 onward_alone own b fs place (i ∷ m ∷ j ∷ is) = refl
 
-follow_alone : (n : ℕ) (c : List Insn) (own : Fact) (b : Bool) (fs : List Fact) (place : ℕ) → follow n c (own ∷ fact (Known b) true ∷ fs) place ≡ follow n c (own ∷ fs) place
+follow_alone : (n : ℕ) (c : List Insn) (own : Fact) (b : Bool) (fs : List Fact) (place : ℕ) → follow n c (own ∷ fact (Outcome b) true ∷ fs) place ≡ follow n c (own ∷ fs) place
 unfolding follow
 follow_alone zero c own b fs place = refl
 follow_alone (suc n) c own b fs place =
-    ap (follow n c (own ∷ fact (Known b) true ∷ fs)) (onward_alone own b fs place (drop (length c - place) c))
+    ap (follow n c (own ∷ fact (Outcome b) true ∷ fs)) (onward_alone own b fs place (drop (length c - place) c))
     ∙ follow_alone n c own b fs (step_from c (own ∷ fs) place)
 
 agreed_self : (a b : ℕ) → agreed_place a b a ≡ a
@@ -28,7 +28,7 @@ agreed_self a b = same (a == b)
     same false = refl
 
 -- where the first alternative is decided by the link, the facts alone lead on
-pub followed_alone : (c : List Insn) (known : Knowledge) (own : Fact) (place : ℕ) (b : Bool) → known.either.first ≡ Known b → follow MOST_STEPS c (own ∷ facts_of known) place ≡ followed_place c known own place
+pub followed_alone : (c : List Insn) (known : Knowledge) (own : Fact) (place : ℕ) (b : Bool) → known.either.first ≡ Outcome b → follow MOST_STEPS c (own ∷ facts_of known) place ≡ followed_place c known own place
 unfolding followed_place
 followed_alone c known own place b e =
     let alone = follow MOST_STEPS c (own ∷ facts_of known) place in

@@ -17,9 +17,9 @@ use Rattle.flt_words.specs.declared.token.Protocol.{Protocol}
 use Rattle.flt_words.specs.declared.token.Protocol.TheVariants.{Ether, Tcp, Udp, Icmp}
 use Rattle.flt_lang.specs.Tree.{NumberTree, literal, len, named, load, negated, applied}
 use Rattle.flt_gen.specs.declared.link.Link.{Link}
-use Rattle.flt_gen.specs.declared.elementary.Place.{Place}
-use Rattle.flt_gen.specs.declared.elementary.Place.TheVariants.{At, Past}
-use Rattle.flt_gen.specs.declared.elementary.Elementary.TheVariants.{Known, Field}
+use Rattle.flt_gen.specs.declared.elementary.Offset.{Offset}
+use Rattle.flt_gen.specs.declared.elementary.Offset.TheVariants.{Fixed, AfterHeader}
+use Rattle.flt_gen.specs.declared.elementary.Elementary.TheVariants.{Outcome, Field}
 use Rattle.flt_bpf.specs.declared.fault.CheckFault.{CheckFault}
 use Rattle.flt_bpf.specs.declared.fault.CheckFault.TheVariants.{JumpOut, NoSuchWord, DivisionByZero, ShiftTooFar}
 use Rattle.flt_bpf.specs.Instructions.{operation_of}
@@ -188,9 +188,9 @@ branch_grows t operand k hit miss c s e ph lh pm lm =
     (grows_put c (emit_jump miss c) 1 3 _ one_miss (branch_fine t operand k (length c + 1 - hit) 0 (length (emit_jump miss c)) (omega arith) (omega arith)) (omega arith))
     (grows_put c (emit_jump hit (emit_jump miss c)) 2 3 _ two (branch_fine t operand k 0 1 (length (emit_jump hit (emit_jump miss c))) (omega arith) (omega arith)) (omega arith))
 
-field_grows : (place : Place) (w : Width) (c d : List Insn) (m : ℕ) → Grows c d m → Grows c (emit_field place w d) (m + 2)
-field_grows (At k) w c d m g = grows_put c d m (m + 2) _ g (load_fine w k (length d)) (omega arith)
-field_grows (Past header k) w c d m g = grows_put c _ (m + 1) (m + 2) _ (grows_put c d m (m + 1) _ g (indirect_fine w k (length d)) (omega arith)) (header_fine header _) (omega arith)
+field_grows : (place : Offset) (w : Width) (c d : List Insn) (m : ℕ) → Grows c d m → Grows c (emit_field place w d) (m + 2)
+field_grows (Fixed k) w c d m g = grows_put c d m (m + 2) _ g (load_fine w k (length d)) (omega arith)
+field_grows (AfterHeader header k) w c d m g = grows_put c _ (m + 1) (m + 2) _ (grows_put c d m (m + 1) _ g (indirect_fine w k (length d)) (omega arith)) (header_fine header _) (omega arith)
 
 mask_grows : (mask : Option ℕ) (c d : List Insn) (m : ℕ) → Grows c d m → Grows c (emit_mask mask d) (m + 1)
 mask_grows None c d m g = grows_more c d m (m + 1) (omega arith) g
@@ -245,12 +245,12 @@ sits_top : (c d : List Insn) (m m' : ℕ) → m ≤ m' → Grows c d m → Sits 
 sits_top c d m m' l g = record { grows = grows_more c d m m' l g; low = ends_some d g.ends; inside = omega arith }
 
 elementary_sits : (known : Knowledge) (t : Elementary) (hit miss : ℕ) (c : List Insn) → IsFaultless c → ends_in_return c ≡ true → 0 < hit → hit ≤ length c → 0 < miss → miss ≤ length c → Sits (emit_elementary known t hit miss c) c 6
-elementary_sits known (Known true) hit miss c s e ph lh pm lm = record { grows = grows_more c c 0 6 (omega arith) (grows_none c s e); low = ph; inside = lh }
-elementary_sits known (Known false) hit miss c s e ph lh pm lm = record { grows = grows_more c c 0 6 (omega arith) (grows_none c s e); low = pm; inside = lm }
+elementary_sits known (Outcome true) hit miss c s e ph lh pm lm = record { grows = grows_more c c 0 6 (omega arith) (grows_none c s e); low = ph; inside = lh }
+elementary_sits known (Outcome false) hit miss c s e ph lh pm lm = record { grows = grows_more c c 0 6 (omega arith) (grows_none c s e); low = pm; inside = lm }
 elementary_sits known (Field k) hit miss c s e ph lh pm lm =
-    let h = target_inside c known k.place (fact (Field k) true) hit ph lh in
-    let m = target_inside c known k.place (fact (Field k) false) miss pm lm in
-    sits_top c _ 6 _ (omega arith) (field_grows k.place k.width c _ 4 (mask_grows k.mask c _ 3 (comparison_grows k.comparison Constant k.value _ _ c s e h.0 h.1 m.0 m.1)))
+    let h = target_inside c known k.offset (fact (Field k) true) hit ph lh in
+    let m = target_inside c known k.offset (fact (Field k) false) miss pm lm in
+    sits_top c _ 6 _ (omega arith) (field_grows k.offset k.width c _ 4 (mask_grows k.mask c _ 3 (comparison_grows k.comparison Constant k.value _ _ c s e h.0 h.1 m.0 m.1)))
 
 -- one part of the code in front of another
 sits_on : (d f : Block) (c : List Insn) (m m' k : ℕ) → Sits d c m → Sits f d.code m' → m + m' ≤ k → Sits f c k
@@ -344,7 +344,7 @@ emitted_sits link known (Choose t a b) hit miss c few s e ph lh pm lm =
     let st = elementary_sits known t f.entry d.entry f.code sa.grows.sound sa.grows.ends sa.low sa.inside sb.low ld in
     sits_on f (emit_elementary known t f.entry d.entry f.code) c (6 * (tests b + nodes b) + 6 * (tests a + nodes a)) 6 _ (sits_on d f c (6 * (tests b + nodes b)) (6 * (tests a + nodes a)) _ sb sa (omega arith)) st (omega arith)
 emitted_sits link known (Among f vs) hit miss c few s e ph lh pm lm =
-    let h = target_inside c known f.place always hit ph lh in
-    let m = target_inside c known f.place always miss pm lm in
-    let g = search_sits LEVELS vs (target c known f.place always hit) (target c known f.place always miss) c s e h.0 h.1 m.0 m.1 in
-    sits_top c _ (3 + 6 * (length vs - 1) + 1 + 2) _ (omega arith) (field_grows f.place f.width c _ (3 + 6 * (length vs - 1) + 1) (mask_grows f.mask c _ (3 + 6 * (length vs - 1)) g.grows))
+    let h = target_inside c known f.offset always hit ph lh in
+    let m = target_inside c known f.offset always miss pm lm in
+    let g = search_sits LEVELS vs (target c known f.offset always hit) (target c known f.offset always miss) c s e h.0 h.1 m.0 m.1 in
+    sits_top c _ (3 + 6 * (length vs - 1) + 1 + 2) _ (omega arith) (field_grows f.offset f.width c _ (3 + 6 * (length vs - 1) + 1) (mask_grows f.mask c _ (3 + 6 * (length vs - 1)) g.grows))

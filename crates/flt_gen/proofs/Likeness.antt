@@ -20,7 +20,7 @@ use Rattle.flt_bpf.specs.Machine.{Next, Goes, Ends, Lost, step, does, does_if_kn
 use Rattle.flt_gen.specs.declared.alike.Landing.{Landing}
 use Rattle.flt_bpf.specs.Valid.{IsValid}
 use Rattle.flt_gen.specs.Layout.{JUMP}
-use Rattle.flt_gen.specs.Alike.{Replaces, reads_accumulator, reads_index, implied, fits_at, fits, goes_on, same_step, one_test, ANY_BIT, direct_code, is_number, direct_load, insn_from, stands_at, stands, are_alike, begins}
+use Rattle.flt_gen.specs.Alike.{Replaces, reads_accumulator, reads_index, implied, fits_at, fits, goes_on, same_step, one_test, ANY_BIT, direct_code, is_number, direct_load, is_indirect, adds_header, loads_alike, header_load, code_from, stands_at, stands, are_alike, begins}
 use Rattle.flt_gen.specs.Follow.{MASK, EQUAL}
 use Rattle.flt_bpf.proofs.Suffix.{answer_of, answer_after, answer_drop, machine_answers}
 use Rattle.flt_gen.proofs.Onward.{both_true}
@@ -79,22 +79,43 @@ implied_same : (b a : Bool) (u v : ℕ) → implied b a ≡ true → Same a u v 
 implied_same true a u v e h = λ z. h e
 implied_same false a u v e h = λ z. cc
 
-if_some : (b : Bool) (o : Option Insn) (j : Insn) → (if b then o else None) ≡ Some j → (b ≡ true) × (o ≡ Some j)
-if_some true o j e = (refl, e)
-if_some false o j e = cc
+if_cons : (b : Bool) (d : List Insn) (j : Insn) (js : List Insn) → (if b then d else []) ≡ j ∷ js → (b ≡ true) × (d ≡ j ∷ js)
+if_cons true d j js e = (refl, e)
+if_cons false d j js e = cc
+
+drop_behind : (c : List Insn) (k : ℕ) (j : Insn) (js : List Insn) → drop k c ≡ j ∷ js → drop (suc k) c ≡ js
+drop_behind [] zero j js e = cc
+drop_behind [] (suc k) j js e = cc
+drop_behind (i ∷ c) zero j js e = cc
+drop_behind (i ∷ c) (suc k) j js e = drop_behind c k j js e
+
+tail_behind : (c : List Insn) (place : ℕ) (j : Insn) (js : List Insn) → 0 < place → place ≤ length c → tail c place ≡ j ∷ js → js ≡ tail c (place - 1)
+tail_behind c place j js some low e =
+    let next : suc (length c - place) ≡ length c - (place - 1) = omega arith in
+    sym (drop_behind c (length c - place) j js e) ∙ ap (λ k. drop k c) next
 
 -- the code at a place
-record Stood (c : List Insn) (place : ℕ) (j : Insn) : Type 0 where
+record Stood (c : List Insn) (place : ℕ) (j : Insn) (js : List Insn) : Type 0 where
   low : place ≤ length c
-  first : tail c place ≡ j ∷ tail c (place - 1)
+  first : tail c place ≡ j ∷ js
+  next : js ≡ tail c (place - 1)
 
-stood : (c : List Insn) (place : ℕ) (j : Insn) → 0 < place → insn_from c place ≡ Some j → Stood c place j
-stood c place j some e =
-    let q = if_some (nat_le place (length c)) (slice_get c (length c - place)) j e in
+stood : (c : List Insn) (place : ℕ) (j : Insn) (js : List Insn) → 0 < place → code_from c place ≡ j ∷ js → Stood c place j js
+stood c place j js some e =
+    let q = if_cons (nat_le place (length c)) (drop (length c - place) c) j js e in
     let fits = q.0 in
     let low : place ≤ length c = grind (arith, nat_tests) in
-    let next : suc (length c - place) ≡ length c - (place - 1) = omega arith in
-    record { low = low; first = drop_at c (length c - place) j q.1 ∙ ap (λ k. j ∷ drop k c) next }
+    record { low = low; first = q.1; next = tail_behind c place j js some low q.1 }
+
+above : (o : Option Landing) (far place : ℕ) (a x : Bool) → fits_at o far place a x ≡ true → 0 < place
+above None far place a x e = cc
+above (Some m) far place a x e =
+    let q = both_true ((nat_lt 0 m.place && nat_lt m.place place) && place - m.place - 1 == far) (implied m.accumulator a && implied m.index x) e in
+    let r = both_true (nat_lt 0 m.place && nat_lt m.place place) (place - m.place - 1 == far) q.0 in
+    let t = both_true (nat_lt 0 m.place) (nat_lt m.place place) r.0 in
+    let t1 = t.1 in
+    let below : m.place < place = grind (arith, nat_tests) in
+    omega arith
 
 module _ (p : List ℕ) (n : ℕ) where
   -- the code does at a landing what the old code does so far on
@@ -259,6 +280,14 @@ module _ (p : List ℕ) (n : ℕ) where
   unfolding operation_of
   copy_is = refl
 
+  header_is : operation_of 177 ≡ Some LoadHeaderLength
+  unfolding operation_of
+  header_is = refl
+
+  add_is : operation_of 12 ≡ Some (Compute arithmetic.Add IndexRegister)
+  unfolding operation_of
+  add_is = refl
+
   absolute_is : (w : Width) → operation_of (code_of (LoadAbsolute w)) ≡ Some (LoadAbsolute w)
   unfolding operation_of
   absolute_is Word = refl
@@ -364,34 +393,144 @@ module _ (p : List ℕ) (n : ℕ) where
           let w = fit c (u ∷ v ∷ is) ls l all low 2 0 true false f (record s { accumulator = y }) y x (λ q. refl) (λ q. cc) in
           record { same = w.same; few = w.few }
 
+  -- the header length and a load behind it, for a number and the header length that are added in A and go to X
+  record Indirect (o : Option Operation) : Type 0 where
+    width : Width
+    is : o ≡ Some (LoadIndirect width)
+
+  indirect_is : (o : Option Operation) → is_indirect o ≡ true → Indirect o
+  indirect_is (Some (LoadIndirect w)) e = record { width = w; is = refl }
+  indirect_is _ e = cc
+
+  place_is : (i h w j : ℕ) → (i + w) % 2 ^ 32 ≡ j → ((i + h) % 2 ^ 32 + w) % 2 ^ 32 ≡ (h + j) % 2 ^ 32
+  place_is i h w j e = omega arith
+
+  module _ (c is : List Insn) (ls : List Landing) (l : Landing) (t u v w : Insn) (all : AllLand c (t ∷ u ∷ v ∷ w ∷ is) ls) (low : l.place ≤ length c) (fitting : fits ls 4 0 (l.place - 1) true false ≡ true) (i j : Insn) (width : Width) (u_is : operation_of u.code ≡ Some (Compute arithmetic.Add IndexRegister)) (v_is : operation_of v.code ≡ Some CopyToIndex) (w_is : operation_of w.code ≡ Some (LoadIndirect width)) (j_is : operation_of j.code ≡ Some (LoadIndirect width)) (k : (i.k + w.k) % 2 ^ 32 ≡ j.k) where
+    abbrev beyond : List Insn
+    beyond = tail c (l.place - 1 - 1)
+
+    loaded : (s : State) (a x : ℕ) (o : Option ℕ) → Follows beyond is p n (into Accumulator o (other s a x)) (into Accumulator o s)
+    loaded s a x None = record { same = refl; few = omega arith }
+    loaded s a x (Some y) =
+        let r = fit c (t ∷ u ∷ v ∷ w ∷ is) ls (record l { place = l.place - 1 }) all (omega arith) 4 0 true false fitting (record s { accumulator = y }) y x (λ q. refl) (λ q. cc) in
+        record { same = r.same; few = r.few }
+
+    -- behind the header length
+    measured : (s : State) (a h : ℕ) → s.accumulator ≡ i.k → AsGood (j ∷ beyond) (u ∷ v ∷ w ∷ is) p n 0 0 (other s a h) (record s { index = h })
+    measured s a h number =
+        let m = (i.k + h) % 2 ^ 32 in
+        let s2 : State = record s { index = h } in
+        let s3 : State = record s { accumulator = m; index = h } in
+        let s4 : State = record s { accumulator = m; index = m } in
+        let first = knows_step u (Some (Compute arithmetic.Add IndexRegister)) s2 u_is ∙ ap (λ z. into Accumulator (computed arithmetic.Add z h) s2) number in
+        let second = knows_step v (Some CopyToIndex) s3 v_is in
+        let third = knows_step w (Some (LoadIndirect width)) s4 w_is ∙ ap (λ z. into Accumulator (field p z width) s4) (place_is i.k h w.k j.k k) in
+        let new = knows_step j (Some (LoadIndirect width)) (other s a h) j_is in
+        let g = loaded s4 a h (field p ((h + j.k) % 2 ^ 32) width) in
+        let few = g.few in
+        let steps_new = ap (steps_after (steps_of beyond p n)) new in
+        let steps_first = ap (steps_after (steps_of (v ∷ w ∷ is) p n)) first in
+        let steps_second = ap (steps_after (steps_of (w ∷ is) p n)) second in
+        let steps_third = ap (steps_after (steps_of is p n)) third in
+        record {
+          same = ap (answer_after (answer_of beyond p n)) new ∙ g.same ∙ sym (ap (answer_after (answer_of (v ∷ w ∷ is) p n)) first ∙ ap (answer_after (answer_of (w ∷ is) p n)) second ∙ ap (answer_after (answer_of is p n)) third);
+          few = omega arith;
+        }
+
+    measures : (s : State) (a x : ℕ) (o : Option ℕ) → s.accumulator ≡ i.k → Follows (j ∷ beyond) (u ∷ v ∷ w ∷ is) p n (into Index o (other s a x)) (into Index o s)
+    measures s a x None number = record { same = refl; few = omega arith }
+    measures s a x (Some h) number = let r = measured s a h number in record { same = r.same; few = r.few }
+
+  header_good : (c is : List Insn) (ls : List Landing) (l : Landing) (t u v w : Insn) (all : AllLand c (t ∷ u ∷ v ∷ w ∷ is) ls) (low : l.place ≤ length c) (h j i : Insn) (js : List Insn) → j ∷ js ≡ tail c (l.place - 1) → header_load (h ∷ j ∷ js) l i (t ∷ u ∷ v ∷ w ∷ is) ls ≡ true → (s : State) (a x : ℕ) → AsGood (h ∷ tail c (l.place - 1)) (i ∷ t ∷ u ∷ v ∷ w ∷ is) p n 0 0 (other s a x) s
+  unfolding header_load
+  header_good c is ls l t u v w all low h j i js at f s a x =
+      let q = both_true (adds_header i t u v) (loads_alike t h w j && ((i.k + w.k) % 2 ^ 32 == j.k && fits ls 4 0 (l.place - 1) true false)) f in
+      let qa = both_true (i.code == 0 && t.code == 177) (u.code == 12 && v.code == 7) q.0 in
+      let qb = both_true (loads_alike t h w j) ((i.k + w.k) % 2 ^ 32 == j.k && fits ls 4 0 (l.place - 1) true false) q.1 in
+      let ra = both_true (i.code == 0) (t.code == 177) qa.0 in
+      let rb = both_true (u.code == 12) (v.code == 7) qa.1 in
+      let rc = both_true (t.code == h.code && t.k == h.k) (is_indirect (operation_of w.code) && w.code == j.code) qb.0 in
+      let rd = both_true ((i.k + w.k) % 2 ^ 32 == j.k) (fits ls 4 0 (l.place - 1) true false) qb.1 in
+      let re = both_true (t.code == h.code) (t.k == h.k) rc.0 in
+      let rf = both_true (is_indirect (operation_of w.code)) (w.code == j.code) rc.1 in
+      let x0 = ra.0 in
+      let x1 = ra.1 in
+      let x2 = rb.0 in
+      let x3 = rb.1 in
+      let x4 = re.0 in
+      let x5 = re.1 in
+      let x6 = rf.1 in
+      let x7 = rd.0 in
+      let i_code : i.code ≡ 0 = grind (arith, nat_tests) in
+      let t_code : t.code ≡ 177 = grind (arith, nat_tests) in
+      let u_code : u.code ≡ 12 = grind (arith, nat_tests) in
+      let v_code : v.code ≡ 7 = grind (arith, nat_tests) in
+      let h_code : t.code ≡ h.code = grind (arith, nat_tests) in
+      let h_k : t.k ≡ h.k = grind (arith, nat_tests) in
+      let j_code : w.code ≡ j.code = grind (arith, nat_tests) in
+      let j_k : (i.k + w.k) % 2 ^ 32 ≡ j.k = grind (arith, nat_tests) in
+      let t_is = ap operation_of t_code ∙ header_is in
+      let load = indirect_is (operation_of w.code) rf.0 in
+      let s1 : State = record s { accumulator = i.k } in
+      let first = knows_step i (Some (Load Accumulator Immediate)) s (ap operation_of i_code ∙ number_is) in
+      let second = knows_step t (Some LoadHeaderLength) s1 t_is ∙ ap (λ m. into Index (option_map header_length (field p m Byte)) s1) h_k in
+      let new = knows_step h (Some LoadHeaderLength) (other s a x) (ap operation_of (sym h_code) ∙ t_is) in
+      let some = above (slice_get ls 4) 0 (l.place - 1) true false rd.1 in
+      let rest : j ∷ tail c (l.place - 1 - 1) ≡ tail c (l.place - 1) = ap (λ z. j ∷ z) (sym (tail_behind c (l.place - 1) j js some (omega arith) (sym at))) ∙ at in
+      let g = measures c is ls l t u v w all low rd.1 i j load.width (ap operation_of u_code ∙ add_is) (ap operation_of v_code ∙ copy_is) load.is (ap operation_of (sym j_code) ∙ load.is) j_k s1 a x (option_map header_length (field p h.k Byte)) refl in
+      let d = j ∷ tail c (l.place - 1 - 1) in
+      let few = g.few in
+      let steps_new = ap (steps_after (steps_of d p n)) new in
+      let steps_first = ap (steps_after (steps_of (t ∷ u ∷ v ∷ w ∷ is) p n)) first in
+      let steps_second = ap (steps_after (steps_of (u ∷ v ∷ w ∷ is) p n)) second in
+      let good : AsGood (h ∷ d) (i ∷ t ∷ u ∷ v ∷ w ∷ is) p n 0 0 (other s a x) s = record {
+        same = ap (answer_after (answer_of d p n)) new ∙ g.same ∙ sym (ap (answer_after (answer_of (t ∷ u ∷ v ∷ w ∷ is) p n)) first ∙ ap (answer_after (answer_of (u ∷ v ∷ w ∷ is) p n)) second);
+        few = omega arith;
+      } in
+      subst (λ z. AsGood (h ∷ z) (i ∷ t ∷ u ∷ v ∷ w ∷ is) p n 0 0 (other s a x) s) rest good
+
   or_right : (a b : Bool) → a ≡ false → (a || b) ≡ true → b ≡ true
   or_right true b e f = cc
   or_right false b e f = f
 
-  -- by one of three ways
-  one_of : (c is : List Insn) (ls : List Landing) (l : Landing) (all : AllLand c is ls) (low : l.place ≤ length c) (j i : Insn) (same : Bool) → same_step (operation_of i.code) j l i ls ≡ same → (same || (one_test j l i is ls || direct_load j l i is ls)) ≡ true → (s : State) (a x : ℕ) → Same l.accumulator a s.accumulator → Same l.index x s.index → AsGood (j ∷ tail c (l.place - 1)) (i ∷ is) p n 0 0 (other s a x) s
-  unfolding one_test direct_load
-  one_of c is ls l all low j i true e f s a x ha hx = same_good c is ls l all low j i (operation_of i.code) refl e s a x ha hx
-  one_of c is ls l all low j i false e f s a x ha hx = others is all (one_test j l i is ls) refl f
+  or_either : (A : Type 0) (a b : Bool) → (a || b) ≡ true → (a ≡ true → A) → (b ≡ true → A) → A
+  or_either A true b e f g = f refl
+  or_either A false b e f g = g e
+
+  -- the instruction j and the code behind its place are as good as the instruction i and those behind it
+  abbrev Good : List Insn → Landing → Insn → Insn → State → ℕ → ℕ → List Insn → Type 0
+  Good c l j i s a x is = AsGood (j ∷ tail c (l.place - 1)) (i ∷ is) p n 0 0 (other s a x) s
+
+  -- by one of four ways
+  one_of : (c is : List Insn) (ls : List Landing) (l : Landing) (all : AllLand c is ls) (low : l.place ≤ length c) (j i : Insn) (js : List Insn) → js ≡ tail c (l.place - 1) → ((same_step (operation_of i.code) j l i ls || one_test j l i is ls) || (direct_load j l i is ls || header_load (j ∷ js) l i is ls)) ≡ true → (s : State) (a x : ℕ) → Same l.accumulator a s.accumulator → Same l.index x s.index → AsGood (j ∷ tail c (l.place - 1)) (i ∷ is) p n 0 0 (other s a x) s
+  unfolding one_test direct_load header_load
+  one_of c is ls l all low j i js next f s a x ha hx =
+      or_either (Good c l j i s a x is) (same_step (operation_of i.code) j l i ls || one_test j l i is ls) (direct_load j l i is ls || header_load (j ∷ js) l i is ls) f
+      (λ e. or_either (Good c l j i s a x is) (same_step (operation_of i.code) j l i ls) (one_test j l i is ls) e (λ g. same_good c is ls l all low j i (operation_of i.code) refl g s a x ha hx) (test_of is all))
+      (λ e. or_either (Good c l j i s a x is) (direct_load j l i is ls) (header_load (j ∷ js) l i is ls) e (direct is all) (header js is next all))
     where
-      direct : (is : List Insn) → AllLand c is ls → direct_load j l i is ls ≡ true → AsGood (j ∷ tail c (l.place - 1)) (i ∷ is) p n 0 0 (other s a x) s
+      test_of : (is : List Insn) → AllLand c is ls → one_test j l i is ls ≡ true → Good c l j i s a x is
+      test_of [] all g = cc
+      test_of (u ∷ is) all g = one_good c is ls l u all low j i g s a x ha hx
+
+      direct : (is : List Insn) → AllLand c is ls → direct_load j l i is ls ≡ true → Good c l j i s a x is
       direct [] all g = cc
       direct (u ∷ []) all g = cc
       direct (u ∷ v ∷ is) all g = direct_good c is ls l u v all low j i g s a x
 
-      test_of : (is : List Insn) → AllLand c is ls → one_test j l i is ls ≡ true → AsGood (j ∷ tail c (l.place - 1)) (i ∷ is) p n 0 0 (other s a x) s
-      test_of [] all g = cc
-      test_of (u ∷ is) all g = one_good c is ls l u all low j i g s a x ha hx
+      header : (js is : List Insn) → js ≡ tail c (l.place - 1) → AllLand c is ls → header_load (j ∷ js) l i is ls ≡ true → Good c l j i s a x is
+      header [] is next all g = cc
+      header (m ∷ js) [] next all g = cc
+      header (m ∷ js) (t ∷ []) next all g = cc
+      header (m ∷ js) (t ∷ u ∷ []) next all g = cc
+      header (m ∷ js) (t ∷ u ∷ v ∷ []) next all g = cc
+      header (m ∷ js) (t ∷ u ∷ v ∷ w ∷ is) next all g = header_good c is ls l t u v w all low j m i js next g s a x
 
-      others : (is : List Insn) → AllLand c is ls → (one : Bool) → one_test j l i is ls ≡ one → (one || direct_load j l i is ls) ≡ true → AsGood (j ∷ tail c (l.place - 1)) (i ∷ is) p n 0 0 (other s a x) s
-      others is all true g h = test_of is all g
-      others is all false g h = direct is all h
-
-  here : (c is : List Insn) (ls : List Landing) (l : Landing) (i : Insn) → AllLand c is ls → 0 < l.place → (o : Option Insn) → insn_from c l.place ≡ o → stands_at o l i is ls ≡ true → Lands c (i ∷ is) l 0
-  here c is ls l i all some None e f s a x ha hx = cc
-  here c is ls l i all some (Some j) e f s a x ha hx =
-      let st = stood c l.place j some e in
-      subst (λ d. AsGood d (i ∷ is) p n 0 0 (other s a x) s) (sym st.first) (one_of c is ls l all st.low j i (same_step (operation_of i.code) j l i ls) refl f s a x ha hx)
+  here : (c is : List Insn) (ls : List Landing) (l : Landing) (i : Insn) → AllLand c is ls → 0 < l.place → (d : List Insn) → code_from c l.place ≡ d → stands_at d l i is ls ≡ true → Lands c (i ∷ is) l 0
+  here c is ls l i all some [] e f s a x ha hx = cc
+  here c is ls l i all some (j ∷ js) e f s a x ha hx =
+      let st = stood c l.place j js some e in
+      subst (λ d. AsGood d (i ∷ is) p n 0 0 (other s a x) s) (sym (st.first ∙ ap (λ z. j ∷ z) st.next)) (one_of c is ls l all st.low j i js st.next f s a x ha hx)
 
   -- at each landing
   pub all_land : (c is : List Insn) (ls : List Landing) → length ls ≡ length is → are_alike c is ls ≡ true → AllLand c is ls
@@ -406,7 +545,7 @@ module _ (p : List ℕ) (n : ℕ) where
       let is_l : m ≡ l = cc in
       let here_q : stands c l i is ls ≡ true = subst (λ z. stands c z i is ls ≡ true) is_l q.0 in
       let none : (l.place == 0) ≡ false = grind (arith, nat_tests) in
-      here c is ls l i (all_land c is ls (omega arith) q.1) some (insn_from c l.place) refl (or_right (l.place == 0) (stands_at (insn_from c l.place) l i is ls) none here_q)
+      here c is ls l i (all_land c is ls (omega arith) q.1) some (code_from c l.place) refl (or_right (l.place == 0) (stands_at (code_from c l.place) l i is ls) none here_q)
 
   -- a run's answer and count are those of the code
   record Met (prog : List Insn) (s : State) (place count a m : ℕ) : Type 0 where

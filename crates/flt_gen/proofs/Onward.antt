@@ -12,10 +12,10 @@ use Rattle.flt_bpf.specs.Instructions.{operation_of}
 use Rattle.flt_bpf.specs.Machine.{step, does_if_known, start, field, into, header_length}
 use Rattle.flt_words.specs.declared.token.Comparison.{Comparison}
 use Rattle.flt_words.specs.declared.token.Comparison.TheVariants.{Equal, NotEqual, Less, AtMost, Greater, AtLeast}
-use Rattle.flt_gen.specs.declared.elementary.Place.{Place}
-use Rattle.flt_gen.specs.declared.elementary.Place.TheVariants.{At, Past}
+use Rattle.flt_gen.specs.declared.elementary.Offset.{Offset}
+use Rattle.flt_gen.specs.declared.elementary.Offset.TheVariants.{Fixed, AfterHeader}
 use Rattle.flt_gen.specs.declared.elementary.Elementary.{Elementary}
-use Rattle.flt_gen.specs.declared.elementary.Elementary.TheVariants.{Known, Field}
+use Rattle.flt_gen.specs.declared.elementary.Elementary.TheVariants.{Outcome, Field}
 use Rattle.flt_gen.specs.declared.elementary.Fact.{Fact}
 use Rattle.flt_gen.specs.Elementary.{Reading, Yes, No, Rejected, reading_of, with, compares, field_at, masked, elementary_reads}
 use Rattle.flt_gen.specs.declared.follow.Knowledge.{Knowledge}
@@ -93,11 +93,11 @@ load_is Byte load e = ap is_load e
 
 -- a test that says something of a field looks at what an instruction loads
 test_loads : (t : Elementary) (truth : Bool) (load at : ℕ) (mask : Option ℕ) (k : ℕ) (b : Bool) → test_says t truth load at mask k ≡ Some b → is_load load ≡ true
-test_loads (Known a) truth load at mask k b e = cc
+test_loads (Outcome a) truth load at mask k b e = cc
 test_loads (Field t) truth load at mask k b e =
     let looks = then_some (looks_at t load at mask) (says_value truth (t.value == k)) b e in
-    let q = both_true (is_equal t.comparison) (same_place t.place at && (load_code t.width == load && same_mask t.mask mask)) looks.0 in
-    let r = both_true (same_place t.place at) (load_code t.width == load && same_mask t.mask mask) q.1 in
+    let q = both_true (is_equal t.comparison) (same_place t.offset at && (load_code t.width == load && same_mask t.mask mask)) looks.0 in
+    let r = both_true (same_place t.offset at) (load_code t.width == load && same_mask t.mask mask) q.1 in
     let s = both_true (load_code t.width == load) (same_mask t.mask mask) r.1 in
     let sa = s.0 in
     let code : load ≡ load_code t.width = grind (arith, nat_tests) in
@@ -159,8 +159,8 @@ module _ (p : List ℕ) (n : ℕ) where
     there : field p at width ≡ Some x
     right : (masked mask x == k) ≡ b
 
-  field_says : (comparison : Comparison) (place : Place) (w : Width) (m : Option ℕ) (value : ℕ) (truth : Bool) (load at : ℕ) (mask : Option ℕ) (k : ℕ) (b : Bool) → (if (is_equal comparison && (same_place place at && (load_code w == load && same_mask m mask))) then says_value truth (value == k) else None) ≡ Some b → reading_of (with (field_at place w p) (λ v. Some (compares comparison (masked m v) value))) ≡ outcome truth → Says load at mask k b
-  field_says Equal (At a) w m value truth load at mask k b e h =
+  field_says : (comparison : Comparison) (place : Offset) (w : Width) (m : Option ℕ) (value : ℕ) (truth : Bool) (load at : ℕ) (mask : Option ℕ) (k : ℕ) (b : Bool) → (if (is_equal comparison && (same_place place at && (load_code w == load && same_mask m mask))) then says_value truth (value == k) else None) ≡ Some b → reading_of (with (field_at place w p) (λ v. Some (compares comparison (masked m v) value))) ≡ outcome truth → Says load at mask k b
+  field_says Equal (Fixed a) w m value truth load at mask k b e h =
       let parts = then_some (a == at && (load_code w == load && same_mask m mask)) (says_value truth (value == k)) b e in
       let q = both_true (a == at) (load_code w == load && same_mask m mask) parts.0 in
       let r = both_true (load_code w == load) (same_mask m mask) q.1 in
@@ -176,7 +176,7 @@ module _ (p : List ℕ) (n : ℕ) where
         there = ap (λ z. field p z w) (sym place) ∙ f.1;
         right = ap (λ z. masked z f.0 == k) (sym (masks_are m mask r.1)) ∙ value_says truth (masked m f.0) value k b parts.1 f.2;
       }
-  field_says Equal (Past header a) w m value truth load at mask k b e h = cc
+  field_says Equal (AfterHeader header a) w m value truth load at mask k b e h = cc
   field_says NotEqual place w m value truth load at mask k b e h = cc
   field_says Less place w m value truth load at mask k b e h = cc
   field_says AtMost place w m value truth load at mask k b e h = cc
@@ -184,8 +184,8 @@ module _ (p : List ℕ) (n : ℕ) where
   field_says AtLeast place w m value truth load at mask k b e h = cc
 
   test_right : (t : Elementary) (truth : Bool) (load at : ℕ) (mask : Option ℕ) (k : ℕ) (b : Bool) → elementary_reads t p ≡ outcome truth → test_says t truth load at mask k ≡ Some b → Says load at mask k b
-  test_right (Known a) truth load at mask k b r g = cc
-  test_right (Field t) truth load at mask k b r g = field_says t.comparison t.place t.width t.mask t.value truth load at mask k b g r
+  test_right (Outcome a) truth load at mask k b r g = cc
+  test_right (Field t) truth load at mask k b r g = field_says t.comparison t.offset t.width t.mask t.value truth load at mask k b g r
 
   decided_says : (facts : List Fact) (load at : ℕ) (mask : Option ℕ) (k : ℕ) (b : Bool) → FactsHold facts → known_outcome facts load at mask k ≡ Some b → Says load at mask k b
   decided_says [] load at mask k b h e = cc
@@ -377,18 +377,18 @@ module _ (p : List ℕ) (n : ℕ) where
       agreed_followed c known own u _ _ _ (follow_leads MOST_STEPS c _ u place s l h) (follow_leads MOST_STEPS c _ u place s l h) (follow_leads MOST_STEPS c _ u place s l h)
 
   -- X is ready for code behind a test at a place: past a header it holds that header's length
-  abbrev pub Ready : Place → ℕ → Type 0
-  Ready (At a) x = Unit {0}
-  Ready (Past header a) x = option_map header_length (field p header Byte) ≡ Some x
+  abbrev pub Ready : Offset → ℕ → Type 0
+  Ready (Fixed a) x = Unit {0}
+  Ready (AfterHeader header a) x = option_map header_length (field p header Byte) ≡ Some x
 
   -- from a place on the code gives this answer, wherever X is ready
-  pub record LeadsReady (tested : Place) (c : List Insn) (place v : ℕ) : Type 0 where
+  pub record LeadsReady (tested : Offset) (c : List Insn) (place v : ℕ) : Type 0 where
     pub by : (s : State) → length s.memory ≡ 16 → Ready tested s.index → answer_of c p n (length c - place) s ≡ Some v
 
-  pub ready_anyhow : (tested : Place) (c : List Insn) (place v : ℕ) → Leads c place v → LeadsReady tested c place v
+  pub ready_anyhow : (tested : Offset) (c : List Insn) (place v : ℕ) → Leads c place v → LeadsReady tested c place v
   ready_anyhow tested c place v h = record { by = λ s long ready. h.by s long }
 
-  pub ready_on : (tested : Place) (c d : List Insn) (place v : ℕ) → place ≤ length c → Extends c d → LeadsReady tested c place v → LeadsReady tested d place v
+  pub ready_on : (tested : Offset) (c d : List Insn) (place v : ℕ) → place ≤ length c → Extends c d → LeadsReady tested c place v → LeadsReady tested d place v
   ready_on tested c d place v l e h =
       record { by = λ s long ready. sym (answer_drop d p n (length d - place) s) ∙ ap (λ is. answer_of is p n 0 s) (e.same place l) ∙ answer_drop c p n (length c - place) s ∙ h.by s long ready }
 
@@ -396,25 +396,25 @@ module _ (p : List ℕ) (n : ℕ) where
   unfolding step operation_of
   run_index i c s e = ap (λ code. answer_after (answer_of c p n) (does_if_known (operation_of code) i p n s)) e
 
-  index_leads : (tested : Place) (d : List Insn) (v : ℕ) → Leads d (length d) v → LeadsReady tested d (past_index tested (length d) d) v
-  index_leads (At a) d v h = ready_anyhow (At a) d (length d) v h
-  index_leads (Past header a) [] v h = ready_anyhow (Past header a) [] 0 v h
-  index_leads (Past header a) (i ∷ is) v h =
-      by_bool (λ r. LeadsReady (Past header a) (i ∷ is) r v) (i.code == 177 && i.k == header) _ _
+  index_leads : (tested : Offset) (d : List Insn) (v : ℕ) → Leads d (length d) v → LeadsReady tested d (past_index tested (length d) d) v
+  index_leads (Fixed a) d v h = ready_anyhow (Fixed a) d (length d) v h
+  index_leads (AfterHeader header a) [] v h = ready_anyhow (AfterHeader header a) [] 0 v h
+  index_leads (AfterHeader header a) (i ∷ is) v h =
+      by_bool (λ r. LeadsReady (AfterHeader header a) (i ∷ is) r v) (i.code == 177 && i.k == header) _ _
       (λ e. let q = both_true (i.code == 177) (i.k == header) e in
       let qa = q.0 in
       let qb = q.1 in
       let code : i.code ≡ 177 = grind (arith, nat_tests) in
       let same : i.k ≡ header = grind (arith, nat_tests) in
       record { by = λ s long ready. skipped code same s long ready })
-      (λ e. ready_anyhow (Past header a) (i ∷ is) (length (i ∷ is)) v h)
+      (λ e. ready_anyhow (AfterHeader header a) (i ∷ is) (length (i ∷ is)) v h)
     where
-      behind : i.code ≡ 177 → i.k ≡ header → (s : State) → length s.memory ≡ 16 → Ready (Past header a) s.index → answer_of is p n 0 s ≡ Some v
+      behind : i.code ≡ 177 → i.k ≡ header → (s : State) → length s.memory ≡ 16 → Ready (AfterHeader header a) s.index → answer_of is p n 0 s ≡ Some v
       behind code same s long ready =
           sym (run_index i is s code ∙ ap (λ k. answer_after (answer_of is p n) (into Index (option_map header_length (field p k Byte)) s)) same ∙ ap (λ o. answer_after (answer_of is p n) (into Index o s)) ready)
           ∙ (let none : 0 ≡ length (i ∷ is) - length (i ∷ is) = omega arith in ap (λ k. answer_of (i ∷ is) p n k s) none) ∙ h.by s long
 
-      skipped : i.code ≡ 177 → i.k ≡ header → (s : State) → length s.memory ≡ 16 → Ready (Past header a) s.index → answer_of (i ∷ is) p n (length (i ∷ is) - max 1 (length is)) s ≡ Some v
+      skipped : i.code ≡ 177 → i.k ≡ header → (s : State) → length s.memory ≡ 16 → Ready (AfterHeader header a) s.index → answer_of (i ∷ is) p n (length (i ∷ is) - max 1 (length is)) s ≡ Some v
       skipped code same s long ready =
           let there = behind code same s long ready in
           let some = answer_within is 0 s v there in
@@ -422,13 +422,13 @@ module _ (p : List ℕ) (n : ℕ) where
           ap (λ k. answer_of (i ∷ is) p n k s) one ∙ there
 
   -- a test's target has an answer wherever X is ready, which is that of the place where what is known holds
-  pub record Reached (c : List Insn) (known : Knowledge) (tested : Place) (own : Fact) (u r : ℕ) : Type 0 where
+  pub record Reached (c : List Insn) (known : Knowledge) (tested : Offset) (own : Fact) (u r : ℕ) : Type 0 where
     pub v : ℕ
     pub leads : LeadsReady tested c r v
     pub inside : r ≤ length c
     pub right : KnowledgeHolds known → FactHolds own → v ≡ u
 
-  pub target_leads : (c : List Insn) (known : Knowledge) (tested : Place) (own : Fact) (u place : ℕ) → Settled c → place ≤ length c → Leads c place u → Reached c known tested own u (target c known tested own place)
+  pub target_leads : (c : List Insn) (known : Knowledge) (tested : Offset) (own : Fact) (u place : ℕ) → Settled c → place ≤ length c → Leads c place u → Reached c known tested own u (target c known tested own place)
   unfolding target
   target_leads c known tested own u place s l h =
       let f = followed_leads c known own u place s l h in
@@ -446,10 +446,10 @@ module _ (p : List ℕ) (n : ℕ) where
         right = λ k o. f.right k o;
       }
     where
-      index_most : (tested : Place) (r : ℕ) (d : List Insn) → length d ≤ r → past_index tested r d ≤ r
-      index_most (At a) r d l = omega arith
-      index_most (Past header a) r [] l = omega arith
-      index_most (Past header a) r (i ∷ is) l = by_bool (λ m. m ≤ r) (i.code == 177 && i.k == header) _ _ (λ e. omega arith) (λ e. omega arith)
+      index_most : (tested : Offset) (r : ℕ) (d : List Insn) → length d ≤ r → past_index tested r d ≤ r
+      index_most (Fixed a) r d l = omega arith
+      index_most (AfterHeader header a) r [] l = omega arith
+      index_most (AfterHeader header a) r (i ∷ is) l = by_bool (λ m. m ≤ r) (i.code == 177 && i.k == header) _ _ (λ e. omega arith) (λ e. omega arith)
 
 -- a followed place is inside
 abbrev Inside : ℕ → ℕ → Type 0
@@ -500,13 +500,13 @@ followed_inside c known own place p l =
     let b = follow MOST_STEPS c (own ∷ fact known.either.second true ∷ facts_of known) place in
     by_bool (λ r. Inside (length c) r) (a == b) _ _ (λ e. follow_inside MOST_STEPS c (own ∷ fact known.either.first true ∷ facts_of known) place p l) (λ e. follow_inside MOST_STEPS c (own ∷ facts_of known) place p l)
 
-index_inside : (tested : Place) (place : ℕ) (d : List Insn) → 0 < place → length d ≤ place → Inside place (past_index tested place d)
-index_inside (At a) place d p l = (p, omega arith)
-index_inside (Past header a) place [] p l = (p, omega arith)
-index_inside (Past header a) place (i ∷ is) p l =
+index_inside : (tested : Offset) (place : ℕ) (d : List Insn) → 0 < place → length d ≤ place → Inside place (past_index tested place d)
+index_inside (Fixed a) place d p l = (p, omega arith)
+index_inside (AfterHeader header a) place [] p l = (p, omega arith)
+index_inside (AfterHeader header a) place (i ∷ is) p l =
     by_bool (λ r. Inside place r) (i.code == 177 && i.k == header) _ _ (λ e. (omega arith, omega arith)) (λ e. (p, omega arith))
 
-pub target_inside : (c : List Insn) (known : Knowledge) (tested : Place) (own : Fact) (place : ℕ) → 0 < place → place ≤ length c → Inside (length c) (target c known tested own place)
+pub target_inside : (c : List Insn) (known : Knowledge) (tested : Offset) (own : Fact) (place : ℕ) → 0 < place → place ≤ length c → Inside (length c) (target c known tested own place)
 unfolding target
 target_inside c known tested own place p l =
     let f = followed_inside c known own place p l in

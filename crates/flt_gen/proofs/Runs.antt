@@ -27,10 +27,10 @@ use Rattle.flt_words.specs.declared.token.Comparison.{Comparison}
 use Rattle.flt_words.specs.declared.token.Comparison.TheVariants.{Equal, NotEqual, Less, AtMost, Greater, AtLeast}
 use Rattle.flt_lang.specs.Tree.{NumberTree, literal, len, named, load, negated, applied}
 use Rattle.flt_gen.specs.declared.link.Link.{Link}
-use Rattle.flt_gen.specs.declared.elementary.Place.{Place}
-use Rattle.flt_gen.specs.declared.elementary.Place.TheVariants.{At, Past}
+use Rattle.flt_gen.specs.declared.elementary.Offset.{Offset}
+use Rattle.flt_gen.specs.declared.elementary.Offset.TheVariants.{Fixed, AfterHeader}
 use Rattle.flt_gen.specs.declared.elementary.FieldTest.{FieldTest}
-use Rattle.flt_gen.specs.declared.elementary.Elementary.TheVariants.{Known, Field}
+use Rattle.flt_gen.specs.declared.elementary.Elementary.TheVariants.{Outcome, Field}
 use Rattle.flt_bpf.specs.declared.machine.State.{State}
 use Rattle.flt_bpf.specs.declared.operation.Register.TheVariants.{Accumulator, Index}
 use Rattle.flt_bpf.specs.Machine.{field, holds, value_of, into, header_length}
@@ -80,13 +80,13 @@ module _ (p : List ℕ) (n : ℕ) where
   two_ways c jt jf v w s false e f = f
 
   -- what a long jump's code does from its top, and from behind it
-  jump_top : (tested : Place) (c : List Insn) (to v : ℕ) (s : State) → length s.memory ≡ 16 → Ready p n tested s.index → LeadsReady p n tested c to v → answer_of (emit_jump to c) p n 0 s ≡ Some v
+  jump_top : (tested : Offset) (c : List Insn) (to v : ℕ) (s : State) → length s.memory ≡ 16 → Ready p n tested s.index → LeadsReady p n tested c to v → answer_of (emit_jump to c) p n 0 s ≡ Some v
   jump_top tested c to v s long ready h = run_jump p n (length c - to) c s ∙ h.by s long ready
 
-  past_jump : (tested : Place) (c : List Insn) (i : Insn) (to v : ℕ) (s : State) → length s.memory ≡ 16 → Ready p n tested s.index → to ≤ length c → LeadsReady p n tested c to v → answer_of (i ∷ c) p n (length c + 1 - to) s ≡ Some v
+  past_jump : (tested : Offset) (c : List Insn) (i : Insn) (to v : ℕ) (s : State) → length s.memory ≡ 16 → Ready p n tested s.index → to ≤ length c → LeadsReady p n tested c to v → answer_of (i ∷ c) p n (length c + 1 - to) s ≡ Some v
   past_jump tested c i to v s long ready l h = (let more : length c + 1 - to ≡ suc (length c - to) = omega arith in ap (λ k. answer_of (i ∷ c) p n k s) more) ∙ h.by s long ready
 
-  branch_runs : (tested : Place) (t : Test) (operand : Operand) (k hit miss v w : ℕ) (c : List Insn) (s : State) → length s.memory ≡ 16 → Ready p n tested s.index → hit ≤ length c → miss ≤ length c → LeadsReady p n tested c hit v → LeadsReady p n tested c miss w → answer_of (emit_branch t operand k hit miss c) p n 0 s ≡ Some (if holds t s.accumulator (value_of operand k s.index) then v else w)
+  branch_runs : (tested : Offset) (t : Test) (operand : Operand) (k hit miss v w : ℕ) (c : List Insn) (s : State) → length s.memory ≡ 16 → Ready p n tested s.index → hit ≤ length c → miss ≤ length c → LeadsReady p n tested c hit v → LeadsReady p n tested c miss w → answer_of (emit_branch t operand k hit miss c) p n 0 s ≡ Some (if holds t s.accumulator (value_of operand k s.index) then v else w)
   unfolding emit_branch
   branch_runs tested t operand k hit miss v w c s long ready lh lm h m =
       by_reach Fine (reach hit miss c) t operand k hit miss c
@@ -192,7 +192,7 @@ module _ (p : List ℕ) (n : ℕ) where
   at_most_is : (a b : ℕ) → nat_le a b ≡ not (nat_lt b a)
   at_most_is a b = grind (arith, nat_tests)
 
-  comparison_runs : (tested : Place) (comparison : Comparison) (operand : Operand) (k hit miss v w : ℕ) (c : List Insn) (s : State) → length s.memory ≡ 16 → Ready p n tested s.index → hit ≤ length c → miss ≤ length c → LeadsReady p n tested c hit v → LeadsReady p n tested c miss w → answer_of (emit_comparison comparison operand k hit miss c) p n 0 s ≡ Some (if compares comparison s.accumulator (value_of operand k s.index) then v else w)
+  comparison_runs : (tested : Offset) (comparison : Comparison) (operand : Operand) (k hit miss v w : ℕ) (c : List Insn) (s : State) → length s.memory ≡ 16 → Ready p n tested s.index → hit ≤ length c → miss ≤ length c → LeadsReady p n tested c hit v → LeadsReady p n tested c miss w → answer_of (emit_comparison comparison operand k hit miss c) p n 0 s ≡ Some (if compares comparison s.accumulator (value_of operand k s.index) then v else w)
   comparison_runs tested Equal operand k hit miss v w c s long ready lh lm h m = branch_runs tested test.Equal operand k hit miss v w c s long ready lh lm h m
   comparison_runs tested NotEqual operand k hit miss v w c s long ready lh lm h m =
       branch_runs tested test.Equal operand k miss hit w v c s long ready lm lh m h ∙ ap Some (exchanged_if _ _ v w refl)
@@ -208,27 +208,27 @@ module _ (p : List ℕ) (n : ℕ) where
   reading_picks true v w = refl
   reading_picks false v w = refl
 
-  masked_runs : (tested : Place) (k : FieldTest) (hit miss v w x : ℕ) (c : List Insn) (s : State) → length s.memory ≡ 16 → Ready p n tested s.index → hit ≤ length c → miss ≤ length c → LeadsReady p n tested c hit v → LeadsReady p n tested c miss w → (mask : Option ℕ) → s.accumulator ≡ x → answer_of (emit_mask mask (emit_comparison k.comparison Constant k.value hit miss c)) p n 0 s ≡ Some (if compares k.comparison (masked mask x) k.value then v else w)
+  masked_runs : (tested : Offset) (k : FieldTest) (hit miss v w x : ℕ) (c : List Insn) (s : State) → length s.memory ≡ 16 → Ready p n tested s.index → hit ≤ length c → miss ≤ length c → LeadsReady p n tested c hit v → LeadsReady p n tested c miss w → (mask : Option ℕ) → s.accumulator ≡ x → answer_of (emit_mask mask (emit_comparison k.comparison Constant k.value hit miss c)) p n 0 s ≡ Some (if compares k.comparison (masked mask x) k.value then v else w)
   masked_runs tested k hit miss v w x c s long ready lh lm h m None e =
       comparison_runs tested k.comparison Constant k.value hit miss v w c s long ready lh lm h m ∙ ap (λ y. Some (if compares k.comparison y k.value then v else w)) e
   masked_runs tested k hit miss v w x c s long ready lh lm h m (Some mask) e =
       run_mask p n mask (emit_comparison k.comparison Constant k.value hit miss c) s ∙ comparison_runs tested k.comparison Constant k.value hit miss v w c (record s { accumulator = bit_and s.accumulator mask }) long ready lh lm h m ∙ ap (λ y. Some (if compares k.comparison (bit_and y mask) k.value then v else w)) e
 
   -- what loads a field ends the run where there is none
-  loaded_runs : (tested : Place) (k : FieldTest) (hit miss v w : ℕ) (c : List Insn) (s : State) → length s.memory ≡ 16 → Ready p n tested s.index → hit ≤ length c → miss ≤ length c → LeadsReady p n tested c hit v → LeadsReady p n tested c miss w → (o : Option ℕ) → answer_after (answer_of (emit_mask k.mask (emit_comparison k.comparison Constant k.value hit miss c)) p n) (into Accumulator o s) ≡ Some (pick (reading_of (with o (λ x. Some (compares k.comparison (masked k.mask x) k.value)))) v w)
+  loaded_runs : (tested : Offset) (k : FieldTest) (hit miss v w : ℕ) (c : List Insn) (s : State) → length s.memory ≡ 16 → Ready p n tested s.index → hit ≤ length c → miss ≤ length c → LeadsReady p n tested c hit v → LeadsReady p n tested c miss w → (o : Option ℕ) → answer_after (answer_of (emit_mask k.mask (emit_comparison k.comparison Constant k.value hit miss c)) p n) (into Accumulator o s) ≡ Some (pick (reading_of (with o (λ x. Some (compares k.comparison (masked k.mask x) k.value)))) v w)
   loaded_runs tested k hit miss v w c s long ready lh lm h m None = refl
   loaded_runs tested k hit miss v w c s long ready lh lm h m (Some x) =
       masked_runs tested k hit miss v w x c (record s { accumulator = x }) long ready lh lm h m k.mask refl ∙ ap Some (reading_picks (compares k.comparison (masked k.mask x) k.value) v w)
 
-  past_runs : (header at : ℕ) (k : FieldTest) (hit miss v w : ℕ) (c : List Insn) (s : State) → length s.memory ≡ 16 → hit ≤ length c → miss ≤ length c → LeadsReady p n (Past header at) c hit v → LeadsReady p n (Past header at) c miss w → (o : Option ℕ) → field p header Byte ≡ o → answer_after (answer_of (plain (LoadIndirect k.width) at ∷ emit_mask k.mask (emit_comparison k.comparison Constant k.value hit miss c)) p n) (into Index (option_map header_length o) s) ≡ Some (pick (reading_of (with (with (with o (λ b. Some (header_length b))) (λ x. field p ((x + at) % 2 ^ 32) k.width)) (λ x. Some (compares k.comparison (masked k.mask x) k.value)))) v w)
+  past_runs : (header at : ℕ) (k : FieldTest) (hit miss v w : ℕ) (c : List Insn) (s : State) → length s.memory ≡ 16 → hit ≤ length c → miss ≤ length c → LeadsReady p n (AfterHeader header at) c hit v → LeadsReady p n (AfterHeader header at) c miss w → (o : Option ℕ) → field p header Byte ≡ o → answer_after (answer_of (plain (LoadIndirect k.width) at ∷ emit_mask k.mask (emit_comparison k.comparison Constant k.value hit miss c)) p n) (into Index (option_map header_length o) s) ≡ Some (pick (reading_of (with (with (with o (λ b. Some (header_length b))) (λ x. field p ((x + at) % 2 ^ 32) k.width)) (λ x. Some (compares k.comparison (masked k.mask x) k.value)))) v w)
   past_runs header at k hit miss v w c s long lh lm h m None e = refl
   past_runs header at k hit miss v w c s long lh lm h m (Some b) e =
-      run_indirect p n k.width at _ (record s { index = header_length b }) ∙ loaded_runs (Past header at) k hit miss v w c (record s { index = header_length b }) long (ap (option_map header_length) e) lh lm h m (field p ((header_length b + at) % 2 ^ 32) k.width)
+      run_indirect p n k.width at _ (record s { index = header_length b }) ∙ loaded_runs (AfterHeader header at) k hit miss v w c (record s { index = header_length b }) long (ap (option_map header_length) e) lh lm h m (field p ((header_length b + at) % 2 ^ 32) k.width)
 
-  field_runs : (place : Place) (k : FieldTest) (hit miss v w : ℕ) (c : List Insn) (s : State) → length s.memory ≡ 16 → hit ≤ length c → miss ≤ length c → LeadsReady p n place c hit v → LeadsReady p n place c miss w → answer_of (emit_field place k.width (emit_mask k.mask (emit_comparison k.comparison Constant k.value hit miss c))) p n 0 s ≡ Some (pick (reading_of (with (field_at place k.width p) (λ x. Some (compares k.comparison (masked k.mask x) k.value)))) v w)
-  field_runs (At at) k hit miss v w c s long lh lm h m =
-      run_load p n k.width at _ s ∙ loaded_runs (At at) k hit miss v w c s long tt lh lm h m (field p at k.width)
-  field_runs (Past header at) k hit miss v w c s long lh lm h m =
+  field_runs : (place : Offset) (k : FieldTest) (hit miss v w : ℕ) (c : List Insn) (s : State) → length s.memory ≡ 16 → hit ≤ length c → miss ≤ length c → LeadsReady p n place c hit v → LeadsReady p n place c miss w → answer_of (emit_field place k.width (emit_mask k.mask (emit_comparison k.comparison Constant k.value hit miss c))) p n 0 s ≡ Some (pick (reading_of (with (field_at place k.width p) (λ x. Some (compares k.comparison (masked k.mask x) k.value)))) v w)
+  field_runs (Fixed at) k hit miss v w c s long lh lm h m =
+      run_load p n k.width at _ s ∙ loaded_runs (Fixed at) k hit miss v w c s long tt lh lm h m (field p at k.width)
+  field_runs (AfterHeader header at) k hit miss v w c s long lh lm h m =
       run_header p n header (plain (LoadIndirect k.width) at ∷ emit_mask k.mask (emit_comparison k.comparison Constant k.value hit miss c)) s ∙ past_runs header at k hit miss v w c s long lh lm h m (field p header Byte) refl
 
   -- both numbers of a relation, and its test
@@ -237,14 +237,14 @@ module _ (p : List ℕ) (n : ℕ) where
   compared_runs comparison hit miss v w c c' s lh lm h m (Some x) None r = r
   compared_runs comparison hit miss v w c c' s lh lm h m (Some x) (Some y) r =
       let t = r.0 in
-      r.4 ∙ comparison_runs (At 0) comparison IndexRegister 0 hit miss v w c t r.1.long tt lh lm (ready_anyhow p n (At 0) c hit v h) (ready_anyhow p n (At 0) c miss w m) ∙ ap (λ a. Some (if compares comparison a t.index then v else w)) r.2 ∙ ap (λ b. Some (if compares comparison x b then v else w)) r.3 ∙ ap Some (reading_picks (compares comparison x y) v w)
+      r.4 ∙ comparison_runs (Fixed 0) comparison IndexRegister 0 hit miss v w c t r.1.long tt lh lm (ready_anyhow p n (Fixed 0) c hit v h) (ready_anyhow p n (Fixed 0) c miss w m) ∙ ap (λ a. Some (if compares comparison a t.index then v else w)) r.2 ∙ ap (λ b. Some (if compares comparison x b then v else w)) r.3 ∙ ap Some (reading_picks (compares comparison x y) v w)
 
   -- the right one is in the test
   constant_compared : (comparison : Comparison) (k hit miss v w : ℕ) (c c' : List Insn) (s : State) → hit ≤ length c → miss ≤ length c → Leads p n c hit v → Leads p n c miss w → (ox oy : Option ℕ) → oy ≡ Some k → NumberRuns p n c' (emit_comparison comparison Constant k hit miss c) 0 s ox → answer_of c' p n 0 s ≡ Some (pick (reading_of (with ox (λ x. with oy (λ y. Some (compares comparison x y))))) v w)
   constant_compared comparison k hit miss v w c c' s lh lm h m None oy is r = r
   constant_compared comparison k hit miss v w c c' s lh lm h m (Some x) oy is r =
       let t = r.0 in
-      r.3 ∙ comparison_runs (At 0) comparison Constant k hit miss v w c t r.1.long tt lh lm (ready_anyhow p n (At 0) c hit v h) (ready_anyhow p n (At 0) c miss w m) ∙ ap (λ a. Some (if compares comparison a k then v else w)) r.2 ∙ ap Some (reading_picks (compares comparison x k) v w) ∙ ap (λ o. Some (pick (reading_of (with o (λ y. Some (compares comparison x y)))) v w)) (sym is)
+      r.3 ∙ comparison_runs (Fixed 0) comparison Constant k hit miss v w c t r.1.long tt lh lm (ready_anyhow p n (Fixed 0) c hit v h) (ready_anyhow p n (Fixed 0) c miss w m) ∙ ap (λ a. Some (if compares comparison a k then v else w)) r.2 ∙ ap Some (reading_picks (compares comparison x k) v w) ∙ ap (λ o. Some (pick (reading_of (with o (λ y. Some (compares comparison x y)))) v w)) (sym is)
 
   relation_runs : (link : Link) (comparison : Comparison) (l r : NumberTree) (hit miss v w : ℕ) (c : List Insn) (s : State) → length s.memory ≡ 16 → hit ≤ length c → miss ≤ length c → Leads p n c hit v → Leads p n c miss w → number_words l ≤ 16 → 1 + number_words r ≤ 16 → answer_of (emit_relation link comparison l r hit miss c) p n 0 s ≡ Some (pick (relation_reads link comparison l r p n) v w)
   relation_runs link comparison l r hit miss v w c s long lh lm h m few_l few_r =
@@ -272,10 +272,10 @@ module _ (p : List ℕ) (n : ℕ) where
   settles_at c place v h = record { v = v; by = h.by }
 
   settles_past : (c : List Insn) (i : Insn) (place v : ℕ) → place ≤ length c → Leads p n c place v → Settles p n (i ∷ c) (length c + 1 - place)
-  settles_past c i place v l h = record { v = v; by = λ s long. past_jump (At 0) c i place v s long tt l (ready_anyhow p n (At 0) c place v h) }
+  settles_past c i place v l h = record { v = v; by = λ s long. past_jump (Fixed 0) c i place v s long tt l (ready_anyhow p n (Fixed 0) c place v h) }
 
   settles_jump : (c : List Insn) (to v : ℕ) → Leads p n c to v → Settles p n (emit_jump to c) 0
-  settles_jump c to v h = record { v = v; by = λ s long. jump_top (At 0) c to v s long tt (ready_anyhow p n (At 0) c to v h) }
+  settles_jump c to v h = record { v = v; by = λ s long. jump_top (Fixed 0) c to v s long tt (ready_anyhow p n (Fixed 0) c to v h) }
 
   test_no_load : (t : Test) (o : Operand) → is_load (code_of (JumpIf t o)) ≡ false
   test_no_load test.Equal Constant = refl
@@ -324,7 +324,7 @@ module _ (p : List ℕ) (n : ℕ) where
       far = leads_on p n c (emit_jump miss c) hit v lh (extends_put c c _ (extends_none c)) h
 
       behind : Settles p n (emit_jump hit (emit_jump miss c)) 1
-      behind = record { v = w; by = λ s long. jump_top (At 0) c miss w s long tt (ready_anyhow p n (At 0) c miss w m) }
+      behind = record { v = w; by = λ s long. jump_top (Fixed 0) c miss w s long tt (ready_anyhow p n (Fixed 0) c miss w m) }
 
   indirect_no_load : (w : Width) → is_load (code_of (LoadIndirect w)) ≡ false
   indirect_no_load Word = refl
@@ -378,12 +378,12 @@ module _ (p : List ℕ) (n : ℕ) where
   comparison_behind AtLeast o k hit miss v w c lh lm h m = branch_behind test.AtLeast o k hit miss v w c lh lm h m
 
   -- a test of a field: its targets need X only where it is past a header
-  field_settled : (place : Place) (k : FieldTest) (hit miss v w : ℕ) (c : List Insn) → hit ≤ length c → miss ≤ length c → Calm c → LeadsReady p n place c hit v → LeadsReady p n place c miss w → Calm (emit_field place k.width (emit_mask k.mask (emit_comparison k.comparison Constant k.value hit miss c)))
-  field_settled (At a) k hit miss v w c lh lm z h m =
+  field_settled : (place : Offset) (k : FieldTest) (hit miss v w : ℕ) (c : List Insn) → hit ≤ length c → miss ≤ length c → Calm c → LeadsReady p n place c hit v → LeadsReady p n place c miss w → Calm (emit_field place k.width (emit_mask k.mask (emit_comparison k.comparison Constant k.value hit miss c)))
+  field_settled (Fixed a) k hit miss v w c lh lm z h m =
       let behind = mask_behind k.mask _ (comparison_behind k.comparison Constant k.value hit miss v w c lh lm (record { by = λ s long. h.by s long tt }) (record { by = λ s long. m.by s long tt })) in
       let z' = mask_settled k.mask _ (comparison_settled k.comparison Constant k.value hit miss c z) in
       record { by = (λ e. (behind.branches, behind.masked), z'.by) }
-  field_settled (Past header a) k hit miss v w c lh lm z h m =
+  field_settled (AfterHeader header a) k hit miss v w c lh lm z h m =
       settled_put _ _ refl (settled_put _ _ (indirect_no_load k.width) (mask_settled k.mask _ (comparison_settled k.comparison Constant k.value hit miss c z)))
 
   chain_settled : (vs : List ℕ) (hit miss : ℕ) (c : List Insn) → Calm c → Calm (emit_chain vs hit miss c).code
@@ -492,20 +492,37 @@ module _ (p : List ℕ) (n : ℕ) where
   knows : (f : Fact) (known : Knowledge) → KnowledgeHolds p n known → FactHolds p n f → KnowledgeHolds p n (and_fact f known)
   knows f known k h = record { facts = (h, (k.facts.0, (k.facts.1.0, tt))); either = k.either }
 
+  -- code in front of code that works; what is small here is large where it is used
+  works_behind : (c d : List Insn) (f : Block) (known : Knowledge) (v w : ℕ) → Extends c d → (r : Works f d known v) → (KnowledgeHolds p n known → r.u ≡ w) → Works f c known w
+  works_behind c d f known v w e r right =
+      record { inside = r.inside; extends = extends_on c d f.code e r.extends; flush_group = r.flush_group; u = r.u; leads = r.leads; right = right }
+
+  fork_right : (known : Knowledge) (t u : Elementary) (r : Reading) (x y z v w : ℕ) → (KnowledgeHolds p n known → x ≡ pick (elementary_reads t p) y z) → (KnowledgeHolds p n (and_fork t u known) → y ≡ pick r v w) → (KnowledgeHolds p n (and_fact (fact t false) known) → z ≡ pick (elementary_reads u p) y w) → KnowledgeHolds p n known → x ≡ pick (both (either (elementary_reads t p) (elementary_reads u p)) r) v w
+  fork_right known t u r x y z v w one inner second k =
+      one k ∙ pick_fork (elementary_reads t p) (elementary_reads u p) r y z v w
+      (λ e. inner (record { facts = k.facts; either = e }))
+      (λ e. second (knows (fact t false) known k e))
+
+  choice_right : (known : Knowledge) (t : Elementary) (r q : Reading) (x y z v w : ℕ) → (elementary_reads t p ≡ Yes → q ≡ No) → (KnowledgeHolds p n known → x ≡ pick (elementary_reads t p) y z) → (KnowledgeHolds p n (and_fact (fact t true) known) → y ≡ pick r v w) → (KnowledgeHolds p n (and_fact (fact t false) known) → z ≡ pick q v w) → KnowledgeHolds p n known → x ≡ pick (either (both (elementary_reads t p) r) q) v w
+  choice_right known t r q x y z v w other one first second k =
+      one k ∙ pick_choice (elementary_reads t p) r q y z v w other
+      (λ e. first (knows (fact t true) known k e))
+      (λ e. second (knows (fact t false) known k e))
+
   elementary_works : (known : Knowledge) (t : Elementary) (hit miss v w : ℕ) (c : List Insn) → hit ≤ length c → miss ≤ length c → Calm c → Leads p n c hit v → Leads p n c miss w → Works (emit_elementary known t hit miss c) c known (pick (elementary_reads t p) v w)
-  elementary_works known (Known true) hit miss v w c lh lm z h m = record { inside = lh; extends = extends_none c; flush_group = z; u = v; leads = h; right = λ k. refl }
-  elementary_works known (Known false) hit miss v w c lh lm z h m = record { inside = lm; extends = extends_none c; flush_group = z; u = w; leads = m; right = λ k. refl }
+  elementary_works known (Outcome true) hit miss v w c lh lm z h m = record { inside = lh; extends = extends_none c; flush_group = z; u = v; leads = h; right = λ k. refl }
+  elementary_works known (Outcome false) hit miss v w c lh lm z h m = record { inside = lm; extends = extends_none c; flush_group = z; u = w; leads = m; right = λ k. refl }
   elementary_works known (Field k) hit miss v w c lh lm z h m =
-      let th = target_leads p n c known k.place (fact (Field k) true) v hit z.by lh h in
-      let tm = target_leads p n c known k.place (fact (Field k) false) w miss z.by lm m in
-      let hit' = target c known k.place (fact (Field k) true) hit in
-      let miss' = target c known k.place (fact (Field k) false) miss in
+      let th = target_leads p n c known k.offset (fact (Field k) true) v hit z.by lh h in
+      let tm = target_leads p n c known k.offset (fact (Field k) false) w miss z.by lm m in
+      let hit' = target c known k.offset (fact (Field k) true) hit in
+      let miss' = target c known k.offset (fact (Field k) false) miss in
       record {
         inside = omega arith;
         extends = test_extends k hit' miss' c;
-        flush_group = field_settled k.place k hit' miss' th.v tm.v c th.inside tm.inside z th.leads tm.leads;
+        flush_group = field_settled k.offset k hit' miss' th.v tm.v c th.inside tm.inside z th.leads tm.leads;
         u = pick (elementary_reads (Field k) p) th.v tm.v;
-        leads = leads_top (emit_test k hit' miss' c) _ (λ s long. field_runs k.place k hit' miss' th.v tm.v c s long th.inside tm.inside th.leads tm.leads);
+        leads = leads_top (emit_test k hit' miss' c) _ (λ s long. field_runs k.offset k hit' miss' th.v tm.v c s long th.inside tm.inside th.leads tm.leads);
         right = λ known_holds. pick_same (elementary_reads (Field k) p) th.v tm.v v w (λ e. th.right known_holds e) (λ e. tm.right known_holds e);
       }
 
@@ -529,31 +546,31 @@ module _ (p : List ℕ) (n : ℕ) where
       masks (Some mask) = run_mask p n mask d (record s { accumulator = x })
 
   -- the same behind what loads the field
-  abbrev Finds : Place → List ℕ → List Insn → ℕ → ℕ → Type 0
+  abbrev Finds : Offset → List ℕ → List Insn → ℕ → ℕ → Type 0
   Finds place vs d v w =
       (s : State) → length s.memory ≡ 16 → Ready p n place s.index → answer_of d p n 0 s ≡ Some (if is_one_of s.accumulator vs then v else w)
 
-  past_picks : (header at : ℕ) (f : MaskedField) (vs : List ℕ) (d : List Insn) (s : State) (v w : ℕ) → length s.memory ≡ 16 → Finds (Past header at) vs d v w → (o : Option ℕ) → field p header Byte ≡ o → answer_after (answer_of (plain (LoadIndirect f.width) at ∷ emit_mask f.mask d) p n) (into Index (option_map header_length o) s) ≡ Some (pick (reading_of (with (with (with o (λ b. Some (header_length b))) (λ x. field p ((x + at) % 2 ^ 32) f.width)) (λ x. Some (is_one_of (masked f.mask x) vs)))) v w)
+  past_picks : (header at : ℕ) (f : MaskedField) (vs : List ℕ) (d : List Insn) (s : State) (v w : ℕ) → length s.memory ≡ 16 → Finds (AfterHeader header at) vs d v w → (o : Option ℕ) → field p header Byte ≡ o → answer_after (answer_of (plain (LoadIndirect f.width) at ∷ emit_mask f.mask d) p n) (into Index (option_map header_length o) s) ≡ Some (pick (reading_of (with (with (with o (λ b. Some (header_length b))) (λ x. field p ((x + at) % 2 ^ 32) f.width)) (λ x. Some (is_one_of (masked f.mask x) vs)))) v w)
   past_picks header at f vs d s v w long h None e = refl
   past_picks header at f vs d s v w long h (Some b) e =
       run_indirect p n f.width at (emit_mask f.mask d) (record s { index = header_length b })
       ∙ picks_one (field p ((header_length b + at) % 2 ^ 32) f.width) f vs d (record s { index = header_length b }) v w (λ x. h (record s { index = header_length b; accumulator = masked f.mask x }) long (ap (option_map header_length) e))
 
-  field_picks : (place : Place) (f : MaskedField) (vs : List ℕ) (d : List Insn) (s : State) (v w : ℕ) → length s.memory ≡ 16 → Finds place vs d v w → answer_of (emit_field place f.width (emit_mask f.mask d)) p n 0 s ≡ Some (pick (reading_of (with (field_at place f.width p) (λ x. Some (is_one_of (masked f.mask x) vs)))) v w)
-  field_picks (At at) f vs d s v w long h =
+  field_picks : (place : Offset) (f : MaskedField) (vs : List ℕ) (d : List Insn) (s : State) (v w : ℕ) → length s.memory ≡ 16 → Finds place vs d v w → answer_of (emit_field place f.width (emit_mask f.mask d)) p n 0 s ≡ Some (pick (reading_of (with (field_at place f.width p) (λ x. Some (is_one_of (masked f.mask x) vs)))) v w)
+  field_picks (Fixed at) f vs d s v w long h =
       run_load p n f.width at (emit_mask f.mask d) s ∙ picks_one (field p at f.width) f vs d s v w (λ x. h (record s { accumulator = masked f.mask x }) long tt)
-  field_picks (Past header at) f vs d s v w long h =
+  field_picks (AfterHeader header at) f vs d s v w long h =
       run_header p n header (plain (LoadIndirect f.width) at ∷ emit_mask f.mask d) s ∙ past_picks header at f vs d s v w long h (field p header Byte) refl
 
-  among_settled : (place : Place) (width : Width) (mask : Option ℕ) (vs : List ℕ) (hit miss v w : ℕ) (c : List Insn) → Searchable vs → hit ≤ length c → miss ≤ length c → Calm c → LeadsReady p n place c hit v → LeadsReady p n place c miss w → Calm (emit_field place width (emit_mask mask (emit_search LEVELS vs hit miss c).code))
-  among_settled (At a) width mask vs hit miss v w c up lh lm z h m =
+  among_settled : (place : Offset) (width : Width) (mask : Option ℕ) (vs : List ℕ) (hit miss v w : ℕ) (c : List Insn) → Searchable vs → hit ≤ length c → miss ≤ length c → Calm c → LeadsReady p n place c hit v → LeadsReady p n place c miss w → Calm (emit_field place width (emit_mask mask (emit_search LEVELS vs hit miss c).code))
+  among_settled (Fixed a) width mask vs hit miss v w c up lh lm z h m =
       let behind = mask_behind mask _ (search_behind 15 vs hit miss v w c up lh lm (record { by = λ s long. h.by s long tt }) (record { by = λ s long. m.by s long tt })) in
       let z' = mask_settled mask _ (search_settled LEVELS vs hit miss c z) in
       record { by = (λ e. (behind.branches, behind.masked), z'.by) }
-  among_settled (Past header a) width mask vs hit miss v w c up lh lm z h m =
+  among_settled (AfterHeader header a) width mask vs hit miss v w c up lh lm z h m =
       settled_put _ _ refl (settled_put _ _ (indirect_no_load width) (mask_settled mask _ (search_settled LEVELS vs hit miss c z)))
 
-  search_finds : (place : Place) (vs : List ℕ) (hit miss v w : ℕ) (c : List Insn) → Searchable vs → hit ≤ length c → miss ≤ length c → LeadsReady p n place c hit v → LeadsReady p n place c miss w → Finds place vs (emit_search LEVELS vs hit miss c).code v w
+  search_finds : (place : Offset) (vs : List ℕ) (hit miss v w : ℕ) (c : List Insn) → Searchable vs → hit ≤ length c → miss ≤ length c → LeadsReady p n place c hit v → LeadsReady p n place c miss w → Finds place vs (emit_search LEVELS vs hit miss c).code v w
   search_finds place vs hit miss v w c up lh lm h m s long ready =
       let e = emit_search LEVELS vs hit miss c in
       let r = search_answers LEVELS vs hit miss v w c s (searchable_ascends vs up) lh lm (h.by s long ready) (m.by s long ready) in
@@ -561,18 +578,18 @@ module _ (p : List ℕ) (n : ℕ) where
 
   among_works : (known : Knowledge) (f : MaskedField) (vs : List ℕ) (hit miss v w : ℕ) (c : List Insn) → Searchable vs → hit ≤ length c → miss ≤ length c → Calm c → Leads p n c hit v → Leads p n c miss w → Works (emit_among known f vs hit miss c) c known (pick (among_reads f vs p) v w)
   among_works known f vs hit miss v w c up lh lm z h m =
-      let th = target_leads p n c known f.place always v hit z.by lh h in
-      let tm = target_leads p n c known f.place always w miss z.by lm m in
-      let hit' = target c known f.place always hit in
-      let miss' = target c known f.place always miss in
+      let th = target_leads p n c known f.offset always v hit z.by lh h in
+      let tm = target_leads p n c known f.offset always w miss z.by lm m in
+      let hit' = target c known f.offset always hit in
+      let miss' = target c known f.offset always miss in
       let e = emit_search LEVELS vs hit' miss' c in
       record {
         inside = omega arith;
-        extends = field_extends f.place f.width c _ (mask_extends f.mask c _ (search_extends LEVELS vs hit' miss' c));
-        flush_group = among_settled f.place f.width f.mask vs hit' miss' th.v tm.v c up th.inside tm.inside z th.leads tm.leads;
+        extends = field_extends f.offset f.width c _ (mask_extends f.mask c _ (search_extends LEVELS vs hit' miss' c));
+        flush_group = among_settled f.offset f.width f.mask vs hit' miss' th.v tm.v c up th.inside tm.inside z th.leads tm.leads;
         u = pick (among_reads f vs p) th.v tm.v;
-        leads = leads_top (emit_field f.place f.width (emit_mask f.mask e.code)) _ (λ s long.
-            field_picks f.place f vs e.code s th.v tm.v long (search_finds f.place vs hit' miss' th.v tm.v c up th.inside tm.inside th.leads tm.leads));
+        leads = leads_top (emit_field f.offset f.width (emit_mask f.mask e.code)) _ (λ s long.
+            field_picks f.offset f vs e.code s th.v tm.v long (search_finds f.offset vs hit' miss' th.v tm.v c up th.inside tm.inside th.leads tm.leads));
         right = λ k. pick_same (among_reads f vs p) th.v tm.v v w (λ y. th.right k refl) (λ y. tm.right k refl);
       }
 
@@ -645,16 +662,7 @@ module _ (p : List ℕ) (n : ℕ) where
       let le : e.entry ≤ length d.code = (let l = wb.inside in omega (arith, wu.extends.longer)) in
       let wa = elementary_works known t e.entry d.entry wb.u wu.u d.code le wu.inside wu.flush_group (leads_on p n e.code d.code e.entry wb.u wb.inside wu.extends wb.leads) wu.leads in
       let f = emit_elementary known t e.entry d.entry d.code in
-      record {
-        inside = wa.inside;
-        extends = extends_on c e.code f.code wb.extends (extends_on e.code d.code f.code wu.extends wa.extends);
-        flush_group = wa.flush_group;
-        u = wa.u;
-        leads = wa.leads;
-        right = λ k. wa.right k ∙ pick_fork (elementary_reads t p) (elementary_reads u p) (reads link a p n) wb.u wu.u v w
-            (λ y. wb.right (record { facts = k.facts; either = y }))
-            (λ y. wu.right (knows (fact t false) known k y));
-      }
+      works_behind c d.code f known _ _ (extends_on c e.code d.code wb.extends wu.extends) wa (fork_right known t u (reads link a p n) wa.u wb.u wu.u v w wa.right wb.right wu.right)
   emitted_works link known (Choose t a b) hit miss v w c few apt lh lm z h m =
       let yes = and_fact (fact t true) known in
       let no = and_fact (fact t false) known in
@@ -667,14 +675,5 @@ module _ (p : List ℕ) (n : ℕ) where
       let le : e.entry ≤ length d.code = (let l = wb.inside in omega (arith, wa.extends.longer)) in
       let wt = elementary_works known t d.entry e.entry wa.u wb.u d.code wa.inside le wa.flush_group wa.leads (leads_on p n e.code d.code e.entry wb.u wb.inside wa.extends wb.leads) in
       let f = emit_elementary known t d.entry e.entry d.code in
-      record {
-        inside = wt.inside;
-        extends = extends_on c e.code f.code wb.extends (extends_on e.code d.code f.code wa.extends wt.extends);
-        flush_group = wt.flush_group;
-        u = wt.u;
-        leads = wt.leads;
-        right = λ k. wt.right k ∙ pick_choice (elementary_reads t p) (reads link a p n) (reads link b p n) wa.u wb.u v w (excluded_no p n link t b apt.0)
-            (λ y. wa.right (knows (fact t true) known k y))
-            (λ y. wb.right (knows (fact t false) known k y));
-      }
+      works_behind c d.code f known _ _ (extends_on c e.code d.code wb.extends wa.extends) wt (choice_right known t (reads link a p n) (reads link b p n) wt.u wa.u wb.u v w (excluded_no p n link t b apt.0) wt.right wa.right wb.right)
   emitted_works link known (Among f vs) hit miss v w c few apt lh lm z h m = among_works known f vs hit miss v w c apt lh lm z h m

@@ -14,9 +14,9 @@ use Rattle.flt_words.specs.declared.token.Protocol.{Protocol}
 use Rattle.flt_words.specs.declared.token.Protocol.TheVariants.{Ether, Tcp, Udp, Icmp}
 use Rattle.flt_lang.specs.Tree.{NumberTree, literal, len, named, load, negated, applied}
 use Rattle.flt_gen.specs.declared.link.Link.{Link}
-use Rattle.flt_gen.specs.declared.elementary.Place.{Place}
-use Rattle.flt_gen.specs.declared.elementary.Place.TheVariants.{At, Past}
-use Rattle.flt_gen.specs.declared.elementary.Elementary.TheVariants.{Known, Field}
+use Rattle.flt_gen.specs.declared.elementary.Offset.{Offset}
+use Rattle.flt_gen.specs.declared.elementary.Offset.TheVariants.{Fixed, AfterHeader}
+use Rattle.flt_gen.specs.declared.elementary.Elementary.TheVariants.{Outcome, Field}
 use Rattle.flt_gen.specs.Elementary.{network}
 use Rattle.flt_gen.specs.Numbers.{width_of}
 use Rattle.flt_gen.specs.Formula.{Formula, Single, Compare, Both, Either, Except, Guard, Fork, Choose, Among}
@@ -60,9 +60,9 @@ branch_slim : (t : Test) (o : Operand) (k hit miss : ℕ) (c : List Insn) → le
 branch_slim t o k hit miss c l n =
     subst (λ d. Slim c d 1) (sym (near_branch t o k hit miss c l)) (record { none = all_put (λ j. j.code ≢ JUMP) _ c (branch_no_jump t o) n; longer = omega arith; shorter = omega arith })
 
-field_slim : (place : Place) (w : Width) (c d : List Insn) (m : ℕ) → Slim c d m → Slim c (emit_field place w d) (m + 2)
-field_slim (At k) w c d m s = slim_put c d m (m + 2) _ s (load_no_jump w) (omega arith)
-field_slim (Past header k) w c d m s = slim_put c _ (m + 1) (m + 2) _ (slim_put c d m (m + 1) _ s (indirect_no_jump w) (omega arith)) (λ e. absurd (omega arith)) (omega arith)
+field_slim : (place : Offset) (w : Width) (c d : List Insn) (m : ℕ) → Slim c d m → Slim c (emit_field place w d) (m + 2)
+field_slim (Fixed k) w c d m s = slim_put c d m (m + 2) _ s (load_no_jump w) (omega arith)
+field_slim (AfterHeader header k) w c d m s = slim_put c _ (m + 1) (m + 2) _ (slim_put c d m (m + 1) _ s (indirect_no_jump w) (omega arith)) (λ e. absurd (omega arith)) (omega arith)
 
 mask_slim : (mask : Option ℕ) (c d : List Insn) (m : ℕ) → Slim c d m → Slim c (emit_mask mask d) (m + 1)
 mask_slim None c d m s = slim_more c d m (m + 1) (omega arith) s
@@ -136,10 +136,10 @@ number_slim link (applied operator l r) slot c d m s =
     slim_more c _ (m + 4 + 6 * number_size r + 6 * number_size l) _ (omega arith) (number_slim link l slot c _ (m + 4 + 6 * number_size r) s6)
 
 elementary_slim : (known : Knowledge) (t : Elementary) (hit miss : ℕ) (c : List Insn) → length c + 4 ≤ 256 → All (λ i. i.code ≢ JUMP) c → Slim c (emit_elementary known t hit miss c).code 4
-elementary_slim known (Known true) hit miss c l n = record { none = n; longer = omega arith; shorter = omega arith }
-elementary_slim known (Known false) hit miss c l n = record { none = n; longer = omega arith; shorter = omega arith }
+elementary_slim known (Outcome true) hit miss c l n = record { none = n; longer = omega arith; shorter = omega arith }
+elementary_slim known (Outcome false) hit miss c l n = record { none = n; longer = omega arith; shorter = omega arith }
 elementary_slim known (Field k) hit miss c l n =
-    slim_more c _ 4 _ (omega arith) (field_slim k.place k.width c _ 2 (mask_slim k.mask c _ 1 (comparison_slim k.comparison Constant k.value _ _ c (omega arith) n)))
+    slim_more c _ 4 _ (omega arith) (field_slim k.offset k.width c _ 2 (mask_slim k.mask c _ 1 (comparison_slim k.comparison Constant k.value _ _ c (omega arith) n)))
 
 fork_slim : (known : Knowledge) (t u : Elementary) (hit miss : ℕ) (c : List Insn) → length c + 8 ≤ 256 → All (λ i. i.code ≢ JUMP) c → Slim c (emit_fork known t u hit miss c).code 8
 fork_slim known t u hit miss c l n =
@@ -187,5 +187,5 @@ emitted_slim link known (Choose t a b) hit miss c l n =
     let st = elementary_slim known t d.entry e.entry d.code (omega (arith, sa.shorter, sb.shorter)) sa.none in
     record { none = st.none; longer = omega (arith, st.longer, sa.longer, sb.longer); shorter = omega (arith, st.shorter, sa.shorter, sb.shorter) }
 emitted_slim link known (Among f vs) hit miss c l n =
-    let s = search_slim LEVELS vs (target c known f.place always hit) (target c known f.place always miss) c (omega arith) n in
-    slim_more c _ (1 + 2 * (length vs - 1) + 1 + 2) _ (omega arith) (field_slim f.place f.width c _ (1 + 2 * (length vs - 1) + 1) (mask_slim f.mask c _ (1 + 2 * (length vs - 1)) s))
+    let s = search_slim LEVELS vs (target c known f.offset always hit) (target c known f.offset always miss) c (omega arith) n in
+    slim_more c _ (1 + 2 * (length vs - 1) + 1 + 2) _ (omega arith) (field_slim f.offset f.width c _ (1 + 2 * (length vs - 1) + 1) (mask_slim f.mask c _ (1 + 2 * (length vs - 1)) s))

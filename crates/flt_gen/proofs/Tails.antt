@@ -13,11 +13,11 @@ use Rattle.flt_words.specs.declared.token.Protocol.{Protocol}
 use Rattle.flt_words.specs.declared.token.Protocol.TheVariants.{Ether, Tcp, Udp, Icmp}
 use Rattle.flt_lang.specs.Tree.{NumberTree, literal, len, named, load, negated, applied}
 use Rattle.flt_gen.specs.declared.link.Link.{Link}
-use Rattle.flt_gen.specs.declared.elementary.Place.{Place}
-use Rattle.flt_gen.specs.declared.elementary.Place.TheVariants.{At, Past}
+use Rattle.flt_gen.specs.declared.elementary.Offset.{Offset}
+use Rattle.flt_gen.specs.declared.elementary.Offset.TheVariants.{Fixed, AfterHeader}
 use Rattle.flt_gen.specs.declared.elementary.FieldTest.{FieldTest}
 use Rattle.flt_gen.specs.declared.elementary.Elementary.{Elementary}
-use Rattle.flt_gen.specs.declared.elementary.Elementary.TheVariants.{Known, Field}
+use Rattle.flt_gen.specs.declared.elementary.Elementary.TheVariants.{Outcome, Field}
 use Rattle.flt_gen.specs.Elementary.{network}
 use Rattle.flt_gen.specs.Numbers.{width_of, accessor_tests}
 use Rattle.flt_gen.specs.Formula.{Formula, Single, Compare, Both, Either, Except, Guard, Fork, Choose, Among}
@@ -76,9 +76,9 @@ branch_extends t operand k hit miss c =
     by_reach (λ d. Extends c d) (reach hit miss c) t operand k hit miss c
     (extends_put c c _ none) (extends_put c _ _ one_hit) (extends_put c _ _ one_miss) (extends_put c _ _ (extends_put c _ _ one_miss))
 
-pub field_extends : (place : Place) (width : Width) (c d : List Insn) → Extends c d → Extends c (emit_field place width d)
-field_extends (At k) width c d e = extends_put c d _ e
-field_extends (Past header k) width c d e = extends_put c _ _ (extends_put c d _ e)
+pub field_extends : (place : Offset) (width : Width) (c d : List Insn) → Extends c d → Extends c (emit_field place width d)
+field_extends (Fixed k) width c d e = extends_put c d _ e
+field_extends (AfterHeader header k) width c d e = extends_put c _ _ (extends_put c d _ e)
 
 pub mask_extends : (mask : Option ℕ) (c d : List Insn) → Extends c d → Extends c (emit_mask mask d)
 mask_extends None c d e = e
@@ -122,11 +122,11 @@ number_extends link (applied operator l r) slot c d e =
     (extends_put c _ _ (number_extends link r (slot + 1) c _ (extends_put c _ _ (extends_put c _ _ (extends_put c d _ e))))))
 
 pub test_extends : (t : FieldTest) (hit miss : ℕ) (c : List Insn) → Extends c (emit_test t hit miss c)
-test_extends t hit miss c = field_extends t.place t.width c _ (mask_extends t.mask c _ (comparison_extends t.comparison Constant t.value hit miss c))
+test_extends t hit miss c = field_extends t.offset t.width c _ (mask_extends t.mask c _ (comparison_extends t.comparison Constant t.value hit miss c))
 
 pub elementary_extends : (known : Knowledge) (t : Elementary) (hit miss : ℕ) (c : List Insn) → Extends c (emit_elementary known t hit miss c).code
-elementary_extends known (Known true) hit miss c = extends_none c
-elementary_extends known (Known false) hit miss c = extends_none c
+elementary_extends known (Outcome true) hit miss c = extends_none c
+elementary_extends known (Outcome false) hit miss c = extends_none c
 elementary_extends known (Field t) hit miss c = test_extends t _ _ c
 
 pub fork_extends : (known : Knowledge) (t u : Elementary) (hit miss : ℕ) (c : List Insn) → Extends c (emit_fork known t u hit miss c).code
@@ -176,7 +176,7 @@ emitted_extends link known (Choose t a b) hit miss c =
     let d = emit_formula link (and_fact (fact t true) known) a hit miss e.code in
     extends_on c e.code _ (emitted_extends link (and_fact (fact t false) known) b hit miss c) (extends_on e.code d.code _ (emitted_extends link (and_fact (fact t true) known) a hit miss e.code) (elementary_extends known t d.entry e.entry d.code))
 emitted_extends link known (Among f vs) hit miss c =
-    field_extends f.place f.width c _ (mask_extends f.mask c _ (search_extends LEVELS vs (target c known f.place always hit) (target c known f.place always miss) c))
+    field_extends f.offset f.width c _ (mask_extends f.mask c _ (search_extends LEVELS vs (target c known f.offset always hit) (target c known f.offset always miss) c))
 
 pub all_extends : (known : Knowledge) (ts : List Elementary) (hit miss : ℕ) (c : List Insn) → Extends c (emit_all known ts hit miss c).code
 all_extends known [] hit miss c = extends_none c

@@ -10,7 +10,7 @@ use Rattle.flt_lang.specs.declared.node.Node.{Node}
 use Rattle.flt_lang.specs.declared.node.Node.TheVariants.{Apply, Compare, Literal, Not}
 use Rattle.flt_bpf.specs.declared.operation.Operand.TheVariants.{Constant, IndexRegister}
 use Rattle.flt_words.specs.declared.token.Operator.{Operator}
-use Rattle.flt_gen.specs.declared.elementary.Elementary.TheVariants.{Known}
+use Rattle.flt_gen.specs.declared.elementary.Elementary.TheVariants.{Outcome}
 use Rattle.flt_gen.specs.Primitives.{check_formula, cast_formula, sized_formula, qualified_formula}
 use Rattle.flt_gen.specs.Group.{Group, no_group, larger_group, truth_member, choice, or_any, or_group, group_formula, grouped_formula}
 use Rattle.flt_lang.specs.Tree.{NumberTree, literal, len, named, load, negated, applied, TruthTree, check, cast, sized, bare, valued, qualified, compared, denied, joined, Expression, empty, truth}
@@ -143,8 +143,8 @@ pub truth_walked : (link : Link) (a : TruthTree) (group : Group) (k : Bool) → 
 truth_walked link (check p) group k free = λ c to ts d. ap (λ w. emit_nodes link w d) (leaf_put link (check_formula link p) c to ts group k group.numbers)
 truth_walked link (cast p x) group k free = λ c to ts d. ap (λ w. emit_nodes link w d) (leaf_put link (cast_formula link p x) c to ts group k group.numbers)
 truth_walked link (sized s n) group k free = λ c to ts d. ap (λ w. emit_nodes link w d) (leaf_put link (sized_formula s n) c to ts group k group.numbers)
-truth_walked link (bare v) group k free = λ c to ts d. ap (λ w. emit_nodes link w d) (leaf_put link (Single (Known false)) c to ts group k group.numbers)
-truth_walked link (valued q v) group k free = λ c to ts d. ap (λ w. emit_nodes link w d) (leaf_put link (Single (Known false)) c to ts group k group.numbers)
+truth_walked link (bare v) group k free = λ c to ts d. ap (λ w. emit_nodes link w d) (leaf_put link (Single (Outcome false)) c to ts group k group.numbers)
+truth_walked link (valued q v) group k free = λ c to ts d. ap (λ w. emit_nodes link w d) (leaf_put link (Single (Outcome false)) c to ts group k group.numbers)
 truth_walked link (qualified q v) group k free = λ c to ts d. ap (λ w. emit_nodes link w d) (value_walked link q v c to ts group k (larger_group q v group) free)
 truth_walked link (compared x a b) group k free = λ c to ts d. compare_walked link x b (waiting c to ts group k) (number_onto a d) ∙ relation_settled link x a b c to ts group k d group.numbers
 truth_walked link (denied a) group k free = λ c to ts d. denied_walked link a (truth_walked link a no_group false (inl refl)) c to ts group k d group.numbers

@@ -13,7 +13,7 @@ use Rattle.flt_lang.specs.Counts.{words_of, bound_of, truth_tests, truth_size}
 use Rattle.flt_lang.specs.Resolved.{is_unfilled, any_primitive, some_primitive}
 use Rattle.flt_gen.specs.Alike.{Replaces}
 use Rattle.flt_gen.specs.declared.link.Link.{Link}
-use Rattle.flt_gen.specs.declared.elementary.Elementary.TheVariants.{Known}
+use Rattle.flt_gen.specs.declared.elementary.Elementary.TheVariants.{Outcome}
 use Rattle.flt_gen.specs.Elementary.{Reading, Yes, No, Rejected}
 use Rattle.flt_gen.specs.Formula.{Formula, Single, reads}
 use Rattle.flt_gen.specs.Reading.{holds}
@@ -39,7 +39,7 @@ use Rattle.flt_bpf.specs.declared.operation.Operation.TheVariants.{ReturnConstan
 
 -- the empty expression as a formula, which has no code either; hosts are looked for together
 abbrev pub formula_of : Link → Expression → Formula
-formula_of link empty = Single (Known true)
+formula_of link empty = Single (Outcome true)
 formula_of link (truth a) = grouped_formula link no_group a
 
 code_of : (link : Link) (e : Expression) → emit_formula link nothing (formula_of link e) 2 1 returns_code ≡ expression_code link e

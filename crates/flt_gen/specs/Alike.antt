@@ -1,6 +1,6 @@
 -- How the instructions of a program replace those of another one that does the same with more of
 -- them.
-use Rattle.std.specs.Prelude.{◌≡◌, ◌≢◌, ℕ, ◌+◌, ◌-◌, ◌%◌, ◌^◌, ◌≤◌, ◌==◌, nat_lt, nat_le, Bool, true, false, if◌then◌else◌, ◌&&◌, ◌||◌, List, [], ◌∷◌, length, Option, Some, None, slice_get, All}
+use Rattle.std.specs.Prelude.{◌≡◌, ◌≢◌, ℕ, ◌+◌, ◌-◌, ◌%◌, ◌^◌, ◌≤◌, ◌==◌, nat_lt, nat_le, Bool, true, false, if◌then◌else◌, ◌&&◌, ◌||◌, List, [], ◌∷◌, length, Option, Some, None, slice_get, drop, All}
 use Rattle.flt_bpf.specs.declared.insn.Insn.{Insn}
 use Rattle.flt_bpf.specs.declared.operation.Operation.{Operation}
 use Rattle.flt_bpf.specs.declared.operation.Operation.TheVariants.{LoadAbsolute, LoadIndirect, Load, LoadHeaderLength, Store, Compute, Negate, Jump, JumpIf, ReturnConstant, ReturnAccumulator, CopyToIndex, CopyToAccumulator}
@@ -8,6 +8,7 @@ use Rattle.flt_bpf.specs.declared.operation.Register.TheVariants.{Accumulator, I
 use Rattle.flt_bpf.specs.declared.operation.Source.TheVariants.{Immediate}
 use Rattle.flt_bpf.specs.declared.operation.Operand.TheVariants.{Constant, IndexRegister}
 use Rattle.flt_bpf.specs.declared.operation.Test.TheVariants as test
+use Rattle.flt_bpf.specs.declared.operation.AluOperation.TheVariants.{Add}
 use Rattle.flt_bpf.specs.Instructions.{code_of, operation_of}
 use Rattle.flt_bpf.specs.Machine.{machine, Answered}
 use Rattle.flt_bpf.specs.Valid.{IsValid}
@@ -131,18 +132,43 @@ direct_load j l i (t ∷ u ∷ is) ls =
     && (is_number (direct_code (operation_of u.code)) j.code && (i.k + u.k) % 2 ^ 32 == j.k))
     && fits ls 2 0 l.place true false
 
--- the instruction at a place, which is named by the number of instructions from there to the end
-abbrev pub insn_from : List Insn → ℕ → Option Insn
-insn_from c place = if nat_le place (length c) then slice_get c (length c - place) else None
+-- a load behind X
+abbrev pub is_indirect : Option Operation → Bool
+is_indirect (Some (LoadIndirect width)) = true
+is_indirect _ = false
 
-abbrev pub stands_at : Option Insn → Landing → Insn → List Insn → List Landing → Bool
-stands_at None l i is ls = false
-stands_at (Some j) l i is ls =
-    same_step (operation_of i.code) j l i ls || (one_test j l i is ls || direct_load j l i is ls)
+-- a number and the header length are added in A, and the sum goes to X
+abbrev pub adds_header : Insn → Insn → Insn → Insn → Bool
+adds_header i t u v =
+    (i.code == code_of (Load Accumulator Immediate) && t.code == code_of LoadHeaderLength)
+    && (u.code == code_of (Compute Add IndexRegister) && v.code == code_of CopyToIndex)
+
+-- two loads are the same header's length, and as many bytes behind X
+abbrev pub loads_alike : Insn → Insn → Insn → Insn → Bool
+loads_alike t h w j =
+    (t.code == h.code && t.k == h.k) && (is_indirect (operation_of w.code) && w.code == j.code)
+
+-- they are the header length and a load behind it, for a number, the header length, their sum that
+-- goes to X, and a load behind X; X isn't read behind it
+unfoldable pub header_load : List Insn → Landing → Insn → List Insn → List Landing → Bool
+header_load (h ∷ j ∷ js) l i (t ∷ u ∷ v ∷ w ∷ is) ls =
+    adds_header i t u v && (loads_alike t h w j
+    && ((i.k + w.k) % 2 ^ 32 == j.k && fits ls 4 0 (l.place - 1) true false))
+header_load js l i is ls = false
+
+-- the code from a place on, which is named by the number of instructions from there to the end
+abbrev pub code_from : List Insn → ℕ → List Insn
+code_from c place = if nat_le place (length c) then drop (length c - place) c else []
+
+abbrev pub stands_at : List Insn → Landing → Insn → List Insn → List Landing → Bool
+stands_at [] l i is ls = false
+stands_at (j ∷ js) l i is ls =
+    (same_step (operation_of i.code) j l i ls || one_test j l i is ls)
+    || (direct_load j l i is ls || header_load (j ∷ js) l i is ls)
 
 -- the code does at a landing, if it is one, what the instruction i and those behind it do
 abbrev pub stands : List Insn → Landing → Insn → List Insn → List Landing → Bool
-stands c l i is ls = l.place == 0 || stands_at (insn_from c l.place) l i is ls
+stands c l i is ls = l.place == 0 || stands_at (code_from c l.place) l i is ls
 
 -- it does at each landing what the old code does there
 abbrev pub are_alike : List Insn → List Insn → List Landing → Bool

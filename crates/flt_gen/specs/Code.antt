@@ -17,12 +17,12 @@ use Rattle.flt_gen.specs.declared.link.Link.{Link}
 use Rattle.flt_gen.specs.declared.code.Reach.{Reach}
 use Rattle.flt_gen.specs.declared.code.Reach.TheVariants.{Near, YesFar, NoFar, BothFar}
 use Rattle.flt_gen.specs.declared.follow.Knowledge.{Knowledge}
-use Rattle.flt_gen.specs.declared.elementary.Place.{Place}
-use Rattle.flt_gen.specs.declared.elementary.Place.TheVariants.{At, Past}
+use Rattle.flt_gen.specs.declared.elementary.Offset.{Offset}
+use Rattle.flt_gen.specs.declared.elementary.Offset.TheVariants.{Fixed, AfterHeader}
 use Rattle.flt_gen.specs.declared.elementary.FieldTest.{FieldTest}
 use Rattle.flt_gen.specs.declared.elementary.Elementary.{Elementary}
 use Rattle.flt_gen.specs.declared.elementary.MaskedField.{MaskedField}
-use Rattle.flt_gen.specs.declared.elementary.Elementary.TheVariants.{Known, Field}
+use Rattle.flt_gen.specs.declared.elementary.Elementary.TheVariants.{Outcome, Field}
 use Rattle.flt_gen.specs.Elementary.{with, network}
 use Rattle.flt_gen.specs.Follow.{fact, always, nothing, and_fact, and_fork, target}
 use Rattle.flt_gen.specs.Numbers.{width_of, accessor_tests}
@@ -123,9 +123,9 @@ emit_comparison Greater operand k hit miss c = emit_branch test.Greater operand 
 emit_comparison AtLeast operand k hit miss c = emit_branch test.AtLeast operand k hit miss c
 
 -- a field's number goes into A
-abbrev pub emit_field : Place → Width → List Insn → List Insn
-emit_field (At k) width c = plain (LoadAbsolute width) k ∷ c
-emit_field (Past header k) width c =
+abbrev pub emit_field : Offset → Width → List Insn → List Insn
+emit_field (Fixed k) width c = plain (LoadAbsolute width) k ∷ c
+emit_field (AfterHeader header k) width c =
     plain LoadHeaderLength header ∷ plain (LoadIndirect width) k ∷ c
 
 abbrev pub emit_mask : Option ℕ → List Insn → List Insn
@@ -134,7 +134,7 @@ emit_mask (Some mask) c = plain (Compute arithmetic.And Constant) mask ∷ c
 
 abbrev pub emit_test : FieldTest → ℕ → ℕ → List Insn → List Insn
 emit_test t hit miss c =
-    emit_field t.place t.width (emit_mask t.mask
+    emit_field t.offset t.width (emit_mask t.mask
     (emit_comparison t.comparison Constant t.value hit miss c))
 
 -- what loads an accessor's field where its first byte stands at the number in A
@@ -201,11 +201,11 @@ at_top c = record { code = c; entry = length c }
 -- a test that is known takes no code; the targets of another are followed under what is known, and
 -- past a load of X that it made
 abbrev pub emit_elementary : Knowledge → Elementary → ℕ → ℕ → List Insn → Block
-emit_elementary known (Known true) hit miss c = record { code = c; entry = hit }
-emit_elementary known (Known false) hit miss c = record { code = c; entry = miss }
+emit_elementary known (Outcome true) hit miss c = record { code = c; entry = hit }
+emit_elementary known (Outcome false) hit miss c = record { code = c; entry = miss }
 emit_elementary known (Field t) hit miss c =
-    at_top (emit_test t (target c known t.place (fact (Field t) true) hit)
-    (target c known t.place (fact (Field t) false) miss) c)
+    at_top (emit_test t (target c known t.offset (fact (Field t) true) hit)
+    (target c known t.offset (fact (Field t) false) miss) c)
 
 -- the code of one of two tests
 abbrev pub emit_fork : Knowledge → Elementary → Elementary → ℕ → ℕ → List Insn → Block
@@ -246,9 +246,9 @@ LEVELS = 16
 -- the field's made
 abbrev pub emit_among : Knowledge → MaskedField → List ℕ → ℕ → ℕ → List Insn → Block
 emit_among known f vs hit miss c =
-    let e = emit_search LEVELS vs (target c known f.place always hit)
-    (target c known f.place always miss) c in
-    at_top (emit_field f.place f.width (emit_mask f.mask e.code))
+    let e = emit_search LEVELS vs (target c known f.offset always hit)
+    (target c known f.offset always miss) c in
+    at_top (emit_field f.offset f.width (emit_mask f.mask e.code))
 
 -- the code of a formula that goes on at one of two places
 abbrev pub emit_formula : Link → Knowledge → Formula → ℕ → ℕ → List Insn → Block

@@ -12,11 +12,11 @@ use Rattle.flt_gen.specs.declared.link.Link.{Link}
 use Rattle.flt_gen.specs.declared.link.Link.TheVariants.{Ether, Raw, Cooked}
 use Rattle.flt_gen.specs.declared.elementary.FrameKind.{FrameKind}
 use Rattle.flt_gen.specs.declared.elementary.FrameKind.TheVariants.{Ethernet, Ip, Ip6, Arp, Rarp}
-use Rattle.flt_gen.specs.declared.elementary.Place.{Place}
-use Rattle.flt_gen.specs.declared.elementary.Place.TheVariants.{At, Past}
+use Rattle.flt_gen.specs.declared.elementary.Offset.{Offset}
+use Rattle.flt_gen.specs.declared.elementary.Offset.TheVariants.{Fixed, AfterHeader}
 use Rattle.flt_gen.specs.declared.elementary.FieldTest.{FieldTest}
 use Rattle.flt_gen.specs.declared.elementary.Elementary.{Elementary}
-use Rattle.flt_gen.specs.declared.elementary.Elementary.TheVariants.{Known, Field}
+use Rattle.flt_gen.specs.declared.elementary.Elementary.TheVariants.{Outcome, Field}
 
 -- what is read of a packet: a rejection is neither yes nor no
 pub data Reading : Type 0 where
@@ -49,9 +49,10 @@ abbrev pub header_at : List ℕ → ℕ → Option ℕ
 header_at p at = with (field p at Byte) (λ byte. Some (header_length byte))
 
 -- a field of a packet, or none where it isn't all captured; places are taken modulo 2^32
-abbrev pub field_at : Place → Width → List ℕ → Option ℕ
-field_at (At k) width p = field p k width
-field_at (Past header k) width p = with (header_at p header) (λ x. field p ((x + k) % 2 ^ 32) width)
+abbrev pub field_at : Offset → Width → List ℕ → Option ℕ
+field_at (Fixed k) width p = field p k width
+field_at (AfterHeader header k) width p =
+    with (header_at p header) (λ x. field p ((x + k) % 2 ^ 32) width)
 
 -- the bits of a mask
 abbrev pub masked : Option ℕ → ℕ → ℕ
@@ -59,21 +60,46 @@ masked None v = v
 masked (Some mask) v = bit_and v mask
 
 abbrev pub field_reads : FieldTest → List ℕ → Reading
-field_reads t p = reading_of (with (field_at t.place t.width p) (λ v. Some (compares t.comparison (masked t.mask v) t.value)))
+field_reads t p =
+    reading_of
+    (with (field_at t.offset t.width p)
+    (λ v. Some (compares t.comparison (masked t.mask v) t.value)))
 
 abbrev pub elementary_reads : Elementary → List ℕ → Reading
-elementary_reads (Known b) p = reading_of (Some b)
+elementary_reads (Outcome b) p = reading_of (Some b)
 elementary_reads (Field t) p = field_reads t p
 
--- the field at a place is this number; its bits under a mask are; it is at least, or at most, this number
+-- the field at a place is this number; its bits under a mask are; it is at least, or at most, this
+-- number
 abbrev pub is_at : ℕ → Width → ℕ → Elementary
-is_at at width value = Field (record { place = At at; width = width; mask = None; comparison = Equal; value = value })
+is_at at width value =
+    Field (record {
+      offset = Fixed at;
+      width = width;
+      mask = None;
+      comparison = Equal;
+      value = value;
+    })
 
 abbrev pub is_masked : ℕ → Width → ℕ → ℕ → Elementary
-is_masked at width mask value = Field (record { place = At at; width = width; mask = Some mask; comparison = Equal; value = value })
+is_masked at width mask value =
+    Field (record {
+      offset = Fixed at;
+      width = width;
+      mask = Some mask;
+      comparison = Equal;
+      value = value;
+    })
 
-abbrev pub compares_at : Place → Width → Comparison → ℕ → Elementary
-compares_at place width comparison value = Field (record { place = place; width = width; mask = None; comparison = comparison; value = value })
+abbrev pub compares_at : Offset → Width → Comparison → ℕ → Elementary
+compares_at offset width comparison value =
+    Field (record {
+      offset = offset;
+      width = width;
+      mask = None;
+      comparison = comparison;
+      value = value;
+    })
 
 -- the link type of a link
 abbrev pub link_type : Link → ℕ
@@ -89,17 +115,17 @@ network Cooked = LINUX_SLL_HEADER_LENGTH
 
 -- a frame is of a kind: by the type in its Ethernet header, else by the version in its first byte
 abbrev pub kind_test : Link → FrameKind → Elementary
-kind_test Ether Ethernet = Known true
+kind_test Ether Ethernet = Outcome true
 kind_test Ether Ip = is_at ETHERNET_TYPE_OFFSET HalfWord ETHERTYPE_IPV4
 kind_test Ether Ip6 = is_at ETHERNET_TYPE_OFFSET HalfWord ETHERTYPE_IPV6
 kind_test Ether Arp = is_at ETHERNET_TYPE_OFFSET HalfWord ETHERTYPE_ARP
 kind_test Ether Rarp = is_at ETHERNET_TYPE_OFFSET HalfWord ETHERTYPE_RARP
-kind_test Raw Ethernet = Known false
+kind_test Raw Ethernet = Outcome false
 kind_test Raw Ip = is_masked 0 Byte 0xf0 0x40
 kind_test Raw Ip6 = is_masked 0 Byte 0xf0 0x60
-kind_test Raw Arp = Known false
-kind_test Raw Rarp = Known false
-kind_test Cooked Ethernet = Known false
+kind_test Raw Arp = Outcome false
+kind_test Raw Rarp = Outcome false
+kind_test Cooked Ethernet = Outcome false
 kind_test Cooked Ip = is_at LINUX_SLL_TYPE_OFFSET HalfWord ETHERTYPE_IPV4
 kind_test Cooked Ip6 = is_at LINUX_SLL_TYPE_OFFSET HalfWord ETHERTYPE_IPV6
 kind_test Cooked Arp = is_at LINUX_SLL_TYPE_OFFSET HalfWord ETHERTYPE_ARP

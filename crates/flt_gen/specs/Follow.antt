@@ -10,11 +10,11 @@ use Rattle.flt_bpf.specs.Instructions.{code_of}
 use Rattle.flt_gen.specs.Layout.{JUMP}
 use Rattle.flt_words.specs.declared.token.Comparison.{Comparison}
 use Rattle.flt_words.specs.declared.token.Comparison.TheVariants.{Equal}
-use Rattle.flt_gen.specs.declared.elementary.Place.{Place}
-use Rattle.flt_gen.specs.declared.elementary.Place.TheVariants.{At, Past}
+use Rattle.flt_gen.specs.declared.elementary.Offset.{Offset}
+use Rattle.flt_gen.specs.declared.elementary.Offset.TheVariants.{Fixed, AfterHeader}
 use Rattle.flt_gen.specs.declared.elementary.FieldTest.{FieldTest}
 use Rattle.flt_gen.specs.declared.elementary.Elementary.{Elementary}
-use Rattle.flt_gen.specs.declared.elementary.Elementary.TheVariants.{Known, Field}
+use Rattle.flt_gen.specs.declared.elementary.Elementary.TheVariants.{Outcome, Field}
 use Rattle.flt_gen.specs.declared.elementary.Fact.{Fact}
 use Rattle.flt_gen.specs.declared.elementary.Alternatives.{Alternatives}
 use Rattle.flt_gen.specs.declared.follow.Knowledge.{Knowledge}
@@ -35,9 +35,9 @@ same_mask None None = true
 same_mask (Some a) (Some b) = a == b
 same_mask _ _ = false
 
-abbrev pub same_place : Place → ℕ → Bool
-same_place (At a) at = a == at
-same_place (Past header a) at = false
+abbrev pub same_place : Offset → ℕ → Bool
+same_place (Fixed a) at = a == at
+same_place (AfterHeader header a) at = false
 
 abbrev pub is_equal : Comparison → Bool
 is_equal Equal = true
@@ -53,11 +53,11 @@ says_value false false = None
 abbrev pub looks_at : FieldTest → ℕ → ℕ → Option ℕ → Bool
 looks_at t load at mask =
     is_equal t.comparison
-    && (same_place t.place at && (load_code t.width == load && same_mask t.mask mask))
+    && (same_place t.offset at && (load_code t.width == load && same_mask t.mask mask))
 
 -- what a fact says of the test whether a field is a number
 abbrev pub test_says : Elementary → Bool → ℕ → ℕ → Option ℕ → ℕ → Option Bool
-test_says (Known b) truth load at mask k = None
+test_says (Outcome b) truth load at mask k = None
 test_says (Field t) truth load at mask k =
     if looks_at t load at mask then says_value truth (t.value == k) else None
 
@@ -116,11 +116,11 @@ fact t b = record { test = t; truth = b }
 
 -- two tests of which one is yes, whatever the packet
 abbrev pub trivial : Alternatives
-trivial = record { first = Known true; second = Known true }
+trivial = record { first = Outcome true; second = Outcome true }
 
 -- a fact that says nothing
 abbrev pub always : Fact
-always = fact (Known true) true
+always = fact (Outcome true) true
 
 abbrev pub nothing : Knowledge
 nothing = record { latest = always; earlier = always; earliest = always; either = trivial }
@@ -149,16 +149,16 @@ followed_place c known own place =
 
 -- behind a test past a header X holds the header's length: code that begins by loading it is
 -- entered past that load
-abbrev pub past_index : Place → ℕ → List Insn → ℕ
-past_index (At a) place c = place
-past_index (Past header a) place [] = place
-past_index (Past header a) place (i ∷ is) =
+abbrev pub past_index : Offset → ℕ → List Insn → ℕ
+past_index (Fixed a) place c = place
+past_index (AfterHeader header a) place [] = place
+past_index (AfterHeader header a) place (i ∷ is) =
     if i.code == code_of LoadHeaderLength && i.k == header then max 1 (length is) else place
 
-abbrev pub entry_at : Place → List Insn → ℕ → ℕ
+abbrev pub entry_at : Offset → List Insn → ℕ → ℕ
 entry_at place c r = past_index place r (drop (length c - r) c)
 
 -- where a jump behind a test at a place goes, which is taken where a fact holds: its target
 -- followed, and past a load of X
-unfoldable pub target : List Insn → Knowledge → Place → Fact → ℕ → ℕ
+unfoldable pub target : List Insn → Knowledge → Offset → Fact → ℕ → ℕ
 target c known tested own place = entry_at tested c (followed_place c known own place)

@@ -10,7 +10,7 @@ use Rattle.flt_lang.specs.Tree.{NumberTree}
 use Rattle.flt_gen.specs.declared.link.Link.{Link}
 use Rattle.flt_gen.specs.declared.elementary.Elementary.{Elementary}
 use Rattle.flt_gen.specs.declared.elementary.MaskedField.{MaskedField}
-use Rattle.flt_gen.specs.declared.elementary.Elementary.TheVariants.{Known}
+use Rattle.flt_gen.specs.declared.elementary.Elementary.TheVariants.{Outcome}
 use Rattle.flt_gen.specs.Elementary.{Reading, Yes, No, Rejected, reading_of, with, compares, field_at, masked, elementary_reads}
 use Rattle.flt_gen.specs.Numbers.{number, accessor_tests}
 
@@ -60,7 +60,7 @@ is_one_of x (v ∷ vs) = x == v || is_one_of x vs
 -- is rejected
 abbrev pub among_reads : MaskedField → List ℕ → List ℕ → Reading
 among_reads f vs p =
-    reading_of (with (field_at f.place f.width p) (λ x. Some (is_one_of (masked f.mask x) vs)))
+    reading_of (with (field_at f.offset f.width p) (λ x. Some (is_one_of (masked f.mask x) vs)))
 
 -- the reading of a formula on a packet of original length n
 abbrev pub reads : Link → Formula → List ℕ → ℕ → Reading
@@ -78,7 +78,7 @@ reads link (Among f vs) p n = among_reads f vs p
 
 -- all of some tests
 abbrev pub all_of : List Elementary → Formula
-all_of [] = Single (Known true)
+all_of [] = Single (Outcome true)
 all_of (t ∷ []) = Single t
 all_of (t ∷ u ∷ ts) = Both (Single t) (all_of (u ∷ ts))
 

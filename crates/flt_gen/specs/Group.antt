@@ -18,7 +18,7 @@ use Rattle.flt_gen.specs.declared.elementary.FrameKind.TheVariants as kind
 use Rattle.flt_gen.specs.declared.elementary.Ports.TheVariants.{One, Several}
 use Rattle.flt_gen.specs.declared.elementary.Hosts.{Hosts}
 use Rattle.flt_gen.specs.declared.elementary.Hosts.TheVariants as hosts
-use Rattle.flt_gen.specs.declared.elementary.Elementary.TheVariants.{Known}
+use Rattle.flt_gen.specs.declared.elementary.Elementary.TheVariants.{Outcome}
 use Rattle.flt_gen.specs.Elementary.{kind_test}
 use Rattle.flt_gen.specs.Formula.{Formula, Single, Both, Either, Except, Guard, Choose}
 use Rattle.flt_gen.specs.Primitives.{address_places, net_test, net_sides, net_formula, any_sides, port_test, port_formula, qualified_formula}
@@ -123,21 +123,21 @@ hosts_formula link (Some Ip) wanted numbers = hosts_of_kind link kind.Ip wanted 
 hosts_formula link (Some Arp) wanted numbers = hosts_of_kind link kind.Arp wanted numbers
 hosts_formula link (Some Rarp) wanted numbers = hosts_of_kind link kind.Rarp wanted numbers
 hosts_formula link None wanted numbers = any_hosts link wanted numbers
-hosts_formula link (Some _) wanted numbers = Single (Known false)
+hosts_formula link (Some _) wanted numbers = Single (Outcome false)
 
 -- one member, and several
 abbrev pub one_formula : Link → ValueType → Option Protocol → Direction → ℕ → Formula
 one_formula link Host protocol direction n = net_formula link protocol (net_test direction None n)
 one_formula link Port protocol direction n =
     port_formula link (port_test protocol direction (One n)) []
-one_formula link _ protocol direction n = Single (Known false)
+one_formula link _ protocol direction n = Single (Outcome false)
 
 abbrev pub several_formula : Link → ValueType → Option Protocol → Direction → ℕ → List ℕ → Formula
 several_formula link Host protocol direction first numbers =
     hosts_formula link protocol (hosts.Several direction first) numbers
 several_formula link Port protocol direction first numbers =
     port_formula link (port_test protocol direction (Several first)) numbers
-several_formula link _ protocol direction first numbers = Single (Known false)
+several_formula link _ protocol direction first numbers = Single (Outcome false)
 
 abbrev pub formula_by : Link → Group → List ℕ → Formula
 formula_by link group (n ∷ []) =

@@ -12,12 +12,12 @@ use Rattle.flt_gen.specs.declared.elementary.FrameKind.TheVariants as frame
 use Rattle.flt_gen.specs.declared.link.Link.{Link}
 use Rattle.flt_gen.specs.declared.link.Link.TheVariants.{Raw}
 use Rattle.flt_gen.specs.Elementary.{Yes, Rejected, elementary_reads, kind_test, link_type}
-use Rattle.flt_gen.specs.declared.elementary.Elementary.TheVariants.{Known, Field}
+use Rattle.flt_gen.specs.declared.elementary.Elementary.TheVariants.{Outcome, Field}
 use Rattle.flt_gen.specs.Primitives.{ip6_tests}
 
 -- the bits of a word that a test looks at
 abbrev pub word_mask : Elementary → ℕ
-word_mask (Known b) = 0
+word_mask (Outcome b) = 0
 word_mask (Field t) = unwrap_or t.mask (2 ^ 32 - 1)
 
 -- joined, the masks of the tests of an IPv6 address or network are its mask
@@ -26,7 +26,8 @@ MasksJoin =
     (prefix : Option ℕ) (address at : ℕ) → number_from_digits (2 ^ 32)
     (map word_mask (ip6_tests prefix address at)) ≡ ip6_mask prefix
 
--- ---- an expression means by IPv4, IPv6, ARP and RARP what a line does, which goes by `network_header`
+-- ---- an expression means by IPv4, IPv6, ARP and RARP what a line does, which goes by
+-- `network_header`
 
 -- the frames of a kind of network header
 abbrev pub frame_kind : NetworkKind → FrameKind
@@ -44,9 +45,12 @@ carries link kind = true
 -- the test of a kind matches exactly the packets whose network header is of that kind
 abbrev pub MatchesKind : Type 0
 MatchesKind = (link : Link) (kind : NetworkKind) (p : List ℕ) → All (λ b. b < 2 ^ 8) p
-    → (elementary_reads (kind_test link (frame_kind kind)) p ≡ Yes) ↔ (network_header (link_type link) p ≡ Known kind)
+    → (elementary_reads (kind_test link (frame_kind kind)) p ≡ Yes)
+    ↔ (network_header (link_type link) p ≡ Known kind)
 
--- where the link has the kind, it rejects exactly those of which too little is captured; else it rejects none
+-- where the link has the kind, it rejects exactly those of which too little is captured; else it
+-- rejects none
 abbrev pub RejectsShort : Type 0
 RejectsShort = (link : Link) (kind : NetworkKind) (p : List ℕ) → All (λ b. b < 2 ^ 8) p
-    → (elementary_reads (kind_test link (frame_kind kind)) p ≡ Rejected) ↔ ((network_header (link_type link) p ≡ Short) × (carries link kind ≡ true))
+    → (elementary_reads (kind_test link (frame_kind kind)) p ≡ Rejected)
+    ↔ ((network_header (link_type link) p ≡ Short) × (carries link kind ≡ true))

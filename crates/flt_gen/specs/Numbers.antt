@@ -59,9 +59,12 @@ accessor_tests link Ip = kind_test link kind.Ip ∷ []
 accessor_tests link Ip6 = kind_test link kind.Ip6 ∷ []
 accessor_tests link Arp = kind_test link kind.Arp ∷ []
 accessor_tests link Rarp = kind_test link kind.Rarp ∷ []
-accessor_tests link Tcp = kind_test link kind.Ip ∷ has_ip_proto link IPPROTO_TCP ∷ first_fragment link ∷ []
-accessor_tests link Udp = kind_test link kind.Ip ∷ has_ip_proto link IPPROTO_UDP ∷ first_fragment link ∷ []
-accessor_tests link Icmp = kind_test link kind.Ip ∷ has_ip_proto link IPPROTO_ICMP ∷ first_fragment link ∷ []
+accessor_tests link Tcp =
+    kind_test link kind.Ip ∷ has_ip_proto link IPPROTO_TCP ∷ first_fragment link ∷ []
+accessor_tests link Udp =
+    kind_test link kind.Ip ∷ has_ip_proto link IPPROTO_UDP ∷ first_fragment link ∷ []
+accessor_tests link Icmp =
+    kind_test link kind.Ip ∷ has_ip_proto link IPPROTO_ICMP ∷ first_fragment link ∷ []
 accessor_tests link Icmp6 = kind_test link kind.Ip6 ∷ []
 
 -- the protocols of the accessors of arithmetic, in the order of their words, and then the rest

@@ -27,10 +27,10 @@ use Rattle.flt_gen.specs.declared.link.Link.{Link}
 use Rattle.flt_gen.specs.declared.link.Link.TheVariants.{Cooked}
 use Rattle.flt_gen.specs.declared.elementary.FrameKind.{FrameKind}
 use Rattle.flt_gen.specs.declared.elementary.FrameKind.TheVariants.{Ethernet, Ip, Ip6, Arp, Rarp}
-use Rattle.flt_gen.specs.declared.elementary.Place.{Place}
-use Rattle.flt_gen.specs.declared.elementary.Place.TheVariants.{At, Past}
+use Rattle.flt_gen.specs.declared.elementary.Offset.{Offset}
+use Rattle.flt_gen.specs.declared.elementary.Offset.TheVariants.{Fixed, AfterHeader}
 use Rattle.flt_gen.specs.declared.elementary.Elementary.{Elementary}
-use Rattle.flt_gen.specs.declared.elementary.Elementary.TheVariants.{Known, Field}
+use Rattle.flt_gen.specs.declared.elementary.Elementary.TheVariants.{Outcome, Field}
 use Rattle.flt_gen.specs.declared.elementary.MaskedField.{MaskedField}
 use Rattle.flt_gen.specs.declared.elementary.Ports.{Ports}
 use Rattle.flt_gen.specs.declared.elementary.Sides.{Sides}
@@ -72,7 +72,7 @@ proto_formula link (Some protocol.Ip) n = ip_proto link n
 proto_formula link (Some protocol.Ip6) n = ip6_proto link n
 proto_formula link (Some protocol.Ether) n = ether_proto link n
 proto_formula link None n = any_proto link n
-proto_formula link (Some _) n = Single (Known false)
+proto_formula link (Some _) n = Single (Outcome false)
 
 -- Ethernet addresses
 
@@ -89,27 +89,39 @@ ether_host link direction address =
 -- the lowest bit of an Ethernet address' first byte is set
 abbrev pub is_group_address : Elementary
 is_group_address =
-    Field (record { place = At 0; width = Byte; mask = Some 1; comparison = NotEqual; value = 0 })
+    Field (record {
+      offset = Fixed 0;
+      width = Byte;
+      mask = Some 1;
+      comparison = NotEqual;
+      value = 0;
+    })
 
 abbrev pub cast_formula : Link → Option Protocol → Cast → Formula
 cast_formula link None Broadcast = ether_host link (direction.One Destination) 0xffff_ffff_ffff
 cast_formula link (Some protocol.Ether) Broadcast =
     ether_host link (direction.One Destination) 0xffff_ffff_ffff
-cast_formula link (Some _) Broadcast = Single (Known false)
+cast_formula link (Some _) Broadcast = Single (Outcome false)
 cast_formula link (Some protocol.Ip) Multicast =
-    all_of (kind_test link Ip ∷ compares_at (At (network link + 16)) Byte AtLeast 224 ∷ [])
+    all_of (kind_test link Ip ∷ compares_at (Fixed (network link + 16)) Byte AtLeast 224 ∷ [])
 cast_formula link (Some protocol.Ip6) Multicast =
     all_of (kind_test link Ip6 ∷ is_at (network link + 24) Byte 255 ∷ [])
 cast_formula link None Multicast = all_of (kind_test link Ethernet ∷ is_group_address ∷ [])
 cast_formula link (Some protocol.Ether) Multicast =
     all_of (kind_test link Ethernet ∷ is_group_address ∷ [])
-cast_formula link (Some _) Multicast = Single (Known false)
+cast_formula link (Some _) Multicast = Single (Outcome false)
 
 -- IPv4 addresses and networks
 
-abbrev pub address_test : Option ℕ → ℕ → Place → Elementary
-address_test mask address place =
-    Field (record { place = place; width = Word; mask = mask; comparison = Equal; value = address })
+abbrev pub address_test : Option ℕ → ℕ → Offset → Elementary
+address_test mask address offset =
+    Field (record {
+      offset = offset;
+      width = Word;
+      mask = mask;
+      comparison = Equal;
+      value = address;
+    })
 
 -- how far behind the network header's start the addresses stand
 abbrev pub source_offset : FrameKind → ℕ
@@ -123,8 +135,8 @@ destination_offset _ = 24
 abbrev pub address_places : Link → FrameKind → Sides
 address_places link kind = record {
   width = Word;
-  source = At (network link + source_offset kind);
-  destination = At (network link + destination_offset kind);
+  source = Fixed (network link + source_offset kind);
+  destination = Fixed (network link + destination_offset kind);
 }
 
 abbrev pub net_tests : Sides → NetTest → Formula
@@ -145,7 +157,7 @@ net_formula link (Some protocol.Rarp) net = net_of_kind link Rarp net
 net_formula link None net =
     Choose (kind_test link Ip) (net_sides link Ip net)
     (Choose (kind_test link Arp) (net_sides link Arp net) (net_of_kind link Rarp net))
-net_formula link (Some _) net = Single (Known false)
+net_formula link (Some _) net = Single (Outcome false)
 
 abbrev pub net_test : Direction → Option ℕ → ℕ → NetTest
 net_test direction mask address = record { direction = direction; mask = mask; address = address }
@@ -155,7 +167,7 @@ net_test direction mask address = record { direction = direction; mask = mask; a
 abbrev pub ip6_test : Option ℕ → ℕ → ℕ → ℕ → Elementary
 ip6_test prefix address at word =
     address_test (option_map (λ bits. first_bits 32 (bits - 32 * word)) prefix)
-    (address / 2 ^ (96 - 32 * word) % 2 ^ 32) (At (at + 4 * word))
+    (address / 2 ^ (96 - 32 * word) % 2 ^ 32) (Fixed (at + 4 * word))
 
 abbrev pub ip6_tests : Option ℕ → ℕ → ℕ → List Elementary
 ip6_tests prefix address at =
@@ -171,8 +183,8 @@ ip6_formula link direction prefix address =
 -- destination is looked at: so a packet that ends between the two is read as by tests of one number
 -- after the other
 
-abbrev pub whole_field : Place → Width → MaskedField
-whole_field place width = record { place = place; width = width; mask = None }
+abbrev pub whole_field : Offset → Width → MaskedField
+whole_field offset width = record { offset = offset; width = width; mask = None }
 
 abbrev pub any_sides : Direction → Sides → ℕ → List ℕ → Formula
 any_sides (direction.One Source) at first numbers = Among (whole_field at.source at.width) numbers
@@ -182,16 +194,16 @@ any_sides (direction.Both Or) at first numbers =
     Either (Single (compares_at at.source at.width Equal first))
     (Either (Among (whole_field at.destination at.width) numbers)
     (Among (whole_field at.source at.width) numbers))
-any_sides (direction.Both And) at first numbers = Single (Known false)
+any_sides (direction.Both And) at first numbers = Single (Outcome false)
 
 -- ports
 
-abbrev pub port_is : ℕ → Place → List Elementary
-port_is n place = compares_at place HalfWord Equal n ∷ []
+abbrev pub port_is : ℕ → Offset → List Elementary
+port_is n offset = compares_at offset HalfWord Equal n ∷ []
 
-abbrev pub port_between : ℕ → ℕ → Place → List Elementary
-port_between a b place =
-    compares_at place HalfWord AtLeast a ∷ compares_at place HalfWord AtMost b ∷ []
+abbrev pub port_between : ℕ → ℕ → Offset → List Elementary
+port_between a b offset =
+    compares_at offset HalfWord AtLeast a ∷ compares_at offset HalfWord AtMost b ∷ []
 
 abbrev pub port_places : Transport → Sides
 port_places header = record {
@@ -214,7 +226,7 @@ abbrev pub transport : Option Protocol → Elementary → Elementary → Formula
 transport (Some protocol.Tcp) tcp udp f = Guard tcp f
 transport (Some protocol.Udp) tcp udp f = Guard udp f
 transport None tcp udp f = Fork tcp udp f
-transport (Some _) tcp udp f = Single (Known false)
+transport (Some _) tcp udp f = Single (Outcome false)
 
 -- a test, if there is one, and then a formula
 abbrev pub behind : Option Elementary → Formula → Formula
@@ -235,8 +247,8 @@ ip_transport link = record {
   tcp = has_ip_proto link IPPROTO_TCP;
   udp = has_ip_proto link IPPROTO_UDP;
   whole = Some (first_fragment link);
-  source = Past (network link) (network link);
-  destination = Past (network link) (network link + 2);
+  source = AfterHeader (network link) (network link);
+  destination = AfterHeader (network link) (network link + 2);
 }
 
 -- behind an IPv6 header
@@ -245,8 +257,8 @@ ip6_transport link = record {
   tcp = has_ip6_proto link IPPROTO_TCP;
   udp = has_ip6_proto link IPPROTO_UDP;
   whole = None;
-  source = At (network link + 40);
-  destination = At (network link + 42);
+  source = Fixed (network link + 40);
+  destination = Fixed (network link + 42);
 }
 
 abbrev pub port_formula : Link → PortTest → List ℕ → Formula
@@ -269,13 +281,13 @@ host_formula link protocol direction (value.Dotted dotted mask) =
 host_formula link protocol direction (value.Ip6 address prefix) =
     ip6_formula link direction None address
 host_formula link protocol direction (value.Mac address) = ether_host link direction address
-host_formula link protocol direction _ = Single (Known false)
+host_formula link protocol direction _ = Single (Outcome false)
 
 -- the network of IPv4 that a value means, if it means one
 abbrev pub ip4_formula : Link → Option Protocol → Direction → Option Ip4Net → Formula
 ip4_formula link protocol direction (Some net) =
     net_formula link protocol (net_test direction (Some net.mask) net.address)
-ip4_formula link protocol direction None = Single (Known false)
+ip4_formula link protocol direction None = Single (Outcome false)
 
 abbrev pub net_value_formula : Link → Option Protocol → Direction → Value → Formula
 net_value_formula link protocol direction (value.Ip6 address prefix) =
@@ -285,16 +297,16 @@ net_value_formula link protocol direction v = ip4_formula link protocol directio
 abbrev pub port_value_formula : Link → Option Protocol → Direction → Value → Formula
 port_value_formula link protocol direction (value.Number n mask) =
     port_formula link (port_test protocol direction (One n)) []
-port_value_formula link protocol direction _ = Single (Known false)
+port_value_formula link protocol direction _ = Single (Outcome false)
 
 abbrev pub range_value_formula : Link → Option Protocol → Direction → Value → Formula
 range_value_formula link protocol direction (value.Range a b) =
     port_formula link (port_test protocol direction (Between (min a b) (max a b))) []
-range_value_formula link protocol direction _ = Single (Known false)
+range_value_formula link protocol direction _ = Single (Outcome false)
 
 abbrev pub proto_value_formula : Link → Option Protocol → Value → Formula
 proto_value_formula link protocol (value.Number n mask) = proto_formula link protocol n
-proto_value_formula link protocol _ = Single (Known false)
+proto_value_formula link protocol _ = Single (Outcome false)
 
 abbrev pub value_formula : Link → ValueType → Option Protocol → Direction → Value → Formula
 value_formula link Host protocol direction v = host_formula link protocol direction v

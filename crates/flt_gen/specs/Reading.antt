@@ -3,7 +3,7 @@ use Rattle.std.specs.Prelude.{ℕ, false, List, []}
 use Rattle.flt_words.specs.declared.token.Join.TheVariants.{And, Or}
 use Rattle.flt_lang.specs.Tree.{TruthTree, check, cast, sized, bare, valued, qualified, compared, denied, joined, Expression, empty, truth}
 use Rattle.flt_gen.specs.declared.link.Link.{Link}
-use Rattle.flt_gen.specs.declared.elementary.Elementary.TheVariants.{Known}
+use Rattle.flt_gen.specs.declared.elementary.Elementary.TheVariants.{Outcome}
 use Rattle.flt_gen.specs.Elementary.{Reading, Yes}
 use Rattle.flt_gen.specs.Numbers.{accessors}
 use Rattle.flt_gen.specs.Formula.{Formula, Single, Compare, Both, Either, Except, checked_formula, reads}
@@ -14,8 +14,8 @@ abbrev pub formula : Link → TruthTree → Formula
 formula link (check protocol) = check_formula link protocol
 formula link (cast protocol c) = cast_formula link protocol c
 formula link (sized size n) = sized_formula size n
-formula link (bare v) = Single (Known false)
-formula link (valued quals v) = Single (Known false)
+formula link (bare v) = Single (Outcome false)
+formula link (valued quals v) = Single (Outcome false)
 formula link (qualified quals v) = qualified_formula link quals v
 formula link (compared c l r) = checked_formula link (accessors l (accessors r [])) (Compare c l r)
 formula link (denied a) = Except (formula link a)

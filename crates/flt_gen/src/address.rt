@@ -11,7 +11,7 @@ ghost use Rattle.flt_gen.specs.Primitives.{ip6_test, ip6_tests, ip6_formula};
 use crate::among::emit_any_sides;
 use crate::code::Code;
 use crate::context::Context;
-use crate::elementary::{Elementary, FieldTest, FrameKind, Hosts, NetTest, Place, Sides};
+use crate::elementary::{Elementary, FieldTest, FrameKind, Hosts, NetTest, Offset, Sides};
 use crate::emit::{emit_elementary, emit_sides};
 use crate::link::Link;
 use crate::table::{kind_test, network};
@@ -21,11 +21,11 @@ use flt_words::{Comparison, Protocol};
 use std::alloc::{AllocError, Allocator};
 
 /// The word at a place is an address, as far as the mask goes.
-fn address_test(mask: Option<u32>, address: u32, place: Place) -> Elementary
-    ensures { result ≡ address_test mask address place }
+fn address_test(mask: Option<u32>, address: u32, offset: Offset) -> Elementary
+    ensures { result ≡ address_test mask address offset }
 {
     Elementary::Field(FieldTest {
-        place,
+        offset,
         width: Width::Word,
         mask,
         comparison: Comparison::Equal,
@@ -44,8 +44,8 @@ fn address_places(link: Link, kind: FrameKind) -> Sides
     let start = network(link);
     Sides {
         width: Width::Word,
-        source: Place::At(start + source),
-        destination: Place::At(start + destination),
+        source: Offset::Fixed(start + source),
+        destination: Offset::Fixed(start + destination),
     }
 }
 
@@ -173,7 +173,7 @@ fn ip6_test(prefix: Option<u32>, address: u128, at: u32, word: u32) -> Elementar
         Some(bits) => Some(prefix_mask(bits.saturating_sub(32 * word))),
     };
     let part = address / 2u128.pow(96 - 32 * word) % 0x1_0000_0000;
-    address_test(mask, part as u32, Place::At(at + 4 * word))
+    address_test(mask, part as u32, Offset::Fixed(at + 4 * word))
 }
 
 fn ip6_tests(prefix: Option<u32>, address: u128, at: u32) -> [Elementary; 4]

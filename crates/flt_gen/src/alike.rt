@@ -5,6 +5,7 @@ ghost use Rattle.flt_bpf.specs.Instructions.{operation_of};
 ghost use Rattle.flt_gen.specs.Alike.{Replaces, reads_accumulator, reads_index};
 ghost use Rattle.flt_gen.specs.Alike.{sets_accumulator, sets_index, implied, fits, goes_on};
 ghost use Rattle.flt_gen.specs.Alike.{same_step, one_test, direct_code, is_number, direct_load};
+ghost use Rattle.flt_gen.specs.Alike.{is_indirect, adds_header, loads_alike, header_load};
 ghost use Rattle.flt_gen.specs.Alike.{stands, are_alike, begins};
 ghost use Rattle.flt_gen.specs.Layout.{JUMP};
 
@@ -225,6 +226,57 @@ fn direct_load(new: Insn, landing: Landing, old: Insn, after: &[Insn], behind: &
     }
 }
 
+/// A number and the header length are added in A, and the sum goes to X.
+fn adds_header(number: Insn, length: Insn, add: Insn, to_index: Insn) -> bool
+    ensures { result ≡ adds_header number length add to_index }
+{
+    (number.code == Operation::Load(Register::Accumulator, Source::Immediate).code()
+        && length.code == Operation::LoadHeaderLength.code())
+        && (add.code == Operation::Compute(AluOperation::Add, Operand::IndexRegister).code()
+            && to_index.code == Operation::CopyToIndex.code())
+}
+
+/// Two loads are the same header's length, and as many bytes behind X.
+fn loads_alike(old_length: Insn, new_length: Insn, old_load: Insn, new_load: Insn) -> bool
+    ensures { result ≡ loads_alike old_length new_length old_load new_load }
+{
+    (old_length.code == new_length.code && old_length.k == new_length.k)
+        && (is_indirect(old_load.code) && old_load.code == new_load.code)
+}
+
+fn is_indirect(code: u16) -> bool
+    ensures { result ≡ is_indirect (operation_of code) }
+{
+    matches!(decode(code), Some(Operation::LoadIndirect(_)))
+}
+
+/// They are the header length and a load behind it, for a number, the header length, their sum that
+/// goes to X by A, and a load behind X.
+#[tactic(auto, unfolding(crate::specs::Alike::header_load))]
+fn header_load(
+    new: &[Insn],
+    landing: Landing,
+    old: Insn,
+    after: &[Insn],
+    behind: &[Landing],
+) -> bool
+    ensures { result ≡ header_load new.now landing old after.now behind.now }
+{
+    match (new, after) {
+        ([length, load, ..], [header_length, add, to_index, indirect, ..]) => {
+            let way = Way {
+                old: 4,
+                new: 0,
+                place: landing.place.saturating_sub(1),
+            };
+            adds_header(old, *header_length, *add, *to_index)
+                && (loads_alike(*header_length, *length, *indirect, *load)
+                    && (old.k.wrapping_add(indirect.k) == load.k && fits(behind, way, true, false)))
+        }
+        _ => false,
+    }
+}
+
 /// The code does at a landing, if it is one, what an instruction and those behind it do.
 fn stands(code: &[Insn], landing: Landing, old: Insn, after: &[Insn], behind: &[Landing]) -> bool
     ensures { result ≡ stands code.now landing old after.now behind.now }
@@ -235,13 +287,14 @@ fn stands(code: &[Insn], landing: Landing, old: Insn, after: &[Insn], behind: &[
     if landing.place > code.len() {
         return false;
     }
-    match code.get(code.len() - landing.place) {
-        None => false,
-        Some(new) => {
+    let from = &code[code.len() - landing.place..];
+    match from {
+        [] => false,
+        [new, ..] => {
             let new = *new;
-            same_step(new, landing, old, behind)
-                || (one_test(new, landing, old, after, behind)
-                    || direct_load(new, landing, old, after, behind))
+            (same_step(new, landing, old, behind) || one_test(new, landing, old, after, behind))
+                || (direct_load(new, landing, old, after, behind)
+                    || header_load(from, landing, old, after, behind))
         }
     }
 }

@@ -8,7 +8,7 @@ ghost use Rattle.flt_gen.specs.Emits.{HasRoom, Emits, EmitsFormula};
 
 use crate::code::{Code, Targets};
 use crate::context::Context;
-use crate::elementary::{Elementary, Fact, MaskedField, Place, Sides};
+use crate::elementary::{Elementary, Fact, MaskedField, Offset, Sides};
 use crate::emit::{emit_elementary, emit_field, emit_mask};
 use crate::table::compares_at;
 use flt_bpf::operation::{Operand, Test, Width};
@@ -74,24 +74,28 @@ fn emit_among<A: Allocator>(
     ensures { EmitsFormula (6 * length values.now + 6) result context (Among field values.now)
         code.old code.new }
 {
-    let test = Elementary::Known(true);
+    let test = Elementary::Outcome(true);
     let always = Fact { test, truth: true };
     let (known, to) = (context.known, context.to);
     let to = Targets {
-        yes: code.target(known, field.place, always, to.yes),
-        no: code.target(known, field.place, always, to.no),
+        yes: code.target(known, field.offset, always, to.yes),
+        no: code.target(known, field.offset, always, to.no),
     };
     emit_search(code, LEVELS, values, to)?;
     emit_mask(code, field.mask)?;
-    emit_field(code, field.place, field.width)?;
+    emit_field(code, field.offset, field.width)?;
     Ok(code.top())
 }
 
-fn whole_field(place: Place, width: Width) -> MaskedField
-    ensures { result ≡ whole_field place width }
+fn whole_field(offset: Offset, width: Width) -> MaskedField
+    ensures { result ≡ whole_field offset width }
 {
     let mask = None;
-    MaskedField { place, width, mask }
+    MaskedField {
+        offset,
+        width,
+        mask,
+    }
 }
 
 /// One of several numbers on a side, or on either. The source is compared with the first number

@@ -6,7 +6,7 @@ ghost use Rattle.flt_gen.specs.Follow.{step_from, follow, followed_place, entry_
 ghost use Rattle.flt_gen.specs.Code.{plain, emit_jump, reach, emit_branch};
 ghost use Rattle.flt_gen.specs.Emits.{HasRoom};
 
-use crate::elementary::{Elementary, Fact, Place};
+use crate::elementary::{Elementary, Fact, Offset};
 use crate::follow::{Knowledge, onward, past_index};
 use flt_bpf::insn::Insn;
 use flt_bpf::operation::{Operand, Operation, Test};
@@ -208,7 +208,7 @@ impl<A: Allocator> Code<A> {
     {
         let (latest, earlier, earliest) = (known.latest, known.earlier, known.earliest);
         // Of two tests of which the link decides one nothing is known.
-        if let Elementary::Known(_) = known.either.first {
+        if let Elementary::Outcome(_) = known.either.first {
             return self.follow(&[own, latest, earlier, earliest], place);
         }
         let first = Fact {
@@ -229,7 +229,7 @@ impl<A: Allocator> Code<A> {
     }
 
     /// Where code is entered behind a test at a place.
-    fn entry_at(&self, tested: Place, place: usize) -> usize
+    fn entry_at(&self, tested: Offset, place: usize) -> usize
         ensures { result ≡ entry_at tested self.now place }
     {
         let within = place.min(self.top());
@@ -239,7 +239,7 @@ impl<A: Allocator> Code<A> {
     /// Where a jump behind a test at a place goes, which is taken where a fact holds: its target
     /// followed, and past a load of the header length that is in X already.
     #[tactic(auto, unfolding(crate::specs::Follow::target))]
-    pub fn target(&self, known: Knowledge, tested: Place, own: Fact, place: usize) -> usize
+    pub fn target(&self, known: Knowledge, tested: Offset, own: Fact, place: usize) -> usize
         ensures { result ≡ target self.now known tested own place }
     {
         self.entry_at(tested, self.followed_place(known, own, place))

@@ -17,20 +17,20 @@ pub enum FrameKind {
     Rarp,
 }
 
-/// Where a field stands.
+/// Where a field stands, in bytes.
 #[derive(Clone, Copy)]
-pub enum Place {
+pub enum Offset {
     /// So many bytes behind the start of the packet.
-    At(u32),
-    /// Behind the header that begins at the first place: the second number and the header's length
+    Fixed(u32),
+    /// Behind the header that begins at the first offset: the second number and the header's length
     /// are added up, which the low half of its first byte gives in words of 4 bytes.
-    Past(u32, u32),
+    AfterHeader(u32, u32),
 }
 
 /// A field: where it stands, how wide it is, and the mask where not all of its bits count.
 #[derive(Clone, Copy)]
 pub struct MaskedField {
-    pub place: Place,
+    pub offset: Offset,
     pub width: Width,
     pub mask: Option<u32>,
 }
@@ -39,7 +39,7 @@ pub struct MaskedField {
 /// number.
 #[derive(Clone, Copy)]
 pub struct FieldTest {
-    pub place: Place,
+    pub offset: Offset,
     pub width: Width,
     pub mask: Option<u32>,
     pub comparison: Comparison,
@@ -49,7 +49,7 @@ pub struct FieldTest {
 /// A test that the link type alone decides, or a test of a field.
 #[derive(Clone, Copy)]
 pub enum Elementary {
-    Known(bool),
+    Outcome(bool),
     Field(FieldTest),
 }
 
@@ -91,16 +91,16 @@ pub struct Transport {
     pub tcp: Elementary,
     pub udp: Elementary,
     pub whole: Option<Elementary>,
-    pub source: Place,
-    pub destination: Place,
+    pub source: Offset,
+    pub destination: Offset,
 }
 
 /// Where a source and a destination stand, and how wide they are.
 #[derive(Clone, Copy)]
 pub struct Sides {
     pub width: Width,
-    pub source: Place,
-    pub destination: Place,
+    pub source: Offset,
+    pub destination: Offset,
 }
 
 /// A test of IPv4 addresses: the sides, the mask where not the whole address counts, and the

@@ -8,7 +8,7 @@ ghost use Rattle.flt_gen.specs.Emits.{HasRoom, Emits, EmitsFormula};
 
 use crate::code::{Code, Targets};
 use crate::context::Context;
-use crate::elementary::{Elementary, Fact, FieldTest, Place};
+use crate::elementary::{Elementary, Fact, FieldTest, Offset};
 use flt_bpf::operation::{AluOperation, Operand, Operation, Test, Width};
 use flt_lang::Direction;
 use flt_words::{Comparison, Join, Side};
@@ -17,14 +17,14 @@ use std::alloc::{AllocError, Allocator};
 /// A field goes into A.
 pub fn emit_field<A: Allocator>(
     code: &mut Code<A>,
-    place: Place,
+    offset: Offset,
     width: Width,
 ) -> Result<(), AllocError>
-    ensures { OnOk result (code.new ≡ emit_field place width code.old) }
+    ensures { OnOk result (code.new ≡ emit_field offset width code.old) }
 {
-    match place {
-        Place::At(at) => code.emit_plain(Operation::LoadAbsolute(width), at),
-        Place::Past(header, at) => {
+    match offset {
+        Offset::Fixed(at) => code.emit_plain(Operation::LoadAbsolute(width), at),
+        Offset::AfterHeader(header, at) => {
             code.emit_plain(Operation::LoadIndirect(width), at)?;
             code.emit_plain(Operation::LoadHeaderLength, header)
         }
@@ -80,7 +80,7 @@ fn emit_test<A: Allocator>(
 {
     emit_comparison(code, test.comparison, Operand::Constant, test.value, to)?;
     emit_mask(code, test.mask)?;
-    emit_field(code, test.place, test.width)
+    emit_field(code, test.offset, test.width)
 }
 
 /// One test. What the link type alone decides takes no code. The result is where the test begins.
@@ -94,13 +94,13 @@ pub fn emit_elementary<A: Allocator>(
 {
     let (known, to) = (context.known, context.to);
     match test {
-        Elementary::Known(true) => Ok(to.yes),
-        Elementary::Known(false) => Ok(to.no),
+        Elementary::Outcome(true) => Ok(to.yes),
+        Elementary::Outcome(false) => Ok(to.no),
         Elementary::Field(field) => {
             let (yes, no) = (Fact { test, truth: true }, Fact { test, truth: false });
             let to = Targets {
-                yes: code.target(known, field.place, yes, to.yes),
-                no: code.target(known, field.place, no, to.no),
+                yes: code.target(known, field.offset, yes, to.yes),
+                no: code.target(known, field.offset, no, to.no),
             };
             emit_test(code, field, to)?;
             Ok(code.top())

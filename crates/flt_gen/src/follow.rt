@@ -6,7 +6,7 @@ ghost use Rattle.flt_gen.specs.Follow.{same_mask, looks_at, test_says, known_out
 ghost use Rattle.flt_gen.specs.Follow.{past_load, onward, past_index, nothing, fact, and_fact};
 ghost use Rattle.flt_gen.specs.Follow.{and_fork};
 
-use crate::elementary::{Alternatives, Elementary, Fact, FieldTest, Place};
+use crate::elementary::{Alternatives, Elementary, Fact, FieldTest, Offset};
 use flt_bpf::insn::Insn;
 use flt_bpf::operation::{AluOperation, Operand, Operation, Test};
 use flt_words::Comparison;
@@ -33,8 +33,8 @@ struct Look {
 fn looks_at(test: FieldTest, look: Look) -> bool
     ensures { result ≡ looks_at test look.load look.at look.mask }
 {
-    match (test.comparison, test.place) {
-        (Comparison::Equal, Place::At(at)) => {
+    match (test.comparison, test.offset) {
+        (Comparison::Equal, Offset::Fixed(at)) => {
             let load = Operation::LoadAbsolute(test.width).code();
             at == look.at && (load == look.load && same_mask(test.mask, look.mask))
         }
@@ -47,7 +47,7 @@ fn says(fact: Fact, look: Look, value: u32) -> Option<bool>
     ensures { result ≡ test_says fact.test fact.truth look.load look.at look.mask value }
 {
     match fact.test {
-        Elementary::Known(_) => None,
+        Elementary::Outcome(_) => None,
         Elementary::Field(test) => {
             if looks_at(test, look) {
                 let same = test.value == value;
@@ -90,7 +90,7 @@ impl Knowledge {
     pub fn nothing() -> Self
         ensures { result ≡ nothing }
     {
-        let test = Elementary::Known(true);
+        let test = Elementary::Outcome(true);
         let always = Fact { test, truth: true };
         Knowledge {
             latest: always,
@@ -216,12 +216,12 @@ pub fn onward(behind: &[Insn], facts: &[Fact], place: usize) -> usize
 
 /// Where code is entered behind a test at a place: past its first load if that loads the header
 /// length that the test left in X. The instructions are given from the last to the first.
-pub fn past_index(behind: &[Insn], tested: Place, place: usize) -> usize
+pub fn past_index(behind: &[Insn], tested: Offset, place: usize) -> usize
     ensures { result ≡ past_index tested place (reverse behind.now) }
 {
     match tested {
-        Place::At(_) => place,
-        Place::Past(header, _) => match first_insn(behind) {
+        Offset::Fixed(_) => place,
+        Offset::AfterHeader(header, _) => match first_insn(behind) {
             None => place,
             Some((insn, others)) => {
                 if insn.code == Operation::LoadHeaderLength.code() && insn.k == header {

@@ -9,7 +9,7 @@ ghost use Rattle.flt_gen.specs.Primitives.{ip6_transport, port_formula};
 use crate::among::emit_any_sides;
 use crate::code::Code;
 use crate::context::Context;
-use crate::elementary::{Elementary, FrameKind, Place, PortTest, Ports, Sides, Transport};
+use crate::elementary::{Elementary, FrameKind, Offset, PortTest, Ports, Sides, Transport};
 use crate::emit::{emit_elementary, emit_fork, emit_sides};
 use crate::link::Link;
 use crate::table::{compares_at, first_fragment, has_ip_proto, has_ip6_proto, kind_test, network};
@@ -30,19 +30,19 @@ fn port_places(header: Transport) -> Sides
 }
 
 /// A port at a place.
-fn port_is(port: u32, place: Place) -> [Elementary; 1]
-    ensures { result ≡ port_is port place }
+fn port_is(port: u32, offset: Offset) -> [Elementary; 1]
+    ensures { result ≡ port_is port offset }
 {
-    [compares_at(place, Width::HalfWord, Comparison::Equal, port)]
+    [compares_at(offset, Width::HalfWord, Comparison::Equal, port)]
 }
 
 /// A port at a place that is in a range.
-fn port_between(first: u32, last: u32, place: Place) -> [Elementary; 2]
-    ensures { result ≡ port_between first last place }
+fn port_between(first: u32, last: u32, offset: Offset) -> [Elementary; 2]
+    ensures { result ≡ port_between first last offset }
 {
     [
-        compares_at(place, Width::HalfWord, Comparison::AtLeast, first),
-        compares_at(place, Width::HalfWord, Comparison::AtMost, last),
+        compares_at(offset, Width::HalfWord, Comparison::AtLeast, first),
+        compares_at(offset, Width::HalfWord, Comparison::AtMost, last),
     ]
 }
 
@@ -151,8 +151,8 @@ fn ip_transport(link: Link) -> Transport
         tcp: has_ip_proto(link, IPPROTO_TCP.into()),
         udp: has_ip_proto(link, IPPROTO_UDP.into()),
         whole: Some(first_fragment(link)),
-        source: Place::Past(start, start),
-        destination: Place::Past(start, start + 2),
+        source: Offset::AfterHeader(start, start),
+        destination: Offset::AfterHeader(start, start + 2),
     }
 }
 
@@ -164,8 +164,8 @@ fn ip6_transport(link: Link) -> Transport
         tcp: has_ip6_proto(link, IPPROTO_TCP.into()),
         udp: has_ip6_proto(link, IPPROTO_UDP.into()),
         whole: None,
-        source: Place::At(start + 40),
-        destination: Place::At(start + 42),
+        source: Offset::Fixed(start + 40),
+        destination: Offset::Fixed(start + 42),
     }
 }
 

@@ -9,7 +9,7 @@ ghost use Rattle.flt_gen.specs.Primitives.{ether_host, mac_tests, is_group_addre
 
 use crate::code::Code;
 use crate::context::Context;
-use crate::elementary::{Elementary, FieldTest, FrameKind, Place};
+use crate::elementary::{Elementary, FieldTest, FrameKind, Offset};
 use crate::emit::{emit_all, emit_elementary, emit_sides};
 use crate::link::Link;
 use crate::table::{compares_at, has_ip_proto, has_ip6_proto, is_at, kind_test, network};
@@ -163,7 +163,7 @@ fn is_group_address() -> Elementary
     ensures { result ≡ is_group_address }
 {
     Elementary::Field(FieldTest {
-        place: Place::At(0),
+        offset: Offset::Fixed(0),
         width: Width::Byte,
         mask: Some(1),
         comparison: Comparison::NotEqual,
@@ -193,7 +193,7 @@ pub fn emit_cast<A: Allocator>(
             emit_all(code, context, &tests)
         }
         (Cast::Multicast, Some(Protocol::Ip)) => {
-            let first = Place::At(network(link) + 16);
+            let first = Offset::Fixed(network(link) + 16);
             let is_high = compares_at(first, Width::Byte, Comparison::AtLeast, 224);
             emit_all(code, context, &[kind_test(link, FrameKind::Ip), is_high])
         }

@@ -168,10 +168,31 @@ impl<A: Allocator> Shortening<'_, A> {
         }
     }
 
+    /// The header length and a load behind it for the number at a place, if it is only added to the
+    /// header length for the place of a load.
+    fn header_load_at(&self, at: usize) -> Option<(Insn, Insn)> {
+        let number = self.insn_at(at)?;
+        let length = self.insn_at(behind(at, 0))?;
+        let (sum, copy) = (self.insn_at(behind(at, 1))?, self.insn_at(behind(at, 2))?);
+        let load = self.insn_at(behind(at, 3))?;
+        let is_place = number.code
+            == Operation::Load(Register::Accumulator, Source::Immediate).code()
+            && length.code == Operation::LoadHeaderLength.code()
+            && sum.code == Operation::Compute(AluOperation::Add, Operand::IndexRegister).code()
+            && copy.code == Operation::CopyToIndex.code()
+            && matches!(decode(load.code), Some(Operation::LoadIndirect(_)));
+        if !is_place || self.landing_at(behind(at, 4)).index {
+            return None;
+        }
+        let k = number.k.wrapping_add(load.k);
+        Some((length, Insn { k, ..load }))
+    }
+
     /// An instruction in front replaces this one too.
     fn is_joined(&self, at: usize) -> bool {
         at >= 1 && (self.bits_at(at - 1).is_some() || self.load_at(at - 1).is_some())
             || at >= 2 && self.load_at(at - 2).is_some()
+            || (1..=4).any(|before| at >= before && self.header_load_at(at - before).is_some())
     }
 
     /// The place of such a test with such targets, if there is one.
@@ -201,7 +222,6 @@ impl<A: Allocator> Shortening<'_, A> {
         no: usize,
     ) -> Result<(), AllocError> {
         let (yes, no) = (self.landing_at(yes), self.landing_at(no));
-        self.land(at, NOWHERE);
         let Some(operation) = decode(insn.code) else {
             return Ok(());
         };
@@ -275,11 +295,10 @@ impl<A: Allocator> Shortening<'_, A> {
 
     /// Another instruction, behind which the run goes on where one of the old code lands.
     fn emit_plain(&mut self, at: usize, insn: Insn, next: usize) -> Result<(), AllocError> {
-        self.land(at, NOWHERE);
+        let landing = self.landing_at(next);
         let Some(operation) = decode(insn.code) else {
             return Ok(());
         };
-        let landing = self.landing_at(next);
         if landing.place == 0 {
             return Ok(());
         }
@@ -302,8 +321,9 @@ impl<A: Allocator> Shortening<'_, A> {
         let Some(insn) = self.insn_at(at) else {
             return Ok(());
         };
-        if self.landing_at(at).place == 0 || self.is_joined(at) {
-            self.land(at, NOWHERE);
+        let is_reached = self.landing_at(at).place > 0;
+        self.land(at, NOWHERE);
+        if !is_reached || self.is_joined(at) {
             return Ok(());
         }
         if let Some(test) = self.bits_at(at) {
@@ -312,6 +332,10 @@ impl<A: Allocator> Shortening<'_, A> {
         }
         if let Some(load) = self.load_at(at) {
             return self.emit_plain(at, load, behind(at, 2));
+        }
+        if let Some((length, load)) = self.header_load_at(at) {
+            self.emit_plain(at, load, behind(at, 4))?;
+            return self.emit_plain(at, length, at);
         }
         match decode(insn.code) {
             Some(Operation::JumpIf(_, _)) => {

@@ -4,7 +4,7 @@ ghost use Rattle.std.specs.Prelude.{◌≡◌, ◌≤◌, Some, None};
 ghost use Rattle.flt_gen.specs.Elementary.{network, is_at, is_masked, compares_at, kind_test};
 ghost use Rattle.flt_gen.specs.Elementary.{first_fragment, has_ip_proto, has_ip6_proto};
 
-use crate::elementary::{Elementary, FieldTest, FrameKind, Place};
+use crate::elementary::{Elementary, FieldTest, FrameKind, Offset};
 use crate::link::Link;
 use cap_octet::assigned::{
     ETHERNET_HEADER_LENGTH, ETHERNET_TYPE_OFFSET, ETHERTYPE_ARP, ETHERTYPE_IPV4, ETHERTYPE_IPV6,
@@ -29,7 +29,7 @@ pub fn network(link: Link) -> u32
 pub fn is_at(at: u32, width: Width, value: u32) -> Elementary
     ensures { result ≡ is_at at width value }
 {
-    compares_at(Place::At(at), width, Comparison::Equal, value)
+    compares_at(Offset::Fixed(at), width, Comparison::Equal, value)
 }
 
 /// The bits of a field under a mask are a number.
@@ -37,7 +37,7 @@ fn is_masked(at: u32, width: Width, mask: u32, value: u32) -> Elementary
     ensures { result ≡ is_masked at width mask value }
 {
     Elementary::Field(FieldTest {
-        place: Place::At(at),
+        offset: Offset::Fixed(at),
         width,
         mask: Some(mask),
         comparison: Comparison::Equal,
@@ -46,11 +46,11 @@ fn is_masked(at: u32, width: Width, mask: u32, value: u32) -> Elementary
 }
 
 /// A field compares so with a number.
-pub fn compares_at(place: Place, width: Width, comparison: Comparison, value: u32) -> Elementary
-    ensures { result ≡ compares_at place width comparison value }
+pub fn compares_at(offset: Offset, width: Width, comparison: Comparison, value: u32) -> Elementary
+    ensures { result ≡ compares_at offset width comparison value }
 {
     Elementary::Field(FieldTest {
-        place,
+        offset,
         width,
         mask: None,
         comparison,
@@ -71,17 +71,17 @@ pub fn kind_test(link: Link, kind: FrameKind) -> Elementary
     ensures { result ≡ kind_test link kind }
 {
     match (link, kind) {
-        (Link::Ether, FrameKind::Ethernet) => Elementary::Known(true),
+        (Link::Ether, FrameKind::Ethernet) => Elementary::Outcome(true),
         (Link::Ether, FrameKind::Ip) => has_type(ETHERNET_TYPE_OFFSET, ETHERTYPE_IPV4),
         (Link::Ether, FrameKind::Ip6) => has_type(ETHERNET_TYPE_OFFSET, ETHERTYPE_IPV6),
         (Link::Ether, FrameKind::Arp) => has_type(ETHERNET_TYPE_OFFSET, ETHERTYPE_ARP),
         (Link::Ether, FrameKind::Rarp) => has_type(ETHERNET_TYPE_OFFSET, ETHERTYPE_RARP),
         (Link::Raw, FrameKind::Ip) => is_masked(0, Width::Byte, 0xf0, 0x40),
         (Link::Raw, FrameKind::Ip6) => is_masked(0, Width::Byte, 0xf0, 0x60),
-        (Link::Raw, FrameKind::Ethernet | FrameKind::Arp | FrameKind::Rarp) => Elementary::Known(
+        (Link::Raw, FrameKind::Ethernet | FrameKind::Arp | FrameKind::Rarp) => Elementary::Outcome(
             false,
         ),
-        (Link::Cooked, FrameKind::Ethernet) => Elementary::Known(false),
+        (Link::Cooked, FrameKind::Ethernet) => Elementary::Outcome(false),
         (Link::Cooked, FrameKind::Ip) => has_type(LINUX_SLL_TYPE_OFFSET, ETHERTYPE_IPV4),
         (Link::Cooked, FrameKind::Ip6) => has_type(LINUX_SLL_TYPE_OFFSET, ETHERTYPE_IPV6),
         (Link::Cooked, FrameKind::Arp) => has_type(LINUX_SLL_TYPE_OFFSET, ETHERTYPE_ARP),
