@@ -19,7 +19,8 @@ abbrev pub most_ranges : ℕ
 most_ranges = 512
 
 abbrev pub has_proper_ranges : List (ℕ × ℕ) → Bool
-has_proper_ranges ranges = nat_le (length ranges) most_ranges && list_all (λ range. is_range range.0 range.1) ranges
+has_proper_ranges ranges =
+    nat_le (length ranges) most_ranges && list_all (λ range. is_range range.0 range.1) ranges
 
 -- how many inputs a merge or a report has at most
 abbrev pub most_inputs : ℕ
@@ -47,23 +48,28 @@ most_window = 1_000_000
 abbrev pub is_window : ℕ → Bool
 is_window n = nat_le 2 n && nat_le n most_window
 
--- ranges, times, the bytes that are kept, a shift and a window keep their bounds, where there are some
+-- ranges, times, the bytes that are kept, a shift and a window keep their bounds, where there are
+-- some
 abbrev pub is_proper_edit : {Z : Type 0} → Edit Z → Bool
 is_proper_edit edit =
-    has_proper_ranges edit.ranges.items && (option_map_or is_time edit.start true && (option_map_or is_time edit.stop true
-    && (option_map_or is_at_least_one edit.snap true && (is_proper_shift edit.shift && option_map_or is_window edit.window true))))
+    has_proper_ranges edit.ranges.items
+    && (option_map_or is_time edit.start true && (option_map_or is_time edit.stop true
+    && (option_map_or is_at_least_one edit.snap true
+    && (is_proper_shift edit.shift && option_map_or is_window edit.window true))))
 
 -- words and a listing exclude each other
 abbrev pub has_one_filter : {X : Type 0} → List ℕ → Option X → Bool
 has_one_filter words code = nat_eq (length words) 0 || is_none code
 
--- where the packets themselves are written there are no lines, to which link headers or bytes could be added
+-- where the packets themselves are written there are no lines, to which link headers or bytes could
+-- be added
 abbrev pub has_one_output : {X : Type 0} → (link bytes : Bool) → Option X → Bool
 has_one_output link bytes write = is_none write || not (link || bytes)
 
 abbrev pub is_proper_print : {Z : Type 0} → Print Z → Bool
 is_proper_print print =
-    has_one_filter (string_bytes print.expr) print.code && (has_one_output print.link print.bytes print.write
+    has_one_filter (string_bytes print.expr) print.code
+    && (has_one_output print.link print.bytes print.write
     && option_map_or is_at_least_one print.count true)
 
 -- what a command and the number of its inputs keep

@@ -24,10 +24,12 @@ pub record IsSettled (tree e : Expression) : Type 0 where
   pub fills : e ≡ filled tree
   pub sound : check_fault e ≡ None
 
--- the first fault of a tree: what doesn't fit a value (E7 to E9), else one of the whole (E10 to E12)
+-- the first fault of a tree: what doesn't fit a value (E7 to E9), else one of the whole (E10 to
+-- E12)
 abbrev pub HasFault : Expression → ExprFault → Type 0
 HasFault tree refusal =
-    (fill_fault tree ≡ Some refusal) ⊎ ((fill_fault tree ≡ None) × (check_fault (filled tree) ≡ Some refusal))
+    (fill_fault tree ≡ Some refusal)
+    ⊎ ((fill_fault tree ≡ None) × (check_fault (filled tree) ≡ Some refusal))
 
 -- the text is an expression, and this is its tree with all that is left out filled in
 pub record IsExpression (text : List ℕ) (e : Expression) : Type 0 where
@@ -35,13 +37,17 @@ pub record IsExpression (text : List ℕ) (e : Expression) : Type 0 where
   pub read : HasTree text tree
   pub settled : IsSettled tree e
 
--- the text is refused by the first of its faults: that of its tokens (E1 to E4), of their nesting (E6), of the grammar (E5),
--- of their tree
+-- the text is refused by the first of its faults: that of its tokens (E1 to E4), of their nesting
+-- (E6), of the grammar (E5), of their tree
 pub data IsTextRefused (text : List ℕ) : ExprFault → Type 0 where
   by_tokens : {refusal : ExprFault} → Tokens text (Err refusal) → IsTextRefused text refusal
-  too_deep : {tokens : List Token} → Tokens text (Ok tokens) → IsTooDeep tokens → IsTextRefused text fault.NestedTooDeep
-  no_tree : {tokens : List Token} → Tokens text (Ok tokens) → ¬ IsTooDeep tokens → ((tree : Expression) → Reads (kinds_of tokens) tree → ⊥) → IsTextRefused text fault.NotAnExpression
-  by_tree : {tree : Expression} {refusal : ExprFault} → HasTree text tree → HasFault tree refusal → IsTextRefused text refusal
+  too_deep : {tokens : List Token} → Tokens text (Ok tokens) → IsTooDeep tokens
+      → IsTextRefused text fault.NestedTooDeep
+  no_tree : {tokens : List Token} → Tokens text (Ok tokens) → ¬ IsTooDeep tokens
+      → ((tree : Expression) → Reads (kinds_of tokens) tree → ⊥)
+      → IsTextRefused text fault.NotAnExpression
+  by_tree : {tree : Expression} {refusal : ExprFault} → HasTree text tree → HasFault tree refusal
+      → IsTextRefused text refusal
 
 -- Why there is no tree of a text: it is refused; memory may be refused whatever the text is.
 abbrev pub IsTextFault : List ℕ → ExprFault → Type 0

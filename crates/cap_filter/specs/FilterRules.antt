@@ -66,7 +66,8 @@ IsWhy words None (refusal.Listing fault) = ⊥
 IsWhy words None (refusal.Program fault at) = ⊥
 IsWhy words (Some text) (refusal.Expression fault) = ⊥
 IsWhy words (Some text) (refusal.Listing fault) = listing.IsReasonFor text fault
-IsWhy words (Some text) (refusal.Program fault at) = (prog : List Insn) × IsListing text prog × BreaksFirst prog fault at
+IsWhy words (Some text) (refusal.Program fault at) =
+    (prog : List Insn) × IsListing text prog × BreaksFirst prog fault at
 
 -- the bytes of a listing, where there is one
 abbrev pub listing_of : {Z : Type 0} → Print Z → Option (List ℕ)

@@ -23,10 +23,12 @@ programs_of filter.All = []
 programs_of (filter.Expression compiled) = compiled.programs
 programs_of (filter.Listing program) = program ∷ []
 
--- the programs of a filter that is just made: they are programs for what the rule asks, and none has run
+-- the programs of a filter that is just made: they are programs for what the rule asks, and none
+-- has run
 abbrev pub AreNew : Rule → List Content → Type 0
 AreNew (by_reading empty) programs = programs ≡ []
-AreNew (by_reading (truth a)) programs = AreMade (truth a) link_types programs × All (λ program. program.spent ≡ 0) programs
+AreNew (by_reading (truth a)) programs =
+    AreMade (truth a) link_types programs × All (λ program. program.spent ≡ 0) programs
 AreNew (by_answer prog) programs = programs ≡ record { insns = prog; spent = 0 } ∷ []
 
 -- the place of the program that decides the packets of a link type, if one is needed
@@ -35,7 +37,8 @@ place_by (by_reading empty) n = None
 place_by (by_reading (truth a)) n = row_of_link_type n
 place_by (by_answer prog) n = Some 0
 
--- how many instructions deciding a packet meets at most: what the bound of the expression says, or all of a listing's
+-- how many instructions deciding a packet meets at most: what the bound of the expression says, or
+-- all of a listing's
 abbrev pub most_cost : Rule → ℕ
 most_cost (by_reading empty) = 0
 most_cost (by_reading (truth a)) = bound_of (truth a)

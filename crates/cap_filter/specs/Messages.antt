@@ -16,7 +16,8 @@ line_feed = 10 ∷ []
 -- a fault at an offset of an input
 abbrev pub fault_message : List ℕ → ℕ → Fault → List ℕ
 fault_message name offset fault =
-    codes "capkit: " ++ name ++ codes ": offset " ++ decimal offset ++ codes ": " ++ fault_text fault ++ line_feed
+    codes "capkit: " ++ name ++ codes ": offset " ++ decimal offset ++ codes ": "
+    ++ fault_text fault ++ line_feed
 
 -- the output's device failed
 abbrev pub write_failed_message : List ℕ → List ℕ

@@ -15,12 +15,14 @@ abbrev pub output_view : List ℕ → ℕ → OutputView
 output_view written failures = record { written = written; failures = failures }
 
 -- A message is written whole; or it is lost, in whole or past a beginning, where its device failed.
-pub record IsTold (tells : Bool) (old : OutputView) (message : List ℕ) (new : OutputView) : Type 0 where
+pub record IsTold (tells : Bool) (old : OutputView) (message : List ℕ)
+    (new : OutputView) : Type 0 where
   pub answer : Result (Unit {0}) DeviceFault
   pub told : IsTrue tells → AppendsOrStops answer old.written message new.written
   pub counted : new.failures ≡ old.failures + failures_of answer
 
--- what a run leaves that ends by some message, `tells` being whether the messages' device tells its bytes
+-- what a run leaves that ends by some message, `tells` being whether the messages' device tells its
+-- bytes
 pub record Runs (leaves : List ℕ → Type 0) (tells : Bool) (err err' : OutputView) : Type 0 where
   pub message : List ℕ
   pub left : leaves message
@@ -31,7 +33,8 @@ pub record Runs (leaves : List ℕ → Type 0) (tells : Bool) (err err' : Output
 -- ---- the ways in which a run ends
 
 -- The output's device failed in this run, after a prefix of these bytes, not the whole.
-pub record OutputFails (bytes name : List ℕ) (out out' : OutputView) (message : List ℕ) (status : ℕ) : Type 0 where
+pub record OutputFails (bytes name : List ℕ) (out out' : OutputView) (message : List ℕ)
+    (status : ℕ) : Type 0 where
   pub failures : out'.failures ≡ out.failures + 1
   pub count : ℕ
   pub within : count < length bytes
@@ -40,7 +43,8 @@ pub record OutputFails (bytes name : List ℕ) (out out' : OutputView) (message 
   pub answered : status ≡ 1
 
 -- The output is as it was, and this is reported.
-pub record OnlyTells (text : List ℕ) (answer : ℕ) (out out' : OutputView) (message : List ℕ) (status : ℕ) : Type 0 where
+pub record OnlyTells (text : List ℕ) (answer : ℕ) (out out' : OutputView) (message : List ℕ)
+    (status : ℕ) : Type 0 where
   pub output : out' ≡ out
   pub told : message ≡ text
   pub answered : status ≡ answer

@@ -30,8 +30,8 @@ abbrev pub IsTruth : Expression → Type 0
 IsTruth empty = ⊥
 IsTruth (truth a) = Unit {0}
 
--- a valid program for an expression on a link: it has at most as many instructions as the expression's bound, and
--- accepts a packet exactly where the expression matches
+-- a valid program for an expression on a link: it has at most as many instructions as the
+-- expression's bound, and accepts a packet exactly where the expression matches
 pub record IsMade (program : Content) (e : Expression) (link : Link) : Type 0 where
   pub valid : IsValid program.insns
   pub right : IsProgramOf program.insns e link
@@ -61,7 +61,11 @@ met_on p prog = machine prog p.bytes p.orig (length prog)
 
 -- a program behind a run on a packet: what it spent rose by the instructions that it met
 abbrev pub ran_on : Captured → Content → Content
-ran_on p program = record { insns = program.insns; spent = min (program.spent + steps_of_run (met_on p program.insns)) (2 ^ 128 - 1) }
+ran_on p program =
+    record {
+      insns = program.insns;
+      spent = min (program.spent + steps_of_run (met_on p program.insns)) (2 ^ 128 - 1);
+    }
 
 -- programs, of which the one at this place ran on a packet
 abbrev pub ran_at : ℕ → Captured → List Content → List Content

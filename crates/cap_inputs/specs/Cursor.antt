@@ -1,5 +1,5 @@
--- Where the inputs of a job keep what is next: the cursor of inputs in turn, and of a merge the inputs that are to be read on,
--- with the queue of those whose packets wait.
+-- Where the inputs of a job keep what is next: the cursor of inputs in turn, and of a merge the
+-- inputs that are to be read on, with the queue of those whose packets wait.
 use Rattle.std.specs.Prelude.{◌≡◌, ◌≢◌, ◌⊎◌, ◌&&◌, ◌==◌, ℕ, zero, suc, ◌+◌, ◌<◌, ◌≤◌, Bool, true, false, List, [], ◌∷◌, length, Option, None, Some, Result, Ok, Err}
 use Rattle.std.specs.List.{All}
 use Rattle.std.specs.List.Sorted.{IsPermutation}
@@ -66,7 +66,8 @@ abbrev pub waiting_total : List InputView → ℕ
 waiting_total [] = 0
 waiting_total (h ∷ hs) = waiting_count h.waiting + waiting_total hs
 
--- the queue of a merge has just the inputs whose packets wait, with their keys; the inputs that are to be read on don't wait
+-- the queue of a merge has just the inputs whose packets wait, with their keys; the inputs that are
+-- to be read on don't wait
 pub record IsQueued (cursors : List InputView) (next last : ℕ) (q : Queue) : Type 0 where
   pub entered : (key input : ℕ) → is_entered q.waiting key input ≡ waits_with cursors key input
   pub counted : length q.waiting ≡ waiting_total cursors
@@ -88,12 +89,14 @@ HasPlaceFor q input = (length q.waiting < q.room) × All (λ w. w.input ≢ inpu
 
 -- an entry came to the others, or not
 abbrev pub EntersQueue : Bool → Waiting → Queue → Queue → Type 0
-EntersQueue true entry old new = IsPermutation (entry ∷ old.waiting) new.waiting × (old.room ≤ new.room)
+EntersQueue true entry old new =
+    IsPermutation (entry ∷ old.waiting) new.waiting × (old.room ≤ new.room)
 EntersQueue false entry old new = new ≡ old
 
 abbrev pub TakesFirst : Option Waiting → Queue → Queue → Type 0
 TakesFirst None old new = old.waiting ≡ []
-TakesFirst (Some w) old new = IsPermutation old.waiting (w ∷ new.waiting) × All (Precedes w) new.waiting
+TakesFirst (Some w) old new =
+    IsPermutation old.waiting (w ∷ new.waiting) × All (Precedes w) new.waiting
 
 -- the first entry was taken, or not
 abbrev pub Leaves : Bool → Queue → Queue → Type 0
@@ -120,8 +123,10 @@ pub record IsReadOn (cursors : List InputView) (next last i : ℕ) : Type 0 wher
 
 abbrev pub IsNextOfMerge : List InputView → ℕ → ℕ → Next → Type 0
 IsNextOfMerge cursors first last (next.Read i) = IsReadOn cursors first last i
-IsNextOfMerge cursors first last (next.Decide i) = (last ≤ first ⊎ length cursors ≤ first) × IsLeast cursors i
-IsNextOfMerge cursors first last next.Finish = (last ≤ first ⊎ length cursors ≤ first) × NoneWaits cursors
+IsNextOfMerge cursors first last (next.Decide i) =
+    (last ≤ first ⊎ length cursors ≤ first) × IsLeast cursors i
+IsNextOfMerge cursors first last next.Finish =
+    (last ≤ first ⊎ length cursors ≤ first) × NoneWaits cursors
 
 abbrev pub IsNextAt : Schedule → List InputView → Next → Type 0
 IsNextAt (Turn turn) cursors r = IsAtCursor cursors turn r

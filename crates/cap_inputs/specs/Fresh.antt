@@ -13,10 +13,21 @@ pub record FreshInput : Type 0 where
   pub never_fails : Bool
 
 abbrev pub fresh_input : {I : Type 0} → input.Ghosts I → I → FreshInput
-fresh_input device i = record { text = device.unread i; given = device.given i; failures = device.failures i; never_fails = device.never_fails i }
+fresh_input device i =
+    record {
+      text = device.unread i;
+      given = device.given i;
+      failures = device.failures i;
+      never_fails = device.never_fails i;
+    }
 
 abbrev pub fresh_view : FreshInput → InputView
-fresh_view o = record { source = source_at o.text o.given o.failures o.never_fails; waiting = false; greatest = 0 }
+fresh_view o =
+    record {
+      source = source_at o.text o.given o.failures o.never_fails;
+      waiting = false;
+      greatest = 0;
+    }
 
 abbrev pub nothing_done : FreshInput → InputPast
 nothing_done o = record { text = o.text; done = []; packets = [] }

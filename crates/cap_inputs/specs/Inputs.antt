@@ -52,7 +52,12 @@ actual_future s = record {
 }
 
 abbrev pub items_left : InputView → Future → InputItems
-items_left h f = record { greatest = h.greatest; items = after_packets (waiting_packets h.waiting h.source) f.items; size = f.size }
+items_left h f =
+    record {
+      greatest = h.greatest;
+      items = after_packets (waiting_packets h.waiting h.source) f.items;
+      size = f.size;
+    }
 
 abbrev pub inputs_left : List InputView → List Future → List InputItems
 inputs_left (h ∷ hs) (f ∷ fs) = items_left h f ∷ inputs_left hs fs
@@ -69,9 +74,11 @@ abbrev pub ended_count : List InputView → ℕ
 ended_count [] = 0
 ended_count (h ∷ hs) = one_more_if_ended h.source.phase (ended_count hs)
 
--- the order of what is left: in turn, of the first input that isn't at its end and of those behind it
+-- the order of what is left: in turn, of the first input that isn't at its end and of those behind
+-- it
 abbrev pub sequence_left : PacketOrder → List InputView → List InputItems → Sequence
-sequence_left InTurn cursors rs = sequence_in_turn (ended_count cursors) (drop (ended_count cursors) rs)
+sequence_left InTurn cursors rs =
+    sequence_in_turn (ended_count cursors) (drop (ended_count cursors) rs)
 sequence_left ByTime cursors rs = sequence_by_time rs
 
 -- ---- what is done of the inputs
@@ -83,7 +90,12 @@ pub record InputPast : Type 0 where
   pub packets : List Placed
 
 abbrev pub input_items : InputPast → InputView → Future → InputItems
-input_items s h f = record { greatest = 0; items = after_packets s.packets (after_packets (waiting_packets h.waiting h.source) f.items); size = f.size }
+input_items s h f =
+    record {
+      greatest = 0;
+      items = after_packets s.packets (after_packets (waiting_packets h.waiting h.source) f.items);
+      size = f.size;
+    }
 
 abbrev pub inputs_with : List InputPast → List InputView → List Future → List InputItems
 inputs_with (s ∷ ss) (h ∷ hs) (f ∷ fs) = input_items s h f ∷ inputs_with ss hs fs
@@ -94,7 +106,8 @@ inputs_with (s ∷ ss) (h ∷ hs) [] = []
 -- each cursor is behind what is done of its capture
 abbrev pub AreInputsBehind : List InputPast → List InputView → Type 0
 AreInputsBehind [] [] = Unit {0}
-AreInputsBehind (s ∷ ss) (h ∷ hs) = IsAt s.text s.done s.packets h.waiting h.source × AreInputsBehind ss hs
+AreInputsBehind (s ∷ ss) (h ∷ hs) =
+    IsAt s.text s.done s.packets h.waiting h.source × AreInputsBehind ss hs
 AreInputsBehind [] (h ∷ hs) = ⊥
 AreInputsBehind (s ∷ ss) [] = ⊥
 
@@ -111,7 +124,8 @@ KnowGreatest (s ∷ ss) [] = Unit {0}
 
 -- an input at its clean end has no other future than that
 abbrev pub no_future : SourceView → Future
-no_future s = record { items = record { packets = []; declared = s.declared; ending = End }; size = s.offset }
+no_future s =
+    record { items = record { packets = []; declared = s.declared; ending = End }; size = s.offset }
 
 abbrev pub AreFutures : List InputView → List Future → Type 0
 AreFutures [] [] = Unit {0}
@@ -119,10 +133,12 @@ AreFutures (h ∷ hs) (f ∷ fs) = (h.source.phase ≡ Ended → f ≡ no_future
 AreFutures [] (f ∷ fs) = ⊥
 AreFutures (h ∷ hs) [] = ⊥
 
--- These events came: whatever comes behind the current packets, the job's order has them in front of what is left.
+-- These events came: whatever comes behind the current packets, the job's order has them in front
+-- of what is left.
 abbrev pub AreSettled : List InputPast → InputsView → List Event → Type 0
 AreSettled ss inputs es = (fs : List Future) → AreFutures inputs.cursors fs
-    → sequence_of inputs.order (inputs_with ss inputs.cursors fs) ≡ with_front es (sequence_left inputs.order inputs.cursors (inputs_left inputs.cursors fs))
+    → sequence_of inputs.order (inputs_with ss inputs.cursors fs)
+    ≡ with_front es (sequence_left inputs.order inputs.cursors (inputs_left inputs.cursors fs))
 
 -- ---- one input goes on
 
@@ -138,7 +154,8 @@ is_packet_found (Ok b) = b
 is_packet_found (Err fault) = false
 
 abbrev pub input_after : InputView → Result Bool Fault → SourceView → InputView
-input_after h r source = record { source = source; waiting = is_packet_found r; greatest = h.greatest }
+input_after h r source =
+    record { source = source; waiting = is_packet_found r; greatest = h.greatest }
 
 abbrev pub is_clean_end : Result Bool Fault → Bool
 is_clean_end (Ok true) = false
@@ -150,7 +167,8 @@ abbrev pub with_cursor : InputsView → ℕ → InputView → InputsView
 with_cursor inputs i h = record { order = inputs.order; cursors = slice_set inputs.cursors i h }
 
 -- an input was read on
-pub record ReadsInput (old : InputsView) (i : ℕ) (r : Result Bool Fault) (new : InputsView) : Type 0 where
+pub record ReadsInput (old : InputsView) (i : ℕ) (r : Result Bool Fault)
+    (new : InputsView) : Type 0 where
   pub cursor : InputView
   pub among : IsInput old.cursors i cursor
   pub source : SourceView
@@ -159,7 +177,8 @@ pub record ReadsInput (old : InputsView) (i : ℕ) (r : Result Bool Fault) (new 
   pub is : new ≡ with_cursor old i (input_after cursor r source)
 
 -- what holds of any device
-pub record ReadSteps (old : InputsView) (i : ℕ) (r : Result Bool Fault) (new : InputsView) : Type 0 where
+pub record ReadSteps (old : InputsView) (i : ℕ) (r : Result Bool Fault)
+    (new : InputsView) : Type 0 where
   pub cursor : InputView
   pub among : IsInput old.cursors i cursor
   pub source : SourceView
@@ -172,8 +191,8 @@ abbrev pub waiting_count : Bool → ℕ
 waiting_count true = 1
 waiting_count false = 0
 
--- The steps that follow without a byte more: a packet that waits is decided, and then its input is read on; an input that
--- isn't at its end is read on.
+-- The steps that follow without a byte more: a packet that waits is decided, and then its input is
+-- read on; an input that isn't at its end is read on.
 abbrev pub steps_owed : (waiting : Bool) → Phase → ℕ
 steps_owed true phase = 2
 steps_owed false Reading = 1
@@ -183,7 +202,8 @@ steps_owed false (Failed fault) = 1
 abbrev pub owed_by : InputView → ℕ
 owed_by h = steps_owed h.waiting h.source.phase
 
--- Each step makes this less: each byte pays for two, since a packet is read once, and then decided once.
+-- Each step makes this less: each byte pays for two, since a packet is read once, and then decided
+-- once.
 abbrev pub input_steps_left : InputView → ℕ
 input_steps_left h = 2 * (2 ^ 63 - h.source.given) + owed_by h
 
@@ -252,7 +272,8 @@ abbrev pub AllReady : List InputView → Type 0
 AllReady [] = Unit {0}
 AllReady (h ∷ hs) = IsReady h × AllReady hs
 
--- In turn, it is this input's turn: those in front of it are at their clean ends, it and those behind it aren't.
+-- In turn, it is this input's turn: those in front of it are at their clean ends, it and those
+-- behind it aren't.
 pub record IsAtTurn (cursors : List InputView) (i : ℕ) (waiting : Bool) : Type 0 where
   pub cursor : InputView
   pub among : IsInput cursors i cursor
@@ -292,7 +313,12 @@ IsNext inputs r = IsNextIn inputs.order inputs.cursors r
 
 -- the current packet is decided
 abbrev pub input_behind : InputView → InputView
-input_behind h = record { source = h.source; waiting = false; greatest = max h.greatest (packet_time h.source.packet) }
+input_behind h =
+    record {
+      source = h.source;
+      waiting = false;
+      greatest = max h.greatest (packet_time h.source.packet);
+    }
 
 pub record MarksDecided (old : InputsView) (i : ℕ) (new : InputsView) : Type 0 where
   pub cursor : InputView

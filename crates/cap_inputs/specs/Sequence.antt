@@ -6,7 +6,8 @@ use Rattle.cap_io.specs.Capture.{Placed, Items, Ending, End, FaultAt, kind_of, i
 
 -- ---- what comes
 
--- a packet of an input; or an input, which is of this kind and has so many bytes, was read to its clean end
+-- a packet of an input; or an input, which is of this kind and has so many bytes, was read to its
+-- clean end
 pub data Event : Type 0 where
   Packet : (input : ℕ) → (p : Placed) → Event
   InputEnd : (input : ℕ) → (kind : Option Kind) → (size : ℕ) → Event
@@ -25,7 +26,8 @@ with_front es more = record { events = es ++ more.events; end = more.end }
 
 -- ---- what is left of an input
 
--- The greatest time of the packets before, the items from there on, and the number of bytes of the whole input.
+-- The greatest time of the packets before, the items from there on, and the number of bytes of the
+-- whole input.
 pub record InputItems : Type 0 where
   pub greatest : ℕ
   pub items : Items
@@ -43,18 +45,23 @@ packet_events input (p ∷ ps) = Packet input p ∷ packet_events input ps
 
 -- an input's packets, and the others where it ends cleanly
 abbrev pub input_sequence : ℕ → InputItems → Ending → Sequence → Sequence
-input_sequence input r End more = with_front (packet_events input r.items.packets ++ InputEnd input (kind_of r.items.declared) r.size ∷ []) more
-input_sequence input r (FaultAt fault offset) more = record { events = packet_events input r.items.packets; end = FaultIn input fault offset }
+input_sequence input r End more =
+    with_front
+    (packet_events input r.items.packets
+    ++ InputEnd input (kind_of r.items.declared) r.size ∷ []) more
+input_sequence input r (FaultAt fault offset) more =
+    record { events = packet_events input r.items.packets; end = FaultIn input fault offset }
 
 -- the inputs one behind another, up to the first fault; they are numbered on from `input`
 abbrev pub sequence_in_turn : ℕ → List InputItems → Sequence
 sequence_in_turn input [] = record { events = []; end = Complete }
-sequence_in_turn input (r ∷ rs) = input_sequence input r r.items.ending (sequence_in_turn (input + 1) rs)
+sequence_in_turn input (r ∷ rs) =
+    input_sequence input r r.items.ending (sequence_in_turn (input + 1) rs)
 
 -- ---- by time
 
--- A packet of an input, and the greatest time in its own input up to and with it. Where it is the last of an input that
--- ends by a fault, the order ends behind it.
+-- A packet of an input, and the greatest time in its own input up to and with it. Where it is the
+-- last of an input that ends by a fault, the order ends behind it.
 pub record Entry : Type 0 where
   pub key : ℕ
   pub input : ℕ
@@ -74,7 +81,12 @@ end_behind input ending (p ∷ ps) = Complete
 abbrev pub entries_of : ℕ → Ending → ℕ → List Placed → List Entry
 entries_of input ending greatest [] = []
 entries_of input ending greatest (p ∷ ps) =
-    record { key = max greatest p.packet.time; input = input; p = p; last = end_behind input ending ps }
+    record {
+      key = max greatest p.packet.time;
+      input = input;
+      p = p;
+      last = end_behind input ending ps;
+    }
     ∷ entries_of input ending (max greatest p.packet.time) ps
 
 abbrev pub input_entries : ℕ → InputItems → List Entry
@@ -99,7 +111,8 @@ sort_entries (e ∷ es) = insert_entry e (sort_entries es)
 
 abbrev pub end_or_more : SequenceEnd → Event → Sequence → Sequence
 end_or_more Complete e more = with_front (e ∷ []) more
-end_or_more (FaultIn input fault offset) e more = record { events = e ∷ []; end = FaultIn input fault offset }
+end_or_more (FaultIn input fault offset) e more =
+    record { events = e ∷ []; end = FaultIn input fault offset }
 
 -- up to and with the first packet behind which the order ends
 abbrev pub sequence_of_entries : List Entry → Sequence
@@ -121,11 +134,13 @@ fault_in_front input (r ∷ rs) = first_end (end_at input r) (fault_in_front (in
 
 abbrev pub unless_fault : SequenceEnd → Sequence → Sequence
 unless_fault Complete more = more
-unless_fault (FaultIn input fault offset) more = record { events = []; end = FaultIn input fault offset }
+unless_fault (FaultIn input fault offset) more =
+    record { events = []; end = FaultIn input fault offset }
 
 -- Where an input has none left and ends by a fault, nothing comes; else all packets in the order.
 abbrev pub sequence_by_time : List InputItems → Sequence
-sequence_by_time rs = unless_fault (fault_in_front 0 rs) (sequence_of_entries (sort_entries (all_entries 0 rs)))
+sequence_by_time rs =
+    unless_fault (fault_in_front 0 rs) (sequence_of_entries (sort_entries (all_entries 0 rs)))
 
 -- ---- the job's order
 

@@ -20,38 +20,49 @@ abbrev pub section_of : Order → List Described → Section
 section_of order interfaces = record { order = order; interfaces = interfaces }
 
 -- what is held of a packet with these data and options, in this byte order
-abbrev pub packet_in : Order → List Described → PacketSpans → (bytes options : List ℕ) → Option Captured
+abbrev pub packet_in : Order → List Described → PacketSpans → (bytes options : List ℕ)
+    → Option Captured
 packet_in order interfaces spans bytes options =
-    option_map (λ (i : Described). packet_of i spans.time spans.orig bytes (comment_in order options)) (slice_get interfaces spans.interface)
+    option_map
+    (λ (i : Described). packet_of i spans.time spans.orig bytes (comment_in order options))
+    (slice_get interfaces spans.interface)
 
--- the packet of a block of so many bytes, whose data are at the start of what is left of its body, and its options behind
--- them
-pub record PacketFound (order : Order) (interfaces : List Described) (parts : Parts) (start size : ℕ) (rest : List ℕ) (spans : PacketSpans) : Type 0 where
+-- the packet of a block of so many bytes, whose data are at the start of what is left of its body,
+-- and its options behind them
+pub record PacketFound (order : Order) (interfaces : List Described) (parts : Parts)
+    (start size : ℕ) (rest : List ℕ) (spans : PacketSpans) : Type 0 where
   pub whole : spans.size ≡ size
   pub known : is_some (slice_get interfaces spans.interface) ≡ true
   pub from : spans.bytes.start ≡ start
   pub packet : Captured
   pub stands : packet_by interfaces parts ≡ Some packet
-  pub is_lent : packet_in order interfaces spans (take spans.bytes.length rest) (take spans.options.length (drop (spans.options.start - spans.bytes.start) rest)) ≡ Some packet
+  pub is_lent : packet_in order interfaces spans (take spans.bytes.length rest)
+      (take spans.options.length (drop (spans.options.start - spans.bytes.start) rest))
+      ≡ Some packet
   pub there : spans.bytes.length ≤ length rest
   pub behind : spans.bytes.start ≤ spans.options.start
   pub options : spans.options.start - spans.bytes.start + spans.options.length ≤ length rest
   pub time : spans.time < 2 ^ 63
 
 -- the packet of a block
-pub record PacketStands (order : Order) (interfaces : List Described) (parts : Parts) (block : List ℕ) (spans : PacketSpans) : Type 0 where
+pub record PacketStands (order : Order) (interfaces : List Described) (parts : Parts)
+    (block : List ℕ) (spans : PacketSpans) : Type 0 where
   pub packet : Captured
   pub stands : packet_by interfaces parts ≡ Some packet
-  pub is_lent : packet_in order interfaces spans (span_bytes spans.bytes block) (span_bytes spans.options block) ≡ Some packet
+  pub is_lent : packet_in order interfaces spans (span_bytes spans.bytes block)
+      (span_bytes spans.options block) ≡ Some packet
 
 abbrev pub PacketIfAny : Order → List Described → Parts → List ℕ → Option PacketSpans → Type 0
 PacketIfAny order interfaces parts block None = packet_by interfaces parts ≡ None
-PacketIfAny order interfaces parts block (Some spans) = PacketStands order interfaces parts block spans
+PacketIfAny order interfaces parts block (Some spans) =
+    PacketStands order interfaces parts block spans
 
 -- what is held of it is in the block
 abbrev pub FitsIfAny : Option PacketSpans → ℕ → Type 0
 FitsIfAny None size = Unit {0}
-FitsIfAny (Some spans) size = (spans.size ≡ size) × (spans.bytes.start + spans.bytes.length ≤ size) × (spans.time < 2 ^ 63) × (spans.options.start + spans.options.length ≤ size)
+FitsIfAny (Some spans) size =
+    (spans.size ≡ size) × (spans.bytes.start + spans.bytes.length ≤ size) × (spans.time < 2 ^ 63)
+    × (spans.options.start + spans.options.length ≤ size)
 
 -- and the interface of its packet is known
 abbrev pub KnowsIfAny : List Described → Option PacketSpans → Type 0
@@ -59,10 +70,12 @@ KnowsIfAny interfaces None = Unit {0}
 KnowsIfAny interfaces (Some spans) = is_some (slice_get interfaces spans.interface) ≡ true
 
 -- a block passed all of its checks, and the table of interfaces is that behind it
-pub record Enters (frame : Frame) (interfaces : List Described) (block : List ℕ) (spans : Option PacketSpans) (interfaces' : List Described) : Type 0 where
+pub record Enters (frame : Frame) (interfaces : List Described) (block : List ℕ)
+    (spans : Option PacketSpans) (interfaces' : List Described) : Type 0 where
   pub passes : first_failing (block_checks frame block) ≡ None
   pub among : first_failing (checks_among interfaces (parts_in frame block)) ≡ None
-  pub section : section_by (Some (section_of frame.order interfaces)) frame.order (parts_in frame block) ≡ section_of frame.order interfaces'
+  pub section : section_by (Some (section_of frame.order interfaces)) frame.order
+      (parts_in frame block) ≡ section_of frame.order interfaces'
   pub packet : PacketIfAny frame.order interfaces (parts_in frame block) block spans
   pub fits : FitsIfAny spans frame.length
   pub known : KnowsIfAny interfaces' spans
@@ -71,12 +84,15 @@ pub record Enters (frame : Frame) (interfaces : List Described) (block : List �
 abbrev pub IsEntryFault : Frame → List Described → List ℕ → Fault → Type 0
 IsEntryFault frame interfaces block fault =
     (first_failing (block_checks frame block) ≡ Some fault)
-    ⊎ ((first_failing (block_checks frame block) ≡ None) × (first_failing (checks_among interfaces (parts_in frame block)) ≡ Some fault))
+    ⊎ ((first_failing (block_checks frame block) ≡ None)
+    × (first_failing (checks_among interfaces (parts_in frame block)) ≡ Some fault))
     ⊎ (fault ≡ NoMemory)
 
--- What a block's refusal by itself tells behind these interfaces: that there are as many as may be comes before what its
--- options tell.
+-- What a block's refusal by itself tells behind these interfaces: that there are as many as may be
+-- comes before what its options tell.
 abbrev pub fault_among : List Described → Fault → Fault
-fault_among interfaces BadOption = if nat_lt (length interfaces) most_interfaces then BadOption else TooManyInterfaces
-fault_among interfaces BadTimeResolution = if nat_lt (length interfaces) most_interfaces then BadTimeResolution else TooManyInterfaces
+fault_among interfaces BadOption =
+    if nat_lt (length interfaces) most_interfaces then BadOption else TooManyInterfaces
+fault_among interfaces BadTimeResolution =
+    if nat_lt (length interfaces) most_interfaces then BadTimeResolution else TooManyInterfaces
 fault_among interfaces fault = fault

@@ -1,4 +1,5 @@
--- A capture file: the units that it is made of, how a text is cut into them, and the packets that they hold.
+-- A capture file: the units that it is made of, how a text is cut into them, and the packets that
+-- they hold.
 use Rattle.std.specs.Prelude.{◌≡◌, ℕ, zero, suc, ◌+◌, Bool, true, false, List, [], ◌∷◌, ◌++◌, length, take, drop, nat_le, ◌&&◌, Option, None, Some}
 use Rattle.std.specs.List.{slice_get}
 use Rattle.std.specs.Option.{option_map, option_or}
@@ -24,22 +25,30 @@ pub data Declared : Type 0 where
   -- the first link type that an interface of the file declared, and the current section
   PcapngFile : (first : Option ℕ) → (section : Section) → Declared
 
--- the first link type of a file behind a block: the one before it, else that of the section's first interface
+-- the first link type of a file behind a block: the one before it, else that of the section's first
+-- interface
 abbrev pub first_link_after : Option ℕ → Section → Option ℕ
-first_link_after first section = option_or first (option_map (λ (i : Described). i.link) (slice_get section.interfaces 0))
+first_link_after first section =
+    option_or first (option_map (λ (i : Described). i.link) (slice_get section.interfaces 0))
 
 -- what is declared behind a block
 abbrev pub file_after : Option ℕ → Option Section → List ℕ → Declared
-file_after first before bytes = PcapngFile (first_link_after first (section_after before bytes)) (section_after before bytes)
+file_after first before bytes =
+    PcapngFile (first_link_after first (section_after before bytes)) (section_after before bytes)
 
--- These bytes are one unit and hold these packets, given what was declared before it and what is after it.
+-- These bytes are one unit and hold these packets, given what was declared before it and what is
+-- after it.
 pub data IsUnit : Declared → List ℕ → List Captured → Declared → Type 0 where
-  a_pcap_header : (bytes : List ℕ) (head : Head) → IsHeader bytes head → IsUnit Nothing bytes [] (PcapFile head)
-  a_pcap_record : (head : Head) (bytes : List ℕ) → IsRecord head bytes → IsUnit (PcapFile head) bytes (packet_in head bytes ∷ []) (PcapFile head)
+  a_pcap_header : (bytes : List ℕ) (head : Head) → IsHeader bytes head
+      → IsUnit Nothing bytes [] (PcapFile head)
+  a_pcap_record : (head : Head) (bytes : List ℕ) → IsRecord head bytes
+      → IsUnit (PcapFile head) bytes (packet_in head bytes ∷ []) (PcapFile head)
   -- behind nothing a block is a section header
-  a_first_block : (bytes : List ℕ) → IsBlock None bytes → IsUnit Nothing bytes (packets_in None bytes) (file_after None None bytes)
+  a_first_block : (bytes : List ℕ) → IsBlock None bytes
+      → IsUnit Nothing bytes (packets_in None bytes) (file_after None None bytes)
   a_block : (first : Option ℕ) (section : Section) (bytes : List ℕ) → IsBlock (Some section) bytes
-      → IsUnit (PcapngFile first section) bytes (packets_in (Some section) bytes) (file_after first (Some section) bytes)
+      → IsUnit (PcapngFile first section) bytes (packets_in (Some section) bytes)
+      (file_after first (Some section) bytes)
 
 -- a packet, and the offset of its unit
 pub record Placed : Type 0 where
@@ -50,21 +59,26 @@ abbrev pub placed_at : ℕ → List Captured → List Placed
 placed_at offset [] = []
 placed_at offset (p ∷ ps) = record { offset = offset; packet = p } ∷ placed_at offset ps
 
--- These bytes, the first of them at this offset, are whole units, one after another, and hold these packets.
+-- These bytes, the first of them at this offset, are whole units, one after another, and hold these
+-- packets.
 pub data AreUnits : Declared → ℕ → List ℕ → List Placed → Declared → Type 0 where
   no_unit : {d : Declared} {at : ℕ} → AreUnits d at [] [] d
   unit_then : {b c d : Declared} {at : ℕ} {u more : List ℕ} {qs : List Captured} {ps : List Placed}
-      → IsUnit b u qs c → AreUnits c (at + length u) more ps d → AreUnits b at (u ++ more) (placed_at at qs ++ ps) d
+      → IsUnit b u qs c → AreUnits c (at + length u) more ps d
+      → AreUnits b at (u ++ more) (placed_at at qs ++ ps) d
 
 -- A text is these units and then a rest that begins with no further one.
-pub record IsCut (text done rest : List ℕ) (packets : List Placed) (declared : Declared) : Type 0 where
+pub record IsCut (text done rest : List ℕ) (packets : List Placed)
+    (declared : Declared) : Type 0 where
   pub joined : text ≡ done ++ rest
   pub units : AreUnits Nothing 0 done packets declared
-  pub last : (u more : List ℕ) (qs : List Captured) (d : Declared) → IsUnit declared u qs d → rest ≡ u ++ more → ⊥
+  pub last : (u more : List ℕ) (qs : List Captured) (d : Declared) → IsUnit declared u qs d
+      → rest ≡ u ++ more → ⊥
 
 -- ---- what a text begins with
 
--- a unit of so many bytes, its packets, and what is declared after it; or no unit, by the end or by a fault
+-- a unit of so many bytes, its packets, and what is declared after it; or no unit, by the end or by
+-- a fault
 pub data Front : Type 0 where
   Whole : (size : ℕ) → (packets : List Captured) → (declared : Declared) → Front
   Stops : (why : Option Fault) → Front
@@ -75,12 +89,14 @@ front_of_header (Some fault) text = Stops (Some fault)
 
 abbrev pub front_of_record : Option Fault → Head → List ℕ → Front
 front_of_record None head text =
-    Whole (record_size head text) (packet_in head (take (record_size head text) text) ∷ []) (PcapFile head)
+    Whole (record_size head text) (packet_in head (take (record_size head text) text) ∷ [])
+    (PcapFile head)
 front_of_record (Some fault) head text = Stops (Some fault)
 
 abbrev pub front_of_block : Option Fault → Option ℕ → Option Section → List ℕ → Front
 front_of_block None first before text =
-    Whole (block_size before text) (packets_in before (take (block_size before text) text)) (file_after first before (take (block_size before text) text))
+    Whole (block_size before text) (packets_in before (take (block_size before text) text))
+    (file_after first before (take (block_size before text) text))
 front_of_block (Some fault) first before text = Stops (Some fault)
 
 -- A file whose first four bytes are the type of a section header is a pcapng file.
@@ -95,13 +111,16 @@ front_of_file false text = front_of_header (header_fault text) text
 abbrev pub front_of : Declared → List ℕ → Front
 front_of Nothing text = front_of_file (is_pcapng text) text
 front_of (PcapFile head) [] = Stops None
-front_of (PcapFile head) (b ∷ bytes) = front_of_record (record_fault head (b ∷ bytes)) head (b ∷ bytes)
+front_of (PcapFile head) (b ∷ bytes) =
+    front_of_record (record_fault head (b ∷ bytes)) head (b ∷ bytes)
 front_of (PcapngFile first section) [] = Stops None
-front_of (PcapngFile first section) (b ∷ bytes) = front_of_block (unit_fault (Some section) (b ∷ bytes)) first (Some section) (b ∷ bytes)
+front_of (PcapngFile first section) (b ∷ bytes) =
+    front_of_block (unit_fault (Some section) (b ∷ bytes)) first (Some section) (b ∷ bytes)
 
 -- ---- items
 
--- the clean end, or the fault of the first check that fails and the offset of the unit in whose place it stands
+-- the clean end, or the fault of the first check that fails and the offset of the unit in whose
+-- place it stands
 pub data Ending : Type 0 where
   End : Ending
   FaultAt : (fault : Fault) → (offset : ℕ) → Ending
@@ -117,15 +136,18 @@ ending_by None offset = End
 ending_by (Some fault) offset = FaultAt fault offset
 
 abbrev pub no_items : Declared → Option Fault → ℕ → Items
-no_items declared why offset = record { packets = []; declared = declared; ending = ending_by why offset }
+no_items declared why offset =
+    record { packets = []; declared = declared; ending = ending_by why offset }
 
 abbrev pub after_packets : List Placed → Items → Items
-after_packets ps items = record { packets = ps ++ items.packets; declared = items.declared; ending = items.ending }
+after_packets ps items =
+    record { packets = ps ++ items.packets; declared = items.declared; ending = items.ending }
 
 -- the items of a text with this in front, given those behind a unit
 abbrev pub items_with : Front → Declared → ℕ → (ℕ → Declared → Items) → Items
 items_with (Stops why) declared offset behind = no_items declared why offset
-items_with (Whole size packets after) declared offset behind = after_packets (placed_at offset packets) (behind size after)
+items_with (Whole size packets after) declared offset behind =
+    after_packets (placed_at offset packets) (behind size after)
 
 -- from a place on, with at most so many units
 unfoldable pub items_within : ℕ → Declared → ℕ → List ℕ → Items

@@ -18,10 +18,12 @@ pub record IsSameCut {text : List ℕ} (one other : Cut text) : Type 0 where
   pub declared : one.declared ≡ other.declared
 
 -- The items are the packets of the units, and the end is told by what the rest begins with.
-pub record TellsItems (text done rest : List ℕ) (packets : List Placed) (declared : Declared) : Type 0 where
+pub record TellsItems (text done rest : List ℕ) (packets : List Placed)
+    (declared : Declared) : Type 0 where
   pub why : Option Fault
   pub stops : front_of declared rest ≡ Stops why
-  pub items : items text ≡ record { packets = packets; declared = declared; ending = ending_by why (length done) }
+  pub items : items text
+      ≡ record { packets = packets; declared = declared; ending = ending_by why (length done) }
 
 abbrev pub EachHasCut : Type 0
 EachHasCut = (text : List ℕ) → Cut text

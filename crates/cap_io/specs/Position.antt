@@ -24,8 +24,10 @@ pub record IsOver (s : SourceView) : Type 0 where
   pub block : s.block ≡ []
   pub packet : s.packet ≡ None
 
--- A source is behind these done bytes of the text, and perhaps has a current packet. No fault was met.
-pub record IsAt (text done : List ℕ) (packets : List Placed) (waiting : Bool) (s : SourceView) : Type 0 where
+-- A source is behind these done bytes of the text, and perhaps has a current packet. No fault was
+-- met.
+pub record IsAt (text done : List ℕ) (packets : List Placed) (waiting : Bool)
+    (s : SourceView) : Type 0 where
   -- the text is its done, then pending, then unread bytes
   pub whole : text ≡ done ++ (pending waiting s.block ++ s.unread)
   -- what is done is whole units with these packets
@@ -36,7 +38,8 @@ pub record IsAt (text done : List ℕ) (packets : List Placed) (waiting : Bool) 
   pub ended : s.phase ≡ Ended → IsOver s
   pub sound : (fault : Fault) → s.phase ≡ Failed fault → ⊥
 
--- These items are those of the whole units at the start of a text, ended by a fault where the next unit would begin.
+-- These items are those of the whole units at the start of a text, ended by a fault where the next
+-- unit would begin.
 pub record IsCutShort (text : List ℕ) (fault : Fault) (items : Items) : Type 0 where
   pub done : List ℕ
   pub rest : List ℕ

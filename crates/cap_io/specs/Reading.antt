@@ -34,9 +34,11 @@ read_failures (Ok value) = 0
 read_failures (Err ReadFailed) = 1
 read_failures (Err fault) = 0
 
--- What reading a unit, or what follows its first `front` bytes, did to a device: with them `count` bytes came, or at most
--- `most` on an error. A failed read is told exactly where the device failed in this call.
-pub record Moves {I X : Type 0} (device : Ghosts I) (old new : I) (front : ℕ) (count : X → ℕ) (most : ℕ) (r : Result X Fault) : Type 0 where
+-- What reading a unit, or what follows its first `front` bytes, did to a device: with them `count`
+-- bytes came, or at most `most` on an error. A failed read is told exactly where the device failed
+-- in this call.
+pub record Moves {I X : Type 0} (device : Ghosts I) (old new : I) (front : ℕ) (count : X → ℕ)
+    (most : ℕ) (r : Result X Fault) : Type 0 where
   pub counted : IfOk r (λ x. device.given new + front ≡ device.given old + count x)
   pub grown : device.given old ≤ device.given new
   pub bounded : IfOk r (λ x. front < count x → device.given new < 2 ^ 63)
@@ -56,27 +58,33 @@ length_by_front (Some fault) front size = front
 
 -- how many bytes are read to decide what stands where a block would: its first 12 tell its size
 abbrev pub decisive_block_length : Option Section → List ℕ → ℕ
-decisive_block_length before text = length_by_front (first_failing (frame_checks (order_before before) text)) 12 (block_size before text)
+decisive_block_length before text =
+    length_by_front (first_failing (frame_checks (order_before before) text)) 12
+    (block_size before text)
 
 -- how many bytes are read to decide what a text begins with: a unit, or a fault in its place
 abbrev pub decisive_length : Declared → List ℕ → ℕ
-decisive_length Nothing text = if is_pcapng text then decisive_block_length None text else (if is_some (form_in text) then 24 else 4)
-decisive_length (PcapFile head) text = length_by_front (first_failing (field_checks head text)) 16 (record_size head text)
+decisive_length Nothing text =
+    if is_pcapng text then decisive_block_length None text
+    else (if is_some (form_in text) then 24 else 4)
+decisive_length (PcapFile head) text =
+    length_by_front (first_failing (field_checks head text)) 16 (record_size head text)
 decisive_length (PcapngFile first section) text = decisive_block_length (Some section) text
 
 -- A prefix of the unit was taken, or of what is in its place, when this fault was reported.
 pub record IsTaken (declared : Declared) (unread unread' : List ℕ) (fault : Fault) : Type 0 where
   pub count : ℕ
   pub within : count ≤ most_taken (front_of declared unread)
-  -- A failed read is reported only of a unit that was not complete: fewer bytes came than decide what is there. Want
-  -- of memory may be met behind a whole unit.
+  -- A failed read is reported only of a unit that was not complete: fewer bytes came than decide
+  -- what is there. Want of memory may be met behind a whole unit.
   pub unfinished : fault ≡ ReadFailed → count < decisive_length declared unread
   pub there : count ≤ length unread
   pub rest : unread' ≡ drop count unread
 
 -- Why no unit came: a fault is in its place, or the device failed, or memory ran out.
 abbrev pub IsReason : Declared → List ℕ → Fault → Type 0
-IsReason declared unread fault = (front_of declared unread ≡ Stops (Some fault)) ⊎ (fault ≡ ReadFailed) ⊎ (fault ≡ NoMemory)
+IsReason declared unread fault =
+    (front_of declared unread ≡ Stops (Some fault)) ⊎ (fault ≡ ReadFailed) ⊎ (fault ≡ NoMemory)
 
 pub record NoUnitCame (declared : Declared) (unread unread' : List ℕ) (fault : Fault) : Type 0 where
   pub why : IsReason declared unread fault
@@ -84,7 +92,8 @@ pub record NoUnitCame (declared : Declared) (unread unread' : List ℕ) (fault :
 
 -- ---- the bytes of a unit
 
--- Bytes behind the first `from` of a buffer of `size` didn't all come: with those in front of them fewer than `size` did.
+-- Bytes behind the first `from` of a buffer of `size` didn't all come: with those in front of them
+-- fewer than `size` did.
 pub record RestMissing (from size : ℕ) (unread unread' : List ℕ) (fault : Fault) : Type 0 where
   pub why : ((fault ≡ Truncated) × (from + length unread < size)) ⊎ (fault ≡ ReadFailed)
   pub count : ℕ
@@ -113,7 +122,8 @@ pub record HeaderCame (unread : List ℕ) (head : Head) (unread' : List ℕ) : T
 abbrev pub declared_by : FileState → List Described → Declared
 declared_by state.Unknown interfaces = Nothing
 declared_by (state.Pcap head) interfaces = PcapFile head
-declared_by (state.Pcapng order first) interfaces = PcapngFile first (record { order = order; interfaces = interfaces })
+declared_by (state.Pcapng order first) interfaces =
+    PcapngFile first (record { order = order; interfaces = interfaces })
 
 -- the byte order of the current section, and the first link type
 abbrev pub known_order : FileState → Option Order
@@ -126,13 +136,14 @@ known_first_link state.Unknown = None
 known_first_link (state.Pcap head) = Some head.link
 known_first_link (state.Pcapng order first) = first
 
--- Before anything is read there is no interface. A section has no more than may be, and the first link type of a file is
--- known once its section has one.
+-- Before anything is read there is no interface. A section has no more than may be, and the first
+-- link type of a file is known once its section has one.
 abbrev pub IsConsistent : FileState → List Described → Type 0
 IsConsistent state.Unknown interfaces = interfaces ≡ []
 IsConsistent (state.Pcap head) interfaces = Unit {0}
 IsConsistent (state.Pcapng order first) interfaces =
-    (first_link_after first (record { order = order; interfaces = interfaces }) ≡ first) × FitSection interfaces
+    (first_link_after first (record { order = order; interfaces = interfaces }) ≡ first)
+    × FitSection interfaces
 
 -- ---- the current packet
 
@@ -162,14 +173,16 @@ packet_in_unit (PcapFile head) spans block = Some (record {
 })
 packet_in_unit (PcapngFile first section) spans block =
     option_map
-    (λ (i : Described). packet_of i spans.time spans.orig (span_bytes spans.bytes block) (comment_in section.order (span_bytes spans.options block)))
+    (λ (i : Described). packet_of i spans.time spans.orig (span_bytes spans.bytes block)
+    (comment_in section.order (span_bytes spans.options block)))
     (slice_get section.interfaces spans.interface)
 
 -- its interface is known
 abbrev pub HasInterface : Declared → PacketSpans → Type 0
 HasInterface Nothing spans = ⊥
 HasInterface (PcapFile head) spans = Unit {0}
-HasInterface (PcapngFile first section) spans = is_some (slice_get section.interfaces spans.interface) ≡ true
+HasInterface (PcapngFile first section) spans =
+    is_some (slice_get section.interfaces spans.interface) ≡ true
 
 abbrev pub HasInterfaceIfAny : Declared → PacketSpans → NextUnit → Type 0
 HasInterfaceIfAny declared spans (next_unit.Other size) = Unit {0}
@@ -187,9 +200,12 @@ record_spans found = record {
   orig = found.orig;
 }
 
--- A record that fails no check was taken from what the device had at hand, to the start of the buffer.
-pub record RecordTaken {I : Type 0} (device : Ghosts I) (head : Head) (old : I) (buffer : List ℕ) (found : RecordHead) (new : I) : Type 0 where
-  pub says : checked (first_failing (field_checks head (take 16 buffer))) (record_header_in head (take 16 buffer)) ≡ Ok found
+-- A record that fails no check was taken from what the device had at hand, to the start of the
+-- buffer.
+pub record RecordTaken {I : Type 0} (device : Ghosts I) (head : Head) (old : I) (buffer : List ℕ)
+    (found : RecordHead) (new : I) : Type 0 where
+  pub says : checked (first_failing (field_checks head (take 16 buffer)))
+      (record_header_in head (take 16 buffer)) ≡ Ok found
   pub short : found.captured ≤ most_captured
   pub in_range : found.time < 2 ^ 63
   pub there : 16 + found.captured ≤ length buffer
@@ -197,7 +213,8 @@ pub record RecordTaken {I : Type 0} (device : Ghosts I) (head : Head) (old : I) 
   pub bounded : device.given new < 2 ^ 63
   pub failed : device.failures new ≡ device.failures old
   pub never : device.never_fails new ≡ device.never_fails old
-  pub splits : IsTrue device.tells → device.unread old ≡ take (16 + found.captured) buffer ++ device.unread new
+  pub splits : IsTrue device.tells
+      → device.unread old ≡ take (16 + found.captured) buffer ++ device.unread new
 
 -- the device gave nothing
 pub record NothingTaken {I : Type 0} (device : Ghosts I) (old new : I) : Type 0 where
@@ -209,14 +226,16 @@ pub record NothingTaken {I : Type 0} (device : Ghosts I) (old new : I) : Type 0 
 -- ---- a unit
 
 -- a unit without a packet came
-pub record UnitPassed (declared : Declared) (unread : List ℕ) (size : ℕ) (declared' : Declared) (unread' : List ℕ) : Type 0 where
+pub record UnitPassed (declared : Declared) (unread : List ℕ) (size : ℕ) (declared' : Declared)
+    (unread' : List ℕ) : Type 0 where
   pub bytes : List ℕ
   pub unit : IsUnit declared bytes [] declared'
   pub sized : length bytes ≡ size
   pub splits : unread ≡ bytes ++ unread'
 
 -- a unit with a packet came, and is at the start of the buffer
-pub record PacketCame (declared : Declared) (unread buffer : List ℕ) (spans : PacketSpans) (declared' : Declared) (unread' : List ℕ) : Type 0 where
+pub record PacketCame (declared : Declared) (unread buffer : List ℕ) (spans : PacketSpans)
+    (declared' : Declared) (unread' : List ℕ) : Type 0 where
   pub packet : Captured
   pub is_lent : packet_in_unit declared spans (take spans.size buffer) ≡ Some packet
   pub unit : IsUnit declared (take spans.size buffer) (packet ∷ []) declared
@@ -224,16 +243,21 @@ pub record PacketCame (declared : Declared) (unread buffer : List ℕ) (spans : 
   pub splits : unread ≡ take spans.size buffer ++ unread'
 
 -- nothing is left behind a unit
-pub record EndCame (declared : Declared) (unread : List ℕ) (declared' : Declared) (unread' : List ℕ) : Type 0 where
+pub record EndCame (declared : Declared) (unread : List ℕ) (declared' : Declared)
+    (unread' : List ℕ) : Type 0 where
   pub ends : front_of declared [] ≡ Stops None
   pub over : unread ≡ []
   pub same : declared' ≡ declared
   pub rest : unread' ≡ []
 
-abbrev pub UnitCame : Declared → List ℕ → List ℕ → PacketSpans → NextUnit → Declared → List ℕ → Type 0
-UnitCame declared unread buffer spans (next_unit.Other size) declared' unread' = UnitPassed declared unread size declared' unread'
-UnitCame declared unread buffer spans next_unit.Packet declared' unread' = PacketCame declared unread buffer spans declared' unread'
-UnitCame declared unread buffer spans next_unit.End declared' unread' = EndCame declared unread declared' unread'
+abbrev pub UnitCame : Declared → List ℕ → List ℕ → PacketSpans → NextUnit → Declared → List ℕ
+    → Type 0
+UnitCame declared unread buffer spans (next_unit.Other size) declared' unread' =
+    UnitPassed declared unread size declared' unread'
+UnitCame declared unread buffer spans next_unit.Packet declared' unread' =
+    PacketCame declared unread buffer spans declared' unread'
+UnitCame declared unread buffer spans next_unit.End declared' unread' =
+    EndCame declared unread declared' unread'
 
 -- how many bytes it has
 abbrev pub size_of : PacketSpans → NextUnit → ℕ
@@ -253,21 +277,31 @@ IsSized spans next_unit.End buffer given = Unit {0}
 abbrev pub section_before : FileState → List Described → Option Section
 section_before state.Unknown interfaces = None
 section_before (state.Pcap head) interfaces = None
-section_before (state.Pcapng order first) interfaces = Some (record { order = order; interfaces = interfaces })
+section_before (state.Pcapng order first) interfaces =
+    Some (record { order = order; interfaces = interfaces })
 
--- these bytes begin a block: a section header where nothing was read, and any block behind a section
+-- these bytes begin a block: a section header where nothing was read, and any block behind a
+-- section
 abbrev pub BeginsBlock : FileState → List ℕ → Type 0
 BeginsBlock state.Unknown front = is_section front ≡ true
 BeginsBlock (state.Pcap head) front = ⊥
 BeginsBlock (state.Pcapng order first) front = Unit {0}
 
--- What reading a unit whose first bytes had come did: to the device, to the buffer, to where a packet lies in it, and to
--- what is known of the file. A fault leaves what is known.
-pub record ReadsUnit {I : Type 0} (device : Ghosts I) (old : I) (front : List ℕ) (file : FileState) (interfaces : List Described) (r : Result NextUnit Fault) (new : I) (buffer : List ℕ) (spans : PacketSpans) (file' : FileState) (interfaces' : List Described) : Type 0 where
+-- What reading a unit whose first bytes had come did: to the device, to the buffer, to where a
+-- packet lies in it, and to what is known of the file. A fault leaves what is known.
+pub record ReadsUnit {I : Type 0} (device : Ghosts I) (old : I) (front : List ℕ) (file : FileState)
+    (interfaces : List Described) (r : Result NextUnit Fault) (new : I) (buffer : List ℕ)
+    (spans : PacketSpans) (file' : FileState) (interfaces' : List Described) : Type 0 where
   pub moves : Moves device old new (length front) (size_of spans) most_in_unit r
   pub sized : IfOk r (λ came. IsSized spans came buffer (device.given new))
   pub consistent : OnOk r (IsConsistent file' interfaces')
   pub known : IfOk r (HasInterfaceIfAny (declared_by file' interfaces') spans)
-  pub ok : IfOk r (λ came. IsTrue device.tells → UnitCame (declared_by file interfaces) (front ++ device.unread old) buffer spans came (declared_by file' interfaces') (device.unread new))
-  pub err : IfErr r (λ fault. IsTrue device.tells → NoUnitCame (declared_by file interfaces) (front ++ device.unread old) (device.unread new) fault)
+  pub ok : IfOk r
+      (λ came. IsTrue device.tells
+      → UnitCame (declared_by file interfaces) (front ++ device.unread old) buffer spans came
+      (declared_by file' interfaces') (device.unread new))
+  pub err : IfErr r
+      (λ fault. IsTrue device.tells
+      → NoUnitCame (declared_by file interfaces) (front ++ device.unread old)
+      (device.unread new) fault)
   pub kept : OnErr r ((file' ≡ file) × (interfaces' ≡ interfaces))

@@ -17,8 +17,8 @@ pub record InRange (p : Captured) : Type 0 where
   pub orig : p.orig < 2 ^ 32
   pub comment : length p.comment ≤ 65535
 
--- what a pcap form tells of each packet beside its time, lengths and bytes: the snap length of the file header, no name, and
--- no comment
+-- what a pcap form tells of each packet beside its time, lengths and bytes: the snap length of the
+-- file header, no name, and no comment
 pub record IsPlain (p : Captured) : Type 0 where
   pub snap : p.snap ≡ most_captured
   pub name : p.name ≡ []
@@ -43,7 +43,8 @@ HasFewInterfaces NsecPcap ps = Unit {0}
 HasFewInterfaces Pcapng ps = length (interfaces_of ps) ≤ most_interfaces
 
 pub record Carries (format : Format) (ps : List Captured) : Type 0 where
-  pub each : (earlier : List Captured) (p : Captured) (later : List Captured) → ps ≡ earlier ++ p ∷ later → IsCarried format earlier p
+  pub each : (earlier : List Captured) (p : Captured) (later : List Captured)
+      → ps ≡ earlier ++ p ∷ later → IsCarried format earlier p
   pub interfaces : HasFewInterfaces format ps
 
 -- A text holds these packets, and ends cleanly.
@@ -53,7 +54,9 @@ pub record ReadsBack (text : List ℕ) (ps : List Captured) : Type 0 where
 
 -- what a format carries reads back
 abbrev pub Back : Format → Type 0
-Back format = (p : Captured) (ps : List Captured) → Carries format (p ∷ ps) → ReadsBack (text format (p ∷ ps)) (p ∷ ps)
+Back format =
+    (p : Captured) (ps : List Captured) → Carries format (p ∷ ps)
+    → ReadsBack (text format (p ∷ ps)) (p ∷ ps)
 
 abbrev pub ItemsBack : Type 0
 ItemsBack = (format : Format) → Back format

@@ -23,7 +23,8 @@ pub record SinkView : Type 0 where
   pub state : SinkState
   -- the interfaces of a pcapng file so far; pcap forms have none
   pub interfaces : List Interface
-  -- the bytes that the output took, a count of its failures, and how many bytes it takes in all before it fails
+  -- the bytes that the output took, a count of its failures, and how many bytes it takes in all
+  -- before it fails
   pub written : List ℕ
   pub failures : ℕ
   pub room : ℕ
@@ -31,7 +32,14 @@ pub record SinkView : Type 0 where
 -- a sink to which nothing was put
 abbrev pub sink_at : Format → List ℕ → ℕ → ℕ → SinkView
 sink_at format written failures room =
-    record { format = format; state = Empty; interfaces = []; written = written; failures = failures; room = room }
+    record {
+      format = format;
+      state = Empty;
+      interfaces = [];
+      written = written;
+      failures = failures;
+      room = room;
+    }
 
 -- ---- which packets were put
 
@@ -69,7 +77,8 @@ takes_memory Pcap packets p = false
 takes_memory NsecPcap packets p = false
 takes_memory Pcapng packets p = not (is_among (map interface_of packets) (interface_of p))
 
--- A packet that isn't refused is added; or there was no memory, where it takes some; or the device failed.
+-- A packet that isn't refused is added; or there was no memory, where it takes some; or the device
+-- failed.
 abbrev pub IsPutAnswer : Option Fault → Bool → Result (Unit {0}) Fault → Type 0
 IsPutAnswer None takes (Ok done) = Unit {0}
 IsPutAnswer None takes (Err fault) = (fault ≡ WriteFailed) ⊎ ((fault ≡ NoMemory) × (takes ≡ true))
@@ -80,45 +89,59 @@ abbrev pub state_put : List Captured → Captured → Result (Unit {0}) Fault �
 state_put packets p (Ok done) = state_after (packets ++ p ∷ [])
 state_put packets p (Err fault) = Broken fault
 
--- The interfaces that are left of those before a packet and those behind it: it is numbered before its bytes are
--- written, so where the device fails they are those behind it.
-abbrev pub interfaces_after_put : Result (Unit {0}) Fault → (before behind : List Interface) → List Interface
+-- The interfaces that are left of those before a packet and those behind it: it is numbered before
+-- its bytes are written, so where the device fails they are those behind it.
+abbrev pub interfaces_after_put : Result (Unit {0}) Fault → (before behind : List Interface)
+    → List Interface
 interfaces_after_put (Ok done) before behind = behind
 interfaces_after_put (Err WriteFailed) before behind = behind
 interfaces_after_put (Err fault) before behind = before
 
 -- what a put does to a sink that these packets were put to, whatever the device
-pub record PutsAfter (packets : List Captured) (old : SinkView) (p : Captured) (r : Result (Unit {0}) Fault) (new : SinkView) : Type 0 where
+pub record PutsAfter (packets : List Captured) (old : SinkView) (p : Captured)
+    (r : Result (Unit {0}) Fault) (new : SinkView) : Type 0 where
   pub answer : IsPutAnswer (refusal_of old.format packets p) (takes_memory old.format packets p) r
   pub state : new.state ≡ state_put packets p r
-  pub interfaces : new.interfaces ≡ interfaces_after_put r (kept_interfaces old.format packets) (kept_interfaces old.format (packets ++ p ∷ []))
+  pub interfaces : new.interfaces
+      ≡ interfaces_after_put r (kept_interfaces old.format packets)
+      (kept_interfaces old.format (packets ++ p ∷ []))
   pub bounds : FitFile new.interfaces
   pub format : new.format ≡ old.format
   pub failures : new.failures ≡ old.failures + write_failures r
   pub room : new.room ≡ old.room
   pub filled : r ≡ Err WriteFailed → old.room ≤ length new.written
 
--- what is written where a call ends by a fault: nothing where there was no memory, else a beginning, not the whole
+-- what is written where a call ends by a fault: nothing where there was no memory, else a
+-- beginning, not the whole
 abbrev pub BreaksOff : Fault → List ℕ → List ℕ → List ℕ → Type 0
 BreaksOff NoMemory bytes written written' = written' ≡ written
 BreaksOff fault bytes written written' = Stops written bytes written'
 
--- what it writes: all that the packet adds to the text; nothing of a packet that is refused; else a beginning of
--- what it adds, not the whole, or nothing
+-- what it writes: all that the packet adds to the text; nothing of a packet that is refused; else a
+-- beginning of what it adds, not the whole, or nothing
 abbrev pub WritesPacket : Option Fault → List ℕ → List ℕ → Result (Unit {0}) Fault → List ℕ → Type 0
 WritesPacket refusal bytes written (Ok done) written' = written' ≡ written ++ bytes
 WritesPacket (Some refusal) bytes written (Err fault) written' = written' ≡ written
 WritesPacket None bytes written (Err fault) written' = BreaksOff fault bytes written written'
 
 -- a sink that failed returns that again, and stays
-abbrev pub PutsPacket : SinkState → SinkView → Captured → Result (Unit {0}) Fault → SinkView → Type 0
-PutsPacket Empty old p r new = (packets : List Captured) → HasPut old packets → PutsAfter packets old p r new
-PutsPacket (Started link) old p r new = (packets : List Captured) → HasPut old packets → PutsAfter packets old p r new
+abbrev pub PutsPacket : SinkState → SinkView → Captured → Result (Unit {0}) Fault → SinkView
+    → Type 0
+PutsPacket Empty old p r new =
+    (packets : List Captured) → HasPut old packets → PutsAfter packets old p r new
+PutsPacket (Started link) old p r new =
+    (packets : List Captured) → HasPut old packets → PutsAfter packets old p r new
 PutsPacket (Broken fault) old p r new = (r ≡ Err fault) × (new ≡ old)
 
 abbrev pub PutWrites : SinkState → SinkView → Captured → Result (Unit {0}) Fault → SinkView → Type 0
-PutWrites Empty old p r new = (packets : List Captured) → HasPut old packets → WritesPacket (refusal_of old.format packets p) (added_text old.format packets p) old.written r new.written
-PutWrites (Started link) old p r new = (packets : List Captured) → HasPut old packets → WritesPacket (refusal_of old.format packets p) (added_text old.format packets p) old.written r new.written
+PutWrites Empty old p r new =
+    (packets : List Captured) → HasPut old packets
+    → WritesPacket (refusal_of old.format packets p)
+    (added_text old.format packets p) old.written r new.written
+PutWrites (Started link) old p r new =
+    (packets : List Captured) → HasPut old packets
+    → WritesPacket (refusal_of old.format packets p)
+    (added_text old.format packets p) old.written r new.written
 PutWrites (Broken fault) old p r new = new ≡ old
 
 -- ---- finish
@@ -133,7 +156,8 @@ state_finished link (Ok done) = Started link
 state_finished link (Err fault) = Broken fault
 
 -- what a finish does to a sink to which nothing was put, whatever the device
-pub record FinishesEmpty (old : SinkView) (link : ℕ) (r : Result (Unit {0}) Fault) (new : SinkView) : Type 0 where
+pub record FinishesEmpty (old : SinkView) (link : ℕ) (r : Result (Unit {0}) Fault)
+    (new : SinkView) : Type 0 where
   pub answer : IsFinishAnswer r
   pub state : new.state ≡ state_finished link r
   pub interfaces : new.interfaces ≡ old.interfaces
@@ -151,9 +175,12 @@ Finishes Empty old first r new = FinishesEmpty old (link_or_ethernet first) r ne
 Finishes (Started link) old first r new = (r ≡ Ok tt) × (new ≡ old)
 Finishes (Broken fault) old first r new = (r ≡ Err fault) × (new ≡ old)
 
--- the file header or section header is written where nothing was put, or a beginning of it, not the whole
-abbrev pub FinishWrites : SinkState → SinkView → Option ℕ → Result (Unit {0}) Fault → SinkView → Type 0
-FinishWrites Empty old first r new = AppendsOrStops r old.written (file_start old.format (link_or_ethernet first)) new.written
+-- the file header or section header is written where nothing was put, or a beginning of it, not the
+-- whole
+abbrev pub FinishWrites : SinkState → SinkView → Option ℕ → Result (Unit {0}) Fault → SinkView
+    → Type 0
+FinishWrites Empty old first r new =
+    AppendsOrStops r old.written (file_start old.format (link_or_ethernet first)) new.written
 FinishWrites (Started link) old first r new = new ≡ old
 FinishWrites (Broken fault) old first r new = new ≡ old
 
@@ -170,7 +197,13 @@ record_checks state p = (has_link state p, LinkTypesDiffer) ∷ pcap.fit_checks 
 abbrev pub block_checks : List Interface → Captured → List (Bool × Fault)
 block_checks interfaces p =
     pcapng.fit_checks p
-    ++ (nat_le (length (interfaces ++ new_among interfaces (interface_of p))) most_output_interfaces, TooManyOutputInterfaces)
+    ++ (
+      nat_le
+          (length
+          (interfaces
+          ++ new_among interfaces (interface_of p))) most_output_interfaces,
+      TooManyOutputInterfaces,
+    )
     ∷ []
 
 abbrev pub checks_in : Format → SinkState → List Interface → Captured → List (Bool × Fault)
@@ -196,10 +229,12 @@ abbrev pub packet_in : Format → List Interface → Captured → List ℕ
 packet_in Pcap interfaces p = record_text Microseconds p
 packet_in NsecPcap interfaces p = record_text Nanoseconds p
 packet_in Pcapng interfaces p =
-    descriptions (new_among interfaces (interface_of p)) ++ pcapng.packet_text (number_among interfaces (interface_of p)) p
+    descriptions (new_among interfaces (interface_of p))
+    ++ pcapng.packet_text (number_among interfaces (interface_of p)) p
 
 abbrev pub added_in : SinkView → Captured → List ℕ
-added_in sink p = file_start_in sink.format sink.state p.link ++ packet_in sink.format sink.interfaces p
+added_in sink p =
+    file_start_in sink.format sink.state p.link ++ packet_in sink.format sink.interfaces p
 
 -- a packet of pcapng by the number of its interface
 abbrev pub description_text : Bool → Captured → List ℕ
@@ -207,10 +242,12 @@ description_text true p = pcapng.interface_text p.link p.snap p.name
 description_text false p = []
 
 abbrev pub block_text : InterfaceNumber → Captured → List ℕ
-block_text interface p = description_text interface.is_new p ++ pcapng.packet_text interface.number p
+block_text interface p =
+    description_text interface.is_new p ++ pcapng.packet_text interface.number p
 
 -- These bytes are appended to a device; or a prefix of them, not the whole, where it failed.
-pub record Appends {Device : Type 0} (d : Ghosts Device) (old : Device) (bytes : List ℕ) (r : Result (Unit {0}) DeviceFault) (new : Device) : Type 0 where
+pub record Appends {Device : Type 0} (d : Ghosts Device) (old : Device) (bytes : List ℕ)
+    (r : Result (Unit {0}) DeviceFault) (new : Device) : Type 0 where
   pub appended : IsTrue d.tells → AppendsOrStops r (d.written old) bytes (d.written new)
   pub failed : d.failures new ≡ d.failures old + failures_of r
   pub room : d.room new ≡ d.room old
@@ -227,10 +264,12 @@ interfaces_after_packet NsecPcap interfaces p = interfaces
 interfaces_after_packet Pcapng interfaces p = interfaces ++ new_among interfaces (interface_of p)
 
 -- what adding a packet does to a sink that did not fail, whatever the device
-pub record AddsPacket (old : SinkView) (p : Captured) (r : Result (Unit {0}) Fault) (new : SinkView) : Type 0 where
+pub record AddsPacket (old : SinkView) (p : Captured) (r : Result (Unit {0}) Fault)
+    (new : SinkView) : Type 0 where
   pub answer : IsPutAnswer (refusal_in old p) (takes_memory_in old.format old.interfaces p) r
   pub state : OnOk r (new.state ≡ state_after_packet old.state p)
-  pub interfaces : new.interfaces ≡ interfaces_after_put r old.interfaces (interfaces_after_packet old.format old.interfaces p)
+  pub interfaces : new.interfaces
+      ≡ interfaces_after_put r old.interfaces (interfaces_after_packet old.format old.interfaces p)
   pub format : new.format ≡ old.format
   pub failures : new.failures ≡ old.failures + write_failures r
   pub room : new.room ≡ old.room

@@ -66,11 +66,13 @@ block_at (stage.Failed fault) spans buffer = []
 
 abbrev pub packet_at : Stage → PacketSpans → Declared → List ℕ → Option Captured
 packet_at stage.Between spans declared buffer = None
-packet_at stage.InHand spans declared buffer = packet_in_unit declared spans (take spans.size buffer)
+packet_at stage.InHand spans declared buffer =
+    packet_in_unit declared spans (take spans.size buffer)
 packet_at stage.Ended spans declared buffer = None
 packet_at (stage.Failed fault) spans declared buffer = None
 
-abbrev pub view_of : Stage → PacketSpans → FileState → List Described → List ℕ → ℕ → List ℕ → ℕ → ℕ → Bool → SourceView
+abbrev pub view_of : Stage → PacketSpans → FileState → List Described → List ℕ → ℕ → List ℕ → ℕ → ℕ
+    → Bool → SourceView
 view_of stage spans file interfaces buffer offset unread given failures never_fails = record {
   phase = phase_at stage;
   declared = declared_by file interfaces;
@@ -96,7 +98,8 @@ HasInterfaceIfInHand stage.Ended spans declared = Unit {0}
 HasInterfaceIfInHand (stage.Failed fault) spans declared = Unit {0}
 
 -- what holds of each source's fields
-pub record IsSound (stage : Stage) (spans : PacketSpans) (file : FileState) (interfaces : List Described) (offset : ℕ) (buffer : List ℕ) (given : ℕ) : Type 0 where
+pub record IsSound (stage : Stage) (spans : PacketSpans) (file : FileState)
+    (interfaces : List Described) (offset : ℕ) (buffer : List ℕ) (given : ℕ) : Type 0 where
   pub fits : offset + length (block_at stage spans buffer) < 2 ^ 63
   pub counted : offset + length (block_at stage spans buffer) ≤ given
   pub lies : HoldsIfAny stage spans buffer
@@ -105,7 +108,8 @@ pub record IsSound (stage : Stage) (spans : PacketSpans) (file : FileState) (int
 
 -- ---- what an advance does
 
--- The source leaves the current unit and skips these bytes, which are whole units without packets, to `rest`.
+-- The source leaves the current unit and skips these bytes, which are whole units without packets,
+-- to `rest`.
 pub record SkipsUnits (old new : SourceView) (rest : List ℕ) : Type 0 where
   pub passed : List ℕ
   pub splits : old.unread ≡ passed ++ rest
@@ -188,9 +192,12 @@ pub record KeepsBounds (old : SourceView) (r : Result Bool Fault) (new : SourceV
   pub bounded : r ≡ Ok true → new.given < 2 ^ 63
   -- there is a current packet
   pub packet : r ≡ Ok true → is_some new.packet ≡ true
-  -- All bytes that the device gave are skipped or current, but for those of a broken unit: at most one unit's bytes.
+  -- All bytes that the device gave are skipped or current, but for those of a broken unit: at most
+  -- one unit's bytes.
   pub counted : OnOk r (new.given + end_offset old ≡ old.given + end_offset new)
-  pub broken : OnErr r ((old.given + end_offset new ≤ new.given + end_offset old) × (new.given + end_offset old ≤ old.given + end_offset new + most_in_unit))
+  pub broken : OnErr r
+      ((old.given + end_offset new ≤ new.given + end_offset old)
+      × (new.given + end_offset old ≤ old.given + end_offset new + most_in_unit))
 
 abbrev pub Steps : Phase → SourceView → Result Bool Fault → SourceView → Type 0
 Steps Reading old r new = KeepsBounds old r new
@@ -227,18 +234,23 @@ FindsNext old (Ok next_unit.End) new = FindsEnd old new
 FindsNext old (Err fault) new = IsBroken old new fault
 
 -- and what holds of any device
-pub record NextBounds (old : SourceView) (r : Result NextUnit Fault) (new : SourceView) : Type 0 where
+pub record NextBounds (old : SourceView) (r : Result NextUnit Fault)
+    (new : SourceView) : Type 0 where
   pub given : old.given ≤ new.given
   pub failures : new.failures ≡ old.failures + read_failures r
   pub never : new.never_fails ≡ old.never_fails
   pub unfailed : IsTrue old.never_fails → new.failures ≡ old.failures
   pub block : length new.block ≤ most_in_unit
-  pub packet : r ≡ Ok next_unit.Packet → (old.given < new.given) × (new.given < 2 ^ 63) × (is_some new.packet ≡ true)
+  pub packet : r ≡ Ok next_unit.Packet
+      → (old.given < new.given) × (new.given < 2 ^ 63) × (is_some new.packet ≡ true)
   pub counted : OnOk r (new.given + end_offset old ≡ old.given + end_offset new)
-  pub broken : OnErr r ((old.given + end_offset new ≤ new.given + end_offset old) × (new.given + end_offset old ≤ old.given + end_offset new + most_in_unit))
+  pub broken : OnErr r
+      ((old.given + end_offset new ≤ new.given + end_offset old)
+      × (new.given + end_offset old ≤ old.given + end_offset new + most_in_unit))
   pub ended : r ≡ Ok next_unit.End → new.phase ≡ Ended
   pub found : r ≡ Ok next_unit.Packet → new.phase ≡ Reading
-  pub passed : (size : ℕ) → r ≡ Ok (next_unit.Other size) → (old.given < new.given) × (new.given < 2 ^ 63) × IsBetween new
+  pub passed : (size : ℕ) → r ≡ Ok (next_unit.Other size)
+      → (old.given < new.given) × (new.given < 2 ^ 63) × IsBetween new
 
 -- the next unit, which the device had at hand, is taken: it has a packet
 pub record TakesNext (tells : Bool) (old new : SourceView) : Type 0 where

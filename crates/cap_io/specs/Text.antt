@@ -72,8 +72,8 @@ abbrev pub descriptions : List Interface → List ℕ
 descriptions [] = []
 descriptions (i ∷ is) = pcapng.interface_text i.link i.snap i.name ++ descriptions is
 
--- the bytes of a packet that comes after these: in pcapng its interface is described in front of it where no earlier
--- packet has the same, and its number is how many different ones came first
+-- the bytes of a packet that comes after these: in pcapng its interface is described in front of it
+-- where no earlier packet has the same, and its number is how many different ones came first
 abbrev pub packet_text : Format → List Captured → Captured → List ℕ
 packet_text Pcap earlier p = record_text Microseconds p
 packet_text NsecPcap earlier p = record_text Nanoseconds p
@@ -84,9 +84,11 @@ packet_text Pcapng earlier p =
 -- the bytes of packets that come after these, one after another
 abbrev pub packets_text : Format → List Captured → List Captured → List ℕ
 packets_text format earlier [] = []
-packets_text format earlier (p ∷ ps) = packet_text format earlier p ++ packets_text format (earlier ++ p ∷ []) ps
+packets_text format earlier (p ∷ ps) =
+    packet_text format earlier p ++ packets_text format (earlier ++ p ∷ []) ps
 
--- The text of a file: its file header has the link type of the first packet. Where there is none, nothing is written.
+-- The text of a file: its file header has the link type of the first packet. Where there is none,
+-- nothing is written.
 abbrev pub text : Format → List Captured → List ℕ
 text format [] = []
 text format (p ∷ ps) = file_start format p.link ++ packets_text format [] (p ∷ ps)
@@ -109,7 +111,12 @@ put_checks Pcap earlier p = (has_first_link earlier p, LinkTypesDiffer) ∷ pcap
 put_checks NsecPcap earlier p = (has_first_link earlier p, LinkTypesDiffer) ∷ pcap.fit_checks p
 put_checks Pcapng earlier p =
     pcapng.fit_checks p
-    ++ (nat_le (length (interfaces_of (earlier ++ p ∷ []))) most_output_interfaces, TooManyOutputInterfaces)
+    ++ (
+      nat_le
+          (length
+          (interfaces_of (earlier ++ p ∷ []))) most_output_interfaces,
+      TooManyOutputInterfaces,
+    )
     ∷ []
 
 -- why a packet that comes after these isn't written

@@ -9,8 +9,8 @@ use Rattle.cap_library.specs.Compiling.{IsFor, failure_number, failure_status}
 use Rattle.cap_library.specs.declared.compiling.Failure.{Failure}
 use Rattle.cap_library.specs.declared.compiling.Failure.TheVariants.{Text, NotUtf8, LinkType, NoRoom}
 
--- the bound of the expression that a text is; no program that is compiled of it has more instructions, whatever the
--- link type
+-- the bound of the expression that a text is; no program that is compiled of it has more
+-- instructions, whatever the link type
 pub record IsBound (text : List ℕ) (number : ℕ) : Type 0 where
   pub e : Expression
   pub expression : IsExpression text e

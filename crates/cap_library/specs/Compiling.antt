@@ -11,15 +11,16 @@ use Rattle.cap_filter.specs.Links.{link_of}
 use Rattle.cap_library.specs.declared.compiling.Failure.{Failure}
 use Rattle.cap_library.specs.declared.compiling.Failure.TheVariants.{Text, NotUtf8, LinkType, NoRoom}
 
--- a program for the expression that a text is, on packets of a link type: it is valid, accepts exactly the packets that
--- match, and has at most as many instructions as the expression's bound
+-- a program for the expression that a text is, on packets of a link type: it is valid, accepts
+-- exactly the packets that match, and has at most as many instructions as the expression's bound
 pub record IsFor (text : List ℕ) (link_type : ℕ) (prog : List Insn) : Type 0 where
   pub link : Link
   pub read : link_of link_type ≡ Some link
   pub compiled : IsCompiled text link prog
 
 -- so many instructions at the start are such a program, and those behind them are as they were
-pub record WritesProgram (text : List ℕ) (link_type : ℕ) (old new : List Insn) (count : ℕ) : Type 0 where
+pub record WritesProgram (text : List ℕ) (link_type : ℕ) (old new : List Insn)
+    (count : ℕ) : Type 0 where
   pub program : IsFor text link_type (take count new)
   pub same_length : length new ≡ length old
   pub fits : count ≤ length old
@@ -30,7 +31,8 @@ abbrev pub IsFailure : List ℕ → ℕ → ℕ → Failure → Type 0
 IsFailure text link_type room (Text refusal) = IsTextFault text refusal
 IsFailure text link_type room (NotUtf8 at) = (¬ IsUtf8 text) × IsValidUpTo text at
 IsFailure text link_type room LinkType = link_of link_type ≡ None
-IsFailure text link_type room (NoRoom needed) = (room < needed) × ((prog : List Insn) × IsFor text link_type prog × (length prog ≡ needed))
+IsFailure text link_type room (NoRoom needed) =
+    (room < needed) × ((prog : List Insn) × IsFor text link_type prog × (length prog ≡ needed))
 
 -- its number
 abbrev pub failure_status : Failure → ℕ
@@ -51,14 +53,16 @@ failure_status (NotUtf8 at) = 14
 failure_status LinkType = 15
 failure_status (NoRoom needed) = 16
 
--- where the text is wrong, from 1, or from 0 where it isn't UTF-8; how many instructions are needed; else 0
+-- where the text is wrong, from 1, or from 0 where it isn't UTF-8; how many instructions are
+-- needed; else 0
 abbrev pub failure_number : Failure → ℕ
 failure_number (Text refusal) = unwrap_or (messages.place_of refusal) 0
 failure_number (NotUtf8 at) = at
 failure_number LinkType = 0
 failure_number (NoRoom needed) = needed
 
-pub record Fails (text : List ℕ) (link_type : ℕ) (old new : List Insn) (number status : ℕ) : Type 0 where
+pub record Fails (text : List ℕ) (link_type : ℕ) (old new : List Insn)
+    (number status : ℕ) : Type 0 where
   pub failure : Failure
   pub why : IsFailure text link_type (length old) failure
   pub told : status ≡ failure_status failure
@@ -66,6 +70,9 @@ pub record Fails (text : List ℕ) (link_type : ℕ) (old new : List Insn) (numb
   pub kept : new ≡ old
 
 -- 0 and a program, or another status and nothing
-pub data CompilesText (text : List ℕ) (link_type : ℕ) (old new : List Insn) (number : ℕ) : ℕ → Type 0 where
-  compiles : WritesProgram text link_type old new number → CompilesText text link_type old new number 0
-  fails : {status : ℕ} → Fails text link_type old new number status → CompilesText text link_type old new number status
+pub data CompilesText (text : List ℕ) (link_type : ℕ) (old new : List Insn) (number : ℕ) : ℕ
+    → Type 0 where
+  compiles : WritesProgram text link_type old new number
+      → CompilesText text link_type old new number 0
+  fails : {status : ℕ} → Fails text link_type old new number status
+      → CompilesText text link_type old new number status

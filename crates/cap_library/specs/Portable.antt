@@ -16,17 +16,20 @@ keeps_x_small i =
 -- loads at k and at X + k, the length, shifts by X
 abbrev pub runs_alike : Bool → Insn → Bool
 runs_alike small i =
-    if (i.code == 32) || (i.code == 40) || (i.code == 48) || (i.code == 177) then nat_lt i.k half_of_places
-    else (if (i.code == 64) || (i.code == 72) || (i.code == 80) then small && nat_lt i.k half_of_places
+    if (i.code == 32) || (i.code == 40) || (i.code == 48)
+    || (i.code == 177) then nat_lt i.k half_of_places
+    else (if (i.code == 64) || (i.code == 72)
+    || (i.code == 80) then small && nat_lt i.k half_of_places
     else (if (i.code == 128) || (i.code == 129) || (i.code == 108) || (i.code == 124) then false
     else true))
 
--- of the places behind an instruction, whether the n-th may read a word first; past the last one none does
+-- of the places behind an instruction, whether the n-th may read a word first; past the last one
+-- none does
 abbrev pub wanted_at : List Bool → ℕ → Bool
 wanted_at behind n = slice_index_or behind n false
 
--- Whether a run may read M[w] before it writes it, from an instruction on, by what holds of the places behind it: ld M and
--- ldx M; st and stx; ja; the other jumps; returns.
+-- Whether a run may read M[w] before it writes it, from an instruction on, by what holds of the
+-- places behind it: ld M and ldx M; st and stx; ja; the other jumps; returns.
 abbrev pub wants : ℕ → Insn → List Bool → Bool
 wants w i behind =
     if (i.code == 96) || (i.code == 97) then (i.k == w) || wanted_at behind 0
@@ -48,5 +51,6 @@ writes_first (suc n) insns = writes_first n insns && not (wanted_at (words_wante
 
 abbrev pub is_portable : List Insn → ℕ
 is_portable insns =
-    if nat_le (length insns) 4096 && (list_all (runs_alike (list_all keeps_x_small insns)) insns && writes_first 16 insns)
+    if nat_le (length insns) 4096
+    && (list_all (runs_alike (list_all keeps_x_small insns)) insns && writes_first 16 insns)
     then 1 else 0

@@ -42,7 +42,8 @@ found_number found.Unit = 23
 found_number found.NoRoom = 24
 
 -- something is found, and the number is its own
-pub record UnitLeaves (capture : List ℕ) (r r' : Reader) (t t' : List Interface) (p p' : Packet) (number : ℕ) : Type 0 where
+pub record UnitLeaves (capture : List ℕ) (r r' : Reader) (t t' : List Interface) (p p' : Packet)
+    (number : ℕ) : Type 0 where
   pub found : Found
   pub leaves : NextLeaves capture r r' t t' p p' found
   pub told : number ≡ found_number found

@@ -18,8 +18,10 @@ written_length (written.Whole count) = count
 written_length (written.NoRoom count) = count
 written_length (written.Refused fault) = 0
 
--- the bytes are written whole, or find no room, or are refused, and number and length are those of that
-pub record WriteTells (refusal : Option Fault) (bytes old new : List ℕ) (length number : ℕ) : Type 0 where
+-- the bytes are written whole, or find no room, or are refused, and number and length are those of
+-- that
+pub record WriteTells (refusal : Option Fault) (bytes old new : List ℕ)
+    (length number : ℕ) : Type 0 where
   pub written : Written
   pub leaves : WriteLeaves refusal bytes old new written
   pub told : number ≡ written_number written

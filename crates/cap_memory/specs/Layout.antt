@@ -24,8 +24,15 @@ link_by flag link = if flag == 0 then None else Some link
 -- what a reader says of the file
 abbrev pub form_of : Reader → Form
 form_of r =
-    if r.form == 1 then form.Pcap (record { order = order_by r.big_endian; resolution = resolution_by r.nanoseconds; snap = r.snap; link = r.link_type })
-    else (if r.form == 2 then form.Pcapng (order_by r.big_endian) (link_by r.has_link_type r.link_type)
+    if r.form == 1 then form.Pcap
+    (record {
+      order = order_by r.big_endian;
+      resolution = resolution_by r.nanoseconds;
+      snap = r.snap;
+      link = r.link_type;
+    })
+    else (if r.form == 2 then form.Pcapng (order_by r.big_endian)
+    (link_by r.has_link_type r.link_type)
     else form.Unknown)
 
 -- how many interfaces it knows, in a table with so much room
@@ -34,7 +41,14 @@ most_known r room = min (min r.interfaces room) 256
 
 -- an interface of the table
 abbrev pub described_of : Interface → Described
-described_of i = record { link = i.link_type; snap = i.snap; name = take i.name_length i.name; units = if i.units == 0 then 1 else i.units; offset = i.offset }
+described_of i =
+    record {
+      link = i.link_type;
+      snap = i.snap;
+      name = take i.name_length i.name;
+      units = if i.units == 0 then 1 else i.units;
+      offset = i.offset;
+    }
 
 -- the first of a table
 abbrev pub first_of : ℕ → List Interface → List Described
@@ -44,7 +58,8 @@ first_of count table = map described_of (take count table)
 abbrev pub declared_by : Form → List Described → Declared
 declared_by form.Unknown interfaces = Nothing
 declared_by (form.Pcap head) interfaces = PcapFile head
-declared_by (form.Pcapng order first) interfaces = PcapngFile first (record { order = order; interfaces = interfaces })
+declared_by (form.Pcapng order first) interfaces =
+    PcapngFile first (record { order = order; interfaces = interfaces })
 
 -- the same by a reader and its table
 abbrev pub declared_in : Reader → List Interface → Declared

@@ -32,10 +32,12 @@ comment_by (PcapngFile first section) options = comment_in section.order options
 abbrev pub name_by : Declared → ℕ → Option (List ℕ)
 name_by Nothing number = Some []
 name_by (PcapFile head) number = Some []
-name_by (PcapngFile first section) number = option_map (λ (i : Described). i.name) (slice_get section.interfaces number)
+name_by (PcapngFile first section) number =
+    option_map (λ (i : Described). i.name) (slice_get section.interfaces number)
 
 -- a packet of a unit of so many bytes, which begins a text, and where its parts are in the unit
-pub record IsPlaced (declared : Declared) (text : List ℕ) (size : ℕ) (p : UnitPacket) (q : Captured) : Type 0 where
+pub record IsPlaced (declared : Declared) (text : List ℕ) (size : ℕ) (p : UnitPacket)
+    (q : Captured) : Type 0 where
   pub link : q.link ≡ p.link_type
   pub snap : q.snap ≡ p.snap
   pub name : name_by declared p.interface ≡ Some q.name
@@ -48,20 +50,25 @@ pub record IsPlaced (declared : Declared) (text : List ℕ) (size : ℕ) (p : Un
 
 abbrev pub ArePlaced : Declared → List ℕ → ℕ → Option UnitPacket → List Captured → Type 0
 ArePlaced declared text size None packets = packets ≡ []
-ArePlaced declared text size (Some p) packets = (q : Captured) × (packets ≡ q ∷ []) × IsPlaced declared text size p q
+ArePlaced declared text size (Some p) packets =
+    (q : Captured) × (packets ≡ q ∷ []) × IsPlaced declared text size p q
 
 -- a text begins with a unit: what it declares, and its packet
-pub record Steps (form : Form) (interfaces : List Described) (text : List ℕ) (table' : List Interface) (step : Step) : Type 0 where
+pub record Steps (form : Form) (interfaces : List Described) (text : List ℕ)
+    (table' : List Interface) (step : Step) : Type 0 where
   pub packets : List Captured
-  pub front : front_of (declared_by form interfaces) text ≡ Whole step.size packets (declared_by step.form (first_of step.interfaces table'))
-  pub placed : ArePlaced (declared_by step.form (first_of step.interfaces table')) text step.size step.packet packets
+  pub front : front_of (declared_by form interfaces) text
+      ≡ Whole step.size packets (declared_by step.form (first_of step.interfaces table'))
+  pub placed : ArePlaced
+      (declared_by step.form (first_of step.interfaces table')) text step.size step.packet packets
   pub there : step.size ≤ length text
   pub some : 0 < step.size
   pub known : step.interfaces ≤ length table'
   pub few : step.interfaces ≤ 256
 
 -- it declares an interface more
-pub record DeclaresOne (declared : Declared) (text : List ℕ) (interfaces : List Described) : Type 0 where
+pub record DeclaresOne (declared : Declared) (text : List ℕ)
+    (interfaces : List Described) : Type 0 where
   pub size : ℕ
   pub first : Option ℕ
   pub section : Section
@@ -71,14 +78,18 @@ pub record DeclaresOne (declared : Declared) (text : List ℕ) (interfaces : Lis
 
 -- it begins with no unit, but with a fault; or with an interface that a full table has no room for
 abbrev pub IsNoUnit : Form → List Described → List ℕ → ℕ → Refusal → Type 0
-IsNoUnit form interfaces text room (refusal.Fault fault) = front_of (declared_by form interfaces) text ≡ Stops (Some fault)
-IsNoUnit form interfaces text room refusal.NoRoom = (room ≤ length interfaces) × DeclaresOne (declared_by form interfaces) text interfaces
+IsNoUnit form interfaces text room (refusal.Fault fault) =
+    front_of (declared_by form interfaces) text ≡ Stops (Some fault)
+IsNoUnit form interfaces text room refusal.NoRoom =
+    (room ≤ length interfaces) × DeclaresOne (declared_by form interfaces) text interfaces
 
 -- a block may begin here: its section before it is this one
 abbrev pub Begins : Form → Option Order → Option ℕ → List Described → List ℕ → Type 0
-Begins form.Unknown section first interfaces text = (section ≡ None) × (first ≡ None) × (interfaces ≡ []) × (is_pcapng text ≡ true)
+Begins form.Unknown section first interfaces text =
+    (section ≡ None) × (first ≡ None) × (interfaces ≡ []) × (is_pcapng text ≡ true)
 Begins (form.Pcap head) section first interfaces text = ⊥
-Begins (form.Pcapng order link) section first interfaces text = (section ≡ Some order) × (first ≡ link) × (0 < length text)
+Begins (form.Pcapng order link) section first interfaces text =
+    (section ≡ Some order) × (first ≡ link) × (0 < length text)
 
 -- behind a unit something is left
 abbrev pub IsSomeFor : Form → List ℕ → Type 0
@@ -95,7 +106,8 @@ IsBare (form.Pcapng order link) count = Unit {0}
 -- ---- what a call leaves
 
 -- a packet of a capture, and where its parts are
-pub record IsFound (capture : List ℕ) (declared : Declared) (p : Packet) (q : Captured) : Type 0 where
+pub record IsFound (capture : List ℕ) (declared : Declared) (p : Packet)
+    (q : Captured) : Type 0 where
   pub link : q.link ≡ p.link_type
   pub snap : q.snap ≡ p.snap
   pub name : name_by declared p.interface ≡ Some q.name
@@ -112,16 +124,26 @@ pub record Stays (r r' : Reader) (t t' : List Interface) (p p' : Packet) : Type 
   pub table : t' ≡ t
   pub packet : p' ≡ p
 
--- the unit at the reader's place, by what its units so far declare: it is passed, or its packet is found, or nothing is
--- there, or it has a fault, or a full table has no room for its interface
-pub data NextLeaves (capture : List ℕ) (r r' : Reader) (t t' : List Interface) (p p' : Packet) : Found → Type 0 where
-  passes : (size : ℕ) → front_of (declared_in r t) (drop r.offset capture) ≡ Whole size [] (declared_in r' t') → r'.offset ≡ r.offset + size
-      → size ≤ length (drop r.offset capture) → p' ≡ p → NextLeaves capture r r' t t' p p' found.Unit
-  finds : (size : ℕ) (q : Captured) → front_of (declared_in r t) (drop r.offset capture) ≡ Whole size (q ∷ []) (declared_in r' t') → r'.offset ≡ r.offset + size
-      → size ≤ length (drop r.offset capture) → IsFound capture (declared_in r' t') p' q → NextLeaves capture r r' t t' p p' found.Packet
-  ends : front_of (declared_in r t) (drop r.offset capture) ≡ Stops None → Stays r r' t t' p p' → NextLeaves capture r r' t t' p p' found.End
-  fails : (fault : Fault) → front_of (declared_in r t) (drop r.offset capture) ≡ Stops (Some fault) → Stays r r' t t' p p' → NextLeaves capture r r' t t' p p' (found.Fault fault)
-  is_full : (interfaces : List Described) → length t ≤ length interfaces → DeclaresOne (declared_in r t) (drop r.offset capture) interfaces → Stays r r' t t' p p'
+-- the unit at the reader's place, by what its units so far declare: it is passed, or its packet is
+-- found, or nothing is there, or it has a fault, or a full table has no room for its interface
+pub data NextLeaves (capture : List ℕ) (r r' : Reader) (t t' : List Interface)
+    (p p' : Packet) : Found → Type 0 where
+  passes : (size : ℕ)
+      → front_of (declared_in r t) (drop r.offset capture) ≡ Whole size [] (declared_in r' t')
+      → r'.offset ≡ r.offset + size
+      → size ≤ length (drop r.offset capture) → p' ≡ p
+      → NextLeaves capture r r' t t' p p' found.Unit
+  finds : (size : ℕ) (q : Captured)
+      → front_of (declared_in r t) (drop r.offset capture) ≡ Whole size (q ∷ []) (declared_in r' t')
+      → r'.offset ≡ r.offset + size
+      → size ≤ length (drop r.offset capture) → IsFound capture (declared_in r' t') p' q
+      → NextLeaves capture r r' t t' p p' found.Packet
+  ends : front_of (declared_in r t) (drop r.offset capture) ≡ Stops None → Stays r r' t t' p p'
+      → NextLeaves capture r r' t t' p p' found.End
+  fails : (fault : Fault) → front_of (declared_in r t) (drop r.offset capture) ≡ Stops (Some fault)
+      → Stays r r' t t' p p' → NextLeaves capture r r' t t' p p' (found.Fault fault)
+  is_full : (interfaces : List Described) → length t ≤ length interfaces
+      → DeclaresOne (declared_in r t) (drop r.offset capture) interfaces → Stays r r' t t' p p'
       → NextLeaves capture r r' t t' p p' found.NoRoom
 
 -- where the parts of a packet are, given the place of its unit

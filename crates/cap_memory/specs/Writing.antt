@@ -13,10 +13,18 @@ use Rattle.cap_memory.specs.declared.writing.Written.TheVariants as written
 -- a packet by what its record or its block says of it
 abbrev pub packet_of : (time orig : ℕ) → (bytes comment : List ℕ) → Captured
 packet_of time orig bytes comment =
-    record { link = 0; snap = 0; name = []; time = time; orig = orig; bytes = bytes; comment = comment }
+    record {
+      link = 0;
+      snap = 0;
+      name = [];
+      time = time;
+      orig = orig;
+      bytes = bytes;
+      comment = comment;
+    }
 
--- the checks of a packet that is to be written, in order: those that every packet passes that was read, and then those
--- of the format
+-- the checks of a packet that is to be written, in order: those that every packet passes that was
+-- read, and then those of the format
 abbrev pub record_checks : Captured → List (Bool × Fault)
 record_checks p = (nat_lt p.time TIME_END, TimeOutOfRange) ∷ pcap.fit_checks p
 
@@ -43,8 +51,11 @@ pub record FindNoRoom (bytes old new : List ℕ) (count : ℕ) : Type 0 where
   pub short : length old < length bytes
   pub kept : new ≡ old
 
--- what a write leaves of a buffer: the bytes, unless a check fails or it has no room for all of them
+-- what a write leaves of a buffer: the bytes, unless a check fails or it has no room for all of
+-- them
 abbrev pub WriteLeaves : Option Fault → (bytes old new : List ℕ) → Written → Type 0
-WriteLeaves refusal bytes old new (written.Whole count) = (refusal ≡ None) × StandWhole bytes old new count
-WriteLeaves refusal bytes old new (written.NoRoom count) = (refusal ≡ None) × FindNoRoom bytes old new count
+WriteLeaves refusal bytes old new (written.Whole count) =
+    (refusal ≡ None) × StandWhole bytes old new count
+WriteLeaves refusal bytes old new (written.NoRoom count) =
+    (refusal ≡ None) × FindNoRoom bytes old new count
 WriteLeaves refusal bytes old new (written.Refused fault) = (refusal ≡ Some fault) × (new ≡ old)

@@ -1,4 +1,5 @@
--- Numbers that are assigned to link types, EtherTypes and protocols, and the lengths of link headers.
+-- Numbers that are assigned to link types, EtherTypes and protocols, and the lengths of link
+-- headers.
 use Rattle.std.specs.Prelude.{ℕ}
 
 -- link types (tcpdump.org's list of LINKTYPE_ values)

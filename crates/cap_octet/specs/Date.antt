@@ -32,4 +32,5 @@ second_text s = day_text (day_from_epoch (s / 86_400)) ++ 32 ∷ clock_text s ++
 -- YYYY-MM-DD hh:mm:ss.nnnnnnnnn
 unfoldable pub date_text : ℕ → List ℕ
 date_text t =
-    day_text (day_from_epoch (t / NANOS_PER_DAY)) ++ 32 ∷ clock_text (t / NANOS_PER_SECOND) ++ 46 ∷ digits 9 (t % NANOS_PER_SECOND)
+    day_text (day_from_epoch (t / NANOS_PER_DAY)) ++ 32 ∷ clock_text (t / NANOS_PER_SECOND)
+    ++ 46 ∷ digits 9 (t % NANOS_PER_SECOND)

@@ -39,17 +39,20 @@ pub record TakesFull (unread buf : List ℕ) (n : ℕ) (unread' buf' : List ℕ)
   pub taken : Takes unread buf n unread' buf'
   pub full : n ≡ min (length buf) (length unread)
 
--- Where the device failed, it had given the first k bytes, fewer than the buffer has room for. They are at its start,
--- and are counted.
-pub record TakesFront (unread buf : List ℕ) (given : ℕ) (unread' buf' : List ℕ) (given' : ℕ) : Type 0 where
+-- Where the device failed, it had given the first k bytes, fewer than the buffer has room for. They
+-- are at its start, and are counted.
+pub record TakesFront (unread buf : List ℕ) (given : ℕ) (unread' buf' : List ℕ)
+    (given' : ℕ) : Type 0 where
   pub k : ℕ
   pub short : k < length buf
   pub counted : given' ≡ given + k
   pub taken : Takes unread buf k unread' buf'
 
-abbrev pub Fills : (unread buf : List ℕ) (given : ℕ) → Result ℕ DeviceFault → (unread' buf' : List ℕ) (given' : ℕ) → Type 0
+abbrev pub Fills : (unread buf : List ℕ) (given : ℕ) → Result ℕ DeviceFault
+    → (unread' buf' : List ℕ) (given' : ℕ) → Type 0
 Fills unread buf given (Ok n) unread' buf' given' = TakesFull unread buf n unread' buf'
-Fills unread buf given (Err fault) unread' buf' given' = TakesFront unread buf given unread' buf' given'
+Fills unread buf given (Err fault) unread' buf' given' =
+    TakesFront unread buf given unread' buf' given'
 
 -- one write: the first n bytes are appended to what was written, or nothing is
 abbrev pub Writes : List ℕ → List ℕ → Result ℕ DeviceFault → List ℕ → Type 0
@@ -65,7 +68,8 @@ WritesAll written buf (Err stopped) written' = written' ≡ written ++ take stop
 abbrev pub Stops : List ℕ → List ℕ → List ℕ → Type 0
 Stops written bytes written' = (n : ℕ) × (n < length bytes) × (written' ≡ written ++ take n bytes)
 
--- all bytes are appended to what was written; or a prefix of them, not the whole, where the device failed
+-- all bytes are appended to what was written; or a prefix of them, not the whole, where the device
+-- failed
 abbrev pub AppendsOrStops : {E : Type 0} → Result (Unit {0}) E → List ℕ → List ℕ → List ℕ → Type 0
 AppendsOrStops (Ok done) written bytes written' = written' ≡ written ++ bytes
 AppendsOrStops (Err fault) written bytes written' = Stops written bytes written'

@@ -1,12 +1,17 @@
--- The days are counted in two ways: one by one, where a date is printed, and by jiff's day numbers, where one is read.
+-- The days are counted in two ways: one by one, where a date is printed, and by jiff's day numbers,
+-- where one is read.
 use Rattle.std.specs.Prelude.{◌≡◌, ℕ, ◌≤◌, Some}
 use Rattle.cap_octet.specs.Calendar.{ymd, day_from_epoch}
 use Rattle.cap_octet.specs.Timestamp.{day_number}
 
 -- the day that comes n days after 1970-01-01 has the number n
 abbrev pub DayHasItsNumber : Type 0
-DayHasItsNumber = (n : ℕ) → n ≤ 200_000 → day_number (day_from_epoch n).year (day_from_epoch n).month (day_from_epoch n).day ≡ Some n
+DayHasItsNumber =
+    (n : ℕ) → n ≤ 200_000
+    → day_number (day_from_epoch n).year (day_from_epoch n).month (day_from_epoch n).day ≡ Some n
 
 -- a day with the number n comes n days after 1970-01-01
 abbrev pub NumberHasItsDay : Type 0
-NumberHasItsDay = (year month day n : ℕ) → n ≤ 200_000 → day_number year month day ≡ Some n → day_from_epoch n ≡ ymd year month day
+NumberHasItsDay =
+    (year month day n : ℕ) → n ≤ 200_000 → day_number year month day ≡ Some n
+    → day_from_epoch n ≡ ymd year month day

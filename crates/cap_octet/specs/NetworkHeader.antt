@@ -11,7 +11,8 @@ use Rattle.cap_octet.specs.declared.network.NetworkKind.TheVariants.{Ipv4, Ipv6,
 -- how many bytes the link header has, behind which the network header begins
 abbrev pub link_header_length : ℕ → ℕ
 link_header_length link =
-    if link == LINKTYPE_ETHERNET then ETHERNET_HEADER_LENGTH else if link == LINKTYPE_LINUX_SLL then LINUX_SLL_HEADER_LENGTH else 0
+    if link == LINKTYPE_ETHERNET then ETHERNET_HEADER_LENGTH
+    else if link == LINKTYPE_LINUX_SLL then LINUX_SLL_HEADER_LENGTH else 0
 
 -- by the EtherType
 abbrev pub of_type : ℕ → NetworkHeader
@@ -24,12 +25,18 @@ of_type type =
 
 -- by the version of IP
 abbrev pub of_version : ℕ → NetworkHeader
-of_version version = if version == 4 then Known Ipv4 else if version == 6 then Known Ipv6 else OtherVersion version
+of_version version =
+    if version == 4 then Known Ipv4 else if version == 6 then Known Ipv6 else OtherVersion version
 
 -- by the EtherType in the link header, or of raw IP by the version, which the first four bits are
 abbrev pub network_header : ℕ → List ℕ → NetworkHeader
 network_header link p =
-    if link == LINKTYPE_ETHERNET then (if nat_lt (length p) ETHERNET_HEADER_LENGTH then Short else of_type (u16_in Big p ETHERNET_TYPE_OFFSET))
-    else if link == LINKTYPE_RAW then (if length p == 0 then Short else of_version (slice_index p 0 / 16))
-    else if link == LINKTYPE_LINUX_SLL then (if nat_lt (length p) LINUX_SLL_HEADER_LENGTH then Short else of_type (u16_in Big p LINUX_SLL_TYPE_OFFSET))
+    if link == LINKTYPE_ETHERNET then
+    (if nat_lt (length p) ETHERNET_HEADER_LENGTH then Short
+    else of_type (u16_in Big p ETHERNET_TYPE_OFFSET))
+    else if link == LINKTYPE_RAW then
+    (if length p == 0 then Short else of_version (slice_index p 0 / 16))
+    else if link == LINKTYPE_LINUX_SLL then
+    (if nat_lt (length p) LINUX_SLL_HEADER_LENGTH then Short
+    else of_type (u16_in Big p LINUX_SLL_TYPE_OFFSET))
     else OtherLink link

@@ -1,4 +1,5 @@
--- Timestamps that are read as times: dates with times of day in UTC, as RFC 3339 writes them, or numbers of seconds.
+-- Timestamps that are read as times: dates with times of day in UTC, as RFC 3339 writes them, or
+-- numbers of seconds.
 use Rattle.std.specs.Prelude.{ℕ, ◌+◌, ◌-◌, ◌*◌, nat_lt, nat_le, ◌==◌, ◌&&◌, Bool, if◌then◌else◌, List, length, take, drop, slice_index, Option, Some, None, pos, unsigned_abs}
 use Rattle.std.specs.Option.{option_and_then}
 use Rattle.jiff_core.specs.Calendar.{days_in_month, days_from_civil}
@@ -9,24 +10,36 @@ use Rattle.cap_octet.specs.Seconds.{fraction_of, time_within, span_value}
 -- how many days after 1970-01-01 a day comes, if the calendar has it; from 1970 to 9999
 abbrev pub day_number : ℕ → ℕ → ℕ → Option ℕ
 day_number year month day =
-    if nat_le 1970 year && (nat_le year 9999 && (nat_le 1 month && (nat_le month 12 && (nat_le 1 day && nat_le day (days_in_month (pos year) month))))) then
+    if nat_le 1970 year
+    && (nat_le year 9999
+    && (nat_le 1 month
+    && (nat_le month 12 && (nat_le 1 day && nat_le day (days_in_month (pos year) month))))) then
     Some (unsigned_abs (days_from_civil (pos year) month day))
     else None
 
 abbrev pub day_with : Option ℕ → Option ℕ → Option ℕ → Option ℕ
-day_with year month day = option_and_then (λ y. option_and_then (λ m. option_and_then (λ d. day_number y m d) day) month) year
+day_with year month day =
+    option_and_then
+    (λ y. option_and_then (λ m. option_and_then (λ d. day_number y m d) day) month) year
 
 -- the seconds since midnight of a time of day, without leap seconds
 abbrev pub second_of_day : ℕ → ℕ → ℕ → Option ℕ
 second_of_day hour minute second =
-    if nat_lt hour 24 && (nat_lt minute 60 && nat_lt second 60) then Some (hour * 3600 + minute * 60 + second) else None
+    if nat_lt hour 24
+    && (nat_lt minute 60 && nat_lt second 60) then Some (hour * 3600 + minute * 60 + second)
+    else None
 
 abbrev pub clock_with : Option ℕ → Option ℕ → Option ℕ → Option ℕ
-clock_with hour minute second = option_and_then (λ h. option_and_then (λ m. option_and_then (λ s. second_of_day h m s) second) minute) hour
+clock_with hour minute second =
+    option_and_then
+    (λ h. option_and_then (λ m. option_and_then (λ s. second_of_day h m s) second) minute) hour
 
 abbrev pub time_with : Option ℕ → Option ℕ → Option ℕ → Option ℕ
 time_with day clock fraction =
-    option_and_then (λ d. option_and_then (λ c. option_and_then (λ f. time_within ((d * 86400 + c) * NANOS_PER_SECOND + f)) fraction) clock) day
+    option_and_then
+    (λ d. option_and_then
+    (λ c. option_and_then
+    (λ f. time_within ((d * 86400 + c) * NANOS_PER_SECOND + f)) fraction) clock) day
 
 -- the number that `count` digits from place `at` write
 abbrev pub number_at : List ℕ → ℕ → ℕ → Option ℕ
@@ -34,13 +47,18 @@ number_at text at count = number_of (take count (drop at text))
 
 -- nothing, or a point and 1 to 9 digits
 abbrev pub optional_fraction : List ℕ → Option ℕ
-optional_fraction text = if length text == 0 then Some 0 else if slice_index text 0 == 46 then fraction_of (drop 1 text) else None
+optional_fraction text =
+    if length text == 0 then Some 0 else if slice_index text 0 == 46 then fraction_of (drop 1 text)
+    else None
 
 -- YYYY-MM-DDThh:mm:ss, something or nothing, Z: the marks are in their places
 unfoldable pub is_date_time : List ℕ → Bool
 is_date_time text =
-    nat_le 20 (length text) && ((slice_index text 4 == 45) && ((slice_index text 7 == 45) && ((slice_index text 10 == 84)
-    && ((slice_index text 13 == 58) && ((slice_index text 16 == 58) && (slice_index text (length text - 1) == 90))))))
+    nat_le 20 (length text)
+    && ((slice_index text 4 == 45)
+    && ((slice_index text 7 == 45) && ((slice_index text 10 == 84)
+    && ((slice_index text 13 == 58)
+    && ((slice_index text 16 == 58) && (slice_index text (length text - 1) == 90))))))
 
 unfoldable pub date_time_value : List ℕ → Option ℕ
 date_time_value text =

@@ -4,8 +4,10 @@ use Rattle.cap_octet.specs.declared.device.Output.{Ghosts}
 use Rattle.cap_octet.specs.declared.device.Stopped.{Stopped}
 use Rattle.cap_octet.specs.Device.{WritesAll, failures_of}
 
--- It wrote these bytes; or it stopped where the device failed, and reports after how many of them, fewer than all.
-pub record WritesExactly {Device : Type 0} (d : Ghosts Device) (old : Device) (bytes : List ℕ) (r : Result (Unit {0}) Stopped) (new : Device) : Type 0 where
+-- It wrote these bytes; or it stopped where the device failed, and reports after how many of them,
+-- fewer than all.
+pub record WritesExactly {Device : Type 0} (d : Ghosts Device) (old : Device) (bytes : List ℕ)
+    (r : Result (Unit {0}) Stopped) (new : Device) : Type 0 where
   pub front : IfErr r (λ stopped. stopped.written < length bytes)
   pub failed : d.failures new ≡ d.failures old + failures_of r
   pub room : d.room new ≡ d.room old

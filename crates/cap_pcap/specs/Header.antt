@@ -1,4 +1,5 @@
--- The file header of a pcap savefile: its checks, in order, and what it says (draft-ietf-opsawg-pcap, "File Header").
+-- The file header of a pcap savefile: its checks, in order, and what it says
+-- (draft-ietf-opsawg-pcap, "File Header").
 use Rattle.std.specs.Prelude.{◌≡◌, ℕ, ◌==◌, ◌&&◌, if◌then◌else◌, Bool, List, [], ◌∷◌, length, nat_lt, nat_le, Option, Some, None, is_some, unwrap_or}
 use Rattle.cap_octet.specs.Checks.{first_failing}
 use Rattle.cap_octet.specs.Number.{u16_in, u32_in}
@@ -15,7 +16,8 @@ abbrev pub magic : Resolution → ℕ
 magic Microseconds = 0xa1b2c3d4
 magic Nanoseconds = 0xa1b23c4d
 
--- the byte order in which the first four bytes read as a magic number, and the resolution which that one tells
+-- the byte order in which the first four bytes read as a magic number, and the resolution which
+-- that one tells
 abbrev pub form_in : List ℕ → Option (Order × Resolution)
 form_in text =
     if u32_in Little text 0 == magic Microseconds then Some (Little, Microseconds)
@@ -46,7 +48,12 @@ header_fault text = first_failing (header_checks text)
 abbrev pub header_in : List ℕ → Head
 header_in text =
     let form = form_of text in
-    record { order = form.0; resolution = form.1; snap = u32_in form.0 text 16; link = u32_in form.0 text 20 }
+    record {
+      order = form.0;
+      resolution = form.1;
+      snap = u32_in form.0 text 16;
+      link = u32_in form.0 text 20;
+    }
 
 -- These bytes are a file header, which passes every check and says this.
 pub record IsHeader (bytes : List ℕ) (head : Head) : Type 0 where

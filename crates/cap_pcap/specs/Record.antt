@@ -1,4 +1,5 @@
--- A record of a pcap savefile: its checks, in order, and its packet (draft-ietf-opsawg-pcap, "Packet Record").
+-- A record of a pcap savefile: its checks, in order, and its packet (draft-ietf-opsawg-pcap,
+-- "Packet Record").
 use Rattle.std.specs.Prelude.{◌≡◌, ℕ, ◌+◌, ◌*◌, Bool, List, [], ◌∷◌, ◌++◌, length, drop, nat_lt, nat_le, Option, None}
 use Rattle.cap_octet.specs.Checks.{first_failing}
 use Rattle.cap_octet.specs.Date.{NANOS_PER_SECOND}
@@ -53,7 +54,8 @@ record_fault head text = first_failing (record_checks head text)
 -- nanoseconds since 1970
 abbrev pub time_in : Head → List ℕ → ℕ
 time_in head text =
-    u32_in head.order text 0 * NANOS_PER_SECOND + u32_in head.order text 4 * nanoseconds_of_part head.resolution
+    u32_in head.order text 0 * NANOS_PER_SECOND
+    + u32_in head.order text 4 * nanoseconds_of_part head.resolution
 
 -- the original length
 abbrev pub orig_in : Head → List ℕ → ℕ

@@ -1,4 +1,5 @@
--- The bodies of blocks: their checks, in order, and their parts (draft-ietf-opsawg-pcapng, "Block Types").
+-- The bodies of blocks: their checks, in order, and their parts (draft-ietf-opsawg-pcapng, "Block
+-- Types").
 use Rattle.std.specs.Prelude.{ℕ, ◌+◌, ◌-◌, ◌*◌, ◌==◌, ◌&&◌, ◌||◌, if◌then◌else◌, min, Bool, false, List, [], ◌∷◌, ◌++◌, length, take, drop, nat_le, Option}
 use Rattle.cap_octet.specs.Checks.{first_failing}
 use Rattle.cap_octet.specs.Number.{u16_in, u32_in}
@@ -25,7 +26,11 @@ body_in frame text = take (frame.length - 12) (drop 8 text)
 abbrev pub body_checks : BlockType → Order → List ℕ → List (Bool × Fault)
 body_checks type.Section order body =
     (nat_le 16 (length body), BadBody)
-    ∷ ((u16_in order body 4 == 1) && ((u16_in order body 6 == 0) || (u16_in order body 6 == 2)), BadVersion)
+    ∷ (
+      (u16_in order body 4 == 1)
+          && ((u16_in order body 6 == 0) || (u16_in order body 6 == 2)),
+      BadVersion,
+    )
     ∷ []
 body_checks type.Interface order body = (nat_le 8 (length body), BadBody) ∷ []
 body_checks type.ObsoletePacket order body = (false, ObsoletePacketBlock) ∷ []
@@ -41,7 +46,8 @@ block_checks frame text =
 
 -- that there is room for a block's header and end, and that all its bytes are there
 abbrev pub size_checks : Frame → List ℕ → List (Bool × Fault)
-size_checks frame text = (nat_le 12 frame.length, BadBlockLength) ∷ (nat_le frame.length (length text), Truncated) ∷ []
+size_checks frame text =
+    (nat_le 12 frame.length, BadBlockLength) ∷ (nat_le frame.length (length text), Truncated) ∷ []
 
 -- ---- a packet's data
 
@@ -65,7 +71,8 @@ pub data Parts : Type 0 where
 
 abbrev pub parts_in_body : BlockType → Order → List ℕ → Parts
 parts_in_body type.Section order body = SectionParts
-parts_in_body type.Interface order body = InterfaceParts (u16_in order body 0) (u32_in order body 4) order (drop 8 body)
+parts_in_body type.Interface order body =
+    InterfaceParts (u16_in order body 0) (u32_in order body 4) order (drop 8 body)
 parts_in_body type.ObsoletePacket order body = SkippedParts
 parts_in_body type.SimplePacket order body = SimpleParts (u32_in order body 0) (drop 4 body)
 parts_in_body type.EnhancedPacket order body =
@@ -78,7 +85,8 @@ parts_in frame text = parts_in_body frame.block_type frame.order (body_in frame 
 
 -- the same as a block was read, without the places in memory where they lie
 abbrev pub parts_of_interface : InterfaceBlock → Parts
-parts_of_interface b = InterfaceParts b.interface.link b.interface.snap b.options.order b.options.rest.now
+parts_of_interface b =
+    InterfaceParts b.interface.link b.interface.snap b.options.order b.options.rest.now
 
 abbrev pub parts_of : Block → Parts
 parts_of a.Section = SectionParts
@@ -105,7 +113,10 @@ option_checks (EnhancedParts number ticks captured orig order rest) = []
 option_checks (SimpleParts orig rest) = []
 option_checks SkippedParts = []
 
--- The first check that the block fails which a text begins with, behind those of its frame. Those that need the
--- interfaces before it are in `Unit`: one of them, of how many there are, comes before those of options.
+-- The first check that the block fails which a text begins with, behind those of its frame. Those
+-- that need the interfaces before it are in `Unit`: one of them, of how many there are, comes
+-- before those of options.
 abbrev pub block_fault : Frame → List ℕ → Option Fault
-block_fault frame text = first_failing (size_checks frame text ++ block_checks frame text ++ option_checks (parts_in frame text))
+block_fault frame text =
+    first_failing
+    (size_checks frame text ++ block_checks frame text ++ option_checks (parts_in frame text))

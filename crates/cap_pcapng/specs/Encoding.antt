@@ -12,7 +12,8 @@ use Rattle.cap_pcapng.specs.Padding.{padded}
 -- type, total length, body, total length
 abbrev pub block_text : (type : ℕ) → (body : List ℕ) → List ℕ
 block_text type body =
-    little_bytes 4 type ++ little_bytes 4 (12 + length body) ++ body ++ little_bytes 4 (12 + length body)
+    little_bytes 4 type ++ little_bytes 4 (12 + length body) ++ body
+    ++ little_bytes 4 (12 + length body)
 
 -- bytes, and zeros up to a multiple of four
 abbrev pub padded_text : List ℕ → List ℕ
@@ -27,7 +28,8 @@ end_text = little_bytes 2 0 ++ little_bytes 2 0
 -- byte-order magic, version 1.0, a section length that isn't told
 abbrev pub section_text : List ℕ
 section_text = block_text section_type
-    (little_bytes 4 byte_order_magic ++ little_bytes 2 1 ++ little_bytes 2 0 ++ little_bytes 8 (2 ^ 64 - 1))
+    (little_bytes 4 byte_order_magic ++ little_bytes 2 1 ++ little_bytes 2 0
+    ++ little_bytes 8 (2 ^ 64 - 1))
 
 -- a name that is empty isn't written
 abbrev pub name_text : List ℕ → List ℕ
@@ -41,7 +43,8 @@ resolution_text = option_text resolution_code (9 ∷ [])
 -- link type, reserved, snap length, and the options
 abbrev pub interface_body : (link snap : ℕ) → (name : List ℕ) → List ℕ
 interface_body link snap name =
-    little_bytes 2 link ++ little_bytes 2 0 ++ little_bytes 4 snap ++ name_text name ++ resolution_text ++ end_text
+    little_bytes 2 link ++ little_bytes 2 0 ++ little_bytes 4 snap ++ name_text name
+    ++ resolution_text ++ end_text
 
 abbrev pub interface_text : (link snap : ℕ) → (name : List ℕ) → List ℕ
 interface_text link snap name = block_text 1 (interface_body link snap name)
@@ -49,7 +52,8 @@ interface_text link snap name = block_text 1 (interface_body link snap name)
 -- what of it is in front of the options, in a block of this total length
 abbrev pub interface_header : (size link snap : ℕ) → List ℕ
 interface_header size link snap =
-    little_bytes 4 1 ++ little_bytes 4 size ++ little_bytes 2 link ++ little_bytes 2 0 ++ little_bytes 4 snap
+    little_bytes 4 1 ++ little_bytes 4 size ++ little_bytes 2 link ++ little_bytes 2 0
+    ++ little_bytes 4 snap
 
 -- a comment and the end of the options; one that is empty isn't written
 abbrev pub comment_text : List ℕ → List ℕ
@@ -60,7 +64,8 @@ comment_text (b ∷ bytes) = option_text comment_code (b ∷ bytes) ++ end_text
 abbrev pub packet_body : (number : ℕ) → Captured → List ℕ
 packet_body number p =
     little_bytes 4 number ++ little_bytes 4 (p.time / 2 ^ 32) ++ little_bytes 4 (p.time % 2 ^ 32)
-    ++ little_bytes 4 (length p.bytes) ++ little_bytes 4 p.orig ++ padded_text p.bytes ++ comment_text p.comment
+    ++ little_bytes 4 (length p.bytes) ++ little_bytes 4 p.orig ++ padded_text p.bytes
+    ++ comment_text p.comment
 
 abbrev pub packet_text : (number : ℕ) → Captured → List ℕ
 packet_text number p = block_text 6 (packet_body number p)
@@ -68,9 +73,12 @@ packet_text number p = block_text 6 (packet_body number p)
 -- what of it stands in front of the data, in a block of this total length
 abbrev pub packet_header : (size number : ℕ) → Captured → List ℕ
 packet_header size number p =
-    little_bytes 4 6 ++ little_bytes 4 size ++ little_bytes 4 number ++ little_bytes 4 (p.time / 2 ^ 32)
+    little_bytes 4 6 ++ little_bytes 4 size ++ little_bytes 4 number
+    ++ little_bytes 4 (p.time / 2 ^ 32)
     ++ little_bytes 4 (p.time % 2 ^ 32) ++ little_bytes 4 (length p.bytes) ++ little_bytes 4 p.orig
 
 -- the checks of a packet that is to be written: its block isn't too long to be read
 abbrev pub fit_checks : Captured → List (Bool × Fault)
-fit_checks p = (nat_le (32 + padded (length p.bytes) + length (comment_text p.comment)) most_block, TooLong) ∷ []
+fit_checks p =
+    (nat_le (32 + padded (length p.bytes) + length (comment_text p.comment)) most_block, TooLong)
+    ∷ []

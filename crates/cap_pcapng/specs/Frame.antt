@@ -1,5 +1,5 @@
--- What stands at both ends of every block, and the checks of it, in order (draft-ietf-opsawg-pcapng, "General Block
--- Structure" and "Section Header Block").
+-- What stands at both ends of every block, and the checks of it, in order
+-- (draft-ietf-opsawg-pcapng, "General Block Structure" and "Section Header Block").
 use Rattle.std.specs.Prelude.{ℕ, ◌%◌, ◌==◌, ◌&&◌, ◌||◌, not, if◌then◌else◌, Bool, List, [], ◌∷◌, nat_le, Option, Some, None, is_some, unwrap_or}
 use Rattle.cap_octet.specs.Checks.{first_failing}
 use Rattle.cap_octet.specs.Number.{u32_in}
@@ -42,7 +42,8 @@ magic_order text =
     else (if u32_in Big text 8 == byte_order_magic then Some Big
     else None)
 
--- the byte order of a block: a section header tells its own, the others have that of the section before them
+-- the byte order of a block: a section header tells its own, the others have that of the section
+-- before them
 abbrev pub order_told : Option Order → List ℕ → Option Order
 order_told section text = if is_section text then magic_order text else section
 
@@ -51,13 +52,15 @@ abbrev pub order_in : Option Order → List ℕ → Order
 order_in section text = unwrap_or (order_told section text) Little
 
 abbrev pub type_in : Option Order → List ℕ → BlockType
-type_in section text = if is_section text then block.Section else type_of (u32_in (order_in section text) text 0)
+type_in section text =
+    if is_section text then block.Section else type_of (u32_in (order_in section text) text 0)
 
 -- the total length
 abbrev pub length_in : Option Order → List ℕ → ℕ
 length_in section text = u32_in (order_in section text) text 4
 
--- the checks of a block's first 12 bytes, in order, behind a section of this byte order or behind none
+-- the checks of a block's first 12 bytes, in order, behind a section of this byte order or behind
+-- none
 abbrev pub frame_checks : Option Order → List ℕ → List (Bool × Fault)
 frame_checks section text =
     (is_section text || is_some section, NotACaptureFile)

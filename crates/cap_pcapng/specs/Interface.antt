@@ -20,7 +20,14 @@ pub record Described : Type 0 where
   pub offset : ℤ
 
 abbrev pub description_of : Interface → Described
-description_of i = record { link = i.link; snap = i.snap; name = i.name.now; units = i.clock.units; offset = i.clock.offset }
+description_of i =
+    record {
+      link = i.link;
+      snap = i.snap;
+      name = i.name.now;
+      units = i.clock.units;
+      offset = i.clock.offset;
+    }
 
 -- what holds of the interfaces of each section
 pub record FitSection (interfaces : List Described) : Type 0 where
@@ -38,11 +45,14 @@ described_by link snap order options = record {
 }
 
 abbrev pub described_in : (link snap : ℕ) → Order → List ℕ → Described
-described_in link snap order text = described_by link snap order (fitting_options (options_in order text))
+described_in link snap order text =
+    described_by link snap order (fitting_options (options_in order text))
 
 -- the interface of a block is that which its options describe
 abbrev pub IsDescribed : InterfaceBlock → Type 0
-IsDescribed b = description_of b.interface ≡ described_in b.interface.link b.interface.snap b.options.order b.options.rest.now
+IsDescribed b =
+    description_of b.interface
+    ≡ described_in b.interface.link b.interface.snap b.options.order b.options.rest.now
 
 -- ---- while they are read
 
@@ -58,10 +68,14 @@ pub record IsFound (order : Order) (options : List CodedValue) (found : Found) :
   pub short : IsShort found
 
 -- what is found once this option is read behind those before it
-pub record Adds (order : Order) (before : Found) (option : CodedValue) (after : Found) : Type 0 where
-  pub name : option_copied after.name ≡ option_or (option_copied before.name) (value_for name_code option)
-  pub units : after.units ≡ option_or before.units (option_map units_in_value (value_for resolution_code option))
-  pub offset : after.offset ≡ option_or before.offset (option_map (offset_in_value order) (value_for offset_code option))
+pub record Adds (order : Order) (before : Found) (option : CodedValue)
+    (after : Found) : Type 0 where
+  pub name : option_copied after.name
+      ≡ option_or (option_copied before.name) (value_for name_code option)
+  pub units : after.units
+      ≡ option_or before.units (option_map units_in_value (value_for resolution_code option))
+  pub offset : after.offset
+      ≡ option_or before.offset (option_map (offset_in_value order) (value_for offset_code option))
   pub short : IsShort before → IsShort after
 
 -- whether an option of this code was found, if it is looked at

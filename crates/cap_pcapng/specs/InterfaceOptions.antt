@@ -26,7 +26,8 @@ abbrev pub name_checks : List ℕ → List (Bool × Fault)
 name_checks value = (nat_le (length value) 255, BadOption) ∷ []
 
 abbrev pub resolution_checks : List ℕ → List (Bool × Fault)
-resolution_checks value = (length value == 1, BadOption) ∷ (is_resolution (slice_index value 0), BadTimeResolution) ∷ []
+resolution_checks value =
+    (length value == 1, BadOption) ∷ (is_resolution (slice_index value 0), BadTimeResolution) ∷ []
 
 abbrev pub offset_checks : List ℕ → List (Bool × Fault)
 offset_checks value = (length value == 8, BadOption) ∷ []
@@ -46,17 +47,21 @@ value_for code option = if option.code == code then Some option.value else None
 -- the value of the first option of a code
 abbrev pub first_value : ℕ → List CodedValue → Option (List ℕ)
 first_value code [] = None
-first_value code (option ∷ options) = if option.code == code then Some option.value else first_value code options
+first_value code (option ∷ options) =
+    if option.code == code then Some option.value else first_value code options
 
 -- the checks of an option behind these: of those of one code the first alone is checked
 abbrev pub checks_behind : List CodedValue → CodedValue → List (Bool × Fault)
-checks_behind before option = if is_some (first_value option.code before) then [] else first_checks option
+checks_behind before option =
+    if is_some (first_value option.code before) then [] else first_checks option
 
--- the checks of a list of options behind these, in order: that the value fits, and then those of its code
+-- the checks of a list of options behind these, in order: that the value fits, and then those of
+-- its code
 abbrev pub list_checks : List CodedValue → List (Result CodedValue Fault) → List (Bool × Fault)
 list_checks before [] = []
 list_checks before (Err fault ∷ items) = (false, fault) ∷ list_checks before items
-list_checks before (Ok option ∷ items) = checks_behind before option ++ list_checks (before ++ option ∷ []) items
+list_checks before (Ok option ∷ items) =
+    checks_behind before option ++ list_checks (before ++ option ∷ []) items
 
 -- why a list of options can't be read
 abbrev pub options_fault : Order → List ℕ → Option Fault

@@ -10,7 +10,8 @@ use Rattle.cap_pcapng.specs.Unit.{IsBlock, Section, most_interfaces, packets_in,
 use Rattle.cap_pcapng.specs.Encoding.{fit_checks, interface_text, packet_text, section_text}
 
 -- These bytes are one block, behind which the section is this, and they hold these packets.
-pub record ReadsAs (before : Option Section) (bytes : List ℕ) (after : Section) (packets : List Captured) : Type 0 where
+pub record ReadsAs (before : Option Section) (bytes : List ℕ) (after : Section)
+    (packets : List Captured) : Type 0 where
   pub is_block : IsBlock before bytes
   pub declares : section_after before bytes ≡ after
   pub holds : packets_in before bytes ≡ packets
@@ -21,7 +22,8 @@ written_section interfaces = record { order = Little; interfaces = interfaces }
 
 -- an interface as it is written: its ticks are nanoseconds
 abbrev pub written_interface : (link snap : ℕ) → (name : List ℕ) → Described
-written_interface link snap name = record { link = link; snap = snap; name = name; units = NANOS_PER_SECOND; offset = pos 0 }
+written_interface link snap name =
+    record { link = link; snap = snap; name = name; units = NANOS_PER_SECOND; offset = pos 0 }
 
 -- a section header begins a section
 abbrev pub SectionBack : Type 0
@@ -29,7 +31,9 @@ SectionBack = (before : Option Section) → ReadsAs before section_text (written
 
 -- an interface gets the next number
 abbrev pub InterfaceBack : Type 0
-InterfaceBack = (interfaces : List Described) (link snap : ℕ) (name : List ℕ) → length interfaces < most_interfaces
+InterfaceBack =
+    (interfaces : List Described) (link snap : ℕ) (name : List ℕ)
+    → length interfaces < most_interfaces
     → link < 2 ^ 16 → snap < 2 ^ 32 → length name ≤ 255
     → ReadsAs (Some (written_section interfaces)) (interface_text link snap name)
     (written_section (interfaces ++ written_interface link snap name ∷ [])) []
@@ -38,5 +42,7 @@ InterfaceBack = (interfaces : List Described) (link snap : ℕ) (name : List ℕ
 abbrev pub PacketBack : Type 0
 PacketBack = (interfaces : List Described) (number : ℕ) (p : Captured)
     → slice_get interfaces number ≡ Some (written_interface p.link p.snap p.name)
-    → number < 2 ^ 32 → p.time < 2 ^ 63 → p.orig < 2 ^ 32 → length p.comment ≤ 65535 → first_failing (fit_checks p) ≡ None
-    → ReadsAs (Some (written_section interfaces)) (packet_text number p) (written_section interfaces) (p ∷ [])
+    → number < 2 ^ 32 → p.time < 2 ^ 63 → p.orig < 2 ^ 32 → length p.comment ≤ 65535
+    → first_failing (fit_checks p) ≡ None
+    → ReadsAs (Some (written_section interfaces)) (packet_text number p)
+    (written_section interfaces) (p ∷ [])

@@ -13,14 +13,17 @@ pub record CodedValue : Type 0 where
   pub code : ℕ
   pub value : List ℕ
 
--- the code and the value of the option at the start of a text, and how many bytes it has before its padding
+-- the code and the value of the option at the start of a text, and how many bytes it has before its
+-- padding
 abbrev pub option_size : Order → List ℕ → ℕ
 option_size order text = 4 + u16_in order text 2
 
 abbrev pub option_at : Order → List ℕ → CodedValue
-option_at order text = record { code = u16_in order text 0; value = take (u16_in order text 2) (drop 4 text) }
+option_at order text =
+    record { code = u16_in order text 0; value = take (u16_in order text 2) (drop 4 text) }
 
--- whether a list of options ends here: at its bytes' end, or at code 0, whose length isn't looked at
+-- whether a list of options ends here: at its bytes' end, or at code 0, whose length isn't looked
+-- at
 abbrev pub ends_at : Order → List ℕ → Bool
 ends_at order text = nat_lt (length text) 4 || (u16_in order text 0 == 0)
 
@@ -28,13 +31,15 @@ ends_at order text = nat_lt (length text) 4 || (u16_in order text 0 == 0)
 abbrev pub fits_at : Order → List ℕ → Bool
 fits_at order text = nat_le (option_size order text) (length text)
 
--- the options of a text, in order, with at most so many of them; the last may be one whose value doesn't fit
+-- the options of a text, in order, with at most so many of them; the last may be one whose value
+-- doesn't fit
 unfoldable pub options_within : ℕ → Order → List ℕ → List (Result CodedValue Fault)
 options_within zero order text = []
 options_within (suc most) order text =
     if ends_at order text then []
     else (if fits_at order text
-    then Ok (option_at order text) ∷ options_within most order (drop (padded (option_size order text)) text)
+    then Ok (option_at order text)
+    ∷ options_within most order (drop (padded (option_size order text)) text)
     else Err BadOption ∷ [])
 
 -- the options of a text; each has a byte at least

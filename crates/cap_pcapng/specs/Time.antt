@@ -1,11 +1,13 @@
--- How the ticks of an interface become a time (draft-ietf-opsawg-pcapng, options if_tsresol and if_tsoffset).
+-- How the ticks of an interface become a time (draft-ietf-opsawg-pcapng, options if_tsresol and
+-- if_tsoffset).
 use Rattle.std.specs.Prelude.{ℕ, ◌*◌, ◌/◌, ◌^◌, ◌-◌, ℤ, pos, negsuc, ◌+ℤ◌, ◌*ℤ◌, if◌then◌else◌, Bool, nat_le, nat_lt, Option, Some, None}
 use Rattle.cap_octet.specs.Date.{NANOS_PER_SECOND, TIME_END}
 
--- The nanoseconds since 1970 of so many ticks, of which these units make a second, after an offset in seconds. A part
--- of a nanosecond is cut off.
+-- The nanoseconds since 1970 of so many ticks, of which these units make a second, after an offset
+-- in seconds. A part of a nanosecond is cut off.
 abbrev pub nanoseconds : ℕ → ℕ → ℤ → ℤ
-nanoseconds ticks units offset = pos (ticks * NANOS_PER_SECOND / units) +ℤ (offset *ℤ pos NANOS_PER_SECOND)
+nanoseconds ticks units offset =
+    pos (ticks * NANOS_PER_SECOND / units) +ℤ (offset *ℤ pos NANOS_PER_SECOND)
 
 abbrev pub time_by : ℤ → Option ℕ
 time_by (pos n) = if nat_lt n TIME_END then Some n else None

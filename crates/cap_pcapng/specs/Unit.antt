@@ -1,4 +1,5 @@
--- A block behind the blocks in front of it: all of its checks, in order, what it declares, and its packet.
+-- A block behind the blocks in front of it: all of its checks, in order, what it declares, and its
+-- packet.
 use Rattle.std.specs.Prelude.{◌≡◌, ℕ, Bool, List, [], ◌∷◌, ◌++◌, length, nat_le, nat_lt, take, drop, Option, None, is_some, unwrap_or}
 use Rattle.std.specs.List.{slice_get}
 use Rattle.std.specs.Option.{option_and_then, option_map, option_map_or, option_to_list}
@@ -45,24 +46,28 @@ parts_behind before text = parts_in (frame_behind before text) text
 
 -- the time of so many ticks of an interface, if there is one
 abbrev pub time_of : Option Described → ℕ → Option ℕ
-time_of interface ticks = option_and_then (λ (i : Described). time_in ticks i.units i.offset) interface
+time_of interface ticks =
+    option_and_then (λ (i : Described). time_in ticks i.units i.offset) interface
 
 -- the captured length of a simple packet of an interface
 abbrev pub captured_of : Option Described → ℕ → ℕ
-captured_of interface orig = option_map_or (λ (i : Described). simple_captured orig i.snap) interface 0
+captured_of interface orig =
+    option_map_or (λ (i : Described). simple_captured orig i.snap) interface 0
 
 -- the checks that need the interfaces before the block
 abbrev pub checks_among : List Described → Parts → List (Bool × Fault)
 checks_among interfaces SectionParts = []
 checks_among interfaces (InterfaceParts link snap order options) =
-    (nat_lt (length interfaces) most_interfaces, TooManyInterfaces) ∷ option_checks (InterfaceParts link snap order options)
+    (nat_lt (length interfaces) most_interfaces, TooManyInterfaces)
+    ∷ option_checks (InterfaceParts link snap order options)
 checks_among interfaces (EnhancedParts number ticks captured orig order rest) =
     (is_some (slice_get interfaces number), UnknownInterface)
     ∷ data_checks captured rest
     ++ (is_some (time_of (slice_get interfaces number) ticks), TimeOutOfRange)
     ∷ []
 checks_among interfaces (SimpleParts orig rest) =
-    (is_some (slice_get interfaces 0), UnknownInterface) ∷ data_checks (captured_of (slice_get interfaces 0) orig) rest
+    (is_some (slice_get interfaces 0), UnknownInterface)
+    ∷ data_checks (captured_of (slice_get interfaces 0) orig) rest
 checks_among interfaces SkippedParts = []
 
 -- all checks of the block that a text begins with
@@ -89,13 +94,21 @@ pub record IsBlock (before : Option Section) (bytes : List ℕ) : Type 0 where
 abbrev pub section_by : Option Section → Order → Parts → Section
 section_by before order SectionParts = record { order = order; interfaces = [] }
 section_by before order (InterfaceParts link snap own options) =
-    record { order = order; interfaces = interfaces_before before ++ described_in link snap own options ∷ [] }
-section_by before order (EnhancedParts number ticks captured orig own rest) = record { order = order; interfaces = interfaces_before before }
-section_by before order (SimpleParts orig rest) = record { order = order; interfaces = interfaces_before before }
-section_by before order SkippedParts = record { order = order; interfaces = interfaces_before before }
+    record {
+      order = order;
+      interfaces = interfaces_before before
+          ++ described_in link snap own options ∷ [];
+    }
+section_by before order (EnhancedParts number ticks captured orig own rest) =
+    record { order = order; interfaces = interfaces_before before }
+section_by before order (SimpleParts orig rest) =
+    record { order = order; interfaces = interfaces_before before }
+section_by before order SkippedParts =
+    record { order = order; interfaces = interfaces_before before }
 
 abbrev pub section_after : Option Section → List ℕ → Section
-section_after before bytes = section_by before (frame_behind before bytes).order (parts_behind before bytes)
+section_after before bytes =
+    section_by before (frame_behind before bytes).order (parts_behind before bytes)
 
 -- a packet of an interface
 abbrev pub packet_of : Described → (time orig : ℕ) → (bytes comment : List ℕ) → Captured
@@ -109,8 +122,8 @@ packet_of i time orig bytes comment = record {
   comment = comment;
 }
 
--- The comment of an enhanced packet is among the options behind its data. A simple packet is one of interface 0, at time 0,
--- without a comment.
+-- The comment of an enhanced packet is among the options behind its data. A simple packet is one of
+-- interface 0, at time 0, without a comment.
 abbrev pub packet_by : List Described → Parts → Option Captured
 packet_by interfaces SectionParts = None
 packet_by interfaces (InterfaceParts link snap order options) = None
@@ -126,4 +139,5 @@ packet_by interfaces (SimpleParts orig rest) =
 packet_by interfaces SkippedParts = None
 
 abbrev pub packets_in : Option Section → List ℕ → List Captured
-packets_in before bytes = option_to_list (packet_by (interfaces_before before) (parts_behind before bytes))
+packets_in before bytes =
+    option_to_list (packet_by (interfaces_before before) (parts_behind before bytes))

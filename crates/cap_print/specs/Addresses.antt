@@ -12,13 +12,17 @@ u16_of p at = u16_in Big p at
 unfoldable pub ipv4_text : List ℕ → ℕ → List ℕ
 ipv4_text p at =
     decimal (slice_index p at)
-    ++ 46 ∷ (decimal (slice_index p (at + 1)) ++ 46 ∷ (decimal (slice_index p (at + 2)) ++ 46 ∷ decimal (slice_index p (at + 3))))
+    ++ 46 ∷
+    (decimal (slice_index p (at + 1))
+    ++ 46 ∷ (decimal (slice_index p (at + 2)) ++ 46 ∷ decimal (slice_index p (at + 3))))
 
 -- four groups of an IPv6 address, in the eight bytes from a place
 unfoldable pub four_groups : List ℕ → ℕ → List ℕ
 four_groups p at =
     hex_group (u16_of p at)
-    ++ 58 ∷ (hex_group (u16_of p (at + 2)) ++ 58 ∷ (hex_group (u16_of p (at + 4)) ++ 58 ∷ hex_group (u16_of p (at + 6))))
+    ++ 58 ∷
+    (hex_group (u16_of p (at + 2))
+    ++ 58 ∷ (hex_group (u16_of p (at + 4)) ++ 58 ∷ hex_group (u16_of p (at + 6))))
 
 -- the IPv6 address in the sixteen bytes from a place: eight groups, never shortened
 unfoldable pub ipv6_text : List ℕ → ℕ → List ℕ
@@ -32,5 +36,7 @@ port_text (Some port) = 46 ∷ decimal port
 -- the Ethernet address in the six bytes from a place
 unfoldable pub mac_text : List ℕ → ℕ → List ℕ
 mac_text p at =
-    hex_two (slice_index p at) ++ 58 ∷ (hex_two (slice_index p (at + 1)) ++ 58 ∷ (hex_two (slice_index p (at + 2)) ++ 58 ∷
-    (hex_two (slice_index p (at + 3)) ++ 58 ∷ (hex_two (slice_index p (at + 4)) ++ 58 ∷ hex_two (slice_index p (at + 5))))))
+    hex_two (slice_index p at)
+    ++ 58 ∷ (hex_two (slice_index p (at + 1)) ++ 58 ∷ (hex_two (slice_index p (at + 2)) ++ 58 ∷
+    (hex_two (slice_index p (at + 3))
+    ++ 58 ∷ (hex_two (slice_index p (at + 4)) ++ 58 ∷ hex_two (slice_index p (at + 5))))))

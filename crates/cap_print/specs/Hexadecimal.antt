@@ -10,7 +10,9 @@ hex_two n = hex_digit (n / 16) ∷ hex_digit (n % 16) ∷ []
 
 -- the four digits of a number below 2^16
 unfoldable pub hex_four : ℕ → List ℕ
-hex_four n = hex_digit (n / 4096) ∷ hex_digit (n / 256 % 16) ∷ hex_digit (n / 16 % 16) ∷ hex_digit (n % 16) ∷ []
+hex_four n =
+    hex_digit (n / 4096) ∷ hex_digit (n / 256 % 16) ∷ hex_digit (n / 16 % 16) ∷ hex_digit (n % 16)
+    ∷ []
 
 -- the eight digits of a number below 2^32
 unfoldable pub hex_eight : ℕ → List ℕ

@@ -16,11 +16,14 @@ type_text type = codes ", type 0x" ++ (hex_four type ++ codes ", ")
 unfoldable pub ethernet_part : List ℕ → List ℕ
 ethernet_part p =
     if nat_lt (length p) ETHERNET_HEADER_LENGTH then codes "ether [short], "
-    else mac_text p 6 ++ (codes " > " ++ (mac_text p 0 ++ type_text (u16_of p ETHERNET_TYPE_OFFSET)))
+    else mac_text p 6
+    ++ (codes " > " ++ (mac_text p 0 ++ type_text (u16_of p ETHERNET_TYPE_OFFSET)))
 
 -- of the header of a Linux cooked capture
 unfoldable pub cooked_part : List ℕ → List ℕ
-cooked_part p = if nat_lt (length p) LINUX_SLL_HEADER_LENGTH then codes "cooked [short], " else codes "cooked" ++ type_text (u16_of p LINUX_SLL_TYPE_OFFSET)
+cooked_part p =
+    if nat_lt (length p) LINUX_SLL_HEADER_LENGTH then codes "cooked [short], " else codes "cooked"
+    ++ type_text (u16_of p LINUX_SLL_TYPE_OFFSET)
 
 -- of the link header
 unfoldable pub link_part : ℕ → List ℕ → List ℕ
@@ -30,7 +33,8 @@ link_part link p =
     else if link == LINKTYPE_LINUX_SLL then cooked_part p
     else codes "link " ++ (decimal link ++ codes ", ")
 
--- the date, what is said of the link header where it is asked for, what is said of the network header, and the original length
+-- the date, what is said of the link header where it is asked for, what is said of the network
+-- header, and the original length
 unfoldable pub line : Bool → Captured → List ℕ
 line with_link p =
     date_text p.time

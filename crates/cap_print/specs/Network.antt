@@ -1,4 +1,5 @@
--- What a line says of a packet's network header. p are the captured bytes, in which the header begins at place l.
+-- What a line says of a packet's network header. p are the captured bytes, in which the header
+-- begins at place l.
 use Rattle.std.specs.Prelude.{ℕ, ◌+◌, ◌*◌, ◌%◌, nat_lt, nat_le, ◌==◌, ◌&&◌, ◌||◌, not, Bool, false, if◌then◌else◌, List, ◌++◌, ◌∷◌, length, slice_index, decimal, Option, Some, None, codes}
 use Rattle.std.specs.Option.{option_map}
 use Rattle.cap_octet.specs.Assigned.{IPPROTO_ICMP, IPPROTO_TCP, IPPROTO_UDP, IPPROTO_ICMPV6}
@@ -12,7 +13,8 @@ use Rattle.cap_print.specs.declared.network.Ip.{Ip}
 use Rattle.cap_print.specs.declared.network.Ip.TheVariants.{V4, V6}
 use Rattle.cap_print.specs.declared.network.Layout.{Layout}
 
--- where a header of IP has its protocol and its two addresses, and how long they are (RFC 791, section 3.1; RFC 8200, section 3)
+-- where a header of IP has its protocol and its two addresses, and how long they are (RFC 791,
+-- section 3.1; RFC 8200, section 3)
 abbrev pub layout_of : Ip → Layout
 layout_of V4 = record { protocol = 9; addresses = 12; address_length = 4 }
 layout_of V6 = record { protocol = 6; addresses = 8; address_length = 16 }
@@ -49,8 +51,12 @@ address_text V6 p at = ipv6_text p at
 -- `IP A > B: ` or `IP6 A > B: `, each address with its port, where there are ports
 unfoldable pub ip_ends : Ip → ℕ → List ℕ → Option (ℕ × ℕ) → List ℕ
 ip_ends ip l p ports =
-    ip_name ip ++ (32 ∷ (address_text ip p (l + (layout_of ip).addresses) ++ (port_text (option_map (λ both. both.0) ports)
-    ++ (codes " > " ++ (address_text ip p (l + (layout_of ip).addresses + (layout_of ip).address_length)
+    ip_name ip
+    ++ (32 ∷
+    (address_text ip p (l + (layout_of ip).addresses)
+    ++ (port_text (option_map (λ both. both.0) ports)
+    ++ (codes " > "
+    ++ (address_text ip p (l + (layout_of ip).addresses + (layout_of ip).address_length)
     ++ (port_text (option_map (λ both. both.1) ports) ++ codes ": "))))))
 
 -- a later fragment of IPv4: its offset isn't 0
@@ -69,21 +75,26 @@ has_ports n = (n == IPPROTO_TCP) || (n == IPPROTO_UDP)
 
 -- the two ports from a place, where they are captured
 abbrev pub ports_at : ℕ → ℕ → List ℕ → Option (ℕ × ℕ)
-ports_at n at p = if has_ports n && nat_le (at + 4) (length p) then Some (u16_of p at, u16_of p (at + 2)) else None
+ports_at n at p =
+    if has_ports n
+    && nat_le (at + 4) (length p) then Some (u16_of p at, u16_of p (at + 2)) else None
 
 -- of the header of IP
 unfoldable pub ip_part : Ip → ℕ → List ℕ → List ℕ
 ip_part ip l p =
     if nat_lt (length p) (least_end ip l) then ip_name ip ++ codes " [short]"
     else if is_later_fragment ip l p then ip_ends ip l p None ++ codes "fragment"
-    else ip_ends ip l p (ports_at (slice_index p (l + (layout_of ip).protocol)) (header_end ip l p) p)
+    else ip_ends ip l p
+    (ports_at (slice_index p (l + (layout_of ip).protocol)) (header_end ip l p) p)
     ++ protocol_text ip (slice_index p (l + (layout_of ip).protocol))
 
 -- of the ARP or RARP header, after its name
 unfoldable pub arp_part : ℕ → List ℕ → List ℕ
 arp_part l p =
     if nat_lt (length p) (l + 28) then codes " [short]"
-    else codes " op " ++ (decimal (u16_of p (l + 6)) ++ (codes " " ++ (ipv4_text p (l + 14) ++ (codes " > " ++ ipv4_text p (l + 24)))))
+    else codes " op "
+    ++ (decimal (u16_of p (l + 6))
+    ++ (codes " " ++ (ipv4_text p (l + 14) ++ (codes " > " ++ ipv4_text p (l + 24)))))
 
 -- of this header
 unfoldable pub header_part : NetworkHeader → ℕ → List ℕ → List ℕ

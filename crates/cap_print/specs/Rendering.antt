@@ -7,4 +7,5 @@ use Rattle.cap_print.specs.Line.{line}
 
 -- its line, and behind it the rows of its bytes where they are asked for
 unfoldable pub printed : Options → Captured → List ℕ
-printed options p = line options.link p ++ (if options.bytes then rows (payload p.link p.bytes) else [])
+printed options p =
+    line options.link p ++ (if options.bytes then rows (payload p.link p.bytes) else [])

@@ -1,4 +1,5 @@
--- The bounds of a step, whatever the devices: what it reads, how many steps were made, and what the job holds.
+-- The bounds of a step, whatever the devices: what it reads, how many steps were made, and what the
+-- job holds.
 use Rattle.std.specs.Prelude.{◌≡◌, ℕ, ◌+◌, ◌*◌, ◌≤◌, ◌&&◌, Bool, IsTrue, true, false, List, [], ◌∷◌, length, map, Option, None, Some, Result, Ok, Err}
 use Rattle.std.specs.List.{All}
 use Rattle.cap_octet.specs.declared.fault.Fault.{Fault}
@@ -18,15 +19,17 @@ use Rattle.cap_tools.specs.Jobs.{JobView}
 
 -- ---- what a step reads
 
--- The input that is next was read on, to its next packet and no further. No packet is decided, and nothing is written unless the
--- input was read to its end and is to be reported.
-pub record ReadsOn (tells : Bool) (old : JobView) (input : ℕ) (answer : Result Bool Fault) (new : JobView) : Type 0 where
+-- The input that is next was read on, to its next packet and no further. No packet is decided, and
+-- nothing is written unless the input was read to its end and is to be reported.
+pub record ReadsOn (tells : Bool) (old : JobView) (input : ℕ) (answer : Result Bool Fault)
+    (new : JobView) : Type 0 where
   pub next : IsNext old.machine.inputs (next.Read input)
   pub fetches : ReadSteps old.machine.inputs input answer new.machine.inputs
   -- where the input tells its bytes: its next packet, its clean end or its fault, and no more
   pub told : IsTrue tells → ReadsInput old.machine.inputs input answer new.machine.inputs
   pub decided : new.machine.decided ≡ old.machine.decided
-  pub output : (is_clean_end answer && asks_report old.machine.inputs.order old.machine.policy) ≡ false → new.machine.output ≡ old.machine.output
+  pub output : (is_clean_end answer && asks_report old.machine.inputs.order old.machine.policy)
+      ≡ false → new.machine.output ≡ old.machine.output
   pub programs : new.programs ≡ old.programs
 
 -- an input's current packet, which isn't decided yet
@@ -43,7 +46,8 @@ pub record DecidesOne (old : JobView) (input : ℕ) (new : JobView) : Type 0 whe
   pub holds : Holds old.machine.inputs.cursors input packet
   pub settles : MarksDecided old.machine.inputs input new.machine.inputs
   pub decided : new.machine.decided ≡ old.machine.decided + 1
-  pub programs : new.programs ≡ spent_by_verdict old.machine.policy (old.machine.decided + 1) packet old.programs
+  pub programs : new.programs
+      ≡ spent_by_verdict old.machine.policy (old.machine.decided + 1) packet old.programs
   pub cost : spent_in new.programs ≤ spent_in old.programs + most_spent old.machine.policy
 
 -- it is refused, or wasn't written
@@ -53,7 +57,8 @@ pub record LeavesOne (old : JobView) (input : ℕ) (new : JobView) : Type 0 wher
   pub holds : Holds old.machine.inputs.cursors input packet
   pub inputs : new.machine.inputs ≡ old.machine.inputs
   pub decided : new.machine.decided ≡ old.machine.decided
-  pub programs : new.programs ≡ spent_by_verdict old.machine.policy (old.machine.decided + 1) packet old.programs
+  pub programs : new.programs
+      ≡ spent_by_verdict old.machine.policy (old.machine.decided + 1) packet old.programs
   pub cost : spent_in new.programs ≤ spent_in old.programs + most_spent old.machine.policy
 
 -- nothing is read, no packet is decided, and no program runs
@@ -66,10 +71,11 @@ abbrev pub is_fault : Result Bool Fault → Bool
 is_fault (Ok found) = false
 is_fault (Err fault) = true
 
--- A step reads one input on, or decides one packet, or can't decide it, or does neither. It goes on behind an input that
--- gave no fault, or a packet that is decided, and not otherwise.
+-- A step reads one input on, or decides one packet, or can't decide it, or does neither. It goes on
+-- behind an input that gave no fault, or a packet that is decided, and not otherwise.
 pub data StepReads (tells goes : Bool) (old new : JobView) : Type 0 where
-  reads_on : (input : ℕ) → (answer : Result Bool Fault) → (goes ≡ true → is_fault answer ≡ false) → ReadsOn tells old input answer new → StepReads tells goes old new
+  reads_on : (input : ℕ) → (answer : Result Bool Fault) → (goes ≡ true → is_fault answer ≡ false)
+      → ReadsOn tells old input answer new → StepReads tells goes old new
   decides_one : (input : ℕ) → DecidesOne old input new → StepReads tells goes old new
   leaves_one : (input : ℕ) → goes ≡ false → LeavesOne old input new → StepReads tells goes old new
   reads_nothing : goes ≡ false → ReadsNothing old new → StepReads tells goes old new
@@ -97,7 +103,8 @@ steps_owed_in_all f = owed_in f.cursors
 abbrev pub most_turns : InputsView → ℕ
 most_turns f = 2 * reads_of f.cursors + length f.cursors + 1
 
--- a step that goes on is one of those that were owed, or it read bytes that pay for it and for what is owed now
+-- a step that goes on is one of those that were owed, or it read bytes that pay for it and for what
+-- is owed now
 abbrev pub IsPaid : InputsView → InputsView → Type 0
 IsPaid old new = steps_owed_in_all new + 1 + most_turns old ≤ steps_owed_in_all old + most_turns new
 
@@ -132,13 +139,18 @@ target_weight (Capture sink) = names_weight (map (λ i. i.name) sink.interfaces)
 target_weight (Text written failures room) = 0
 target_weight (Lines options written failures room) = 0
 
--- the bytes that a job holds of its inputs and of its output, 20 for each mark in its window, and 128 for its counters
+-- the bytes that a job holds of its inputs and of its output, 20 for each mark in its window, and
+-- 128 for its counters
 abbrev pub weight : MachineState → ℕ
-weight m = inputs_weight m.inputs.cursors + target_weight m.output.target + 20 * length m.state.window + 128
+weight m =
+    inputs_weight m.inputs.cursors + target_weight m.output.target + 20 * length m.state.window
+    + 128
 
--- a unit for each input, 280 bytes for each interface that inputs and output may have, so many marks, and the counters
+-- a unit for each input, 280 bytes for each interface that inputs and output may have, so many
+-- marks, and the counters
 abbrev pub most_weight : ℕ → ℕ → ℕ
-most_weight inputs marks = inputs * most_in_unit + (256 * inputs + most_output_interfaces) * 280 + 20 * marks + 128
+most_weight inputs marks =
+    inputs * most_in_unit + (256 * inputs + most_output_interfaces) * 280 + 20 * marks + 128
 
 -- at most one unit is held of an input, and few interfaces
 abbrev pub IsSmall : InputView → Type 0
@@ -152,8 +164,8 @@ HasFewOutputInterfaces (Lines options written failures room) = Unit {0}
 abbrev pub IsBounded : InputsView → Target → Type 0
 IsBounded inputs target = All IsSmall inputs.cursors × HasFewOutputInterfaces target
 
--- What a job holds of each input is bounded, and of all of them; a window of n packets has n - 1 marks, and there is none
--- where no duplicates are searched for.
+-- What a job holds of each input is bounded, and of all of them; a window of n packets has n - 1
+-- marks, and there is none where no duplicates are searched for.
 pub record IsLight (m : MachineState) : Type 0 where
   pub each : IsBounded m.inputs m.output.target
   pub all : weight m ≤ most_weight (length m.inputs.cursors) (places (window_of m.policy))

@@ -9,8 +9,9 @@ use Rattle.cap_inputs.specs.Fresh.{FreshInput, fresh_input}
 abbrev pub device_view : {O : Type 0} → output.Ghosts O → O → OutputView
 device_view device o = output_view (device.written o) (device.failures o)
 
--- A call, beside its command: the names of the inputs, then of the output; the inputs; the output, with how many bytes it
--- takes at least before it fails; and the messages' device, with whether it tells its bytes.
+-- A call, beside its command: the names of the inputs, then of the output; the inputs; the output,
+-- with how many bytes it takes at least before it fails; and the messages' device, with whether it
+-- tells its bytes.
 pub record Call : Type 0 where
   pub names : List (List ℕ)
   pub inputs : List FreshInput
@@ -19,7 +20,8 @@ pub record Call : Type 0 where
   pub messages : OutputView
   pub tells : Bool
 
-abbrev pub call_of : {I O E : Type 0} → input.Ghosts I → output.Ghosts O → output.Ghosts E → (names : List (List ℕ)) → List I → O → E → Call
+abbrev pub call_of : {I O E : Type 0} → input.Ghosts I → output.Ghosts O → output.Ghosts E
+    → (names : List (List ℕ)) → List I → O → E → Call
 call_of inputs output messages names is out err = record {
   names = names;
   inputs = map (fresh_input inputs) is;

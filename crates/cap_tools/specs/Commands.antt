@@ -43,7 +43,8 @@ pub record IsFiltered (asked : FilterAsked) (old new : JobView) : Type 0 where
   pub new_is : new ≡ filtering rule asked.count programs old
 
 -- the filter is refused, or there was no memory for it
-pub record RefusesFilter (asked : FilterAsked) (tells : Bool) (old : JobView) (status : ℕ) (new : JobView) : Type 0 where
+pub record RefusesFilter (asked : FilterAsked) (tells : Bool) (old : JobView) (status : ℕ)
+    (new : JobView) : Type 0 where
   pub refusal : Refusal
   pub why : IsWhy asked.words asked.code refusal
   pub refuses : RefusesStart refusal tells old status new
@@ -53,30 +54,36 @@ FilterGives asked tells old turn.More new = IsFiltered asked old new
 FilterGives asked tells old (turn.Done status) new = RefusesFilter asked tells old status new
 
 -- a listing of some program for the expression is written, or a prefix of it
-pub record ListsSome (words : List ℕ) (link : Link) (tells : Bool) (old : JobView) (status : ℕ) (new : JobView) : Type 0 where
+pub record ListsSome (words : List ℕ) (link : Link) (tells : Bool) (old : JobView) (status : ℕ)
+    (new : JobView) : Type 0 where
   pub prog : List Insn
   pub compiled : IsCompiled words link prog
   pub lists : WritesListing prog tells old status new
 
 -- the expression is refused, or there was no memory for it
-pub record RefusesExpression (words : List ℕ) (tells : Bool) (old : JobView) (status : ℕ) (new : JobView) : Type 0 where
+pub record RefusesExpression (words : List ℕ) (tells : Bool) (old : JobView) (status : ℕ)
+    (new : JobView) : Type 0 where
   pub fault : ExprFault
   pub why : IsTextFault words fault
   pub refuses : RefusesStart (refusal.Expression fault) tells old status new
 
 abbrev pub CompileGives : List ℕ → Link → Bool → JobView → Turn → JobView → Type 0
 CompileGives words link tells old turn.More new = ⊥
-CompileGives words link tells old (turn.Done status) new = ListsSome words link tells old status new ⊎ RefusesExpression words tells old status new
+CompileGives words link tells old (turn.Done status) new =
+    ListsSome words link tells old status new ⊎ RefusesExpression words tells old status new
 
 abbrev pub Prepares : Preparing → Bool → JobView → Turn → JobView → Type 0
 Prepares (ReadsFilter asked) tells old r new = FilterGives asked tells old r new
 Prepares (Compiles words link) tells old r new = CompileGives words link tells old r new
 
 -- what is prepared first, of any device; a listing is told where the output tells its bytes
-abbrev pub PreparesBy : Option Preparing → (output_tells tells : Bool) → JobView → Turn → JobView → Type 0
+abbrev pub PreparesBy : Option Preparing → (output_tells tells : Bool) → JobView → Turn → JobView
+    → Type 0
 PreparesBy None output_tells tells old r new = Unit {0}
-PreparesBy (Some (ReadsFilter asked)) output_tells tells old r new = FilterGives asked tells old r new
-PreparesBy (Some (Compiles words link)) output_tells tells old r new = IsTrue output_tells → CompileGives words link tells old r new
+PreparesBy (Some (ReadsFilter asked)) output_tells tells old r new =
+    FilterGives asked tells old r new
+PreparesBy (Some (Compiles words link)) output_tells tells old r new =
+    IsTrue output_tells → CompileGives words link tells old r new
 
 -- ---- a step
 
@@ -105,8 +112,8 @@ pub record KeepsFirst (old : JobView) (r : Turn) (new : JobView) : Type 0 where
   pub names : new.machine.output.names ≡ old.machine.output.names
   pub quiet : r ≡ turn.More → new.err ≡ old.err
 
--- What every step of a job keeps, whatever the devices: it prepares no more, its end is known, a step is counted where it
--- was under way, and what it holds is bounded.
+-- What every step of a job keeps, whatever the devices: it prepares no more, its end is known, a
+-- step is counted where it was under way, and what it holds is bounded.
 pub record StepKeeps (old : JobView) (r : Turn) (new : JobView) : Type 0 where
   pub prepared : new.preparing ≡ None
   pub done : new.done ≡ done_by r
@@ -137,11 +144,14 @@ StepReadsBy (Some preparing) tells goes old new = PreparesOnly old new
 -- what is decided of the inputs, whatever the filter will be and its programs
 abbrev pub DecidedBy : Option Preparing → List InputPast → List ℕ → JobView → Type 0
 DecidedBy None ss before j = Decided ss before j
-DecidedBy (Some (ReadsFilter asked)) ss before j = (rule : Rule) → IsRule asked.words asked.code rule → (programs : List Content) → AreNew rule programs → Decided ss before (filtering rule asked.count programs j)
+DecidedBy (Some (ReadsFilter asked)) ss before j =
+    (rule : Rule) → IsRule asked.words asked.code rule → (programs : List Content)
+    → AreNew rule programs → Decided ss before (filtering rule asked.count programs j)
 DecidedBy (Some (Compiles words link)) ss before j = Unit {0}
 
 -- the job goes through the filter that it reads
-pub record RunsFiltered (asked : FilterAsked) (ss : List InputPast) (before : List ℕ) (tells : Bool) (first : JobView) (r : RunResult) : Type 0 where
+pub record RunsFiltered (asked : FilterAsked) (ss : List InputPast) (before : List ℕ) (tells : Bool)
+    (first : JobView) (r : RunResult) : Type 0 where
   pub rule : Rule
   pub is : IsRule asked.words asked.code rule
   pub programs : List Content
@@ -149,7 +159,8 @@ pub record RunsFiltered (asked : FilterAsked) (ss : List InputPast) (before : Li
   pub runs : JobRuns ss before tells (filtering rule asked.count programs first) r
 
 -- nothing is read or written but a message
-pub record RunsRefused (asked : FilterAsked) (tells : Bool) (first : JobView) (r : RunResult) : Type 0 where
+pub record RunsRefused (asked : FilterAsked) (tells : Bool) (first : JobView)
+    (r : RunResult) : Type 0 where
   pub refusal : Refusal
   pub why : IsWhy asked.words asked.code refusal
   pub status_is : r.status ≡ refusal_status refusal
@@ -161,7 +172,10 @@ RunsBy None ss before tells first r = JobRuns ss before tells first r
 RunsBy (Some (ReadsFilter asked)) ss before tells first r =
     RunsFiltered asked ss before tells first r ⊎ RunsRefused asked tells first r
 RunsBy (Some (Compiles words link)) ss before tells first r =
-    Runs (λ message. CompileLeaves words link (output_name first) (output_of first) r.output message r.status) tells first.err r.messages
+    Runs (λ message. CompileLeaves words link (output_name first)
+    (output_of first) r.output message r.status) tells first.err r.messages
 
 abbrev pub RunsCommand : Bool → JobView → RunResult → Type 0
-RunsCommand tells first r = (ss : List InputPast) (before : List ℕ) → DecidedBy first.preparing ss before first → RunsBy first.preparing ss before tells first r
+RunsCommand tells first r =
+    (ss : List InputPast) (before : List ℕ) → DecidedBy first.preparing ss before first
+    → RunsBy first.preparing ss before tells first r

@@ -11,12 +11,13 @@ abbrev pub selected_at : EditRule → Captured → Option ℕ → List Captured 
 selected_at s p None rest = []
 selected_at s p (Some time) rest = edited_packet_with s p time ∷ rest
 
--- the packets that are selected, the first with this number, as they are changed; up to the first whose time leaves its
--- range
+-- the packets that are selected, the first with this number, as they are changed; up to the first
+-- whose time leaves its range
 abbrev pub packets_selected : EditRule → ℕ → List Captured → List Captured
 packets_selected s number [] = []
 packets_selected s number (p ∷ ps) =
-    if is_selected s number p then selected_at s p (shifted_time s.shift p.time) (packets_selected s (number + 1) ps) else packets_selected s (number + 1) ps
+    if is_selected s number p then selected_at s p (shifted_time s.shift p.time)
+    (packets_selected s (number + 1) ps) else packets_selected s (number + 1) ps
 
 -- whether one of the n - 1 marks just before is the same
 abbrev pub is_repeated : Option ℕ → List Mark → Mark → Bool
@@ -27,13 +28,19 @@ is_repeated (Some n) before m = has_same (last (n - 1) before) m
 abbrev pub unique_behind : Option ℕ → List Mark → List Captured → List Captured
 unique_behind n before [] = []
 unique_behind n before (p ∷ ps) =
-    if is_repeated n before (mark_of p.bytes) then unique_behind n (before ++ mark_of p.bytes ∷ []) ps else p ∷ unique_behind n (before ++ mark_of p.bytes ∷ []) ps
+    if is_repeated n before (mark_of p.bytes) then unique_behind n
+    (before ++ mark_of p.bytes ∷ []) ps else p
+    ∷ unique_behind n (before ++ mark_of p.bytes ∷ []) ps
 
 -- packets that come one behind another
 abbrev pub coming : List Captured → List Event
 coming [] = []
 coming (p ∷ ps) = Packet 0 (record { offset = 0; packet = p }) ∷ coming ps
 
--- where nothing is refused in writing, what passes of fewer than 2^63 packets is what is unique of what is selected
+-- where nothing is refused in writing, what passes of fewer than 2^63 packets is what is unique of
+-- what is selected
 abbrev pub PassesUnique : Type 0
-PassesUnique = (s : EditRule) (ps : List Captured) → length ps < 2 ^ 63 → (apply_events (Edit s) (AsReports []) no_progress (coming ps)).packets ≡ unique_behind s.window [] (packets_selected s 1 ps)
+PassesUnique =
+    (s : EditRule) (ps : List Captured) → length ps < 2 ^ 63
+    → (apply_events (Edit s) (AsReports []) no_progress (coming ps)).packets
+    ≡ unique_behind s.window [] (packets_selected s 1 ps)

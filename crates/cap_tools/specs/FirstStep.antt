@@ -33,7 +33,14 @@ is_text (Lines options written failures room) = false
 
 -- packets are judged by this from here on
 abbrev pub asking : Policy → MachineState → MachineState
-asking policy m = record { inputs = m.inputs; policy = policy; state = state_with 0 nothing_counted; output = m.output; decided = m.decided }
+asking policy m =
+    record {
+      inputs = m.inputs;
+      policy = policy;
+      state = state_with 0 nothing_counted;
+      output = m.output;
+      decided = m.decided;
+    }
 
 -- the job whose packets go through the filter, by these programs, up to so many that pass
 abbrev pub filtering : Rule → Option ℕ → List Content → JobView → JobView
@@ -68,15 +75,20 @@ output_of j = output_by j.machine
 abbrev pub output_name : JobView → List ℕ
 output_name j = name_at j.machine.output.names (length j.machine.inputs.cursors)
 
--- It is refused, or there was no memory for it, and nothing is read or written. A message that can't be written is lost.
-pub record RefusesStart (refusal : Refusal) (tells : Bool) (old : JobView) (status : ℕ) (new : JobView) : Type 0 where
+-- It is refused, or there was no memory for it, and nothing is read or written. A message that
+-- can't be written is lost.
+pub record RefusesStart (refusal : Refusal) (tells : Bool) (old : JobView) (status : ℕ)
+    (new : JobView) : Type 0 where
   pub status_is : status ≡ refusal_status refusal
   pub told : IsTold tells old.err (refusal_message refusal) new.err
   pub new_is : new ≡ refusing refusal new.err old
 
 -- a listing is written, or a prefix of it where the output's device failed, and the job ended
-pub record WritesListing (insns : List Insn) (tells : Bool) (old : JobView) (status : ℕ) (new : JobView) : Type 0 where
-  pub runs : Runs (ListingLeaves insns (output_name old) (output_of old) (output_of new) status) tells old.err new.err
+pub record WritesListing (insns : List Insn) (tells : Bool) (old : JobView) (status : ℕ)
+    (new : JobView) : Type 0 where
+  pub runs : Runs
+      (ListingLeaves insns (output_name old) (output_of old)
+      (output_of new) status) tells old.err new.err
 
 abbrev pub EndsList : List Insn → Bool → JobView → Turn → JobView → Type 0
 EndsList insns tells old turn.More new = ⊥

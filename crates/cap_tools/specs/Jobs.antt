@@ -34,7 +34,14 @@ pub record JobView : Type 0 where
 
 -- of the parts of a job
 abbrev pub machine_at : InputsView → SelectorView → JobOutputView → ℕ → MachineState
-machine_at inputs selector output decided = record { inputs = inputs; policy = selector.policy; state = selector.state; output = output; decided = decided }
+machine_at inputs selector output decided =
+    record {
+      inputs = inputs;
+      policy = selector.policy;
+      state = selector.state;
+      output = output;
+      decided = decided;
+    }
 
 -- a job of which nothing is done
 abbrev pub first_job : Assignment → Call → JobView
@@ -44,7 +51,11 @@ first_job a call = record {
     inputs = fresh_inputs a.order call.inputs;
     policy = a.policy;
     state = state_with 0 nothing_counted;
-    output = record { names = call.names; target = target_at a.writing call.output.written call.output.failures call.room };
+    output =
+        record {
+          names = call.names;
+          target = target_at a.writing call.output.written call.output.failures call.room;
+        };
     decided = 0;
   };
   programs = [];
@@ -53,8 +64,9 @@ first_job a call = record {
   done = None;
 }
 
--- What holds of a job between its steps: of each input some bytes are done, and their packets are decided and written; and
--- each program that judges is one for its expression and its link, or the listing's.
+-- What holds of a job between its steps: of each input some bytes are done, and their packets are
+-- decided and written; and each program that judges is one for its expression and its link, or the
+-- listing's.
 pub record Decided (ss : List InputPast) (before : List ℕ) (j : JobView) : Type 0 where
   pub packets : PacketsDecided ss before j.machine
   pub programs : HavePrograms j.machine.policy j.programs
@@ -69,7 +81,8 @@ IsCounted (Some status) turns left = (turns ≤ most_steps + 1) × (status ≤ 2
 -- what is reported of it
 abbrev pub end_message : List (List ℕ) → List InputView → JobEnd → List ℕ
 end_message names cursors end.Complete = []
-end_message names cursors (end.FaultIn input fault) = fault_message (name_at names input) (offset_at cursors input) fault
+end_message names cursors (end.FaultIn input fault) =
+    fault_message (name_at names input) (offset_at cursors input) fault
 end_message names cursors end.OutputFailed = write_failed_message (name_at names (length cursors))
 
 abbrev pub end_status : JobEnd → ℕ
@@ -79,24 +92,28 @@ end_status end.OutputFailed = 1
 
 -- ---- a step
 
--- A step that ends a job ends it in one way. Its message and its status are those of the way; a message that can't be written
--- is lost.
+-- A step that ends a job ends it in one way. Its message and its status are those of the way; a
+-- message that can't be written is lost.
 pub record EndsJob (tells : Bool) (old : JobView) (status : ℕ) (new : JobView) : Type 0 where
   pub end : JobEnd
   pub leaves : StepGives old.machine (Some end) new.machine
-  pub told : IsTold tells old.err (end_message old.machine.output.names new.machine.inputs.cursors end) new.err
+  pub told : IsTold tells old.err
+      (end_message old.machine.output.names new.machine.inputs.cursors end) new.err
   -- where all went well nothing is reported
   pub quiet : status ≡ 0 → new.err ≡ old.err
   pub status_is : status ≡ end_status end
 
 -- it goes on, and what held of it holds again, its programs included
-pub record StaysDecided {ss : List InputPast} {before : List ℕ} {old : JobView} (d : Decided ss before old) (new : JobView) : Type 0 where
+pub record StaysDecided {ss : List InputPast} {before : List ℕ} {old : JobView}
+    (d : Decided ss before old) (new : JobView) : Type 0 where
   pub goes : GoesOn d.packets new.machine
   pub programs : HavePrograms new.machine.policy new.programs
 
 -- a job that goes on reports nothing
 abbrev pub JobGives : Bool → JobView → Turn → JobView → Type 0
-JobGives tells old turn.More new = (new.err ≡ old.err) × ((ss : List InputPast) (before : List ℕ) (d : Decided ss before old) → StaysDecided d new)
+JobGives tells old turn.More new =
+    (new.err ≡ old.err)
+    × ((ss : List InputPast) (before : List ℕ) (d : Decided ss before old) → StaysDecided d new)
 JobGives tells old (turn.Done status) new = EndsJob tells old status new
 
 abbrev pub turn_goes_on : Turn → Bool
@@ -114,7 +131,8 @@ done_by (turn.Done status) = Some status
 
 -- ---- all steps
 
--- A job that went on from its first view, without a failure of the output: of the same texts more bytes are done.
+-- A job that went on from its first view, without a failure of the output: of the same texts more
+-- bytes are done.
 pub record IsUnderWay (ss : List InputPast) (before : List ℕ) (first j : JobView) : Type 0 where
   pub past : List InputPast
   pub texts : texts past ≡ texts ss
@@ -127,9 +145,10 @@ pub record IsUnderWay (ss : List InputPast) (before : List ℕ) (first j : JobVi
   -- an input that never fails is cut short by no failure
   pub never : never_failing j.machine.inputs.cursors ≡ never_failing first.machine.inputs.cursors
 
--- The last step ended the job in one way, behind steps that went on. The output and the messages' device are handed back as
--- that step left them.
-pub record JobRuns (ss : List InputPast) (before : List ℕ) (tells : Bool) (first : JobView) (r : RunResult) : Type 0 where
+-- The last step ended the job in one way, behind steps that went on. The output and the messages'
+-- device are handed back as that step left them.
+pub record JobRuns (ss : List InputPast) (before : List ℕ) (tells : Bool) (first : JobView)
+    (r : RunResult) : Type 0 where
   pub old : JobView
   pub last : MachineState
   pub progress : IsUnderWay ss before first old
@@ -137,6 +156,7 @@ pub record JobRuns (ss : List InputPast) (before : List ℕ) (tells : Bool) (fir
   pub leaves : EndLeaves progress.decided.packets end last
   pub written : r.output.written ≡ written_by last
   pub failures : r.output.failures ≡ failures_by last
-  pub told : IsTold tells first.err (end_message first.machine.output.names last.inputs.cursors end) r.messages
+  pub told : IsTold tells first.err
+      (end_message first.machine.output.names last.inputs.cursors end) r.messages
   pub quiet : r.status ≡ 0 → r.messages ≡ first.err
   pub status_is : r.status ≡ end_status end

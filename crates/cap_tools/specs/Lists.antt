@@ -58,7 +58,9 @@ tally_of ps = record {
 
 -- what is counted of packets is their tally, however many they are
 abbrev pub CountsAll : Type 0
-CountsAll = (names : List (List ℕ)) (ps : List Captured) → (apply_events Count (AsReports names) no_progress (coming ps)).state.tally ≡ tally_of ps
+CountsAll =
+    (names : List (List ℕ)) (ps : List Captured)
+    → (apply_events Count (AsReports names) no_progress (coming ps)).state.tally ≡ tally_of ps
 
 -- ---- what a filter keeps
 
@@ -78,10 +80,14 @@ abbrev pub at_most : Option ℕ → List Captured → List Captured
 at_most None ps = ps
 at_most (Some n) ps = take n ps
 
--- of fewer than 2^63 packets those pass that the rule keeps, the first so many where a count is given
+-- of fewer than 2^63 packets those pass that the rule keeps, the first so many where a count is
+-- given
 abbrev pub PassesFiltered : Type 0
-PassesFiltered = (rule : Rule) (count : Option ℕ) (ps : List Captured) → IfSome count (λ (n : ℕ). 0 < n) → length ps < 2 ^ 63
-    → (apply_events (Filter rule count) (AsReports []) no_progress (coming ps)).packets ≡ at_most count (packets_kept rule ps)
+PassesFiltered =
+    (rule : Rule) (count : Option ℕ) (ps : List Captured) → IfSome count (λ (n : ℕ). 0 < n)
+    → length ps < 2 ^ 63
+    → (apply_events (Filter rule count) (AsReports []) no_progress (coming ps)).packets
+    ≡ at_most count (packets_kept rule ps)
 
 -- ---- the window of an edit
 
@@ -92,7 +98,8 @@ marks ps = map (λ (p : Captured). mark_of p.bytes) ps
 -- behind fewer than 2^63 packets the window has the marks of the last n - 1 that were selected
 abbrev pub HasLastMarks : Type 0
 HasLastMarks = (s : EditRule) (n : ℕ) (ps : List Captured) → s.window ≡ Some n → length ps < 2 ^ 63
-    → (apply_events (Edit s) (AsReports []) no_progress (coming ps)).state.window ≡ last (n - 1) (marks (packets_selected s 1 ps))
+    → (apply_events (Edit s) (AsReports []) no_progress (coming ps)).state.window
+    ≡ last (n - 1) (marks (packets_selected s 1 ps))
 
 -- ---- how an edit ends
 
@@ -112,16 +119,19 @@ leaves_range s number p = is_selected s number p && is_none (shifted_time s.shif
 -- where the first lies that does, the first of all having this number
 abbrev pub first_out_of_range : EditRule → ℕ → List Placed → Option ℕ
 first_out_of_range s number [] = None
-first_out_of_range s number (p ∷ ps) = if leaves_range s number p.packet then Some p.offset else first_out_of_range s (number + 1) ps
+first_out_of_range s number (p ∷ ps) =
+    if leaves_range s number p.packet then Some p.offset else first_out_of_range s (number + 1) ps
 
 -- the job goes on where there is none, and else it ends there, for its time
 abbrev pub end_at_time : Option ℕ → Option SequenceEnd
 end_at_time None = None
 end_at_time (Some offset) = Some (FaultIn 0 TimeOutOfRange offset)
 
--- An edit of fewer than 2^63 packets ends at the first that is selected and whose time leaves its range; what passes is
--- what is unique of what is selected in front of it.
+-- An edit of fewer than 2^63 packets ends at the first that is selected and whose time leaves its
+-- range; what passes is what is unique of what is selected in front of it.
 abbrev pub EndsOutOfRange : Type 0
 EndsOutOfRange = (s : EditRule) (ps : List Placed) → length ps < 2 ^ 63
-    → ((apply_events (Edit s) (AsReports []) no_progress (arriving ps)).end ≡ end_at_time (first_out_of_range s 1 ps))
-    × ((apply_events (Edit s) (AsReports []) no_progress (arriving ps)).packets ≡ unique_behind s.window [] (packets_selected s 1 (packets_of ps)))
+    → ((apply_events (Edit s) (AsReports []) no_progress (arriving ps)).end
+    ≡ end_at_time (first_out_of_range s 1 ps))
+    × ((apply_events (Edit s) (AsReports []) no_progress (arriving ps)).packets
+    ≡ unique_behind s.window [] (packets_selected s 1 (packets_of ps)))

@@ -57,21 +57,31 @@ wholes_of ss = map whole_input (texts ss)
 
 -- how far the job is, with these packets and reports
 abbrev pub progress_at : MachineState → List Captured → List Report → JobProgress
-progress_at m packets reports = record { decided = m.decided; state = m.state; packets = packets; reports = reports; end = None }
+progress_at m packets reports =
+    record {
+      decided = m.decided;
+      state = m.state;
+      packets = packets;
+      reports = reports;
+      end = None;
+    }
 
--- Of each input some bytes are done: their packets are decided, in the job's order, with their greatest time known, and
--- the output is what is written of those that passed, or of the inputs that were read to their ends. By which programs they
--- are judged is said of the whole job (`Decided`).
+-- Of each input some bytes are done: their packets are decided, in the job's order, with their
+-- greatest time known, and the output is what is written of those that passed, or of the inputs
+-- that were read to their ends. By which programs they are judged is said of the whole job
+-- (`Decided`).
 pub record PacketsDecided (ss : List InputPast) (before : List ℕ) (m : MachineState) : Type 0 where
   pub behind : AreInputsBehind ss m.inputs.cursors
   pub greatest : KnowGreatest ss m.inputs.cursors
   pub events : List Event
-  -- the events are the first of the order of the whole inputs, and they stay the first whatever follows what was read
+  -- the events are the first of the order of the whole inputs, and they stay the first whatever
+  -- follows what was read
   pub first : ComeFirst (sequence_of m.inputs.order (wholes_of ss)) events
   pub come : AreSettled ss m.inputs events
   pub packets : List Captured
   pub reports : List Report
-  pub progress : apply_events m.policy (output_form m) no_progress events ≡ progress_at m packets reports
+  pub progress : apply_events m.policy (output_form m) no_progress events
+      ≡ progress_at m packets reports
   pub output : HasWritten before m.output packets reports
   pub passed : m.state.passed ≤ m.decided
   pub counted : IsWithin m.decided m.state.tally
@@ -97,55 +107,76 @@ abbrev pub sieve : {T : Type 0} → PolicyState → T → Sieve T
 sieve selector output = record { selector = selector; output = output }
 
 -- a packet is judged, and put where it passes
-pub record Judges (p : Captured) (number : ℕ) (old : Sieve Target) (r : Result Bool Fault) (new : Sieve Target) : Type 0 where
+pub record Judges (p : Captured) (number : ℕ) (old : Sieve Target) (r : Result Bool Fault)
+    (new : Sieve Target) : Type 0 where
   pub answer : code.Verdict
   -- as it passes
   pub packet : Captured
-  pub told : selecting.IsVerdict (judge old.selector.policy old.selector.state number p) (Ok answer) packet new.selector.state
+  pub told : selecting.IsVerdict (judge old.selector.policy old.selector.state number p)
+      (Ok answer) packet new.selector.state
   pub offers : Offers answer packet old.output r new.output
 
 -- it is refused, and nothing is written
-pub record Rejects (p : Captured) (number : ℕ) (old : Sieve Target) (r : Result Bool Fault) (new : Sieve Target) : Type 0 where
+pub record Rejects (p : Captured) (number : ℕ) (old : Sieve Target) (r : Result Bool Fault)
+    (new : Sieve Target) : Type 0 where
   pub fault : Fault
-  pub told : selecting.IsVerdict (judge old.selector.policy old.selector.state number p) (Err fault) p new.selector.state
+  pub told : selecting.IsVerdict (judge old.selector.policy old.selector.state number p)
+      (Err fault) p new.selector.state
   pub answer : r ≡ Err fault
   pub same : new.output ≡ old.output
 
-abbrev pub DecidesPacket : Option Captured → ℕ → Sieve Target → Result Bool Fault → Sieve Target → Type 0
+abbrev pub DecidesPacket : Option Captured → ℕ → Sieve Target → Result Bool Fault → Sieve Target
+    → Type 0
 DecidesPacket None number old r new = ⊥
 DecidesPacket (Some p) number old r new = Judges p number old r new ⊎ Rejects p number old r new
 
 -- what deciding the current packet cost
 abbrev pub Spends : Option Captured → SelectorView → ℕ → SelectorView → Type 0
 Spends None old number new = ⊥
-Spends (Some p) old number new = (new.programs ≡ spent_by_verdict old.policy number p old.programs) × (spent_in new.programs ≤ spent_in old.programs + most_spent old.policy)
+Spends (Some p) old number new =
+    (new.programs ≡ spent_by_verdict old.policy number p old.programs)
+    × (spent_in new.programs ≤ spent_in old.programs + most_spent old.policy)
 
--- whether an input that was read to its end is reported: where files are counted, one behind another
+-- whether an input that was read to its end is reported: where files are counted, one behind
+-- another
 abbrev pub asks_report : PacketOrder → Policy → Bool
 asks_report InTurn policy = is_count policy
 asks_report ByTime policy = false
 
 abbrev pub report_at : ℕ → InputView → Tally → Report
-report_at input h tally = record { input = input; kind = kind_of h.source.declared; size = h.source.offset; tally = tally }
+report_at input h tally =
+    record {
+      input = input;
+      kind = kind_of h.source.declared;
+      size = h.source.offset;
+      tally = tally;
+    }
 
 abbrev pub unless_failed : Result (Unit {0}) DeviceFault → Option JobEnd
 unless_failed (Ok done) = None
 unless_failed (Err fault) = Some end.OutputFailed
 
 -- an input is reported, and the count begins anew
-pub record ReportsOn (input : ℕ) (cursor : InputView) (old : Sieve JobOutputView) (r : Option JobEnd) (new : Sieve JobOutputView) : Type 0 where
+pub record ReportsOn (input : ℕ) (cursor : InputView) (old : Sieve JobOutputView)
+    (r : Option JobEnd) (new : Sieve JobOutputView) : Type 0 where
   pub answer : Result (Unit {0}) DeviceFault
-  pub reports : Reports (report_text old.output.names (report_at input cursor old.selector.state.tally)) old.output.target answer new.output.target
+  pub reports : Reports
+      (report_text old.output.names
+      (report_at input cursor old.selector.state.tally)) old.output.target answer new.output.target
   pub names : new.output.names ≡ old.output.names
   pub is : r ≡ unless_failed answer
-  pub selector_is : new.selector ≡ record { policy = old.selector.policy; state = with_empty_tally old.selector.state }
+  pub selector_is : new.selector
+      ≡ record { policy = old.selector.policy; state = with_empty_tally old.selector.state }
 
-abbrev pub ClosesBy : Bool → ℕ → InputView → Sieve JobOutputView → Option JobEnd → Sieve JobOutputView → Type 0
-ClosesBy false input cursor old r new = (r ≡ None) × (new.selector ≡ old.selector) × (new.output ≡ old.output)
+abbrev pub ClosesBy : Bool → ℕ → InputView → Sieve JobOutputView → Option JobEnd
+    → Sieve JobOutputView → Type 0
+ClosesBy false input cursor old r new =
+    (r ≡ None) × (new.selector ≡ old.selector) × (new.output ≡ old.output)
 ClosesBy true input cursor old r new = ReportsOn input cursor old r new
 
 -- an input was read to its end
-pub record Closes (inputs : InputsView) (input : ℕ) (old : Sieve JobOutputView) (r : Option JobEnd) (new : Sieve JobOutputView) : Type 0 where
+pub record Closes (inputs : InputsView) (input : ℕ) (old : Sieve JobOutputView) (r : Option JobEnd)
+    (new : Sieve JobOutputView) : Type 0 where
   pub cursor : InputView
   pub among : IsInput inputs.cursors input cursor
   pub by : ClosesBy (asks_report inputs.order old.selector.policy) input cursor old r new
@@ -159,29 +190,38 @@ end_of_failed_write input fault = end.FaultIn input fault
 -- some bytes more of an input are done, with their packets
 abbrev pub finish_at : List InputPast → ℕ → List ℕ → List Placed → List InputPast
 finish_at [] i bytes packets = []
-finish_at (s ∷ ss) zero bytes packets = record { text = s.text; done = s.done ++ bytes; packets = s.packets ++ packets } ∷ ss
+finish_at (s ∷ ss) zero bytes packets =
+    record { text = s.text; done = s.done ++ bytes; packets = s.packets ++ packets } ∷ ss
 finish_at (s ∷ ss) (suc i) bytes packets = s ∷ finish_at ss i bytes packets
 
--- What a step adds to the output, where the job is at `far` before the step and at `next` behind it: nothing, a packet
--- that passes, the report of an input, or what a clean end adds.
-pub data OneAnswer (form : Form) (link : Option ℕ) (far next : JobProgress) (bytes : List ℕ) : Type 0 where
-  nothing : next.packets ≡ far.packets → next.reports ≡ far.reports → bytes ≡ [] → OneAnswer form link far next bytes
-  packet : (p : Captured) → next.packets ≡ far.packets ++ p ∷ [] → next.reports ≡ far.reports → bytes ≡ packet_bytes form far.packets p → OneAnswer form link far next bytes
-  report : (r : Report) → next.packets ≡ far.packets → next.reports ≡ far.reports ++ r ∷ [] → bytes ≡ report_bytes form r → OneAnswer form link far next bytes
-  closes : next.packets ≡ far.packets → next.reports ≡ far.reports → next.end ≡ Some Complete → bytes ≡ closing_text form link far.packets → OneAnswer form link far next bytes
+-- What a step adds to the output, where the job is at `far` before the step and at `next` behind
+-- it: nothing, a packet that passes, the report of an input, or what a clean end adds.
+pub data OneAnswer (form : Form) (link : Option ℕ) (far next : JobProgress)
+    (bytes : List ℕ) : Type 0 where
+  nothing : next.packets ≡ far.packets → next.reports ≡ far.reports → bytes ≡ []
+      → OneAnswer form link far next bytes
+  packet : (p : Captured) → next.packets ≡ far.packets ++ p ∷ [] → next.reports ≡ far.reports
+      → bytes ≡ packet_bytes form far.packets p → OneAnswer form link far next bytes
+  report : (r : Report) → next.packets ≡ far.packets → next.reports ≡ far.reports ++ r ∷ []
+      → bytes ≡ report_bytes form r → OneAnswer form link far next bytes
+  closes : next.packets ≡ far.packets → next.reports ≡ far.reports → next.end ≡ Some Complete
+      → bytes ≡ closing_text form link far.packets → OneAnswer form link far next bytes
 
 -- What a step appends to the output is one answer, or nothing.
-pub record AppendsOnce (link : Option ℕ) (far next : JobProgress) (old new : JobOutputView) : Type 0 where
+pub record AppendsOnce (link : Option ℕ) (far next : JobProgress)
+    (old new : JobOutputView) : Type 0 where
   pub bytes : List ℕ
   pub appended : written_to new.target ≡ written_to old.target ++ bytes
   pub one : OneAnswer (form_at old) link far next bytes
 
 -- how far the job is
-abbrev pub progress_of : {ss : List InputPast} {before : List ℕ} {m : MachineState} → PacketsDecided ss before m → JobProgress
+abbrev pub progress_of : {ss : List InputPast} {before : List ℕ} {m : MachineState}
+    → PacketsDecided ss before m → JobProgress
 progress_of {ss} {before} {m} d = progress_at m d.packets d.reports
 
 -- it goes on, and finished some bytes of one input
-pub record GoesOn {ss : List InputPast} {before : List ℕ} {old : MachineState} (d : PacketsDecided ss before old) (new : MachineState) : Type 0 where
+pub record GoesOn {ss : List InputPast} {before : List ℕ} {old : MachineState}
+    (d : PacketsDecided ss before old) (new : MachineState) : Type 0 where
   pub input : ℕ
   pub finished : List ℕ
   pub packets : List Placed
@@ -190,7 +230,8 @@ pub record GoesOn {ss : List InputPast} {before : List ℕ} {old : MachineState}
   pub decided : PacketsDecided past before new
   pub at_most_one : new.decided ≤ old.decided + 1
   pub form : output_form new ≡ output_form old
-  pub once : AppendsOnce (first_link (wholes_of ss)) (progress_of d) (progress_of decided) old.output new.output
+  pub once : AppendsOnce (first_link (wholes_of ss)) (progress_of d)
+      (progress_of decided) old.output new.output
   -- the output's device didn't fail
   pub output : failures_by new ≡ failures_by old
   pub names : new.output.names ≡ old.output.names
@@ -202,16 +243,22 @@ abbrev pub progress_over : MachineState → List InputItems → JobProgress
 progress_over m rs = final_progress m.policy (output_form m) (sequence_of m.inputs.order rs)
 
 -- the output is all that the job writes of inputs with these items, and they end so
-pub record CompletesOutput {ss : List InputPast} {before : List ℕ} {old : MachineState} (rs : List InputItems) (d : PacketsDecided ss before old) (new : MachineState) (close : SequenceEnd) : Type 0 where
+pub record CompletesOutput {ss : List InputPast} {before : List ℕ} {old : MachineState}
+    (rs : List InputItems) (d : PacketsDecided ss before old) (new : MachineState)
+    (close : SequenceEnd) : Type 0 where
   pub ends : (progress_over old rs).end ≡ Some close
-  pub written : written_by new ≡ before ++ final_text (output_form old) (first_link rs) (progress_over old rs)
-  pub once : AppendsOnce (first_link rs) (progress_of d) (progress_over old rs) old.output new.output
+  pub written : written_by new ≡ before
+      ++ final_text (output_form old) (first_link rs) (progress_over old rs)
+  pub once : AppendsOnce (first_link rs) (progress_of d)
+      (progress_over old rs) old.output new.output
   -- the output's device didn't fail
   pub device : failures_by new ≡ failures_by old
 
--- This input was read on in this step, and its device failed or there was no memory for its next unit: it is cut short
--- there, where `after` stands.
-pub record EndsByCut {ss : List InputPast} {before : List ℕ} {old : MachineState} (d : PacketsDecided ss before old) (new : MachineState) (input : ℕ) (fault : Fault) (after : SourceView) : Type 0 where
+-- This input was read on in this step, and its device failed or there was no memory for its next
+-- unit: it is cut short there, where `after` stands.
+pub record EndsByCut {ss : List InputPast} {before : List ℕ} {old : MachineState}
+    (d : PacketsDecided ss before old) (new : MachineState) (input : ℕ) (fault : Fault)
+    (after : SourceView) : Type 0 where
   pub front : List InputPast
   pub past : InputPast
   pub back : List InputPast
@@ -223,12 +270,17 @@ pub record EndsByCut {ss : List InputPast} {before : List ℕ} {old : MachineSta
   pub cursor_is : IsInput old.inputs.cursors input cursor
   pub next : IsNext old.inputs (next.Read input)
   pub advances : Advances cursor.source.phase cursor.source (Err fault) after
-  pub why : ((fault ≡ ReadFailed) × (cursor.source.failures < after.failures) × (cursor.source.never_fails ≡ false)) ⊎ (fault ≡ NoMemory)
-  pub comes : CompletesOutput (cut_at (wholes_of ss) input held) d new (FaultIn input fault after.offset)
+  pub why :
+      ((fault ≡ ReadFailed) × (cursor.source.failures < after.failures)
+      × (cursor.source.never_fails ≡ false)) ⊎ (fault ≡ NoMemory)
+  pub comes : CompletesOutput (cut_at (wholes_of ss) input held) d new
+      (FaultIn input fault after.offset)
 
--- There was no memory to write the current packet of this input, which is the next of the order, begins where `after` stands
--- and is kept: the output stays.
-pub record WantsMemory {ss : List InputPast} {before : List ℕ} {old : MachineState} (d : PacketsDecided ss before old) (new : MachineState) (input : ℕ) (fault : Fault) (after : SourceView) : Type 0 where
+-- There was no memory to write the current packet of this input, which is the next of the order,
+-- begins where `after` stands and is kept: the output stays.
+pub record WantsMemory {ss : List InputPast} {before : List ℕ} {old : MachineState}
+    (d : PacketsDecided ss before old) (new : MachineState) (input : ℕ) (fault : Fault)
+    (after : SourceView) : Type 0 where
   pub next : IsNext old.inputs (next.Decide input)
   pub packet : Placed
   pub comes : IsNextEvent (work_of old) (wholes_of ss) d.events (Packet input packet)
@@ -243,14 +295,16 @@ pub record WantsMemory {ss : List InputPast} {before : List ℕ} {old : MachineS
   pub device : failures_by new ≡ failures_by old
 
 -- next is the current packet of an input, which passes; this is what it adds
-pub record NextPacket {ss : List InputPast} {before : List ℕ} {old : MachineState} (d : PacketsDecided ss before old) (new : MachineState) (bytes : List ℕ) : Type 0 where
+pub record NextPacket {ss : List InputPast} {before : List ℕ} {old : MachineState}
+    (d : PacketsDecided ss before old) (new : MachineState) (bytes : List ℕ) : Type 0 where
   pub input : ℕ
   pub next : IsNext old.inputs (next.Decide input)
   pub cursor : InputView
   pub among : IsInput old.inputs.cursors input cursor
   pub packet : Captured
   pub held : cursor.source.packet ≡ Some packet
-  pub comes : IsNextEvent (work_of old) (wholes_of ss) d.events (Packet input (record { offset = cursor.source.offset; packet = packet }))
+  pub comes : IsNextEvent (work_of old) (wholes_of ss) d.events
+      (Packet input (record { offset = cursor.source.offset; packet = packet }))
   pub passed : Captured
   pub passes : PassesAs (judge old.policy old.state (old.decided + 1) packet).verdict passed
   pub taken : form_refuses (output_form old) d.packets passed ≡ None
@@ -258,49 +312,65 @@ pub record NextPacket {ss : List InputPast} {before : List ℕ} {old : MachineSt
   pub inputs : new.inputs ≡ old.inputs
 
 -- next is an input that is read to its end in this step, and reported; this is its report
-pub record NextReport {ss : List InputPast} {before : List ℕ} {old : MachineState} (d : PacketsDecided ss before old) (new : MachineState) (bytes : List ℕ) : Type 0 where
+pub record NextReport {ss : List InputPast} {before : List ℕ} {old : MachineState}
+    (d : PacketsDecided ss before old) (new : MachineState) (bytes : List ℕ) : Type 0 where
   pub input : ℕ
   pub next : IsNext old.inputs (next.Read input)
   pub fetches : ReadsInput old.inputs input (Ok false) new.inputs
-  pub comes : IsNextEvent (work_of old) (wholes_of ss) d.events (InputEnd input (kind_of fetches.source.declared) fetches.source.offset)
+  pub comes : IsNextEvent (work_of old) (wholes_of ss) d.events
+      (InputEnd input (kind_of fetches.source.declared) fetches.source.offset)
   pub policy : asks_report old.inputs.order old.policy ≡ true
-  pub bytes_are : bytes ≡ report_bytes (output_form old) (report_at input (input_after fetches.cursor (Ok false) fetches.source) old.state.tally)
+  pub bytes_are : bytes
+      ≡ report_bytes (output_form old)
+      (report_at input (input_after fetches.cursor (Ok false) fetches.source) old.state.tally)
 
 -- all inputs were read; this is what a clean end adds
-pub record NextClosing {ss : List InputPast} {before : List ℕ} {old : MachineState} (d : PacketsDecided ss before old) (new : MachineState) (bytes : List ℕ) : Type 0 where
+pub record NextClosing {ss : List InputPast} {before : List ℕ} {old : MachineState}
+    (d : PacketsDecided ss before old) (new : MachineState) (bytes : List ℕ) : Type 0 where
   pub next : IsNext old.inputs next.Finish
   pub comes : AreAllEvents (work_of old) (wholes_of ss) d.events
   pub bytes_are : bytes ≡ closing_text (output_form old) (first_link (wholes_of ss)) d.packets
   pub inputs : new.inputs ≡ old.inputs
 
 -- The output's device failed in this step, after a prefix of what comes next in the whole output.
-pub record StopsWriting {ss : List InputPast} {before : List ℕ} {old : MachineState} (d : PacketsDecided ss before old) (new : MachineState) : Type 0 where
+pub record StopsWriting {ss : List InputPast} {before : List ℕ} {old : MachineState}
+    (d : PacketsDecided ss before old) (new : MachineState) : Type 0 where
   pub failures : failures_by new ≡ failures_by old + 1
   pub bytes : List ℕ
   pub answer : NextPacket d new bytes ⊎ NextReport d new bytes ⊎ NextClosing d new bytes
   pub back : List ℕ
-  pub whole : final_text (output_form old) (first_link (wholes_of ss)) (progress_over old (wholes_of ss)) ≡ output_text (output_form old) d.packets d.reports ++ (bytes ++ back)
+  pub whole : final_text (output_form old) (first_link (wholes_of ss))
+      (progress_over old (wholes_of ss)) ≡ output_text (output_form old) d.packets d.reports
+      ++ (bytes ++ back)
   pub so_far : written_by old ≡ before ++ output_text (output_form old) d.packets d.reports
   pub stops : Stops (written_by old) bytes (written_by new)
 
--- the inputs end so, or the current packet is refused; or the input is cut short; or there was no memory
-abbrev pub WhyBroken : {ss : List InputPast} {before : List ℕ} {old : MachineState} → PacketsDecided ss before old → MachineState → ℕ → Fault → SourceView → Type 0
+-- the inputs end so, or the current packet is refused; or the input is cut short; or there was no
+-- memory
+abbrev pub WhyBroken : {ss : List InputPast} {before : List ℕ} {old : MachineState}
+    → PacketsDecided ss before old → MachineState → ℕ → Fault → SourceView → Type 0
 WhyBroken {ss} {before} {old} d new input fault after =
-    CompletesOutput (wholes_of ss) d new (FaultIn input fault after.offset) ⊎ EndsByCut d new input fault after ⊎ WantsMemory d new input fault after
+    CompletesOutput (wholes_of ss) d new (FaultIn input fault after.offset)
+    ⊎ EndsByCut d new input fault after ⊎ WantsMemory d new input fault after
 
-pub record BreaksAt {ss : List InputPast} {before : List ℕ} {old : MachineState} (d : PacketsDecided ss before old) (new : MachineState) (input : ℕ) (fault : Fault) : Type 0 where
+pub record BreaksAt {ss : List InputPast} {before : List ℕ} {old : MachineState}
+    (d : PacketsDecided ss before old) (new : MachineState) (input : ℕ)
+    (fault : Fault) : Type 0 where
   pub cursor : InputView
   pub among : IsInput new.inputs.cursors input cursor
   pub why : WhyBroken d new input fault cursor.source
 
-abbrev pub EndLeaves : {ss : List InputPast} {before : List ℕ} {old : MachineState} → PacketsDecided ss before old → JobEnd → MachineState → Type 0
+abbrev pub EndLeaves : {ss : List InputPast} {before : List ℕ} {old : MachineState}
+    → PacketsDecided ss before old → JobEnd → MachineState → Type 0
 EndLeaves {ss} {before} {old} d end.Complete new = CompletesOutput (wholes_of ss) d new Complete
 EndLeaves {ss} {before} {old} d (end.FaultIn input fault) new = BreaksAt d new input fault
 EndLeaves {ss} {before} {old} d end.OutputFailed new = StopsWriting d new
 
-abbrev pub StepLeaves : {ss : List InputPast} {before : List ℕ} {old : MachineState} → PacketsDecided ss before old → Option JobEnd → MachineState → Type 0
+abbrev pub StepLeaves : {ss : List InputPast} {before : List ℕ} {old : MachineState}
+    → PacketsDecided ss before old → Option JobEnd → MachineState → Type 0
 StepLeaves {ss} {before} {old} d None new = GoesOn d new
 StepLeaves {ss} {before} {old} d (Some e) new = EndLeaves d e new
 
 abbrev pub StepGives : MachineState → Option JobEnd → MachineState → Type 0
-StepGives old r new = (ss : List InputPast) (before : List ℕ) (d : PacketsDecided ss before old) → StepLeaves d r new
+StepGives old r new =
+    (ss : List InputPast) (before : List ℕ) (d : PacketsDecided ss before old) → StepLeaves d r new

@@ -32,7 +32,8 @@ form_refuses (AsCapture format) ps p = refusal_of format ps p
 form_refuses (AsReports names) ps p = None
 form_refuses (AsLines options) ps p = None
 
--- whether memory is taken to write a packet that comes behind these: that of an interface which a pcapng file hasn't had yet
+-- whether memory is taken to write a packet that comes behind these: that of an interface which a
+-- pcapng file hasn't had yet
 abbrev pub form_takes_memory : Form → List Captured → Captured → Bool
 form_takes_memory (AsCapture format) ps p = takes_memory format ps p
 form_takes_memory (AsReports names) ps p = false
@@ -40,8 +41,8 @@ form_takes_memory (AsLines options) ps p = false
 
 -- ---- the fold
 
--- How far a job is: how many packets are decided, what was met, the packets that passed, the reports, and how it
--- ended, where it did.
+-- How far a job is: how many packets are decided, what was met, the packets that passed, the
+-- reports, and how it ended, where it did.
 pub record JobProgress : Type 0 where
   pub decided : ℕ
   pub state : SelectorState
@@ -64,16 +65,26 @@ decide w state new end = record {
 
 -- a packet isn't decided: the job ends at it
 abbrev pub end_with : JobProgress → SequenceEnd → JobProgress
-end_with w close = record { decided = w.decided; state = w.state; packets = w.packets; reports = w.reports; end = Some close }
+end_with w close =
+    record {
+      decided = w.decided;
+      state = w.state;
+      packets = w.packets;
+      reports = w.reports;
+      end = Some close;
+    }
 
 -- the packet that passes is written, or the form refuses it
-abbrev pub decide_unless : Option Fault → JobProgress → ℕ → Placed → SelectorState → Captured → Option SequenceEnd → JobProgress
+abbrev pub decide_unless : Option Fault → JobProgress → ℕ → Placed → SelectorState → Captured
+    → Option SequenceEnd → JobProgress
 decide_unless None w input p state q end = decide w state (q ∷ []) end
 decide_unless (Some fault) w input p state q end = end_with w (FaultIn input fault p.offset)
 
 abbrev pub apply_verdict : Form → JobProgress → ℕ → Placed → Verdict → SelectorState → JobProgress
-apply_verdict form w input p (Pass q) state = decide_unless (form_refuses form w.packets q) w input p state q None
-apply_verdict form w input p (PassLast q) state = decide_unless (form_refuses form w.packets q) w input p state q (Some Complete)
+apply_verdict form w input p (Pass q) state =
+    decide_unless (form_refuses form w.packets q) w input p state q None
+apply_verdict form w input p (PassLast q) state =
+    decide_unless (form_refuses form w.packets q) w input p state q (Some Complete)
 apply_verdict form w input p Skip state = decide w state [] None
 apply_verdict form w input p (Refuse fault) state = end_with w (FaultIn input fault p.offset)
 
@@ -83,14 +94,16 @@ end_input Count w input kind size = record {
   decided = w.decided;
   state = record { passed = w.state.passed; window = w.state.window; tally = nothing_counted };
   packets = w.packets;
-  reports = w.reports ++ record { input = input; kind = kind; size = size; tally = w.state.tally } ∷ [];
+  reports =
+      w.reports ++ record { input = input; kind = kind; size = size; tally = w.state.tally } ∷ [];
   end = w.end;
 }
 end_input policy w input kind size = w
 
 abbrev pub apply_event : Policy → Form → JobProgress → Event → JobProgress
 apply_event policy form w (Packet input p) =
-    apply_verdict form w input p (judge policy w.state (w.decided + 1) p.packet).verdict (judge policy w.state (w.decided + 1) p.packet).state
+    apply_verdict form w input p (judge policy w.state (w.decided + 1) p.packet).verdict
+    (judge policy w.state (w.decided + 1) p.packet).state
 apply_event policy form w (InputEnd input kind size) = end_input policy w input kind size
 
 -- what ended stays
@@ -112,7 +125,8 @@ end_unless_ended w close = unless_ended w.end w (end_with w close)
 
 -- how far a job comes over a whole sequence
 abbrev pub final_progress : Policy → Form → Sequence → JobProgress
-final_progress policy form s = end_unless_ended (apply_events policy form no_progress s.events) s.end
+final_progress policy form s =
+    end_unless_ended (apply_events policy form no_progress s.events) s.end
 
 -- ---- what comes of it
 
@@ -155,7 +169,8 @@ text_at_end (Some Complete) form link ps = closing_text form link ps
 text_at_end end form link ps = []
 
 abbrev pub final_text : Form → Option ℕ → JobProgress → List ℕ
-final_text form link w = output_text form w.packets w.reports ++ text_at_end w.end form link w.packets
+final_text form link w =
+    output_text form w.packets w.reports ++ text_at_end w.end form link w.packets
 
 abbrev pub message : List (List ℕ) → Option SequenceEnd → List ℕ
 message names (Some (FaultIn input fault offset)) = fault_message (name_at names input) offset fault
@@ -186,7 +201,8 @@ outcome_at work names rs w = record {
 
 -- what comes of inputs with these items
 abbrev pub outcome : Work → List (List ℕ) → List InputItems → Outcome
-outcome work names rs = outcome_at work names rs (final_progress work.policy work.form (sequence_of work.order rs))
+outcome work names rs =
+    outcome_at work names rs (final_progress work.policy work.form (sequence_of work.order rs))
 
 -- these items in place of one input's
 abbrev pub cut_at : List InputItems → ℕ → Items → List InputItems
@@ -211,13 +227,16 @@ text_of_progress form w = output_text form w.packets w.reports
 abbrev pub text_behind : Work → List Event → List ℕ
 text_behind work es = text_of_progress work.form (progress_behind work es)
 
--- These events come first in the job's order over inputs with these items, and it didn't end with them; this one is next.
-pub record IsNextEvent (work : Work) (rs : List InputItems) (es : List Event) (e : Event) : Type 0 where
+-- These events come first in the job's order over inputs with these items, and it didn't end with
+-- them; this one is next.
+pub record IsNextEvent (work : Work) (rs : List InputItems) (es : List Event)
+    (e : Event) : Type 0 where
   pub later : List Event
   pub is : (sequence_of work.order rs).events ≡ es ++ e ∷ later
   pub goes : (progress_behind work es).end ≡ None
 
--- These events are all of the job's order over inputs with these items, and it didn't end with them, but with its inputs.
+-- These events are all of the job's order over inputs with these items, and it didn't end with
+-- them, but with its inputs.
 pub record AreAllEvents (work : Work) (rs : List InputItems) (es : List Event) : Type 0 where
   pub is : sequence_of work.order rs ≡ record { events = es; end = Complete }
   pub goes : (progress_behind work es).end ≡ None

@@ -19,8 +19,8 @@ use Rattle.cap_tools.specs.Reports.{Report, reports_text}
 
 -- ---- the view
 
--- a capture; or text or the lines of packets, with the bytes that the output took, a count of its failures, and how many
--- bytes it takes in all before it fails
+-- a capture; or text or the lines of packets, with the bytes that the output took, a count of its
+-- failures, and how many bytes it takes in all before it fails
 pub data Target : Type 0 where
   Capture : (sink : SinkView) → Target
   Text : (written : List ℕ) → (failures room : ℕ) → Target
@@ -36,12 +36,15 @@ output_at names target = record { names = names; target = target }
 
 abbrev pub target_of : {O Z : Type 0} → (O → List ℕ) → (O → ℕ) → (O → ℕ) → Device O Z → Target
 target_of written failures room (device.Capture sink) = Capture sink
-target_of written failures room (device.Text output) = Text (written output) (failures output) (room output)
-target_of written failures room (device.Lines options line output) = Lines options (written output) (failures output) (room output)
+target_of written failures room (device.Text output) =
+    Text (written output) (failures output) (room output)
+target_of written failures room (device.Lines options line output) =
+    Lines options (written output) (failures output) (room output)
 
 -- a target to which nothing is written yet
 abbrev pub target_at : Writing → List ℕ → ℕ → ℕ → Target
-target_at (writing.Capture format) written failures room = Capture (sink_at format written failures room)
+target_at (writing.Capture format) written failures room =
+    Capture (sink_at format written failures room)
 target_at writing.Text written failures room = Text written failures room
 target_at (writing.Lines options) written failures room = Lines options written failures room
 
@@ -65,12 +68,14 @@ failures_to (Lines options written failures room) = failures
 
 -- ---- what was written
 
--- Behind what the output held before, what is written is the text of these packets, or of these reports, or the lines of
--- these packets.
+-- Behind what the output held before, what is written is the text of these packets, or of these
+-- reports, or the lines of these packets.
 abbrev pub HasWrittenTo : List ℕ → List (List ℕ) → Target → List Captured → List Report → Type 0
 HasWrittenTo before names (Capture sink) packets reports = HasPackets before sink packets
-HasWrittenTo before names (Text written failures room) packets reports = written ≡ before ++ reports_text names reports
-HasWrittenTo before names (Lines options written failures room) packets reports = written ≡ before ++ lines_text options packets
+HasWrittenTo before names (Text written failures room) packets reports =
+    written ≡ before ++ reports_text names reports
+HasWrittenTo before names (Lines options written failures room) packets reports =
+    written ≡ before ++ lines_text options packets
 
 abbrev pub HasWritten : List ℕ → JobOutputView → List Captured → List Report → Type 0
 HasWritten before d packets reports = HasWrittenTo before d.names d.target packets reports
@@ -78,14 +83,16 @@ HasWritten before d packets reports = HasWrittenTo before d.names d.target packe
 -- ---- calls
 
 -- a packet is put into a capture
-pub record PutsInto (p : Captured) (old : SinkView) (r : Result (Unit {0}) Fault) (new : Target) : Type 0 where
+pub record PutsInto (p : Captured) (old : SinkView) (r : Result (Unit {0}) Fault)
+    (new : Target) : Type 0 where
   pub sink : SinkView
   pub is : new ≡ Capture sink
   pub puts : sinks.PutsPacket old.state old p r sink
   pub writes : PutWrites old.state old p r sink
 
 -- what is printed of a packet is appended to lines, or the device failed
-pub record Prints (bytes written : List ℕ) (failures : ℕ) (r : Result (Unit {0}) Fault) (lines : List ℕ → ℕ → Target) (new : Target) : Type 0 where
+pub record Prints (bytes written : List ℕ) (failures : ℕ) (r : Result (Unit {0}) Fault)
+    (lines : List ℕ → ℕ → Target) (new : Target) : Type 0 where
   pub after : List ℕ
   pub appends : AppendsOrStops r written bytes after
   pub fault : IfErr r (λ fault. fault ≡ WriteFailed)
@@ -94,11 +101,14 @@ pub record Prints (bytes written : List ℕ) (failures : ℕ) (r : Result (Unit 
 -- a packet is written, where packets are
 abbrev pub PutsIntoOutput : Captured → Target → Result (Unit {0}) Fault → Target → Type 0
 PutsIntoOutput p (Capture sink) r new = PutsInto p sink r new
-PutsIntoOutput p (Text written failures room) r new = (r ≡ Ok tt) × (new ≡ Text written failures room)
-PutsIntoOutput p (Lines options written failures room) r new = Prints (printed options p) written failures r (λ w f. Lines options w f room) new
+PutsIntoOutput p (Text written failures room) r new =
+    (r ≡ Ok tt) × (new ≡ Text written failures room)
+PutsIntoOutput p (Lines options written failures room) r new =
+    Prints (printed options p) written failures r (λ w f. Lines options w f room) new
 
 -- a text is appended, or the device failed
-pub record AppendsText {E : Type 0} (bytes written : List ℕ) (failures room : ℕ) (r : Result (Unit {0}) E) (new : Target) : Type 0 where
+pub record AppendsText {E : Type 0} (bytes written : List ℕ) (failures room : ℕ)
+    (r : Result (Unit {0}) E) (new : Target) : Type 0 where
   pub after : List ℕ
   pub appends : AppendsOrStops r written bytes after
   pub is : new ≡ Text after (failures + failures_of r) room
@@ -107,16 +117,19 @@ pub record AppendsText {E : Type 0} (bytes written : List ℕ) (failures room : 
 abbrev pub Reports : List ℕ → Target → Result (Unit {0}) DeviceFault → Target → Type 0
 Reports bytes (Capture sink) r new = (r ≡ Ok tt) × (new ≡ Capture sink)
 Reports bytes (Text written failures room) r new = AppendsText bytes written failures room r new
-Reports bytes (Lines options written failures room) r new = (r ≡ Ok tt) × (new ≡ Lines options written failures room)
+Reports bytes (Lines options written failures room) r new =
+    (r ≡ Ok tt) × (new ≡ Lines options written failures room)
 
 -- a listing is written, where text is
 abbrev pub ListsText : List ℕ → Target → Result (Unit {0}) Stopped → Target → Type 0
 ListsText bytes (Capture sink) r new = (r ≡ Ok tt) × (new ≡ Capture sink)
 ListsText bytes (Text written failures room) r new = AppendsText bytes written failures room r new
-ListsText bytes (Lines options written failures room) r new = (r ≡ Ok tt) × (new ≡ Lines options written failures room)
+ListsText bytes (Lines options written failures room) r new =
+    (r ≡ Ok tt) × (new ≡ Lines options written failures room)
 
 -- a capture is finished
-pub record FinishesInto (first : Option ℕ) (old : SinkView) (r : Result (Unit {0}) Fault) (new : Target) : Type 0 where
+pub record FinishesInto (first : Option ℕ) (old : SinkView) (r : Result (Unit {0}) Fault)
+    (new : Target) : Type 0 where
   pub sink : SinkView
   pub is : new ≡ Capture sink
   pub finishes : sinks.Finishes old.state old first r sink
@@ -125,5 +138,7 @@ pub record FinishesInto (first : Option ℕ) (old : SinkView) (r : Result (Unit 
 -- what is written is ended
 abbrev pub EndsOutput : Option ℕ → Target → Result (Unit {0}) Fault → Target → Type 0
 EndsOutput first (Capture sink) r new = FinishesInto first sink r new
-EndsOutput first (Text written failures room) r new = (r ≡ Ok tt) × (new ≡ Text written failures room)
-EndsOutput first (Lines options written failures room) r new = (r ≡ Ok tt) × (new ≡ Lines options written failures room)
+EndsOutput first (Text written failures room) r new =
+    (r ≡ Ok tt) × (new ≡ Text written failures room)
+EndsOutput first (Lines options written failures room) r new =
+    (r ≡ Ok tt) × (new ≡ Lines options written failures room)

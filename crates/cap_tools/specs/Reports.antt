@@ -9,8 +9,8 @@ use Rattle.cap_io.specs.declared.source.Kind.TheVariants as kind
 
 -- ---- tallies
 
--- what is counted of the packets of a file: how many, the sums of original and captured lengths, the least, the greatest
--- and the last time, and whether no time is less than the one before it
+-- what is counted of the packets of a file: how many, the sums of original and captured lengths,
+-- the least, the greatest and the last time, and whether no time is less than the one before it
 pub record Tally : Type 0 where
   pub count : ℕ
   pub data_size : ℕ
@@ -21,7 +21,16 @@ pub record Tally : Type 0 where
   pub strict : Bool
 
 abbrev pub nothing_counted : Tally
-nothing_counted = record { count = 0; data_size = 0; captured_size = 0; least = 0; greatest = 0; last = 0; strict = true }
+nothing_counted =
+    record {
+      count = 0;
+      data_size = 0;
+      captured_size = 0;
+      least = 0;
+      greatest = 0;
+      last = 0;
+      strict = true;
+    }
 
 abbrev pub tally_with : Tally → Captured → Tally
 tally_with t p = record {
@@ -89,7 +98,8 @@ time_lines t =
 
 -- the report of a file of this name, and an empty line behind it
 unfoldable pub file_report : List ℕ → Option Kind → ℕ → Tally → List ℕ
-file_report name kind size t = lines ((codes "File", name) ∷ (size_lines kind size t ++ time_lines t)) (10 ∷ [])
+file_report name kind size t =
+    lines ((codes "File", name) ∷ (size_lines kind size t ++ time_lines t)) (10 ∷ [])
 
 abbrev pub name_at : List (List ℕ) → ℕ → List ℕ
 name_at names i = unwrap_or (slice_get names i) []

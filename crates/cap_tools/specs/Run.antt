@@ -1,5 +1,5 @@
--- What a run of a command leaves: its outcome on the whole inputs; or what it leaves where a device fails, or memory runs out.
--- All of it is said by the call, and by what the run hands back.
+-- What a run of a command leaves: its outcome on the whole inputs; or what it leaves where a device
+-- fails, or memory runs out. All of it is said by the call, and by what the run hands back.
 use Rattle.std.specs.Prelude.{◌≡◌, ◌⊎◌, ℕ, ◌+◌, false, List, [], ◌∷◌, ◌++◌, length, map, Option, None, Some, true}
 use Rattle.std.specs.List.{slice_get}
 use Rattle.cap_octet.specs.Device.{Stops}
@@ -36,11 +36,12 @@ form_asked names (writing.Capture format) = AsCapture format
 form_asked names writing.Text = AsReports names
 form_asked names (writing.Lines options) = AsLines options
 
--- By what its packets are judged: as the command asks; those of a print by the filter that its words, or its listing, are. A
--- compilation has no packets.
+-- By what its packets are judged: as the command asks; those of a print by the filter that its
+-- words, or its listing, are. A compilation has no packets.
 abbrev pub IsPolicy : Option Preparing → (asked policy : Policy) → Type 0
 IsPolicy None asked policy = policy ≡ asked
-IsPolicy (Some (ReadsFilter filter)) asked policy = (rule : Rule) × IsRule filter.words filter.code rule × (policy ≡ Filter rule filter.count)
+IsPolicy (Some (ReadsFilter filter)) asked policy =
+    (rule : Rule) × IsRule filter.words filter.code rule × (policy ≡ Filter rule filter.count)
 IsPolicy (Some (Compiles words link)) asked policy = ⊥
 
 pub record IsWork (asked : Assignment) (call : Call) (work : Work) : Type 0 where
@@ -61,18 +62,24 @@ IsWhyRefused (Some (Compiles words link)) (refusal.Expression fault) = IsTextFau
 IsWhyRefused (Some (Compiles words link)) why = ⊥
 
 abbrev pub refusal_outcome : Refusal → Outcome
-refusal_outcome why = record { output = []; messages = refusal_message why; status = refusal_status why }
+refusal_outcome why =
+    record { output = []; messages = refusal_message why; status = refusal_status why }
 
 abbrev pub listing_outcome : List Insn → Outcome
 listing_outcome prog = record { output = listing prog; messages = []; status = 0 }
 
 -- what a command defines; or no memory for its filter or its expression
 pub data IsOutcome (asked : Assignment) (call : Call) : Outcome → Type 0 where
-  of_packets : (work : Work) → IsWork asked call work → IsOutcome asked call (outcome work call.names (whole_inputs call))
-  of_refusal : (why : Refusal) → IsWhyRefused asked.preparing why → IsOutcome asked call (refusal_outcome why)
-  of_listing : (words : List ℕ) (link : Link) (prog : List Insn) → asked.preparing ≡ Some (Compiles words link) → IsCompiled words link prog → IsOutcome asked call (listing_outcome prog)
+  of_packets : (work : Work) → IsWork asked call work
+      → IsOutcome asked call (outcome work call.names (whole_inputs call))
+  of_refusal : (why : Refusal) → IsWhyRefused asked.preparing why
+      → IsOutcome asked call (refusal_outcome why)
+  of_listing : (words : List ℕ) (link : Link) (prog : List Insn)
+      → asked.preparing ≡ Some (Compiles words link) → IsCompiled words link prog
+      → IsOutcome asked call (listing_outcome prog)
 
--- The outcome is written behind what the output held, and reported. The output's device didn't fail.
+-- The outcome is written behind what the output held, and reported. The output's device didn't
+-- fail.
 pub record HasLeft (call : Call) (o : Outcome) (r : RunResult) : Type 0 where
   pub output : r.output.written ≡ call.output.written ++ o.output
   pub failures : r.output.failures ≡ call.output.failures
@@ -102,7 +109,8 @@ pub record HasCutInput (call : Call) (work : Work) (r : RunResult) : Type 0 wher
 
 -- what becomes of a packet that comes behind these events
 abbrev pub next_judgement : Work → List Event → Captured → Judgement
-next_judgement work es p = judge work.policy (progress_behind work es).state ((progress_behind work es).decided + 1) p
+next_judgement work es p =
+    judge work.policy (progress_behind work es).state ((progress_behind work es).decided + 1) p
 
 -- behind these events there was no memory to write the next packet, which is kept, and takes some
 pub record HasLackedMemory (call : Call) (work : Work) (r : RunResult) : Type 0 where
@@ -116,7 +124,8 @@ pub record HasLackedMemory (call : Call) (work : Work) (r : RunResult) : Type 0 
   pub takes : form_takes_memory work.form (progress_behind work events).packets kept ≡ true
   pub output : r.output.written ≡ call.output.written ++ text_behind work events
   pub failures : r.output.failures ≡ call.output.failures
-  pub message : IsTold call.tells call.messages (fault_message (name_at call.names input) packet.offset NoMemory) r.messages
+  pub message : IsTold call.tells call.messages
+      (fault_message (name_at call.names input) packet.offset NoMemory) r.messages
   pub status : r.status ≡ 1
 
 -- there was no memory to begin: nothing is read, and nothing is written but a message
@@ -129,15 +138,19 @@ pub record NeverBegan (call : Call) (r : RunResult) : Type 0 where
 
 -- What is next behind what was written: what one event adds, or what ends the output.
 pub data IsNextAnswer (work : Work) (rs : List InputItems) (written bytes : List ℕ) : Type 0 where
-  by_event : (es : List Event) (e : Event) → IsNextEvent work rs es e → written ≡ text_behind work es
+  by_event : (es : List Event) (e : Event) → IsNextEvent work rs es e
+      → written ≡ text_behind work es
       → text_behind work (es ++ e ∷ []) ≡ written ++ bytes → IsNextAnswer work rs written bytes
   by_end : (es : List Event) → AreAllEvents work rs es → written ≡ text_behind work es
-      → bytes ≡ closing_text work.form (first_link rs) (progress_behind work es).packets → IsNextAnswer work rs written bytes
+      → bytes ≡ closing_text work.form (first_link rs) (progress_behind work es).packets
+      → IsNextAnswer work rs written bytes
 
 -- it is a command's; that of a compilation is its listing
 pub data IsAnswer (asked : Assignment) (call : Call) (written bytes : List ℕ) : Type 0 where
-  packets_answer : (work : Work) → IsWork asked call work → IsNextAnswer work (whole_inputs call) written bytes → IsAnswer asked call written bytes
-  listing_answer : (words : List ℕ) (link : Link) (prog : List Insn) → asked.preparing ≡ Some (Compiles words link) → IsCompiled words link prog
+  packets_answer : (work : Work) → IsWork asked call work
+      → IsNextAnswer work (whole_inputs call) written bytes → IsAnswer asked call written bytes
+  listing_answer : (words : List ℕ) (link : Link) (prog : List Insn)
+      → asked.preparing ≡ Some (Compiles words link) → IsCompiled words link prog
       → written ≡ [] → bytes ≡ listing prog → IsAnswer asked call written bytes
 
 -- the output's device failed once, behind a prefix of one answer, not the whole
@@ -147,15 +160,19 @@ pub record HasLostOutput (asked : Assignment) (call : Call) (r : RunResult) : Ty
   pub answer : IsAnswer asked call written bytes
   pub stops : Stops (call.output.written ++ written) bytes r.output.written
   pub failures : r.output.failures ≡ call.output.failures + 1
-  pub message : IsTold call.tells call.messages (write_failed_message (name_at call.names (length call.inputs))) r.messages
+  pub message : IsTold call.tells call.messages
+      (write_failed_message (name_at call.names (length call.inputs))) r.messages
   pub status : r.status ≡ 1
 
 -- ---- all of it
 
--- A run leaves the outcome of its command; or an input was cut short, memory ran out, or the output failed.
+-- A run leaves the outcome of its command; or an input was cut short, memory ran out, or the output
+-- failed.
 pub data CommandRuns (asked : Assignment) (call : Call) (r : RunResult) : Type 0 where
   ends : (o : Outcome) → IsOutcome asked call o → HasLeft call o r → CommandRuns asked call r
-  input_cut : (work : Work) → IsWork asked call work → HasCutInput call work r → CommandRuns asked call r
-  no_memory : (work : Work) → IsWork asked call work → HasLackedMemory call work r → CommandRuns asked call r
+  input_cut : (work : Work) → IsWork asked call work → HasCutInput call work r
+      → CommandRuns asked call r
+  no_memory : (work : Work) → IsWork asked call work → HasLackedMemory call work r
+      → CommandRuns asked call r
   output_failed : HasLostOutput asked call r → CommandRuns asked call r
   never_began : NeverBegan call r → CommandRuns asked call r

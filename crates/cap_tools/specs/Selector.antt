@@ -68,8 +68,9 @@ programs_in (policy.Filter filter count) = programs_of filter
 programs_in policy.KeepAll = []
 programs_in policy.Count = []
 
--- the programs for what a rule asks, whether or not they ran: of an expression one for each link type, each of which
--- accepts exactly the packets that match; or the listing's; or none where all packets match
+-- the programs for what a rule asks, whether or not they ran: of an expression one for each link
+-- type, each of which accepts exactly the packets that match; or the listing's; or none where all
+-- packets match
 abbrev pub AreFor : rules.Rule → List Content → Type 0
 AreFor (by_reading empty) programs = programs ≡ []
 AreFor (by_reading (truth a)) programs = AreMade (truth a) link_types programs
@@ -98,7 +99,8 @@ most_spent Count = 0
 
 -- what deciding a packet costs: a packet too many is refused before any program runs
 abbrev pub spent_by_verdict : Policy → ℕ → Captured → List Content → List Content
-spent_by_verdict policy number p programs = if is_too_many policy number then programs else spent_by policy p programs
+spent_by_verdict policy number p programs =
+    if is_too_many policy number then programs else spent_by policy p programs
 
 -- whether reports are asked
 abbrev pub is_count : Policy → Bool
@@ -126,9 +128,10 @@ abbrev pub IsVerdict : Judgement → Result code.Verdict Fault → Captured → 
 IsVerdict j (Ok v) p state = (verdict_of v p ≡ j.verdict) × (state ≡ j.state)
 IsVerdict j (Err fault) p state = j.verdict ≡ Refuse fault
 
--- What is returned of a packet where so many may pass: whether it passes, the packet as it does, and the state beside
--- those that passed; or its refusal.
-abbrev pub ReturnsVerdict : Option ℕ → Judgement → Result Bool Fault → Captured → SelectorState → Type 0
+-- What is returned of a packet where so many may pass: whether it passes, the packet as it does,
+-- and the state beside those that passed; or its refusal.
+abbrev pub ReturnsVerdict : Option ℕ → Judgement → Result Bool Fault → Captured → SelectorState
+    → Type 0
 ReturnsVerdict count j (Ok false) p state = (j.verdict ≡ judged.Skip) × (j.state ≡ state)
 ReturnsVerdict count j (Ok true) p state = j ≡ counts count state p
 ReturnsVerdict count j (Err fault) p state = j.verdict ≡ Refuse fault
@@ -170,7 +173,9 @@ IsWithin n t = (t.count ≤ n) × (t.data_size ≤ n * 2 ^ 32) × (t.captured_si
 
 -- no more came to it than a packet has
 abbrev pub GrowsByOne : Tally → Tally → Type 0
-GrowsByOne old new = (new.count ≤ old.count + 1) × (new.data_size ≤ old.data_size + 2 ^ 32) × (new.captured_size ≤ old.captured_size + most_in_unit)
+GrowsByOne old new =
+    (new.count ≤ old.count + 1) × (new.data_size ≤ old.data_size + 2 ^ 32)
+    × (new.captured_size ≤ old.captured_size + most_in_unit)
 
 -- nothing is counted
 abbrev pub with_empty_tally : SelectorState → SelectorState
@@ -179,4 +184,6 @@ with_empty_tally s = record { passed = s.passed; window = s.window; tally = noth
 -- what was counted is taken, where reports are asked
 abbrev pub TakesTally : Bool → PolicyState → Option Tally → PolicyState → Type 0
 TakesTally false old r new = (r ≡ None) × (new ≡ old)
-TakesTally true old r new = (r ≡ Some old.state.tally) × (new ≡ record { policy = old.policy; state = with_empty_tally old.state })
+TakesTally true old r new =
+    (r ≡ Some old.state.tally)
+    × (new ≡ record { policy = old.policy; state = with_empty_tally old.state })

@@ -22,9 +22,11 @@ pub record FilterAsked : Type 0 where
   pub count : Option ℕ
 
 abbrev pub asked_by : {Z : Type 0} → Print Z → FilterAsked
-asked_by print = record { words = string_bytes print.expr; code = listing_of print; count = print.count }
+asked_by print =
+    record { words = string_bytes print.expr; code = listing_of print; count = print.count }
 
--- what a job does before its first packet: it reads a filter, or it compiles an expression, and nothing else
+-- what a job does before its first packet: it reads a filter, or it compiles an expression, and
+-- nothing else
 pub data Preparing : Type 0 where
   ReadsFilter : FilterAsked → Preparing
   Compiles : (words : List ℕ) → (link : Link) → Preparing
@@ -46,13 +48,32 @@ lines_unless None options = writing.Lines options
 lines_unless (Some format) options = writing.Capture format
 
 abbrev pub assignment : {Z : Type 0} → Command Z → Assignment
-assignment (command.Edit edit) = record { preparing = None; policy = Edit (edit_rule_of edit); order = InTurn; writing = writing.Capture edit.format }
-assignment (command.Merge merge) = record { preparing = None; policy = KeepAll; order = order_of (not merge.append); writing = writing.Capture merge.format }
-assignment command.Infos = record { preparing = None; policy = Count; order = InTurn; writing = writing.Text }
+assignment (command.Edit edit) =
+    record {
+      preparing = None;
+      policy = Edit (edit_rule_of edit);
+      order = InTurn;
+      writing = writing.Capture edit.format;
+    }
+assignment (command.Merge merge) =
+    record {
+      preparing = None;
+      policy = KeepAll;
+      order = order_of (not merge.append);
+      writing = writing.Capture merge.format;
+    }
+assignment command.Infos =
+    record { preparing = None; policy = Count; order = InTurn; writing = writing.Text }
 assignment (command.Print print) = record {
   preparing = Some (ReadsFilter (asked_by print));
   policy = KeepAll;
   order = InTurn;
   writing = lines_unless print.write (record { link = print.link; bytes = print.bytes });
 }
-assignment (command.Compile compile) = record { preparing = Some (Compiles (string_bytes compile.expr) compile.link); policy = KeepAll; order = InTurn; writing = writing.Text }
+assignment (command.Compile compile) =
+    record {
+      preparing = Some (Compiles (string_bytes compile.expr) compile.link);
+      policy = KeepAll;
+      order = InTurn;
+      writing = writing.Text;
+    }

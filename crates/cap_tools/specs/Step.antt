@@ -8,9 +8,10 @@ use Rattle.cap_tools.specs.Machine.{StepGives}
 use Rattle.cap_tools.specs.Jobs.{JobView, end_status}
 use Rattle.cap_tools.specs.Bounds.{IsLight, IsPaid, StepReads, step_goes_on}
 
--- What a step leaves, where the inputs tell their bytes, and the output does; and what holds of any device. Messages and
--- steps are not touched.
-pub record IsStep (inputs_tell output_tells : Bool) (old : JobView) (r : Option JobEnd) (new : JobView) : Type 0 where
+-- What a step leaves, where the inputs tell their bytes, and the output does; and what holds of any
+-- device. Messages and steps are not touched.
+pub record IsStep (inputs_tell output_tells : Bool) (old : JobView) (r : Option JobEnd)
+    (new : JobView) : Type 0 where
   pub told : IsTrue inputs_tell → IsTrue output_tells → StepGives old.machine r new.machine
   pub reads : StepReads inputs_tell (step_goes_on r) old new
   pub progress : r ≡ None → steps_left new.machine.inputs < steps_left old.machine.inputs

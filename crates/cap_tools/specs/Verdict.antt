@@ -1,4 +1,5 @@
--- What becomes of each packet of a job: by its policy, by what was met so far, and by its number and the packet.
+-- What becomes of each packet of a job: by its policy, by what was met so far, and by its number
+-- and the packet.
 use Rattle.std.specs.Prelude.{◌≡◌, ℕ, ◌+◌, ◌-◌, ◌^◌, ◌==◌, ◌&&◌, Bool, true, false, if◌then◌else◌, nat_lt, nat_le, List, [], ◌∷◌, ◌++◌, length, take, drop, Option, None, Some}
 use Rattle.cap_octet.specs.Date.{TIME_END}
 use Rattle.cap_octet.specs.Packet.{Captured}
@@ -16,9 +17,10 @@ use Rattle.cap_window.specs.Marks.{mark_of, has_same, last}
 
 -- ---- policies
 
--- What an edit does, in the order of its steps: which packets it keeps, by their numbers and by their times as they were
--- read; how many bytes it removes at the start and at the end, and how many it keeps then; by how many nanoseconds it
--- moves times; and within how many packets in a row it looks for a duplicate.
+-- What an edit does, in the order of its steps: which packets it keeps, by their numbers and by
+-- their times as they were read; how many bytes it removes at the start and at the end, and how
+-- many it keeps then; by how many nanoseconds it moves times; and within how many packets in a row
+-- it looks for a duplicate.
 pub record EditRule : Type 0 where
   pub ranges : List (ℕ × ℕ)
   pub keep : Bool
@@ -39,8 +41,8 @@ pub data Policy : Type 0 where
 
 -- ---- what was met
 
--- how many packets passed, the marks of those that came last to the search for duplicates, the last of all behind, and
--- the tally of the current input
+-- how many packets passed, the marks of those that came last to the search for duplicates, the last
+-- of all behind, and the tally of the current input
 pub record SelectorState : Type 0 where
   pub passed : ℕ
   pub window : List Mark
@@ -63,7 +65,11 @@ pub record Judgement : Type 0 where
   pub state : SelectorState
 
 abbrev pub passes : SelectorState → Captured → Judgement
-passes s p = record { verdict = Pass p; state = record { passed = s.passed + 1; window = s.window; tally = s.tally } }
+passes s p =
+    record {
+      verdict = Pass p;
+      state = record { passed = s.passed + 1; window = s.window; tally = s.tally };
+    }
 
 abbrev pub skip_judgement : SelectorState → Judgement
 skip_judgement s = record { verdict = Skip; state = s }
@@ -82,7 +88,8 @@ is_before None time = true
 is_before (Some stop) time = nat_lt time stop
 
 abbrev pub is_selected : EditRule → ℕ → Captured → Bool
-is_selected s number p = is_kept s.ranges s.keep number && (is_from s.start p.time && is_before s.stop p.time)
+is_selected s number p =
+    is_kept s.ranges s.keep number && (is_from s.start p.time && is_before s.stop p.time)
 
 abbrev pub without_first : ℕ → List ℕ → List ℕ
 without_first n bytes = drop n bytes
@@ -118,19 +125,25 @@ shifted_time (shift.Later by) time = if nat_lt (time + by) TIME_END then Some (t
 shifted_time (shift.Earlier by) time = if nat_le by time then Some (time - by) else None
 
 abbrev pub with_mark : ℕ → Mark → SelectorState → SelectorState
-with_mark most mark s = record { passed = s.passed; window = last most (s.window ++ mark ∷ []); tally = s.tally }
+with_mark most mark s =
+    record { passed = s.passed; window = last most (s.window ++ mark ∷ []); tally = s.tally }
 
--- A packet whose mark is that of one of the n - 1 before it is skipped; its mark enters the window all the same.
+-- A packet whose mark is that of one of the n - 1 before it is skipped; its mark enters the window
+-- all the same.
 abbrev pub unique : Option ℕ → SelectorState → Captured → Judgement
 unique None s p = passes s p
-unique (Some n) s p = if has_same s.window (mark_of p.bytes) then skip_judgement (with_mark (n - 1) (mark_of p.bytes) s) else passes (with_mark (n - 1) (mark_of p.bytes) s) p
+unique (Some n) s p =
+    if has_same s.window (mark_of p.bytes) then skip_judgement
+    (with_mark (n - 1) (mark_of p.bytes) s) else passes (with_mark (n - 1) (mark_of p.bytes) s) p
 
 abbrev pub judgement_by_time : EditRule → SelectorState → Captured → Option ℕ → Judgement
 judgement_by_time s state p None = refuses state TimeOutOfRange
 judgement_by_time s state p (Some time) = unique s.window state (edited_packet_with s p time)
 
 abbrev pub selects : EditRule → SelectorState → ℕ → Captured → Judgement
-selects s state number p = if is_selected s number p then judgement_by_time s state p (shifted_time s.shift p.time) else skip_judgement state
+selects s state number p =
+    if is_selected s number p then judgement_by_time s state p (shifted_time s.shift p.time)
+    else skip_judgement state
 
 -- ---- filters
 
@@ -167,7 +180,9 @@ is_too_many Count number = false
 is_too_many policy number = nat_le (2 ^ 63) number
 
 abbrev pub judge : Policy → SelectorState → ℕ → Captured → Judgement
-judge policy state number p = if is_too_many policy number then refuses state TooManyPackets else judge_by policy state number p
+judge policy state number p =
+    if is_too_many policy number then refuses state TooManyPackets
+    else judge_by policy state number p
 
 -- a packet passes, maybe changed
 abbrev pub PassesAs : Verdict → Captured → Type 0

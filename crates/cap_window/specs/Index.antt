@@ -1,4 +1,5 @@
--- How the index beside the window finds an equal mark: by a tree for each hash, with the newest mark on top.
+-- How the index beside the window finds an equal mark: by a tree for each hash, with the newest
+-- mark on top.
 use Rattle.std.specs.Prelude.{◌≡◌, ℕ, ◌+◌, ◌-◌, ◌/◌, ◌%◌, ◌^◌, ◌<◌, ◌≤◌, ◌==◌, ◌&&◌, Bool, true, false, not, nat_lt, if◌then◌else◌, List, [], length, slice_index, take, bit_and, IsTrue}
 use Rattle.std.specs.Int.{w32, from_le_bytes}
 use Rattle.std.specs.List.{slice_index_or}
@@ -9,7 +10,8 @@ use Rattle.cap_window.specs.declared.mark.Mark.{Mark}
 -- a bit of a mark: of its digest, from the last byte on, and then of its length
 unfoldable pub is_one : Mark → ℕ → Bool
 is_one m depth =
-    if nat_lt depth 128 then slice_index m.digest (15 - depth / 8) / 2 ^ (depth % 8) % 2 == 1 else m.length / 2 ^ (depth % 32) % 2 == 1
+    if nat_lt depth 128 then slice_index m.digest (15 - depth / 8) / 2 ^ (depth % 8) % 2 == 1
+    else m.length / 2 ^ (depth % 32) % 2 == 1
 
 -- the link to the marks with this bit
 abbrev pub link_by_bit : Links → Bool → ℕ
@@ -36,31 +38,43 @@ links_at links i = slice_index_or links i (record { zeros = 0; ones = 0 })
 -- at no place from `low` up to `limit` is a mark of the class that is wanted
 abbrev pub HasNoMark : List Mark → (class wanted : Mark → Bool) → (low limit : ℕ) → Type 0
 HasNoMark marks class wanted low limit =
-    (j : ℕ) → low ≤ j → j < limit → IsTrue (class (mark_at marks j)) → IsTrue (wanted (mark_at marks j)) → ⊥
+    (j : ℕ) → low ≤ j → j < limit → IsTrue (class (mark_at marks j))
+    → IsTrue (wanted (mark_at marks j)) → ⊥
 
--- A tree has the marks below `limit` that belong to a class and are wanted. Its top is d places below `limit`, is the newest of them
--- and may be one that isn't wanted. The others hang below it by one bit of theirs; those equal to the top are left out. There are
--- none where d is above `limit`.
-pub data IsMarkTree (marks : List Mark) (links : List Links) : (class wanted : Mark → Bool) → (depth limit d : ℕ) → Type 0 where
-  Empty : (class wanted : Mark → Bool) (depth limit d : ℕ) → limit < d → HasNoMark marks class wanted 0 limit
+-- A tree has the marks below `limit` that belong to a class and are wanted. Its top is d places
+-- below `limit`, is the newest of them and may be one that isn't wanted. The others hang below it
+-- by one bit of theirs; those equal to the top are left out. There are none where d is above
+-- `limit`.
+pub data IsMarkTree (marks : List Mark) (links : List Links) : (class wanted : Mark → Bool)
+    → (depth limit d : ℕ) → Type 0 where
+  Empty : (class wanted : Mark → Bool) (depth limit d : ℕ) → limit < d
+      → HasNoMark marks class wanted 0 limit
       → IsMarkTree marks links class wanted depth limit d
-  Topped : (class wanted : Mark → Bool) (depth limit d : ℕ) (top : ℕ) → limit ≡ top + d → 1 ≤ d → IsTrue (class (mark_at marks top))
+  Topped : (class wanted : Mark → Bool) (depth limit d : ℕ) (top : ℕ) → limit ≡ top + d → 1 ≤ d
+      → IsTrue (class (mark_at marks top))
       → HasNoMark marks class wanted (top + 1) limit
-      → ((bit : Bool) → IsMarkTree marks links (marks_with_bit class depth bit) (but wanted (mark_at marks top)) (depth + 1) top (link_by_bit (links_at links top) bit))
+      → ((bit : Bool)
+      → IsMarkTree marks links (marks_with_bit class depth bit) (but wanted (mark_at marks top))
+      (depth + 1) top (link_by_bit (links_at links top) bit))
       → IsMarkTree marks links class wanted depth limit d
 
 -- below a mark hang those of the class that come before it and are wanted
-abbrev pub IsOnTop : List Mark → List Links → (class wanted : Mark → Bool) → (depth place : ℕ) → Type 0
+abbrev pub IsOnTop : List Mark → List Links → (class wanted : Mark → Bool) → (depth place : ℕ)
+    → Type 0
 IsOnTop marks links class wanted depth place =
-    (bit : Bool) → IsMarkTree marks links (marks_with_bit class depth bit) (but wanted (mark_at marks place)) (depth + 1) place (link_by_bit (links_at links place) bit)
+    (bit : Bool)
+    → IsMarkTree marks links (marks_with_bit class depth bit) (but wanted (mark_at marks place))
+    (depth + 1) place (link_by_bit (links_at links place) bit)
 
 -- a mark of a class, and the tree of those of its class that come before it
-pub record IsHung (marks : List Mark) (links : List Links) (class : Mark → Bool) (place d : ℕ) : Type 0 where
+pub record IsHung (marks : List Mark) (links : List Links) (class : Mark → Bool)
+    (place d : ℕ) : Type 0 where
   pub belongs : IsTrue (class (mark_at marks place))
   pub tree : IsMarkTree marks links class (but every (mark_at marks place)) 0 place d
 
 -- a mark was put on top of all others of its class, and no links of other marks changed
-pub record IsPutOnTop (marks : List Mark) (old new : List Links) (class : Mark → Bool) (place : ℕ) : Type 0 where
+pub record IsPutOnTop (marks : List Mark) (old new : List Links) (class : Mark → Bool)
+    (place : ℕ) : Type 0 where
   pub below : IsOnTop marks new class every 0 place
   pub others : (j : ℕ) → (IsTrue (class (mark_at marks j)) → ⊥) → links_at new j ≡ links_at old j
 
@@ -72,14 +86,18 @@ abbrev pub has_hash : ℕ → ℕ → Mark → Bool
 has_hash mask h m = hash_of mask m == h
 
 -- each head leads to the top of the tree of its hash
-pub record IsIndex (mask : ℕ) (marks : List Mark) (links : List Links) (heads : List ℕ) (newest : ℕ) : Type 0 where
+pub record IsIndex (mask : ℕ) (marks : List Mark) (links : List Links) (heads : List ℕ)
+    (newest : ℕ) : Type 0 where
   pub long : length links ≡ length marks
   pub counted : length marks ≤ newest
   pub small : (h : ℕ) → h < length heads → slice_index heads h ≤ newest
-  pub trees : (h : ℕ) → h < length heads → IsMarkTree marks links (has_hash mask h) every 0 (length marks) (newest + 1 - slice_index heads h)
+  pub trees : (h : ℕ) → h < length heads
+      → IsMarkTree marks links (has_hash mask h) every 0 (length marks)
+      (newest + 1 - slice_index heads h)
 
 -- what holds of the fields of a window
-pub record IsSoundIndex (mask : ℕ) (marks : List Mark) (capacity : ℕ) (links : List Links) (link_capacity : ℕ) (heads : List ℕ) (newest : ℕ) : Type 0 where
+pub record IsSoundIndex (mask : ℕ) (marks : List Mark) (capacity : ℕ) (links : List Links)
+    (link_capacity : ℕ) (heads : List ℕ) (newest : ℕ) : Type 0 where
   pub index : IsIndex mask marks links heads newest
   pub same_capacity : link_capacity ≡ capacity
   pub within : capacity + 1 < 2 ^ 32

@@ -94,7 +94,8 @@ format_rule formats = record (new_rule (codes "FORMAT")) { short = Some 70; pars
 
 -- `--format FORMAT`
 abbrev pub long_format_rule : ValueParser → Rule
-long_format_rule formats = record (new_rule (codes "FORMAT")) { long = Some (codes "format"); parser = Some formats }
+long_format_rule formats =
+    record (new_rule (codes "FORMAT")) { long = Some (codes "format"); parser = Some formats }
 
 -- a name that stands by its place
 abbrev pub file_rule : Text → Rule
@@ -114,11 +115,16 @@ listing_rule = record (new_rule (codes "LISTING")) { long = Some (codes "code") 
 
 -- `--link LINK`
 abbrev pub link_rule : ValueParser → Rule
-link_rule links = record (new_rule (codes "LINK")) { long = Some (codes "link"); parser = Some links }
+link_rule links =
+    record (new_rule (codes "LINK")) { long = Some (codes "link"); parser = Some links }
 
 -- as many words as there are
 abbrev pub many_rule : Text → Rule
-many_rule id = record (new_rule id) { range = Some (record { start_inclusive = 0; end_inclusive = 18446744073709551615 }) }
+many_rule id =
+    record (new_rule id) {
+      range = Some
+          (record { start_inclusive = 0; end_inclusive = 18446744073709551615 });
+    }
 
 -- ---- commands
 
@@ -126,30 +132,37 @@ many_rule id = record (new_rule id) { range = Some (record { start_inclusive = 0
 abbrev pub with_rules : App → List Rule → App
 with_rules = fold with_rule
 
--- `edit [-r] [-A T] [-B T] [--chop-start N] [--chop-end N] [-s N] [--later S] [--earlier S] [-D N] [-F FORMAT] IN OUT [RANGE..]`
+-- `edit [-r] [-A T] [-B T] [--chop-start N] [--chop-end N] [-s N] [--later S] [--earlier S] [-D N]
+-- [-F FORMAT] IN OUT [RANGE..]`
 abbrev pub edit_app : ValueParser → App
 edit_app formats = with_rules (new_app (codes "edit"))
-    (keep_rule ∷ start_rule ∷ stop_rule ∷ chop_start_rule ∷ chop_end_rule ∷ snap_rule ∷ later_rule ∷ earlier_rule
-    ∷ window_rule ∷ format_rule formats ∷ file_rule (codes "IN") ∷ file_rule (codes "OUT") ∷ many_rule (codes "RANGE") ∷ [])
+    (keep_rule ∷ start_rule ∷ stop_rule ∷ chop_start_rule ∷ chop_end_rule ∷ snap_rule ∷ later_rule
+    ∷ earlier_rule
+    ∷ window_rule ∷ format_rule formats ∷ file_rule (codes "IN") ∷ file_rule (codes "OUT")
+    ∷ many_rule (codes "RANGE") ∷ [])
 
 -- `merge [-a] [-F FORMAT] -w OUT FILE [MORE..]`
 abbrev pub merge_app : ValueParser → App
 merge_app formats = with_rules (new_app (codes "merge"))
-    (append_rule ∷ format_rule formats ∷ output_rule ∷ file_rule (codes "FILE") ∷ many_rule (codes "MORE") ∷ [])
+    (append_rule ∷ format_rule formats ∷ output_rule ∷ file_rule (codes "FILE")
+    ∷ many_rule (codes "MORE") ∷ [])
 
 -- `infos FILE [MORE..]`
 abbrev pub infos_app : App
-infos_app = with_rules (new_app (codes "infos")) (file_rule (codes "FILE") ∷ many_rule (codes "MORE") ∷ [])
+infos_app =
+    with_rules (new_app (codes "infos")) (file_rule (codes "FILE") ∷ many_rule (codes "MORE") ∷ [])
 
 -- `print [-c N] [-e] [-x] [-w OUT] [--format FORMAT] [--code LISTING] FILE [WORD..]`
 abbrev pub print_app : ValueParser → App
 print_app formats = with_rules (new_app (codes "print"))
-    (count_rule ∷ link_header_rule ∷ bytes_rule ∷ capture_rule ∷ long_format_rule formats ∷ listing_rule
+    (count_rule ∷ link_header_rule ∷ bytes_rule ∷ capture_rule ∷ long_format_rule formats
+    ∷ listing_rule
     ∷ file_rule (codes "FILE") ∷ many_rule (codes "WORD") ∷ [])
 
 -- `compile [--link LINK] [WORD..]`
 abbrev pub compile_app : ValueParser → App
-compile_app links = with_rules (new_app (codes "compile")) (link_rule links ∷ many_rule (codes "WORD") ∷ [])
+compile_app links =
+    with_rules (new_app (codes "compile")) (link_rule links ∷ many_rule (codes "WORD") ∷ [])
 
 -- with these subcommands behind its own
 abbrev pub with_shapes : App → List Shape → App
@@ -158,17 +171,26 @@ with_shapes = fold with_subcommand
 abbrev pub bare_line : App
 bare_line =
     let app = new_app (codes "capkit") in
-    record app { top = record app.top { no_binary_name = true; has_version = true; subcommand_required = true; disable_help_subcommand = true } }
+    record app {
+      top = record app.top {
+        no_binary_name = true;
+        has_version = true;
+        subcommand_required = true;
+        disable_help_subcommand = true;
+      };
+    }
 
 abbrev pub line_shapes : (formats links : ValueParser) → List Shape
 line_shapes formats links =
-    (edit_app formats).top ∷ (merge_app formats).top ∷ infos_app.top ∷ (print_app formats).top ∷ (compile_app links).top ∷ []
+    (edit_app formats).top ∷ (merge_app formats).top ∷ infos_app.top ∷ (print_app formats).top
+    ∷ (compile_app links).top ∷ []
 
 -- the whole line behind the program's name, with `--version` and no subcommand `help`
 abbrev pub line_app : (formats links : ValueParser) → App
 line_app formats links = with_shapes bare_line (line_shapes formats links)
 
--- what clap states of a parse, it states of simple commands, and why one fails, of simple and free ones: the line is both
+-- what clap states of a parse, it states of simple commands, and why one fails, of simple and free
+-- ones: the line is both
 abbrev pub LineIsSimple : Type 0
 LineIsSimple = (formats links : ValueParser) → is_simple (line_app formats links) ≡ true
 
@@ -194,7 +216,10 @@ with_value choices value.Link rule = record rule { parser = Some (parser.Names c
 with_value choices value.File rule = rule
 with_value choices value.NeededFile rule = record rule { required = true }
 with_value choices value.Words rule =
-    record rule { range = Some (record { start_inclusive = 0; end_inclusive = 18446744073709551615 }) }
+    record rule {
+      range = Some
+          (record { start_inclusive = 0; end_inclusive = 18446744073709551615 });
+    }
 
 -- the rule of an argument's row
 abbrev pub rule_by : Choices → Argument → Rule
@@ -230,7 +255,8 @@ format_names = codes "pcap" ∷ codes "nsecpcap" ∷ codes "pcapng" ∷ []
 abbrev pub link_names : List Text
 link_names = codes "ether" ∷ codes "raw" ∷ codes "cooked" ∷ []
 
--- the values that an argument may have; a list is the program's, so no definition can name its place in memory
+-- the values that an argument may have; a list is the program's, so no definition can name its
+-- place in memory
 abbrev pub AreChoices : List Text → ValueParser → Type 0
 AreChoices texts (parser.Names names) = map (λ name. name.now) names.now ≡ texts
 AreChoices texts _ = ⊥

@@ -64,7 +64,8 @@ link_in id matches = option_map_or link_named (first_of id matches) Ether
 -- the number from `least` to `most` that a text writes; a plus sign may be in front of it
 abbrev pub number_between : (least most : ℕ) → Text → Option ℕ
 number_between least most text =
-    if is_unsigned_in least most text then Some (digits_value 10 (without_leading_plus text)) else None
+    if is_unsigned_in least most text then Some (digits_value 10 (without_leading_plus text))
+    else None
 
 -- the number of an argument; clap takes none that isn't between `least` and `most`
 abbrev pub number_in : (least most : ℕ) → Text → List Row → Option ℕ
@@ -94,13 +95,16 @@ shift_by None None = shift.None
 abbrev pub shift_in : List Row → Shift
 shift_in matches = shift_by (span_in (codes "later") matches) (span_in (codes "earlier") matches)
 
--- the packets are written in the named format where `-w` names a capture, and else a line for each of them
+-- the packets are written in the named format where `-w` names a capture, and else a line for each
+-- of them
 abbrev pub write_in : List Row → Option Format
-write_in matches = option_map (λ name. format_in (codes "FORMAT") matches) (first_of (codes "OUT") matches)
+write_in matches =
+    option_map (λ name. format_in (codes "FORMAT") matches) (first_of (codes "OUT") matches)
 
 -- the expression: the words, with one blank between each two
 abbrev pub expression_in : List Row → Text
-expression_in matches = join_by (λ (word : Text). word) (codes " ") (texts_in (codes "WORD") matches)
+expression_in matches =
+    join_by (λ (word : Text). word) (codes " ") (texts_in (codes "WORD") matches)
 
 -- ---- faults of usage
 
@@ -134,7 +138,8 @@ time_fault matches = if has_bad_time matches then Some BadTime else None
 
 -- times can't be shifted both ways
 abbrev pub has_two_shifts : List Row → Bool
-has_two_shifts matches = is_some (first_of (codes "later") matches) && is_some (first_of (codes "earlier") matches)
+has_two_shifts matches =
+    is_some (first_of (codes "later") matches) && is_some (first_of (codes "earlier") matches)
 
 abbrev pub shift_fault : List Row → Option Usage
 shift_fault matches = if has_two_shifts matches then Some OptionsExclude else None
@@ -167,30 +172,38 @@ infos_fault matches = files_fault (files_in matches) None
 
 -- the names that are read: the capture's, and the listing's where there is one
 abbrev pub read_names : List Row → List Text
-read_names matches = text_in (codes "FILE") matches ∷ option_to_list (first_of (codes "LISTING") matches)
+read_names matches =
+    text_in (codes "FILE") matches ∷ option_to_list (first_of (codes "LISTING") matches)
 
 -- a listing stands in place of an expression
 abbrev pub has_two_filters : List Row → Bool
-has_two_filters matches = is_some (first_of (codes "LISTING") matches) && nat_lt 0 (length (texts_in (codes "WORD") matches))
+has_two_filters matches =
+    is_some (first_of (codes "LISTING") matches)
+    && nat_lt 0 (length (texts_in (codes "WORD") matches))
 
 -- a capture that is written has no lines, which could have link headers or bytes
 abbrev pub has_two_outputs : List Row → Bool
 has_two_outputs matches =
-    is_some (first_of (codes "OUT") matches) && (flag_in (codes "link") matches || flag_in (codes "bytes") matches)
+    is_some (first_of (codes "OUT") matches)
+    && (flag_in (codes "link") matches || flag_in (codes "bytes") matches)
 
 -- lines have no format
 abbrev pub has_idle_format : List Row → Bool
-has_idle_format matches = is_some (first_of (codes "FORMAT") matches) && is_none (first_of (codes "OUT") matches)
+has_idle_format matches =
+    is_some (first_of (codes "FORMAT") matches) && is_none (first_of (codes "OUT") matches)
 
 abbrev pub has_exclusion : List Row → Bool
-has_exclusion matches = has_two_filters matches || (has_two_outputs matches || has_idle_format matches)
+has_exclusion matches =
+    has_two_filters matches || (has_two_outputs matches || has_idle_format matches)
 
 abbrev pub exclusion_fault : List Row → Option Usage
 exclusion_fault matches = if has_exclusion matches then Some OptionsExclude else None
 
 -- options that exclude each other, then a name used twice
 abbrev pub print_fault : List Row → Option Usage
-print_fault matches = or_else (exclusion_fault matches) (name_fault (read_names matches) (first_of (codes "OUT") matches))
+print_fault matches =
+    or_else (exclusion_fault matches)
+    (name_fault (read_names matches) (first_of (codes "OUT") matches))
 
 -- ---- lines
 
@@ -283,11 +296,15 @@ abbrev pub Asks : List Text → Subcommand → List Row → Type 0
 Asks words asked matches = Takes words (Some (name_of asked, matches))
 
 abbrev pub SaysLine : List Text → Line → Type 0
-SaysLine words line = (asked : Subcommand) × (matches : List Row) × Asks words asked matches × (fault_in asked matches ≡ None) × IsLineOf asked matches line
+SaysLine words line =
+    (asked : Subcommand) × (matches : List Row) × Asks words asked matches
+    × (fault_in asked matches ≡ None) × IsLineOf asked matches line
 
 abbrev pub SaysFault : List Text → Usage → Type 0
 SaysFault words (Refused error) = Refuses words error
-SaysFault words usage = (asked : Subcommand) × (matches : List Row) × Asks words asked matches × IsFaultOf (fault_in asked matches) usage
+SaysFault words usage =
+    (asked : Subcommand) × (matches : List Row) × Asks words asked matches
+    × IsFaultOf (fault_in asked matches) usage
 
 -- ---- what may be run
 
@@ -301,7 +318,9 @@ has_expression (command.Compile compile) = false
 
 -- a line may be run once its listing is read
 abbrev pub is_ready : Line → Bool
-is_ready line = is_proper line.command (vec_len line.inputs) && (is_none line.code || not (has_expression line.command))
+is_ready line =
+    is_proper line.command (vec_len line.inputs)
+    && (is_none line.code || not (has_expression line.command))
 
 -- the command with a listing of these bytes; a print alone takes one
 abbrev pub with_code : Command Global → Vec ℕ → Command Global

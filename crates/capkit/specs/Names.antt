@@ -11,5 +11,7 @@ is_standard name = bytes_eq name (codes "-")
 -- the output, unless it is standard output, is an input too; or standard input is two inputs
 abbrev pub uses_name_twice : List (List ℕ) → Option (List ℕ) → Bool
 uses_name_twice inputs output =
-    option_map_or (λ name. not (is_standard name) && list_any (λ input. bytes_eq input name) inputs) output false
+    option_map_or
+    (λ name. not (is_standard name)
+    && list_any (λ input. bytes_eq input name) inputs) output false
     || nat_lt 1 (count_by is_standard inputs)

@@ -10,7 +10,8 @@ use Rattle.cap_filter.specs.Command.{is_range}
 
 -- The word writes the numbers: one, or two with a hyphen (45) between them, in decimal digits.
 pub data WritesNumbers : List ℕ → ℕ × ℕ → Type 0 where
-  one : (digits : List ℕ) → IsNumeral 10 digits → WritesNumbers digits (digits_value 10 digits, digits_value 10 digits)
+  one : (digits : List ℕ) → IsNumeral 10 digits
+      → WritesNumbers digits (digits_value 10 digits, digits_value 10 digits)
   two : (first last : List ℕ) → IsNumeral 10 first → IsNumeral 10 last
       → WritesNumbers (first ++ 45 ∷ last) (digits_value 10 first, digits_value 10 last)
 
@@ -32,10 +33,12 @@ number_of text = if is_decimal text then Some (digits_value 10 text) else None
 abbrev pub is_hyphen : ℕ → Bool
 is_hyphen byte = byte == 45
 
--- the texts of the first and of the last number: what stands around the first hyphen, or twice the word
+-- the texts of the first and of the last number: what stands around the first hyphen, or twice the
+-- word
 abbrev pub sides_of : List ℕ → List ℕ × List ℕ
 sides_of word =
-    if list_any is_hyphen word then (before_first is_hyphen word, after_first is_hyphen word) else (word, word)
+    if list_any is_hyphen word then (before_first is_hyphen word, after_first is_hyphen word)
+    else (word, word)
 
 -- the two numbers, where they are those of a range
 abbrev pub range_between : Option ℕ → Option ℕ → Option (ℕ × ℕ)

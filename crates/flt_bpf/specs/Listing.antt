@@ -1,4 +1,5 @@
--- Listings of programs: how they are written, which texts are one, and which line of another text is the first wrong one.
+-- Listings of programs: how they are written, which texts are one, and which line of another text
+-- is the first wrong one.
 use Rattle.std.specs.Prelude.{◌≡◌, ℕ, zero, suc, ◌+◌, ◌^◌, ◌<◌, ◌≤◌, ◌⊎◌, ◌==◌, List, [], ◌∷◌, ◌++◌, length, replicate, slice_get, IsSomeAnd, decimal}
 use Rattle.std.specs.List.{slice_split, AllZip}
 use Rattle.std.specs.Str.Parse.{IsNumeral, digits_value}
@@ -17,7 +18,8 @@ MOST_BYTES = 1048576
 
 -- the line of an instruction, without its line feed
 abbrev pub insn_line : Insn → List ℕ
-insn_line i = decimal i.code ++ BLANK ∷ (decimal i.jt ++ BLANK ∷ (decimal i.jf ++ BLANK ∷ decimal i.k))
+insn_line i =
+    decimal i.code ++ BLANK ∷ (decimal i.jt ++ BLANK ∷ (decimal i.jf ++ BLANK ∷ decimal i.k))
 
 abbrev pub insn_lines : List Insn → List ℕ
 insn_lines [] = []
@@ -42,7 +44,8 @@ pub record BeginsWith (line : List ℕ) (n : ℕ) (Rest : List ℕ → Type 0) :
   pub number : IsNumber digits n
   pub rest_is : Rest rest
 
--- a line of these numbers, with one or more blanks between each two, and none before the first or after the last
+-- a line of these numbers, with one or more blanks between each two, and none before the first or
+-- after the last
 abbrev pub AreNumbers : List ℕ → List ℕ → Type 0
 AreNumbers line [] = ⊥
 AreNumbers line (n ∷ []) = IsNumber line n
@@ -87,12 +90,13 @@ pub record HasCount (lines : List (List ℕ)) (count : ℕ) : Type 0 where
   pub number : IsSomeAnd (slice_get lines 0) (λ line. IsNumber line count)
   pub few : count ≤ MOST_INSTRUCTIONS
 
--- The line behind k others is wrong: the first one where it is no count; a later one where it should be an instruction and
--- is none or is missing, or where it is one too many.
+-- The line behind k others is wrong: the first one where it is no count; a later one where it
+-- should be an instruction and is none or is missing, or where it is one too many.
 abbrev pub IsWrong : List (List ℕ) → ℕ → Type 0
 IsWrong lines zero = (count : ℕ) → ¬ HasCount lines count
 IsWrong lines (suc k) = (count : ℕ) × HasCount lines count
-    × (((k < count) × ((i : Insn) → ¬ IsSomeAnd (slice_get lines (suc k)) (λ line. IsInsnLine line i)))
+    × (((k < count)
+    × ((i : Insn) → ¬ IsSomeAnd (slice_get lines (suc k)) (λ line. IsInsnLine line i)))
     ⊎ ((count ≤ k) × (suc k < length lines)))
 
 -- the line behind k others is the first wrong one
@@ -100,7 +104,8 @@ pub record FirstWrong (lines : List (List ℕ)) (k : ℕ) : Type 0 where
   pub wrong : IsWrong lines k
   pub first : (j : ℕ) → j < k → ¬ IsWrong lines j
 
--- The number, from 1, of the line at which a text is refused: 1 for a text that is too long, else that of the first wrong line.
+-- The number, from 1, of the line at which a text is refused: 1 for a text that is too long, else
+-- that of the first wrong line.
 abbrev pub IsRefusedAt : List ℕ → ℕ → Type 0
 IsRefusedAt text line =
     ((MOST_BYTES < length text) × (line ≡ 1))

@@ -25,7 +25,8 @@ has_index _ = true
 
 -- the message on a broken rule and the index of the instruction that breaks it
 abbrev pub check_message : CheckFault → ℕ → List ℕ
-check_message fault index = check_text fault ++ (if has_index fault then codes " at " ++ decimal index else [])
+check_message fault index =
+    check_text fault ++ (if has_index fault then codes " at " ++ decimal index else [])
 
 -- what a text that was not read is called
 abbrev pub listing_text : ListingFault → List ℕ

@@ -71,12 +71,14 @@ abbrev pub read_insn : Option Insn → Result (List Insn) ℕ → ℕ → Result
 read_insn None others at = Err at
 read_insn (Some i) others at = onto i others
 
--- so many instructions from lines, the first of which has the number `at`; else the number of the first wrong line
+-- so many instructions from lines, the first of which has the number `at`; else the number of the
+-- first wrong line
 abbrev pub read_insns : ℕ → List (List ℕ) → ℕ → Result (List Insn) ℕ
 read_insns zero [] at = Ok []
 read_insns zero (line ∷ lines) at = Err at
 read_insns (suc n) [] at = Err at
-read_insns (suc n) (line ∷ lines) at = read_insn (insn_of (line_numbers line)) (read_insns n lines (at + 1)) at
+read_insns (suc n) (line ∷ lines) at =
+    read_insn (insn_of (line_numbers line)) (read_insns n lines (at + 1)) at
 
 abbrev pub read_from : Option (List ℕ) → List (List ℕ) → Result (List Insn) ℕ
 read_from (Some (n ∷ [])) lines = if nat_lt MOST_INSTRUCTIONS n then Err 1 else read_insns n lines 2

@@ -27,7 +27,8 @@ has_zero_divisor len = false
 has_zero_divisor (named n) = false
 has_zero_divisor (load p s a) = has_zero_divisor a
 has_zero_divisor (negated a) = has_zero_divisor a
-has_zero_divisor (applied o a b) = has_zero_divisor a || (has_zero_divisor b || is_division o && is_zero b)
+has_zero_divisor (applied o a b) =
+    has_zero_divisor a || (has_zero_divisor b || is_division o && is_zero b)
 
 abbrev pub divides_by_zero : TruthTree → Bool
 divides_by_zero (compared c a b) = has_zero_divisor a || has_zero_divisor b
@@ -41,9 +42,12 @@ first_excess false false true = Some fault.ProgramTooLong
 first_excess false false false = None
 
 abbrev pub check_fault : Expression → Option ExprFault
-check_fault e = first_excess (some_primitive divides_by_zero e) (nat_lt 16 (words_of e)) (nat_lt 32768 (bound_of e))
+check_fault e =
+    first_excess (some_primitive divides_by_zero e) (nat_lt 16 (words_of e))
+    (nat_lt 32768 (bound_of e))
 
--- over the nodes: a division right behind the number 0, where before says that such a number stands in front
+-- over the nodes: a division right behind the number 0, where before says that such a number stands
+-- in front
 abbrev pub is_zero_node : Node → Bool
 is_zero_node (node.Literal n) = n == 0
 is_zero_node _ = false
@@ -54,4 +58,5 @@ is_division_node _ = false
 
 abbrev pub zero_divided : Bool → List Node → Bool
 zero_divided before [] = false
-zero_divided before (n ∷ rest) = (is_division_node n && before) || zero_divided (is_zero_node n) rest
+zero_divided before (n ∷ rest) =
+    (is_division_node n && before) || zero_divided (is_zero_node n) rest

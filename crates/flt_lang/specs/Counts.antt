@@ -1,4 +1,5 @@
--- The counts of an expression: sums over its tree. Each test of a primitive's formula counts one, and each node of arithmetic.
+-- The counts of an expression: sums over its tree. Each test of a primitive's formula counts one,
+-- and each node of arithmetic.
 use Rattle.std.specs.Prelude.{ℕ, ◌+◌, ◌*◌, max, Option, Some, None}
 use Rattle.flt_words.specs.declared.token.Protocol.{Protocol}
 use Rattle.flt_words.specs.declared.token.Protocol.TheVariants as protocol
@@ -26,7 +27,8 @@ abbrev pub proto_tests : Option Protocol → ℕ
 proto_tests None = (1 + 1) + (1 + 1)
 proto_tests (Some p) = 1 + 1
 
--- `tcp` and `udp` mean `proto 6` and `proto 17`, `icmp` for `ip proto 1`, `icmp6` for `ip6 proto 58`
+-- `tcp` and `udp` mean `proto 6` and `proto 17`, `icmp` for `ip proto 1`, `icmp6` for `ip6 proto
+-- 58`
 abbrev pub check_tests : Protocol → ℕ
 check_tests protocol.Tcp = proto_tests None
 check_tests protocol.Udp = proto_tests None
@@ -59,7 +61,8 @@ transport_tests (Some p) = 1
 
 -- ports over IPv4, where the packet is no later fragment, or over IPv6, so many tests a side
 abbrev pub port_tests : Option Protocol → Direction → ℕ → ℕ
-port_tests p d n = (1 + transport_tests p + 1 + side_tests d n) + (1 + transport_tests p + side_tests d n)
+port_tests p d n =
+    (1 + transport_tests p + 1 + side_tests d n) + (1 + transport_tests p + side_tests d n)
 
 abbrev pub address_tests : Option Protocol → Direction → Value → ℕ
 address_tests p d (value.Mac a) = ether_tests d
@@ -77,7 +80,8 @@ typed_tests Proto p d v = proto_tests p
 abbrev pub value_tests : FullQuals → Value → ℕ
 value_tests q v = typed_tests q.value_type q.protocol q.direction v
 
--- the checks of an accessor: the protocol, and of one above IPv4 its number and that the packet is no later fragment
+-- the checks of an accessor: the protocol, and of one above IPv4 its number and that the packet is
+-- no later fragment
 abbrev pub accessor_tests : Protocol → ℕ
 accessor_tests protocol.Tcp = 1 + 1 + 1
 accessor_tests protocol.Udp = 1 + 1 + 1

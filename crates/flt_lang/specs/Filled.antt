@@ -17,7 +17,8 @@ latest q (denied a) = latest q a
 latest q (joined j a b) = latest (latest q a) b
 latest q _ = q
 
--- each bare value takes the qualifiers of the nearest value to its left that has some, or q where there is none
+-- each bare value takes the qualifiers of the nearest value to its left that has some, or q where
+-- there is none
 abbrev pub inherited : Quals → TruthTree → TruthTree
 inherited q (bare v) = valued q v
 inherited q (denied a) = denied (inherited q a)
@@ -29,7 +30,12 @@ abbrev pub type_or_host : Quals → ValueType
 type_or_host q = unwrap_or q.value_type Host
 
 abbrev pub full : Quals → FullQuals
-full q = record { protocol = q.protocol; direction = unwrap_or q.direction (direction.Both join.Or); value_type = type_or_host q }
+full q =
+    record {
+      protocol = q.protocol;
+      direction = unwrap_or q.direction (direction.Both join.Or);
+      value_type = type_or_host q;
+    }
 
 abbrev pub completed : TruthTree → TruthTree
 completed (valued q v) = qualified (full q) v

@@ -17,7 +17,8 @@ use Rattle.flt_lang.specs.declared.value.Value.TheVariants as value
 use Rattle.flt_lang.specs.declared.fits.Fit.{Fit}
 use Rattle.flt_lang.specs.declared.fits.Fit.TheVariants as fit
 
--- the protocols that an IPv4 address, an IPv6 address, a port and a protocol number may have, or none
+-- the protocols that an IPv4 address, an IPv6 address, a port and a protocol number may have, or
+-- none
 abbrev pub is_of_ip4 : Option Protocol → Bool
 is_of_ip4 None = true
 is_of_ip4 (Some protocol.Ip) = true
@@ -73,12 +74,14 @@ abbrev pub fit_of : ValueType → Value → Option Protocol → Fit
 fit_of Host (value.Dotted d mask.Unwritten) p = fit_if (is_whole d && is_of_ip4 p) true
 fit_of Host (value.Ip6 a None) p = fit_if (is_of_ip6 p) true
 fit_of Host (value.Mac a) p = fit_if (is_of_ether p) true
-fit_of Net (value.Number n m) p = fit_if (is_net_mask m && is_of_ip4 p) (nat_le n 255 && is_ip4_len m)
+fit_of Net (value.Number n m) p =
+    fit_if (is_net_mask m && is_of_ip4 p) (nat_le n 255 && is_ip4_len m)
 fit_of Net (value.Dotted d m) p = fit_if (is_net_mask m && is_of_ip4 p) (is_ip4_len m)
 fit_of Net (value.Ip6 a n) p = fit_if (is_of_ip6 p) (is_ip6_len n)
 fit_of Port (value.Number n mask.Unwritten) p = fit_if (is_of_ports p) (nat_le n 65535)
 fit_of PortRange (value.Range a b) p = fit_if (is_of_ports p) (nat_le a 65535 && nat_le b 65535)
-fit_of Proto (value.Number n mask.Unwritten) (Some protocol.Ether) = fit_if true (nat_le 1536 n && nat_le n 65535)
+fit_of Proto (value.Number n mask.Unwritten) (Some protocol.Ether) =
+    fit_if true (nat_le 1536 n && nat_le n 65535)
 fit_of Proto (value.Number n mask.Unwritten) p = fit_if (is_of_ips p) (nat_le n 255)
 fit_of _ _ _ = fit.Misfit
 

@@ -104,7 +104,8 @@ as_number operand.Truth d = None
 as_number operand.Number d = Some d
 as_number (operand.Plain n) d = Some (node.Literal n ∷ d)
 as_number (operand.Either n None) d = Some (node.Literal n ∷ d)
-as_number (operand.Either n (Some m)) d = Some (node.Apply Divide ∷ node.Literal m ∷ node.Literal n ∷ d)
+as_number (operand.Either n (Some m)) d =
+    Some (node.Apply Divide ∷ node.Literal m ∷ node.Literal n ∷ d)
 
 abbrev pub as_truth : Operand → List Node → Option (List Node)
 as_truth operand.Truth d = Some d
@@ -153,7 +154,9 @@ Reduced = List Frame × Operand × List Node
 -- the frames that bind at least as tightly as m take the operand
 abbrev pub reduce : ℕ → List Frame → Operand → List Node → Option Reduced
 reduce m [] x d = Some ([], x, d)
-reduce m (f ∷ fs) x d = if nat_le (precedence f) m then (fill f x d >>= λ r. reduce m fs r.0 r.1) else Some (f ∷ fs, x, d)
+reduce m (f ∷ fs) x d =
+    if nat_le (precedence f) m then (fill f x d >>= λ r. reduce m fs r.0 r.1)
+    else Some (f ∷ fs, x, d)
 
 -- the latest frame binds more loosely than m
 abbrev pub IsLoose : ℕ → List Frame → Type 0
@@ -175,11 +178,15 @@ enclosed_operand x = x
 
 -- a frame that waits for its right operand, behind its left one of the same sort
 abbrev pub after_operator : Frame → List Frame → Operand → List Node → Option Begun
-after_operator f fs x d = if nat_le (precedence f) (operand_precedence fs) then (as_sort (sort_of f) x d >>= λ e. Some (0, (f ∷ fs, None, e))) else None
+after_operator f fs x d =
+    if nat_le (precedence f) (operand_precedence fs) then
+    (as_sort (sort_of f) x d >>= λ e. Some (0, (f ∷ fs, None, e))) else None
 
--- the load that waits takes its index and reads so many bytes; so many tokens more than one are used up
+-- the load that waits takes its index and reads so many bytes; so many tokens more than one are
+-- used up
 abbrev pub after_load : ℕ → ℕ → List Frame → Operand → List Node → Option Begun
-after_load more size (frame.Load p ∷ fs) x d = as_number x d >>= λ e. Some (more, (fs, Some operand.Number, node.Load p size ∷ e))
+after_load more size (frame.Load p ∷ fs) x d =
+    as_number x d >>= λ e. Some (more, (fs, Some operand.Number, node.Load p size ∷ e))
 after_load more size _ x d = None
 
 -- the size of an accessor behind its colon
@@ -197,7 +204,8 @@ after_close (frame.Open ∷ fs) x d = Some (0, (fs, Some (enclosed_operand x), d
 after_close _ x d = None
 
 -- a token behind an operand, and what comes after the token
-abbrev pub after_token_at : TokenKind → List TokenKind → List Frame → Operand → List Node → Option Begun
+abbrev pub after_token_at : TokenKind → List TokenKind → List Frame → Operand → List Node
+    → Option Begun
 after_token_at (token.Operator o) ts fs x d = after_operator (frame.Apply o) fs x d
 after_token_at (token.Comparison c) ts fs x d = after_operator (frame.Compare c) fs x d
 after_token_at (token.Join j) ts fs x d = after_operator (frame.Join j) fs x d
@@ -215,10 +223,12 @@ Primitive = ℕ × Option Operand × List Node
 
 -- a value with what stands before it, and how many tokens more than one they are
 abbrev pub valued_of : List TokenKind → Option (Quals × Value × ℕ)
-valued_of ts = value_of (quals_of ts).1 >>= λ r. Some ((quals_of ts).0, r.0, length ts - length r.1 - 1)
+valued_of ts =
+    value_of (quals_of ts).1 >>= λ r. Some ((quals_of ts).0, r.0, length ts - length r.1 - 1)
 
 abbrev pub check_of : List TokenKind → List Node → Option Primitive
-check_of (token.Protocol p ∷ ts) d = if is_check p then Some (0, Some operand.Truth, node.Check p ∷ d) else None
+check_of (token.Protocol p ∷ ts) d =
+    if is_check p then Some (0, Some operand.Truth, node.Check p ∷ d) else None
 check_of _ d = None
 
 abbrev pub valued_or : Option (Quals × Value × ℕ) → List TokenKind → List Node → Option Primitive
@@ -229,7 +239,8 @@ abbrev pub primitive : List TokenKind → List Node → Option Primitive
 primitive ts d = valued_or (valued_of ts) ts d
 
 abbrev pub bare_of : List TokenKind → List Node → Option Primitive
-bare_of ts d = value_of ts >>= λ r. Some (length ts - length r.1 - 1, Some operand.Truth, node.Bare r.0 ∷ d)
+bare_of ts d =
+    value_of ts >>= λ r. Some (length ts - length r.1 - 1, Some operand.Truth, node.Bare r.0 ∷ d)
 
 -- a truth that is one node, and how many tokens more than one it takes
 abbrev pub one_node : List Node → Option (Node × ℕ) → Option Primitive
@@ -246,13 +257,17 @@ opening_of (t ∷ token.Cast c ∷ ts) = opening.Cast c
 opening_of _ = opening.Other
 
 -- where a protocol, a number and a size begin an operand
-abbrev pub protocol_begins : Protocol → Opening → List TokenKind → List Frame → List Node → Option Begun
-protocol_begins p opening.Bracket ts fs d = if is_accessor p then Some (1, (frame.Load p ∷ fs, None, d)) else None
-protocol_begins p (opening.Cast c) ts fs d = if has_casts p then Some (1, (fs, Some operand.Truth, node.Cast (Some p) c ∷ d)) else None
+abbrev pub protocol_begins : Protocol → Opening → List TokenKind → List Frame → List Node
+    → Option Begun
+protocol_begins p opening.Bracket ts fs d =
+    if is_accessor p then Some (1, (frame.Load p ∷ fs, None, d)) else None
+protocol_begins p (opening.Cast c) ts fs d =
+    if has_casts p then Some (1, (fs, Some operand.Truth, node.Cast (Some p) c ∷ d)) else None
 protocol_begins p opening.Other ts fs d = with_frames fs (primitive ts d)
 
 abbrev pub number_of : List TokenKind → List Node → Option Primitive
-number_of (token.Number n ∷ token.Mask ∷ token.Dotted a p ∷ ts) d = bare_of (token.Number n ∷ token.Mask ∷ token.Dotted a p ∷ ts) d
+number_of (token.Number n ∷ token.Mask ∷ token.Dotted a p ∷ ts) d =
+    bare_of (token.Number n ∷ token.Mask ∷ token.Dotted a p ∷ ts) d
 number_of (token.Number n ∷ ts) d = Some (0, Some (operand.Plain n), d)
 number_of _ d = None
 
@@ -274,7 +289,8 @@ begin_at (token.Mac a) ts fs d = with_frames fs (bare_of ts d)
 begin_at (token.Range a b) ts fs d = with_frames fs (bare_of ts d)
 begin_at token.Len ts fs d = Some (0, (fs, Some operand.Number, node.Len ∷ d))
 begin_at (token.Name n) ts fs d = Some (0, (fs, Some operand.Number, node.Named n ∷ d))
-begin_at token.Not ts fs d = if nat_le 6 (operand_precedence fs) then Some (0, (frame.Not ∷ fs, None, d)) else None
+begin_at token.Not ts fs d =
+    if nat_le 6 (operand_precedence fs) then Some (0, (frame.Not ∷ fs, None, d)) else None
 begin_at (token.Operator Subtract) ts fs d = Some (0, (frame.Negate ∷ fs, None, d))
 begin_at token.Open ts fs d = Some (0, (frame.Open ∷ fs, None, d))
 begin_at _ ts fs d = None
@@ -292,8 +308,11 @@ prefix_len _ _ = None
 abbrev pub next_of : List TokenKind → List Frame → Operand → List Node → Option Begun
 next_of ts fs x d = reduce (next_precedence ts) fs x d >>= λ r. after_token ts r.0 r.1 r.2
 
-abbrev pub prefixed : Option (ℕ × ℕ) → List TokenKind → List Frame → Operand → List Node → Option Begun
-prefixed (Some p) ts fs x d = if nat_le 1 (operand_precedence fs) then Some (1, (fs, Some (operand.Either p.0 (Some p.1)), d)) else next_of ts fs x d
+abbrev pub prefixed : Option (ℕ × ℕ) → List TokenKind → List Frame → Operand → List Node
+    → Option Begun
+prefixed (Some p) ts fs x d =
+    if nat_le 1 (operand_precedence fs) then Some (1, (fs, Some (operand.Either p.0 (Some p.1)), d))
+    else next_of ts fs x d
 prefixed None ts fs x d = next_of ts fs x d
 
 abbrev pub after_operand : List TokenKind → List Frame → Operand → List Node → Option Begun
@@ -312,7 +331,8 @@ abbrev pub run : List TokenKind → ℕ → List Frame → Option Operand → Li
 run [] k fs x d = finish x fs d
 run (t ∷ ts) (suc k) fs x d = run ts k fs x d
 run (t ∷ ts) zero fs None d = begin (t ∷ ts) fs d >>= λ r. run ts r.0 r.1.0 r.1.1 r.1.2
-run (t ∷ ts) zero fs (Some x) d = after_operand (t ∷ ts) fs x d >>= λ r. run ts r.0 r.1.0 r.1.1 r.1.2
+run (t ∷ ts) zero fs (Some x) d =
+    after_operand (t ∷ ts) fs x d >>= λ r. run ts r.0 r.1.0 r.1.1 r.1.2
 
 -- no tokens have no nodes
 abbrev pub all_run : List TokenKind → Option (List Node)

@@ -32,11 +32,13 @@ is_prefix t = is_prefix_kind t.kind
 
 -- some prefix has over 100 more `(` and `[` than `)` and `]`
 abbrev pub HasDeepFront : List Token → Type 0
-HasDeepFront ts = (n : ℕ) × (count_by is_closing (take n ts) + 100 < count_by is_opening (take n ts))
+HasDeepFront ts =
+    (n : ℕ) × (count_by is_closing (take n ts) + 100 < count_by is_opening (take n ts))
 
 -- 101 tokens `not` and `-` follow one another
 abbrev pub HasLongPrefix : List Token → Type 0
-HasLongPrefix ts = (i : ℕ) × (i + 101 ≤ length ts) × (list_all is_prefix (take 101 (drop i ts)) ≡ true)
+HasLongPrefix ts =
+    (i : ℕ) × (i + 101 ≤ length ts) × (list_all is_prefix (take 101 (drop i ts)) ≡ true)
 
 abbrev pub IsTooDeep : List Token → Type 0
 IsTooDeep ts = HasDeepFront ts ⊎ HasLongPrefix ts

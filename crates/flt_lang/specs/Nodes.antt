@@ -68,7 +68,8 @@ with_node t (node.Join j) = record { truths = with_two (joined j) t.truths; numb
 with_node t (node.Literal n) = with_number (literal n) t
 with_node t node.Len = with_number len t
 with_node t (node.Named n) = with_number (named n) t
-with_node t (node.Load p s) = record { truths = t.truths; numbers = with_latest (load p s) t.numbers }
+with_node t (node.Load p s) =
+    record { truths = t.truths; numbers = with_latest (load p s) t.numbers }
 with_node t node.Negate = record { truths = t.truths; numbers = with_latest negated t.numbers }
 with_node t (node.Apply o) = record { truths = t.truths; numbers = with_two (applied o) t.numbers }
 
@@ -84,7 +85,8 @@ tree_of nodes = first_truth (fold with_node (record { truths = []; numbers = [] 
 abbrev pub IsTree : List Node → Type 0
 IsTree nodes = expr_nodes (tree_of nodes) ≡ nodes
 
-number_back : (a : NumberTree) (t : Trees) (rest : List Node) → fold with_node t (number_nodes a rest) ≡ fold with_node (with_number a t) rest
+number_back : (a : NumberTree) (t : Trees) (rest : List Node)
+    → fold with_node t (number_nodes a rest) ≡ fold with_node (with_number a t) rest
 number_back (literal n) t rest = refl
 number_back len t rest = refl
 number_back (named n) t rest = refl
@@ -92,7 +94,8 @@ number_back (load p s a) t rest = number_back a t _
 number_back (negated a) t rest = number_back a t _
 number_back (applied o a b) t rest = number_back a t _ ∙ number_back b _ _
 
-truth_back : (a : TruthTree) (t : Trees) (rest : List Node) → fold with_node t (truth_nodes a rest) ≡ fold with_node (with_truth a t) rest
+truth_back : (a : TruthTree) (t : Trees) (rest : List Node)
+    → fold with_node t (truth_nodes a rest) ≡ fold with_node (with_truth a t) rest
 truth_back (check p) t rest = refl
 truth_back (cast p c) t rest = refl
 truth_back (sized s n) t rest = refl
@@ -106,4 +109,5 @@ truth_back (joined j a b) t rest = truth_back a t _ ∙ truth_back b _ _
 -- a tree is read back from its nodes
 pub tree_back : (e : Expression) → tree_of (expr_nodes e) ≡ e
 tree_back empty = refl
-tree_back (truth a) = ap (λ t. first_truth t.truths) (truth_back a (record { truths = []; numbers = [] }) [])
+tree_back (truth a) =
+    ap (λ t. first_truth t.truths) (truth_back a (record { truths = []; numbers = [] }) [])

@@ -1,4 +1,5 @@
--- The faults of a tree whose bare values have their qualifiers: a misfit, a value out of range, bits past a mask.
+-- The faults of a tree whose bare values have their qualifiers: a misfit, a value out of range,
+-- bits past a mask.
 use Rattle.std.specs.Prelude.{◌≡◌, List, Bool, true, false, not, ◌&&◌, ◌||◌, is_some, Option, Some, None}
 use Rattle.std.specs.List.{list_any}
 use Rattle.flt_words.specs.declared.fault.ExprFault.{ExprFault}
@@ -22,8 +23,12 @@ has_wrong_size (applied o a b) = has_wrong_size a || has_wrong_size b
 -- the faults of a primitive: E7, E8, E9
 abbrev pub is_misfit : TruthTree → Bool
 is_misfit (cast p c) = is_cast_misfit p c
-is_misfit (valued q v) = is_misfit_fit (fit_of (type_or_host q) v q.protocol) || is_proto (type_or_host q) && is_some q.direction
-is_misfit (qualified q v) = is_misfit_fit (fit_of q.value_type v q.protocol) || is_proto q.value_type && not (is_either q.direction)
+is_misfit (valued q v) =
+    is_misfit_fit (fit_of (type_or_host q) v q.protocol)
+    || is_proto (type_or_host q) && is_some q.direction
+is_misfit (qualified q v) =
+    is_misfit_fit (fit_of q.value_type v q.protocol)
+    || is_proto q.value_type && not (is_either q.direction)
 is_misfit _ = false
 
 abbrev pub is_out_of_range : TruthTree → Bool
@@ -61,7 +66,9 @@ first_fault false false true = Some fault.BitsPastMask
 first_fault false false false = None
 
 abbrev pub tree_fault : Expression → Option ExprFault
-tree_fault e = first_fault (some_primitive is_misfit e) (some_primitive is_out_of_range e) (some_primitive has_past_bits e)
+tree_fault e =
+    first_fault (some_primitive is_misfit e) (some_primitive is_out_of_range e)
+    (some_primitive has_past_bits e)
 
 -- the fault of an expression is reported once its bare values have their qualifiers
 abbrev pub fill_fault : Expression → Option ExprFault
@@ -94,4 +101,6 @@ has_past_bits_node _ = false
 
 -- and of nodes
 abbrev pub nodes_fault : List Node → Option ExprFault
-nodes_fault ns = first_fault (list_any is_misfit_node ns) (list_any is_out_of_range_node ns) (list_any has_past_bits_node ns)
+nodes_fault ns =
+    first_fault (list_any is_misfit_node ns) (list_any is_out_of_range_node ns)
+    (list_any has_past_bits_node ns)

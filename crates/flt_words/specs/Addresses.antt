@@ -46,7 +46,8 @@ pub record IsDotted (word : List ℕ) (address parts : ℕ) : Type 0 where
   pub at_least_two : 2 ≤ length groups
   pub at_most_four : length groups ≤ 4
   pub count : parts ≡ length groups
-  pub value : address ≡ number_from_digits 256 (group_values group.Octet groups ++ replicate (4 - length groups) 0)
+  pub value : address
+      ≡ number_from_digits 256 (group_values group.Octet groups ++ replicate (4 - length groups) 0)
 
 -- the word is the six bytes of a MAC address
 pub record IsMac (word : List ℕ) (address : ℕ) : Type 0 where
@@ -62,21 +63,27 @@ pub record IsWholeIp6 (word : List ℕ) (address : ℕ) : Type 0 where
   pub eight : length groups ≡ 8
   pub value : address ≡ number_from_digits 65536 (group_values group.Quad groups)
 
--- the two texts are at most seven groups of an IPv6 address together, and those left out between them are 0
+-- the two texts are at most seven groups of an IPv6 address together, and those left out between
+-- them are 0
 pub record AreIp6Ends (front back : List ℕ) (address : ℕ) : Type 0 where
   pub first : List (List ℕ)
   pub last : List (List ℕ)
   pub are_first : AreGroups group.Quad front first
   pub are_last : AreGroups group.Quad back last
   pub at_most_seven : length first + length last ≤ 7
-  pub value : address ≡ number_from_digits 65536 (group_values group.Quad first ++ (replicate (8 - (length first + length last)) 0 ++ group_values group.Quad last))
+  pub value : address
+      ≡ number_from_digits 65536
+      (group_values group.Quad first
+      ++ (replicate (8 - (length first + length last)) 0 ++ group_values group.Quad last))
 
 -- the word is an IPv6 address, in full or with one `::` for groups left out
 pub data IsIp6 : List ℕ → ℕ → Type 0 where
   whole : {word : List ℕ} {address : ℕ} → IsWholeIp6 word address → IsIp6 word address
-  shortened : {front back : List ℕ} {address : ℕ} → AreIp6Ends front back address → IsIp6 (front ++ (codes "::" ++ back)) address
+  shortened : {front back : List ℕ} {address : ℕ} → AreIp6Ends front back address
+      → IsIp6 (front ++ (codes "::" ++ back)) address
 
--- the answer of looking for an address: one of which this is so, or none where it is so of no address
+-- the answer of looking for an address: one of which this is so, or none where it is so of no
+-- address
 abbrev pub Finds : (ℕ → Type 0) → Option ℕ → Type 0
 Finds IsIt answer = MatchOption answer ((address : ℕ) → IsIt address → ⊥) IsIt
 
@@ -84,7 +91,12 @@ Finds IsIt answer = MatchOption answer ((address : ℕ) → IsIt address → ⊥
 abbrev pub IsDoubleColon : List ℕ → ℕ → Type 0
 IsDoubleColon word i = (slice_index word i ≡ 58) × (slice_index word (i + 1) ≡ 58)
 
--- the answer of reading a text as at most eight groups: how many, and the number that they write in their base
+-- the answer of reading a text as at most eight groups: how many, and the number that they write in
+-- their base
 abbrev pub ReadsGroups : Group → List ℕ → Option Joined → Type 0
-ReadsGroups form text None = (groups : List (List ℕ)) → AreGroups form text groups → length groups ≤ 8 → ⊥
-ReadsGroups form text (Some joined) = (groups : List (List ℕ)) × AreGroups form text groups × (length groups ≤ 8) × (joined.count ≡ length groups) × (joined.value ≡ number_from_digits (base_of form) (group_values form groups))
+ReadsGroups form text None =
+    (groups : List (List ℕ)) → AreGroups form text groups → length groups ≤ 8 → ⊥
+ReadsGroups form text (Some joined) =
+    (groups : List (List ℕ)) × AreGroups form text groups × (length groups ≤ 8)
+    × (joined.count ≡ length groups)
+    × (joined.value ≡ number_from_digits (base_of form) (group_values form groups))

@@ -19,24 +19,28 @@ pub data IsNumber : List ℕ → ℕ → Type 0 where
   decimal : {word : List ℕ} {n : ℕ} → WritesDecimal word n → IsNumber word n
   octal : {digits : List ℕ} {n : ℕ} → Writes 8 digits n → IsNumber (codes "0" ++ digits) n
   hexadecimal : {digits : List ℕ} {n : ℕ} → Writes 16 digits n → IsNumber (codes "0x" ++ digits) n
-  capital_hexadecimal : {digits : List ℕ} {n : ℕ} → Writes 16 digits n → IsNumber (codes "0X" ++ digits) n
+  capital_hexadecimal : {digits : List ℕ} {n : ℕ} → Writes 16 digits n
+      → IsNumber (codes "0X" ++ digits) n
 
 -- the word is two numbers joined by a dash
 pub data IsRange : List ℕ → ℕ → ℕ → Type 0 where
-  joined : {front back : List ℕ} {first last : ℕ} → WritesDecimal front first → WritesDecimal back last → IsRange (front ++ (codes "-" ++ back)) first last
+  joined : {front back : List ℕ} {first last : ℕ} → WritesDecimal front first
+      → WritesDecimal back last → IsRange (front ++ (codes "-" ++ back)) first last
 
 -- a number that a token may have
 abbrev pub is_word_sized : ℕ → Bool
 is_word_sized n = nat_lt n (2 ^ 32)
 
--- the answer for a word of which `Stands` says what it means, where only what passes the test may be answered
+-- the answer for a word of which `Stands` says what it means, where only what passes the test may
+-- be answered
 abbrev pub Answers : {A : Type 0} → (A → Type 0) → (A → Bool) → Result A WordFault → Type 0
 Answers {A} Stands test (Ok a) = Stands a × (test a ≡ true)
 Answers {A} Stands test (Err fault.TooLarge) = (a : A) × Stands a × (test a ≡ false)
 Answers {A} Stands test (Err fault.Unknown) = (a : A) → Stands a → ⊥
 
 -- both answers: unknown where either is, and else too large where either is
-abbrev pub both : {A B : Type 0} → Result A WordFault → Result B WordFault → Result (A × B) WordFault
+abbrev pub both : {A B : Type 0} → Result A WordFault → Result B WordFault
+    → Result (A × B) WordFault
 both (Ok a) (Ok b) = Ok (a, b)
 both (Ok a) (Err e) = Err e
 both (Err fault.Unknown) r = Err fault.Unknown

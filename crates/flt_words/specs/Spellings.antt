@@ -92,4 +92,5 @@ keyword_of word = look_up keywords word
 
 -- the colon is a token of its own inside brackets alone
 abbrev pub symbol_of : Bool → List ℕ → Option TokenKind
-symbol_of inside piece = if inside && bytes_eq piece (codes ":") then Some token.Colon else look_up symbols piece
+symbol_of inside piece =
+    if inside && bytes_eq piece (codes ":") then Some token.Colon else look_up symbols piece

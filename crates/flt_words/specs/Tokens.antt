@@ -15,9 +15,12 @@ pub record IsWordPiece (inside : Bool) (piece : List ℕ) : Type 0 where
   pub ends : starts_word inside (slice_index piece (length piece - 1)) ≡ true
 
 -- what a piece means at a place: a word its meaning, a symbol its token
-pub data PieceMeans (inside : Bool) (place : ℕ) (piece : List ℕ) : Result TokenKind ExprFault → Type 0 where
-  word_meaning : {answer : Result TokenKind ExprFault} → IsWordPiece inside piece → WordMeans place piece answer → PieceMeans inside place piece answer
-  symbol_meaning : {kind : TokenKind} → symbol_of inside piece ≡ Some kind → PieceMeans inside place piece (Ok kind)
+pub data PieceMeans (inside : Bool) (place : ℕ) (piece : List ℕ) : Result TokenKind ExprFault
+    → Type 0 where
+  word_meaning : {answer : Result TokenKind ExprFault} → IsWordPiece inside piece
+      → WordMeans place piece answer → PieceMeans inside place piece answer
+  symbol_meaning : {kind : TokenKind} → symbol_of inside piece ≡ Some kind
+      → PieceMeans inside place piece (Ok kind)
 
 -- the piece could be a token
 pub data IsPiece (inside : Bool) (piece : List ℕ) : Type 0 where
@@ -31,29 +34,41 @@ pub record IsLongest (inside : Bool) (rest : List ℕ) (n : ℕ) : Type 0 where
   pub longest : (m : ℕ) → m ≤ length rest → IsPiece inside (take m rest) → m ≤ n
 
 -- the start of a text that goes on at a place is a token, and this long
-pub record IsToken (inside : Bool) (place : ℕ) (rest : List ℕ) (kind : TokenKind) (n : ℕ) : Type 0 where
+pub record IsToken (inside : Bool) (place : ℕ) (rest : List ℕ) (kind : TokenKind)
+    (n : ℕ) : Type 0 where
   pub longest : IsLongest inside rest n
   pub means : PieceMeans inside place (take n rest) (Ok kind)
 
--- or it is refused: a character begins no token, or the longest piece is a word of no kind or has too large a number
+-- or it is refused: a character begins no token, or the longest piece is a word of no kind or has
+-- too large a number
 pub data IsRefused (inside : Bool) (place : ℕ) (rest : List ℕ) : ExprFault → Type 0 where
-  no_piece : ((n : ℕ) → n ≤ length rest → IsPiece inside (take n rest) → ⊥) → IsRefused inside place rest (fault.UnknownCharacter place)
-  bad_piece : {n : ℕ} {refusal : ExprFault} → IsLongest inside rest n → PieceMeans inside place (take n rest) (Err refusal) → IsRefused inside place rest refusal
+  no_piece : ((n : ℕ) → n ≤ length rest → IsPiece inside (take n rest) → ⊥)
+      → IsRefused inside place rest (fault.UnknownCharacter place)
+  bad_piece : {n : ℕ} {refusal : ExprFault} → IsLongest inside rest n
+      → PieceMeans inside place (take n rest) (Err refusal) → IsRefused inside place rest refusal
 
 -- a token in front of others
 abbrev pub before : Token → Result (List Token) ExprFault → Result (List Token) ExprFault
 before token (Ok tokens) = Ok (token ∷ tokens)
 before token (Err refusal) = Err refusal
 
--- from a byte on, a text has these tokens, blanks between them, or this is the leftmost refusal; places count from 1
+-- from a byte on, a text has these tokens, blanks between them, or this is the leftmost refusal;
+-- places count from 1
 pub data TokensFrom (text : List ℕ) : ℕ → Result (List Token) ExprFault → Type 0 where
   at_end : {at : ℕ} → at ≡ length text → TokensFrom text at (Ok [])
-  blank : {at : ℕ} {answer : Result (List Token) ExprFault} → is_blank (slice_index text at) ≡ true → TokensFrom text (at + 1) answer → TokensFrom text at answer
-  token : {at n : ℕ} {kind : TokenKind} {answer : Result (List Token) ExprFault} → IsToken (is_inside (take at text)) (at + 1) (drop at text) kind n → TokensFrom text (at + n) answer
+  blank : {at : ℕ} {answer : Result (List Token) ExprFault} → is_blank (slice_index text at) ≡ true
+      → TokensFrom text (at + 1) answer → TokensFrom text at answer
+  token : {at n : ℕ} {kind : TokenKind} {answer : Result (List Token) ExprFault}
+      → IsToken (is_inside (take at text)) (at + 1) (drop at text) kind n
+      → TokensFrom text (at + n) answer
       → TokensFrom text at (before (record { kind = kind; place = at + 1 }) answer)
-  refused : {at : ℕ} {refusal : ExprFault} → at < length text → is_blank (slice_index text at) ≡ false → IsRefused (is_inside (take at text)) (at + 1) (drop at text) refusal → TokensFrom text at (Err refusal)
+  refused : {at : ℕ} {refusal : ExprFault} → at < length text
+      → is_blank (slice_index text at) ≡ false
+      → IsRefused (is_inside (take at text)) (at + 1) (drop at text) refusal
+      → TokensFrom text at (Err refusal)
 
 -- the tokens of a text of at most 65,536 bytes, or its refusal
 pub data Tokens (text : List ℕ) : Result (List Token) ExprFault → Type 0 where
   too_long : 65536 < length text → Tokens text (Err fault.TooLong)
-  short : {answer : Result (List Token) ExprFault} → length text ≤ 65536 → TokensFrom text 0 answer → Tokens text answer
+  short : {answer : Result (List Token) ExprFault} → length text ≤ 65536 → TokensFrom text 0 answer
+      → Tokens text answer

@@ -12,8 +12,10 @@ use Rattle.flt_words.specs.Spellings.{keyword_of}
 pub data Stands : List ℕ → TokenKind → Type 0 where
   keyword : {word : List ℕ} {kind : TokenKind} → keyword_of word ≡ Some kind → Stands word kind
   number : {word : List ℕ} {n : ℕ} → IsNumber word n → Stands word (token.Number n)
-  dotted : {word : List ℕ} {address parts : ℕ} → IsDotted word address parts → Stands word (token.Dotted address parts)
-  range : {word : List ℕ} {first last : ℕ} → IsRange word first last → Stands word (token.Range first last)
+  dotted : {word : List ℕ} {address parts : ℕ} → IsDotted word address parts
+      → Stands word (token.Dotted address parts)
+  range : {word : List ℕ} {first last : ℕ} → IsRange word first last
+      → Stands word (token.Range first last)
   mac : {word : List ℕ} {address : ℕ} → IsMac word address → Stands word (token.Mac address)
   ip6 : {word : List ℕ} {address : ℕ} → IsIp6 word address → Stands word (token.Ip6 address)
 
@@ -26,5 +28,7 @@ fits _ = true
 -- the answer for a word at a place
 pub data WordMeans (place : ℕ) (word : List ℕ) : Result TokenKind ExprFault → Type 0 where
   known : {kind : TokenKind} → Stands word kind → fits kind ≡ true → WordMeans place word (Ok kind)
-  too_large : {kind : TokenKind} → Stands word kind → fits kind ≡ false → WordMeans place word (Err (fault.NumberTooLarge place))
-  unknown : ((kind : TokenKind) → Stands word kind → ⊥) → WordMeans place word (Err (fault.UnknownWord place))
+  too_large : {kind : TokenKind} → Stands word kind → fits kind ≡ false
+      → WordMeans place word (Err (fault.NumberTooLarge place))
+  unknown : ((kind : TokenKind) → Stands word kind → ⊥)
+      → WordMeans place word (Err (fault.UnknownWord place))
