@@ -227,7 +227,7 @@ fn direct_load(new: Insn, landing: Landing, old: Insn, after: &[Insn], behind: &
 }
 
 /// A number and the header length are added in A, and the sum goes to X.
-fn adds_header(number: Insn, length: Insn, add: Insn, to_index: Insn) -> bool
+pub fn adds_header(number: Insn, length: Insn, add: Insn, to_index: Insn) -> bool
     ensures { result ≡ adds_header number length add to_index }
 {
     (number.code == Operation::Load(Register::Accumulator, Source::Immediate).code()
@@ -244,7 +244,8 @@ fn loads_alike(old_length: Insn, new_length: Insn, old_load: Insn, new_load: Ins
         && (is_indirect(old_load.code) && old_load.code == new_load.code)
 }
 
-fn is_indirect(code: u16) -> bool
+/// The code is that of a load behind X.
+pub fn is_indirect(code: u16) -> bool
     ensures { result ≡ is_indirect (operation_of code) }
 {
     matches!(decode(code), Some(Operation::LoadIndirect(_)))

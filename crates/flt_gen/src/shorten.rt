@@ -6,7 +6,8 @@ ghost use Rattle.std.specs.Option.{IfSome};
 ghost use Rattle.flt_gen.specs.Alike.{Replaces};
 
 use crate::alike::{
-    Landing, reads_accumulator, reads_index, replaces, sets_accumulator, sets_index,
+    Landing, adds_header, is_indirect, reads_accumulator, reads_index, replaces, sets_accumulator,
+    sets_index,
 };
 use flt_bpf::insn::Insn;
 use flt_bpf::operation::{AluOperation, Operand, Operation, Register, Source, Test, decode};
@@ -66,6 +67,27 @@ fn in_front(insn: Insn, farther: usize) -> Option<Insn> {
     }
 }
 
+/// They are a mask, and a test of what is left for 0.
+fn is_mask(mask: Insn, test: Insn) -> bool {
+    mask.code == Operation::Compute(AluOperation::And, Operand::Constant).code()
+        && test.code == Operation::JumpIf(Test::Equal, Operand::Constant).code()
+        && test.k == 0
+}
+
+/// They are a number in A that goes to X.
+fn is_copied(number: Insn, copy: Insn) -> bool {
+    number.code == Operation::Load(Register::Accumulator, Source::Immediate).code()
+        && copy.code == Operation::CopyToIndex.code()
+}
+
+/// The code of a load at a fixed place that is as wide as this one behind X.
+fn direct_code(indirect: u16) -> Option<u16> {
+    match decode(indirect) {
+        Some(Operation::LoadIndirect(width)) => Some(Operation::LoadAbsolute(width).code()),
+        _ => None,
+    }
+}
+
 /// Code that grows from its end to its beginning, while the old code is read so. Where something is
 /// too far, an instruction lands nowhere, and then neither do those that go on there.
 #[derive(Drop)]
@@ -119,22 +141,26 @@ impl<A: Allocator> Shortening<'_, A> {
         }
     }
 
+    /// The instructions from a place on.
+    fn insns_from(&self, at: usize) -> &[Insn] {
+        match self.insns.get(at..) {
+            Some(insns) => insns,
+            None => &[],
+        }
+    }
+
     /// One test of bits for the mask at a place, if a test for 0 is next and A isn't read behind.
     fn bits_at(&self, at: usize) -> Option<Insn> {
-        let mask = self.insn_at(at)?;
-        if mask.code != Operation::Compute(AluOperation::And, Operand::Constant).code() {
+        let [mask, test, ..] = self.insns_from(at) else {
             return None;
-        }
-        let test = self.insn_at(behind(at, 0))?;
-        let equal = Operation::JumpIf(Test::Equal, Operand::Constant).code();
+        };
         let zero = self.landing_at(behind(at, 1 + usize::from(test.jt)));
         let other = self.landing_at(behind(at, 1 + usize::from(test.jf)));
-        if test.code != equal || test.k != 0 || zero.accumulator || other.accumulator {
+        if !is_mask(*mask, *test) || zero.accumulator || other.accumulator {
             return None;
         }
-        let code = Operation::JumpIf(Test::AnyBit, Operand::Constant).code();
         Some(Insn {
-            code,
+            code: Operation::JumpIf(Test::AnyBit, Operand::Constant).code(),
             jt: test.jf,
             jf: test.jt,
             k: mask.k,
@@ -143,49 +169,31 @@ impl<A: Allocator> Shortening<'_, A> {
 
     /// One load for the number at a place, if it is only added to the place of a load.
     fn load_at(&self, at: usize) -> Option<Insn> {
-        let number = self.insn_at(at)?;
-        if number.code != Operation::Load(Register::Accumulator, Source::Immediate).code() {
+        let [number, copy, load, ..] = self.insns_from(at) else {
+            return None;
+        };
+        let code = direct_code(load.code)?;
+        if !is_copied(*number, *copy) || self.landing_at(behind(at, 2)).index {
             return None;
         }
-        let (copy, load) = (self.insn_at(behind(at, 0))?, self.insn_at(behind(at, 1))?);
-        let is_index = copy.code == Operation::CopyToIndex.code();
-        match decode(load.code) {
-            Some(Operation::LoadIndirect(width)) => {
-                if is_index && !self.landing_at(behind(at, 2)).index {
-                    let code = Operation::LoadAbsolute(width).code();
-                    let k = number.k.wrapping_add(load.k);
-                    Some(Insn {
-                        code,
-                        jt: 0,
-                        jf: 0,
-                        k,
-                    })
-                } else {
-                    None
-                }
-            }
-            _ => None,
-        }
+        let k = number.k.wrapping_add(load.k);
+        Some(Insn { code, k, ..*load })
     }
 
     /// The header length and a load behind it for the number at a place, if it is only added to the
     /// header length for the place of a load.
     fn header_load_at(&self, at: usize) -> Option<(Insn, Insn)> {
-        let number = self.insn_at(at)?;
-        let length = self.insn_at(behind(at, 0))?;
-        let (sum, copy) = (self.insn_at(behind(at, 1))?, self.insn_at(behind(at, 2))?);
-        let load = self.insn_at(behind(at, 3))?;
-        let is_place = number.code
-            == Operation::Load(Register::Accumulator, Source::Immediate).code()
-            && length.code == Operation::LoadHeaderLength.code()
-            && sum.code == Operation::Compute(AluOperation::Add, Operand::IndexRegister).code()
-            && copy.code == Operation::CopyToIndex.code()
-            && matches!(decode(load.code), Some(Operation::LoadIndirect(_)));
-        if !is_place || self.landing_at(behind(at, 4)).index {
+        let [number, length, add, copy, load, ..] = self.insns_from(at) else {
+            return None;
+        };
+        if !adds_header(*number, *length, *add, *copy) || !is_indirect(load.code) {
+            return None;
+        }
+        if self.landing_at(behind(at, 4)).index {
             return None;
         }
         let k = number.k.wrapping_add(load.k);
-        Some((length, Insn { k, ..load }))
+        Some((*length, Insn { k, ..*load }))
     }
 
     /// An instruction in front replaces this one too.
