@@ -22,6 +22,14 @@ const NOWHERE: Landing = Landing {
     index: false,
 };
 
+/// Where no instruction stands yet.
+const EMPTY: Insn = Insn {
+    code: 0,
+    jt: 0,
+    jf: 0,
+    k: 0,
+};
+
 /// A landing at a place in front of another one, by what the instruction there reads and sets.
 fn landing_before(operation: Operation, place: usize, next: Landing) -> Landing {
     Landing {
@@ -91,14 +99,25 @@ fn direct_code(indirect: u16) -> Option<u16> {
 /// Code that grows from its end to its beginning, while the old code is read so. Where something is
 /// too far, an instruction lands nowhere, and then neither do those that go on there.
 #[derive(Drop)]
-struct Shortening<'a, A: Allocator> {
+struct Shortening<'a> {
     insns: &'a [Insn],
-    landings: Vec<Landing, A>,
-    backwards: Vec<Insn, A>,
+    landings: &'a mut [Landing],
+    /// The new code, from its last instruction to its first. It has room for as many as the old
+    /// one; a program that needs more isn't taken.
+    backwards: &'a mut [Insn],
+    len: usize,
     merges: bool,
 }
 
-impl<A: Allocator> Shortening<'_, A> {
+impl Shortening<'_> {
+    /// One more instruction, in front of the others.
+    fn push(&mut self, insn: Insn) {
+        if let Some(free) = self.backwards.get_mut(self.len) {
+            *free = insn;
+            self.len = self.len.saturating_add(1);
+        }
+    }
+
     fn insn_at(&self, at: usize) -> Option<Insn> {
         self.insns.get(at).copied()
     }
@@ -205,10 +224,7 @@ impl<A: Allocator> Shortening<'_, A> {
 
     /// The place of such a test with such targets, if there is one.
     fn same_test(&self, insn: Insn, yes: usize, no: usize) -> Option<usize> {
-        let high = self
-            .backwards
-            .len()
-            .min(yes.min(no).saturating_add(NEAR + 1));
+        let high = self.len.min(yes.min(no).saturating_add(NEAR + 1));
         for at in (yes.max(no)..high).rev() {
             if let Some(other) = self.backwards.get(at) {
                 let leads_there = usize::from(other.jt) == at.saturating_sub(yes)
@@ -222,19 +238,13 @@ impl<A: Allocator> Shortening<'_, A> {
     }
 
     /// A test that goes on where two instructions of the old code land.
-    fn emit_test(
-        &mut self,
-        at: usize,
-        insn: Insn,
-        yes: usize,
-        no: usize,
-    ) -> Result<(), AllocError> {
+    fn emit_test(&mut self, at: usize, insn: Insn, yes: usize, no: usize) {
         let (yes, no) = (self.landing_at(yes), self.landing_at(no));
         let Some(operation) = decode(insn.code) else {
-            return Ok(());
+            return;
         };
         if yes.place == 0 || no.place == 0 {
-            return Ok(());
+            return;
         }
         let next = Landing {
             place: 0,
@@ -244,21 +254,20 @@ impl<A: Allocator> Shortening<'_, A> {
         if self.merges {
             if let Some(place) = self.same_test(insn, yes.place, no.place) {
                 self.land(at, landing_before(operation, place, next));
-                return Ok(());
+                return;
             }
         }
-        let top = self.backwards.len();
+        let top = self.len;
         let offsets = (top.saturating_sub(yes.place), top.saturating_sub(no.place));
         if let Some(test) = reaching(insn, offsets.0, offsets.1) {
-            self.backwards.push(test)?;
+            self.push(test);
             self.land(at, landing_before(operation, behind(top, 0), next));
         }
-        Ok(())
     }
 
     /// The block that an instruction lands in, from there to its end, is emitted again in front.
-    fn emit_again(&mut self, from: usize) -> Result<(), AllocError> {
-        let (place, top) = (self.landing_at(from).place, self.backwards.len());
+    fn emit_again(&mut self, from: usize) {
+        let (place, top) = (self.landing_at(from).place, self.len);
         let mut low = place;
         for at in (0..place).rev() {
             low = at;
@@ -269,15 +278,14 @@ impl<A: Allocator> Shortening<'_, A> {
         let farther = top.saturating_sub(low);
         for at in low..place {
             let Some(insn) = self.backwards.get(at).copied() else {
-                return Ok(());
+                return;
             };
             let Some(insn) = in_front(insn, farther) else {
-                return Ok(());
+                return;
             };
-            self.backwards.push(insn)?;
+            self.push(insn);
         }
         self.move_block(from, farther);
-        Ok(())
     }
 
     /// The instructions of a block of the old code, from one to the last, land farther in front.
@@ -302,37 +310,36 @@ impl<A: Allocator> Shortening<'_, A> {
     }
 
     /// Another instruction, behind which the run goes on where one of the old code lands.
-    fn emit_plain(&mut self, at: usize, insn: Insn, next: usize) -> Result<(), AllocError> {
+    fn emit_plain(&mut self, at: usize, insn: Insn, next: usize) {
         let landing = self.landing_at(next);
         let Some(operation) = decode(insn.code) else {
-            return Ok(());
+            return;
         };
         if landing.place == 0 {
-            return Ok(());
+            return;
         }
-        if landing.place < self.backwards.len() {
+        if landing.place < self.len {
             if self.is_at(landing.place, insn) {
                 let place = behind(landing.place, 0);
                 self.land(at, landing_before(operation, place, landing));
-                return Ok(());
+                return;
             }
-            self.emit_again(next)?;
+            self.emit_again(next);
         }
-        self.backwards.push(insn)?;
-        let place = self.backwards.len();
+        self.push(insn);
+        let place = self.len;
         self.land(at, landing_before(operation, place, landing));
-        Ok(())
     }
 
     /// One more instruction of the old code is read.
-    fn read(&mut self, at: usize) -> Result<(), AllocError> {
+    fn read(&mut self, at: usize) {
         let Some(insn) = self.insn_at(at) else {
-            return Ok(());
+            return;
         };
         let is_reached = self.landing_at(at).place > 0;
         self.land(at, NOWHERE);
         if !is_reached || self.is_joined(at) {
-            return Ok(());
+            return;
         }
         if let Some(test) = self.bits_at(at) {
             let (yes, no) = (1 + usize::from(test.jt), 1 + usize::from(test.jf));
@@ -342,7 +349,7 @@ impl<A: Allocator> Shortening<'_, A> {
             return self.emit_plain(at, load, behind(at, 2));
         }
         if let Some((length, load)) = self.header_load_at(at) {
-            self.emit_plain(at, load, behind(at, 4))?;
+            self.emit_plain(at, load, behind(at, 4));
             return self.emit_plain(at, length, at);
         }
         match decode(insn.code) {
@@ -351,13 +358,21 @@ impl<A: Allocator> Shortening<'_, A> {
                 self.emit_test(at, insn, behind(at, yes), behind(at, no))
             }
             Some(operation @ (Operation::ReturnConstant | Operation::ReturnAccumulator)) => {
-                self.backwards.push(insn)?;
-                let place = self.backwards.len();
+                self.push(insn);
+                let place = self.len;
                 self.land(at, landing_before(operation, place, NOWHERE));
-                Ok(())
             }
             _ => self.emit_plain(at, insn, behind(at, 0)),
         }
+    }
+
+    /// The whole old code is read. Returns how many instructions the new one has.
+    fn read_all(&mut self) -> usize {
+        self.reach_all();
+        for at in (0..self.insns.len()).rev() {
+            self.read(at);
+        }
+        self.len
     }
 }
 
@@ -370,24 +385,17 @@ fn attempt<A: Allocator + Clone>(
     ensures { IfOk result
         (λ outcome. IfSome outcome (λ short. Replaces short.items insns.now)) }
 {
-    let landings = vec![in alloc.clone()?; NOWHERE; insns.len()]?;
-    let backwards = Vec::with_capacity(alloc, insns.len())?;
+    let mut landings = vec![in alloc.clone()?; NOWHERE; insns.len()]?;
+    let mut backwards = vec![in alloc; EMPTY; insns.len()]?;
     let mut shortening = Shortening {
         insns,
-        landings,
-        backwards,
+        landings: &mut landings,
+        backwards: &mut backwards,
+        len: 0,
         merges,
     };
-    shortening.reach_all();
-    for at in (0..insns.len()).rev() {
-        shortening.read(at)?;
-    }
-    let Shortening {
-        insns: _,
-        landings,
-        mut backwards,
-        merges: _,
-    } = shortening;
+    let len = shortening.read_all();
+    backwards.truncate(len);
     backwards.reverse();
     if replaces(&backwards, insns, &landings) {
         Ok(Some(backwards))
