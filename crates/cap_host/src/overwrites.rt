@@ -1,6 +1,6 @@
 //! Outputs that are a file which is read too, under another name or through links.
 ghost use Rattle.std.specs.Prelude.{◌≡◌, false, true, is_none, option_map, string_bytes, vec_len};
-ghost use Rattle.capkit_main.specs.Streams.{input_path, output_path};
+ghost use Rattle.cap_host.specs.Streams.{input_path, output_path};
 
 use crate::files::{Identify, Identity};
 use capkit::{Line, STANDARD};
@@ -12,7 +12,7 @@ const STANDARD_INPUT: &str = "/dev/stdin";
 const STANDARD_OUTPUT: &str = "/dev/stdout";
 
 /// The path of the input of this name.
-pub fn input_path(name: &str) -> &str
+pub(crate) fn input_path(name: &str) -> &str
     ensures { result.now ≡ input_path name.now }
 {
     if name == STANDARD {
@@ -23,7 +23,7 @@ pub fn input_path(name: &str) -> &str
 }
 
 /// The path of the output of this name; of standard output where there is none.
-pub fn output_path(name: Option<&str>) -> &str
+pub(crate) fn output_path(name: Option<&str>) -> &str
     ensures { result.now ≡ output_path (option_map (λ name. name.now) name.entry) }
 {
     match name {

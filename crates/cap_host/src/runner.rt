@@ -8,14 +8,14 @@ ghost use Rattle.std.specs.IoError.{error_kind};
 ghost use Rattle.std.specs.Result.{result_ok};
 ghost use Rattle.cap_filter.specs.Command.{is_proper};
 ghost use Rattle.capkit.specs.Line.{has_expression, is_ready, with_code};
-ghost use Rattle.capkit_main.specs.Ending.{has_failed, is_unread, status_by};
-ghost use Rattle.capkit_main.specs.Streams.{is_kept};
+ghost use Rattle.cap_host.specs.Ending.{has_failed, is_unread, status_by};
+ghost use Rattle.cap_host.specs.Streams.{is_kept};
 
 use crate::held::{Buffering, Held, Outlet, buffering_of, is_waited_for};
-use crate::message::Shown;
+use crate::message::{Shown, tell};
 use crate::progress::{Counted, Progress};
 use crate::streams::{Created, Opened};
-use crate::{FAULT, USAGE, tell};
+use crate::{FAULT, USAGE};
 use cap_filter::Command;
 use cap_octet::{Input, Output, StdInput, StdOutput};
 use capkit::{Line, STANDARD, with_code};
@@ -30,13 +30,15 @@ const BUFFER: usize = 65_536;
 /// is known.
 const LISTING_ROOM: u64 = 1_048_577;
 
-pub(crate) type Source<'a> = StdInput<Counted<'a, Opened>>;
+/// An input as the job reads it, behind its buffer.
+pub type Source<'a> = StdInput<Counted<'a, Opened>>;
 
-pub(crate) type Target<'a> = BufWriter<Outlet<'a>>;
+/// The output as the job writes it, behind its buffer.
+pub type Target<'a> = BufWriter<Outlet<'a>>;
 
 /// Why a command was not run to its end.
 #[derive(Drop)]
-pub(crate) enum Stop<'a> {
+pub enum Stop<'a> {
     /// The input of this name can't be opened.
     CannotOpen(&'a str),
     /// The output of this name can't be created.
@@ -70,7 +72,7 @@ impl<T: Drop> From<AllocFailed<T>> for Stop<'_> {
 }
 
 /// The first bytes of the listing of this name. One that can't be read to its end can't be opened.
-pub(crate) fn read_listing<'a>(rt: &HostRuntime, name: &'a str) -> Result<Vec<u8>, Stop<'a>> {
+pub fn read_listing<'a>(rt: &HostRuntime, name: &'a str) -> Result<Vec<u8>, Stop<'a>> {
     let Ok(opened) = Opened::open(rt, name) else {
         return Err(Stop::CannotOpen(name));
     };
@@ -83,7 +85,7 @@ pub(crate) fn read_listing<'a>(rt: &HostRuntime, name: &'a str) -> Result<Vec<u8
 }
 
 /// The command with the bytes of its listing, where one is named.
-pub(crate) fn with_listing<'a>(
+fn with_listing<'a>(
     rt: &HostRuntime,
     command: Command,
     listing: Option<&'a str>,
@@ -111,7 +113,7 @@ fn buffered<'a, T: Drop>(made: io::Result<T>) -> Result<T, Stop<'a>>
 }
 
 /// Opens the inputs in order.
-pub(crate) fn open<'a, 'p>(
+pub fn open<'a, 'p>(
     rt: &HostRuntime,
     names: &'a [String],
     progress: &'p Progress<'p>,
@@ -133,7 +135,7 @@ pub(crate) fn open<'a, 'p>(
 }
 
 /// Creates the output.
-pub(crate) fn create<'a>(rt: &HostRuntime, name: &'a str) -> Result<Created, Stop<'a>> {
+pub fn create<'a>(rt: &HostRuntime, name: &'a str) -> Result<Created, Stop<'a>> {
     match Created::create(rt, name) {
         Ok(created) => Ok(created),
         Err(_) => Err(Stop::CannotCreate(name)),
@@ -141,7 +143,7 @@ pub(crate) fn create<'a>(rt: &HostRuntime, name: &'a str) -> Result<Created, Sto
 }
 
 /// The output with its buffer. What is waited for goes into the buffer that reads write out.
-pub(crate) fn target<'a, 'h>(
+pub fn target<'a, 'h>(
     rt: &HostRuntime,
     created: Created,
     is_waited_for: bool,
@@ -201,7 +203,7 @@ fn run_job<I: Input + Drop, O: Output, E: Output>(
 }
 
 /// Writes what is buffered, and tells the run's message and how its output ended.
-pub(crate) fn finish<'a, W: Write + Drop>(
+pub fn finish<'a, W: Write + Drop>(
     status: u8,
     target: StdOutput<Outlet<'_>>,
     messages: StdOutput<W>,
@@ -240,7 +242,7 @@ fn leave(status: u8, output: &mut Created) -> io::Result<()>
 }
 
 /// Writes what is buffered, and decides over what the output held before.
-pub(crate) fn settle(status: u8, target: &mut Target<'_>) -> io::Result<()> {
+pub fn settle(status: u8, target: &mut Target<'_>) -> io::Result<()> {
     if let Outlet::Direct(created) = target.get_mut() {
         leave(status, created)?;
     }
@@ -286,7 +288,7 @@ fn status_by(status: u8, cause: Option<ErrorKind>, flushed: Option<ErrorKind>) -
 ///
 /// Where the reader of a pipe went away, as of `| head`, nobody hears that the rest can't be
 /// written.
-pub(crate) fn end<'a, W: Write>(
+pub fn end<'a, W: Write>(
     errors: &mut W,
     status: u8,
     causes: (Option<ErrorKind>, Option<ErrorKind>),
@@ -305,7 +307,7 @@ pub(crate) fn end<'a, W: Write>(
 }
 
 /// Reports the stop, and returns its status.
-pub(crate) fn stopped(rt: &impl Eprint, stop: Stop<'_>) -> u8
+pub fn stopped(rt: &impl Eprint, stop: Stop<'_>) -> u8
     ensures { result ≡ 1 }
 {
     tell(rt, stop);
@@ -323,7 +325,7 @@ fn output_name(output: &Option<String>) -> &str
 }
 
 /// Opens the inputs in order, creates the output, runs the command, and returns its status.
-pub(crate) fn run_command(
+pub fn run_command(
     rt: &HostRuntime,
     command: Command,
     names: Vec<String>,

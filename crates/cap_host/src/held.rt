@@ -27,7 +27,7 @@ pub fn is_waited_for(files: &impl Identify, names: &[String], output: &str) -> b
 
 /// When what a run writes leaves its buffer.
 #[derive(Drop)]
-pub enum Buffering {
+pub(crate) enum Buffering {
     /// At once: a terminal shows each line, report or listing as it is written.
     AtOnce,
     BeforeReads,
@@ -35,7 +35,7 @@ pub enum Buffering {
 }
 
 /// When an output's buffer is written out.
-pub fn buffering_of(is_terminal: bool, is_waited_for: bool) -> Buffering
+pub(crate) fn buffering_of(is_terminal: bool, is_waited_for: bool) -> Buffering
     ensures terminal { is_terminal ≡ true → result ≡ Buffering.AtOnce }
     ensures read { is_terminal ≡ false → is_waited_for ≡ true → result ≡ Buffering.BeforeReads }
     ensures full { is_terminal ≡ false → is_waited_for ≡ false → result ≡ Buffering.WhenFull }
@@ -67,13 +67,13 @@ impl Held {
     }
 
     /// Holds back what is written until the next read.
-    pub fn hold(&self, writer: BufWriter<Created>) {
+    pub(crate) fn hold(&self, writer: BufWriter<Created>) {
         let _ = self.writer.try_replace(Some(writer));
     }
 
     /// Writes out what is held back, before a read that may wait. A failure is told to the next
     /// write.
-    pub fn release(&self) {
+    pub(crate) fn release(&self) {
         if let Err(error) = self.flush() {
             self.failure.set(Some(error.kind()));
         }

@@ -3,7 +3,7 @@ ghost use Rattle.std.specs.Prelude.{◌≡◌, ◌||◌, IfOk, OnOk, None, false
 ghost use Rattle.std.specs.Io.{WritesAtMost};
 ghost use Rattle.std.specs.Io.KnownBytes.{WriteAppends};
 ghost use Rattle.capkit.specs.Names.{is_standard};
-ghost use Rattle.capkit_main.specs.Streams.{is_kept, is_standard_input, is_standard_output};
+ghost use Rattle.cap_host.specs.Streams.{is_kept, is_standard_input, is_standard_output};
 
 use capkit::STANDARD;
 use std::fs::{self, File, OpenOptions};
@@ -18,7 +18,7 @@ pub enum Opened {
 
 impl Opened {
     /// Opens the file of that name, or standard input. The error is the system's.
-    pub fn open(rt: &HostRuntime, name: &str) -> io::Result<Opened>
+    pub(crate) fn open(rt: &HostRuntime, name: &str) -> io::Result<Opened>
         ensures { IfOk result (λ opened. is_standard_input opened ≡ is_standard name.now) }
     {
         if name == STANDARD {
@@ -54,7 +54,7 @@ pub enum Created<S = Stdout> {
 impl Created {
     /// Creates the file of that name, or opens it with what it holds; or takes standard output. The
     /// error is the system's.
-    pub fn create(rt: &HostRuntime, name: &str) -> io::Result<Created>
+    pub(crate) fn create(rt: &HostRuntime, name: &str) -> io::Result<Created>
         ensures standard { IfOk result (λ created. is_standard_output created
             ≡ is_standard name.now) }
         ensures kept { IfOk result (λ created. is_kept created ≡ not (is_standard name.now)) }
@@ -74,7 +74,7 @@ impl<S> Created<S> {
     /// Removes what a plain file held before it was opened. Later calls do nothing.
     ///
     /// A device and a pipe hold nothing that could be removed.
-    pub fn empty(&mut self) -> io::Result<()>
+    pub(crate) fn empty(&mut self) -> io::Result<()>
         ensures emptied { OnOk result (is_kept self.new ≡ false) }
         ensures again { is_kept self.old ≡ false → self.new ≡ self.old }
         ensures failed { is_err result ≡ true → self.new ≡ self.old }

@@ -16,7 +16,7 @@ const MIB: u64 = 1_048_576;
 
 /// The size of all files of these names. 0 where one is no plain file, so that its size isn't
 /// known.
-pub(crate) fn total_size(rt: &HostRuntime, names: &[String]) -> u64 {
+pub fn total_size(rt: &HostRuntime, names: &[String]) -> u64 {
     let mut total: u64 = 0;
     for name in names {
         match fs::metadata(rt, name) {
@@ -42,7 +42,7 @@ fn is_file(rt: &HostRuntime, output: &str) -> bool {
 }
 
 /// Whether a line can be written over on a terminal of that name.
-pub(crate) fn can_write_over(is_terminal: bool, name: Option<&str>) -> bool {
+pub fn can_write_over(is_terminal: bool, name: Option<&str>) -> bool {
     is_terminal && name != Some("dumb")
 }
 
@@ -72,7 +72,7 @@ pub struct Progress<'a> {
 
 /// When a job begins that shows its progress. None where that could meet lines, or another
 /// program's progress, on the terminal, or where none can be drawn on.
-pub(crate) fn start_of(rt: &HostRuntime, output: &str, is_drawable: bool) -> Option<Instant> {
+pub fn start_of(rt: &HostRuntime, output: &str, is_drawable: bool) -> Option<Instant> {
     if !is_drawable || !is_file(rt, output) {
         return None;
     }
@@ -87,7 +87,7 @@ impl<'a> Progress<'a> {
     }
 
     /// Nothing is read yet of inputs of that size, by a job that began then.
-    pub(crate) fn since(rt: &'a HostRuntime, start: Option<Instant>, total: u64) -> Progress<'a> {
+    pub fn since(rt: &'a HostRuntime, start: Option<Instant>, total: u64) -> Progress<'a> {
         Progress {
             rt,
             start,
@@ -99,7 +99,7 @@ impl<'a> Progress<'a> {
     }
 
     /// Whether it counts, so that it may be shown.
-    pub(crate) fn counts(&self) -> bool {
+    pub fn counts(&self) -> bool {
         self.start.is_some()
     }
 
@@ -114,7 +114,7 @@ impl<'a> Progress<'a> {
     }
 
     /// Counts bytes that were read by that second, and shows progress once a second.
-    pub(crate) fn count_at(&self, terminal: &impl Eprint, bytes: usize, seconds: u64) {
+    pub fn count_at(&self, terminal: &impl Eprint, bytes: usize, seconds: u64) {
         let read = self.read.get().saturating_add(bytes as u64);
         self.read.set(read);
         if seconds >= self.next.get() {
@@ -160,6 +160,7 @@ pub struct Counted<'a, R> {
 }
 
 impl<'a, R: Read> Counted<'a, R> {
+    /// Nothing is read yet.
     pub fn new(reader: R, progress: &'a Progress<'a>, held: &'a Held) -> Self {
         Counted {
             reader,

@@ -2,7 +2,7 @@
 use Rattle.std.proofs.Common.{◌≡◌, ℕ, zero, suc, Bool, true, false, ◌&&◌, ◌||◌, not, nat_eq, nat_lt, refl, string_bytes, length, arith}
 use Rattle.std.proofs.lemmas.Bool.{lt-ltb}
 use Rattle.std.specs.Global.{Global, Vec}
-use Rattle.std.specs.Option.{is_none, option_map_or}
+use Rattle.std.specs.Option.{option_map_or}
 use Rattle.cap_filter.specs.Command.{is_proper, has_one_filter, has_one_output, is_at_least_one}
 use Rattle.cap_filter.specs.declared.command.Command.{Command}
 use Rattle.cap_filter.specs.declared.command.Command.TheVariants as command

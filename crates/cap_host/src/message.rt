@@ -42,3 +42,8 @@ pub fn refusal_text(alloc: Global, error: &clap::Error) -> Result<String, AllocE
     }
     Ok(text)
 }
+
+/// Writes a message to standard error. One that can't be written is lost.
+pub fn tell(rt: &impl Eprint, message: impl fmt::Display + Drop) {
+    let _ = rt.eprintln(format_args!("capkit: {message}"));
+}

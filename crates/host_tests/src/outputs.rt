@@ -1,0 +1,141 @@
+//! When outputs are written, flushed and found to fail.
+ghost use Rattle.std.specs.Prelude.{◌≤◌};
+
+use super::folder::{enter, leave};
+use cap_host::held::{Held, Outlet};
+use cap_host::progress::{Counted, Progress};
+use cap_host::runner::{Stop, Target, create, finish, settle, target};
+use cap_host::streams::Created;
+use cap_octet::StdOutput;
+use std::fs;
+use std::io::{self, BufWriter, Error, ErrorKind, IsTerminal, Read, Write};
+
+/// The buffer before the output of that name.
+fn target_of<'h>(
+    rt: &HostRuntime,
+    name: &str,
+    is_waited_for: bool,
+    held: &'h Held,
+) -> Option<Target<'h>> {
+    let created = create(rt, name).ok()?;
+    target(rt, created, is_waited_for, held).ok()
+}
+
+/// Whether this is the failure of a device that takes nothing.
+fn is_full(failure: Option<Error>) -> bool {
+    matches!(failure, Some(error) if error.kind() == ErrorKind::StorageFull)
+}
+
+/// Whether a run of this status writes what is buffered at its end, and says so where it can't.
+fn makes_last_write(rt: &HostRuntime, status: u8) -> io::Result<bool>
+    requires { status ≤ 2 }
+{
+    let messages = BufWriter::new(rt.alloc(), Vec::new(rt.alloc()))?;
+    let held = Held::new();
+    let Some(mut target) = target_of(rt, "/dev/full", false, &held) else {
+        return Ok(false);
+    };
+    let is_buffered = matches!(target.write(b"a"), Ok(1));
+    let is_written = is_full(settle(status, &mut target).err());
+    let (out, err) = (StdOutput::new(target), StdOutput::new(messages));
+    let ended = finish(status, out, err, "out");
+    Ok(is_buffered && is_written && matches!(ended, Err(Stop::WriteFailed("out"))))
+}
+
+/// What is buffered at the end of a run is written, whatever its status; and where it can't be, the
+/// run says so.
+#[test]
+fn last_writes_are_made(rt: HostRuntime) {
+    for status in 0..3 {
+        assert!(rt;
+            matches!(makes_last_write(&rt, status), Ok(true)),
+            "{status}"
+        );
+    }
+}
+
+/// Whether an output is written before a read if it is waited for, and else when it is flushed.
+fn is_written_in_time(rt: &HostRuntime, is_waited_for: bool) -> bool {
+    let progress = Progress::since(rt, None, 0);
+    let held = Held::new();
+    let Some(mut target) = target_of(rt, "/dev/full", is_waited_for, &held) else {
+        return false;
+    };
+    let is_buffered = matches!(target.write(b"a"), Ok(1));
+    let mut reader = Counted::new(b"cd".as_slice(), &progress, &held);
+    let is_read = matches!(reader.read(&mut [0u8; 2]), Ok(2));
+    let is_failed = is_full(target.write(b"b").err());
+    let is_flushed = is_full(target.flush().err());
+    is_buffered && is_read && is_failed == is_waited_for && is_flushed
+}
+
+/// What is waited for is written before a read, whose failure is told to the next write. Other
+/// outputs are written where their buffer is full.
+#[test]
+fn failures_before_reads_are_told(rt: HostRuntime) {
+    assert!(rt; is_written_in_time(&rt, true));
+    assert!(rt; is_written_in_time(&rt, false));
+}
+
+/// A stream that takes all, whose flush fails, and that is a terminal.
+#[derive(Drop)]
+struct Unflushed;
+
+impl Write for Unflushed {
+    fn write(&mut self, buf: &[u8]) -> io::Result<usize> {
+        Ok(buf.len())
+    }
+
+    fn flush(&mut self) -> io::Result<()> {
+        Err(Error::from(ErrorKind::StorageFull))
+    }
+}
+
+impl IsTerminal for Unflushed {
+    fn is_terminal(&self) -> bool {
+        true
+    }
+}
+
+/// Whether an output passes everything on to a stream.
+fn passes_on() -> bool {
+    let mut stream = Created::Stream(Unflushed);
+    let is_written = matches!(stream.write(b"a"), Ok(1));
+    is_written && is_full(stream.flush().err()) && stream.is_terminal()
+}
+
+/// An output, whether it is waited for, the room of its buffer, and whether that is its own.
+type Buffer = (&'static str, bool, usize, bool);
+
+const BUFFERS: [Buffer; 4] = [
+    ("out", false, 65_536, true),
+    ("out", true, 0, false),
+    ("/dev/ptmx", false, 0, true),
+    ("/dev/ptmx", true, 0, true),
+];
+
+/// Whether an output has this buffer.
+fn has_buffer(rt: &HostRuntime, row: Buffer) -> bool {
+    let (name, is_waited_for, room, is_direct) = row;
+    let held = Held::new();
+    match target_of(rt, name, is_waited_for, &held) {
+        Some(mut target) => {
+            target.capacity() == room && matches!(target.get_mut(), Outlet::Direct(_)) == is_direct
+        }
+        None => false,
+    }
+}
+
+/// A terminal gets each write at once, under a name too. `/dev/ptmx` is one where the machine has
+/// it.
+#[test]
+fn terminals_are_known(rt: HostRuntime) {
+    assert!(rt; passes_on());
+    assert!(rt; enter(&rt, "terminals").is_ok());
+    let is_without = matches!(fs::exists(&rt, "/dev/ptmx"), Ok(false));
+    for row in BUFFERS {
+        let is_absent = is_without && row.0 != "out";
+        assert!(rt; is_absent || has_buffer(&rt, row), "{} {}", row.0, row.1);
+    }
+    assert!(rt; leave(&rt).is_ok());
+}

@@ -1,0 +1,131 @@
+//! The line of progress.
+
+use super::folder::{CAPTURE, LISTING, enter, leave, line_of, words_of};
+use super::streams::Streams;
+use cap_host::held::{Held, Outlet};
+use cap_host::progress::{Progress, can_write_over, start_of, total_size};
+use cap_host::runner::run_command;
+use capkit::Line;
+use std::alloc::{AllocError, Global};
+use std::io::{IsTerminal, Write};
+use std::time::Instant;
+
+/// The bytes of a MiB.
+const MIB: usize = 1_048_576;
+
+/// Reads of a job, in order: whether the size of all inputs is known, the bytes that are read, by
+/// which second, and the line that is shown then.
+type Read = (bool, usize, u64, &'static str);
+
+const READS: [Read; 6] = [
+    (true, 10 * MIB, 1, ""),
+    (true, 90 * MIB, 2, "\r\x1b[K50% read, 50 MiB/s"),
+    (true, 20 * MIB, 2, ""),
+    (true, 0, 3, "\r\x1b[K60% read, 40 MiB/s"),
+    (true, 200 * MIB, 10, "\r\x1b[K100% read, 32 MiB/s"),
+    (false, 7 * MIB, 3, "\r\x1b[K7 MiB read, 2 MiB/s"),
+];
+
+/// Whether a read shows its line, which is erased then.
+fn shows(alloc: Global, progress: &Progress<'_>, row: Read) -> bool {
+    let (_, bytes, seconds, line) = row;
+    let streams = Streams::new(alloc, None);
+    progress.count_at(&streams, bytes, seconds);
+    let is_shown = streams.have("", line);
+    let streams = Streams::new(alloc, None);
+    progress.erase(&streams);
+    let erasure = if line.is_empty() { "" } else { "\r\x1b[K" };
+    is_shown && streams.have("", erasure)
+}
+
+/// The line is shown from second 2 on, once a second, and erased where it stands.
+#[test]
+fn progress_is_shown_once_a_second(rt: HostRuntime) {
+    let known = Progress::since(&rt, None, 209_715_200);
+    let unknown = Progress::since(&rt, None, 0);
+    for row in READS {
+        let progress = if row.0 { &known } else { &unknown };
+        assert!(rt; shows(rt.alloc(), progress, row), "{}", row.3);
+    }
+}
+
+/// Inputs, and the size of all of them.
+const SIZES: [(&str, u64); 4] = [
+    ("in code", CAPTURE.len() as u64 + LISTING.len() as u64),
+    ("in -", 0),
+    ("in /dev/null", 0),
+    ("none in", 0),
+];
+
+/// Whether inputs have this size, and progress over them is shown on a terminal alone.
+fn has_size(rt: &HostRuntime, inputs: &str, size: u64) -> Result<bool, AllocError> {
+    let names = words_of(rt.alloc(), inputs)?;
+    let counts = Progress::new(rt, names.as_slice(), "new").counts();
+    Ok(total_size(rt, names.as_slice()) == size && (!counts || rt.stderr().is_terminal()))
+}
+
+/// Whether standard error is a terminal, its name, and whether a line can be written over on it.
+const TERMINALS: [(bool, Option<&str>, bool); 4] = [
+    (true, Some("xterm"), true),
+    (true, None, true),
+    (true, Some("dumb"), false),
+    (false, Some("xterm"), false),
+];
+
+/// Progress is shown on a terminal that can be written over, where the output is a file, be it a
+/// new one. The size of all inputs is known if they are plain files.
+#[test]
+fn progress_is_of_plain_files(rt: HostRuntime) {
+    assert!(rt; enter(&rt, "progress").is_ok());
+    for (inputs, size) in SIZES {
+        assert!(rt; matches!(has_size(&rt, inputs, size), Ok(true)), "{inputs}");
+    }
+    for (output, wanted) in [
+        ("-", false),
+        ("/dev/null", false),
+        ("/none", true),
+        ("in", true),
+    ] {
+        assert!(rt; start_of(&rt, output, true).is_some() == wanted, "{output}");
+        assert!(rt; start_of(&rt, output, false).is_none(), "{output}");
+    }
+    for (is_terminal, name, wanted) in TERMINALS {
+        assert!(rt; can_write_over(is_terminal, name) == wanted, "{name:?}");
+    }
+    assert!(rt; leave(&rt).is_ok());
+}
+
+/// Whether a run counts what it reads, erases the line that stands, and holds back what is waited
+/// for.
+fn counts_and_holds_back(rt: &HostRuntime) -> bool {
+    let Some(line) = line_of(rt.alloc(), "merge -w - in /dev/null") else {
+        return false;
+    };
+    let Line {
+        command,
+        inputs,
+        output: _,
+        code: _,
+    } = line;
+    let progress = Progress::since(rt, Instant::now(rt).ok(), 2 * CAPTURE.len() as u64);
+    let held = Held::new();
+    let streams = Streams::new(rt.alloc(), None);
+    progress.count_at(&streams, 0, 2);
+    let is_begun = streams.have("", "\r\x1b[K0% read, 0 MiB/s");
+    let is_fault = run_command(rt, command, inputs, "/dev/full", &progress, &held) == 1;
+    let streams = Streams::new(rt.alloc(), None);
+    progress.erase(&streams);
+    let is_erased = streams.have("", "");
+    progress.count_at(&streams, 0, 3);
+    let is_counted = streams.have("", "\r\x1b[K50% read, 0 MiB/s");
+    let is_held = matches!(Outlet::Held(&held).write(b"a"), Ok(1));
+    is_begun && is_fault && is_erased && is_counted && is_held
+}
+
+/// A run counts what it reads, erases the line that stands, and holds back what is waited for.
+#[test]
+fn runs_count_and_hold_back(rt: HostRuntime) {
+    assert!(rt; enter(&rt, "counted").is_ok());
+    assert!(rt; counts_and_holds_back(&rt));
+    assert!(rt; leave(&rt).is_ok());
+}

@@ -1,0 +1,171 @@
+//! What is told to a user, and how.
+
+use super::folder::words_of;
+use super::streams::Streams;
+use cap_host::message::{Shown, refusal_text};
+use cap_host::refusal::{refuse, tell_refusal};
+use cap_host::runner::{Stop, end, stopped};
+use cap_host::words::with_help_option;
+use capkit::{Usage, command_of};
+use std::alloc::{AllocError, Global};
+use std::io::ErrorKind;
+
+const FULL: Option<ErrorKind> = Some(ErrorKind::StorageFull);
+
+const CLOSED: Option<ErrorKind> = Some(ErrorKind::BrokenPipe);
+
+/// What a run tells of a name with a control character.
+const TOLD: &str = "capkit: a\\x1b: truncated\n";
+
+/// The end of a run: why its writes failed and its last write did, its status, and what is told.
+type Ending = (
+    (Option<ErrorKind>, Option<ErrorKind>),
+    Option<u8>,
+    &'static str,
+);
+
+const ENDINGS: [Ending; 6] = [
+    ((None, None), Some(0), TOLD),
+    ((FULL, None), Some(1), TOLD),
+    ((FULL, CLOSED), Some(1), ""),
+    ((CLOSED, None), Some(1), ""),
+    ((None, CLOSED), Some(1), TOLD),
+    ((None, FULL), None, TOLD),
+];
+
+/// Whether a run ends as the row says.
+fn is_ended(alloc: Global, row: Ending) -> bool {
+    let (causes, status, told) = row;
+    let mut errors = Vec::new(alloc);
+    let ended = end(&mut errors, 0, causes, b"capkit: a\x1b: truncated\n", "out");
+    ended.ok() == status && errors.as_slice() == told.as_bytes()
+}
+
+/// The message of a run is told, but where its reader went away, with the numbers of its control
+/// characters. No failed write is a success.
+#[test]
+fn messages_of_runs_are_told(rt: HostRuntime) {
+    for row in ENDINGS {
+        assert!(rt; is_ended(rt.alloc(), row), "{:?} {}", row.1, row.2);
+    }
+}
+
+/// Texts, and how they are shown.
+const SHOWN: [(&str, &str); 3] = [
+    ("caf\u{e9} 1.pcap", "caf\u{e9} 1.pcap"),
+    ("a\nb\x1b[31m", "a\\x0ab\\x1b[31m"),
+    ("\x7f\u{9b}", "\\x7f\\x9b"),
+];
+
+/// Whether a text is shown so.
+fn is_shown_as(alloc: Global, text: &str, wanted: &str) -> bool {
+    let shown = format!(in alloc; "{}", Shown { text });
+    matches!(shown, Ok(shown) if shown.as_str() == wanted)
+}
+
+/// What a terminal would obey is shown by its number.
+#[test]
+fn control_characters_are_shown(rt: HostRuntime) {
+    for (text, wanted) in SHOWN {
+        assert!(rt; is_shown_as(rt.alloc(), text, wanted), "{wanted}");
+    }
+}
+
+/// Why the words are no line. None where they are one, or memory ran out.
+fn usage_of(alloc: Global, words: &str) -> Option<Usage> {
+    let words = words_of(alloc, words).ok()?;
+    command_of(alloc, words).err()
+}
+
+/// Whether clap's refusal of the words is told: why in the first line, and with a tip or without.
+fn is_refused(alloc: Global, words: &str, has_tip: bool) -> bool {
+    let Some(Usage::Refused(error)) = usage_of(alloc, words) else {
+        return false;
+    };
+    let streams = (Streams::new(alloc, None), alloc);
+    tell_refusal(&streams, &error);
+    match refusal_text(alloc, &error) {
+        Ok(text) => {
+            let is_text = text.starts_with("error: ") && text.contains("tip: ") == has_tip;
+            is_text && streams.0.have("", &text)
+        }
+        Err(_) => false,
+    }
+}
+
+/// Advice that can be followed stays.
+#[test]
+fn advice_that_fails_is_left_out(rt: HostRuntime) {
+    assert!(rt; is_refused(rt.alloc(), "print -r in", false));
+    assert!(rt; is_refused(rt.alloc(), "edit --latter 5 in out", true));
+}
+
+/// How standard output fails, if it does, the status of a request for the version, and what is
+/// written to standard error.
+const ANSWERS: [(Option<ErrorKind>, u8, &str); 3] = [
+    (None, 0, ""),
+    (FULL, 1, "capkit: -: write failed\n"),
+    (CLOSED, 1, ""),
+];
+
+/// Whether the version is told, and what becomes of it where it can't be.
+fn is_answered(
+    alloc: Global,
+    failure: Option<ErrorKind>,
+    status: u8,
+    errors: &str,
+) -> Option<bool> {
+    let usage = usage_of(alloc, "--version")?;
+    let text = format!(in alloc; "{usage}").ok()?;
+    let streams = (Streams::new(alloc, failure), alloc);
+    let is_status = refuse(&streams, usage) == status;
+    let output = if failure.is_none() { text.as_str() } else { "" };
+    Some(is_status && streams.0.have(output, errors))
+}
+
+/// Whether each fault is reported to standard error, with its status.
+fn are_faults_told(alloc: Global) -> bool {
+    let streams = (Streams::new(alloc, None), alloc);
+    let are_statuses = refuse(&streams, Usage::BadRange) == 2
+        && refuse(&streams, Usage::Memory) == 1
+        && stopped(&streams, Stop::CannotOpen("in")) == 1;
+    let errors = "capkit: usage: bad range\ncapkit: no memory\ncapkit: in: cannot open\n";
+    are_statuses && streams.0.have("", errors)
+}
+
+/// What a user asks for goes to standard output, and all else to standard error. An answer that
+/// can't be written is a fault, which is told but where its reader went away.
+#[test]
+fn faults_and_answers_are_told(rt: HostRuntime) {
+    for (failure, status, errors) in ANSWERS {
+        let is_answered = is_answered(rt.alloc(), failure, status, errors);
+        assert!(rt; is_answered == Some(true), "{status} {errors}");
+    }
+    assert!(rt; are_faults_told(rt.alloc()));
+}
+
+/// Words as they are typed, and as they are read.
+const HELP: [(&str, &str); 4] = [
+    ("help", "--help"),
+    ("help edit", "edit --help"),
+    ("infos help", "infos help"),
+    ("", ""),
+];
+
+/// Whether words are read so.
+fn is_read_as(alloc: Global, words: &str, wanted: &str) -> Result<bool, AllocError> {
+    let wanted = words_of(alloc, wanted)?;
+    let words = words_of(alloc, words)?;
+    Ok(with_help_option(alloc, words)? == wanted)
+}
+
+/// `help` is read as `--help` of the command that follows it, and of the program where none does.
+#[test]
+fn help_is_an_option(rt: HostRuntime) {
+    for (words, wanted) in HELP {
+        assert!(rt;
+            matches!(is_read_as(rt.alloc(), words, wanted), Ok(true)),
+            "{words}"
+        );
+    }
+}
