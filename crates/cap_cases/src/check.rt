@@ -1,6 +1,6 @@
 //! Whether a case holds.
 
-use crate::case::{Case, Kind};
+use crate::case::{Case, Kind, add_word};
 use crate::runs::{Outcome, WHOLE, for_listing, run_line, sound};
 use crate::shown::Difference;
 use crate::sweeps;
@@ -15,6 +15,14 @@ const RAW: u8 = 101;
 
 /// The link type of Linux cooked captures, as LINKTYPE_LINUX_SLL.
 const COOKED: u8 = 113;
+
+/// The words before an expression that packets are printed by.
+const PRINT: [&str; 6] = ["print", "-w", "out", "--format", "pcap", "in"];
+
+/// The words of a print by the case's listing.
+const PRINT_BY_LISTING: [&str; 8] = [
+    "print", "-w", "out", "--format", "pcap", "--code", "listing", "in",
+];
 
 /// What main reports of words that are no line, and its status.
 fn refusal_of(alloc: Global, usage: &Usage) -> Result<(String, u8), AllocError> {
@@ -32,20 +40,31 @@ fn refusal_of(alloc: Global, usage: &Usage) -> Result<(String, u8), AllocError> 
 fn words_of(alloc: Global, first: &[&str], more: &[String]) -> Result<Vec<String>, AllocError> {
     let mut words = Vec::new(alloc);
     for word in first {
-        words.push(String::from_str(alloc, word)?)?;
+        add_word(alloc, &mut words, word)?;
     }
     for word in more {
-        words.push(String::from_str(alloc, word)?)?;
+        add_word(alloc, &mut words, word)?;
     }
     Ok(words)
 }
 
 /// The line of these words, which are to be accepted.
 fn accepted(alloc: Global, first: &[&str], more: &[String]) -> Result<Line, Difference> {
-    match command_of(alloc, words_of(alloc, first, more)?) {
+    let words = words_of(alloc, first, more)?;
+    match command_of(alloc, words) {
         Ok(line) => Ok(line),
         Err(_) => Err(Difference::Text("the words are refused")),
     }
+}
+
+/// Runs the line of these words, and takes a listing.
+fn listing_of(
+    alloc: Global,
+    case: &Case<'_>,
+    (first, more): (&[&str], &[String]),
+) -> Result<Outcome, Difference> {
+    let line = accepted(alloc, first, more)?;
+    run_line(alloc, &line, case, for_listing(case))
 }
 
 /// Runs the line by whole pieces and by one byte a call.
@@ -96,8 +115,8 @@ fn compile_listing(alloc: Global, case: &mut Case<'_>) -> Result<(), Difference>
     if case.compiled.is_empty() {
         return Ok(());
     }
-    let line = accepted(alloc, &[], &case.compiled)?;
-    case.listing = run_line(alloc, &line, case, for_listing(case))?.written;
+    let outcome = listing_of(alloc, case, (&[], &case.compiled))?;
+    case.listing = outcome.written;
     Ok(())
 }
 
@@ -129,25 +148,20 @@ fn link_name(case: &Case<'_>) -> &'static str {
     }
 }
 
-/// What a compilation of the case's expression leaves.
-fn compile(alloc: Global, case: &Case<'_>) -> Result<Outcome, Difference> {
-    let first = ["compile", "--link", link_name(case)];
-    let line = accepted(alloc, &first, &case.words)?;
-    Ok(run_line(alloc, &line, case, for_listing(case))?)
-}
-
-/// Prints by the case's listing.
-fn check_code(alloc: Global, case: &Case<'_>) -> Result<(), Difference> {
-    let print = [
-        "print", "-w", "out", "--format", "pcap", "--code", "listing", "in",
-    ];
-    let line = accepted(alloc, &print, &[])?;
+/// Runs the line of these words, and compares what it leaves with what the case states.
+fn check_by(
+    alloc: Global,
+    case: &Case<'_>,
+    (first, more): (&[&str], &[String]),
+) -> Result<(), Difference> {
+    let line = accepted(alloc, first, more)?;
     check_runs(alloc, case, &line)
 }
 
 /// Compiles the case's expression, and prints by its listing.
 fn check_by_listing(alloc: Global, case: &mut Case<'_>) -> Result<(), Difference> {
-    let compiled = compile(alloc, case)?;
+    let compile = ["compile", "--link", link_name(case)];
+    let compiled = listing_of(alloc, case, (&compile, &case.words))?;
     if case.status == 2 && compiled.is_of(case) {
         return Ok(());
     }
@@ -155,19 +169,13 @@ fn check_by_listing(alloc: Global, case: &mut Case<'_>) -> Result<(), Difference
         return Err(Difference::Outcome(compiled));
     }
     case.listing = compiled.written;
-    check_code(alloc, case)
-}
-
-/// Prints by the case's expression.
-fn check_by_words(alloc: Global, case: &Case<'_>) -> Result<(), Difference> {
-    let print = ["print", "-w", "out", "--format", "pcap", "in"];
-    let line = accepted(alloc, &print, &case.words)?;
-    check_runs(alloc, case, &line)
+    check_by(alloc, case, (&PRINT_BY_LISTING, &[]))
 }
 
 /// Why the case's words are no line.
 fn usage_of(alloc: Global, case: &Case<'_>) -> Result<Usage, Difference> {
-    match command_of(alloc, words_of(alloc, &[], &case.words)?) {
+    let words = words_of(alloc, &[], &case.words)?;
+    match command_of(alloc, words) {
         Ok(_) => Err(Difference::Text("accepted")),
         Err(usage) => Ok(usage),
     }
@@ -185,10 +193,10 @@ fn check_usage(alloc: Global, case: &Case<'_>) -> Result<(), Difference> {
 
 /// Runs the case. An error is what came in place of what it states.
 pub fn check(alloc: Global, case: &mut Case<'_>) -> Result<(), Difference> {
-    match case.kind {
+    match &case.kind {
         Kind::Run => check_words(alloc, case),
         Kind::Filter => {
-            check_by_words(alloc, case)?;
+            check_by(alloc, case, (&PRINT, &case.words))?;
             check_by_listing(alloc, case)
         }
         Kind::Usage => check_usage(alloc, case),

@@ -26,11 +26,11 @@ const MESSAGES: usize = 1_000;
 /// An allocator that counts what is asked of it, and fails where it is told to.
 type Memory = Trial<Global>;
 
-/// The names of a run and its inputs.
-type Ends<'d, 'm> = (
-    Vec<String<&'m Memory>, &'m Memory>,
-    Vec<TrialInput<'d>, &'m Memory>,
-);
+/// The names of a run's inputs and of its output.
+type Names<'m> = Vec<String<&'m Memory>, &'m Memory>;
+
+/// The inputs of a run.
+type Inputs<'d, 'm> = Vec<TrialInput<'d>, &'m Memory>;
 
 /// A job over memory.
 type TrialJob<'d, 'm> = Job<TrialInput<'d>, TrialOutput<'d>, TrialOutput<'d>, &'m Memory>;
@@ -43,10 +43,12 @@ type Left<'d> = (Option<u8>, TrialOutput<'d>, TrialOutput<'d>);
 pub struct Devices {
     /// How many bytes a call moves at most.
     pub piece: usize,
-    /// The number of each input's read that fails, from 1 on, if there is one.
+    /// How many reads of each input are made before one that fails, if one does.
     pub failed_read: Option<u64>,
-    /// The number of the allocation that fails, from 1 on; none at 0.
-    pub failed_allocation: u64,
+    /// How many allocations are made before one that fails, if one does.
+    pub failed_allocation: Option<u64>,
+    /// How many bytes of the case's input are there, at most.
+    pub input: usize,
     /// How many bytes the output takes.
     pub output: usize,
     /// How many bytes of messages are taken.
@@ -77,7 +79,8 @@ pub fn roomy(piece: usize, output: usize) -> Devices {
     Devices {
         piece,
         failed_read: None,
-        failed_allocation: 0,
+        failed_allocation: None,
+        input: usize::MAX,
         output,
         messages: MESSAGES,
         steps: None,
@@ -105,6 +108,26 @@ pub struct Outcome {
     pub allocations: u64,
 }
 
+/// What is behind a text at the start of bytes, if it is there.
+fn behind<'b>(bytes: &'b [u8], text: &str) -> Option<&'b [u8]> {
+    match bytes.split_at_checked(text.len()) {
+        Some((front, rest)) if front == text.as_bytes() => Some(rest),
+        _ => None,
+    }
+}
+
+/// Whether messages are one, of these parts.
+fn is_message(messages: &[u8], parts: &[&str]) -> bool {
+    let mut rest = behind(messages, "capkit: ").unwrap_or_default();
+    for part in parts {
+        match behind(rest, part) {
+            Some(more) => rest = more,
+            None => return false,
+        }
+    }
+    rest == b"\n".as_slice()
+}
+
 impl Outcome {
     /// Whether the run did what the case states.
     pub fn is_of(&self, case: &Case<'_>) -> bool {
@@ -118,6 +141,13 @@ impl Outcome {
     /// Whether the run ended well, whatever it wrote.
     pub fn is_clean(&self) -> bool {
         self.status == Some(0) && self.messages.is_empty()
+    }
+
+    /// Whether the run wrote these bytes and failed, with a message of these parts.
+    pub fn reports(&self, written: &[u8], parts: &[&str]) -> bool {
+        self.status == Some(1)
+            && self.written.as_slice() == written
+            && is_message(&self.messages, parts)
     }
 
     /// Whether the run wrote these bytes and reported this, with this status.
@@ -187,16 +217,22 @@ fn listing_over<'m>(
     }
 }
 
+/// Adds a name.
+fn add_name<'m>(memory: &'m Memory, names: &mut Names<'m>, name: &str) -> Result<(), AllocError> {
+    let name = String::from_str(memory, name)?;
+    match names.push(name) {
+        Ok(()) => Ok(()),
+        Err(_) => Err(AllocError),
+    }
+}
+
 /// The names of the line's inputs and then of its output.
-fn names_over<'m>(
-    memory: &'m Memory,
-    line: &Line,
-) -> Result<Vec<String<&'m Memory>, &'m Memory>, AllocError> {
+fn names_over<'m>(memory: &'m Memory, line: &Line) -> Result<Names<'m>, AllocError> {
     let mut names = Vec::new(memory);
     for name in line.inputs.iter() {
-        names.push(String::from_str(memory, name)?)?;
+        add_name(memory, &mut names, name)?;
     }
-    names.push(String::from_str(memory, output_name(line))?)?;
+    add_name(memory, &mut names, output_name(line))?;
     Ok(names)
 }
 
@@ -214,16 +250,26 @@ fn inputs_over<'m, 'c>(
     line: &Line,
     case: &'c Case<'_>,
     devices: Devices,
-) -> Result<Vec<TrialInput<'c>, &'m Memory>, AllocError> {
+) -> Result<Inputs<'c, 'm>, AllocError> {
     let mut inputs = Vec::new(memory);
+    let input = case.input.get(..devices.input).unwrap_or(&case.input);
+    let piece = devices.piece.max(1);
     for name in line.inputs.iter() {
-        let bytes = case.file(name, &case.input);
-        let piece = devices.piece.max(1);
+        let bytes = case.file(name, input);
         let fails = case.about.is_empty() || name.as_str() == case.about;
-        let failed_read = if fails { devices.failed_read } else { None };
+        let failed_read = if fails {
+            turn_of(devices.failed_read)
+        } else {
+            None
+        };
         inputs.push(TrialInput::new(bytes, piece, failed_read))?;
     }
     Ok(inputs)
+}
+
+/// The number, from 1 on, of what comes after so many others.
+fn turn_of(before: Option<u64>) -> Option<u64> {
+    Some(before?.saturating_add(1))
 }
 
 /// Makes so many steps, closes the job, and returns the status of the last step.
@@ -243,8 +289,8 @@ fn step_on<'d>(mut job: TrialJob<'d, '_>, steps: u64) -> Left<'d> {
 fn run_for<'d, 'm>(
     memory: &'m Memory,
     command: Command<&'m Memory>,
-    names: Vec<String<&'m Memory>, &'m Memory>,
-    inputs: Vec<TrialInput<'d>, &'m Memory>,
+    names: Names<'m>,
+    inputs: Inputs<'d, 'm>,
     (out, err): (TrialOutput<'d>, TrialOutput<'d>),
     steps: Option<u64>,
 ) -> Option<Left<'d>> {
@@ -264,17 +310,6 @@ fn run_for<'d, 'm>(
     }
 }
 
-/// The names and the inputs of the line.
-fn ends_over<'d, 'm>(
-    memory: &'m Memory,
-    line: &Line,
-    case: &'d Case<'_>,
-    devices: Devices,
-) -> Result<Ends<'d, 'm>, AllocError> {
-    let names = names_over(memory, line)?;
-    Ok((names, inputs_over(memory, line, case, devices)?))
-}
-
 /// Runs the line's command, and returns its status and how many bytes it wrote and reported.
 fn run_in(
     memory: &Memory,
@@ -284,13 +319,14 @@ fn run_in(
     (output, messages): (&mut [u8], &mut [u8]),
 ) -> Result<(Option<u8>, usize, usize), Difference> {
     let command = command_over(memory, line, case)?;
-    let (names, inputs) = ends_over(memory, line, case, devices)?;
+    let names = names_over(memory, line)?;
+    let inputs = inputs_over(memory, line, case, devices)?;
     let piece = devices.piece.max(1);
     let room = (
         TrialOutput::new(output, piece),
         TrialOutput::new(messages, piece),
     );
-    memory.refuse(devices.failed_allocation);
+    memory.refuse(turn_of(devices.failed_allocation).unwrap_or(0));
     match run_for(memory, command, names, inputs, room, devices.steps) {
         Some((status, out, err)) => Ok((status, out.written().len(), err.written().len())),
         None => Err(Difference::Text("the command may not be run")),

@@ -2,7 +2,7 @@
 
 use crate::runs::Outcome;
 use std::alloc::{AllocError, Global};
-use std::fmt::Write;
+use std::str;
 
 /// How many bytes of an output are shown.
 const SHOWN: usize = 400;
@@ -17,7 +17,7 @@ pub enum Difference {
     /// A run left this.
     Outcome(Outcome),
     /// By reads of one byte the run was through before this one.
-    Through(u64),
+    Through(usize),
     /// A message was met so often.
     Met(usize, String),
 }
@@ -39,33 +39,22 @@ pub fn difference_text(alloc: Global, found: Difference) -> Result<String, Alloc
     }
 }
 
+/// How a run ended.
+fn end_of(outcome: &Outcome) -> &'static str {
+    match outcome.status {
+        Some(0) => "status 0",
+        Some(1) => "status 1",
+        Some(2) => "status 2",
+        Some(_) => "no status of a run",
+        None => "closed",
+    }
+}
+
 /// What a run leaves: its status, its messages and its first bytes in hexadecimal digits.
 fn outcome_text(alloc: Global, outcome: &Outcome) -> Result<String, AllocError> {
-    let size = outcome.written.len();
-    let count = outcome.allocations;
-    let mut text = match outcome.status {
-        Some(status) => format!(in alloc; "  status {status}")?,
-        None => String::from_str(alloc, "  closed")?,
-    };
-    write!(text, ", {size} bytes written, {count} allocations\n")?;
-    add_messages(&mut text, &outcome.messages)?;
-    add_digits(&mut text, &outcome.written)?;
-    text.push('\n')?;
-    Ok(text)
-}
-
-/// Adds bytes of messages, with a question mark for each that is not ASCII.
-fn add_messages(text: &mut String, messages: &[u8]) -> Result<(), AllocError> {
-    for byte in messages {
-        text.push(if byte.is_ascii() { *byte as char } else { '?' })?;
-    }
-    Ok(())
-}
-
-/// Adds the first bytes in hexadecimal digits.
-fn add_digits(text: &mut String, bytes: &[u8]) -> Result<(), AllocError> {
-    for byte in bytes.iter().take(SHOWN) {
-        write!(text, "{byte:02x}")?;
-    }
-    Ok(())
+    let written = outcome.written.as_slice();
+    let (end, size, count) = (end_of(outcome), written.len(), outcome.allocations);
+    let messages = str::from_utf8(&outcome.messages).unwrap_or("not UTF-8\n");
+    let digits = hex::encode(alloc, written.get(..SHOWN).unwrap_or(written))?;
+    format!(in alloc; "  {end}, {size} bytes written, {count} allocations\n{messages}{digits}\n")
 }

@@ -9,3 +9,5 @@ mod heaps;
 mod printing;
 #[cfg(test)]
 mod streams;
+#[cfg(test)]
+mod windows;

@@ -3,8 +3,6 @@
 
 mod links;
 mod mark;
-#[cfg(test)]
-mod tests;
 mod window;
 
 pub use mark::Mark;

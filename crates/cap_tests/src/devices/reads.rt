@@ -2,15 +2,14 @@
 use crate::devices::courses::{CAPACITIES, Course, FAILING, LARGEST, LONG, PIECES};
 use crate::devices::marked::{Counts, MarkedReader, are_marks};
 use cap_octet::{DeviceFault, Input, StdInput, read_full};
-use std::alloc::AllocGlobal;
+use std::alloc::Global;
 use std::cell::Cell;
 use std::io::{BufReader, Result as IoResult};
-use std::process::Abort;
 use std::test::Fail;
 
 /// An input over a marked reader of this course.
 fn input_of<'a>(
-    rt: &impl AllocGlobal,
+    alloc: Global,
     course: &Course,
     counts: &'a Cell<Counts>,
 ) -> IoResult<StdInput<MarkedReader<'a>>> {
@@ -19,7 +18,7 @@ fn input_of<'a>(
         manner: course.manner,
         counts,
     };
-    let buffered = BufReader::with_capacity(rt.alloc(), course.capacity, reader)?;
+    let buffered = BufReader::with_capacity(alloc, course.capacity, reader)?;
     Ok(StdInput::new(buffered))
 }
 
@@ -150,14 +149,9 @@ fn take_and_read(
 }
 
 /// Reads to the end. Whether each call returned what the reader did, and all bytes came.
-fn reads_hold(
-    rt: &impl AllocGlobal,
-    course: &Course,
-    way: Way,
-    room: &mut [u8],
-) -> Result<bool, Fail> {
+fn reads_hold(alloc: Global, course: &Course, way: Way, room: &mut [u8]) -> Result<bool, Fail> {
     let counts = Cell::new(Counts::new());
-    let mut input = input_of(rt, course, &counts)?;
+    let mut input = input_of(alloc, course, &counts)?;
     let mut given = 0usize;
     for turn in 0..usize::MAX {
         let size = course.size(turn, room.len());
@@ -178,23 +172,15 @@ fn reads_hold(
     Ok(given == course.len)
 }
 
-/// Reads to the end, and compares what each call returns with what the reader did.
-fn check_reads(
-    rt: &(impl Abort + AllocGlobal),
-    course: &Course,
-    way: Way,
-    room: &mut [u8],
-) -> Result<(), Fail> {
-    course.expect(rt, reads_hold(rt, course, way, room)?);
-    Ok(())
-}
-
 #[test]
 fn reads_past_4_mib_are_the_readers(rt: HostRuntime) -> Result<(), Fail> {
     let mut room = vec![in rt.alloc(); 0; LARGEST]?;
     for (capacity, piece, failing, large) in LONG {
         let course = Course::long(capacity, piece, failing, large);
-        check_reads(&rt, &course, Way::Single, &mut room)?;
+        course.expect(
+            &rt,
+            reads_hold(rt.alloc(), &course, Way::Single, &mut room)?,
+        );
     }
     Ok(())
 }
@@ -206,9 +192,15 @@ fn reads_over_small_buffers_are_the_readers(rt: HostRuntime) -> Result<(), Fail>
         for piece in PIECES {
             for failing in FAILING {
                 let course = Course::small(capacity, piece, failing);
-                check_reads(&rt, &course, Way::Single, &mut room)?;
-                check_reads(&rt, &course, Way::Full, &mut room)?;
-                check_reads(&rt, &course, Way::AtHand, &mut room)?;
+                course.expect(
+                    &rt,
+                    reads_hold(rt.alloc(), &course, Way::Single, &mut room)?,
+                );
+                course.expect(&rt, reads_hold(rt.alloc(), &course, Way::Full, &mut room)?);
+                course.expect(
+                    &rt,
+                    reads_hold(rt.alloc(), &course, Way::AtHand, &mut room)?,
+                );
             }
         }
     }
@@ -221,8 +213,11 @@ fn an_interrupted_read_fails(rt: HostRuntime) -> Result<(), Fail> {
     let mut room = [0; 20];
     for capacity in &[0, 1, 7] {
         let course = Course::interrupted(*capacity, 2, 2);
-        check_reads(&rt, &course, Way::Single, &mut room)?;
-        check_reads(&rt, &course, Way::Full, &mut room)?;
+        course.expect(
+            &rt,
+            reads_hold(rt.alloc(), &course, Way::Single, &mut room)?,
+        );
+        course.expect(&rt, reads_hold(rt.alloc(), &course, Way::Full, &mut room)?);
     }
     Ok(())
 }
@@ -232,7 +227,7 @@ fn an_interrupted_read_fails(rt: HostRuntime) -> Result<(), Fail> {
 fn reads_of_a_broken_reader_fail(rt: HostRuntime) -> Result<(), Fail> {
     for capacity in CAPACITIES {
         let counts = Cell::new(Counts::new());
-        let mut input = input_of(&rt, &Course::small(capacity, 1, 1), &counts)?;
+        let mut input = input_of(rt.alloc(), &Course::small(capacity, 1, 1), &counts)?;
         for calls in 1..9 {
             assert!(rt; input.read(&mut [0; 3]) == Err(DeviceFault));
             assert!(rt; counts.get().calls == calls && counts.get().failures == calls);

@@ -2,21 +2,20 @@
 use crate::devices::courses::{CAPACITIES, Course, FAILING, LARGEST, LONG, PIECES};
 use crate::devices::marked::{Counts, MarkedWriter, write_marks};
 use cap_octet::{DeviceFault, Output, StdOutput, write_all};
-use std::alloc::AllocGlobal;
+use std::alloc::Global;
 use std::cell::Cell;
 use std::io::{BufWriter, ErrorKind, Result as IoResult, Write};
-use std::process::Abort;
 use std::test::Fail;
 
 /// An output over a marked writer of this course.
 fn output_of<'a>(
-    rt: &impl AllocGlobal,
+    alloc: Global,
     course: &Course,
     counts: &'a Cell<Counts>,
 ) -> IoResult<StdOutput<MarkedWriter<'a>>> {
     let manner = course.manner;
     let writer = MarkedWriter { manner, counts };
-    let buffered = BufWriter::with_capacity(rt.alloc(), course.capacity, writer)?;
+    let buffered = BufWriter::with_capacity(alloc, course.capacity, writer)?;
     Ok(StdOutput::new(buffered))
 }
 
@@ -61,14 +60,9 @@ fn write_by(output: &mut impl Output, whole: bool, buf: &[u8]) -> (usize, bool) 
 
 /// Writes marked bytes, in single writes or whole ones. Whether each returned what the writer did,
 /// and all bytes came.
-fn writes_hold(
-    rt: &impl AllocGlobal,
-    course: &Course,
-    whole: bool,
-    room: &mut [u8],
-) -> Result<bool, Fail> {
+fn writes_hold(alloc: Global, course: &Course, whole: bool, room: &mut [u8]) -> Result<bool, Fail> {
     let counts = Cell::new(Counts::new());
-    let mut output = output_of(rt, course, &counts)?;
+    let mut output = output_of(alloc, course, &counts)?;
     let mut taken = 0usize;
     for turn in 0..usize::MAX {
         let left = course.len.saturating_sub(taken);
@@ -88,23 +82,12 @@ fn writes_hold(
     Ok(ends_well(course, output, &counts))
 }
 
-/// Writes marked bytes, and compares what each call returns with what the writer did.
-fn check_writes(
-    rt: &(impl Abort + AllocGlobal),
-    course: &Course,
-    whole: bool,
-    room: &mut [u8],
-) -> Result<(), Fail> {
-    course.expect(rt, writes_hold(rt, course, whole, room)?);
-    Ok(())
-}
-
 #[test]
 fn writes_past_4_mib_come_to_the_writer(rt: HostRuntime) -> Result<(), Fail> {
     let mut room = vec![in rt.alloc(); 0; LARGEST]?;
     for (capacity, piece, failing, large) in LONG {
         let course = Course::long(capacity, piece, failing, large);
-        check_writes(&rt, &course, false, &mut room)?;
+        course.expect(&rt, writes_hold(rt.alloc(), &course, false, &mut room)?);
     }
     Ok(())
 }
@@ -116,8 +99,8 @@ fn writes_over_small_buffers_come_to_the_writer(rt: HostRuntime) -> Result<(), F
         for piece in PIECES {
             for failing in FAILING {
                 let course = Course::small(capacity, piece, failing);
-                check_writes(&rt, &course, false, &mut room)?;
-                check_writes(&rt, &course, true, &mut room)?;
+                course.expect(&rt, writes_hold(rt.alloc(), &course, false, &mut room)?);
+                course.expect(&rt, writes_hold(rt.alloc(), &course, true, &mut room)?);
             }
         }
     }
@@ -130,7 +113,7 @@ fn writes_over_small_buffers_come_to_the_writer(rt: HostRuntime) -> Result<(), F
 fn an_interrupted_write_fails_past_the_buffer(rt: HostRuntime) -> Result<(), Fail> {
     let course = Course::interrupted(4, usize::MAX, 2);
     let counts = Cell::new(Counts::new());
-    let mut output = output_of(&rt, &course, &counts)?;
+    let mut output = output_of(rt.alloc(), &course, &counts)?;
     for (size, result, calls) in [
         (3, Ok(3), 0),
         (3, Ok(3), 1),
@@ -151,7 +134,7 @@ fn an_interrupted_write_fails_past_the_buffer(rt: HostRuntime) -> Result<(), Fai
 fn writes_to_a_broken_writer_fail(rt: HostRuntime) -> Result<(), Fail> {
     for capacity in CAPACITIES {
         let counts = Cell::new(Counts::new());
-        let mut output = output_of(&rt, &Course::small(capacity, 1, 1), &counts)?;
+        let mut output = output_of(rt.alloc(), &Course::small(capacity, 1, 1), &counts)?;
         for calls in 1..9 {
             assert!(rt; output.write(&[0; 17]) == Err(DeviceFault));
             assert!(rt; counts.get().calls == calls && counts.get().failures == calls);

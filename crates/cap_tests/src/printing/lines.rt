@@ -1,5 +1,5 @@
 //! Each row of the tables of lines, with `-e`.
-use crate::printing::shown::{Case, check};
+use crate::printing::shown::{Case, is_printed};
 use cap_octet::Packet;
 use cap_print::{Options, Text, write_line};
 use std::test::Fail;
@@ -98,74 +98,80 @@ const ETHERNET: [(&str, &str); 22] = [
 
 #[test]
 fn ethernet_packets(rt: HostRuntime) -> Result<(), Fail> {
-    for (payload, expected) in ETHERNET {
-        let bytes = format!(in rt.alloc(); "0a0b0c0d0e22 001122334411 {payload}")?;
+    for (bytes, expected) in ETHERNET {
         let case = Case {
             link: 1,
             orig: 1514,
-            bytes: bytes.as_str(),
+            header: "0a0b0c0d0e22 001122334411",
+            bytes,
         };
-        let line = format!(in rt.alloc();
-            "00:11:22:33:44:11 > 0a:0b:0c:0d:0e:22, {expected}, length 1514\n"
-        )?;
-        check(&rt, rt.alloc(), LINK, &case, line.as_str())?;
+        let line = [
+            "00:11:22:33:44:11 > 0a:0b:0c:0d:0e:22, ",
+            expected,
+            ", length 1514\n",
+        ];
+        assert!(rt; is_printed(rt.alloc(), LINK, &case, &line)?, "{expected}");
     }
     Ok(())
 }
 
+/// Link types, captured bytes, and lines.
+const OTHER_LINKS: [(u16, &str, &str); 15] = [
+    (1, "0a0b0c0d0e22 001122334411 08", "ether [short], [short]"),
+    (1, "", "ether [short], [short]"),
+    (101, "", "raw, [short]"),
+    (101, "45", "raw, IP [short]"),
+    (101, "6f", "raw, IP6 [short]"),
+    (101, "7f", "raw, version 7"),
+    (101, "0800", "raw, version 0"),
+    (
+        101,
+        "45000000 00000000 40060000 01020304 05060708 04000050",
+        "raw, IP 1.2.3.4.1024 > 5.6.7.8.80: TCP",
+    ),
+    (
+        101,
+        "60000000 00041140 00000000000000000000000000000001 \
+         00000000000000000000000000000002 00350036",
+        "raw, IP6 0:0:0:0:0:0:0:1.53 > 0:0:0:0:0:0:0:2.54: UDP",
+    ),
+    (
+        113,
+        "0000 0001 0006 001122334455 0000 0800 45000000 00000000 40060000 0a000001 \
+         0a000002 04000050",
+        "cooked, type 0x0800, IP 10.0.0.1.1024 > 10.0.0.2.80: TCP",
+    ),
+    (
+        113,
+        "0000 0001 0006 001122334455 0000 88cc",
+        "cooked, type 0x88cc, type 0x88cc",
+    ),
+    (
+        113,
+        "0000 0001 0006 001122334455 0000 0806 00010800 06040002 001122334455 0a000001 \
+         000000000000 0a000002",
+        "cooked, type 0x0806, ARP op 2 10.0.0.1 > 10.0.0.2",
+    ),
+    (
+        113,
+        "0000 0001 0006 001122334455 0000 08",
+        "cooked [short], [short]",
+    ),
+    (147, "0a0b0c", "link 147, link 147"),
+    (65535, "", "link 65535, link 65535"),
+];
+
 #[test]
 fn packets_of_other_links(rt: HostRuntime) -> Result<(), Fail> {
-    for (link, bytes, expected) in [
-        (1, "0a0b0c0d0e22 001122334411 08", "ether [short], [short]"),
-        (1, "", "ether [short], [short]"),
-        (101, "", "raw, [short]"),
-        (101, "45", "raw, IP [short]"),
-        (101, "6f", "raw, IP6 [short]"),
-        (101, "7f", "raw, version 7"),
-        (101, "0800", "raw, version 0"),
-        (
-            101,
-            "45000000 00000000 40060000 01020304 05060708 04000050",
-            "raw, IP 1.2.3.4.1024 > 5.6.7.8.80: TCP",
-        ),
-        (
-            101,
-            "60000000 00041140 00000000000000000000000000000001 \
-             00000000000000000000000000000002 00350036",
-            "raw, IP6 0:0:0:0:0:0:0:1.53 > 0:0:0:0:0:0:0:2.54: UDP",
-        ),
-        (
-            113,
-            "0000 0001 0006 001122334455 0000 0800 45000000 00000000 40060000 0a000001 \
-             0a000002 04000050",
-            "cooked, type 0x0800, IP 10.0.0.1.1024 > 10.0.0.2.80: TCP",
-        ),
-        (
-            113,
-            "0000 0001 0006 001122334455 0000 88cc",
-            "cooked, type 0x88cc, type 0x88cc",
-        ),
-        (
-            113,
-            "0000 0001 0006 001122334455 0000 0806 00010800 06040002 001122334455 0a000001 \
-             000000000000 0a000002",
-            "cooked, type 0x0806, ARP op 2 10.0.0.1 > 10.0.0.2",
-        ),
-        (
-            113,
-            "0000 0001 0006 001122334455 0000 08",
-            "cooked [short], [short]",
-        ),
-        (147, "0a0b0c", "link 147, link 147"),
-        (65535, "", "link 65535, link 65535"),
-    ] {
+    for (link, bytes, expected) in OTHER_LINKS {
         let case = Case {
             link,
             orig: 4_294_967_295,
+            header: "",
             bytes,
         };
-        let line = format!(in rt.alloc(); "{expected}, length 4294967295\n")?;
-        check(&rt, rt.alloc(), LINK, &case, line.as_str())?;
+        let line = [expected, ", length 4294967295\n"];
+        assert!(rt; is_printed(rt.alloc(), LINK, &case, &line)?, "{expected}");
     }
     Ok(())
 }
@@ -183,8 +189,6 @@ fn a_line_has_the_date_of_its_packet(rt: HostRuntime) {
     };
     let mut text = Text::new();
     write_line(&mut text, false, &packet);
-    assert_eq!(rt;
-        text.as_slice(),
-        b"1970-01-01 00:00:01.000976562 IP [short], length 1\n".as_slice()
-    );
+    let line = b"1970-01-01 00:00:01.000976562 IP [short], length 1\n";
+    assert!(rt; text.as_slice() == line.as_slice());
 }

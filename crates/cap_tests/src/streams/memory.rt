@@ -28,22 +28,17 @@ fn is_refused_for_free(alloc: Global, bytes: &[u8], offset: u64) -> bool {
     seen == returns(0, Err(Fault::TooLong), offset) && trial.growths() == 0
 }
 
-/// A captured length over the limit asks for no memory.
+/// A captured length over the limit, or a total length, asks for no memory.
 #[test]
-fn no_growth_for_a_long_record(rt: HostRuntime) -> Result<(), Fail> {
+fn no_growth_for_what_is_too_long(rt: HostRuntime) -> Result<(), Fail> {
     let record = [0, 0, 0, 0, 0, 0, 0, 0, 0xff, 0xff, 0xff, 0xff, 0, 0, 0, 0];
     let bytes = joined(rt.alloc(), &[&HEADER, &record])?;
     assert!(rt; is_refused_for_free(rt.alloc(), &bytes, 24));
-    Ok(())
-}
-
-/// A total length over the limit asks for no memory.
-#[test]
-fn no_growth_for_a_long_block(rt: HostRuntime) {
-    let header = [
+    let block = [
         0x0a, 0x0d, 0x0d, 0x0a, 0xfc, 0xff, 0xff, 0xff, 0x4d, 0x3c, 0x2b, 0x1a,
     ];
-    assert!(rt; is_refused_for_free(rt.alloc(), &header, 0));
+    assert!(rt; is_refused_for_free(rt.alloc(), &block, 0));
+    Ok(())
 }
 
 /// How often a sink of the format takes memory for a packet, and with another one behind it.
@@ -60,15 +55,10 @@ fn growths_in(alloc: Global, format: Format) -> Option<(u64, u64)> {
     Some((growths, trial.growths()))
 }
 
-/// A known interface takes no memory.
+/// A known interface takes no memory, and a pcap form none at all.
 #[test]
-fn known_interfaces_take_none(rt: HostRuntime) {
+fn growths_of_sinks(rt: HostRuntime) {
     let growths = growths_in(rt.alloc(), Format::Pcapng);
     assert!(rt; matches!(growths, Some((first, second)) if first == second));
-}
-
-/// A pcap form takes no memory at all.
-#[test]
-fn pcap_takes_no_memory(rt: HostRuntime) {
     assert!(rt; growths_in(rt.alloc(), Format::NsecPcap) == Some((0, 0)));
 }

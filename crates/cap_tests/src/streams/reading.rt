@@ -6,7 +6,6 @@ use cap_io::Source;
 use cap_octet::{DeviceFault, Fault, Input, MemInput};
 use std::alloc::Global;
 use std::cell::Cell;
-use std::process::Abort;
 use std::test::Fail;
 
 /// An input whose reads are counted outside of it.
@@ -35,24 +34,20 @@ impl Input for Counting<'_> {
     ghost unfailed = { λ _ _. refl };
 }
 
-/// Reads to the end or error and then on: the result stays, and nothing more is read.
-fn check_reads(
-    rt: &impl Abort,
-    alloc: Global,
-    bytes: &[u8],
-    want: Result<bool, Fault>,
-    count: u64,
-) {
+/// Reads to the end or error and then on. Whether the result stays, and nothing more is read.
+fn stays(alloc: Global, bytes: &[u8], want: Result<bool, Fault>, count: u64) -> bool {
     let reads = Cell::new(0);
     let input = Counting {
         inner: MemInput::new(bytes),
         reads: &reads,
     };
     let mut source = Source::new(alloc, input);
+    let mut holds = true;
     for _ in 0..3 {
-        assert!(rt; read_on(&mut source).last == want);
-        assert!(rt; reads.get() == count, "{} bytes", bytes.len());
+        let last = read_on(&mut source).last;
+        holds = holds && last == want && reads.get() == count;
     }
+    holds
 }
 
 /// The length of a prefix of a capture with one record of 3 bytes, its last result, and how many
@@ -72,7 +67,7 @@ fn no_read_behind_an_end(rt: HostRuntime) -> Result<(), Fail> {
     let bytes = capture(rt.alloc(), &[3])?;
     for (length, want, count) in last_results() {
         let prefix = bytes.get(..length).ok_or("too short")?;
-        check_reads(&rt, rt.alloc(), prefix, want, count);
+        assert!(rt; stays(rt.alloc(), prefix, want, count), "{length} bytes");
     }
     Ok(())
 }
@@ -82,6 +77,6 @@ fn no_read_behind_an_end(rt: HostRuntime) -> Result<(), Fail> {
 #[test]
 fn no_read_behind_an_error_of_a_block(rt: HostRuntime) -> Result<(), Fail> {
     let bytes = joined(rt.alloc(), &[&SECTION, &PACKET, &PACKET])?;
-    check_reads(&rt, rt.alloc(), &bytes, Err(Fault::UnknownInterface), 5);
+    assert!(rt; stays(rt.alloc(), &bytes, Err(Fault::UnknownInterface), 5));
     Ok(())
 }

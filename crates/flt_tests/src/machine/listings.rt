@@ -5,7 +5,6 @@ use cap_octet::{MemOutput, TrialOutput};
 use cap_trial::Trial;
 use flt_bpf::{Insn, ListingFault, Program, read_listing, write_listing};
 use std::alloc::{AllocError, Global};
-use std::process::Abort;
 use std::test::Fail;
 
 /// Whether a text is read as these instructions.
@@ -38,15 +37,9 @@ fn is_wrong_at(alloc: Global, text: &[u8], line: usize) -> bool {
     read_listing(alloc, text).err() == Some(ListingFault::NotListing(line))
 }
 
-/// Each text is refused at the line of its row.
-fn expect_refused(rt: &(impl Abort + AllocGlobal), rows: &[(&str, usize)]) {
-    for (text, line) in rows {
-        assert!(rt; is_wrong_at(rt.alloc(), text.as_bytes(), *line), "{text}");
-    }
-}
-
-/// Texts whose first line is no count.
-const COUNTS: &[(&str, usize)] = &[
+/// Texts that are no listings, and the first line of each that is wrong.
+const REFUSED: &[(&str, usize)] = &[
+    // First lines that are no count.
     ("", 1),
     ("\n", 1),
     ("32769\n", 1),
@@ -56,15 +49,7 @@ const COUNTS: &[(&str, usize)] = &[
     ("+1\n6 0 0 0\n", 1),
     ("00000000001\n6 0 0 0\n", 1),
     ("1\r\n6 0 0 0\r\n", 1),
-];
-
-#[test]
-fn first_lines_that_are_no_count(rt: HostRuntime) {
-    expect_refused(&rt, COUNTS);
-}
-
-/// Texts with a line that is no instruction.
-const INSTRUCTIONS: &[(&str, usize)] = &[
+    // Lines that are no instruction.
     ("1\n6 0 0 0 \n", 2),
     ("1\n 6 0 0 0\n", 2),
     ("1\n6 0 0\n", 2),
@@ -78,15 +63,7 @@ const INSTRUCTIONS: &[(&str, usize)] = &[
     ("1\n6 0 0 4294967296\n", 2),
     ("1\n6 0 0 00000000001\n", 2),
     ("2\n6 0 0 0\n\n6 0 0 0\n", 3),
-];
-
-#[test]
-fn lines_that_are_no_instruction(rt: HostRuntime) {
-    expect_refused(&rt, INSTRUCTIONS);
-}
-
-/// Texts with too few or too many lines.
-const LINES: &[(&str, usize)] = &[
+    // Too few or too many lines.
     ("4\n40 0 0 12\n21 0 1 2048\n6 0 0 262144\n", 5),
     ("1\n", 2),
     ("1\n6 0 0 0\n\n", 3),
@@ -95,8 +72,10 @@ const LINES: &[(&str, usize)] = &[
 ];
 
 #[test]
-fn lines_missing_or_too_many(rt: HostRuntime) {
-    expect_refused(&rt, LINES);
+fn other_texts_are_refused(rt: HostRuntime) {
+    for (text, line) in REFUSED {
+        assert!(rt; is_wrong_at(rt.alloc(), text.as_bytes(), *line), "{text}");
+    }
 }
 
 /// A listing of one instruction, with so many blanks behind its code.

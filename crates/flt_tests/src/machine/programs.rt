@@ -4,7 +4,6 @@ use super::{IPV4, insn, program_of};
 use flt_bpf::operation::{Operation, decode};
 use flt_bpf::{CheckFault, ListingFault, check, read_listing, run};
 use std::alloc::Global;
-use std::process::Abort;
 use std::test::Fail;
 
 #[test]
@@ -26,25 +25,9 @@ fn ethernet_type_is_tested(rt: HostRuntime) -> Result<(), Fail> {
 /// instructions of a run.
 type Row = (&'static str, &'static [u8], u32, (u32, u32));
 
-/// The answer and the count of instructions of a listing's program on a packet.
-fn answer(alloc: Global, listing: &str, packet: &[u8], len: u32) -> Result<(u32, u32), Fail> {
-    let mut program = program_of(alloc, listing.as_bytes())?;
-    Ok(run(&mut program, packet, len))
-}
-
-/// Each run answers as its row says.
-fn expect_answers(rt: &(impl Abort + AllocGlobal), rows: &[Row]) -> Result<(), Fail> {
-    for (listing, packet, len, expected) in rows {
-        assert!(rt;
-            answer(rt.alloc(), listing, packet, *len)? == *expected,
-            "{listing}"
-        );
-    }
-    Ok(())
-}
-
-/// Indexed loads.
-const INDEXED: &[Row] = &[
+/// What runs answer.
+const ANSWERS: &[Row] = &[
+    // Indexed loads wrap.
     ("3\n1 0 0 4294967295\n80 0 0 1\n22 0 0 0\n", &[7], 1, (7, 3)),
     (
         "3\n1 0 0 4294967295\n72 0 0 1\n22 0 0 0\n",
@@ -52,15 +35,7 @@ const INDEXED: &[Row] = &[
         2,
         (1801, 3),
     ),
-];
-
-#[test]
-fn indexed_loads_wrap(rt: HostRuntime) -> Result<(), Fail> {
-    expect_answers(&rt, INDEXED)
-}
-
-/// Loads at the end of a packet.
-const LOADS: &[Row] = &[
+    // Loads need all their bytes.
     (
         "2\n32 0 0 1\n22 0 0 0\n",
         &[1, 2, 3, 4, 5],
@@ -90,15 +65,7 @@ const LOADS: &[Row] = &[
         5,
         (0, 1),
     ),
-];
-
-#[test]
-fn loads_need_all_their_bytes(rt: HostRuntime) -> Result<(), Fail> {
-    expect_answers(&rt, LOADS)
-}
-
-/// Shifts and divisions.
-const SHIFTS: &[Row] = &[
+    // Shifts and divisions by the index register.
     (
         "4\n0 0 0 1\n1 0 0 32\n108 0 0 0\n22 0 0 0\n",
         &[],
@@ -119,15 +86,7 @@ const SHIFTS: &[Row] = &[
     ),
     ("2\n60 0 0 0\n6 0 0 1\n", &[], 0, (0, 1)),
     ("4\n0 0 0 9\n1 0 0 4\n60 0 0 0\n22 0 0 0\n", &[], 0, (2, 4)),
-];
-
-#[test]
-fn shifts_and_divisions_by_the_index_register(rt: HostRuntime) -> Result<(), Fail> {
-    expect_answers(&rt, SHIFTS)
-}
-
-/// Remainders and exclusive or.
-const REMAINDERS: &[Row] = &[
+    // Remainders and exclusive or.
     (
         "4\n128 0 0 0\n1 0 0 255\n172 0 0 0\n22 0 0 0\n",
         &[],
@@ -143,15 +102,7 @@ const REMAINDERS: &[Row] = &[
         (4, 4),
     ),
     ("2\n156 0 0 0\n6 0 0 1\n", &[], 0, (0, 1)),
-];
-
-#[test]
-fn remainders_and_exclusive_or(rt: HostRuntime) -> Result<(), Fail> {
-    expect_answers(&rt, REMAINDERS)
-}
-
-/// Sums, differences, products and bits.
-const ARITHMETIC: &[Row] = &[
+    // Sums, differences, products and bits wrap.
     ("3\n0 0 0 4294967295\n4 0 0 3\n22 0 0 0\n", &[], 0, (2, 3)),
     ("3\n0 0 0 1\n20 0 0 3\n22 0 0 0\n", &[], 0, (0xffff_fffe, 3)),
     (
@@ -172,15 +123,7 @@ const ARITHMETIC: &[Row] = &[
         4,
         (260, 4),
     ),
-];
-
-#[test]
-fn arithmetic_wraps(rt: HostRuntime) -> Result<(), Fail> {
-    expect_answers(&rt, ARITHMETIC)
-}
-
-/// Moves between words and registers.
-const STORES: &[Row] = &[
+    // Words and registers keep numbers.
     (
         "8\n0 0 0 5\n2 0 0 15\n129 0 0 0\n3 0 0 0\n96 0 0 15\n97 0 0 0\n12 0 0 0\n22 0 0 0\n",
         &[],
@@ -188,15 +131,7 @@ const STORES: &[Row] = &[
         (105, 8),
     ),
     ("4\n0 0 0 5\n7 0 0 0\n28 0 0 0\n22 0 0 0\n", &[], 0, (0, 4)),
-];
-
-#[test]
-fn words_and_registers_keep_numbers(rt: HostRuntime) -> Result<(), Fail> {
-    expect_answers(&rt, STORES)
-}
-
-/// Tests and jumps.
-const TESTS: &[Row] = &[
+    // Tests and jumps choose the way.
     ("4\n0 0 0 5\n37 1 0 4\n6 0 0 1\n6 0 0 2\n", &[], 0, (2, 3)),
     ("4\n0 0 0 5\n37 1 0 5\n6 0 0 1\n6 0 0 2\n", &[], 0, (1, 3)),
     ("4\n0 0 0 5\n53 1 0 5\n6 0 0 1\n6 0 0 2\n", &[], 0, (2, 3)),
@@ -208,15 +143,7 @@ const TESTS: &[Row] = &[
         (2, 4),
     ),
     ("4\n5 0 0 2\n6 0 0 1\n6 0 0 2\n6 0 0 3\n", &[], 0, (3, 2)),
-];
-
-#[test]
-fn tests_choose_the_way(rt: HostRuntime) -> Result<(), Fail> {
-    expect_answers(&rt, TESTS)
-}
-
-/// Tests for equality, one behind another.
-const CHAINS: &[Row] = &[
+    // Tests for equality follow one another.
     (
         "7\n48 0 0 0\n21 3 0 4\n21 0 1 5\n6 0 0 1\n6 0 0 2\n21 0 0 4\n6 0 0 3\n",
         &[4],
@@ -235,11 +162,23 @@ const CHAINS: &[Row] = &[
         1,
         (2, 4),
     ),
+    // Fields that are not used are not checked.
+    ("3\n7 255 255 99\n60 9 9 0\n22 1 1 77", &[], 0, (0, 2)),
 ];
 
+/// Whether a run of a row's listing answers as the row says.
+fn answers(alloc: Global, row: &Row) -> Result<bool, Fail> {
+    let (listing, packet, len, expected) = row;
+    let mut program = program_of(alloc, listing.as_bytes())?;
+    Ok(run(&mut program, packet, *len) == *expected)
+}
+
 #[test]
-fn tests_for_equality_follow_one_another(rt: HostRuntime) -> Result<(), Fail> {
-    expect_answers(&rt, CHAINS)
+fn runs_answer_as_stated(rt: HostRuntime) -> Result<(), Fail> {
+    for row in ANSWERS {
+        assert!(rt; answers(rt.alloc(), row)?, "{}", row.0);
+    }
+    Ok(())
 }
 
 #[test]
@@ -290,20 +229,14 @@ const BROKEN: &[(&str, CheckFault, usize)] = &[
     ),
     ("2\n116 0 0 32\n6 0 0 1", CheckFault::ShiftTooFar, 0),
     ("2\n6 0 0 1\n0 0 0 0", CheckFault::NoReturn, 0),
-];
-
-/// Listings that break several rules.
-const BROKEN_TWICE: &[(&str, CheckFault, usize)] = &[
+    // These break several rules.
     ("2\n2 0 0 16\n9 0 0 0", CheckFault::NoSuchWord, 0),
     ("2\n5 0 0 0\n5 0 0 0", CheckFault::JumpOut, 1),
 ];
 
-/// Each listing breaks the rule of its row.
-fn expect_broken(
-    rt: &(impl Abort + AllocGlobal),
-    rows: &[(&str, CheckFault, usize)],
-) -> Result<(), Fail> {
-    for (listing, fault, index) in rows {
+#[test]
+fn the_first_broken_rule_is_told(rt: HostRuntime) -> Result<(), Fail> {
+    for (listing, fault, index) in BROKEN {
         let broken = broken_rule(rt.alloc(), listing)?;
         assert!(rt; broken == Some((*fault, *index)), "{listing}");
     }
@@ -311,31 +244,12 @@ fn expect_broken(
 }
 
 #[test]
-fn each_rule_is_kept(rt: HostRuntime) -> Result<(), Fail> {
-    expect_broken(&rt, BROKEN)
-}
-
-#[test]
-fn the_first_broken_rule_is_told(rt: HostRuntime) -> Result<(), Fail> {
-    expect_broken(&rt, BROKEN_TWICE)?;
+fn a_program_may_be_too_long(rt: HostRuntime) -> Result<(), Fail> {
     let mut insns = Vec::new(rt.alloc());
     for _ in 0..32_769 {
         insns.push(insn(9, 0, 0, 0))?;
     }
     assert!(rt; check(insns).err() == Some((CheckFault::TooLong, 0)));
-    Ok(())
-}
-
-#[test]
-fn fields_that_are_not_used_are_not_checked(rt: HostRuntime) -> Result<(), Fail> {
-    let listing = "3\n7 255 255 99\n60 9 9 0\n22 1 1 77";
-    assert!(rt; answer(rt.alloc(), listing, &[], 0)? == (0, 2));
-    Ok(())
-}
-
-#[test]
-fn an_empty_listing_is_an_empty_program(rt: HostRuntime) -> Result<(), Fail> {
-    assert!(rt; broken_rule(rt.alloc(), "0")? == Some((CheckFault::Empty, 0)));
     Ok(())
 }
 
@@ -351,8 +265,7 @@ fn message(alloc: Global, listing: &str) -> Result<String, Fail> {
 fn a_broken_rule_is_named(rt: HostRuntime) -> Result<(), Fail> {
     let listing = "4\n40 0 0 12\n21 0 2 2048\n6 0 0 262144\n6 0 0 0\n";
     assert!(rt; message(rt.alloc(), listing)?.as_str() == "jump out at 1");
-    assert!(rt; CheckFault::JumpOut.has_index());
+    assert!(rt; CheckFault::JumpOut.has_index() && !CheckFault::Empty.has_index());
     assert!(rt; CheckFault::NoReturn.text() == "no return at the end");
-    assert!(rt; !CheckFault::Empty.has_index());
     Ok(())
 }
