@@ -1,7 +1,7 @@
 //! How the ticks of an interface become times.
 ghost use Rattle.std.specs.Prelude.{◌≡◌, ◌<◌, ◌^◌, if◌then◌else◌, IfOk};
 ghost use Rattle.std.specs.Option.{ok_or};
-ghost use Rattle.cap_pcapng.specs.Time.{is_resolution, time_in, units_by};
+ghost use Rattle.cap_pcapng.specs.Time.{is_resolution, time_by, time_in, units_by};
 
 use cap_octet::Fault;
 use cap_octet::date::{NANOS_PER_SECOND, TIME_END};
@@ -16,7 +16,7 @@ const MOST_OF_TEN: u8 = 12;
 const MOST_OF_TWO: u8 = POWER_OF_TWO + 32;
 
 /// The resolution and the offset of an interface's ticks.
-#[derive(Clone, Copy, Debug, PartialEq, Eq)]
+#[derive(Clone, Copy)]
 pub struct Clock {
     /// How many ticks make a second.
     pub units: u64,
@@ -48,9 +48,17 @@ impl Clock {
     {
         let whole = u128::from(ticks) * u128::from(NANOS_PER_SECOND) / u128::from(self.units);
         let time = whole as i128 + i128::from(self.offset) * i128::from(NANOS_PER_SECOND);
-        if time < 0 || time >= i128::from(TIME_END) {
-            return Err(Fault::TimeOutOfRange);
-        }
-        Ok(time as u64)
+        checked_time(time)
     }
+}
+
+/// A time in nanoseconds, or fault 10 where it isn't from 0 to 2^63 - 1.
+fn checked_time(time: i128) -> Result<u64, Fault>
+    ensures answer { result ≡ ok_or (time_by time) Fault.TimeOutOfRange }
+    ensures in_range { IfOk result (λ time. time < 2 ^ 63) }
+{
+    if time < 0 || time >= i128::from(TIME_END) {
+        return Err(Fault::TimeOutOfRange);
+    }
+    Ok(time as u64)
 }

@@ -17,6 +17,7 @@ pub fn u16_of(bytes: &[u8], at: usize) -> u16
 }
 
 /// Appends the IPv4 address in the four bytes from place `at`.
+#[inline(always)]
 #[tactic(auto, unfolding(crate::specs::Addresses::ipv4_text))]
 pub fn push_ipv4(text: &mut Text, bytes: &[u8], at: usize)
     requires room { length text.old + 43 ≤ 256 }

@@ -65,6 +65,7 @@ fn push_name(text: &mut Text, ip: Ip)
     }
 }
 
+#[inline(always)]
 #[tactic(auto, unfolding(crate::specs::Network::protocol_text))]
 fn push_protocol(text: &mut Text, ip: Ip, protocol: u8)
     requires { length text.old + 16 ≤ 256 }
@@ -83,6 +84,7 @@ fn push_protocol(text: &mut Text, ip: Ip, protocol: u8)
     }
 }
 
+#[inline(always)]
 fn push_address(text: &mut Text, ip: Ip, bytes: &[u8], at: usize)
     requires room { length text.old + 43 ≤ 256 }
     requires there { at + (layout_of ip).address_length ≤ length bytes.now }
@@ -97,6 +99,7 @@ fn push_address(text: &mut Text, ip: Ip, bytes: &[u8], at: usize)
 
 /// Appends `IP A > B: ` or `IP6 A > B: ` of the header at place `l`, each address with its port if
 /// there are ports.
+#[inline(always)]
 #[tactic(auto, unfolding(crate::specs::Network::ip_ends))]
 fn push_ends(text: &mut Text, ip: Ip, bytes: &[u8], l: usize, ports: Option<(u16, u16)>)
     requires room { length text.old + 117 ≤ 256 }
@@ -167,6 +170,8 @@ fn ports_at(protocol: u8, bytes: &[u8], at: usize) -> Option<(u16, u16)>
 }
 
 /// Appends what is said of the header of IP at place `l`.
+// Inlined with what it calls, so that the version is a constant in each copy.
+#[inline(always)]
 #[tactic(auto, unfolding(crate::specs::Network::ip_part))]
 fn push_ip_part(text: &mut Text, ip: Ip, bytes: &[u8], l: usize)
     requires room { length text.old + 133 ≤ 256 }
@@ -246,6 +251,8 @@ fn push_header_part(text: &mut Text, header: NetworkHeader, bytes: &[u8], l: usi
 }
 
 /// Appends what is said of the captured bytes behind the link header.
+// With this inside, a job's step grows too large to be inlined itself.
+#[inline(never)]
 #[tactic(auto, unfolding(crate::specs::Network::network_part))]
 pub fn push_network_part(text: &mut Text, link: u16, bytes: &[u8])
     requires { length text.old + 133 ≤ 256 }

@@ -1,4 +1,4 @@
-use Rattle.std.proofs.Common.{◌∙◌, refl, sym}
+use Rattle.std.proofs.Common.{◌∙◌, ℕ, length, refl, sym, ap, arith, length-drop}
 use Rattle.cap_pcapng.specs.Interface.{description_of}
 use Rattle.cap_io.proofs.Entered.{enhanced_found, found_by, known_interface}
 use Rattle.cap_io.proofs.pcapng.enhanced_packet.Goals as goal
@@ -9,3 +9,18 @@ returns g c =
     c.in_ok-time.time c.args.size _ c.args.block.now.rest.now _
     (known_interface c.get.result description_of c.in_ok-interface.interface _ (found_by c.get.result _ _ (sym c.ok_or.ensures.value ∙ c.in_ok-interface.was)) c.get.ensures) c.in_ok-data.ensures.0
     (sym c.in_ok-time.was ∙ c.time.ensures.answer) c.in_ok-time.ensures.in_range c.options.ensures.rest refl)
+
+pub returns-in_err-interface : goal.returns-in_err-interface
+returns-in_err-interface g c = grind arith
+
+pub returns-in_err-data : goal.returns-in_err-data
+returns-in_err-data g c = grind arith
+
+pub returns-in_err-time : goal.returns-in_err-time
+returns-in_err-time g c = grind arith
+
+pub overflow_cast-options : goal.overflow_cast-options
+overflow_cast-options g c = omega (arith, ap length c.options.ensures.rest, length-drop {A = ℕ})
+
+pub overflow_sub-behind : goal.overflow_sub-behind
+overflow_sub-behind g c = omega (arith, ap length c.options.ensures.rest, length-drop {A = ℕ})

@@ -1,7 +1,16 @@
 -- The four numbers of a line are found one after the other.
-use Rattle.std.proofs.Common.{◌∙◌, sym, Some, None}
+use Rattle.std.proofs.Common.{◌∙◌, sym, arith, Some, None}
 use Rattle.flt_bpf.proofs.Lines.{four_numbers}
 use Rattle.flt_bpf.proofs.reading.insn_on.Goals as goal
+
+pub returns-in_err-code : goal.returns-in_err-code
+returns-in_err-code c = grind arith
+
+pub returns-in_err-jt : goal.returns-in_err-jt
+returns-in_err-jt c = grind arith
+
+pub returns-in_err-jf : goal.returns-in_err-jf
+returns-in_err-jf c = grind arith
 
 pub returns-in-Some : goal.returns-in-Some
 returns-in-Some c =

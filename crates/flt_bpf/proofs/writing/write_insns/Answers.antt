@@ -1,5 +1,6 @@
 -- Line by line the listing is written, and where the output fails a front of it was.
 use Rattle.std.proofs.Common.{length, ◌∙◌, arith, rules}
+use Rattle.std.proofs.lemmas.Grind.{common_steps}
 use Rattle.std.proofs.lemmas.Fmt.{length-decimal-le}
 use Rattle.flt_bpf.proofs.Assembling.{line_bytes, stopped_front, stopped_told, more_told, more_size}
 use Rattle.flt_bpf.proofs.writing.write_insns.Goals as goal
@@ -27,3 +28,15 @@ loop-insn-preserved g c =
       room = search rules;
       told = λ tells. more_told _ _ _ c.args.insns.now c.loop-insn.insn-index _ _ c.loop-insn-test.true bytes (c.loop-insn.invariant.told tells) (c.in_default.ensures.told tells);
     }
+
+pub returns-in_err-write_all-clause-front : goal.returns-in_err-write_all-clause-front
+returns-in_err-write_all-clause-front g c = grind (arith, common_steps)
+
+pub returns-in_err-write_all-clause-told : goal.returns-in_err-write_all-clause-told
+returns-in_err-write_all-clause-told g c = grind (arith, common_steps)
+
+pub loop-insn-init : goal.loop-insn-init
+loop-insn-init g c = grind (arith, common_steps)
+
+pub returns-clause-told : goal.returns-clause-told
+returns-clause-told g c = grind (arith, common_steps)
