@@ -54,15 +54,26 @@ fn has_output(rt: &HostRuntime, written: Option<usize>) -> io::Result<bool> {
     Ok(input.get(..count) == Some(output.as_slice()))
 }
 
+/// Puts the capture into `out`, or removes that.
+fn prepare(rt: &HostRuntime, is_there: bool) -> io::Result<()> {
+    if is_there {
+        return fs::write(rt, "out", &CAPTURE);
+    }
+    let _ = fs::remove_file(rt, "out");
+    Ok(())
+}
+
 /// Whether a run is as the row says.
 fn is_run(rt: &HostRuntime, row: Run) -> bool {
     let (words, is_there, status, written) = row;
-    let _ = fs::remove_file(rt, "out");
-    let is_set = !is_there || fs::write(rt, "out", &CAPTURE).is_ok();
-    let Some(line) = line_of(rt.alloc(), words) else {
-        return false;
-    };
-    is_set & (run(rt, line) == status) && matches!(has_output(rt, written), Ok(true))
+    let is_prepared = prepare(rt, is_there).is_ok();
+    match line_of(rt.alloc(), words) {
+        Some(line) => {
+            let ended = run(rt, line);
+            is_prepared && ended == status && matches!(has_output(rt, written), Ok(true))
+        }
+        None => false,
+    }
 }
 
 #[test]
