@@ -1,5 +1,5 @@
 -- What a run of one of some programs costs at most.
-use Rattle.std.proofs.Common.{◌≡◌, ℕ, zero, suc, ◌+◌, ◌≤◌, List, [], ◌∷◌, length, ap, arith}
+use Rattle.std.proofs.Common.{◌≡◌, ℕ, zero, suc, ◌+◌, ◌≤◌, List, [], ◌∷◌, ap, arith}
 use Rattle.cap_octet.specs.Packet.{Captured}
 use Rattle.flt_bpf.specs.Content.{Content}
 use Rattle.flt_lang.specs.Tree.{Expression, empty, truth}

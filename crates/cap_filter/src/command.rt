@@ -62,7 +62,7 @@ pub struct Edit<A: Allocator = Global> {
 }
 
 /// What an edit does to times.
-#[derive(Clone, Copy, Debug, PartialEq, Eq)]
+#[derive(Clone, Copy)]
 pub enum Shift {
     None,
     /// They are later by so many nanoseconds.

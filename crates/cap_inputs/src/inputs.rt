@@ -44,7 +44,7 @@ impl<I: Input, A: Allocator> Model for InputCursor<I, A> {
 }
 
 /// Which input is next, by the order of the packets.
-#[derive(Clone, Copy, Debug, PartialEq, Eq)]
+#[derive(Clone, Copy)]
 pub enum Schedule {
     /// The inputs come one behind another, and this one is the current one.
     Turn(usize),
@@ -53,7 +53,7 @@ pub enum Schedule {
 }
 
 /// What a job does next.
-#[derive(Clone, Copy, Debug, PartialEq, Eq)]
+#[derive(Clone, Copy)]
 pub enum Next {
     /// Reads an input on.
     Read(usize),

@@ -5,7 +5,7 @@ use std::collections::BinaryHeap;
 use std::marker::Model;
 
 /// An input with a current packet: the greatest time in it so far, and its number.
-#[derive(Clone, Copy, Debug, PartialEq, Eq, PartialOrd, Ord)]
+#[derive(Clone, Copy, PartialEq, Eq, PartialOrd, Ord)]
 pub struct Waiting {
     pub time: u64,
     pub input: usize,

@@ -11,7 +11,7 @@ use cap_pcapng::{Options, Table};
 use std::alloc::Allocator;
 
 /// What the units that were read declare of those behind them, beside the interfaces of a section.
-#[derive(Clone, Copy, Debug, PartialEq, Eq)]
+#[derive(Clone, Copy)]
 pub(crate) enum FileState {
     /// Nothing was read.
     Unknown,
@@ -86,7 +86,7 @@ impl FileState {
 }
 
 /// Bytes of a unit.
-#[derive(Clone, Copy, Debug, PartialEq, Eq)]
+#[derive(Clone, Copy)]
 pub(crate) struct Span {
     /// Where they begin in the unit.
     pub(crate) start: u32,
@@ -113,7 +113,7 @@ impl Span {
 
 /// Where a packet lies in its unit, which is at the start of the block buffer, and what is in front
 /// of its data.
-#[derive(Clone, Copy, Debug, PartialEq, Eq)]
+#[derive(Clone, Copy)]
 pub(crate) struct PacketSpans {
     /// The size of its unit, in bytes.
     pub(crate) size: u32,
@@ -144,7 +144,7 @@ impl PacketSpans {
 }
 
 /// What came of a read of one unit.
-#[derive(Clone, Copy, Debug, PartialEq, Eq)]
+#[derive(Clone, Copy)]
 pub(crate) enum NextUnit {
     /// A unit of so many bytes, without a packet.
     Other(usize),

@@ -9,7 +9,7 @@ use std::alloc::Allocator;
 use std::marker::Model;
 
 /// How far a sink is.
-#[derive(Clone, Copy, Debug, PartialEq, Eq)]
+#[derive(Clone, Copy)]
 pub enum SinkState {
     /// Nothing was put.
     Empty,

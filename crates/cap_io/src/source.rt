@@ -9,7 +9,7 @@ use std::alloc::Allocator;
 use std::marker::Model;
 
 /// What a capture is, by its first bytes.
-#[derive(Clone, Copy, Debug, PartialEq, Eq)]
+#[derive(Clone, Copy)]
 pub enum Kind {
     /// A pcap savefile with microseconds.
     Pcap,
@@ -19,7 +19,7 @@ pub enum Kind {
 }
 
 /// How far a source is.
-#[derive(Clone, Copy, Debug, PartialEq, Eq)]
+#[derive(Clone, Copy)]
 pub(crate) enum Stage {
     /// The next unit was not read yet.
     Between,

@@ -76,7 +76,7 @@ pub struct Packet {
 }
 
 /// What is declared, beside the interfaces of a section.
-#[derive(Clone, Copy, Debug, PartialEq, Eq)]
+#[derive(Clone, Copy)]
 pub(crate) enum Form {
     Unknown,
     Pcap(Head),

@@ -17,7 +17,7 @@ use cap_pcap::Head;
 use cap_pcapng::{Options, begins_section};
 
 /// What a call found.
-#[derive(Clone, Copy, Debug, PartialEq, Eq)]
+#[derive(Clone, Copy)]
 pub enum Found {
     /// A unit without a packet.
     Unit,

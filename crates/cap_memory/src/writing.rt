@@ -34,7 +34,7 @@ const MOST_NAME: usize = 255;
 const MOST_INTERFACES: u32 = 4096;
 
 /// What became of bytes that were to be put into a buffer.
-#[derive(Clone, Copy, Debug, PartialEq, Eq)]
+#[derive(Clone, Copy)]
 pub enum Written {
     /// They are at its start, so many.
     Whole(usize),

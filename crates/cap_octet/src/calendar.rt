@@ -5,7 +5,7 @@ ghost use Rattle.cap_octet.specs.Calendar.{ymd, day_from_epoch};
 use jiff_core::civil::Date;
 
 /// A day of the Gregorian calendar, from 1970 on. Months and days count from 1.
-#[derive(Clone, Copy, Debug, PartialEq, Eq)]
+#[derive(Clone, Copy)]
 pub struct CalendarDay {
     pub year: u16,
     pub month: u8,

@@ -11,7 +11,7 @@ ghost use Rattle.cap_octet.specs.Device.{count_of, failures_of};
 pub struct DeviceFault;
 
 /// A writer stopped after the first `written` bytes of what it was given.
-#[derive(Clone, Copy, Debug, PartialEq, Eq)]
+#[derive(Clone, Copy, PartialEq, Eq)]
 pub struct Stopped {
     pub written: usize,
 }

@@ -1,7 +1,7 @@
 //! The formats that captures are written in.
 
 /// A savefile format. All of them are written little-endian.
-#[derive(Clone, Copy, Debug, PartialEq, Eq)]
+#[derive(Clone, Copy)]
 pub enum Format {
     /// pcap with microseconds (draft-ietf-opsawg-pcap).
     Pcap,

@@ -5,7 +5,7 @@ ghost use Rattle.cap_octet.specs.Number.{u16_in, u32_in};
 use byteorder::{BigEndian, ByteOrder, LittleEndian};
 
 /// Which byte of a number comes first.
-#[derive(Clone, Copy, Debug, PartialEq, Eq)]
+#[derive(Clone, Copy)]
 pub enum Order {
     /// The lowest.
     Little,

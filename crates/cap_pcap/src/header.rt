@@ -18,14 +18,14 @@ const NANOSECOND_MAGIC: u32 = 0xa1b2_3c4d;
 pub(crate) const MOST_CAPTURED: u32 = 262_144;
 
 /// The parts of a second in which a savefile counts.
-#[derive(Clone, Copy, Debug, PartialEq, Eq)]
+#[derive(Clone, Copy)]
 pub enum Resolution {
     Microseconds,
     Nanoseconds,
 }
 
 /// What a file header says of all packets behind it.
-#[derive(Clone, Copy, Debug, PartialEq, Eq)]
+#[derive(Clone, Copy)]
 pub struct Head {
     /// The byte order of all numbers in the file.
     pub order: Order,
@@ -37,7 +37,7 @@ pub struct Head {
 }
 
 /// What a record says of its packet.
-#[derive(Clone, Copy, Debug, PartialEq, Eq)]
+#[derive(Clone, Copy)]
 pub struct RecordHead {
     /// Nanoseconds since 1970-01-01 00:00:00 UTC.
     pub time: u64,

@@ -13,7 +13,7 @@ use crate::options::{Options, padded_length};
 use cap_octet::{Fault, Order, u16_at, u32_at};
 
 /// A block that passed its own checks (draft-ietf-opsawg-pcapng, "Block Types").
-#[derive(Clone, Copy, Debug, PartialEq, Eq)]
+#[derive(Clone, Copy)]
 pub enum Block<'a> {
     Section,
     Interface(InterfaceBlock<'a>),
@@ -24,7 +24,7 @@ pub enum Block<'a> {
 }
 
 /// An interface description block.
-#[derive(Clone, Copy, Debug, PartialEq, Eq)]
+#[derive(Clone, Copy)]
 pub struct InterfaceBlock<'a> {
     /// The interface that it describes.
     pub interface: Interface<'a>,
@@ -33,7 +33,7 @@ pub struct InterfaceBlock<'a> {
 }
 
 /// An enhanced packet block.
-#[derive(Clone, Copy, Debug, PartialEq, Eq)]
+#[derive(Clone, Copy)]
 pub struct EnhancedBlock<'a> {
     /// The byte order of the block.
     pub order: Order,
@@ -50,7 +50,7 @@ pub struct EnhancedBlock<'a> {
 }
 
 /// A simple packet block.
-#[derive(Clone, Copy, Debug, PartialEq, Eq)]
+#[derive(Clone, Copy)]
 pub struct SimpleBlock<'a> {
     /// The original length, in bytes.
     pub orig: u32,

@@ -11,7 +11,7 @@ const BYTE_ORDER_MAGIC: u32 = 0x1a2b_3c4d;
 pub(crate) const MOST_BLOCK: u32 = 1_048_576;
 
 /// The types of blocks that are told apart (draft-ietf-opsawg-pcapng, "Block Types").
-#[derive(Clone, Copy, Debug, PartialEq, Eq)]
+#[derive(Clone, Copy)]
 pub enum BlockType {
     /// The section header block.
     Section,
@@ -28,7 +28,7 @@ pub enum BlockType {
 }
 
 /// What a block's first 12 bytes say of it.
-#[derive(Clone, Copy, Debug, PartialEq, Eq)]
+#[derive(Clone, Copy)]
 pub struct Frame {
     /// The byte order of all numbers in the block.
     pub order: Order,

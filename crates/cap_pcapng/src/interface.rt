@@ -30,7 +30,7 @@ const MOST_NAME: usize = 255;
 pub type Name = ArrayVec<u8, MOST_NAME>;
 
 /// An interface, with its name lent.
-#[derive(Clone, Copy, Debug, PartialEq, Eq)]
+#[derive(Clone, Copy)]
 pub struct Interface<'a> {
     /// The link type (tcpdump.org's list of LINKTYPE_ values).
     pub link: u16,

@@ -12,7 +12,7 @@ const COMMENT: u16 = 1;
 
 /// The options of a block, in order, up to code 0 or the end of their bytes. A value that doesn't
 /// fit in the bytes is fault 8, and nothing comes behind it (draft-ietf-opsawg-pcapng, "Options").
-#[derive(Clone, Copy, Debug, PartialEq, Eq)]
+#[derive(Clone, Copy)]
 pub struct Options<'a> {
     /// The byte order of the block.
     pub order: Order,
@@ -21,7 +21,7 @@ pub struct Options<'a> {
 }
 
 /// An option, with its value lent.
-#[derive(Clone, Copy, Debug, PartialEq, Eq)]
+#[derive(Clone, Copy)]
 pub struct BlockOption<'a> {
     pub code: u16,
     /// At most 65,535 bytes.

@@ -11,7 +11,7 @@ use crate::text::Text;
 use cap_octet::{DeviceFault, Output, Packet, write_all};
 
 /// What is printed beside the network header (tcpdump(1)).
-#[derive(Clone, Copy, Debug, PartialEq, Eq)]
+#[derive(Clone, Copy)]
 pub struct Options {
     /// The link header (`-e`).
     pub link: bool,

@@ -29,7 +29,7 @@ use std::alloc::Allocator;
 use std::marker::Model;
 
 /// What a step leaves to do; the status where the job ended.
-#[derive(Clone, Copy, Debug, PartialEq, Eq)]
+#[derive(Clone, Copy)]
 pub enum Turn {
     More,
     Done(u8),

@@ -13,7 +13,7 @@ use std::alloc::Allocator;
 use std::marker::Model;
 
 /// What a job writes.
-#[derive(Clone, Copy, Debug, PartialEq, Eq)]
+#[derive(Clone, Copy)]
 pub enum Writing {
     /// The packets that pass, as a capture.
     Capture(Format),

@@ -11,7 +11,7 @@ use cap_octet::{DeviceFault, Output, date_bytes, write_parts};
 use itoa::Buffer;
 
 /// What is reported of a file.
-#[derive(Clone, Copy, Debug)]
+#[derive(Clone, Copy)]
 pub struct Report {
     /// Its format, by its first bytes.
     pub kind: Option<Kind>,

@@ -17,7 +17,7 @@ use cap_octet::{Fault, Input, Output, Packet};
 use std::alloc::Allocator;
 
 /// How a job ended.
-#[derive(Clone, Copy, Debug, PartialEq, Eq)]
+#[derive(Clone, Copy)]
 pub enum JobEnd {
     /// All is written.
     Complete,

@@ -3,7 +3,7 @@ use cap_octet::Packet;
 use std::marker::Model;
 
 /// Sums and times of the packets of a file, taken one by one.
-#[derive(Clone, Copy, Debug)]
+#[derive(Clone, Copy)]
 pub struct Tally {
     /// How many packets there are.
     pub(crate) count: u128,

@@ -1,5 +1,5 @@
 -- What holds of trees of marks, and of the index that they are.
-use Rattle.std.proofs.Common.{◌≡◌, ◌≢◌, ℕ, zero, suc, ◌+◌, ◌-◌, ◌^◌, ◌<◌, ◌≤◌, ◌⊎◌, inl, inr, Bool, true, false, not, ◌&&◌, List, [], ◌∷◌, ◌++◌, length, drop, refl, sym, ap, ◌∙◌, subst, arith, IsTrue, min, set}
+use Rattle.std.proofs.Common.{◌≡◌, ◌≢◌, ℕ, ◌+◌, ◌-◌, ◌^◌, ◌<◌, ◌≤◌, ◌⊎◌, inl, inr, Bool, true, false, not, ◌&&◌, List, length, refl, sym, ap, ◌∙◌, subst, arith, IsTrue, min, set}
 use Rattle.std.proofs.lemmas.Bool.{cases_order}
 use Rattle.cap_window.specs.Marks.{is_same_mark}
 use Rattle.std.proofs.lemmas.List.{get_or-set_other, get_or-set_same}

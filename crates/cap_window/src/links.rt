@@ -9,7 +9,7 @@ use std::alloc::Allocator;
 
 /// How many places before a mark the tops of the two trees below it are, of the marks with a 0 and
 /// of those with a 1 at its depth. Where that is before the window, there is none.
-#[derive(Clone, Copy, Debug)]
+#[derive(Clone, Copy)]
 pub struct Links {
     pub zeros: u32,
     pub ones: u32,

@@ -5,7 +5,7 @@ ghost use Rattle.cap_window.specs.Marks.{mark_of};
 use md5::{Digest, Md5};
 
 /// The number of captured bytes of a packet and their MD5 (RFC 1321).
-#[derive(Clone, Copy, Debug)]
+#[derive(Clone, Copy)]
 pub struct Mark {
     pub length: u32,
     pub digest: [u8; 16],

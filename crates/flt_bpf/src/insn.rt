@@ -3,7 +3,7 @@
 /// One instruction of a program. Which of the fields it uses, and for what, depends on its code;
 /// the others may hold anything.
 #[repr(C)]
-#[derive(Clone, Copy, PartialEq, Eq, Debug)]
+#[derive(Clone, Copy, PartialEq, Eq)]
 pub struct Insn {
     /// What the instruction does.
     pub code: u16,

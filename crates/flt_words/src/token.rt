@@ -112,7 +112,7 @@ pub enum TokenKind {
 }
 
 /// A token, and the place of its first byte in the text, counted from 1.
-#[derive(Clone, Copy, PartialEq, Eq)]
+#[derive(Clone, Copy)]
 pub struct Token {
     pub kind: TokenKind,
     pub place: u32,
