@@ -29,8 +29,9 @@ use Rattle.flt_gen.specs.Code.{plain, computation, constant, constant_operand, b
 use Rattle.flt_gen.specs.declared.follow.Knowledge.{Knowledge}
 use Rattle.flt_gen.specs.Follow.{and_fork, load_code, fact, always, and_fact, target}
 use Rattle.flt_gen.specs.declared.elementary.Elementary.{Elementary}
-use Rattle.flt_gen.specs.Layout.{is_branch, JUMP, IsNeeded, JumpsAreNeeded}
-use Rattle.flt_gen.proofs.Tails.{tail, Extends, extends_none, extends_on, test_extends, relation_extends, emitted_extends, by_test, by_right}
+use Rattle.flt_short.specs.Layout.{is_branch, JUMP, IsNeeded, JumpsAreNeeded}
+use Rattle.flt_gen.proofs.Tails.{Extends, extends_none, extends_on, test_extends, relation_extends, emitted_extends, by_right}
+use Rattle.flt_short.proofs.Basics.{tail, by_test}
 use Rattle.flt_bpf.specs.declared.operation.Operation.TheVariants.{Jump, JumpIf, LoadIndirect}
 
 pub load_no_jump : (w : Width) → load_code w ≢ JUMP

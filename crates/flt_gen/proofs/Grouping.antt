@@ -25,7 +25,7 @@ use Rattle.flt_gen.specs.Primitives.{net_test, net_formula, port_test, port_form
 use Rattle.flt_gen.specs.Reading.{formula}
 use Rattle.flt_gen.specs.Counts.{tests, nodes, words}
 use Rattle.flt_gen.specs.Group.{Group, no_group, insert_ascending, with_member, same_type, same_protocol, same_direction, goes_with, member_number, group_and, larger_group, hosts_formula, one_formula, several_formula, formula_by, group_formula, or_any, or_group, truth_member, choice, grouped_formula, MOST_TOGETHER}
-use Rattle.flt_gen.proofs.Onward.{both_true}
+use Rattle.flt_short.proofs.Basics.{both_true}
 use Rattle.flt_gen.proofs.Ascending.{Ascending, Searchable, ascending_inserted, length_inserted, one_of_inserted}
 use Rattle.flt_gen.proofs.Exclusive.{Apt, ip_no_arp, ip_no_rarp, arp_no_rarp}
 use Rattle.flt_gen.proofs.Counted.{Bare, bare_one, bare_guard, bare_choice, bare_any, bare_net, bare_ports, net_tests_fit, port_tests_by, port_tests_fit, tests_fit, nodes_fit, words_fit, formula_apt, left_false, right_false}

@@ -35,7 +35,8 @@ use Rattle.flt_gen.specs.Follow.{and_fork, fact, always, and_fact, target}
 use Rattle.flt_gen.specs.declared.elementary.Elementary.{Elementary}
 use Rattle.flt_gen.proofs.Onward.{target_inside}
 use Rattle.flt_bpf.proofs.Suffix.{IsFaultless}
-use Rattle.flt_gen.proofs.Tails.{by_reach, by_test, by_right}
+use Rattle.flt_gen.proofs.Tails.{by_reach, by_right}
+use Rattle.flt_short.proofs.Basics.{by_test}
 use Rattle.flt_gen.proofs.Numbers.{operand_is}
 use Rattle.flt_bpf.specs.declared.operation.Operation.TheVariants.{LoadAbsolute, LoadIndirect, Load, LoadHeaderLength, Store, Compute, Negate, Jump, CopyToIndex}
 use Rattle.flt_bpf.specs.declared.operation.Register.TheVariants.{Accumulator}

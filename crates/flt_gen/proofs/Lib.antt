@@ -18,9 +18,6 @@ pub mod Room
 pub mod Counted
 pub mod Together
 pub mod Grouping
-pub mod Reloads
-pub mod Passing
 pub mod Whole
 pub mod Turned
 pub mod Masks
-pub mod Likeness

@@ -21,7 +21,8 @@ use Rattle.flt_gen.specs.Elementary.{Reading, Yes, No, Rejected, reading_of, wit
 use Rattle.flt_gen.specs.declared.follow.Knowledge.{Knowledge}
 use Rattle.flt_gen.specs.Follow.{load_code, same_mask, same_place, is_equal, says_value, test_says, first_of, looks_at, known_outcome, outcome_place, past_mask, past_load, onward, step_from, follow, MOST_STEPS, fact, facts_of, agreed_place, followed_place, past_index, target}
 use Rattle.flt_bpf.proofs.Suffix.{answer_of, answer_after, answer_drop}
-use Rattle.flt_gen.proofs.Tails.{tail, Extends, extends_none, extends_put, extends_on}
+use Rattle.flt_gen.proofs.Tails.{Extends, extends_none, extends_put, extends_on}
+use Rattle.flt_short.proofs.Basics.{tail, both_true}
 
 by_bool : (P : ℕ → Type 0) (b : Bool) (x y : ℕ) → (b ≡ true → P x) → (b ≡ false → P y) → P (if b then x else y)
 by_bool P true x y t f = t refl
@@ -30,10 +31,6 @@ by_bool P false x y t f = f refl
 then_some : (c : Bool) (x : Option Bool) (b : Bool) → (if c then x else None) ≡ Some b → (c ≡ true) × (x ≡ Some b)
 then_some true x b e = (refl, e)
 then_some false x b e = cc
-
-pub both_true : (a b : Bool) → (a && b) ≡ true → (a ≡ true) × (b ≡ true)
-both_true true b e = (refl, e)
-both_true false b e = cc
 
 first_case : (o r : Option Bool) (b : Bool) → first_of o r ≡ Some b → (o ≡ Some b) ⊎ (r ≡ Some b)
 first_case None r b e = inr e

@@ -9,7 +9,7 @@ use Rattle.flt_lang.specs.declared.value.Value.{Value}
 use Rattle.flt_gen.specs.Formula.{Formula}
 use Rattle.flt_gen.specs.Group.{Group, MOST_TOGETHER, same_type, same_protocol, same_direction, goes_with, with_member, member_number, group_and, larger_group, group_formula}
 use Rattle.flt_gen.proofs.Ascending.{length_inserted}
-use Rattle.flt_gen.proofs.Onward.{both_true}
+use Rattle.flt_short.proofs.Basics.{both_true}
 use Rattle.flt_bpf.specs.declared.insn.Insn.{Insn}
 use Rattle.flt_bpf.specs.declared.operation.Operand.TheVariants.{Constant, IndexRegister}
 use Rattle.flt_lang.specs.declared.node.Node.{Node}

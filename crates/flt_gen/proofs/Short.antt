@@ -26,8 +26,9 @@ use Rattle.flt_gen.specs.Code.{plain, computation, constant, constant_operand, b
 use Rattle.flt_gen.specs.declared.follow.Knowledge.{Knowledge}
 use Rattle.flt_gen.specs.Follow.{and_fork, fact, always, and_fact, target}
 use Rattle.flt_gen.specs.declared.elementary.Elementary.{Elementary}
-use Rattle.flt_gen.specs.Layout.{JUMP}
-use Rattle.flt_gen.proofs.Tails.{by_test, by_right}
+use Rattle.flt_short.specs.Layout.{JUMP}
+use Rattle.flt_gen.proofs.Tails.{by_right}
+use Rattle.flt_short.proofs.Basics.{by_test}
 use Rattle.flt_gen.proofs.Far.{load_no_jump, indirect_no_jump, operator_no_jump, branch_no_jump}
 use Rattle.flt_bpf.specs.declared.operation.Operation.TheVariants.{Load, Store, Negate, CopyToIndex}
 use Rattle.flt_bpf.specs.declared.operation.Register.TheVariants.{Accumulator}

@@ -2,6 +2,7 @@
 use Rattle.std.proofs.Common.{◌≡◌, ℕ, zero, suc, ◌+◌, ◌-◌, ◌/◌, ◌≤◌, List, [], ◌∷◌, length, take, drop, get_or, Bool, true, false, Option, Some, None, refl, ap, ◌∙◌, arith}
 use Rattle.std.specs.Prelude.{nat_lt, if◌then◌else◌}
 use Rattle.flt_bpf.specs.declared.insn.Insn.{Insn}
+use Rattle.flt_short.proofs.Basics.{tail, by_test}
 use Rattle.flt_bpf.specs.declared.operation.Width.{Width}
 use Rattle.flt_bpf.specs.declared.operation.Test.{Test}
 use Rattle.flt_bpf.specs.declared.operation.Test.TheVariants as test
@@ -28,15 +29,6 @@ use Rattle.flt_gen.specs.declared.follow.Knowledge.{Knowledge}
 use Rattle.flt_gen.specs.Follow.{and_fork, fact, always, nothing, and_fact, target}
 use Rattle.flt_bpf.specs.declared.operation.Operation.TheVariants.{Store, Negate, Jump}
 use Rattle.flt_bpf.specs.declared.operation.Register.TheVariants.{Accumulator}
-
--- by a test
-pub by_test : {A : Type 0} (P : A → Type 0) (b : Bool) (x y : A) → (b ≡ true → P x) → (b ≡ false → P y) → P (if b then x else y)
-by_test P true x y t f = t refl
-by_test P false x y t f = f refl
-
--- the code from a place on
-abbrev pub tail : List Insn → ℕ → List Insn
-tail c place = drop (length c - place) c
 
 -- a longer code is the same from the places of the shorter
 pub record Extends (c d : List Insn) : Type 0 where

@@ -11,7 +11,7 @@ use Rattle.flt_bpf.specs.Valid.{IsValid}
 use Rattle.flt_lang.specs.Tree.{TruthTree, Expression, empty, truth}
 use Rattle.flt_lang.specs.Counts.{words_of, bound_of, truth_tests, truth_size}
 use Rattle.flt_lang.specs.Resolved.{is_unfilled, any_primitive, some_primitive}
-use Rattle.flt_gen.specs.Alike.{Replaces}
+use Rattle.flt_short.specs.Alike.{Replaces}
 use Rattle.flt_gen.specs.declared.link.Link.{Link}
 use Rattle.flt_gen.specs.declared.elementary.Elementary.TheVariants.{Outcome}
 use Rattle.flt_gen.specs.Elementary.{Reading, Yes, No, Rejected}
@@ -21,14 +21,14 @@ use Rattle.flt_gen.specs.Counts.{words, tests, nodes, short_bound_of}
 use Rattle.flt_gen.specs.Follow.{nothing}
 use Rattle.flt_gen.specs.Code.{plain, emit_formula, Block, returns_code, expression_code, from_entry, program_code}
 use Rattle.flt_gen.specs.Correct.{Decides, IsProgramOf}
-use Rattle.flt_gen.specs.Layout.{JUMP, JumpsAreNeeded, IsShort}
+use Rattle.flt_short.specs.Layout.{JUMP, JumpsAreNeeded, IsShort}
 use Rattle.flt_bpf.proofs.Suffix.{IsFaultless, valid_if_faultless, faultless_drop, ends_drop, answer_drop, machine_answers}
 use Rattle.flt_gen.proofs.Onward.{Leads, Settled}
 use Rattle.flt_gen.proofs.Exclusive.{Apt}
 use Rattle.flt_gen.proofs.Runs.{pick, emitted_works}
-use Rattle.flt_gen.specs.Reload.{without_reloads}
-use Rattle.flt_gen.proofs.Reloads.{reloads_answer}
-use Rattle.flt_gen.proofs.Passing.{length_flow, faultless_flow, ends_flow, no_jump_flow, reloads_needed}
+use Rattle.flt_short.specs.Reload.{without_reloads}
+use Rattle.flt_short.proofs.Reloads.{reloads_answer}
+use Rattle.flt_short.proofs.Passing.{length_flow, faultless_flow, ends_flow, no_jump_flow, reloads_needed}
 use Rattle.flt_gen.proofs.Far.{emitted_needed}
 use Rattle.flt_gen.proofs.Short.{emitted_slim, all_put}
 use Rattle.flt_gen.proofs.Grows.{Sits, emitted_sits}

@@ -7,9 +7,10 @@ use Rattle.flt_bpf.specs.declared.operation.AluOperation.TheVariants as arithmet
 use Rattle.flt_bpf.specs.declared.operation.Test.TheVariants as test
 use Rattle.flt_bpf.specs.declared.operation.Operand.TheVariants.{Constant}
 use Rattle.flt_bpf.specs.Instructions.{code_of}
-use Rattle.flt_gen.specs.Layout.{JUMP}
+use Rattle.flt_short.specs.Layout.{JUMP}
 use Rattle.flt_words.specs.declared.token.Comparison.{Comparison}
 use Rattle.flt_words.specs.declared.token.Comparison.TheVariants.{Equal}
+use Rattle.flt_short.specs.Alike.{MASK, EQUAL}
 use Rattle.flt_gen.specs.declared.elementary.Offset.{Offset}
 use Rattle.flt_gen.specs.declared.elementary.Offset.TheVariants.{Fixed, AfterHeader}
 use Rattle.flt_gen.specs.declared.elementary.FieldTest.{FieldTest}
@@ -22,13 +23,6 @@ use Rattle.flt_gen.specs.declared.follow.Knowledge.{Knowledge}
 -- the code of a load at a fixed place
 abbrev pub load_code : Width → ℕ
 load_code width = code_of (LoadAbsolute width)
-
--- the code of a mask, and that of a test whether A is a number
-abbrev pub MASK : ℕ
-MASK = code_of (Compute arithmetic.And Constant)
-
-abbrev pub EQUAL : ℕ
-EQUAL = code_of (JumpIf test.Equal Constant)
 
 abbrev pub same_mask : Option ℕ → Option ℕ → Bool
 same_mask None None = true

@@ -6,11 +6,8 @@ pub mod Reading
 pub mod Group
 pub mod Code
 pub mod Counts
-pub mod Layout
 pub mod Walk
 pub mod Correct
 pub mod Follow
 pub mod Emits
 pub mod Laws
-pub mod Reload
-pub mod Alike

@@ -2,7 +2,6 @@
 #![tactic(auto)]
 
 mod address;
-mod alike;
 mod among;
 mod code;
 mod context;
@@ -16,8 +15,6 @@ mod number;
 mod port;
 mod primitive;
 mod program;
-mod reload;
-mod shorten;
 mod table;
 mod value;
 mod waiting;
@@ -25,4 +22,3 @@ mod walk;
 
 pub use link::Link;
 pub use program::generate;
-pub use shorten::shortened;

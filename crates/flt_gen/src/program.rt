@@ -3,16 +3,15 @@
 ghost use Rattle.std.specs.Prelude.{◌≡◌, ◌≤◌, length, IfOk, reverse};
 ghost use Rattle.flt_gen.specs.Correct.{IsProgramOf};
 ghost use Rattle.flt_gen.specs.Counts.{short_bound_of};
-ghost use Rattle.flt_gen.specs.Layout.{JumpsAreNeeded, IsShort};
+ghost use Rattle.flt_short.specs.Layout.{JumpsAreNeeded, IsShort};
 ghost use Rattle.flt_gen.specs.Walk.{emit_nodes, start, insns_of};
 
 use crate::link::Link;
-use crate::reload::pass_loads;
-use crate::shorten::shortened;
 use crate::walk::Walk;
 use flt_bpf::insn::Insn;
 use flt_bpf::program::{Program, check};
 use flt_lang::{Checked, Node};
+use flt_short::{pass_loads, shortened};
 use std::alloc::{AllocError, Allocator};
 
 /// The instructions of a program for the tree with these nodes.

@@ -2,12 +2,12 @@
 
 ghost use Rattle.std.specs.Prelude.{◌≡◌, ◌≢◌, ◌↔◌, length, IsTrue, All};
 ghost use Rattle.flt_bpf.specs.Instructions.{operation_of};
-ghost use Rattle.flt_gen.specs.Alike.{Replaces, reads_accumulator, reads_index};
-ghost use Rattle.flt_gen.specs.Alike.{sets_accumulator, sets_index, implied, fits, goes_on};
-ghost use Rattle.flt_gen.specs.Alike.{same_step, one_test, direct_code, is_number, direct_load};
-ghost use Rattle.flt_gen.specs.Alike.{is_indirect, adds_header, loads_alike, header_load};
-ghost use Rattle.flt_gen.specs.Alike.{stands, are_alike, begins};
-ghost use Rattle.flt_gen.specs.Layout.{JUMP};
+ghost use Rattle.flt_short.specs.Alike.{Replaces, reads_accumulator, reads_index};
+ghost use Rattle.flt_short.specs.Alike.{sets_accumulator, sets_index, implied, fits, goes_on};
+ghost use Rattle.flt_short.specs.Alike.{same_step, one_test, direct_code, is_number, direct_load};
+ghost use Rattle.flt_short.specs.Alike.{is_indirect, adds_header, loads_alike, header_load};
+ghost use Rattle.flt_short.specs.Alike.{stands, are_alike, begins};
+ghost use Rattle.flt_short.specs.Layout.{JUMP};
 
 use flt_bpf::insn::Insn;
 use flt_bpf::operation::{AluOperation, Operand, Operation, Register, Source, Test, decode};

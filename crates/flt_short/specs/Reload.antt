@@ -4,8 +4,8 @@ use Rattle.flt_bpf.specs.declared.insn.Insn.{Insn}
 use Rattle.flt_bpf.specs.declared.operation.Operation.{Operation}
 use Rattle.flt_bpf.specs.declared.operation.Operation.TheVariants.{LoadAbsolute, LoadIndirect, Jump, JumpIf, ReturnConstant, ReturnAccumulator}
 use Rattle.flt_bpf.specs.Instructions.{operation_of}
-use Rattle.flt_gen.specs.declared.reload.Held.{Held}
-use Rattle.flt_gen.specs.declared.reload.Held.TheVariants.{Unreached, Field, Unknown}
+use Rattle.flt_short.specs.declared.reload.Held.{Held}
+use Rattle.flt_short.specs.declared.reload.Held.TheVariants.{Unreached, Field, Unknown}
 
 -- what A holds where a run comes on two ways
 abbrev pub held_on_both : Held → Held → Held

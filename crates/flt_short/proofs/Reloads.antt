@@ -13,12 +13,12 @@ use Rattle.flt_bpf.specs.declared.operation.Source.TheVariants.{Immediate, Memor
 use Rattle.flt_bpf.specs.declared.operation.Width.{Width}
 use Rattle.flt_bpf.specs.Instructions.{operation_of}
 use Rattle.flt_bpf.specs.Machine.{Next, Goes, Ends, Lost, step, does, does_if_known, into, word_into, with_register, holds, value_of, field, computed, held}
-use Rattle.flt_gen.specs.declared.reload.Held.{Held}
-use Rattle.flt_gen.specs.declared.reload.Held.TheVariants.{Unreached, Field, Unknown}
-use Rattle.flt_gen.specs.Reload.{held_on_both, loads, past_load_at, offset_past_load, insn_past_loads, with_arrival, with_arrivals_by, with_arrivals, flow, without_reloads}
+use Rattle.flt_short.specs.declared.reload.Held.{Held}
+use Rattle.flt_short.specs.declared.reload.Held.TheVariants.{Unreached, Field, Unknown}
+use Rattle.flt_short.specs.Reload.{held_on_both, loads, past_load_at, offset_past_load, insn_past_loads, with_arrival, with_arrivals_by, with_arrivals, flow, without_reloads}
 use Rattle.flt_bpf.proofs.Suffix.{answer_of, answer_after}
-use Rattle.flt_gen.proofs.Onward.{both_true}
-use Rattle.flt_gen.proofs.Tails.{by_test}
+use Rattle.flt_short.proofs.Basics.{both_true}
+use Rattle.flt_short.proofs.Basics.{by_test}
 
 pub turned_code : (op : Option Operation) (h : Held) (i : Insn) (is : List Insn) → (insn_past_loads op h i is).code ≡ i.code
 turned_code None h i is = refl

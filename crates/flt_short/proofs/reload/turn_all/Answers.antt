@@ -1,8 +1,8 @@
 -- Each instruction is done in its turn.
 use Rattle.std.proofs.Common.{◌≡◌, ◌+◌, ◌∙◌, sym, ap, length, drop, arith}
 use Rattle.std.proofs.lemmas.List.{length-set, take_rest}
-use Rattle.flt_gen.proofs.Reloads.{flow_from, flow_step, flow_all, passed_length}
-use Rattle.flt_gen.proofs.reload.turn_all.Goals as goal
+use Rattle.flt_short.proofs.Reloads.{flow_from, flow_step, flow_all, passed_length}
+use Rattle.flt_short.proofs.reload.turn_all.Goals as goal
 
 pub insns-preserved : goal.insns-preserved
 insns-preserved c =

@@ -1,8 +1,8 @@
 -- What is left to do leads to the same code.
 use Rattle.std.proofs.Common.{◌≡◌, ◌-◌, ◌≤◌, length, drop}
-use Rattle.flt_gen.specs.Reload.{flow}
-use Rattle.flt_gen.proofs.Reloads.{flow_from}
-use Rattle.flt_gen.proofs.reload.turn_all.Given as goal
+use Rattle.flt_short.specs.Reload.{flow}
+use Rattle.flt_short.proofs.Reloads.{flow_from}
+use Rattle.flt_short.proofs.reload.turn_all.Given as goal
 
 abbrev pub invariant-insns : goal.invariant-insns
 invariant-insns l = record {

@@ -1,8 +1,8 @@
 -- By what was tested the code replaces the old code.
 use Rattle.std.proofs.Common.{sym, ◌∙◌}
 use Rattle.std.specs.Prelude.{Result, Ok, Err, IsTrue, OnOk, is_ok}
-use Rattle.flt_gen.proofs.Likeness.{replaced}
-use Rattle.flt_gen.proofs.alike.replaces.Goals as goal
+use Rattle.flt_short.proofs.Likeness.{replaced}
+use Rattle.flt_short.proofs.alike.replaces.Goals as goal
 
 of_ok : {A E : Type 0} (r : Result A E) (P : Type 0) → IsTrue (is_ok r) → OnOk r P → P
 of_ok (Ok v) P t h = h

@@ -17,14 +17,13 @@ use Rattle.flt_bpf.specs.declared.operation.Width.{Width}
 use Rattle.flt_bpf.specs.declared.operation.Width.TheVariants.{Word, HalfWord, Byte}
 use Rattle.flt_bpf.specs.Instructions.{code_of, operation_of}
 use Rattle.flt_bpf.specs.Machine.{Next, Goes, Ends, Lost, step, does, does_if_known, into, word_into, into_word, holds, field, computed, header_length, Answered, run_from, follow, step_if_there, machine, start}
-use Rattle.flt_gen.specs.declared.alike.Landing.{Landing}
+use Rattle.flt_short.specs.declared.alike.Landing.{Landing}
 use Rattle.flt_bpf.specs.Valid.{IsValid}
-use Rattle.flt_gen.specs.Layout.{JUMP}
-use Rattle.flt_gen.specs.Alike.{Replaces, reads_accumulator, reads_index, implied, fits_at, fits, goes_on, same_step, one_test, ANY_BIT, direct_code, is_number, direct_load, is_indirect, adds_header, loads_alike, header_load, code_from, stands_at, stands, are_alike, begins}
-use Rattle.flt_gen.specs.Follow.{MASK, EQUAL}
+use Rattle.flt_short.specs.Layout.{JUMP}
+use Rattle.flt_short.specs.Alike.{MASK, EQUAL, Replaces, reads_accumulator, reads_index, implied, fits_at, fits, goes_on, same_step, one_test, ANY_BIT, direct_code, is_number, direct_load, is_indirect, adds_header, loads_alike, header_load, code_from, stands_at, stands, are_alike, begins}
 use Rattle.flt_bpf.proofs.Suffix.{answer_of, answer_after, answer_drop, machine_answers}
-use Rattle.flt_gen.proofs.Onward.{both_true}
-use Rattle.flt_gen.proofs.Tails.{tail}
+use Rattle.flt_short.proofs.Basics.{both_true}
+use Rattle.flt_short.proofs.Basics.{tail}
 
 -- how many instructions a run meets behind an instruction, and from a place on
 abbrev pub steps_after : (ℕ → State → ℕ) → Next → ℕ

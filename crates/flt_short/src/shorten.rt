@@ -3,7 +3,7 @@
 
 ghost use Rattle.std.specs.Prelude.{IfOk};
 ghost use Rattle.std.specs.Option.{IfSome};
-ghost use Rattle.flt_gen.specs.Alike.{Replaces};
+ghost use Rattle.flt_short.specs.Alike.{Replaces};
 
 use crate::alike::{
     Landing, adds_header, is_indirect, reads_accumulator, reads_index, replaces, sets_accumulator,

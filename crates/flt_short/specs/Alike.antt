@@ -8,13 +8,12 @@ use Rattle.flt_bpf.specs.declared.operation.Register.TheVariants.{Accumulator, I
 use Rattle.flt_bpf.specs.declared.operation.Source.TheVariants.{Immediate}
 use Rattle.flt_bpf.specs.declared.operation.Operand.TheVariants.{Constant, IndexRegister}
 use Rattle.flt_bpf.specs.declared.operation.Test.TheVariants as test
-use Rattle.flt_bpf.specs.declared.operation.AluOperation.TheVariants.{Add}
+use Rattle.flt_bpf.specs.declared.operation.AluOperation.TheVariants.{Add, And}
 use Rattle.flt_bpf.specs.Instructions.{code_of, operation_of}
 use Rattle.flt_bpf.specs.Machine.{machine, Answered}
 use Rattle.flt_bpf.specs.Valid.{IsValid}
-use Rattle.flt_gen.specs.declared.alike.Landing.{Landing}
-use Rattle.flt_gen.specs.Follow.{MASK, EQUAL}
-use Rattle.flt_gen.specs.Layout.{JUMP, JumpsAreNeeded}
+use Rattle.flt_short.specs.declared.alike.Landing.{Landing}
+use Rattle.flt_short.specs.Layout.{JUMP, JumpsAreNeeded}
 
 -- a run comes to this answer in at most so many instructions
 pub record Comes (prog : List Insn) (p : List ℕ) (n answer most : ℕ) : Type 0 where
@@ -101,7 +100,13 @@ same_step (Some op) j l i ls =
     && ((implied (reads_accumulator op) l.accumulator && implied (reads_index op) l.index)
     && goes_on op j l i ls)
 
--- the code of a test whether A has a bit of k
+-- the code of a mask, that of a test whether A is a number, and that of a test whether A has a bit of k
+abbrev pub MASK : ℕ
+MASK = code_of (Compute And Constant)
+
+abbrev pub EQUAL : ℕ
+EQUAL = code_of (JumpIf test.Equal Constant)
+
 abbrev pub ANY_BIT : ℕ
 ANY_BIT = code_of (JumpIf test.AnyBit Constant)
 

@@ -1,6 +1,0 @@
--- A program replaces itself.
-use Rattle.flt_gen.proofs.Likeness.{itself}
-use Rattle.flt_gen.proofs.shorten.shortened.Goals as goal
-
-pub returns : goal.returns
-returns g c = itself c.args.insns.items

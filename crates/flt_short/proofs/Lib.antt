@@ -1,0 +1,4 @@
+pub mod Basics
+pub mod Reloads
+pub mod Passing
+pub mod Likeness
