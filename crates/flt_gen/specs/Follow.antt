@@ -2,10 +2,7 @@
 use Rattle.std.specs.Prelude.{ℕ, zero, suc, ◌-◌, ◌==◌, max, Bool, true, false, if◌then◌else◌, ◌&&◌, List, [], ◌∷◌, length, drop, Option, Some, None}
 use Rattle.flt_bpf.specs.declared.insn.Insn.{Insn}
 use Rattle.flt_bpf.specs.declared.operation.Width.{Width}
-use Rattle.flt_bpf.specs.declared.operation.Operation.TheVariants.{LoadAbsolute, LoadHeaderLength, Compute, JumpIf}
-use Rattle.flt_bpf.specs.declared.operation.AluOperation.TheVariants as arithmetic
-use Rattle.flt_bpf.specs.declared.operation.Test.TheVariants as test
-use Rattle.flt_bpf.specs.declared.operation.Operand.TheVariants.{Constant}
+use Rattle.flt_bpf.specs.declared.operation.Operation.TheVariants.{LoadAbsolute, LoadHeaderLength}
 use Rattle.flt_bpf.specs.Instructions.{code_of}
 use Rattle.flt_short.specs.Layout.{JUMP}
 use Rattle.flt_words.specs.declared.token.Comparison.{Comparison}

@@ -4,10 +4,37 @@ use flt_words::{Comparison, ExprFault, Join, Operator, Protocol, Token, TokenKin
 use std::alloc::Global;
 use std::test::Fail;
 
+/// What a token is, and its numbers: as much as tells those of the tables apart.
+type Shown = (&'static str, u128, u128);
+
+fn shown(kind: TokenKind) -> Shown {
+    match kind {
+        TokenKind::Number(number) => ("number", u128::from(number), 0),
+        TokenKind::Dotted { address, parts } => ("dotted", u128::from(address), u128::from(parts)),
+        TokenKind::Range { first, last } => ("range", u128::from(first), u128::from(last)),
+        TokenKind::Mac(address) => ("mac", u128::from(address), 0),
+        TokenKind::Ip6(address) => ("ip6", address, 0),
+        TokenKind::Protocol(Protocol::Tcp) => ("tcp", 0, 0),
+        TokenKind::Protocol(Protocol::Ip) => ("ip", 0, 0),
+        TokenKind::Operator(Operator::Subtract) => ("-", 0, 0),
+        TokenKind::Operator(Operator::ShiftLeft) => ("<<", 0, 0),
+        TokenKind::Join(Join::And) => ("and", 0, 0),
+        TokenKind::Comparison(Comparison::Equal) => ("=", 0, 0),
+        TokenKind::Len => ("len", 0, 0),
+        TokenKind::Not => ("not", 0, 0),
+        TokenKind::Open => ("(", 0, 0),
+        TokenKind::Close => (")", 0, 0),
+        TokenKind::OpenBracket => ("[", 0, 0),
+        TokenKind::CloseBracket => ("]", 0, 0),
+        TokenKind::Colon => (":", 0, 0),
+        _ => ("other", 0, 0),
+    }
+}
+
 /// Whether these are the tokens, each at its place.
-fn are(tokens: &[Token], expected: &[(u32, TokenKind)]) -> bool {
+fn are(tokens: &[Token], expected: &[(u32, Shown)]) -> bool {
     for (token, (place, kind)) in tokens.iter().zip(expected) {
-        if token.place != *place || token.kind != *kind {
+        if token.place != *place || shown(token.kind) != *kind {
             return false;
         }
     }
@@ -15,90 +42,57 @@ fn are(tokens: &[Token], expected: &[(u32, TokenKind)]) -> bool {
 }
 
 /// Whether a text has these tokens, each at its place.
-fn has_tokens(alloc: Global, text: &str, expected: &[(u32, TokenKind)]) -> Result<bool, ExprFault> {
+fn has_tokens(alloc: Global, text: &str, expected: &[(u32, Shown)]) -> Result<bool, ExprFault> {
     let tokens = lex(alloc, text)?;
     Ok(are(&tokens, expected))
 }
 
 /// Whether a text is one token, with a blank on each side.
-fn is_token(alloc: Global, word: &str, kind: TokenKind) -> Result<bool, Fail> {
+fn is_token(alloc: Global, word: &str, kind: Shown) -> Result<bool, Fail> {
     let text = format!(in alloc; " {word} ")?;
     Ok(has_tokens(alloc, text.as_str(), &[(2, kind)])?)
 }
 
 /// Words, and the tokens that they are.
-const VALUES: &[(&str, TokenKind)] = &[
-    ("0", TokenKind::Number(0)),
-    ("4294967295", TokenKind::Number(4_294_967_295)),
-    ("00", TokenKind::Number(0)),
-    ("010", TokenKind::Number(8)),
-    ("037777777777", TokenKind::Number(4_294_967_295)),
-    ("0x0", TokenKind::Number(0)),
-    ("0xfF", TokenKind::Number(255)),
-    ("0X00000000Abcd", TokenKind::Number(0xabcd)),
-    (
-        "10.1",
-        TokenKind::Dotted {
-            address: 0x0a01_0000,
-            parts: 2,
-        },
-    ),
-    (
-        "10.1.2",
-        TokenKind::Dotted {
-            address: 0x0a01_0200,
-            parts: 3,
-        },
-    ),
-    (
-        "0.0.0.0",
-        TokenKind::Dotted {
-            address: 0,
-            parts: 4,
-        },
-    ),
-    (
-        "255.255.255.255",
-        TokenKind::Dotted {
-            address: 0xffff_ffff,
-            parts: 4,
-        },
-    ),
-    ("2-1", TokenKind::Range { first: 2, last: 1 }),
-    (
-        "0-4294967295",
-        TokenKind::Range {
-            first: 0,
-            last: 4_294_967_295,
-        },
-    ),
-    ("0:1:22:a:Bc:ff", TokenKind::Mac(0x0001_220a_bcff)),
-    ("ff:ff:ff:ff:ff:ff", TokenKind::Mac(0xffff_ffff_ffff)),
+const VALUES: &[(&str, Shown)] = &[
+    ("0", ("number", 0, 0)),
+    ("4294967295", ("number", 4_294_967_295, 0)),
+    ("00", ("number", 0, 0)),
+    ("010", ("number", 8, 0)),
+    ("037777777777", ("number", 4_294_967_295, 0)),
+    ("0x0", ("number", 0, 0)),
+    ("0xfF", ("number", 255, 0)),
+    ("0X00000000Abcd", ("number", 0xabcd, 0)),
+    ("10.1", ("dotted", 0x0a01_0000, 2)),
+    ("10.1.2", ("dotted", 0x0a01_0200, 3)),
+    ("0.0.0.0", ("dotted", 0, 4)),
+    ("255.255.255.255", ("dotted", 0xffff_ffff, 4)),
+    ("2-1", ("range", 2, 1)),
+    ("0-4294967295", ("range", 0, 4_294_967_295)),
+    ("0:1:22:a:Bc:ff", ("mac", 0x0001_220a_bcff, 0)),
+    ("ff:ff:ff:ff:ff:ff", ("mac", 0xffff_ffff_ffff, 0)),
     (
         "1:2:3:4:5:6:7:8",
-        TokenKind::Ip6(0x0001_0002_0003_0004_0005_0006_0007_0008),
+        ("ip6", 0x0001_0002_0003_0004_0005_0006_0007_0008, 0),
     ),
     (
         "ffff:ffff:ffff:ffff:ffff:ffff:ffff:ffff",
-        TokenKind::Ip6(0xffff_ffff_ffff_ffff_ffff_ffff_ffff_ffff),
+        ("ip6", 0xffff_ffff_ffff_ffff_ffff_ffff_ffff_ffff, 0),
     ),
-    ("::", TokenKind::Ip6(0)),
-    ("::1", TokenKind::Ip6(1)),
-    (
-        "1::",
-        TokenKind::Ip6(0x0001_0000_0000_0000_0000_0000_0000_0000),
-    ),
+    ("::", ("ip6", 0, 0)),
+    ("::1", ("ip6", 1, 0)),
+    ("1::", ("ip6", 0x0001_0000_0000_0000_0000_0000_0000_0000, 0)),
     (
         "2001:db8::a:1",
-        TokenKind::Ip6(0x2001_0db8_0000_0000_0000_0000_000a_0001),
+        ("ip6", 0x2001_0db8_0000_0000_0000_0000_000a_0001, 0),
     ),
     (
         "1:2:3:4:5:6:7::",
-        TokenKind::Ip6(0x0001_0002_0003_0004_0005_0006_0007_0000),
+        ("ip6", 0x0001_0002_0003_0004_0005_0006_0007_0000, 0),
     ),
     (
         "::2:3:4:5:6:7:8",
-        TokenKind::Ip6(0x0000_0002_0003_0004_0005_0006_0007_0008),
+        ("ip6", 0x0000_0002_0003_0004_0005_0006_0007_0008, 0),
     ),
 ];
 
@@ -111,49 +105,45 @@ fn values(rt: HostRuntime) -> Result<(), Fail> {
 }
 
 /// Texts, and their tokens with their places.
-const PLACES: &[(&str, &[(u32, TokenKind)])] = &[
+const PLACES: &[(&str, &[(u32, Shown)])] = &[
     ("", &[]),
     (" \t\n\r", &[]),
     (
         "tcp[13:2]",
         &[
-            (1, TokenKind::Protocol(Protocol::Tcp)),
-            (4, TokenKind::OpenBracket),
-            (5, TokenKind::Number(13)),
-            (7, TokenKind::Colon),
-            (8, TokenKind::Number(2)),
-            (9, TokenKind::CloseBracket),
+            (1, ("tcp", 0, 0)),
+            (4, ("[", 0, 0)),
+            (5, ("number", 13, 0)),
+            (7, (":", 0, 0)),
+            (8, ("number", 2, 0)),
+            (9, ("]", 0, 0)),
         ],
     ),
     (
         "len - 14",
-        &[
-            (1, TokenKind::Len),
-            (5, TokenKind::Operator(Operator::Subtract)),
-            (7, TokenKind::Number(14)),
-        ],
+        &[(1, ("len", 0, 0)), (5, ("-", 0, 0)), (7, ("number", 14, 0))],
     ),
     (
         "[2-1] ::1",
         &[
-            (1, TokenKind::OpenBracket),
-            (2, TokenKind::Range { first: 2, last: 1 }),
-            (5, TokenKind::CloseBracket),
-            (7, TokenKind::Ip6(1)),
+            (1, ("[", 0, 0)),
+            (2, ("range", 2, 1)),
+            (5, ("]", 0, 0)),
+            (7, ("ip6", 1, 0)),
         ],
     ),
     (
         "!ip&&(len<<=1)",
         &[
-            (1, TokenKind::Not),
-            (2, TokenKind::Protocol(Protocol::Ip)),
-            (4, TokenKind::Join(Join::And)),
-            (6, TokenKind::Open),
-            (7, TokenKind::Len),
-            (10, TokenKind::Operator(Operator::ShiftLeft)),
-            (12, TokenKind::Comparison(Comparison::Equal)),
-            (13, TokenKind::Number(1)),
-            (14, TokenKind::Close),
+            (1, ("not", 0, 0)),
+            (2, ("ip", 0, 0)),
+            (4, ("and", 0, 0)),
+            (6, ("(", 0, 0)),
+            (7, ("len", 0, 0)),
+            (10, ("<<", 0, 0)),
+            (12, ("=", 0, 0)),
+            (13, ("number", 1, 0)),
+            (14, (")", 0, 0)),
         ],
     ),
 ];

@@ -79,7 +79,7 @@ pub enum Operator {
 }
 
 /// What a token is, with its value.
-#[derive(Clone, Copy, PartialEq, Eq)]
+#[derive(Clone, Copy)]
 pub enum TokenKind {
     Protocol(Protocol),
     Join(Join),
