@@ -4,7 +4,8 @@
 usage: packaging/pages.py FOLDER
 
 A page is a file of packaging/pages/, with lists of what the command line says of itself in the places of lines with @.
-crates/cap_pages/stdout has what it says: the version, and the help of the program and of each command.
+The table crates/cap_cases/data/lines has what it says: cases in which words ask for the version, or for the help of the
+program or of a command, with the lines of the answer. `rt ci` compares these with what the program says.
 """
 import dataclasses
 import pathlib
@@ -12,7 +13,9 @@ import re
 import sys
 
 ROOT = pathlib.Path(__file__).resolve().parent.parent
-STORED = ROOT / "crates/cap_pages/stdout"
+STORED = ROOT / "crates/cap_cases/data/lines"
+# The columns of a terminal, which no line of help exceeds.
+COLUMNS = 80
 TEMPLATES = ROOT / "packaging/pages"
 # The values and arguments that name files.
 FILES = {"IN", "OUT", "FILE", "LISTING", "MORE"}
@@ -91,9 +94,19 @@ def help_of(name, text):
 
 
 def stored_texts():
-    """What is stored of the command line: its answer to each line of words."""
-    parts = re.split(r"^==> (.*) <==\n", STORED.read_text(), flags=re.MULTILINE)
-    return dict(zip(parts[1::2], parts[2::2]))
+    """What is stored of the command line: its answer to each line of words that asks for the version or for help."""
+    texts = {}
+    for case in STORED.read_text().split("\n\n"):
+        words = re.search(r"^run (?:(\w+) )?(-h|--help|--version)$", case, re.MULTILINE)
+        lines = re.findall(r"^usage ?(.*)$", case, re.MULTILINE)
+        if not words or not lines:
+            continue
+        for line in lines:
+            if len(line) > COLUMNS:
+                sys.exit(f"over {COLUMNS} columns: {line}")
+        option = "--version" if words[2] == "--version" else "-h"
+        texts[" ".join(filter(None, ["capkit", words[1], option]))] = "".join(f"{line}\n" for line in lines)
+    return texts
 
 
 # ---- manual pages, in mdoc(7)
