@@ -1,6 +1,7 @@
 -- One more row of a table, and then those behind it.
-use Rattle.std.proofs.Common.{◌≡◌, ◌∙◌, ◌∷◌, ◌+◌, ◌<◌, ap, sym, add-one, drop-cons, ℕ, List, length, drop, map, slice_index_or}
+use Rattle.std.proofs.Common.{◌≡◌, ◌∙◌, ◌∷◌, ◌+◌, ◌<◌, ◌≤◌, ap, sym, add-one, drop-cons, ℕ, List, length, drop, map, slice_index_or}
 use Rattle.std.specs.Prelude.{fold}
+use Rattle.std.proofs.lemmas.List.{drop_all}
 
 pub one_more : {A B X : Type 0} (step : A → B → A) (f : X → B) (xs : List X) (i : ℕ) (d : X) (old new : A) (made : B) → i < length xs
     → new ≡ step old made → made ≡ f (slice_index_or xs i d)
@@ -8,3 +9,8 @@ pub one_more : {A B X : Type 0} (step : A → B → A) (f : X → B) (xs : List 
 one_more step f xs i d old new made within adds is =
     let here : drop i xs ≡ slice_index_or xs i d ∷ drop (i + 1) xs = rw add-one (drop-cons xs i d within) in
     ap (λ a. fold step a (map f (drop (i + 1) xs))) (adds ∙ ap (step old) is) ∙ ap (λ rest. fold step old (map f rest)) (sym here)
+
+-- after the last row none is left
+pub no_more : {A B X : Type 0} (step : A → B → A) (f : X → B) (xs : List X) (i : ℕ) (new whole : A) → length xs ≤ i
+    → fold step new (map f (drop i xs)) ≡ whole → new ≡ whole
+no_more step f xs i new whole past is = ap (λ rest. fold step new (map f rest)) (sym (drop_all i xs past)) ∙ is

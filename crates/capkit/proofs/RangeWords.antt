@@ -3,7 +3,7 @@ use Rattle.std.proofs.Common.{◌≡◌, ◌≤◌, ◌<◌, ◌∙◌, ap, sym,
 use Rattle.std.specs.Prelude.{is_none, if◌then◌else◌}
 use Rattle.std.specs.Borrow.{Bor}
 use Rattle.std.specs.List.{list_all, list_any}
-use Rattle.std.proofs.lemmas.Bool.{cond-false, and_from, cond-true, le-leb, le-ltb}
+use Rattle.std.proofs.lemmas.Bool.{cond-false, and_from, cond-true, le-leb, le-ltb, lt-ltb}
 use Rattle.std.proofs.lemmas.List.Folds.{list_any_at}
 use Rattle.std.proofs.lemmas.List.{length-map, take_all}
 use Rattle.clap.proofs.WalkLemmas.{list_any-map}
@@ -41,6 +41,11 @@ no_range_fault words ranges i enough all same =
     let whole : take i words ≡ words = take_all i words all in
     few (map text_of words) (still_few words enough) ∙ cond-false _ (Some BadRange) None (none_bad (map text_of words) ranges
     (same ∙ ap (λ ws. map range_of (map text_of ws)) whole))
+
+pub too_many : (words : List (Bor Text)) → most_ranges < length words → range_fault (map text_of words) ≡ Some TooManyValues
+too_many words more =
+    let many : most_ranges < length (map text_of words) = rw length-map more in
+    cond-true _ (Some TooManyValues) _ (lt-ltb most_ranges (length (map text_of words)) many)
 
 at_word : (words : List (Bor Text)) (i : ℕ) (d : Bor Text) → i < length words → range_of (slice_index_or words i d).now ≡ None
     → list_any is_bad (map text_of words) ≡ true

@@ -1,9 +1,9 @@
 //! The command line as clap parses it.
 ghost use Rattle.std.specs.Prelude.{◌≡◌, IfOk, IfErr, map, false, string_bytes};
-ghost use Rattle.clap.specs.Words.{app_of, rule_of, subcommand_rows_of};
+ghost use Rattle.clap.specs.Words.{app_of, new_rule, rule_of, subcommand_rows_of};
 ghost use Rattle.clap.specs.declared.builder.command.Command.TheViews.{out-Command as fields_of};
 ghost use Rattle.capkit.specs.Arguments.{AreChoices, Takes, Refuses, format_names, link_names};
-ghost use Rattle.capkit.specs.Arguments.{app_by, line_app, named, rule_by, shape_by};
+ghost use Rattle.capkit.specs.Arguments.{app_by, bare_line, line_app, named, rule_by, shape_by};
 ghost use Rattle.capkit.specs.Arguments.{subcommand_named, with_rules, with_shapes};
 
 use crate::examples::{LINE_HELP, VERSION};
@@ -51,11 +51,13 @@ pub struct Choices<'a> {
     links: &'a [&'a str],
 }
 
-fn named<'a>(arg: Arg<'a>, name: Name) -> Arg<'a>
-    ensures rule { rule_of result ≡ named name (rule_of arg.entry) }
-    ensures local { result.global ≡ arg.entry.global }
+/// An argument of clap's with the id and the name of a row.
+fn named<'a>(alloc: Global, argument: Argument) -> Arg<'a>
+    ensures rule { rule_of result ≡ named argument.name (new_rule argument.id.now) }
+    ensures local { result.global ≡ false }
 {
-    match name {
+    let arg = Arg::new(alloc, argument.id).help(argument.help);
+    match argument.name {
         Name::Place => arg,
         Name::Letter(letter) => arg.short(letter),
         Name::Long(name) => arg.long(name),
@@ -67,7 +69,7 @@ fn arg_of<'a>(alloc: Global, argument: Argument, choices: Choices<'a>) -> Arg<'a
     ensures rule { rule_of result ≡ rule_by choices.entry argument }
     ensures local { result.global ≡ false }
 {
-    let arg = named(Arg::new(alloc, argument.id), argument.name).help(argument.help);
+    let arg = named(alloc, argument);
     match argument.value {
         Value::Flag => arg.action(ArgAction::SetTrue),
         Value::Text(name) => arg.value_name(name),
@@ -88,7 +90,7 @@ fn arg_of<'a>(alloc: Global, argument: Argument, choices: Choices<'a>) -> Arg<'a
 /// The command with these arguments behind its own.
 fn with_arguments<'a>(
     alloc: Global,
-    command: Command<'a>,
+    mut command: Command<'a>,
     arguments: &[Argument],
     choices: Choices<'a>,
 ) -> Result<Command<'a>, AllocError>
@@ -97,7 +99,6 @@ fn with_arguments<'a>(
     ensures local { IfOk result (λ after. (fields_of after).has_globals
         ≡ (fields_of command.entry).has_globals) }
 {
-    let mut command = command;
     for argument in arguments {
         command = command.arg(arg_of(alloc, *argument, choices))?;
     }
@@ -116,21 +117,34 @@ fn command_by<'a>(
     let bare = Command::new(alloc, row.name)
         .about(row.about)
         .after_help(row.examples);
-    let command = with_arguments(alloc, bare, row.arguments, choices)?;
-    Ok(command)
+    with_arguments(alloc, bare, row.arguments, choices)
 }
 
-/// The command with these subcommands behind its own.
+/// The command of the line, before its subcommands.
+fn bare_line<'a>(alloc: Global) -> Result<Command<'a>, AllocError>
+    ensures { IfOk result (λ command. app_of command ≡ bare_line) }
+{
+    Command::new(alloc, NAME)
+        .about("A workbench for saved packet captures")
+        .after_help(LINE_HELP)
+        .version(VERSION)
+        .no_binary_name(true)
+        .subcommand_required(true)
+        .disable_help_subcommand(true)
+        // Without it the usage of a subcommand has no name of the program.
+        .bin_name(NAME)
+}
+
+/// The command of the line, with the subcommands of these rows.
 fn with_commands<'a>(
     alloc: Global,
-    command: Command<'a>,
     rows: &[CommandRow],
     choices: Choices<'a>,
 ) -> Result<Command<'a>, AllocError>
-    ensures { IfOk result (λ after. app_of after ≡ with_shapes (app_of command.entry)
+    ensures { IfOk result (λ command. app_of command ≡ with_shapes bare_line
         (map (shape_by choices.entry) rows.now)) }
 {
-    let mut command = command;
+    let mut command = bare_line(alloc)?;
     for row in rows {
         command = command.subcommand(command_by(alloc, row, choices)?)?;
     }
@@ -146,17 +160,7 @@ fn line_command<'a>(alloc: Global) -> Result<Command<'a>, AllocError>
         formats: FORMATS.as_slice(),
         links: LINKS.as_slice(),
     };
-    let bare = Command::new(alloc, NAME)
-        .about("A workbench for saved packet captures")
-        .after_help(LINE_HELP)
-        .version(VERSION)
-        .no_binary_name(true)
-        .subcommand_required(true)
-        .disable_help_subcommand(true)
-        // Without it the usage of a subcommand has no name of the program.
-        .bin_name(NAME)?;
-    let command = with_commands(alloc, bare, &COMMANDS, choices)?;
-    Ok(command)
+    with_commands(alloc, &COMMANDS, choices)
 }
 
 /// What clap makes of the words.

@@ -7,6 +7,7 @@ ghost use Rattle.capkit.specs.Line.{is_bad_time, is_ready, option_fault, range_f
 ghost use Rattle.capkit.specs.Line.{HasOptions, IsEditOf, IsFaultOf};
 ghost use Rattle.capkit.specs.Range.{range_of};
 
+use crate::files::owned_texts;
 use crate::line::Line;
 use crate::names::uses_name_twice;
 use crate::range::range_in;
@@ -127,13 +128,12 @@ pub fn edit_line(alloc: Global, matches: &ArgMatches<'_>) -> Result<Line, Usage>
 {
     let ranges = ranges_in(alloc, texts(matches, "RANGE"))?;
     check(matches)?;
-    let edit = edit_of(matches, ranges);
-    let mut inputs = Vec::new(alloc);
-    inputs.push(String::from_str(alloc, text(matches, "IN"))?)?;
+    let output = String::from_str(alloc, text(matches, "OUT"))?;
+    let inputs = owned_texts(alloc, &[text(matches, "IN")])?;
     Ok(Line {
-        command: Command::Edit(edit),
+        command: Command::Edit(edit_of(matches, ranges)),
         inputs,
-        output: Some(String::from_str(alloc, text(matches, "OUT"))?),
+        output: Some(output),
         code: None,
     })
 }

@@ -1,6 +1,6 @@
-//! The inputs of a command that has several.
+//! The names of inputs.
 ghost use Rattle.std.specs.Prelude.{◌≡◌, IfOk, IfErr, OnOk, None, map, option_map, string_bytes};
-ghost use Rattle.std.specs.Prelude.{true, vec_len};
+ghost use Rattle.std.specs.Prelude.{length, true, vec_len};
 ghost use Rattle.clap.specs.Words.{found_of, rows_of};
 ghost use Rattle.cap_filter.specs.Command.{is_input_count};
 ghost use Rattle.capkit.specs.Line.{files_fault, files_in, IsFaultOf};
@@ -24,9 +24,10 @@ fn names_in<'a>(alloc: Global, matches: &ArgMatches<'a>) -> Result<Vec<&'a str>,
 }
 
 /// Texts of their own.
-fn owned_texts(alloc: Global, names: &[&str]) -> Result<Vec<String>, AllocError>
-    ensures { IfOk result (λ owned.
+pub fn owned_texts(alloc: Global, names: &[&str]) -> Result<Vec<String>, AllocError>
+    ensures texts { IfOk result (λ owned.
         map string_bytes owned.items ≡ map (λ name. name.now) names.now) }
+    ensures count { IfOk result (λ owned. vec_len owned ≡ length names.now) }
 {
     let mut owned = Vec::with_capacity(alloc, names.len())?;
     for name in names {

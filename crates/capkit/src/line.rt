@@ -1,6 +1,8 @@
 //! What the words of a command line ask for.
-ghost use Rattle.std.specs.Prelude.{◌≡◌, IfOk, IfErr, map, true, string_bytes};
-ghost use Rattle.capkit.specs.Line.{is_ready, with_code, SaysLine, SaysFault};
+ghost use Rattle.std.specs.Prelude.{◌≡◌, IfOk, IfErr, OnOk, None, map, true, string_bytes};
+ghost use Rattle.clap.specs.Words.{found_of, rows_of};
+ghost use Rattle.capkit.specs.Line.{fault_in, is_ready, with_code, IsFaultOf, IsLineOf};
+ghost use Rattle.capkit.specs.Line.{SaysLine, SaysFault};
 
 use crate::arguments::{Subcommand, matches_of, subcommand_named};
 use crate::compile_line::compile_line;
@@ -10,6 +12,7 @@ use crate::merge_line::merge_line;
 use crate::print_line::print_line;
 use crate::usage::Usage;
 use cap_filter::{Command, Print};
+use clap::ArgMatches;
 use std::alloc::Global;
 
 /// A command line.
@@ -24,6 +27,22 @@ pub struct Line {
     pub output: Option<String>,
     /// The name of a listing, which is to be read into the command before it runs.
     pub code: Option<String>,
+}
+
+/// The line that the matches of a subcommand ask for.
+fn line_of(alloc: Global, asked: Subcommand, matches: &ArgMatches<'_>) -> Result<Line, Usage>
+    ensures line { IfOk result (IsLineOf asked (rows_of (found_of matches.now))) }
+    ensures faultless { OnOk result (fault_in asked (rows_of (found_of matches.now)) ≡ None) }
+    ensures ready { IfOk result (λ line. is_ready line ≡ true) }
+    ensures fault { IfErr result (IsFaultOf (fault_in asked (rows_of (found_of matches.now)))) }
+{
+    match asked {
+        Subcommand::Edit => edit_line(alloc, matches),
+        Subcommand::Merge => merge_line(alloc, matches),
+        Subcommand::Infos => infos_line(alloc, matches),
+        Subcommand::Print => print_line(alloc, matches),
+        Subcommand::Compile => compile_line(alloc, matches),
+    }
 }
 
 /// The line that the words behind the program's name ask for.
@@ -47,13 +66,7 @@ pub fn command_of(alloc: Global, words: Vec<String>) -> Result<Line, Usage>
     let Some((name, matches)) = matches.subcommand() else {
         unreachable!()
     };
-    match subcommand_named(name) {
-        Subcommand::Edit => edit_line(alloc, matches),
-        Subcommand::Merge => merge_line(alloc, matches),
-        Subcommand::Infos => infos_line(alloc, matches),
-        Subcommand::Print => print_line(alloc, matches),
-        Subcommand::Compile => compile_line(alloc, matches),
-    }
+    line_of(alloc, subcommand_named(name), matches)
 }
 
 /// The command with these bytes as its listing. A command that takes no listing stays as it is.

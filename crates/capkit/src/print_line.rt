@@ -1,13 +1,15 @@
 //! The line of a print.
 ghost use Rattle.std.specs.Prelude.{◌≡◌, ◌∷◌, ◌≤◌, IfOk, IfErr, IfSome, OnOk, Some, None};
 ghost use Rattle.std.specs.Prelude.{option_map, codes, string_bytes, true};
-ghost use Rattle.std.specs.Option.{option_to_list};
+ghost use Rattle.std.specs.Option.{option_map_or, option_to_list};
+ghost use Rattle.cap_filter.specs.Command.{is_at_least_one};
 ghost use Rattle.clap.specs.Words.{found_of, rows_of};
-ghost use Rattle.capkit.specs.Line.{expression_in, has_exclusion, has_idle_format};
+ghost use Rattle.capkit.specs.Line.{expression_in, flag_in, has_exclusion, has_idle_format};
 ghost use Rattle.capkit.specs.Line.{has_two_filters, has_two_outputs, is_ready, most_64};
 ghost use Rattle.capkit.specs.Line.{number_in, print_fault, write_in, IsFaultOf, IsPrintOf};
 ghost use Rattle.capkit.specs.Names.{uses_name_twice};
 
+use crate::files::owned_texts;
 use crate::line::Line;
 use crate::names::uses_name_twice;
 use crate::usage::Usage;
@@ -110,6 +112,27 @@ fn count(matches: &ArgMatches<'_>) -> Option<u64>
     number(matches, "count", 1, u64::MAX)
 }
 
+/// The print of this expression, by its options; its listing is not yet read.
+fn print_of(matches: &ArgMatches<'_>, expr: String) -> Print
+    ensures expr { result.expr ≡ expr }
+    ensures unread { result.code ≡ None }
+    ensures count { result.count
+        ≡ number_in 1 most_64 (codes "count") (rows_of (found_of matches.now)) }
+    ensures proper { option_map_or is_at_least_one result.count true ≡ true }
+    ensures link { result.link ≡ flag_in (codes "link") (rows_of (found_of matches.now)) }
+    ensures bytes { result.bytes ≡ flag_in (codes "bytes") (rows_of (found_of matches.now)) }
+    ensures write { result.write ≡ write_in (rows_of (found_of matches.now)) }
+{
+    Print {
+        expr,
+        code: None,
+        count: count(matches),
+        link: flag(matches, "link"),
+        bytes: flag(matches, "bytes"),
+        write: write(matches),
+    }
+}
+
 /// The line of a print.
 pub fn print_line(alloc: Global, matches: &ArgMatches<'_>) -> Result<Line, Usage>
     ensures line { IfOk result (IsPrintOf (rows_of (found_of matches.now))) }
@@ -118,20 +141,14 @@ pub fn print_line(alloc: Global, matches: &ArgMatches<'_>) -> Result<Line, Usage
     ensures fault { IfErr result (IsFaultOf (print_fault (rows_of (found_of matches.now)))) }
 {
     check(matches)?;
-    let print = Print {
-        expr: expression(alloc, matches)?,
-        code: None,
-        count: count(matches),
-        link: flag(matches, "link"),
-        bytes: flag(matches, "bytes"),
-        write: write(matches),
-    };
-    let mut inputs = Vec::new(alloc);
-    inputs.push(String::from_str(alloc, text(matches, "FILE"))?)?;
+    let expr = expression(alloc, matches)?;
+    let output = owned(alloc, text_if(matches, "OUT"))?;
+    let code = owned(alloc, text_if(matches, "LISTING"))?;
+    let inputs = owned_texts(alloc, &[text(matches, "FILE")])?;
     Ok(Line {
-        command: Command::Print(print),
+        command: Command::Print(print_of(matches, expr)),
         inputs,
-        output: owned(alloc, text_if(matches, "OUT"))?,
-        code: owned(alloc, text_if(matches, "LISTING"))?,
+        output,
+        code,
     })
 }

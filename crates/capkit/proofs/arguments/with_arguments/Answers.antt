@@ -1,7 +1,7 @@
 use Rattle.std.proofs.Common.{◌∙◌}
 use Rattle.clap.specs.Words.{with_rule}
 use Rattle.capkit.specs.Arguments.{rule_by}
-use Rattle.capkit.proofs.Folds.{one_more}
+use Rattle.capkit.proofs.Folds.{no_more, one_more}
 use Rattle.capkit.proofs.LocalOptions.{stays}
 use Rattle.capkit.proofs.arguments.with_arguments.Goals as goal
 
@@ -11,3 +11,11 @@ loop-argument-preserved c = (
       (c.in_ok-command.ensures.shape c.arg_of.ensures.local) c.arg_of.ensures.rule ∙ c.loop-argument.invariant.0,
   stays _ _ _ c.in_ok-command.ensures.globals c.arg_of.ensures.local ∙ c.loop-argument.invariant.1,
 )
+
+pub returns-clause-shape : goal.returns-clause-shape
+returns-clause-shape c =
+    no_more with_rule (rule_by c.args.choices) c.args.arguments.now c.loop-argument.argument-index _ _ c.loop-argument-test.false
+    c.loop-argument.invariant.0
+
+pub returns-clause-local : goal.returns-clause-local
+returns-clause-local c = c.loop-argument.invariant.1

@@ -1,10 +1,10 @@
 use Rattle.std.proofs.Common.{◌≡◌, drop, map}
 use Rattle.clap.specs.Words.{app_of}
-use Rattle.capkit.specs.Arguments.{shape_by, with_shapes}
+use Rattle.capkit.specs.Arguments.{bare_line, shape_by, with_shapes}
 use Rattle.capkit.proofs.arguments.with_commands.Given as goal
 
--- with the subcommands that are left, the command is what all of them make of it
+-- with the subcommands that are left, the command is what all of them make of the bare line
 abbrev pub invariant-loop-row : goal.invariant-loop-row
 invariant-loop-row l =
     with_shapes (app_of l.command) (map (shape_by l.choices) (drop l.row-index l.rows))
-    ≡ with_shapes (app_of l.initial.command) (map (shape_by l.choices) l.rows)
+    ≡ with_shapes bare_line (map (shape_by l.choices) l.rows)

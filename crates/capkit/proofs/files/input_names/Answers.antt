@@ -1,7 +1,18 @@
-use Rattle.std.proofs.Common.{◌∙◌, ap, sym, inr, arith, map}
+use Rattle.std.proofs.Common.{◌∙◌, ap, sym, inl, inr, arith, map, refl}
+use Rattle.std.proofs.lemmas.Result.{err_from_is_err_and}
 use Rattle.std.specs.Prelude.{option_map}
 use Rattle.capkit.proofs.FileNames.{faultless, text_of, used_twice}
 use Rattle.capkit.proofs.files.input_names.Goals as goal
+
+pub returns-in_err-names-clause-fault : goal.returns-in_err-names-clause-fault
+returns-in_err-names-clause-fault c =
+    let p = err_from_is_err_and c.from_residual.result c.from_residual.ensures.1 in
+    rw (p.1, p.2) (inl refl)
+
+pub returns-in_err-inputs-clause-fault : goal.returns-in_err-inputs-clause-fault
+returns-in_err-inputs-clause-fault c =
+    let p = err_from_is_err_and c.from_residual-in_err-inputs.result c.from_residual-in_err-inputs.ensures.1 in
+    rw (p.1, p.2) (inl refl)
 
 pub returns-then-uses_name_twice-clause-fault : goal.returns-then-uses_name_twice-clause-fault
 returns-then-uses_name_twice-clause-fault c =

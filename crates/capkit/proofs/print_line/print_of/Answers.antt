@@ -1,0 +1,6 @@
+use Rattle.capkit.specs.Line.{most_64}
+use Rattle.capkit.proofs.OptionValues.{one_or_more}
+use Rattle.capkit.proofs.print_line.print_of.Goals as goal
+
+pub returns-clause-proper : goal.returns-clause-proper
+returns-clause-proper c = one_or_more most_64 _ c.count.ensures.bounds
