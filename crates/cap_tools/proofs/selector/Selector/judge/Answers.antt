@@ -1,6 +1,4 @@
--- Where an answer is `grind` alone, the search that the check tries before it takes most of the time.
 use Rattle.std.proofs.Common.{◌≡◌, ℕ, ◌+◌, ◌<◌, Bool, true, false, Option, Ok, refl, ap, sym, ◌∙◌, subst, arith}
-use Rattle.std.proofs.lemmas.Grind.{common_steps}
 use Rattle.cap_octet.specs.Packet.{Captured, captured}
 use Rattle.cap_octet.specs.declared.fault.Fault.TheVariants.{TooManyPackets}
 use Rattle.cap_tools.specs.declared.selector.Verdict.TheVariants as code
@@ -59,21 +57,3 @@ returns-clause-told g c = λ within counted.
           (tells-passed (policy_of w.policy) (policy_of c.keeps.new.self) state after c.args.number p q c.passing.result judges c.if-number-ge-MOST_PACKETS.false keeps c.keeps.ensures.policy last)))
       | else-passed-number b ↦ absurd (omega arith)
     ]
-
-pub returns-clause-spends : goal.returns-clause-spends
-returns-clause-spends g c = grind (arith, common_steps)
-
-pub returns-in_err-keeps-clause-spends : goal.returns-in_err-keeps-clause-spends
-returns-in_err-keeps-clause-spends g c = grind (arith, common_steps)
-
-pub returns-in_err-keeps-clause-told : goal.returns-in_err-keeps-clause-told
-returns-in_err-keeps-clause-told g c = grind (arith, common_steps)
-
-pub returns-then-counts-clause-spends : goal.returns-then-counts-clause-spends
-returns-then-counts-clause-spends g c = grind (arith, common_steps)
-
-pub returns-then-not-branch-clause-spends : goal.returns-then-not-branch-clause-spends
-returns-then-not-branch-clause-spends g c = grind (arith, common_steps)
-
-pub returns-then-number-ge-MOST_PACKETS-clause-spends : goal.returns-then-number-ge-MOST_PACKETS-clause-spends
-returns-then-number-ge-MOST_PACKETS-clause-spends g c = grind (arith, common_steps)
