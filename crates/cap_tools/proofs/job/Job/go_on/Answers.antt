@@ -1,4 +1,6 @@
-use Rattle.std.proofs.Common.{◌≡◌, ◌+◌, ℕ, List, true, false, subst, sym, Some}
+-- Where an answer is `grind` alone, the search that the check tries before it takes most of the time.
+use Rattle.std.proofs.Common.{◌≡◌, ◌+◌, ℕ, List, true, false, subst, sym, Some, arith}
+use Rattle.std.proofs.lemmas.Grind.{common_steps}
 use Rattle.cap_tools.specs.Output.{output_at}
 use Rattle.cap_inputs.specs.Inputs.{InputPast}
 use Rattle.cap_tools.specs.Machine.{GoesOn}
@@ -36,3 +38,36 @@ returns-in-Some-do_next-clause-reads g c =
     let P : JobView → Type 0 = λ v. StepReads g.I.Input.tells false c.args.self.now v in
     let mid : JobView = c.do_next.new.self in
     rw c.end.ensures.done (subst P (sym c.end.ensures.ended) (reads-kept g.I.Input.tells false c.args.self.now mid mid.preparing c.end.new.self.err (mid.turns + 1) (Some (end_status c.in-Some-do_next.end)) c.in-Some-do_next.ensures.reads))
+
+pub returns-in-None-clause-few : goal.returns-in-None-clause-few
+returns-in-None-clause-few g c = grind (arith, common_steps)
+
+pub returns-in-None-clause-left : goal.returns-in-None-clause-left
+returns-in-None-clause-left g c = grind (arith, common_steps)
+
+pub returns-in-None-clause-kept : goal.returns-in-None-clause-kept
+returns-in-None-clause-kept g c = grind (arith, common_steps)
+
+pub returns-in-Some-clause-few : goal.returns-in-Some-clause-few
+returns-in-Some-clause-few g c = grind (arith, common_steps)
+
+pub returns-in-Some-clause-left : goal.returns-in-Some-clause-left
+returns-in-Some-clause-left g c = grind (arith, common_steps)
+
+pub returns-in-Some-clause-kept : goal.returns-in-Some-clause-kept
+returns-in-Some-clause-kept g c = grind (arith, common_steps)
+
+pub returns-in-Some-clause-reads : goal.returns-in-Some-clause-reads
+returns-in-Some-clause-reads g c = grind (arith, common_steps)
+
+pub returns-in-Some-clause-told : goal.returns-in-Some-clause-told
+returns-in-Some-clause-told g c = grind (arith, common_steps)
+
+pub returns-in-Some-do_next-clause-few : goal.returns-in-Some-do_next-clause-few
+returns-in-Some-do_next-clause-few g c = grind (arith, common_steps)
+
+pub returns-in-Some-do_next-clause-left : goal.returns-in-Some-do_next-clause-left
+returns-in-Some-do_next-clause-left g c = grind (arith, common_steps)
+
+pub returns-in-Some-do_next-clause-kept : goal.returns-in-Some-do_next-clause-kept
+returns-in-Some-do_next-clause-kept g c = grind (arith, common_steps)
