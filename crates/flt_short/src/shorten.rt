@@ -173,9 +173,12 @@ impl Shortening<'_> {
         let [mask, test, ..] = self.insns_from(at) else {
             return None;
         };
+        if !is_mask(*mask, *test) {
+            return None;
+        }
         let zero = self.landing_at(behind(at, 1 + usize::from(test.jt)));
         let other = self.landing_at(behind(at, 1 + usize::from(test.jf)));
-        if !is_mask(*mask, *test) || zero.accumulator || other.accumulator {
+        if zero.accumulator || other.accumulator {
             return None;
         }
         Some(Insn {
@@ -191,10 +194,10 @@ impl Shortening<'_> {
         let [number, copy, load, ..] = self.insns_from(at) else {
             return None;
         };
-        let code = direct_code(load.code)?;
         if !is_copied(*number, *copy) || self.landing_at(behind(at, 2)).index {
             return None;
         }
+        let code = direct_code(load.code)?;
         let k = number.k.wrapping_add(load.k);
         Some(Insn { code, k, ..*load })
     }
@@ -215,11 +218,25 @@ impl Shortening<'_> {
         Some((*length, Insn { k, ..*load }))
     }
 
+    /// An instruction loads a number into A.
+    fn is_number(&self, at: usize) -> bool {
+        let code = Operation::Load(Register::Accumulator, Source::Immediate).code();
+        self.insns.get(at).is_some_and(|insn| insn.code == code)
+    }
+
+    /// The number so many instructions in front is in one load with this one.
+    fn is_joined_by(&self, at: usize, before: usize) -> bool {
+        let number = at.saturating_sub(before);
+        at >= before
+            && self.is_number(number)
+            && (before <= 2 && self.load_at(number).is_some()
+                || self.header_load_at(number).is_some())
+    }
+
     /// An instruction in front replaces this one too.
     fn is_joined(&self, at: usize) -> bool {
-        at >= 1 && (self.bits_at(at - 1).is_some() || self.load_at(at - 1).is_some())
-            || at >= 2 && self.load_at(at - 2).is_some()
-            || (1..=4).any(|before| at >= before && self.header_load_at(at - before).is_some())
+        at >= 1 && self.bits_at(at - 1).is_some()
+            || (1..=4).any(|before| self.is_joined_by(at, before))
     }
 
     /// The place of such a test with such targets, if there is one.
