@@ -14,13 +14,13 @@ made-cost : (program : Content) (e : Expression) (link : Link) (p : Captured) �
 made-cost program e link p made =
     let d = made.right.decides p.bytes p.orig in
     let is : steps_of_run (met_on p program.insns) ≡ d.count = ap steps_of_run d.answered in
-    omega (arith, is, d.few, made.right.bounded)
+    omega (arith, is, d.upper_bound, made.right.bounded)
 
 cost-at : (e : Expression) (rows : List (ℕ × Link)) (programs : List Content) (i : ℕ) (p : Captured) → AreMade e rows programs → spent_in (ran_at i p programs) ≤ spent_in programs + bound_of e
 cost-at e rows [] i p made = omega arith
 cost-at e [] (program ∷ programs) i p made = absurd made
-cost-at e (row ∷ rows) (program ∷ programs) zero p made = let few = made-cost program e row.1 p made.0 in omega (arith, few)
-cost-at e (row ∷ rows) (program ∷ programs) (suc i) p made = let few = cost-at e rows programs i p made.1 in omega (arith, few)
+cost-at e (row ∷ rows) (program ∷ programs) zero p made = let upper_bound = made-cost program e row.1 p made.0 in omega (arith, upper_bound)
+cost-at e (row ∷ rows) (program ∷ programs) (suc i) p made = let upper_bound = cost-at e rows programs i p made.1 in omega (arith, upper_bound)
 
 pub bounded-ran : (e : Expression) (programs : List Content) (i : ℕ) (p : Captured) → HasPrograms e programs → spent_in (ran_at i p programs) ≤ spent_in programs + most_cost (by_reading e)
 bounded-ran empty programs i p sound = absurd sound.some

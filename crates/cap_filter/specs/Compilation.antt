@@ -25,7 +25,7 @@ pub record IsWritten (bytes : List ℕ) (out out' : OutputView) (message : List 
     (status : ℕ) : Type 0 where
   pub written : out'.written ≡ out.written ++ bytes
   pub device : out'.failures ≡ out.failures
-  pub told : message ≡ []
+  pub exact : message ≡ []
   pub answered : status ≡ 0
 
 -- a program's listing is written; or the output's device failed after a prefix of it, not the whole

@@ -18,7 +18,7 @@ output_view written failures = record { written = written; failures = failures }
 pub record IsTold (tells : Bool) (old : OutputView) (message : List ℕ)
     (new : OutputView) : Type 0 where
   pub answer : Result (Unit {0}) DeviceFault
-  pub told : IsTrue tells → AppendsOrStops answer old.written message new.written
+  pub exact : IsTrue tells → AppendsOrStops answer old.written message new.written
   pub counted : new.failures ≡ old.failures + failures_of answer
 
 -- what a run leaves that ends by some message, `tells` being whether the messages' device tells its
@@ -26,7 +26,7 @@ pub record IsTold (tells : Bool) (old : OutputView) (message : List ℕ)
 pub record Runs (leaves : List ℕ → Type 0) (tells : Bool) (err err' : OutputView) : Type 0 where
   pub message : List ℕ
   pub left : leaves message
-  pub told : IsTold tells err message err'
+  pub exact : IsTold tells err message err'
   -- where there is nothing to report, the device isn't called
   pub quiet : message ≡ [] → err' ≡ err
 
@@ -39,12 +39,12 @@ pub record OutputFails (bytes name : List ℕ) (out out' : OutputView) (message 
   pub count : ℕ
   pub within : count < length bytes
   pub written : out'.written ≡ out.written ++ take count bytes
-  pub told : message ≡ write_failed_message name
+  pub exact : message ≡ write_failed_message name
   pub answered : status ≡ 1
 
 -- The output is as it was, and this is reported.
 pub record OnlyTells (text : List ℕ) (answer : ℕ) (out out' : OutputView) (message : List ℕ)
     (status : ℕ) : Type 0 where
   pub output : out' ≡ out
-  pub told : message ≡ text
+  pub exact : message ≡ text
   pub answered : status ≡ answer

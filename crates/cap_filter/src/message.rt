@@ -20,7 +20,7 @@ fn write_fault<'a, O: Output>(
     offset: &'a [u8],
     text: &'a [u8],
 ) -> Result<(), DeviceFault>
-    ensures told { IsTrue O.tells → AppendsOrStops result (O.written output.old)
+    ensures exact { IsTrue O.tells → AppendsOrStops result (O.written output.old)
         (codes "capkit: " ++ name.now ++ codes ": offset " ++ offset.now ++ codes ": " ++ text.now
         ++ line_feed) (O.written output.new) }
     ensures failed { O.failures output.new ≡ O.failures output.old + failures_of result }
@@ -36,7 +36,7 @@ pub fn tell_fault<O: Output>(
     offset: u64,
     fault: Fault,
 ) -> Result<(), DeviceFault>
-    ensures told { IsTrue O.tells → AppendsOrStops result (O.written output.old)
+    ensures exact { IsTrue O.tells → AppendsOrStops result (O.written output.old)
         (fault_message name.now offset fault) (O.written output.new) }
     ensures failed { O.failures output.new ≡ O.failures output.old + failures_of result }
 {
@@ -47,7 +47,7 @@ pub fn tell_fault<O: Output>(
 
 /// Reports that the device of the output of this name failed.
 pub fn tell_write_failed<O: Output>(output: &mut O, name: &str) -> Result<(), DeviceFault>
-    ensures told { IsTrue O.tells → AppendsOrStops result (O.written output.old)
+    ensures exact { IsTrue O.tells → AppendsOrStops result (O.written output.old)
         (write_failed_message name.now) (O.written output.new) }
     ensures failed { O.failures output.new ≡ O.failures output.old + failures_of result }
 {
@@ -57,7 +57,7 @@ pub fn tell_write_failed<O: Output>(output: &mut O, name: &str) -> Result<(), De
 
 /// Reports that there was no memory, where there was no current packet or block.
 pub fn tell_no_memory<O: Output>(output: &mut O) -> Result<(), DeviceFault>
-    ensures told { IsTrue O.tells → AppendsOrStops result (O.written output.old) no_memory_message
+    ensures exact { IsTrue O.tells → AppendsOrStops result (O.written output.old) no_memory_message
         (O.written output.new) }
     ensures failed { O.failures output.new ≡ O.failures output.old + failures_of result }
 {
@@ -73,7 +73,7 @@ fn write_refusal<'a, O: Output>(
     words: &'a [u8],
     digits: &'a [u8],
 ) -> Result<(), DeviceFault>
-    ensures told { IsTrue O.tells → AppendsOrStops result (O.written output.old)
+    ensures exact { IsTrue O.tells → AppendsOrStops result (O.written output.old)
         (codes "capkit: " ++ of.now ++ codes ": " ++ text.now ++ words.now ++ digits.now
         ++ line_feed) (O.written output.new) }
     ensures failed { O.failures output.new ≡ O.failures output.old + failures_of result }
@@ -84,7 +84,7 @@ fn write_refusal<'a, O: Output>(
 
 /// Reports why an expression was refused.
 fn tell_expression<O: Output>(output: &mut O, fault: ExprFault) -> Result<(), DeviceFault>
-    ensures told { IsTrue O.tells → AppendsOrStops result (O.written output.old)
+    ensures exact { IsTrue O.tells → AppendsOrStops result (O.written output.old)
         (expression_message (message_of fault)) (O.written output.new) }
     ensures failed { O.failures output.new ≡ O.failures output.old + failures_of result }
 {
@@ -101,7 +101,7 @@ fn tell_expression<O: Output>(output: &mut O, fault: ExprFault) -> Result<(), De
 
 /// Reports why a text is no listing.
 fn tell_listing<O: Output>(output: &mut O, fault: ListingFault) -> Result<(), DeviceFault>
-    ensures told { IsTrue O.tells → AppendsOrStops result (O.written output.old)
+    ensures exact { IsTrue O.tells → AppendsOrStops result (O.written output.old)
         (code_message (listing_message fault)) (O.written output.new) }
     ensures failed { O.failures output.new ≡ O.failures output.old + failures_of result }
 {
@@ -118,7 +118,7 @@ fn tell_listing<O: Output>(output: &mut O, fault: ListingFault) -> Result<(), De
 
 /// Reports which rule instructions break, and where.
 fn tell_check<O: Output>(output: &mut O, fault: CheckFault, at: usize) -> Result<(), DeviceFault>
-    ensures told { IsTrue O.tells → AppendsOrStops result (O.written output.old)
+    ensures exact { IsTrue O.tells → AppendsOrStops result (O.written output.old)
         (code_message (check_message fault at)) (O.written output.new) }
     ensures failed { O.failures output.new ≡ O.failures output.old + failures_of result }
 {
@@ -134,7 +134,7 @@ fn tell_check<O: Output>(output: &mut O, fault: CheckFault, at: usize) -> Result
 
 /// Reports why a filter was refused.
 pub fn tell_refusal<O: Output>(output: &mut O, refusal: Refusal) -> Result<(), DeviceFault>
-    ensures told { IsTrue O.tells → AppendsOrStops result (O.written output.old)
+    ensures exact { IsTrue O.tells → AppendsOrStops result (O.written output.old)
         (refusal_message refusal) (O.written output.new) }
     ensures failed { O.failures output.new ≡ O.failures output.old + failures_of result }
 {

@@ -213,7 +213,7 @@ pub fn finish<'a, W: Write + Drop>(
     ensures within { IfOk result (λ ended. ended ≤ 2) }
 
     // The job told why, so that it isn't told again; and a failed write is no success.
-    ensures told { is_some target.entry.cause ≡ true → IsOkAnd result (λ ended. 0 < ended) }
+    ensures exact { is_some target.entry.cause ≡ true → IsOkAnd result (λ ended. 0 < ended) }
 {
     let (mut target, cause) = target.into_inner();
     let flushed = settle(status, &mut target).err().map(|error| error.kind());

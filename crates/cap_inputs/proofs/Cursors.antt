@@ -70,13 +70,13 @@ first-none (x ∷ xs) = first-none xs
 pub read_input-steps-by : (inputs : InputsView) (i : ℕ) (r : Result Bool Fault) (old new : InputView) → i < length inputs.cursors → old ≡ get_or inputs.cursors i old
     → Steps old.source.phase old.source r new.source → new.source.phase ≡ phase_after r → SectionFits new.source.declared → new ≡ input_after old r new.source
     → ReadSteps inputs i r (with_cursor inputs i new)
-read_input-steps-by inputs i r old new within value steps phase few is = record {
+read_input-steps-by inputs i r old new within value steps phase upper_bound is = record {
   cursor = old;
   among = get-among inputs.cursors i old old within value;
   source = new.source;
   steps = steps;
   phase = phase;
-  few = few;
+  upper_bound = upper_bound;
   is = ap (with_cursor inputs i) is;
 }
 

@@ -478,7 +478,7 @@ total-first f (x ∷ xs) idle = let rest = total-first f xs idle in let here : w
 pub queued-first : {X : Type 0} (f : X → InputView) (xs : List X) (last : ℕ) (q : Queue) → ((x : X) → (f x).waiting ≡ false) → q.waiting ≡ [] → length (map f xs) ≤ q.room → IsQueued (map f xs) 0 last q
 queued-first f xs last q idle empty roomy = record {
   entered = λ t j. ap (λ (ws : List Waiting). is_entered ws t j) empty ∙ sym (none-first f xs idle t j);
-  counted = (let total = total-first f xs idle in let few : length q.waiting ≡ 0 = ap length empty in omega (arith, total, few));
+  counted = (let total = total-first f xs idle in let upper_bound : length q.waiting ≡ 0 = ap length empty in omega (arith, total, upper_bound));
   room = roomy;
   unread = λ t j low less. none-first f xs idle t j;
 }

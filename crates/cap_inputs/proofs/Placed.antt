@@ -38,9 +38,9 @@ turn-next (x ∷ xs) ys h turn is ended end unended =
     rw one (ended.0, turn-next xs ys h (length xs) refl ended.1 end unended)
 
 turn-all : (turn : ℕ) (hs : List InputView) → length hs ≤ turn → IsTurnOf turn hs → AllEnded hs
-turn-all turn [] few placed = tt
-turn-all zero (h ∷ hs) few placed = absurd (omega (arith, few))
-turn-all (suc turn) (h ∷ hs) few placed = (placed.0, turn-all turn hs (omega (arith, few)) placed.1)
+turn-all turn [] upper_bound placed = tt
+turn-all zero (h ∷ hs) upper_bound placed = absurd (omega (arith, upper_bound))
+turn-all (suc turn) (h ∷ hs) upper_bound placed = (placed.0, turn-all turn hs (omega (arith, upper_bound)) placed.1)
 
 turn-is : (xs ys : List InputView) (h : InputView) (turn : ℕ) → IsTurnOf turn (xs ++ h ∷ ys) → AllEnded xs → IsOpen h → length xs ≡ turn
 turn-is [] ys h zero placed ended unended = refl

@@ -184,7 +184,7 @@ pub record ReadSteps (old : InputsView) (i : ℕ) (r : Result Bool Fault)
   pub source : SourceView
   pub steps : Steps cursor.source.phase cursor.source r source
   pub phase : source.phase ≡ phase_after r
-  pub few : SectionFits source.declared
+  pub upper_bound : SectionFits source.declared
   pub is : new ≡ with_cursor old i (input_after cursor r source)
 
 abbrev pub waiting_count : Bool → ℕ

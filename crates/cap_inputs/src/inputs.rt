@@ -99,11 +99,11 @@ impl<I: Input, A: Allocator> InputCursor<I, A> {
 
     /// Reads on to the next packet.
     fn advance(&mut self) -> Result<bool, Fault>
-        ensures told { IsTrue I.tells → Advances self.old.source.phase self.old.source result
+        ensures exact { IsTrue I.tells → Advances self.old.source.phase self.old.source result
             self.new.source }
         ensures steps { Steps self.old.source.phase self.old.source result self.new.source }
         ensures phase { self.new.source.phase ≡ phase_after result }
-        ensures few { SectionFits self.new.source.declared }
+        ensures upper_bound { SectionFits self.new.source.declared }
         ensures is { self.new ≡ input_after self.old result self.new.source }
     {
         let result = self.source.advance();
@@ -267,7 +267,7 @@ impl<I: Input, A: Allocator> Inputs<I, A> {
     pub fn read_input(&mut self, input: usize) -> Result<bool, Fault>
         requires within { input < length self.old.cursors }
         requires next { IsNext self.old (Next.Read input) }
-        ensures told { IsTrue I.tells → ReadsInput self.old input result self.new }
+        ensures exact { IsTrue I.tells → ReadsInput self.old input result self.new }
         ensures steps { ReadSteps self.old input result self.new }
         ensures count { length self.new.cursors ≡ length self.old.cursors }
     {
@@ -333,7 +333,7 @@ fn go_on<A: Allocator>(
 )
     requires room { (is_packet_found read && is_merge schedule.old) ≡ true
         → HasPlaceFor queue.old entry.input }
-    requires few { entry.input < 2 ^ 64 - 1 }
+    requires upper_bound { entry.input < 2 ^ 64 - 1 }
     ensures queue { EntersQueue (is_packet_found read && is_merge schedule.old) entry queue.old
         queue.new }
     ensures schedule { schedule.new ≡ schedule_after schedule.old entry.input read }

@@ -33,7 +33,7 @@ pub record BlockMissing (before : Option Section) (text unread' : List ℕ) (fau
   pub why : (unit_fault before text ≡ Some fault) ⊎ (fault ≡ ReadFailed) ⊎ (fault ≡ NoMemory)
   pub count : ℕ
   pub within : unit_fault before text ≡ None → count ≤ block_size before text
-  pub few : count ≤ most_in_unit
+  pub upper_bound : count ≤ most_in_unit
   pub unfinished : fault ≡ ReadFailed → count < decisive_block_length before text
   pub there : count ≤ length text
   pub rest : unread' ≡ drop count text
@@ -86,40 +86,40 @@ block_missing : (before : Option Section) (front unread unread' : List ℕ) (fau
     → (unit_fault before (front ++ unread) ≡ None → 12 + count ≤ block_size before (front ++ unread))
     → (fault ≡ ReadFailed → 12 + count < decisive_block_length before (front ++ unread)) → 12 + count ≤ most_in_unit
     → count ≤ length unread → unread' ≡ drop count unread → BlockMissing before (front ++ unread) unread' fault
-block_missing before front unread unread' fault count few why within unfinished small there rest = record {
+block_missing before front unread unread' fault count upper_bound why within unfinished small there rest = record {
   why = why;
   count = length front + count;
-  within = λ none. rw few (within none);
-  few = rw few small;
-  unfinished = λ failed. rw few (unfinished failed);
+  within = λ none. rw upper_bound (within none);
+  upper_bound = rw upper_bound small;
+  unfinished = λ failed. rw upper_bound (unfinished failed);
   there = omega (arith, length-append front unread, there);
   rest = taken_behind front unread unread' count rest;
 }
 
 pub frame_refused : (before : Option Section) (section : Option Order) (front unread : List ℕ) (answer : Result Frame Fault) (fault : Fault) → order_before before ≡ section → length front ≡ 12
     → answer ≡ checked (frame_fault section front) (frame_in section front) → answer ≡ Err fault → BlockMissing before (front ++ unread) unread fault
-frame_refused before section front unread answer fault is few told err =
-    let fails : frame_fault section front ≡ Some fault = checked_err (frame_fault section front) (frame_in section front) fault (sym told ∙ err) in
+frame_refused before section front unread answer fault is upper_bound exact err =
+    let fails : frame_fault section front ≡ Some fault = checked_err (frame_fault section front) (frame_in section front) fault (sym exact ∙ err) in
     let whole : first_failing (frame_checks (order_before before) (front ++ unread)) ≡ Some fault =
     ap (λ o. first_failing (frame_checks o (front ++ unread))) is ∙ ap first_failing (frame_checks-append section front unread (omega arith)) ∙ fails in
-    block_missing before front unread unread fault 0 few
+    block_missing before front unread unread fault 0 upper_bound
     (inl (unit_fault-frame before (front ++ unread) fault (omega (arith, length-append front unread)) whole))
     (λ none. omega (arith, (passes before (front ++ unread) none).least))
     (λ failed. absurd (frame-not_failed section front fault fails failed)) (omega arith) (omega arith) refl
 
 pub no_room_for_block : (before : Option Section) (front unread : List ℕ) → length front ≡ 12 → BlockMissing before (front ++ unread) unread NoMemory
-no_room_for_block before front unread few =
-    block_missing before front unread unread NoMemory 0 few (inr (inr refl)) (λ none. omega (arith, (passes before (front ++ unread) none).least)) (λ failed. (cc)) (omega arith) (omega arith) refl
+no_room_for_block before front unread upper_bound =
+    block_missing before front unread unread NoMemory 0 upper_bound (inr (inr refl)) (λ none. omega (arith, (passes before (front ++ unread) none).least)) (λ failed. (cc)) (omega arith) (omega arith) refl
 
 pub rest_of_block : (before : Option Section) (section : Option Order) (front unread unread' : List ℕ) (frame : Frame) (fault : Fault) → order_before before ≡ section → length front ≡ 12
     → FrontSays section front frame → frame.length ≤ most_block → RestMissing (length front) frame.length unread unread' fault
     → BlockMissing before (front ++ unread) unread' fault
-rest_of_block before section front unread unread' frame fault is few said small missing =
+rest_of_block before section front unread unread' frame fault is upper_bound said small missing =
     let both = says_behind before section front unread frame is (omega arith) said in
     let size : block_size before (front ++ unread) ≡ frame.length = ap (λ (f : Frame). f.length) both.1 in
     let reads : decisive_block_length before (front ++ unread) ≡ block_size before (front ++ unread) = ap (λ (f : Option Fault). length_by_front f 12 (block_size before (front ++ unread))) both.0 in
     let long : length (front ++ unread) ≡ length front + length unread = length-append front unread in
-    block_missing before front unread unread' fault missing.count few
+    block_missing before front unread unread' fault missing.count upper_bound
     (elim missing.why [
       | inl short ↦ inl (rw short.0 (unit_fault-short before (front ++ unread) (omega arith) both.0 (omega (arith, short.1))))
       | inr failed ↦ inr (inl failed)
@@ -131,7 +131,7 @@ rest_of_block before section front unread unread' frame fault is few said small 
 pub whole_came : (section : Option Order) (front unread unread' unit buffer : List ℕ) (frame : Frame) → length front ≡ 12 → FrontSays section front frame
     → take frame.length buffer ≡ unit → take (length front) unit ≡ front → unread ≡ drop (length front) unit ++ unread'
     → WholeCame section (front ++ unread) buffer frame unread'
-whole_came section front unread unread' unit buffer frame few said there same rest =
+whole_came section front unread unread' unit buffer frame upper_bound said there same rest =
     let joined : front ++ drop (length front) unit ≡ unit = ap (λ (l : List ℕ). l ++ drop (length front) unit) (sym same) ∙ take-append-drop (length front) unit in
     record {
       passes = rw there (ap (frame_fault section) (sym joined) ∙ ap first_failing (frame_checks-append section front (drop (length front) unit) (omega arith)) ∙ said.passes);
@@ -180,7 +180,7 @@ entry_refused before section interfaces text unread' block buffer frame fault is
       ];
       count = frame.length;
       within = λ none. omega (arith, whole);
-      few = small;
+      upper_bound = small;
       unfinished = λ failed. absurd (entry-not_failed frame interfaces block fault entry failed);
       there = omega (arith, long, size);
       rest = sym (drop_at block unread' frame.length size);

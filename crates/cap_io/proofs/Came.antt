@@ -41,7 +41,7 @@ filled unread buf unread' buf' n came full =
 
 -- so many bytes are no more than the first unit of any file
 pub most_taken-file : (text : List ℕ) (count : ℕ) → count ≤ 12 → count ≤ most_taken (front_of Nothing text)
-most_taken-file text count few = by_kind (is_pcapng text) refl
+most_taken-file text count upper_bound = by_kind (is_pcapng text) refl
   where
     P : Front → Type 0
     P f = count ≤ most_taken f
@@ -49,19 +49,19 @@ most_taken-file text count few = by_kind (is_pcapng text) refl
     by_kind : (b : Bool) → is_pcapng text ≡ b → count ≤ most_taken (front_of Nothing text)
     by_kind true is =
         subst P (sym (front_of-pcapng text is))
-        (most_taken-block None None text count (λ none. omega (arith, few, (block.passes None text none).least)) (omega (arith, few)))
-    by_kind false is = most_taken-header text count is (omega (arith, few))
+        (most_taken-block None None text count (λ none. omega (arith, upper_bound, (block.passes None text none).least)) (omega (arith, upper_bound)))
+    by_kind false is = most_taken-header text count is (omega (arith, upper_bound))
 
 pub too_few : (unread unread' : List ℕ) (count : ℕ) → length unread < 4 → count ≤ length unread → unread' ≡ drop count unread → NoUnitCame Nothing unread unread' NotACaptureFile
-too_few unread unread' count few there rest = record {
-  why = inl (front_of-no_header unread NotACaptureFile (is_pcapng-few unread few) (header_fault-few unread few));
+too_few unread unread' count upper_bound there rest = record {
+  why = inl (front_of-no_header unread NotACaptureFile (is_pcapng-few unread upper_bound) (header_fault-few unread upper_bound));
   taken = record { count = count; within = most_taken-file unread count (omega arith); unfinished = λ failed. (cc); there = there; rest = rest };
 }
 
 pub first_failed : (unread unread' : List ℕ) (count : ℕ) → count < 4 → count ≤ length unread → unread' ≡ drop count unread → NoUnitCame Nothing unread unread' ReadFailed
-first_failed unread unread' count few there rest = record {
+first_failed unread unread' count upper_bound there rest = record {
   why = inr (inl refl);
-  taken = record { count = count; within = most_taken-file unread count (omega arith); unfinished = λ failed. decisive_length-file unread count few; there = there; rest = rest };
+  taken = record { count = count; within = most_taken-file unread count (omega arith); unfinished = λ failed. decisive_length-file unread count upper_bound; there = there; rest = rest };
 }
 
 -- what is refused behind the first four bytes is refused with them
@@ -132,16 +132,16 @@ section_of_bytes bytes first front enough =
     let joined : first ++ drop (length first) bytes ≡ bytes = ap (λ (l : List ℕ). l ++ drop (length first) bytes) (sym front) ∙ take-append-drop (length first) bytes in
     ap is_section (sym joined) ∙ is_section-append first (drop (length first) bytes) enough
 
-pub header_came : (told : Bool) (unread unread2 bytes : List ℕ) (answer : Result Head Fault) → (IsTrue told → unread ≡ bytes ++ unread2) → length bytes ≡ 24 → answer ≡ checked (header_fault bytes) (header_in bytes)
-    → IfOk answer (λ head. IsTrue told → HeaderCame unread head unread2)
-header_came told unread unread2 bytes (Ok head) splits size is = λ t. header_says unread unread2 bytes head (splits t) size is
-header_came told unread unread2 bytes (Err fault) splits size is = tt
+pub header_came : (exact : Bool) (unread unread2 bytes : List ℕ) (answer : Result Head Fault) → (IsTrue exact → unread ≡ bytes ++ unread2) → length bytes ≡ 24 → answer ≡ checked (header_fault bytes) (header_in bytes)
+    → IfOk answer (λ head. IsTrue exact → HeaderCame unread head unread2)
+header_came exact unread unread2 bytes (Ok head) splits size is = λ t. header_says unread unread2 bytes head (splits t) size is
+header_came exact unread unread2 bytes (Err fault) splits size is = tt
 
-pub header_refused : (told : Bool) (unread unread2 bytes : List ℕ) (answer : Result Head Fault) → (IsTrue told → unread ≡ bytes ++ unread2) → length bytes ≡ 24 → is_section bytes ≡ false
+pub header_refused : (exact : Bool) (unread unread2 bytes : List ℕ) (answer : Result Head Fault) → (IsTrue exact → unread ≡ bytes ++ unread2) → length bytes ≡ 24 → is_section bytes ≡ false
     → answer ≡ checked (header_fault bytes) (header_in bytes)
-    → IfErr answer (λ fault. IsTrue told → NoUnitCame Nothing unread unread2 fault)
-header_refused told unread unread2 bytes (Ok head) splits size other is = tt
-header_refused told unread unread2 bytes (Err fault) splits size other is = λ t. header_wrong unread unread2 bytes fault (splits t) size other is
+    → IfErr answer (λ fault. IsTrue exact → NoUnitCame Nothing unread unread2 fault)
+header_refused exact unread unread2 bytes (Ok head) splits size other is = tt
+header_refused exact unread unread2 bytes (Err fault) splits size other is = λ t. header_wrong unread unread2 bytes fault (splits t) size other is
 
 -- ---- a record
 
@@ -193,7 +193,7 @@ no_room head unread unread1 front splits size = record {
 
 pub data_missing : (head : Head) (unread unread1 unread2 front : List ℕ) (found : RecordHead) (fault : Fault) (size : ℕ) → size ≡ 16 + found.captured → unread ≡ front ++ unread1 → length front ≡ 16 → FieldsCame head front found
     → 16 + found.captured ≤ most_in_unit → RestMissing (length front) size unread1 unread2 fault → NoUnitCame (PcapFile head) unread unread2 fault
-data_missing head unread unread1 unread2 front found fault size is splits few fields small missing =
+data_missing head unread unread1 unread2 front found fault size is splits upper_bound fields small missing =
     let long : length unread ≡ length front + length unread1 = ap length splits ∙ length-append front unread1 in
     let said : found.captured ≡ captured_len head front = ap (λ (h : RecordHead). h.captured) fields.says in
     let captured : captured_len head unread ≡ captured_len head front = ap (captured_len head) splits ∙ captured_len-append head front unread1 (omega arith) in
@@ -211,9 +211,9 @@ data_missing head unread unread1 unread2 front found fault size is splits few fi
 pub record_came : (head : Head) (unread unread1 unread2 front unit buffer : List ℕ) (found : RecordHead) (size : ℕ) → unread ≡ front ++ unread1 → length front ≡ 16 → FieldsCame head front found
     → size ≡ 16 + found.captured → length unit ≡ size → take (length front) unit ≡ front → unread1 ≡ drop (length front) unit ++ unread2 → take size buffer ≡ unit
     → PacketCame (PcapFile head) unread buffer (record { size = size; bytes = record { start = 16; length = found.captured }; options = record { start = 16; length = 0 }; interface = 0; time = found.time; orig = found.orig }) (PcapFile head) unread2
-record_came head unread unread1 unread2 front unit buffer found size splits few fields e whole came behind there =
-    let same : take 16 unit ≡ front = ap (λ (n : ℕ). take n unit) (sym few) ∙ came in
-    let rest : unread1 ≡ drop 16 unit ++ unread2 = behind ∙ ap (λ (n : ℕ). drop n unit ++ unread2) few in
+record_came head unread unread1 unread2 front unit buffer found size splits upper_bound fields e whole came behind there =
+    let same : take 16 unit ≡ front = ap (λ (n : ℕ). take n unit) (sym upper_bound) ∙ came in
+    let rest : unread1 ≡ drop 16 unit ++ unread2 = behind ∙ ap (λ (n : ℕ). drop n unit ++ unread2) upper_bound in
     let said : found.captured ≡ captured_len head front = ap (λ (h : RecordHead). h.captured) fields.says in
     let joined : front ++ drop 16 unit ≡ unit = ap (λ (l : List ℕ). l ++ drop 16 unit) (sym same) ∙ take-append-drop 16 unit in
     let says : record_header_in head unit ≡ found = ap (record_header_in head) (sym joined) ∙ record_header_in-append head front (drop 16 unit) (omega arith) ∙ sym fields.says in

@@ -49,7 +49,7 @@ missing-refuses declared first before text unread' fault is reads m =
       ];
       taken = record {
         count = m.count;
-        within = subst P (sym is) (most_taken-block first before text m.count m.within m.few);
+        within = subst P (sym is) (most_taken-block first before text m.count m.within m.upper_bound);
         unfinished = λ failed. rw reads (m.unfinished failed);
         there = m.there;
         rest = m.rest;
@@ -72,7 +72,7 @@ stands_at (state.Pcapng order first) interfaces front more enough begins =
 
 pub refused-block : (file : FileState) (interfaces : List Described) (front unread unread' : List ℕ) (fault : Fault) → length front ≡ 12 → BeginsBlock file front
     → BlockMissing (section_before file interfaces) (front ++ unread) unread' fault → NoUnitCame (declared_by file interfaces) (front ++ unread) unread' fault
-refused-block file interfaces front unread unread' fault few begins m =
+refused-block file interfaces front unread unread' fault upper_bound begins m =
     let stands = stands_at file interfaces front unread (omega arith) begins in
     missing-refuses (declared_by file interfaces) (known_first_link file) (section_before file interfaces) (front ++ unread) unread' fault stands.front stands.reads m
 
@@ -94,8 +94,8 @@ rest_of_front first unread unread' fault size twelve four is missing =
     }
 
 front-taken : (link : Option ℕ) (section : Section) (text : List ℕ) (count : ℕ) → count ≤ 12 → count ≤ most_taken (front_of (PcapngFile link section) text)
-front-taken link section [] count few = omega arith
-front-taken link section (b ∷ bytes) count few =
+front-taken link section [] count upper_bound = omega arith
+front-taken link section (b ∷ bytes) count upper_bound =
     most_taken-block link (Some section) (b ∷ bytes) count (λ none. omega (arith, (passes (Some section) (b ∷ bytes) none).least)) (omega arith)
 
 -- the front of a later block didn't come
@@ -110,7 +110,7 @@ block_front link section unread unread' fault m =
         ];
         count = m.missing.count;
         within = λ none. omega (arith, m.missing.within, (passes (Some section) unread none).least);
-        few = omega (arith, m.missing.within);
+        upper_bound = omega (arith, m.missing.within);
         unfinished = λ failed. decisive_block_length-few (Some section) unread m.missing.count (omega (arith, m.missing.within));
         there = m.missing.there;
         rest = m.missing.rest;
@@ -228,17 +228,17 @@ pub packet-block : (file : FileState) (interfaces interfaces' : List Described) 
     → IsConsistent file interfaces → spans.size ≡ size → interfaces' ≡ interfaces
     → BlockCame (section_before file interfaces) (front ++ unread) buffer order size (Some spans) interfaces' unread'
     → PacketCame (declared_by file interfaces) (front ++ unread) buffer spans (declared_by file interfaces') unread'
-packet-block state.Unknown interfaces interfaces' front unread buffer unread' order size spans begins there told whole stays came =
+packet-block state.Unknown interfaces interfaces' front unread buffer unread' order size spans begins there exact whole stays came =
     let none : [] ≡ came.packet.packet ∷ [] = sym (first-packets (take size buffer) came.is_block) ∙ came.packet.stands in absurd (cc)
-packet-block (state.Pcap head) interfaces interfaces' front unread buffer unread' order size spans begins there told whole stays came = absurd begins
-packet-block (state.Pcapng own link) interfaces interfaces' front unread buffer unread' order size spans begins there told whole stays came =
+packet-block (state.Pcap head) interfaces interfaces' front unread buffer unread' order size spans begins there exact whole stays came = absurd begins
+packet-block (state.Pcapng own link) interfaces interfaces' front unread buffer unread' order size spans begins there exact whole stays came =
     let section = section_of own interfaces in
     let block : List ℕ = take size buffer in
     let p = came.packet in
     let same : section_after (Some section) block ≡ section = section-kept section block p.packet p.stands in
     let kept : section_of order interfaces' ≡ section = sym came.section ∙ same in
     let declared : (s : Section) → s ≡ section → PcapngFile (first_link_after link s) s ≡ PcapngFile link section =
-    λ s e. ap (λ (t : Section). PcapngFile (first_link_after link t) t) e ∙ ap (λ l. PcapngFile l section) told.0 in
+    λ s e. ap (λ (t : Section). PcapngFile (first_link_after link t) t) e ∙ ap (λ l. PcapngFile l section) exact.0 in
     let Q : List Captured → Type 0 = λ qs. IsUnit (PcapngFile link section) block qs (file_after link (Some section) block) in
     let R : Declared → Type 0 = λ d. IsUnit (PcapngFile link section) block (p.packet ∷ []) d in
     packet_at_size link section (front ++ unread) buffer spans p.packet (declared_by (state.Pcapng own link) interfaces') size unread' whole
@@ -288,9 +288,9 @@ order-held (state.Pcap head) interfaces = refl
 order-held (state.Pcapng order first) interfaces = refl
 
 pub interfaces-held : (file : FileState) (interfaces : List Described) (front : List ℕ) → BeginsBlock file front → IsConsistent file interfaces → interfaces_before (section_before file interfaces) ≡ interfaces
-interfaces-held state.Unknown interfaces front begins told = sym told
-interfaces-held (state.Pcap head) interfaces front begins told = absurd begins
-interfaces-held (state.Pcapng order first) interfaces front begins told = refl
+interfaces-held state.Unknown interfaces front begins exact = sym exact
+interfaces-held (state.Pcap head) interfaces front begins exact = absurd begins
+interfaces-held (state.Pcapng order first) interfaces front begins exact = refl
 
 -- ---- a block of a file that has begun
 

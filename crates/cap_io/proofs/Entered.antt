@@ -43,7 +43,7 @@ captured_fits captured rest none =
 pub known_interface : {X : Type 0} (found : Option X) (f : X → Described) (x : X) (i : Option Described) → found ≡ Some x → option_map f found ≡ i → i ≡ Some (f x)
 known_interface found f x i is same = sym same ∙ ap (option_map f) is
 
-pub found_by : {X E : Type 0} (told : Option X) (e : E) (x : X) → ok_or told e ≡ Ok x → told ≡ Some x
+pub found_by : {X E : Type 0} (exact : Option X) (e : E) (x : X) → ok_or exact e ≡ Ok x → exact ≡ Some x
 found_by None e x is = (cc)
 found_by (Some t) e x is = (cc)
 
@@ -72,13 +72,13 @@ pub enhanced_found : (order : Order) (interfaces : List Described) (i : Describe
       time = time;
       orig = orig;
     }))
-enhanced_found order interfaces i number ticks captured orig time size optional rest options known few told small behind optional_is =
-    let room : padded captured ≤ length rest = leb-true (padded captured) (length rest) (all_met (data_checks captured rest) few).0 in
+enhanced_found order interfaces i number ticks captured orig time size optional rest options known upper_bound exact small behind optional_is =
+    let room : padded captured ≤ length rest = leb-true (padded captured) (length rest) (all_met (data_checks captured rest) upper_bound).0 in
     let lies_there : take optional (drop (28 + length rest - optional - 28) rest) ≡ options = options_behind (padded captured) optional rest options room behind optional_is in
     let left : length options ≡ length rest - padded captured = ap length behind ∙ length-drop (padded captured) rest in
-    let fits : captured ≤ length rest = captured_fits captured rest few in
-    let at : time_in ticks i.units i.offset ≡ Some time = found_by (time_in ticks i.units i.offset) TimeOutOfRange time (sym told) in (
-      rw (known, at) (met_front (data_checks captured rest) ((is_some (Some time), TimeOutOfRange) ∷ []) few),
+    let fits : captured ≤ length rest = captured_fits captured rest upper_bound in
+    let at : time_in ticks i.units i.offset ≡ Some time = found_by (time_in ticks i.units i.offset) TimeOutOfRange time (sym exact) in (
+      rw (known, at) (met_front (data_checks captured rest) ((is_some (Some time), TimeOutOfRange) ∷ []) upper_bound),
       record {
         whole = refl;
         known = rw known refl;
@@ -104,8 +104,8 @@ pub simple_found : (interfaces : List Described) (i : Described) (orig size : �
       time = 0;
       orig = orig;
     }))
-simple_found interfaces i orig size rest known few = (
-  rw known few,
+simple_found interfaces i orig size rest known upper_bound = (
+  rw known upper_bound,
   λ order. record {
     whole = refl;
     known = rw known refl;
@@ -113,7 +113,7 @@ simple_found interfaces i orig size rest known few = (
     packet = packet_of i 0 orig (take (simple_captured orig i.snap) rest) [];
     stands = rw known refl;
     is_lent = rw known (ap (λ items. Some (packet_of i 0 orig (take (simple_captured orig i.snap) rest) (unwrap_or (first_value comment_code (fitting_options items)) []))) (options_in-none order));
-    there = captured_fits (simple_captured orig i.snap) rest few;
+    there = captured_fits (simple_captured orig i.snap) rest upper_bound;
     behind = lit≤ tt;
     options = omega arith;
     time = omega arith;
@@ -129,8 +129,8 @@ lies text skip most count there enough =
     let whole : skip + (most - skip) ≡ most = omega arith in
     let same : drop skip (take most (drop 8 text)) ≡ take (most - skip) (drop (8 + skip) text) =
     ap (λ n. drop skip (take n (drop 8 text))) (sym whole) ∙ drop-take skip (most - skip) (drop 8 text) ∙ ap (take (most - skip)) (drop-drop skip 8 text) in
-    let few : count ≤ most - skip = omega (arith, there, ap length same, length-take (most - skip) (drop (8 + skip) text)) in
-    sym (take-take count (most - skip) (drop (8 + skip) text) few) ∙ ap (take count) (sym same)
+    let upper_bound : count ≤ most - skip = omega (arith, there, ap length same, length-take (most - skip) (drop (8 + skip) text)) in
+    sym (take-take count (most - skip) (drop (8 + skip) text) upper_bound) ∙ ap (take count) (sym same)
 
 -- what is left of the body of a block with a packet, and that the front of it is there
 record BodyIs (skip : ℕ) (rest : List ℕ) (frame : Frame) (block : List ℕ) : Type 0 where
@@ -171,7 +171,7 @@ record LiesIn (frame : Frame) (block rest : List ℕ) (skip at count : ℕ) : Ty
 
 part_lies : (frame : Frame) (block rest : List ℕ) (skip at count : ℕ) → length block ≡ frame.length → 12 ≤ frame.length
     → rest ≡ drop skip (body_in frame block) → skip ≤ length (body_in frame block) → at + count ≤ length rest → LiesIn frame block rest skip at count
-part_lies frame block rest skip at count whole least left there few =
+part_lies frame block rest skip at count whole least left there upper_bound =
     let most : length (body_in frame block) ≡ frame.length - 12 =
     length-take-le (frame.length - 12) (drop 8 block) (omega (arith, length-drop 8 block)) in
     let size : length rest ≡ frame.length - 12 - skip = ap length left ∙ length-drop skip (body_in frame block) ∙ ap (λ n. n - skip) most in
@@ -181,9 +181,9 @@ part_lies frame block rest skip at count whole least left there few =
     length-drop (skip + at) (body_in frame block) ∙ ap (λ n. n - (skip + at)) most in
     record {
       same =
-          lies block (skip + at) (frame.length - 12) count (omega (arith, few, size, long, there, most)) (omega (arith, few, size, there, most))
+          lies block (skip + at) (frame.length - 12) count (omega (arith, upper_bound, size, long, there, most)) (omega (arith, upper_bound, size, there, most))
           ∙ ap (take count) (sym further);
-      within = omega (arith, few, size, there, most);
+      within = omega (arith, upper_bound, size, there, most);
     }
 
 -- the data and the options of a packet that was found in a body are those held of the block
@@ -196,8 +196,8 @@ record HeldLies (frame : Frame) (block rest : List ℕ) (spans : PacketSpans) : 
 held_lies : (frame : Frame) (block rest : List ℕ) (skip : ℕ) (spans : PacketSpans) → length block ≡ frame.length → 12 ≤ frame.length
     → rest ≡ drop skip (body_in frame block) → skip ≤ length (body_in frame block) → spans.bytes.start ≡ 8 + skip → spans.bytes.length ≤ length rest
     → spans.bytes.start ≤ spans.options.start → spans.options.start - spans.bytes.start + spans.options.length ≤ length rest → HeldLies frame block rest spans
-held_lies frame block rest skip spans whole least left there from few behind room =
-    let bytes = part_lies frame block rest skip 0 spans.bytes.length whole least left there (omega (arith, few)) in
+held_lies frame block rest skip spans whole least left there from upper_bound behind room =
+    let bytes = part_lies frame block rest skip 0 spans.bytes.length whole least left there (omega (arith, upper_bound)) in
     let options = part_lies frame block rest skip (spans.options.start - spans.bytes.start) spans.options.length whole least left there room in
     let data_at : spans.bytes.start ≡ 8 + (skip + 0) = omega (arith, from) in
     let options_at : spans.options.start ≡ 8 + (skip + (spans.options.start - spans.bytes.start)) = omega (arith, from, behind) in
@@ -269,14 +269,14 @@ IsFull r interfaces = IsTooMany r ↔ (length interfaces ≡ 256)
 pub interface_enters : (frame : Frame) (interfaces interfaces' : List Described) (block : List ℕ) (b : InterfaceBlock) → length block ≡ frame.length → 12 ≤ frame.length
     → parts_of_interface b ≡ parts_in frame block → IsDescribed b → block_fault frame block ≡ None → length interfaces ≤ 256 → IsFull (Ok tt) interfaces
     → interfaces' ≡ interfaces ++ description_of b.interface ∷ [] → Enters frame interfaces block None interfaces'
-interface_enters frame interfaces interfaces' block b whole least is says none few room added =
+interface_enters frame interfaces interfaces' block b whole least is says none upper_bound room added =
     let passes = block_passes frame block least (omega (arith, whole)) none in
     let options : first_failing (option_checks (parts_of_interface b)) ≡ None = ap (λ p. first_failing (option_checks p)) is ∙ passes.1 in
     record {
       passes = passes.0;
       among =
           ap (λ p. first_failing (checks_among interfaces p)) (sym is)
-          ∙ ap (λ (r : Bool). first_failing ((r, TooManyInterfaces) ∷ option_checks (parts_of_interface b))) (lt-ltb (length interfaces) most_interfaces (below (length interfaces) few (λ n. not_full (room.1 n)))) ∙ options;
+          ∙ ap (λ (r : Bool). first_failing ((r, TooManyInterfaces) ∷ option_checks (parts_of_interface b))) (lt-ltb (length interfaces) most_interfaces (below (length interfaces) upper_bound (λ n. not_full (room.1 n)))) ∙ options;
       section =
           ap (λ p. section_by (Some (section_of frame.order interfaces)) frame.order p) (sym is)
           ∙ ap (λ (i : Described). section_of frame.order (interfaces ++ i ∷ [])) (sym says) ∙ ap (section_of frame.order) (sym added);
@@ -289,19 +289,19 @@ interface_enters frame interfaces interfaces' block b whole least is says none f
     not_full e = (cc)
 
     below : (n : ℕ) → n ≤ 256 → (n ≡ 256 → ⊥) → n < 256
-    below n few room = by_room (nat_lt n 256) refl
+    below n upper_bound room = by_room (nat_lt n 256) refl
       where
         by_room : (b : Bool) → nat_lt n 256 ≡ b → n < 256
         by_room true e = ltb-true n 256 e
-        by_room false e = absurd (let most = ltb-false n 256 e in room (omega (arith, few, most)))
+        by_room false e = absurd (let most = ltb-false n 256 e in room (omega (arith, upper_bound, most)))
 
 pub interface_refused : (frame : Frame) (interfaces : List Described) (block : List ℕ) (b : InterfaceBlock) (fault : Fault) → length block ≡ frame.length → 12 ≤ frame.length
     → parts_of_interface b ≡ parts_in frame block → block_fault frame block ≡ None → length interfaces ≤ 256
     → IsFull (Err fault) interfaces → (length interfaces < 256 → fault ≡ NoMemory) → IsEntryFault frame interfaces block fault
-interface_refused frame interfaces block b fault whole least is none few full memory = by_room (nat_lt (length interfaces) most_interfaces) refl
+interface_refused frame interfaces block b fault whole least is none upper_bound full memory = by_room (nat_lt (length interfaces) most_interfaces) refl
   where
-    same : (told : Fault) → IsTooMany (Err told) → told ≡ TooManyInterfaces
-    same told e = (cc)
+    same : (exact : Fault) → IsTooMany (Err exact) → exact ≡ TooManyInterfaces
+    same exact e = (cc)
 
     by_room : (room : Bool) → nat_lt (length interfaces) most_interfaces ≡ room → IsEntryFault frame interfaces block fault
     by_room true e = inr (inr (memory (ltb-true (length interfaces) 256 e)))
@@ -310,7 +310,7 @@ interface_refused frame interfaces block b fault whole least is none few full me
         inr (inl (
           (block_passes frame block least (omega (arith, whole)) none).0,
           ap (λ p. first_failing (checks_among interfaces p)) (sym is)
-              ∙ ap (λ (r : Bool). first_failing ((r, TooManyInterfaces) ∷ option_checks (parts_of_interface b))) e ∙ ap Some (sym (same fault (full.1 (omega (arith, few, most))))),
+              ∙ ap (λ (r : Bool). first_failing ((r, TooManyInterfaces) ∷ option_checks (parts_of_interface b))) e ∙ ap Some (sym (same fault (full.1 (omega (arith, upper_bound, most))))),
         ))
 
 -- ---- a block that is refused by itself

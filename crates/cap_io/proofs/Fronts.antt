@@ -29,7 +29,7 @@ is_pcapng-append front more enough =
     ∙ is_section-append front more enough
 
 pub is_pcapng-few : (text : List ℕ) → length text < 4 → is_pcapng text ≡ false
-is_pcapng-few text few = ap (λ (b : Bool). b && is_section text) (lt-leb 4 (length text) few)
+is_pcapng-few text upper_bound = ap (λ (b : Bool). b && is_section text) (lt-leb 4 (length text) upper_bound)
 
 pub front_of-pcap : (text : List ℕ) → is_pcapng text ≡ false → front_of Nothing text ≡ front_of_header (header_fault text) text
 front_of-pcap text other = ap (λ (b : Bool). front_of_file b text) other
@@ -75,40 +75,40 @@ front_of_block-none first before text fault fails = ap (λ (f : Option Fault). f
 -- ---- how much is taken at most
 
 pub most_taken-header : (text : List ℕ) (count : ℕ) → is_pcapng text ≡ false → count ≤ 24 → count ≤ most_taken (front_of Nothing text)
-most_taken-header text count other few = let P : Front → Type 0 = λ f. count ≤ most_taken f in subst P (sym (front_of-pcap text other)) (by_fault (header_fault text) few)
+most_taken-header text count other upper_bound = let P : Front → Type 0 = λ f. count ≤ most_taken f in subst P (sym (front_of-pcap text other)) (by_fault (header_fault text) upper_bound)
   where
     by_fault : (fault : Option Fault) → count ≤ 24 → count ≤ most_taken (front_of_header fault text)
-    by_fault None few = few
-    by_fault (Some fault) few = omega arith
+    by_fault None upper_bound = upper_bound
+    by_fault (Some fault) upper_bound = omega arith
 
 pub most_taken-record : (head : Head) (text : List ℕ) (count : ℕ) → count ≤ record_size head text → count ≤ most_in_unit → count ≤ most_taken (front_of (PcapFile head) text)
-most_taken-record head [] count within few = few
-most_taken-record head (b ∷ bytes) count within few = by_fault (record_fault head (b ∷ bytes))
+most_taken-record head [] count within upper_bound = upper_bound
+most_taken-record head (b ∷ bytes) count within upper_bound = by_fault (record_fault head (b ∷ bytes))
   where
     by_fault : (fault : Option Fault) → count ≤ most_taken (front_of_record fault head (b ∷ bytes))
     by_fault None = within
-    by_fault (Some fault) = few
+    by_fault (Some fault) = upper_bound
 
 -- in front of a record's data
 pub most_taken-front : (head : Head) (text : List ℕ) (count : ℕ) → count ≤ 16 → count ≤ most_taken (front_of (PcapFile head) text)
-most_taken-front head text count few = most_taken-record head text count (omega arith) (omega arith)
+most_taken-front head text count upper_bound = most_taken-record head text count (omega arith) (omega arith)
 
 pub most_taken-block : (first : Option ℕ) (before : Option Section) (text : List ℕ) (count : ℕ) → (unit_fault before text ≡ None → count ≤ block_size before text)
     → count ≤ most_in_unit → count ≤ most_taken (front_of_block (unit_fault before text) first before text)
-most_taken-block first before text count within few = by_fault (unit_fault before text) within
+most_taken-block first before text count within upper_bound = by_fault (unit_fault before text) within
   where
     by_fault : (fault : Option Fault) → (fault ≡ None → count ≤ block_size before text) → count ≤ most_taken (front_of_block fault first before text)
     by_fault None within = within refl
-    by_fault (Some fault) within = few
+    by_fault (Some fault) within = upper_bound
 
 -- ---- how many bytes decide it
 
 pub decisive_block_length-few : (before : Option Section) (text : List ℕ) (count : ℕ) → count < 12 → count < decisive_block_length before text
-decisive_block_length-few before text count few = by_fault (first_failing (frame_checks (order_before before) text)) refl
+decisive_block_length-few before text count upper_bound = by_fault (first_failing (frame_checks (order_before before) text)) refl
   where
     by_fault : (fault : Option Fault) → first_failing (frame_checks (order_before before) text) ≡ fault → count < length_by_front fault 12 (block_size before text)
-    by_fault None framed = omega (arith, few, least_length (order_before before) text framed)
-    by_fault (Some fault) framed = few
+    by_fault None framed = omega (arith, upper_bound, least_length (order_before before) text framed)
+    by_fault (Some fault) framed = upper_bound
 
 pub decisive_length-pcapng : (text : List ℕ) → is_pcapng text ≡ true → decisive_length Nothing text ≡ decisive_block_length None text
 decisive_length-pcapng text is = ap (λ (b : Bool). if b then decisive_block_length None text else (if is_some (form_in text) then 24 else 4)) is
@@ -118,16 +118,16 @@ decisive_length-header text other some =
     ap (λ (b : Bool). if b then decisive_block_length None text else (if is_some (form_in text) then 24 else 4)) other ∙ ap (λ (b : Bool). if b then 24 else 4) some
 
 pub decisive_length-file : (text : List ℕ) (count : ℕ) → count < 4 → count < decisive_length Nothing text
-decisive_length-file text count few = by_kind (is_pcapng text) (is_some (form_in text))
+decisive_length-file text count upper_bound = by_kind (is_pcapng text) (is_some (form_in text))
   where
     by_kind : (section magic : Bool) → count < (if section then decisive_block_length None text else (if magic then 24 else 4))
-    by_kind true magic = decisive_block_length-few None text count (omega (arith, few))
-    by_kind false true = omega (arith, few)
-    by_kind false false = few
+    by_kind true magic = decisive_block_length-few None text count (omega (arith, upper_bound))
+    by_kind false true = omega (arith, upper_bound)
+    by_kind false false = upper_bound
 
 pub decisive_length-front : (head : Head) (text : List ℕ) (count : ℕ) → count < 16 → count < decisive_length (PcapFile head) text
-decisive_length-front head text count few = by_fault (first_failing (field_checks head text))
+decisive_length-front head text count upper_bound = by_fault (first_failing (field_checks head text))
   where
     by_fault : (fault : Option Fault) → count < length_by_front fault 16 (record_size head text)
-    by_fault None = omega (arith, few)
-    by_fault (Some fault) = few
+    by_fault None = omega (arith, upper_bound)
+    by_fault (Some fault) = upper_bound

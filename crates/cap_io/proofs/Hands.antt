@@ -19,10 +19,10 @@ use Rattle.cap_io.proofs.Passing.{FindsPacket-next}
 use Rattle.cap_io.proofs.Came.{fields_came, record_came}
 
 -- what was copied of it stands first in the buffer
-pub copied-front : (hand unit rest : List ℕ) (size few : ℕ) → unit ≡ take size hand → size ≤ length hand → few ≤ size → take few (unit ++ rest) ≡ take few hand
-copied-front hand unit rest size few is within le =
+pub copied-front : (hand unit rest : List ℕ) (size upper_bound : ℕ) → unit ≡ take size hand → size ≤ length hand → upper_bound ≤ size → take upper_bound (unit ++ rest) ≡ take upper_bound hand
+copied-front hand unit rest size upper_bound is within le =
     let long : length unit ≡ size = ap length is ∙ length-take-le size hand within in
-    take-append-le few unit rest (omega (arith, long, le)) ∙ ap (take few) is ∙ take-take few size hand le
+    take-append-le upper_bound unit rest (omega (arith, long, le)) ∙ ap (take upper_bound) is ∙ take-take upper_bound size hand le
 
 -- it was the first of what comes
 pub taken-first : (unread unread' hand : List ℕ) (size : ℕ) → take (length hand) unread ≡ hand → size ≤ length hand → Passes unread size true unread' → unread ≡ take size hand ++ unread'
@@ -37,13 +37,13 @@ record-taken head unread unread' buffer found says there splits =
     let size : ℕ = 16 + found.captured in
     let unit : List ℕ = take size buffer in
     let front : List ℕ = take 16 buffer in
-    let few : length front ≡ 16 = length-take-le 16 buffer (omega (arith, there)) in
+    let upper_bound : length front ≡ 16 = length-take-le 16 buffer (omega (arith, there)) in
     let whole : length unit ≡ size = length-take-le size buffer there in
     let first : take 16 unit ≡ front = take-take 16 size buffer (omega arith) in
     let joined : unit ≡ front ++ drop 16 unit = sym (take-append-drop 16 unit) ∙ ap (λ (l : List ℕ). l ++ drop 16 unit) first in
     let parts : unread ≡ front ++ (drop 16 unit ++ unread') = splits ∙ ap (λ (l : List ℕ). l ++ unread') joined ∙ append_assoc front (drop 16 unit) unread' in
-    record_came head unread (drop 16 unit ++ unread') unread' front unit buffer found size parts few (fields_came head front (Ok found) found (sym says) refl) refl whole
-    (ap (λ (n : ℕ). take n unit) few ∙ first) (ap (λ (n : ℕ). drop n unit ++ unread') (sym few)) refl
+    record_came head unread (drop 16 unit ++ unread') unread' front unit buffer found size parts upper_bound (fields_came head front (Ok found) found (sym says) refl) refl whole
+    (ap (λ (n : ℕ). take n unit) upper_bound ∙ first) (ap (λ (n : ℕ). drop n unit ++ unread') (sym upper_bound)) refl
 
 -- a device that gave nothing is read as it was
 pub reads-behind : {I : Type 0} (device : Ghosts I) (old mid new : I) (file : FileState) (interfaces : List Described) (r : Result NextUnit Fault) (buffer : List ℕ) (spans : PacketSpans) → NothingTaken device old mid
@@ -72,14 +72,14 @@ reads-behind device old mid new file interfaces (Ok came) buffer spans nothing r
 reads-behind device old mid new file interfaces (Err fault) buffer spans nothing reads =
     let R : List ℕ → Type 0 = λ l. NoUnitCame (declared_by file interfaces) l (device.unread new) fault in
     let same = nothing.counted in
-    let few = reads.moves.at_most in
+    let upper_bound = reads.moves.at_most in
     let grown = reads.moves.grown in
     record {
       moves = record {
         counted = tt;
         grown = omega (arith, same, grown);
         bounded = tt;
-        at_most = omega (arith, same, few);
+        at_most = omega (arith, same, upper_bound);
         failed = reads.moves.failed ∙ ap (λ (n : ℕ). n + read_failures {X = NextUnit} (Err fault)) nothing.failed;
         never = reads.moves.never ∙ nothing.never;
       };

@@ -30,12 +30,12 @@ insert-keys keys k = push-key (list_any (same_key k) keys) keys k ∙ ap (λ (b 
 -- ---- room
 
 fewer : (b : Bool) (n : ℕ) (keys : List Interface) (i : Interface) → length keys < n → length (keys ++ (if b then [] else i ∷ [])) ≤ n
-fewer true n keys i few = simp append-nil (omega arith)
-fewer false n keys i few = simp length-append (omega arith)
+fewer true n keys i upper_bound = simp append-nil (omega arith)
+fewer false n keys i upper_bound = simp length-append (omega arith)
 
 -- one more may be had where there are fewer
 pub room-below : (keys : List Interface) (i : Interface) → length keys < most_output_interfaces → nat_le (length (keys ++ new_among keys i)) most_output_interfaces ≡ true
-room-below keys i few = le-leb (length (keys ++ new_among keys i)) most_output_interfaces (fewer (is_among keys i) most_output_interfaces keys i few)
+room-below keys i upper_bound = le-leb (length (keys ++ new_among keys i)) most_output_interfaces (fewer (is_among keys i) most_output_interfaces keys i upper_bound)
 
 full-by : (b : Bool) (n : ℕ) (keys : List Interface) (i : Interface) → length keys ≡ n → nat_le (length (keys ++ (if b then [] else i ∷ []))) n ≡ b
 full-by true n keys i full = le-leb (length (keys ++ [])) n (simp append-nil (omega arith))

@@ -128,7 +128,7 @@ entry-own frame interfaces block fault is =
     ]
 
 own-not_failed : (fault : Fault) → IsOwn fault → fault ≡ ReadFailed → ⊥
-own-not_failed fault own failed = let told : IsOwn ReadFailed = rw failed at own in omega (arith, told)
+own-not_failed fault own failed = let exact : IsOwn ReadFailed = rw failed at own in omega (arith, exact)
 
 pub header-not_failed : (text : List ℕ) (fault : Fault) → header_fault text ≡ Some fault → fault ≡ ReadFailed → ⊥
 header-not_failed text fault fails = own-not_failed fault (all_failing IsOwn (header_checks text) fault (refl, (refl, (refl, (refl, tt)))) fails)

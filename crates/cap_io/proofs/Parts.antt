@@ -54,9 +54,9 @@ appends-behind (Err fault) written done part mid written' first stops = stops-be
 -- by an error that doesn't report where it stopped
 pub appends-exactly : {Device : Type 0} (d : Ghosts Device) (old new : Device) (bytes : List ℕ) (r : Result (Unit {0}) Stopped) (r' : Result (Unit {0}) DeviceFault)
     → is_ok r' ≡ is_ok r → WritesExactly d old bytes r new → Appends d old bytes r' new
-appends-exactly d old new bytes (Ok done) (Ok done') same writes = record { appended = writes.told; failed = writes.failed; room = writes.room }
+appends-exactly d old new bytes (Ok done) (Ok done') same writes = record { appended = writes.exact; failed = writes.failed; room = writes.room }
 appends-exactly d old new bytes (Err stopped) (Err fault) same writes = record {
-  appended = λ tells. (stopped.written, writes.front, writes.told tells);
+  appended = λ tells. (stopped.written, writes.front, writes.exact tells);
   failed = writes.failed;
   room = writes.room;
 }

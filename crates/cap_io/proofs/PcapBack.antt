@@ -51,7 +51,7 @@ record IsKept (r : Resolution) (link : ℕ) (p : Captured) : Type 0 where
   plain : IsPlain p
   whole : IsWhole r p.time
   orig : p.orig < 2 ^ 32
-  few : length p.bytes ≤ most_captured
+  upper_bound : length p.bytes ≤ most_captured
   seconds : p.time / 1000000000 < 2 ^ 32
 
 record ReadsRecord (r : Resolution) (link : ℕ) (p : Captured) : Type 0 where
@@ -65,11 +65,11 @@ record-back r link p kept =
     let head : Head = written_head r link in
     let seconds_are : u32_in Little bytes 0 ≡ p.time / 1000000000 = number_at 4 bytes 0 (p.time / 1000000000) (drop 4 bytes) refl kept.seconds in
     let part_is : u32_in Little bytes 4 ≡ p.time % 1000000000 / nanoseconds_of_part r = number_at 4 bytes 4 (p.time % 1000000000 / nanoseconds_of_part r) (drop 8 bytes) refl (part-small r p.time) in
-    let captured_is : u32_in Little bytes 8 ≡ length p.bytes = number_at 4 bytes 8 (length p.bytes) (drop 12 bytes) refl (omega (arith, kept.few)) in
+    let captured_is : u32_in Little bytes 8 ≡ length p.bytes = number_at 4 bytes 8 (length p.bytes) (drop 12 bytes) refl (omega (arith, kept.upper_bound)) in
     let orig_is : u32_in Little bytes 12 ≡ p.orig = number_at 4 bytes 12 p.orig (drop 16 bytes) refl kept.orig in
     let size : length bytes ≡ 16 + length p.bytes = omega arith in
     let fields : first_failing (field_checks head bytes) ≡ None =
-    rw (captured_is, part_is, le-leb (length p.bytes) most_captured kept.few, lt-ltb (p.time % 1000000000 / nanoseconds_of_part r) (parts_of_second r) (part-fits r p.time)) refl in
+    rw (captured_is, part_is, le-leb (length p.bytes) most_captured kept.upper_bound, lt-ltb (p.time % 1000000000 / nanoseconds_of_part r) (parts_of_second r) (part-fits r p.time)) refl in
     let time_is : u32_in Little bytes 0 * 1000000000 + u32_in Little bytes 4 * nanoseconds_of_part r ≡ p.time =
     ap (λ (n : ℕ). n * 1000000000 + u32_in Little bytes 4 * nanoseconds_of_part r) seconds_are
     ∙ ap (λ (n : ℕ). p.time / 1000000000 * 1000000000 + n * nanoseconds_of_part r) part_is
@@ -86,19 +86,19 @@ record-back r link p kept =
 
 header-back : (r : Resolution) (link : ℕ) → link < 2 ^ 16 → IsHeader (pcap.file_header r link) (written_head r link)
 unfolding written_head number_in
-header-back Microseconds link few =
+header-back Microseconds link upper_bound =
     let bytes : List ℕ = pcap.file_header Microseconds link in
     let link_is : u32_in Little bytes 20 ≡ link = number_at 4 bytes 20 link [] refl (omega arith) in
     record {
-      passes = none_failing (header_checks bytes) (refl, (refl, (refl, (ap (λ (n : ℕ). nat_lt n 65536) link_is ∙ lt-ltb link 65536 few, tt))));
+      passes = none_failing (header_checks bytes) (refl, (refl, (refl, (ap (λ (n : ℕ). nat_lt n 65536) link_is ∙ lt-ltb link 65536 upper_bound, tt))));
       whole = refl;
       says = λ k. record { order = Little; resolution = Microseconds; snap = most_captured; link = sym link_is k };
     }
-header-back Nanoseconds link few =
+header-back Nanoseconds link upper_bound =
     let bytes : List ℕ = pcap.file_header Nanoseconds link in
     let link_is : u32_in Little bytes 20 ≡ link = number_at 4 bytes 20 link [] refl (omega arith) in
     record {
-      passes = none_failing (header_checks bytes) (refl, (refl, (refl, (ap (λ (n : ℕ). nat_lt n 65536) link_is ∙ lt-ltb link 65536 few, tt))));
+      passes = none_failing (header_checks bytes) (refl, (refl, (refl, (ap (λ (n : ℕ). nat_lt n 65536) link_is ∙ lt-ltb link 65536 upper_bound, tt))));
       whole = refl;
       says = λ k. record { order = Little; resolution = Nanoseconds; snap = most_captured; link = sym link_is k };
     }
@@ -123,8 +123,8 @@ text-nanoseconds earlier [] = refl
 text-nanoseconds earlier (p ∷ ps) = ap (λ (l : List ℕ). record_text Nanoseconds p ++ l) (text-nanoseconds (earlier ++ p ∷ []) ps)
 
 file-back : (r : Resolution) (link : ℕ) (ps : List Captured) → link < 2 ^ 16 → AllByRecursion (IsKept r link) ps → ReadsBack (pcap.file_header r link ++ flat_map (record_text r) ps) ps
-file-back r link ps few kept =
-    let unit = a_pcap_header (pcap.file_header r link) (written_head r link) (header-back r link few) in
+file-back r link ps upper_bound kept =
+    let unit = a_pcap_header (pcap.file_header r link) (written_head r link) (header-back r link upper_bound) in
     reads-back (pcap.file_header r link ++ flat_map (record_text r) ps) ps
     (holds-unit unit 0 (flat_map (record_text r) ps) ps (records-hold r link (0 + length (pcap.file_header r link)) ps kept))
 
@@ -151,7 +151,7 @@ kept-of r first p rest earlier later is in_range plain whole none =
       plain = plain;
       whole = whole;
       orig = in_range.orig;
-      few = leb-true (length p.bytes) most_captured met.1.0;
+      upper_bound = leb-true (length p.bytes) most_captured met.1.0;
       seconds = ltb-true (p.time / 1000000000) (2 ^ 32) met.1.1.0;
     }
 

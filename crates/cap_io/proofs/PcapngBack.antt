@@ -66,12 +66,12 @@ HoldsBehind interfaces more ps = (first : Option ℕ) (at : ℕ) → Holds (Pcap
 -- a packet whose interface has this number
 packet-holds : (interfaces : List Interface) (number : ℕ) (p : Captured) (more : List ℕ) (ps : List Captured) → slice_get interfaces number ≡ Some (interface_of p)
     → length interfaces ≤ most_interfaces → IsKept p → HoldsBehind interfaces more ps → HoldsBehind interfaces (pcapng.packet_text number p ++ more) (p ∷ ps)
-packet-holds interfaces number p more ps known few kept later first at =
+packet-holds interfaces number p more ps known upper_bound kept later first at =
     let within : number < length interfaces = slice_get_within interfaces number (interface_of p) known in
-    let told : slice_get (map described interfaces) number ≡ Some (written_interface p.link p.snap p.name) =
+    let exact : slice_get (map described interfaces) number ≡ Some (written_interface p.link p.snap p.name) =
     slice_get-map described interfaces number ∙ ap (option_map described) known in
     let unit = unit-of first (section_of interfaces) (section_of interfaces) (pcapng.packet_text number p) (p ∷ [])
-    (packet_back (map described interfaces) number p told (omega arith) kept.in_range.time kept.in_range.orig kept.in_range.comment kept.fits) in
+    (packet_back (map described interfaces) number p exact (omega arith) kept.in_range.time kept.in_range.orig kept.in_range.comment kept.fits) in
     holds-unit unit at more ps (later _ _)
 
 -- the description of a new interface
@@ -91,36 +91,36 @@ described-holds : (b : Bool) (interfaces : List Interface) (number : ℕ) (p : C
     → length (interfaces ++ (if b then [] else interface_of p ∷ [])) ≤ most_interfaces → IsKept p
     → HoldsBehind (interfaces ++ (if b then [] else interface_of p ∷ [])) more ps
     → HoldsBehind interfaces ((descriptions (if b then [] else interface_of p ∷ []) ++ pcapng.packet_text number p) ++ more) (p ∷ ps)
-described-holds true interfaces number p more ps known few kept later =
-    packet-holds interfaces number p more ps (rw (append-nil interfaces) at known) (rw (append-nil interfaces) at few) kept (rw (append-nil interfaces) at later)
-described-holds false interfaces number p more ps known few kept later =
+described-holds true interfaces number p more ps known upper_bound kept later =
+    packet-holds interfaces number p more ps (rw (append-nil interfaces) at known) (rw (append-nil interfaces) at upper_bound) kept (rw (append-nil interfaces) at later)
+described-holds false interfaces number p more ps known upper_bound kept later =
     let bytes : List ℕ = pcapng.interface_text p.link p.snap p.name in
     let split : ((bytes ++ []) ++ pcapng.packet_text number p) ++ more ≡ bytes ++ (pcapng.packet_text number p ++ more) =
     ap (λ (l : List ℕ). (l ++ pcapng.packet_text number p) ++ more) (append-nil bytes) ∙ append_assoc bytes (pcapng.packet_text number p) more in
     let H : List ℕ → Type 0 = λ l. HoldsBehind interfaces l (p ∷ ps) in
     subst H (sym split)
-    (interface-holds interfaces p (pcapng.packet_text number p ++ more) (p ∷ ps) (omega (arith, few, length-append interfaces (interface_of p ∷ []))) kept.in_range
-    (packet-holds (interfaces ++ interface_of p ∷ []) number p more ps known few kept later))
+    (interface-holds interfaces p (pcapng.packet_text number p ++ more) (p ∷ ps) (omega (arith, upper_bound, length-append interfaces (interface_of p ∷ []))) kept.in_range
+    (packet-holds (interfaces ++ interface_of p ∷ []) number p more ps known upper_bound kept later))
 
 -- ---- packets
 
 few-front : (xs ys : List Captured) (n : ℕ) → length (interfaces_of (xs ++ ys)) ≤ n → length (interfaces_of xs) ≤ n
-few-front xs ys n few =
+few-front xs ys n upper_bound =
     let all : interfaces_of (xs ++ ys) ≡ interfaces_of xs ++ first_uses (map interface_of xs) (map interface_of ys) =
     ap (first_uses []) (map-append interface_of xs ys) ∙ first_uses-append [] (map interface_of xs) (map interface_of ys) in
     let size : length (interfaces_of xs ++ first_uses (map interface_of xs) (map interface_of ys)) ≡ length (interfaces_of xs) + length (first_uses (map interface_of xs) (map interface_of ys)) =
     length-append (interfaces_of xs) (first_uses (map interface_of xs) (map interface_of ys)) in
-    omega (arith, few, ap length all, size)
+    omega (arith, upper_bound, ap length all, size)
 
 packets-hold : (earlier ps : List Captured) → AllByRecursion IsKept ps → length (interfaces_of (earlier ++ ps)) ≤ most_interfaces
     → HoldsBehind (interfaces_of earlier) (packets_text Pcapng earlier ps) ps
-packets-hold earlier [] kept few = λ first at. holds-none (PcapngFile first (section_of (interfaces_of earlier))) at refl
-packets-hold earlier (p ∷ ps) kept few =
+packets-hold earlier [] kept upper_bound = λ first at. holds-none (PcapngFile first (section_of (interfaces_of earlier))) at refl
+packets-hold earlier (p ∷ ps) kept upper_bound =
     let i : Interface = interface_of p in
     let is : List Interface = interfaces_of earlier in
     let more : List ℕ = packets_text Pcapng (earlier ++ p ∷ []) ps in
     let behind : length (interfaces_of ((earlier ++ p ∷ []) ++ ps)) ≤ most_interfaces =
-    let L : List Captured → Type 0 = λ l. length (interfaces_of l) ≤ most_interfaces in subst L (sym (append_assoc earlier (p ∷ []) ps)) few in
+    let L : List Captured → Type 0 = λ l. length (interfaces_of l) ≤ most_interfaces in subst L (sym (append_assoc earlier (p ∷ []) ps)) upper_bound in
     let grown : interfaces_of (earlier ++ p ∷ []) ≡ is ++ new_among is i =
     interfaces_of-push earlier p ∙ ap (λ (l : List Interface). is ++ l) (sym (new-interfaces_of earlier i)) in
     let later : HoldsBehind (is ++ new_among is i) more ps =

@@ -57,8 +57,8 @@ new-short false i short = All-push IsShort [] i (All-nil IsShort) short
 pub few-behind : (old new : List Interface) (i : Interface) (place : InterfaceNumber) → FitFile old → length (old ++ new_among old i) ≤ most_output_interfaces → length i.name ≤ 255
     → HasNumber old i place new → FitFile new
 unfolding IsShort
-few-behind old new i place few room short has =
-    let names : All IsShort (old ++ new_among old i) = All-append IsShort old (new_among old i) few.names (new-short (is_among old i) i short) in
+few-behind old new i place upper_bound room short has =
+    let names : All IsShort (old ++ new_among old i) = All-append IsShort old (new_among old i) upper_bound.names (new-short (is_among old i) i short) in
     rw has.interfaces (record { count = room; names = names })
 
 -- ---- the place of what has a number

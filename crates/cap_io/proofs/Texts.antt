@@ -136,12 +136,12 @@ takes-put sink ps p has = ap (λ (l : List Interface). takes_memory_in sink.form
 
 -- a packet is added
 pub puts-ok : (ps : List Captured) (old : SinkView) (p : Captured) (new : SinkView) → HasPut old ps → AddsPacket old p (Ok tt) new → FitFile new.interfaces → PutsAfter ps old p (Ok tt) new
-puts-ok ps old p new has adds few = record {
+puts-ok ps old p new has adds upper_bound = record {
   answer = rw (← refusal-put old ps p has, ← takes-put old ps p has) adds.answer;
   state = adds.state ∙ ap (λ (s : SinkState). state_after_packet s p) has.state ∙ state-after ps p;
   interfaces = adds.interfaces ∙ ap (λ (l : List Interface). interfaces_after_packet old.format l p) has.interfaces ∙ interfaces-after old.format ps p;
   format = adds.format;
-  bounds = few;
+  bounds = upper_bound;
   failures = adds.failures;
   room = adds.room;
   filled = adds.filled;
@@ -151,12 +151,12 @@ puts-ok ps old p new has adds few = record {
 pub puts-err : (ps : List Captured) (old : SinkView) (p : Captured) (fault : Fault) (mid new : SinkView) → HasPut old ps → AddsPacket old p (Err fault) mid
     → new ≡ record { format = mid.format; state = Broken fault; interfaces = mid.interfaces; written = mid.written; failures = mid.failures; room = mid.room }
     → FitFile new.interfaces → PutsAfter ps old p (Err fault) new
-puts-err ps old p fault mid new has adds is few = record {
+puts-err ps old p fault mid new has adds is upper_bound = record {
   answer = rw (← refusal-put old ps p has, ← takes-put old ps p has) adds.answer;
   state = ap (λ (s : SinkView). s.state) is;
   interfaces = ap (λ (s : SinkView). s.interfaces) is ∙ adds.interfaces
       ∙ ap₂ (interfaces_after_put (Err fault)) has.interfaces (ap (λ (l : List Interface). interfaces_after_packet old.format l p) has.interfaces ∙ interfaces-after old.format ps p);
-  bounds = few;
+  bounds = upper_bound;
   format = ap (λ (s : SinkView). s.format) is ∙ adds.format;
   failures = ap (λ (s : SinkView). s.failures) is ∙ adds.failures;
   room = ap (λ (s : SinkView). s.room) is ∙ adds.room;

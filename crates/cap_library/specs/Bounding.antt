@@ -27,7 +27,7 @@ IsTextFailure text (NoRoom needed) = ⊥
 pub record HasNoBound (text : List ℕ) (number status : ℕ) : Type 0 where
   pub failure : Failure
   pub why : IsTextFailure text failure
-  pub told : status ≡ failure_status failure
+  pub exact : status ≡ failure_status failure
   pub where_at : number ≡ failure_number failure
 
 -- 0 and the bound, or another status and where the text is wrong

@@ -65,7 +65,7 @@ pub record Fails (text : List ℕ) (link_type : ℕ) (old new : List Insn)
     (number status : ℕ) : Type 0 where
   pub failure : Failure
   pub why : IsFailure text link_type (length old) failure
-  pub told : status ≡ failure_status failure
+  pub exact : status ≡ failure_status failure
   pub where_at : number ≡ failure_number failure
   pub kept : new ≡ old
 

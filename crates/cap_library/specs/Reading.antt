@@ -46,4 +46,4 @@ pub record UnitLeaves (capture : List ℕ) (r r' : Reader) (t t' : List Interfac
     (number : ℕ) : Type 0 where
   pub found : Found
   pub leaves : NextLeaves capture r r' t t' p p' found
-  pub told : number ≡ found_number found
+  pub exact : number ≡ found_number found

@@ -24,5 +24,5 @@ pub record WriteTells (refusal : Option Fault) (bytes old new : List ℕ)
     (length number : ℕ) : Type 0 where
   pub written : Written
   pub leaves : WriteLeaves refusal bytes old new written
-  pub told : number ≡ written_number written
+  pub exact : number ≡ written_number written
   pub counted : length ≡ written_length written

@@ -53,11 +53,11 @@ IsChecked frame interfaces block fault =
     (first_failing (block_checks frame block) ≡ Some fault)
     ⊎ ((first_failing (block_checks frame block) ≡ None) × (first_failing (checks_among interfaces (parts_in frame block)) ≡ Some fault))
 
-pub refused : (frame : Frame) (interfaces : List Described) (block : List ℕ) (fault told : Fault) → length block ≡ frame.length → 12 ≤ frame.length → block_fault frame block ≡ Some fault
-    → told ≡ fault_among interfaces fault → (told ≡ NoMemory → fault ≡ NoMemory) → IsChecked frame interfaces block told
-refused frame interfaces block fault told whole least fails is never =
+pub refused : (frame : Frame) (interfaces : List Described) (block : List ℕ) (fault exact : Fault) → length block ≡ frame.length → 12 ≤ frame.length → block_fault frame block ≡ Some fault
+    → exact ≡ fault_among interfaces fault → (exact ≡ NoMemory → fault ≡ NoMemory) → IsChecked frame interfaces block exact
+refused frame interfaces block fault exact whole least fails is never =
     let P : Fault → Type 0 = λ f. IsEntryFault frame interfaces block f in
-    let entry : IsEntryFault frame interfaces block told = subst P (sym is) (refused_entry frame interfaces block fault whole least fails) in
+    let entry : IsEntryFault frame interfaces block exact = subst P (sym is) (refused_entry frame interfaces block fault whole least fails) in
     elim entry [
       | inl body ↦ inl body
       | inr more ↦ elim more [
@@ -71,7 +71,7 @@ refused frame interfaces block fault told whole least fails is never =
 pub no_room : (frame : Frame) (interfaces : List Described) (block : List ℕ) (b : InterfaceBlock) → length block ≡ frame.length → 12 ≤ frame.length
     → parts_of_interface b ≡ parts_in frame block → IsDescribed b → block_fault frame block ≡ None → length interfaces ≤ 256 → (length interfaces ≡ 256 → ⊥)
     → (i : Described) × Enters frame interfaces block None (interfaces ++ i ∷ [])
-no_room frame interfaces block b whole least is says none few not_full = (
+no_room frame interfaces block b whole least is says none upper_bound not_full = (
   description_of b.interface,
-  interface_enters frame interfaces (interfaces ++ description_of b.interface ∷ []) block b whole least is says none few ((λ e. absurd (cc)), (λ n. absurd (not_full n))) refl,
+  interface_enters frame interfaces (interfaces ++ description_of b.interface ∷ []) block b whole least is says none upper_bound ((λ e. absurd (cc)), (λ n. absurd (not_full n))) refl,
 )

@@ -34,8 +34,8 @@ use Rattle.cap_memory.specs.declared.layout.Interface.{Interface}
 
 pub pcapng_by : (text first : List ℕ) → 4 ≤ length text → first ≡ take 4 text → is_section first ≡ is_pcapng text
 pcapng_by text first enough same =
-    let few : length (take 4 text) ≡ 4 = length-take-le 4 text enough in
-    ap is_section same ∙ sym (is_pcapng-append (take 4 text) (drop 4 text) (omega (arith, few))) ∙ ap is_pcapng (take-append-drop 4 text)
+    let upper_bound : length (take 4 text) ≡ 4 = length-take-le 4 text enough in
+    ap is_section same ∙ sym (is_pcapng-append (take 4 text) (drop 4 text) (omega (arith, upper_bound))) ∙ ap is_pcapng (take-append-drop 4 text)
 
 -- ---- parts of a unit
 
@@ -63,7 +63,7 @@ record_placed head found = record {
 pub record_stands : (head : Head) (text : List ℕ) (found : RecordHead) (known : List Described) (table : List Interface) (count : ℕ)
     → Ok found ≡ checked (record_fault head text) (record_header_in head text) → count ≤ length table → count ≤ 256
     → Steps (form.Pcap head) known text table (record { size = 16 + found.captured; form = form.Pcap head; interfaces = count; packet = Some (record_placed head found) })
-record_stands head text found known table count is fits few =
+record_stands head text found known table count is fits upper_bound =
     let e = checked_ok (record_fault head text) (record_header_in head text) found (sym is) in
     let size : record_size head text ≡ 16 + found.captured = ap (λ (r : RecordHead). 16 + r.captured) e.1 in
     let p = passes head text e.0 in
@@ -92,7 +92,7 @@ record_stands head text found known table count is fits few =
       there = omega (arith, p.whole, size);
       some = omega arith;
       known = fits;
-      few = few;
+      upper_bound = upper_bound;
     }
 
 -- ---- a block
@@ -103,8 +103,8 @@ lent : (found : Option Described) (time orig : ℕ) (bytes comment : List ℕ) (
 lent None time orig bytes comment q e = absurd (cc)
 lent (Some i) time orig bytes comment q e = (i, refl, (cc))
 
-told : {X : Type 0} (f : Described → X) (found : Option Described) (i : Described) (x : X) → found ≡ Some i → option_map f found ≡ Some x → f i ≡ x
-told f found i x is e = let same : option_map f found ≡ Some (f i) = ap (option_map f) is in (cc)
+exact : {X : Type 0} (f : Described → X) (found : Option Described) (i : Described) (x : X) → found ≡ Some i → option_map f found ≡ Some x → f i ≡ x
+exact f found i x is e = let same : option_map f found ≡ Some (f i) = ap (option_map f) is in (cc)
 
 pub block_front : (declared : Declared) (first : Option ℕ) (before : Option Section) (text : List ℕ) (order : Order) (size : ℕ) (interfaces' : List Described) (packet : Option UnitPacket)
     → BlockStands before text order size interfaces' packet → IsUnit declared (take size text) (packets_in before (take size text)) (file_after first before (take size text))
@@ -128,8 +128,8 @@ placed_behind section link text order size interfaces' (Some p) b of =
       c.packet,
       c.stands,
       record {
-        link = ap (λ (r : Captured). r.link) (sym is) ∙ told (λ (i : Described). i.link) _ l.0 p.link_type l.1 of.link;
-        snap = ap (λ (r : Captured). r.snap) (sym is) ∙ told (λ (i : Described). i.snap) _ l.0 p.snap l.1 of.snap;
+        link = ap (λ (r : Captured). r.link) (sym is) ∙ exact (λ (i : Described). i.link) _ l.0 p.link_type l.1 of.link;
+        snap = ap (λ (r : Captured). r.snap) (sym is) ∙ exact (λ (i : Described). i.snap) _ l.0 p.snap l.1 of.snap;
         name = ap (λ is. option_map (λ (i : Described). i.name) (slice_get is p.interface)) same ∙ named ∙ ap (λ (r : Captured). Some r.name) is;
         time = ap (λ (r : Captured). r.time) (sym is);
         orig = ap (λ (r : Captured). r.orig) (sym is);

@@ -20,7 +20,7 @@ use Rattle.cap_memory.specs.declared.reader.Step.{Step}
 -- ---- what is declared
 
 min_left : (a b : ℕ) → a ≤ b → min a b ≡ a
-min_left a b few = omega (arith, few)
+min_left a b upper_bound = omega (arith, upper_bound)
 
 pub declared_as : (f : Form) (r : Reader) (table : List Interface) (count : ℕ) → f ≡ form_of r → Counts f r (length table) count → declared_by f (first_of count table) ≡ declared_in r table
 declared_as form.Unknown r table count is counts = ap (λ g. declared_by g (first_of (most_known r (length table)) table)) is
@@ -30,9 +30,9 @@ declared_as (form.Pcapng order link) r table count is counts =
 
 pub declared_behind : (f : Form) (r : Reader) (table : List Interface) (count : ℕ) → form_of r ≡ f → r.interfaces ≡ count → count ≤ length table → count ≤ 256
     → declared_by f (first_of count table) ≡ declared_in r table
-declared_behind f r table count is counts fits few =
+declared_behind f r table count is counts fits upper_bound =
     let most : most_known r (length table) ≡ count =
-    ap (λ n. min (min n (length table)) 256) counts ∙ ap (λ n. min n 256) (min_left count (length table) fits) ∙ min_left count 256 few in
+    ap (λ n. min (min n (length table)) 256) counts ∙ ap (λ n. min n 256) (min_left count (length table) fits) ∙ min_left count 256 upper_bound in
     ap (λ n. declared_by f (first_of n table)) (sym most) ∙ ap (λ g. declared_by g (first_of (most_known r (length table)) table)) (sym is)
 
 -- ---- a unit
@@ -48,7 +48,7 @@ read : (capture text : List ℕ) (r r' : Reader) (t t' : List Interface) (f : Fo
     → Steps f (first_of count t) text t' s → form_of r' ≡ s.form → r'.interfaces ≡ s.interfaces → Read capture r r' t t' s
 read capture text r r' t t' f count s is counts same steps form' interfaces' =
     let before = declared_as f r t count is counts in
-    let behind = declared_behind s.form r' t' s.interfaces form' interfaces' steps.known steps.few in
+    let behind = declared_behind s.form r' t' s.interfaces form' interfaces' steps.known steps.upper_bound in
     let Q : List ℕ → Type 0 = λ u. ArePlaced (declared_in r' t') u s.size s.packet steps.packets in
     let R : Declared → Type 0 = λ d. ArePlaced d text s.size s.packet steps.packets in
     let S : List ℕ → Type 0 = λ u. s.size ≤ length u in

@@ -30,13 +30,13 @@ front_fits text enough = length-take-le 12 text enough
 
 pub frame_fails : (before : Option Section) (section : Option Order) (text front : List ℕ) (fault : Fault) → order_before before ≡ section → 12 ≤ length text → front ≡ take 12 text
     → Err fault ≡ checked (frame_fault section front) (frame_in section front) → unit_fault before text ≡ Some fault
-frame_fails before section text front fault is enough same told =
+frame_fails before section text front fault is enough same exact =
     let joined : take 12 text ++ drop 12 text ≡ text = take-append-drop 12 text in
-    let fails : frame_fault section front ≡ Some fault = checked_err (frame_fault section front) (frame_in section front) fault (sym told) in
-    let few : length (take 12 text) ≡ 12 = front_fits text enough in
+    let fails : frame_fault section front ≡ Some fault = checked_err (frame_fault section front) (frame_in section front) fault (sym exact) in
+    let upper_bound : length (take 12 text) ≡ 12 = front_fits text enough in
     unit_fault-frame before text fault enough
     (ap (λ o. first_failing (frame_checks o text)) is ∙ ap (λ t. first_failing (frame_checks section t)) (sym joined)
-    ∙ ap first_failing (frame_checks-append section (take 12 text) (drop 12 text) (omega (arith, few))) ∙ ap (frame_fault section) (sym same) ∙ fails)
+    ∙ ap first_failing (frame_checks-append section (take 12 text) (drop 12 text) (omega (arith, upper_bound))) ∙ ap (frame_fault section) (sym same) ∙ fails)
 
 -- what they say is what the text says
 pub record IsFramed (before : Option Section) (text : List ℕ) (frame : Frame) : Type 0 where
@@ -45,11 +45,11 @@ pub record IsFramed (before : Option Section) (text : List ℕ) (frame : Frame) 
 
 pub framed : (before : Option Section) (section : Option Order) (text front : List ℕ) (frame : Frame) → order_before before ≡ section → 12 ≤ length text → front ≡ take 12 text
     → Ok frame ≡ checked (frame_fault section front) (frame_in section front) → IsFramed before text frame
-framed before section text front frame is enough same told =
+framed before section text front frame is enough same exact =
     let joined : take 12 text ++ drop 12 text ≡ text = take-append-drop 12 text in
-    let few : length (take 12 text) ≡ 12 = front_fits text enough in
+    let upper_bound : length (take 12 text) ≡ 12 = front_fits text enough in
     let P : List ℕ → Type 0 = λ f. Ok frame ≡ checked (frame_fault section f) (frame_in section f) in
-    let both = says_behind before section (take 12 text) (drop 12 text) frame is (omega (arith, few)) (front_says section (take 12 text) (Ok frame) frame (subst P same told) refl) in
+    let both = says_behind before section (take 12 text) (drop 12 text) frame is (omega (arith, upper_bound)) (front_says section (take 12 text) (Ok frame) frame (subst P same exact) refl) in
     let Q : List ℕ → Type 0 = λ t. IsFramed before t frame in
     subst Q joined (record { passes = both.0; says = both.1 })
 
@@ -87,16 +87,16 @@ pub stands : (before : Option Section) (section : Option Order) (interfaces inte
     → interfaces_before before ≡ interfaces → 12 ≤ length text → front ≡ take 12 text → Ok frame ≡ checked (frame_fault section front) (frame_in section front) → 12 ≤ frame.length
     → frame.length ≤ length text → Enters frame interfaces (take frame.length text) (option_map (spans_of frame.length) packet) interfaces'
     → BlockStands before text frame.order frame.length interfaces' packet
-stands before section interfaces interfaces' text front frame packet is same enough front_is told least room enters =
+stands before section interfaces interfaces' text front frame packet is same enough front_is exact least room enters =
     let P : List ℕ → Type 0 = λ f. Ok frame ≡ checked (frame_fault section f) (frame_in section f) in
-    let said = front_says section (take 12 text) (Ok frame) frame (subst P front_is told) refl in
-    let few : length (take 12 text) ≡ 12 = front_fits text enough in
+    let said = front_says section (take 12 text) (Ok frame) frame (subst P front_is exact) refl in
+    let upper_bound : length (take 12 text) ≡ 12 = front_fits text enough in
     let first : take 12 (take frame.length text) ≡ take 12 text = take-take 12 frame.length text least in
     let joined : take 12 text ++ drop 12 (take frame.length text) ≡ take frame.length text =
     ap (λ (l : List ℕ). l ++ drop 12 (take frame.length text)) (sym first) ∙ take-append-drop 12 (take frame.length text) in
     let whole : WholeCame section text text frame (drop frame.length text) = record {
-      passes = ap (frame_fault section) (sym joined) ∙ ap first_failing (frame_checks-append section (take 12 text) (drop 12 (take frame.length text)) (omega (arith, few))) ∙ said.passes;
-      says = ap (frame_in section) (sym joined) ∙ frame_in-append section (take 12 text) (drop 12 (take frame.length text)) (omega (arith, few)) ∙ said.says;
+      passes = ap (frame_fault section) (sym joined) ∙ ap first_failing (frame_checks-append section (take 12 text) (drop 12 (take frame.length text)) (omega (arith, upper_bound))) ∙ said.passes;
+      says = ap (frame_in section) (sym joined) ∙ frame_in-append section (take 12 text) (drop 12 (take frame.length text)) (omega (arith, upper_bound)) ∙ said.says;
       splits = sym (take-append-drop frame.length text);
     } in
     let b = block_came before section interfaces interfaces' text (drop frame.length text) (take frame.length text) text frame (option_map (spans_of frame.length) packet) is same least room whole refl enters in
@@ -113,14 +113,14 @@ stands before section interfaces interfaces' text front frame packet is same eno
 pub no_block : (section : Option Order) (interfaces : List Described) (text front : List ℕ) (frame : Frame) (room : ℕ) (why : Refusal) → 12 ≤ length text → front ≡ take 12 text
     → Ok frame ≡ checked (frame_fault section front) (frame_in section front) → 12 ≤ frame.length → frame.length ≤ length text
     → IsRefusal frame interfaces (take frame.length text) room why → IsNoBlock section interfaces text room why
-no_block section interfaces text front frame room (refusal.Fault fault) enough front_is told least there r =
-    λ before is same. entry_fails before interfaces text frame fault same enough least there (framed before section text front frame is enough front_is told) r
-no_block section interfaces text front frame room refusal.NoRoom enough front_is told least there r = (
+no_block section interfaces text front frame room (refusal.Fault fault) enough front_is exact least there r =
+    λ before is same. entry_fails before interfaces text frame fault same enough least there (framed before section text front frame is enough front_is exact) r
+no_block section interfaces text front frame room refusal.NoRoom enough front_is exact least there r = (
   r.0,
   λ before is same. record {
     order = frame.order;
     size = frame.length;
     interface = r.1.0;
-    stands = stands before section interfaces (interfaces ++ r.1.0 ∷ []) text front frame None is same enough front_is told least there r.1.1;
+    stands = stands before section interfaces (interfaces ++ r.1.0 ∷ []) text front frame None is same enough front_is exact least there r.1.1;
   },
 )

@@ -4,9 +4,9 @@ use Rattle.cap_octet.specs.declared.fault.Fault.{Fault}
 use Rattle.cap_memory.specs.Writing.{WriteLeaves}
 use Rattle.cap_memory.specs.declared.writing.Written.{Written}
 
-pub unrefused : (refusal : Option Fault) (bytes told old new : List ℕ) (written : Written) → refusal ≡ None → told ≡ bytes
-    → WriteLeaves None told old new written → WriteLeaves refusal bytes old new written
-unrefused refusal bytes told old new written none same leaves =
+pub unrefused : (refusal : Option Fault) (bytes exact old new : List ℕ) (written : Written) → refusal ≡ None → exact ≡ bytes
+    → WriteLeaves None exact old new written → WriteLeaves refusal bytes old new written
+unrefused refusal bytes exact old new written none same leaves =
     let P : Option Fault → Type 0 = λ r. WriteLeaves r bytes old new written in
     let Q : List ℕ → Type 0 = λ b. WriteLeaves None b old new written in
     subst P (sym none) (subst Q same leaves)

@@ -62,7 +62,7 @@ pub record EntersTable (frame : Frame) (interfaces : List Described) (block : Li
   pub enters : Enters frame interfaces block (option_map (spans_of frame.length) effect.packet)
       (first_of effect.interfaces table')
   pub known : effect.interfaces ≤ length table'
-  pub few : effect.interfaces ≤ 256
+  pub upper_bound : effect.interfaces ≤ 256
   pub of : IsOfIfAny interfaces effect.packet
 
 -- ---- a block that a text begins with
@@ -101,7 +101,7 @@ pub record BlockIs (section : Option Order) (interfaces : List Described) (text 
       (λ before. BlockStands before text read.order read.size
       (first_of read.effect.interfaces table') read.effect.packet)
   pub known : read.effect.interfaces ≤ length table'
-  pub few : read.effect.interfaces ≤ 256
+  pub upper_bound : read.effect.interfaces ≤ 256
   pub of : IsOfIfAny interfaces read.effect.packet
 
 -- the text begins with a block that passes all checks and declares an interface

@@ -64,7 +64,7 @@ pub record Steps (form : Form) (interfaces : List Described) (text : List ℕ)
   pub there : step.size ≤ length text
   pub some : 0 < step.size
   pub known : step.interfaces ≤ length table'
-  pub few : step.interfaces ≤ 256
+  pub upper_bound : step.interfaces ≤ 256
 
 -- it declares an interface more
 pub record DeclaresOne (declared : Declared) (text : List ℕ)

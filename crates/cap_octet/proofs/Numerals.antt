@@ -52,7 +52,7 @@ tests_in false v h = refl
 
 -- up to 19 digits write less than 2^64
 pub few_in_u64 : (ds : List ℕ) → length ds ≤ 19 → in_u64 (number_of ds) ≡ number_of ds
-few_in_u64 ds few = tests_in (not (length ds == 0) && are_digits 10 ds) (digits_value 10 ds)
+few_in_u64 ds upper_bound = tests_in (not (length ds == 0) && are_digits 10 ds) (digits_value 10 ds)
     (λ pass. (let some = below_ten_to ds (both (not (length ds == 0)) (are_digits 10 ds) pass).1 in
-    let most : 10 ^ length ds ≤ 10 ^ 19 = pow-le-pow_right (omega arith) few in
+    let most : 10 ^ length ds ≤ 10 ^ 19 = pow-le-pow_right (omega arith) upper_bound in
     let in_full : 10 ^ length ds ≤ 10000000000000000000 = most in omega arith))

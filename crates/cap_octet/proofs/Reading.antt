@@ -83,7 +83,7 @@ written-again w b w1 w2 c n k first next le =
 -- a read into the front of a buffer is a read into the buffer
 pub TakesSome-front : (u b : List ℕ) (most n : ℕ) (u' p : List ℕ) → most ≤ length b → (0 < length b → 0 < most) → n ≤ length (take most b)
     → TakesSome u (take most b) n u' p → TakesSome u b n u' (p ++ drop most b)
-TakesSome-front u b most n u' p within some few came =
+TakesSome-front u b most n u' p within some upper_bound came =
     let size : length (take most b) ≡ most = length-take-le most b within in
     record {
       taken = record {
@@ -100,8 +100,8 @@ TakesSome-front u b most n u' p within some few came =
 
 pub Reads-front : (u b : List ℕ) (most : ℕ) (result : Result ℕ DeviceFault) (u' p : List ℕ) → most ≤ length b → (0 < length b → 0 < most)
     → IfOk result (λ n. n ≤ length (take most b)) → Reads u (take most b) result u' p → Reads u b result u' (p ++ drop most b)
-Reads-front u b most (Ok n) u' p within some few came = TakesSome-front u b most n u' p within some few came
-Reads-front u b most (Err fault) u' p within some few came =
+Reads-front u b most (Ok n) u' p within some upper_bound came = TakesSome-front u b most n u' p within some upper_bound came
+Reads-front u b most (Err fault) u' p within some upper_bound came =
     (came.0, ap (λ (x : List ℕ). x ++ drop most b) came.1 ∙ take-append-drop most b)
 
 -- A read that takes bytes which a reader holds takes them of what is left of it: of nothing that is known where it has no

@@ -27,9 +27,9 @@ tests_bound false v n m h e = absurd (cc)
 
 -- moved to nine digits they are less than a second
 pub part_below : (ds : List ℕ) (n : ℕ) → length ds ≤ 9 → number_of ds ≡ Some n → n * 10 ^ (9 - length ds) < 1000000000
-part_below ds n few e =
+part_below ds n upper_bound e =
     let below = tests_bound (not (length ds == 0) && are_digits 10 ds) (digits_value 10 ds) n (10 ^ length ds) (λ pass. below_ten_to ds (both (not (length ds == 0)) (are_digits 10 ds) pass).1) e in
-    nine (length ds) n few below
+    nine (length ds) n upper_bound below
 
 -- a number past the word is past the times
 pub span_with_in_u64 : (o part : Option ℕ) → span_with (in_u64 o) part ≡ span_with o part
@@ -53,6 +53,6 @@ pub part_none : (ds : List ℕ) → number_of ds ≡ None → fraction_of ds ≡
 part_none ds e = none_if (nat_le (length ds) 9) (number_of ds) (λ n. Some (n * 10 ^ (9 - length ds))) e
 
 pub number_there : (bytes : List ℕ) (at count : ℕ) → count ≤ 9 → in_u64 (number_of (take (at + count - at) (drop at bytes))) ≡ number_at bytes at count
-number_there bytes at count few =
+number_there bytes at count upper_bound =
     let same : at + count - at ≡ count = omega arith in
     rw same (few_in_u64 (take count (drop at bytes)) (omega (arith, length-take count (drop at bytes))))

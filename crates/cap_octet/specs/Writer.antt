@@ -11,4 +11,4 @@ pub record WritesExactly {Device : Type 0} (d : Ghosts Device) (old : Device) (b
   pub front : IfErr r (λ stopped. stopped.written < length bytes)
   pub failed : d.failures new ≡ d.failures old + failures_of r
   pub room : d.room new ≡ d.room old
-  pub told : IsTrue d.tells → WritesAll (d.written old) bytes r (d.written new)
+  pub exact : IsTrue d.tells → WritesAll (d.written old) bytes r (d.written new)

@@ -44,13 +44,13 @@ pub trait Input {
         ensures bounded { given self.new < 2 ^ 63 }
         ensures failed { failures self.new ≡ failures self.old + failures_of result }
         ensures never { never_fails self.new ≡ never_fails self.old }
-        ensures told { IsTrue tells
+        ensures exact { IsTrue tells
             → Reads (unread self.old) buf.old result (unread self.new) buf.new };
 
     /// Bytes that it has already, which the next reads give. Where a device doesn't give this it
     /// shows none.
     fn at_hand(&self) -> &[u8]
-        ensures told { IsTrue tells → StartsWith (unread self.now) result.now }
+        ensures exact { IsTrue tells → StartsWith (unread self.now) result.now }
     {
         &[]
     }
@@ -62,7 +62,7 @@ pub trait Input {
         ensures bounded { IsTrue result → given self.new < 2 ^ 63 }
         ensures failed { failures self.new ≡ failures self.old }
         ensures never { never_fails self.new ≡ never_fails self.old }
-        ensures told { IsTrue tells
+        ensures exact { IsTrue tells
             → Passes (unread self.old) count result (unread self.new) }
     {
         false
@@ -95,7 +95,7 @@ pub trait Output {
         ensures some { IfOk result (λ n. 0 < length buf.now → 0 < n) }
         ensures failed { failures self.new ≡ failures self.old + failures_of result }
         ensures room { room self.new ≡ room self.old }
-        ensures told { IsTrue tells → Writes (written self.old) buf.now result (written self.new) };
+        ensures exact { IsTrue tells → Writes (written self.old) buf.now result (written self.new) };
 
     /// A device that failed had taken as many bytes as it has room for. `Prim.search rules` proves
     /// it where the room is none.
@@ -114,10 +114,10 @@ pub fn read_full<I: Input>(input: &mut I, buf: &mut [u8]) -> Result<usize, Devic
     ensures grown { I.given input.old ≤ I.given input.new }
     ensures bounded { IfOk result (λ n. 0 < n → I.given input.new < 2 ^ 63) }
     ensures stopped { IfErr result (λ _. I.given input.new < 2 ^ 63) }
-    ensures few { IfErr result (λ _. I.given input.new < I.given input.old + length buf.old) }
+    ensures upper_bound { IfErr result (λ _. I.given input.new < I.given input.old + length buf.old) }
     ensures failed { I.failures input.new ≡ I.failures input.old + failures_of result }
     ensures never { I.never_fails input.new ≡ I.never_fails input.old }
-    ensures told { IsTrue I.tells
+    ensures exact { IsTrue I.tells
         → Fills (I.unread input.old) buf.old (I.given input.old) result (I.unread input.new) buf.new
         (I.given input.new) }
 {
@@ -143,10 +143,10 @@ fn read_in_turns<I: Input>(input: &mut I, buf: &mut [u8]) -> Result<usize, Devic
     ensures grown { I.given input.old ≤ I.given input.new }
     ensures bounded { IfOk result (λ n. 0 < n → I.given input.new < 2 ^ 63) }
     ensures stopped { IfErr result (λ _. I.given input.new < 2 ^ 63) }
-    ensures few { IfErr result (λ _. I.given input.new < I.given input.old + length buf.old) }
+    ensures upper_bound { IfErr result (λ _. I.given input.new < I.given input.old + length buf.old) }
     ensures failed { I.failures input.new ≡ I.failures input.old + failures_of result }
     ensures never { I.never_fails input.new ≡ I.never_fails input.old }
-    ensures told { IsTrue I.tells
+    ensures exact { IsTrue I.tells
         → Fills (I.unread input.old) buf.old (I.given input.old) result (I.unread input.new) buf.new
         (I.given input.new) }
 {
@@ -169,7 +169,7 @@ pub fn write_all<O: Output>(output: &mut O, buf: &[u8]) -> Result<(), Stopped>
     ensures front { IfErr result (λ stopped. stopped.written < length buf.now) }
     ensures failed { O.failures output.new ≡ O.failures output.old + failures_of result }
     ensures room { O.room output.new ≡ O.room output.old }
-    ensures told { IsTrue O.tells
+    ensures exact { IsTrue O.tells
         → WritesAll (O.written output.old) buf.now result (O.written output.new) }
 {
     if buf.is_empty() {
@@ -196,7 +196,7 @@ fn write_in_turns<O: Output>(output: &mut O, buf: &[u8]) -> Result<(), Stopped>
     ensures front { IfErr result (λ stopped. stopped.written < length buf.now) }
     ensures failed { O.failures output.new ≡ O.failures output.old + failures_of result }
     ensures room { O.room output.new ≡ O.room output.old }
-    ensures told { IsTrue O.tells
+    ensures exact { IsTrue O.tells
         → WritesAll (O.written output.old) buf.now result (O.written output.new) }
 {
     let mut written = 0;
@@ -218,7 +218,7 @@ pub fn write_all_parts<O: Output>(output: &mut O, parts: &[&[u8]]) -> Result<(),
         stopped.written < length (flat_map (λ part. part.now) parts.now)) }
     ensures failed { O.failures output.new ≡ O.failures output.old + failures_of result }
     ensures room { O.room output.new ≡ O.room output.old }
-    ensures told { IsTrue O.tells
+    ensures exact { IsTrue O.tells
         → WritesAll (O.written output.old) (flat_map (λ part. part.now) parts.now) result
         (O.written output.new) }
 {
@@ -237,7 +237,7 @@ pub fn write_all_parts<O: Output>(output: &mut O, parts: &[&[u8]]) -> Result<(),
 /// Writes parts one after another. An error is a failure of the device in this call, after a prefix
 /// of the parts that isn't the whole.
 pub fn write_parts<O: Output>(output: &mut O, parts: &[&[u8]]) -> Result<(), DeviceFault>
-    ensures told { IsTrue O.tells
+    ensures exact { IsTrue O.tells
         → AppendsOrStops result (O.written output.old) (flat_map (λ part. part.now) parts.now)
         (O.written output.new) }
     ensures failed { O.failures output.new ≡ O.failures output.old + failures_of result }

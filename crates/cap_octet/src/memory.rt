@@ -54,7 +54,7 @@ impl Input for MemInput<'_> {
         ensures bounded { self.new.given < 2 ^ 63 }
         ensures failed { 0 ≡ 0 + failures_of result }
         ensures never { true ≡ true }
-        ensures told { IsTrue true
+        ensures exact { IsTrue true
             → Reads self.old.rest.now buf.old result self.new.rest.now buf.new }
         ensures never_fails { IsOk result }
     {
@@ -68,7 +68,7 @@ impl Input for MemInput<'_> {
 
     /// All that is left.
     fn at_hand(&self) -> &[u8]
-        ensures told { IsTrue true → StartsWith self.now.rest.now result.now }
+        ensures exact { IsTrue true → StartsWith self.now.rest.now result.now }
         ensures all { result.now ≡ self.now.rest.now }
     {
         self.rest
@@ -80,7 +80,7 @@ impl Input for MemInput<'_> {
         ensures bounded { IsTrue result → self.new.given < 2 ^ 63 }
         ensures failed { ◌≡◌ {A = ℕ} 0 0 }
         ensures never { true ≡ true }
-        ensures told { IsTrue true → Passes self.old.rest.now count result self.new.rest.now }
+        ensures exact { IsTrue true → Passes self.old.rest.now count result self.new.rest.now }
         ensures passes { count ≤ length self.old.rest.now → result ≡ true }
     {
         if count > self.rest.len() {
@@ -142,7 +142,7 @@ impl Output for MemOutput<'_> {
         ensures some { IfOk result (λ n. 0 < length buf.now → 0 < n) }
         ensures failed { self.new.failures.count ≡ self.old.failures.count + failures_of result }
         ensures room { length self.new.bytes.now ≡ length self.old.bytes.now }
-        ensures told { IsTrue true
+        ensures exact { IsTrue true
             → Writes (take self.old.len self.old.bytes.now) buf.now result
             (take self.new.len self.new.bytes.now) }
         ensures full { OnErr result (self.old.len ≡ length self.old.bytes.now) }

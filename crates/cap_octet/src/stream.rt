@@ -82,7 +82,7 @@ impl<R: Read> Input for StdInput<R> {
         ensures bounded { self.new.given < 2 ^ 63 }
         ensures failed { self.new.failures.count ≡ self.old.failures.count + failures_of result }
         ensures never { false ≡ false }
-        ensures told { IsTrue false → Reads [] buf.old result [] buf.new }
+        ensures exact { IsTrue false → Reads [] buf.old result [] buf.new }
         ensures passes { IsOneRead (reader_remaining R.remaining self.old.reader) self.old.given
             result (reader_remaining R.remaining self.new.reader) buf.new }
     {
@@ -105,7 +105,7 @@ impl<R: Read> Input for StdInput<R> {
     /// What the reader's buffer holds.
     #[inline(always)]
     fn at_hand(&self) -> &[u8]
-        ensures told { IsTrue false → StartsWith [] result.now }
+        ensures exact { IsTrue false → StartsWith [] result.now }
         ensures shows { result.now ≡ reader_buffer self.now.reader }
     {
         self.reader.buffer()
@@ -118,7 +118,7 @@ impl<R: Read> Input for StdInput<R> {
         ensures bounded { IsTrue result → self.new.given < 2 ^ 63 }
         ensures failed { self.new.failures.count ≡ self.old.failures.count }
         ensures never { false ≡ false }
-        ensures told { IsTrue false → Passes [] count result [] }
+        ensures exact { IsTrue false → Passes [] count result [] }
         ensures passes { IsPassed (reader_buffer self.old.reader)
             (reader_remaining R.remaining self.old.reader) count result
             (reader_remaining R.remaining self.new.reader) }
@@ -220,7 +220,7 @@ impl<W: Write + Drop> Output for StdOutput<W> {
         ensures some { IfOk result (λ n. 0 < length buf.now → 0 < n) }
         ensures failed { self.new.failures.count ≡ self.old.failures.count + failures_of result }
         ensures room { ◌≡◌ {A = ℕ} 0 0 }
-        ensures told { IsTrue false → Writes [] buf.now result [] }
+        ensures exact { IsTrue false → Writes [] buf.now result [] }
         ensures passes { IsOneWrite (writer_contents W.contents self.old.writer) self.old.cause
             buf.now result (writer_contents W.contents self.new.writer) self.new.cause }
     {

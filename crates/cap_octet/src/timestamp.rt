@@ -69,7 +69,7 @@ fn time_with(day: Option<u64>, clock: Option<u64>, fraction: Option<u64>) -> Opt
 /// The number that `count` digits from place `at` write.
 fn number_at(text: &[u8], at: usize, count: usize) -> Option<u64>
     requires there { at + count ≤ length text.now }
-    requires few { count ≤ 9 }
+    requires upper_bound { count ≤ 9 }
     ensures { result ≡ number_at text.now at count }
 {
     number_of(&text[at..at + count])

@@ -74,7 +74,7 @@ impl Input for TrialInput<'_> {
         ensures bounded { ⟦<MemInput<'static> as Input>⟧.given self.new.inner < 2 ^ 63 }
         ensures failed { self.new.failures.count ≡ self.old.failures.count + failures_of result }
         ensures never { not (is_some self.new.at) ≡ not (is_some self.old.at) }
-        ensures told { IsTrue true
+        ensures exact { IsTrue true
             → Reads (⟦<MemInput<'static> as Input>⟧.unread self.old.inner) buf.old result
             (⟦<MemInput<'static> as Input>⟧.unread self.new.inner) buf.new }
         ensures piece { IfOk result (λ n. n ≤ self.old.piece) }
@@ -145,7 +145,7 @@ impl Output for TrialOutput<'_> {
             ≡ ⟦<MemOutput<'static> as Output>⟧.failures self.old.inner + failures_of result }
         ensures room { ⟦<MemOutput<'static> as Output>⟧.room self.new.inner
             ≡ ⟦<MemOutput<'static> as Output>⟧.room self.old.inner }
-        ensures told { IsTrue true
+        ensures exact { IsTrue true
             → Writes (⟦<MemOutput<'static> as Output>⟧.written self.old.inner) buf.now result
             (⟦<MemOutput<'static> as Output>⟧.written self.new.inner) }
         ensures piece { IfOk result (λ n. n ≤ self.old.piece) }

@@ -44,12 +44,12 @@ same_by false false o r s e same = refl
 -- it doesn't matter how many options are allowed, where they are enough
 enough : (n m : ℕ) (order : Order) (text : List ℕ) → length text ≤ n → length text ≤ m → options_within n order text ≡ options_within m order text
 unfolding options_within
-enough zero zero order text few less = refl
-enough zero (suc m) order [] few less = refl
-enough zero (suc m) order (b ∷ bytes) few less = absurd (omega arith)
-enough (suc n) zero order [] few less = refl
-enough (suc n) zero order (b ∷ bytes) few less = absurd (omega arith)
-enough (suc n) (suc m) order text few less =
+enough zero zero order text upper_bound less = refl
+enough zero (suc m) order [] upper_bound less = refl
+enough zero (suc m) order (b ∷ bytes) upper_bound less = absurd (omega arith)
+enough (suc n) zero order [] upper_bound less = refl
+enough (suc n) zero order (b ∷ bytes) upper_bound less = absurd (omega arith)
+enough (suc n) (suc m) order text upper_bound less =
     same_by (ends_at order text) (fits_at order text) _ _ _ _
     (λ more. let shorter = behind_shorter order text (room order text more) in enough n m order _ (omega arith) (omega arith))
 

@@ -23,10 +23,10 @@ length-option_text code value = simp (length-append, length-replicate) (omega ar
 -- an option in front of others
 pub options_in-option : (code : ℕ) (value rest : List ℕ) → code < 2 ^ 16 → (code ≡ 0 → ⊥) → length value < 2 ^ 16
     → options_in Little (option_text code value ++ rest) ≡ Ok (record { code = code; value = value }) ∷ options_in Little rest
-options_in-option code value rest few some short =
+options_in-option code value rest upper_bound some short =
     let text : List ℕ = option_text code value ++ rest in
     let zeros : List ℕ = replicate (padded (length value) - length value) 0 in
-    let code_is : u16_in Little text 0 ≡ code = number_at 2 text 0 code (little_bytes 2 (length value) ++ (padded_text value ++ rest)) refl few in
+    let code_is : u16_in Little text 0 ≡ code = number_at 2 text 0 code (little_bytes 2 (length value) ++ (padded_text value ++ rest)) refl upper_bound in
     let len_is : u16_in Little text 2 ≡ length value = number_at 2 text 2 (length value) (padded_text value ++ rest) refl short in
     let size_is : option_size Little text ≡ 4 + length value = ap (λ n. 4 + n) len_is in
     let room : length text ≡ padded (4 + length value) + length rest = length-append (option_text code value) rest ∙ ap (λ n. n + length rest) (length-option_text code value) in

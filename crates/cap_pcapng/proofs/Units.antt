@@ -70,7 +70,7 @@ behind_size before text enough framed whole =
     ∙ ap (λ (b : Bool). first_failing ((b, Truncated) ∷ behind_frame before text)) (le-leb (block_size before text) (length text) whole)
 
 pub unit_fault-few : (before : Option Section) (text : List ℕ) → length text < 12 → unit_fault before text ≡ Some Truncated
-unit_fault-few before text few = rw (lt-leb 12 (length text) few) refl
+unit_fault-few before text upper_bound = rw (lt-leb 12 (length text) upper_bound) refl
 
 pub unit_fault-frame : (before : Option Section) (text : List ℕ) (fault : Fault) → 12 ≤ length text
     → first_failing (frame_checks (order_before before) text) ≡ Some fault → unit_fault before text ≡ Some fault

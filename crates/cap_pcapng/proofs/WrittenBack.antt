@@ -81,7 +81,7 @@ written_frame type body = record { order = Little; block_type = type_of type; le
 
 -- what a written block of a type other than a section header is
 pub record IsWritten (type : ℕ) (body : List ℕ) : Type 0 where
-  pub told : frame_in (Some Little) (block_text type body) ≡ written_frame type body
+  pub exact : frame_in (Some Little) (block_text type body) ≡ written_frame type body
   pub framed : first_failing (frame_checks (Some Little) (block_text type body)) ≡ None
   pub size : length (block_text type body) ≡ 12 + length body
   pub ends : u32_in Little (block_text type body) (12 + length body - 4) ≡ 12 + length body
@@ -89,14 +89,14 @@ pub record IsWritten (type : ℕ) (body : List ℕ) : Type 0 where
 
 pub block_written : (type : ℕ) (body : List ℕ) → type < 2 ^ 32 → (type == section_type) ≡ false → length body % 4 ≡ 0 → 12 + length body ≤ most_block
     → IsWritten type body
-block_written type body few other whole most =
+block_written type body upper_bound other whole most =
     let size : ℕ = 12 + length body in
     let text : List ℕ = block_text type body in
     let type_is : u32_in Little text 0 ≡ type =
-    number_at 4 text 0 type (little_bytes 4 size ++ body ++ little_bytes 4 size) refl few in
+    number_at 4 text 0 type (little_bytes 4 size ++ body ++ little_bytes 4 size) refl upper_bound in
     let size_is : u32_in Little text 4 ≡ size = number_at 4 text 4 size (body ++ little_bytes 4 size) refl (omega arith) in
     record {
-      told = frame_told type size text type_is size_is other;
+      exact = frame_told type size text type_is size_is other;
       framed = frame_passes type size text type_is size_is other (omega arith) (omega arith) most;
       size = simp length-append (omega arith);
       ends = number_at 4 text (size - 4) size []
@@ -116,16 +116,16 @@ block_reads interfaces type body w passes among =
     let text : List ℕ = block_text type body in
     let parts : Parts = parts_in_body (type_of type) Little body in
     let parts_are : parts_in (written_frame type body) text ≡ parts = ap (λ t. parts_in_body (type_of type) Little t) w.between in
-    let found : parts_in (frame_in (Some Little) text) text ≡ parts = ap (λ (f : Frame). parts_in f text) w.told ∙ parts_are in
+    let found : parts_in (frame_in (Some Little) text) text ≡ parts = ap (λ (f : Frame). parts_in f text) w.exact ∙ parts_are in
     let blocked : first_failing (block_checks (written_frame type body) text) ≡ None =
     rw (eq-eqb _ _ w.ends) (ap (λ t. first_failing (body_checks (type_of type) Little t)) w.between ∙ passes) in
     record {
       is_block = record {
         passes =
-            unit_passes (Some (written_section interfaces)) text (written_frame type body) parts w.told parts_are w.size (omega arith) w.framed blocked among;
-        whole = w.size ∙ sym (ap (λ (f : Frame). f.length) w.told);
+            unit_passes (Some (written_section interfaces)) text (written_frame type body) parts w.exact parts_are w.size (omega arith) w.framed blocked among;
+        whole = w.size ∙ sym (ap (λ (f : Frame). f.length) w.exact);
       };
-      declares = ap₂ (λ o q. section_by (Some (written_section interfaces)) o q) (ap (λ (f : Frame). f.order) w.told) found;
+      declares = ap₂ (λ o q. section_by (Some (written_section interfaces)) o q) (ap (λ (f : Frame). f.order) w.exact) found;
       holds = ap (λ q. option_to_list (packet_by interfaces q)) found;
     }
 
@@ -136,20 +136,20 @@ same_time time = omega arith
 
 pub packet_parts : (number : ℕ) (p : Captured) → number < 2 ^ 32 → p.time < 2 ^ 63 → p.orig < 2 ^ 32 → length p.bytes < 2 ^ 32
     → parts_in_body (type_of 6) Little (packet_body number p) ≡ EnhancedParts number p.time (length p.bytes) p.orig Little (padded_text p.bytes ++ comment_text p.comment)
-packet_parts number p number_fits time_fits orig_fits few =
+packet_parts number p number_fits time_fits orig_fits upper_bound =
     let body : List ℕ = packet_body number p in
     let number_is : u32_in Little body 0 ≡ number = number_at 4 body 0 number (drop 4 body) refl number_fits in
     let high_is : u32_in Little body 4 ≡ p.time / 2 ^ 32 = number_at 4 body 4 (p.time / 2 ^ 32) (drop 8 body) refl (omega arith) in
     let low_is : u32_in Little body 8 ≡ p.time % 2 ^ 32 = number_at 4 body 8 (p.time % 2 ^ 32) (drop 12 body) refl (omega arith) in
-    let captured_is : u32_in Little body 12 ≡ length p.bytes = number_at 4 body 12 (length p.bytes) (drop 16 body) refl few in
+    let captured_is : u32_in Little body 12 ≡ length p.bytes = number_at 4 body 12 (length p.bytes) (drop 16 body) refl upper_bound in
     let orig_is : u32_in Little body 16 ≡ p.orig = number_at 4 body 16 p.orig (drop 20 body) refl orig_fits in
     rw (number_is, high_is, low_is, captured_is, orig_is, same_time p.time) refl
 
 -- nanoseconds are the time itself
 nanoseconds_back : (time : ℕ) → time < 2 ^ 63 → time_in time NANOS_PER_SECOND (pos 0) ≡ Some time
-nanoseconds_back time few =
+nanoseconds_back time upper_bound =
     let same : time * NANOS_PER_SECOND / NANOS_PER_SECOND + 0 ≡ time = omega arith in
-    ap (λ n. time_by (pos n)) same ∙ (rw (lt-ltb time (2 ^ 63) few) refl)
+    ap (λ n. time_by (pos n)) same ∙ (rw (lt-ltb time (2 ^ 63) upper_bound) refl)
 
 padded_size : (bytes : List ℕ) → length (padded_text bytes) ≡ padded (length bytes)
 padded_size bytes = simp (length-append, length-replicate) (omega arith)
@@ -159,8 +159,8 @@ padded_fits bytes more = omega (arith, length-append (padded_text bytes) more, p
 
 packet_among : (interfaces : List Described) (number : ℕ) (p : Captured) → slice_get interfaces number ≡ Some (written_interface p.link p.snap p.name)
     → p.time < 2 ^ 63 → first_failing (checks_among interfaces (EnhancedParts number p.time (length p.bytes) p.orig Little (padded_text p.bytes ++ comment_text p.comment))) ≡ None
-packet_among interfaces number p known few =
-    rw (known, le-leb (padded (length p.bytes)) (length (padded_text p.bytes ++ comment_text p.comment)) (padded_fits p.bytes (comment_text p.comment)), nanoseconds_back p.time few) refl
+packet_among interfaces number p known upper_bound =
+    rw (known, le-leb (padded (length p.bytes)) (length (padded_text p.bytes ++ comment_text p.comment)) (padded_fits p.bytes (comment_text p.comment)), nanoseconds_back p.time upper_bound) refl
 
 -- the data and the comment of a body
 data_back : (bytes more : List ℕ) → take (length bytes) (padded_text bytes ++ more) ≡ bytes
@@ -174,8 +174,8 @@ comment_behind bytes comment short =
 
 packet_held : (interfaces : List Described) (number : ℕ) (p : Captured) → slice_get interfaces number ≡ Some (written_interface p.link p.snap p.name)
     → p.time < 2 ^ 63 → length p.comment ≤ 65535 → packet_by interfaces (EnhancedParts number p.time (length p.bytes) p.orig Little (padded_text p.bytes ++ comment_text p.comment)) ≡ Some p
-packet_held interfaces number p known few short =
-    rw (known, nanoseconds_back p.time few, data_back p.bytes (comment_text p.comment), comment_behind p.bytes p.comment short) refl
+packet_held interfaces number p known upper_bound short =
+    rw (known, nanoseconds_back p.time upper_bound, data_back p.bytes (comment_text p.comment), comment_behind p.bytes p.comment short) refl
 
 fits_told : (p : Captured) → first_failing (fit_checks p) ≡ None → 32 + padded (length p.bytes) + length (comment_text p.comment) ≤ most_block
 fits_told p fits = leb-true (32 + padded (length p.bytes) + length (comment_text p.comment)) most_block (all_met (fit_checks p) fits).0

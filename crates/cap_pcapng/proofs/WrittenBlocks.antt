@@ -11,7 +11,7 @@ use Rattle.cap_pcapng.specs.Encoding.{comment_text, end_text, interface_body, in
 -- the last of the zeros in front of more bytes, and these
 block_end : (k zeros n : ℕ) (more end : List ℕ) → zeros ≤ k → end ≡ replicate k 0 ++ more → n ≡ k + length more
     → take (n - (k - zeros)) (drop (k - zeros) end) ≡ replicate zeros 0 ++ more
-block_end k zeros n more end few is size =
+block_end k zeros n more end upper_bound is size =
     let split : k ≡ k - zeros + zeros = omega arith in
     let parts : end ≡ replicate (k - zeros) 0 ++ (replicate zeros 0 ++ more) =
     is ∙ ap (λ (m : ℕ). replicate m 0 ++ more) split
@@ -52,8 +52,8 @@ pub comment_behind : (padding behind : ℕ) (bytes comment option : List ℕ) �
     → option ≡ replicate 3 0 ++ (little_bytes 2 1 ++ little_bytes 2 (length comment))
     → take (7 - (3 - padding)) (drop (3 - padding) option) ++ (comment ++ replicate (behind + 4) 0)
     ≡ replicate (padded (length bytes) - length bytes) 0 ++ comment_text comment
-comment_behind padding behind bytes [] option some few padding_is behind_is option_is = absurd (false≢true (sym some))
-comment_behind padding behind bytes (b ∷ rest) option some few padding_is behind_is option_is =
+comment_behind padding behind bytes [] option some upper_bound padding_is behind_is option_is = absurd (false≢true (sym some))
+comment_behind padding behind bytes (b ∷ rest) option some upper_bound padding_is behind_is option_is =
     let comment : List ℕ = b ∷ rest in
     let head : List ℕ = little_bytes 2 1 ++ little_bytes 2 (length comment) in
     let zeros : padding ≡ padded (length bytes) - length bytes = omega arith in
@@ -72,12 +72,12 @@ pub packet_joined : (number zeros : ℕ) (p : Captured) (head option end : List 
     → head ≡ packet_header (32 + length p.bytes + length option + length p.comment + zeros) number p
     → end ≡ replicate 7 0 ++ little_bytes 4 (32 + length p.bytes + length option + length p.comment + zeros)
     → head ++ (p.bytes ++ (option ++ (p.comment ++ (take (11 - (7 - zeros)) (drop (7 - zeros) end) ++ [])))) ≡ packet_text number p
-packet_joined number zeros p head option end few behind head_is end_is =
+packet_joined number zeros p head option end upper_bound behind head_is end_is =
     let size : ℕ = 32 + length p.bytes + length option + length p.comment + zeros in
     let padding : List ℕ = replicate (padded (length p.bytes) - length p.bytes) 0 in
     let sizes = simp (length-append, length-replicate) at (ap length behind) in
     let whole : size ≡ 12 + length (packet_body number p) = omega (arith, sizes, length-packet_body number p) in
-    ap₂ (λ (h t : List ℕ). h ++ (p.bytes ++ (option ++ (p.comment ++ (t ++ []))))) head_is (block_end 7 zeros 11 (little_bytes 4 size) end few end_is refl)
+    ap₂ (λ (h t : List ℕ). h ++ (p.bytes ++ (option ++ (p.comment ++ (t ++ []))))) head_is (block_end 7 zeros 11 (little_bytes 4 size) end upper_bound end_is refl)
     ∙ ap (λ (t : List ℕ). packet_header size number p ++ t)
     (pieces p.bytes option p.comment (replicate zeros 0) (little_bytes 4 size)
     ∙ ap (λ (t : List ℕ). p.bytes ++ t ++ little_bytes 4 size) behind
@@ -93,7 +93,7 @@ pub plain_joined : (number zeros : ℕ) (p : Captured) (head end : List ℕ) →
     → head ≡ packet_header (32 + length p.bytes + zeros) number p
     → end ≡ replicate 7 0 ++ little_bytes 4 (32 + length p.bytes + zeros)
     → head ++ (p.bytes ++ (take (11 - (7 - zeros)) (drop (7 - zeros) end) ++ [])) ≡ packet_text number p
-plain_joined number zeros p head end none few padding_is head_is end_is =
+plain_joined number zeros p head end none upper_bound padding_is head_is end_is =
     let comment_is : p.comment ≡ [] = empty p.comment none in
     let size : 32 + length p.bytes + zeros ≡ 32 + length p.bytes + 0 + length p.comment + zeros = omega (arith, ap length comment_is) in
     ap (λ (c : List ℕ). head ++ (p.bytes ++ (c ++ (take (11 - (7 - zeros)) (drop (7 - zeros) end) ++ [])))) (sym comment_is)
@@ -126,7 +126,7 @@ pub interface_joined : (link snap padding : ℕ) (name head option end : List �
     → head ≡ interface_header (32 + length option + length name + padding) link snap
     → end ≡ replicate 3 0 ++ (resolution_text ++ end_text ++ little_bytes 4 (32 + length option + length name + padding))
     → head ++ (option ++ (name ++ (take (19 - (3 - padding)) (drop (3 - padding) end) ++ []))) ≡ interface_text link snap name
-interface_joined link snap padding name head option end few name_is head_is end_is =
+interface_joined link snap padding name head option end upper_bound name_is head_is end_is =
     let size : ℕ = 32 + length option + length name + padding in
     let sizes = simp (length-append, length-replicate) at (ap length name_is) in
     let body : length (interface_body link snap name) ≡ length (name_text name) + 20 = simp (length-append) (omega arith) in

@@ -28,7 +28,7 @@ pub fn print_packet<O: Output>(
     packet: &Packet<'_>,
     output: &mut O,
 ) -> Result<(), DeviceFault>
-    ensures told { IsTrue O.tells
+    ensures exact { IsTrue O.tells
         → AppendsOrStops result (O.written output.old) (printed options (captured packet.now))
         (O.written output.new) }
     ensures failed { O.failures output.new ≡ O.failures output.old + failures_of result }
@@ -46,7 +46,7 @@ pub fn print_packet<O: Output>(
 
 /// Writes the rows of these bytes, one after another.
 fn write_rows<O: Output>(text: &mut Text, bytes: &[u8], output: &mut O) -> Result<(), DeviceFault>
-    ensures told { IsTrue O.tells
+    ensures exact { IsTrue O.tells
         → AppendsOrStops result (O.written output.old) (rows bytes.now) (O.written output.new) }
     ensures failed { O.failures output.new ≡ O.failures output.old + failures_of result }
     ensures room { O.room output.new ≡ O.room output.old }

@@ -61,7 +61,7 @@ end_if false = None
 pub record Took (policy : Policy) (w : JobProgress) (before : List ℕ) (i : ℕ) (x : Placed) (state' : SelectorState) (old new : JobOutputView) (last : Bool) : Type 0 where
   pub passed : List Captured
   -- one at most
-  pub few : (passed ≡ []) ⊎ ((q : Captured) × (passed ≡ q ∷ []))
+  pub upper_bound : (passed ≡ []) ⊎ ((q : Captured) × (passed ≡ q ∷ []))
   pub went : apply_event policy (form_at old) w (Packet i x) ≡ course_spec.decide w state' passed (end_if last)
   pub output : HasWritten before new (w.packets ++ passed) w.reports
   pub form : form_at new ≡ form_at old
@@ -79,7 +79,7 @@ put-took policy w before i x q state' old new last has names puts went =
     let ok : PutOk before w.packets w.reports q old.names new.names old.target new.target = put-ok before w.packets w.reports q old.names new.names old.target new.target names has puts in
     record {
       passed = q ∷ [];
-      few = inr (q, refl);
+      upper_bound = inr (q, refl);
       went = went ∙ ap (λ (f : Option Fault). decide_unless f w i x state' q (end_if last)) ok.none;
       output = ok.output;
       form = ok.form;
@@ -89,17 +89,17 @@ put-took policy w before i x q state' old new last has names puts went =
 
 pub took : (policy : Policy) (w : JobProgress) (before : List ℕ) (i : ℕ) (x : Placed) (old new : JobOutputView) (last : Bool) (state' : SelectorState) (v : code.Verdict) (q : Captured) → HasWritten before old w.packets w.reports
     → IsVerdict (judge policy w.state (w.decided + 1) x.packet) (Ok v) q state' → new.names ≡ old.names → Offers v q old.target (Ok last) new.target → Took policy w before i x state' old new last
-took policy w before i x old new last state' code_verdict.Pass q has told names offers =
-    rw offers.0 (put-took policy w before i x q state' old new false has names offers.1 (goes-by policy (form_at old) w i x (Pass q) state' told.0 told.1))
-took policy w before i x old new last state' code_verdict.PassLast q has told names offers =
-    rw offers.0 (put-took policy w before i x q state' old new true has names offers.1 (goes-by policy (form_at old) w i x (PassLast q) state' told.0 told.1))
-took policy w before i x old new last state' code_verdict.Skip q has told names offers =
+took policy w before i x old new last state' code_verdict.Pass q has exact names offers =
+    rw offers.0 (put-took policy w before i x q state' old new false has names offers.1 (goes-by policy (form_at old) w i x (Pass q) state' exact.0 exact.1))
+took policy w before i x old new last state' code_verdict.PassLast q has exact names offers =
+    rw offers.0 (put-took policy w before i x q state' old new true has names offers.1 (goes-by policy (form_at old) w i x (PassLast q) state' exact.0 exact.1))
+took policy w before i x old new last state' code_verdict.Skip q has exact names offers =
     let b : last ≡ false = (cc (offers.0)) in
     let same : new ≡ old = ap₂ output_at names offers.1 in
     rw (b, same) (record {
       passed = [];
-      few = inl refl;
-      went = goes-by policy (form_at old) w i x Skip state' told.0 told.1;
+      upper_bound = inl refl;
+      went = goes-by policy (form_at old) w i x Skip state' exact.0 exact.1;
       output = rw (append-nil w.packets) has;
       form = refl;
       failures = refl;
@@ -200,7 +200,7 @@ decided-goes us vs s before xs ys h order turn policy state state' output output
       };
       at_most_one = omega arith;
       form = t.form;
-      once = elim t.few [
+      once = elim t.upper_bound [
         | inl none ↦ once-nothing (first_link (wholes_of (us ++ s ∷ vs))) (progress_of d) (progress_at new (d.packets ++ t.passed) d.reports) output output'
             (ap (λ (l : List Captured). d.packets ++ l) none ∙ append-nil d.packets) refl (took-nothing none)
         | inr one ↦ once-packet (first_link (wholes_of (us ++ s ∷ vs))) before (progress_of d) (progress_at new (d.packets ++ t.passed) d.reports) output output' one.0 d.output (took-one one.0 one.1) t.form
@@ -241,17 +241,17 @@ pub record LastTook (policy : Policy) (w : JobProgress) (before : List ℕ) (i :
 
 pub last-took : (policy : Policy) (w : JobProgress) (before : List ℕ) (i : ℕ) (x : Placed) (old new : JobOutputView) (state' : SelectorState) (v : code.Verdict) (q : Captured) → IsVerdict (judge policy w.state (w.decided + 1) x.packet) (Ok v) q state' → new.names ≡ old.names → Offers v q old.target (Ok true) new.target
     → HasWritten before old w.packets w.reports → LastTook policy w before i x state' old new
-last-took policy w before i x old new state' code_verdict.Pass q told names offers has = absurd (let b = offers.0 in cc)
-last-took policy w before i x old new state' code_verdict.PassLast q told names offers has =
+last-took policy w before i x old new state' code_verdict.Pass q exact names offers has = absurd (let b = offers.0 in cc)
+last-took policy w before i x old new state' code_verdict.PassLast q exact names offers has =
     let ok : PutOk before w.packets w.reports q old.names new.names old.target new.target = put-ok before w.packets w.reports q old.names new.names old.target new.target names has offers.1 in
     record {
       packet = q;
-      went = goes-by policy (form_at old) w i x (PassLast q) state' told.0 told.1 ∙ ap (λ (f : Option Fault). decide_unless f w i x state' q (Some Complete)) ok.none;
+      went = goes-by policy (form_at old) w i x (PassLast q) state' exact.0 exact.1 ∙ ap (λ (f : Option Fault). decide_unless f w i x state' q (Some Complete)) ok.none;
       output = ok.output;
       form = ok.form;
       failures = ok.failures;
     }
-last-took policy w before i x old new state' code_verdict.Skip q told names offers has = absurd (let b = offers.0 in cc)
+last-took policy w before i x old new state' code_verdict.Skip q exact names offers has = absurd (let b = offers.0 in cc)
 
 -- ---- it is not put
 
@@ -385,7 +385,7 @@ reject-leaves : (ss : List InputPast) (before : List ℕ) (cursors : List InputV
     → IsVerdict (judge policy state (decided + 1) x.packet) (Err fault) x.packet state'
     → (cursor : InputView) → IsInput new.inputs.cursors turn cursor → cursor.source.offset ≡ x.offset → new.output ≡ output → (fault ≡ WriteFailed → ⊥)
     → EndLeaves d (end_of_failed_write turn fault) new
-reject-leaves ss before cursors order turn policy state state' output decided new x fault d ahead told cursor among offset same device =
+reject-leaves ss before cursors order turn policy state state' output decided new x fault d ahead exact cursor among offset same device =
     let w : JobProgress = progress_of d in
     let kept : written_by new ≡ written_to output.target = ap (λ (v : JobOutputView). written_to v.target) same in
     let B : Type 0 = EndLeaves d (end.FaultIn turn fault) new in
@@ -394,7 +394,7 @@ reject-leaves ss before cursors order turn policy state state' output decided ne
       among = among;
       why = inl (rw offset (comes-broken ss before (mk cursors order policy state output decided) (wholes_of ss) d new turn fault x.offset
           (stops-course ss cursors order d.events (Packet turn x) policy (form_at output) w (end_with w (FaultIn turn fault x.offset)) (FaultIn turn fault x.offset) ahead d.progress refl
-          (ap (λ (v : Verdict). apply_verdict (form_at output) w turn x v (judge policy state (decided + 1) x.packet).state) told) refl)
+          (ap (λ (v : Verdict). apply_verdict (form_at output) w turn x v (judge policy state (decided + 1) x.packet).state) exact) refl)
           kept (ap (λ (v : JobOutputView). failures_to v.target) same)));
     } in
     other fault device breaks
@@ -467,7 +467,7 @@ own-verdict policy state number p =
     [ true ↦ (λ is. (cc)) | false ↦ own-judged policy state number p ]
 
 never-device : (policy : Policy) (state state' : SelectorState) (number : ℕ) (p : Captured) (fault : Fault) → IsVerdict (judge policy state number p) (Err fault) p state' → fault ≡ WriteFailed → ⊥
-never-device policy state state' number p fault told is = (let P : Verdict → Type 0 = λ v. Own v in subst P told (own-verdict policy state number p)) is
+never-device policy state state' number p fault exact is = (let P : Verdict → Type 0 = λ v. Own v in subst P exact (own-verdict policy state number p)) is
 
 -- what an answer leaves: `new` is the machine where the packet is decided, `failed` where it isn't
 abbrev pub AnswerLeaves : {ss : List InputPast} {before : List ℕ} {old : MachineState} → PacketsDecided ss before old → ℕ → Result Bool Fault → MachineState → MachineState → Type 0
@@ -483,7 +483,7 @@ answer-core : (us vs : List InputPast) (s : InputPast) (before : List ℕ) (xs y
 answer-core us vs s before xs ys h order turn policy state state' output output' decided p (Ok false) laws tells front at back held within grows d names decides =
     elim decides [
       | inl j ↦ decided-goes us vs s before xs ys h order turn policy state state' output output' decided p laws front at back held within grows d
-          (took policy (progress_at (mk (xs ++ h ∷ ys) order policy state output decided) d.packets d.reports) before turn (record { offset = h.source.offset; packet = p }) output output' false state' j.answer j.packet d.output j.told names j.offers)
+          (took policy (progress_at (mk (xs ++ h ∷ ys) order policy state output decided) d.packets d.reports) before turn (record { offset = h.source.offset; packet = p }) output output' false state' j.answer j.packet d.output j.exact names j.offers)
       | inr x ↦ absurd (let e = x.answer in cc)
     ]
 answer-core us vs s before xs ys h order turn policy state state' output output' decided p (Ok true) laws tells front at back held within grows d names decides =
@@ -491,7 +491,7 @@ answer-core us vs s before xs ys h order turn policy state state' output output'
       | inl j ↦
           let w : JobProgress = progress_at (mk (xs ++ h ∷ ys) order policy state output decided) d.packets d.reports in
           let x : Placed = record { offset = h.source.offset; packet = p } in
-          let l = last-took policy w before turn x output output' state' j.answer j.packet j.told names j.offers d.output in
+          let l = last-took policy w before turn x output output' state' j.answer j.packet j.exact names j.offers d.output in
           let stop = stops-course (us ++ s ∷ vs) (xs ++ h ∷ ys) order d.events (Packet turn x) policy (form_at output) w (course_spec.decide w state' (l.packet ∷ []) (Some Complete)) Complete
           (next-true us vs s before xs ys h order turn policy state output decided p laws front at back held d) d.progress refl l.went refl in
           record {
@@ -511,10 +511,10 @@ answer-core us vs s before xs ys h order turn policy state state' output output'
     some (x ∷ ps) q e = absurd (omega (arith, e))
 answer-core us vs s before xs ys h order turn policy state state' output output' decided p (Err fault) laws tells front at back held within grows d names decides =
     elim decides [
-      | inl j ↦ by_verdict_of j.answer j.packet j.told j.offers
+      | inl j ↦ by_verdict_of j.answer j.packet j.exact j.offers
       | inr j ↦
           let e : fault ≡ j.fault = (let e = j.answer in cc) in
-          rw e (reject-leaves (us ++ s ∷ vs) before (xs ++ h ∷ ys) order turn policy state state' output decided failed x j.fault d ahead j.told h here refl (ap₂ output_at names j.same) (never-device policy state state' (decided + 1) p j.fault j.told))
+          rw e (reject-leaves (us ++ s ∷ vs) before (xs ++ h ∷ ys) order turn policy state state' output decided failed x j.fault d ahead j.exact h here refl (ap₂ output_at names j.same) (never-device policy state state' (decided + 1) p j.fault j.exact))
     ]
   where
     x : Placed
@@ -549,20 +549,20 @@ answer-core us vs s before xs ys h order turn policy state state' output output'
     }
 
     by_verdict_of : (v : code.Verdict) (q : Captured) → IsVerdict (judge policy state (decided + 1) p) (Ok v) q state' → Offers v q output.target (Err fault) output'.target → EndLeaves d (end_of_failed_write turn fault) failed
-    by_verdict_of code_verdict.Pass q told offers =
+    by_verdict_of code_verdict.Pass q exact offers =
         unput-leaves (us ++ s ∷ vs) before (xs ++ h ∷ ys) order turn policy state state' output.names output.target decided failed x q None fault d ahead
-        (goes-by policy (form_at output) w turn x (Pass q) state' told.0 told.1) tells refl h here refl (let A : Verdict → Type 0 = λ v. PassesAs v q in subst A told.0 refl) (answers q (let A : Verdict → Type 0 = λ v. PassesAs v q in subst A told.0 refl)) offers
-    by_verdict_of code_verdict.PassLast q told offers =
+        (goes-by policy (form_at output) w turn x (Pass q) state' exact.0 exact.1) tells refl h here refl (let A : Verdict → Type 0 = λ v. PassesAs v q in subst A exact.0 refl) (answers q (let A : Verdict → Type 0 = λ v. PassesAs v q in subst A exact.0 refl)) offers
+    by_verdict_of code_verdict.PassLast q exact offers =
         unput-leaves (us ++ s ∷ vs) before (xs ++ h ∷ ys) order turn policy state state' output.names output.target decided failed x q (Some Complete) fault d ahead
-        (goes-by policy (form_at output) w turn x (PassLast q) state' told.0 told.1) tells refl h here refl (let A : Verdict → Type 0 = λ v. PassesAs v q in subst A told.0 refl) (answers q (let A : Verdict → Type 0 = λ v. PassesAs v q in subst A told.0 refl)) offers
-    by_verdict_of code_verdict.Skip q told offers = absurd (let e = offers.0 in cc)
+        (goes-by policy (form_at output) w turn x (PassLast q) state' exact.0 exact.1) tells refl h here refl (let A : Verdict → Type 0 = λ v. PassesAs v q in subst A exact.0 refl) (answers q (let A : Verdict → Type 0 = λ v. PassesAs v q in subst A exact.0 refl)) offers
+    by_verdict_of code_verdict.Skip q exact offers = absurd (let e = offers.0 in cc)
 
 pub answer-leaves : (ss : List InputPast) (before : List ℕ) (cursors : List InputView) (order : PacketOrder) (policy : Policy) (state : SelectorState) (output : JobOutputView) (decided i : ℕ) (r : Result Bool Fault) (h : InputView) (selector' : PolicyState) (output' : JobOutputView)
     → output'.names ≡ output.names → input_spec.IsNext (inputs_at order cursors) (next.Decide i) → IsInput cursors i h → selector'.policy ≡ policy → (state.passed ≤ decided + 1 → selector'.state.passed ≤ decided + 1) → GrowsByOne state.tally selector'.state.tally → decided ≤ most_steps
     → (state.passed < decided + 1 → IsWithin most_steps state.tally → DecidesPacket h.source.packet (decided + 1) (sieve (record { policy = policy; state = state }) output.target) r (sieve selector' output'.target))
     → (d : PacketsDecided ss before (mk cursors order policy state output decided))
     → AnswerLeaves d i r (mk (slice_set cursors i (input_behind h)) order policy selector'.state output' (decided + 1)) (mk cursors order policy selector'.state output' decided)
-answer-leaves ss before cursors order policy state output decided i r other selector' output' names tells among_other asks passes grows few decides d =
+answer-leaves ss before cursors order policy state output decided i r other selector' output' names tells among_other asks passes grows upper_bound decides d =
     let at : DecideAt order cursors i = decide-at order ss cursors i tells d.behind in
     let among = at.among in
     let h = at.cursor in
@@ -578,7 +578,7 @@ answer-leaves ss before cursors order policy state output decided i r other sele
     let C : Option Captured → Type 0 = λ o. DecidesPacket o (decided + 1) (sieve (record { policy = policy; state = state }) output.target) r (sieve selector' output'.target) in
     let C' : Policy → Type 0 = λ k. DecidesPacket (Some has.packet) (decided + 1) (sieve (record { policy = policy; state = state }) output.target) r (sieve (record { policy = k; state = selector'.state }) output'.target) in
     let held : other.source.packet ≡ Some has.packet = ap (λ (v : InputView). v.source.packet) same ∙ has.held in
-    let chosen = subst C' asks (subst C held (decides within (within-more decided most_steps state.tally few d.counted))) in
+    let chosen = subst C' asks (subst C held (decides within (within-more decided most_steps state.tally upper_bound d.counted))) in
     let cursors' : slice_set cursors i (input_behind h) ≡ among.front ++ input_behind h ∷ among.back = ap (λ (l : List InputView). slice_set l i (input_behind h)) among.splits ∙ set-here among.front among.back h (input_behind h) i among.place in
     let new : List InputView → MachineState = λ l. mk l order policy selector'.state output' (decided + 1) in
     let failed : List InputView → MachineState = λ l. mk l order policy selector'.state output' decided in

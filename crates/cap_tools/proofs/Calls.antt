@@ -93,10 +93,10 @@ first-name asked call = ap (name_at call.names) (length-map call.inputs fresh_vi
 -- ---- what is told
 
 told-as : (tells : Bool) (old old' new : OutputView) (message message' : List ℕ) → message ≡ message' → old ≡ old' → IsTold tells old message new → IsTold tells old' message' new
-told-as tells old old' new message message' is same told =
+told-as tells old old' new message message' is same exact =
     let M : List ℕ → Type 0 = λ m. IsTold tells old m new in
     let O : OutputView → Type 0 = λ v. IsTold tells v message' new in
-    subst O same (subst M is told)
+    subst O same (subst M is exact)
 
 -- a refusal has a status of its own
 never-zero : (why : Refusal) → refusal_status why ≡ 0 → ⊥
@@ -233,7 +233,7 @@ packets-run asked call first r b runs = by_end runs.end refl runs.leaves
     text = end_message names runs.last.inputs.cursors runs.end
 
     reported : {message : List ℕ} → text ≡ message → IsTold call.tells call.messages message r.messages
-    reported {message} is = told-as call.tells first.err call.messages r.messages text message is b.err runs.told
+    reported {message} is = told-as call.tells first.err call.messages r.messages text message is b.err runs.exact
 
     so-far : written_by old ≡ before ++ text_behind w d.events
     so-far =
@@ -357,10 +357,10 @@ packets-run asked call first r b runs = by_end runs.end refl runs.leaves
 -- ---- a job that is refused, or lists a program
 
 refused-run : (asked : Assignment) (call : Call) (r : RunResult) (why : Refusal) → IsWhyRefused asked.preparing why → r.status ≡ refusal_status why → r.output ≡ output_of (first_job asked call) → IsTold call.tells call.messages (refusal_message why) r.messages → CommandRuns asked call r
-refused-run asked call r why refused status same told = ends (refusal_outcome why) (of_refusal why refused) (record {
+refused-run asked call r why refused status same exact = ends (refusal_outcome why) (of_refusal why refused) (record {
   output = ap (λ (o : OutputView). o.written) (same ∙ first-output asked call) ∙ sym (append-nil call.output.written);
   failures = ap (λ (o : OutputView). o.failures) (same ∙ first-output asked call);
-  message = told;
+  message = exact;
   quiet = λ zero. absurd (never-zero why (sym status ∙ zero));
   status = status;
 })
@@ -373,8 +373,8 @@ compile-run asked call r words link is runs =
         | inl written ↦ ends (listing_outcome lists.prog) (of_listing words link lists.prog is lists.compiled) (record {
           output = written.written ∙ ap (λ (o : OutputView). o.written ++ listing lists.prog) out;
           failures = written.device ∙ ap (λ (o : OutputView). o.failures) out;
-          message = told written.told;
-          quiet = λ zero. runs.quiet written.told;
+          message = exact written.exact;
+          quiet = λ zero. runs.quiet written.exact;
           status = written.answered;
         })
         | inr failed ↦ output_failed (record {
@@ -383,20 +383,20 @@ compile-run asked call r words link is runs =
           answer = listing_answer words link lists.prog is lists.compiled refl refl;
           stops = (failed.count, failed.within, failed.written ∙ ap (λ (o : OutputView). o.written ++ take failed.count (listing lists.prog)) out ∙ ap (λ (l : List ℕ). l ++ take failed.count (listing lists.prog)) (sym (append-nil call.output.written)));
           failures = failed.failures ∙ ap (λ (o : OutputView). o.failures + 1) out;
-          message = told (failed.told ∙ ap write_failed_message (first-name asked call));
+          message = exact (failed.exact ∙ ap write_failed_message (first-name asked call));
           status = failed.answered;
         })
       ]
       | inr fails ↦
           let P : Option Preparing → Type 0 = λ p. IsWhyRefused p (refusal.Expression fails.fault) in
-          refused-run asked call r (refusal.Expression fails.fault) (subst P (sym is) fails.why) fails.tells.answered fails.tells.output (told fails.tells.told)
+          refused-run asked call r (refusal.Expression fails.fault) (subst P (sym is) fails.why) fails.tells.answered fails.tells.output (exact fails.tells.exact)
     ]
   where
     out : output_of (first_job asked call) ≡ call.output
     out = first-output asked call
 
-    told : {message : List ℕ} → runs.message ≡ message → IsTold call.tells call.messages message r.messages
-    told {message} same = told-as call.tells call.messages call.messages r.messages runs.message message same refl runs.told
+    exact : {message : List ℕ} → runs.message ≡ message → IsTold call.tells call.messages message r.messages
+    exact {message} same = told-as call.tells call.messages call.messages r.messages runs.message message same refl runs.exact
 
 -- ---- all of it
 
@@ -442,6 +442,6 @@ call-runs asked call r runs = by_preparing asked.preparing refl runs
               (filter-begins asked call filtered.rule filter.count filtered.programs (subst P (sym is) (filtered.rule, filtered.is, refl))) filtered.runs
           | inr refused ↦
               let P : Option Preparing → Type 0 = λ p. IsWhyRefused p refused.refusal in
-              refused-run asked call r refused.refusal (subst P (sym is) refused.why) refused.status_is refused.same refused.told
+              refused-run asked call r refused.refusal (subst P (sym is) refused.why) refused.status_is refused.same refused.exact
         ]
     by_preparing (Some (Compiles words link)) is runs = compile-run asked call r words link is runs

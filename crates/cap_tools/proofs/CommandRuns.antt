@@ -111,7 +111,7 @@ ended tells from job new ss before r progress same names ends written failures i
       leaves = ends.leaves progress.past before progress.decided.packets;
       written = written;
       failures = failures;
-      told = subst T (sym is) (subst F same (subst N names ends.told));
+      exact = subst T (sym is) (subst F same (subst N names ends.exact));
       quiet = λ zero. is ∙ ends.quiet zero ∙ same;
       status_is = ends.status_is;
     }
@@ -127,7 +127,7 @@ listed tells words link old new r same is some =
     record {
       message = some.lists.runs.message;
       left = inl (record { prog = some.prog; compiled = some.compiled; listed = subst L (sym same) some.lists.runs.left });
-      told = subst T (sym is) some.lists.runs.told;
+      exact = subst T (sym is) some.lists.runs.exact;
       quiet = λ none. is ∙ some.lists.runs.quiet none;
     }
 
@@ -146,9 +146,9 @@ unlisted tells words link old new r same is refuses =
       left = inr (record {
         fault = refuses.fault;
         why = refuses.why;
-        tells = record { output = same ∙ ap output_of refuses.refuses.new_is; told = refl; answered = refuses.refuses.status_is };
+        tells = record { output = same ∙ ap output_of refuses.refuses.new_is; exact = refl; answered = refuses.refuses.status_is };
       });
-      told = subst T (sym is) refuses.refuses.told;
+      exact = subst T (sym is) refuses.refuses.exact;
       quiet = λ none. absurd (never-silent refuses.fault none);
     }
 
@@ -162,7 +162,7 @@ first-done tells (Some (ReadsFilter asked)) old new ss before r gives d written 
       why = gives.why;
       status_is = gives.refuses.status_is;
       same = output-is new r.output written failures ∙ ap output_of gives.refuses.new_is;
-      told = subst T (sym is) gives.refuses.told;
+      exact = subst T (sym is) gives.refuses.exact;
     })
 first-done tells (Some (Compiles words link)) old new ss before r gives d written failures is =
     elim gives [

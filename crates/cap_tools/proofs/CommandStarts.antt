@@ -46,7 +46,7 @@ preparing_else p j = record { preparing = p; machine = j.machine; programs = j.p
 pub compile-gives : (words : List ℕ) (link : Link) (tells : Bool) (p : Option Preparing) (old : JobView) (r : Turn) (new : JobView) → CompileGives words link tells (preparing_else p old) r new → CompileGives words link tells old r new
 compile-gives words link tells p old turn.More new gives = gives
 compile-gives words link tells p old (turn.Done status) new (inl some) = inl (record { prog = some.prog; compiled = some.compiled; lists = record { runs = some.lists.runs } })
-compile-gives words link tells p old (turn.Done status) new (inr none) = inr (record { fault = none.fault; why = none.why; refuses = record { status_is = none.refuses.status_is; told = none.refuses.told; new_is = none.refuses.new_is } })
+compile-gives words link tells p old (turn.Done status) new (inr none) = inr (record { fault = none.fault; why = none.why; refuses = record { status_is = none.refuses.status_is; exact = none.refuses.exact; new_is = none.refuses.new_is } })
 
 one-input : (n : ℕ) (other : Bool) → (nat_eq n 1 && other) ≡ true → n ≤ most_inputs
 one-input n other is = let one = eqb-true n 1 (and_parts (nat_eq n 1) other is).0 in omega (arith, one)
@@ -72,18 +72,18 @@ pub first-made : {Z : Type 0} (c : Command Z) (call : Call) (a : Assignment) (in
       turns = 0;
       done = None;
     } ≡ first_job (assignment c) call
-first-made c call a inputs selector messages target same_preparing same_order same_policy same_writing is judged told written =
-    rw (is, judged, told, written, same_preparing, same_order, same_policy, same_writing) refl
+first-made c call a inputs selector messages target same_preparing same_order same_policy same_writing is judged exact written =
+    rw (is, judged, exact, written, same_preparing, same_order, same_policy, same_writing) refl
 
 -- what a command reads or compiles first is not begun, and no step was made
 pub first-ready : {Z : Type 0} (c : Command Z) (call : Call) → length call.inputs ≤ most_inputs
     → IsReadyIf (assignment c).preparing (first_job (assignment c) call)
-first-ready (command.Edit edit) call few = tt
-first-ready (command.Merge merge) call few = tt
-first-ready command.Infos call few = tt
-first-ready (command.Print print) call few = record { turns = refl; done = refl; programs = refl; left = first-less (assignment (command.Print print)).order call.inputs few; few = first-few (assignment (command.Print print)).order call.inputs }
-first-ready (command.Compile compile) call few =
-    (record { turns = refl; done = refl; programs = refl; left = first-less (assignment (command.Compile compile)).order call.inputs few; few = first-few (assignment (command.Compile compile)).order call.inputs }, refl)
+first-ready (command.Edit edit) call upper_bound = tt
+first-ready (command.Merge merge) call upper_bound = tt
+first-ready command.Infos call upper_bound = tt
+first-ready (command.Print print) call upper_bound = record { turns = refl; done = refl; programs = refl; left = first-less (assignment (command.Print print)).order call.inputs upper_bound; upper_bound = first-few (assignment (command.Print print)).order call.inputs }
+first-ready (command.Compile compile) call upper_bound =
+    (record { turns = refl; done = refl; programs = refl; left = first-less (assignment (command.Compile compile)).order call.inputs upper_bound; upper_bound = first-few (assignment (command.Compile compile)).order call.inputs }, refl)
 
 -- nothing is decided of the inputs
 pub first-decided : {Z : Type 0} (c : Command Z) (call : Call)
@@ -119,14 +119,14 @@ lists-ok insns tells old new err text lists = by_target old.output.target refl t
         let after : written_by new ≡ to.after = ap written_to to.is in
         record {
           message = [];
-          left = inl (record { written = after ∙ to.appends ∙ ap (λ (l : List ℕ). l ++ listing insns) (sym before); device = ap failures_to to.is ∙ add-zero failures ∙ sym (ap failures_to is); told = refl; answered = refl });
+          left = inl (record { written = after ∙ to.appends ∙ ap (λ (l : List ℕ). l ++ listing insns) (sym before); device = ap failures_to to.is ∙ add-zero failures ∙ sym (ap failures_to is); exact = refl; answered = refl });
           quiet = λ none. refl;
-          told = record { answer = Ok tt; told = λ te. sym (append-nil err.written); counted = sym (add-zero err.failures) };
+          exact = record { answer = Ok tt; exact = λ te. sym (append-nil err.written); counted = sym (add-zero err.failures) };
         }
 
 pub lists-err : (insns : List Insn) (tells : Bool) (old new : MachineState) (stopped : Stopped) (err err' : OutputView) → is_text old.output.target ≡ true → ListsText (listing insns) old.output.target (Err stopped) new.output.target
     → IsTold tells err (write_failed_message (name_at old.output.names (length old.inputs.cursors))) err' → ListsInto insns tells old err 1 new err'
-lists-err insns tells old new stopped err err' text lists told = by_target old.output.target refl text lists
+lists-err insns tells old new stopped err err' text lists exact = by_target old.output.target refl text lists
   where
     by_target : (t : Target) → old.output.target ≡ t → is_text t ≡ true → ListsText (listing insns) t (Err stopped) new.output.target → ListsInto insns tells old err 1 new err'
     by_target (Capture sink) is text to = absurd (let e = text in cc)
@@ -141,10 +141,10 @@ lists-err insns tells old new stopped err err' text lists told = by_target old.o
             count = to.appends.0;
             within = to.appends.1;
             written = after ∙ to.appends.2 ∙ ap (λ (l : List ℕ). l ++ take to.appends.0 (listing insns)) (sym before);
-            told = refl;
+            exact = refl;
             answered = refl;
           });
-          told = told;
+          exact = exact;
           quiet = λ none. (cc);
         }
 
@@ -157,9 +157,9 @@ listed-ok insns tells old mid new text lists same is quiet =
 
 pub listed-err : (insns : List Insn) (tells : Bool) (old mid new : JobView) (stopped : Stopped) → is_text old.machine.output.target ≡ true → ListsText (listing insns) old.machine.output.target (Err stopped) mid.machine.output.target → mid.machine.output.names ≡ old.machine.output.names → mid.err ≡ old.err → mid.machine.inputs ≡ old.machine.inputs
     → new ≡ ending end.OutputFailed new.err mid → IsTold tells mid.err (end_message mid.machine.output.names mid.machine.inputs.cursors end.OutputFailed) new.err → EndsList insns tells old (turn.Done 1) new
-listed-err insns tells old mid new stopped text lists names same inputs is told =
+listed-err insns tells old mid new stopped text lists names same inputs is exact =
     let M : MachineState → Type 0 = λ m. ListsInto insns tells old.machine old.err 1 m new.err in
     let N : List (List ℕ) → Type 0 = λ l. IsTold tells mid.err (write_failed_message (name_at l (length mid.machine.inputs.cursors))) new.err in
     let C : InputsView → Type 0 = λ f. IsTold tells mid.err (write_failed_message (name_at old.machine.output.names (length f.cursors))) new.err in
     let F : OutputView → Type 0 = λ v. IsTold tells v (write_failed_message (name_at old.machine.output.names (length old.machine.inputs.cursors))) new.err in
-    record { runs = subst M (sym (ap (λ (j : JobView). j.machine) is)) (lists-err insns tells old.machine mid.machine stopped old.err new.err text lists (subst F same (subst C inputs (subst N names told)))) }
+    record { runs = subst M (sym (ap (λ (j : JobView). j.machine) is)) (lists-err insns tells old.machine mid.machine stopped old.err new.err text lists (subst F same (subst C inputs (subst N names exact)))) }

@@ -12,7 +12,7 @@ use Rattle.cap_inputs.specs.Sequence.{Packet, FaultIn}
 use Rattle.cap_tools.specs.Verdict.{Judgement, Edit, EditRule, SelectorState, initial_state, edited_packet_with, is_selected, shifted_time, passes, refuses, selects, skip_judgement, unique, with_mark}
 use Rattle.cap_tools.specs.Outcome.{Form, AsReports, JobProgress, apply_verdict, next_progress, end_with, apply_events}
 use Rattle.cap_tools.specs.Edits.{PassesUnique, coming, is_repeated, packets_selected, unique_behind}
-use Rattle.cap_tools.proofs.Selectors.{few}
+use Rattle.cap_tools.proofs.Selectors.{upper_bound}
 
 abbrev reports : Form
 reports = AsReports []
@@ -52,7 +52,7 @@ ended-stays s w (p ∷ ps) fault offset = ended-stays s w ps fault offset
 
 step-is : (s : EditRule) (k : ℕ) (state : SelectorState) (out : List Captured) (p : Captured) (j : Judgement) → k + 1 < 2 ^ 63 → selects s state (k + 1) p ≡ j
     → next_progress (Edit s) reports (under_way k state out) (Packet 0 (placed p)) ≡ apply_verdict reports (under_way k state out) 0 (placed p) j.verdict j.state
-step-is s k state out p j less is = ap (λ (v : Judgement). apply_verdict reports (under_way k state out) 0 (placed p) v.verdict v.state) (few (Edit s) state (k + 1) p refl less ∙ is)
+step-is s k state out p j less is = ap (λ (v : Judgement). apply_verdict reports (under_way k state out) 0 (placed p) v.verdict v.state) (upper_bound (Edit s) state (k + 1) p refl less ∙ is)
 
 abbrev Passes : EditRule → ℕ → SelectorState → List Mark → List Captured → List Captured → Type 0
 Passes s k state before out ps = (apply_events (Edit s) reports (under_way k state out) (coming ps)).packets ≡ out ++ unique_behind s.window before (packets_selected s (k + 1) ps)

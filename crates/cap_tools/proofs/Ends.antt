@@ -36,7 +36,7 @@ clean-status end.OutputFailed is = (cc)
 -- a step that ended the job, and its report
 pub step-ends : (inputs_tell output_tells tells : Bool) (old mid new : JobView) (e : JobEnd) → IsTrue inputs_tell → IsTrue output_tells → IsStep inputs_tell output_tells old (Some e) mid → new ≡ ending e new.err mid
     → IsTold tells mid.err (end_message mid.machine.output.names mid.machine.inputs.cursors e) new.err → (e ≡ end.Complete → new.err ≡ mid.err) → EndsJob tells old (end_status e) new
-step-ends inputs_tell output_tells tells old mid new e ti to step is told quiet =
+step-ends inputs_tell output_tells tells old mid new e ti to step is exact quiet =
     let M : MachineState → Type 0 = λ m. StepGives old.machine (Some e) m in
     let N : List (List ℕ) → Type 0 = λ l. IsTold tells mid.err (end_message l mid.machine.inputs.cursors e) new.err in
     let C : MachineState → Type 0 = λ m. IsTold tells mid.err (end_message old.machine.output.names m.inputs.cursors e) new.err in
@@ -44,8 +44,8 @@ step-ends inputs_tell output_tells tells old mid new e ti to step is told quiet 
     let same : new.machine ≡ mid.machine = ap (λ (j : JobView). j.machine) is in
     record {
       end = e;
-      leaves = subst M (sym same) (step.told ti to);
-      told = subst F step.err (subst C (sym same) (subst N step.names told));
+      leaves = subst M (sym same) (step.exact ti to);
+      exact = subst F step.err (subst C (sym same) (subst N step.names exact));
       quiet = λ zero. quiet (clean-status e zero) ∙ step.err;
       status_is = refl;
     }

@@ -106,8 +106,8 @@ finish-empty before sink (q ∷ qs) link fault new has finishes =
     absurd (let same = finish-some before q qs sink link (Err fault) finishes.sink has finishes.finishes in let e = same.0 in cc)
 finish-empty before sink [] link fault new has finishes =
     let empty : FinishesEmpty sink (link_or_ethernet link) (Err fault) finishes.sink = finish-none before sink link (Err fault) finishes.sink has finishes.finishes in
-    let told : fault ≡ WriteFailed = empty.answer in
-    let failed : finishes.sink.failures ≡ sink.failures + 1 = rw told at empty.failures in
+    let exact : fault ≡ WriteFailed = empty.answer in
+    let failed : finishes.sink.failures ≡ sink.failures + 1 = rw exact at empty.failures in
     let S : Target → Type 0 = λ t. Stops sink.written (file_start sink.format (link_or_ethernet link)) (written_to t) in
     record {
       none = refl;

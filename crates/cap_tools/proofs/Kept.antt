@@ -17,16 +17,16 @@ counted-turns None turns left is = omega (arith, is)
 counted-turns (Some status) turns left is = is.0
 
 paid-turns : (turns owes most owes' most' : ℕ) → owes' + 1 + most ≤ owes + most' → turns + owes ≤ most → turns + owes' ≤ most'
-paid-turns turns owes most owes' most' paid few = omega (arith, paid, few)
+paid-turns turns owes most owes' most' paid upper_bound = omega (arith, paid, upper_bound)
 
 pub few-kept : (done : Option ℕ) (turns : ℕ) (inputs inputs' : InputsView) → IsPaid inputs inputs' → HasFewTurns done turns inputs → HasFewTurns done turns inputs'
-few-kept None turns inputs inputs' paid few = paid-turns turns (steps_owed_in_all inputs) (most_turns inputs) (steps_owed_in_all inputs') (most_turns inputs') paid few
-few-kept (Some status) turns inputs inputs' paid few = tt
+few-kept None turns inputs inputs' paid upper_bound = paid-turns turns (steps_owed_in_all inputs) (most_turns inputs) (steps_owed_in_all inputs') (most_turns inputs') paid upper_bound
+few-kept (Some status) turns inputs inputs' paid upper_bound = tt
 
 -- a step reads what it read, whatever becomes of its messages and of the count of steps
 pub reads-kept : (tells goes : Bool) (old mid : JobView) (p : Option Preparing) (err : OutputView) (turns : ℕ) (ended : Option ℕ) → StepReads tells goes old mid
     → StepReads tells goes old (record { preparing = p; machine = mid.machine; programs = mid.programs; err = err; turns = turns; done = ended })
-reads-kept tells goes old mid p err turns ended (reads_on i answer on reads) = reads_on i answer on (record { next = reads.next; fetches = reads.fetches; told = reads.told; decided = reads.decided; output = reads.output; programs = reads.programs })
+reads-kept tells goes old mid p err turns ended (reads_on i answer on reads) = reads_on i answer on (record { next = reads.next; fetches = reads.fetches; exact = reads.exact; decided = reads.decided; output = reads.output; programs = reads.programs })
 reads-kept tells goes old mid p err turns ended (decides_one i one) = decides_one i (record { next = one.next; packet = one.packet; holds = one.holds; settles = one.settles; decided = one.decided; programs = one.programs; cost = one.cost })
 reads-kept tells goes old mid p err turns ended (leaves_one i ends one) = leaves_one i ends (record { next = one.next; packet = one.packet; holds = one.holds; inputs = one.inputs; decided = one.decided; programs = one.programs; cost = one.cost })
 reads-kept tells goes old mid p err turns ended (reads_nothing ends none) = reads_nothing ends (record { inputs = none.inputs; decided = none.decided; programs = none.programs })

@@ -23,7 +23,7 @@ use Rattle.cap_tools.specs.Edits.{coming, is_repeated, packets_selected, unique_
 use Rattle.cap_tools.specs.Selector.{is_count}
 use Rattle.cap_tools.specs.Lists.{CountsAll, EndsOutOfRange, HasLastMarks, PassesFiltered, arriving, ascends, at_most, end_at_time, final, first_out_of_range, greatest, packets_kept as kept, least, marks, packets_of, tally_of, times}
 use Rattle.cap_tools.proofs.Outcomes.{progress-ended}
-use Rattle.cap_tools.proofs.Selectors.{few}
+use Rattle.cap_tools.proofs.Selectors.{upper_bound}
 
 -- ---- what is counted
 
@@ -109,7 +109,7 @@ reports = AsReports []
 step-is : (a : Policy) (k : ℕ) (state : SelectorState) (out : List Captured) (p : Placed) (j : Judgement) → is_count a ≡ false → k + 1 < 2 ^ 63 → judge_by a state (k + 1) p.packet ≡ j
     → next_progress a reports (under_way k state out) (Packet 0 p) ≡ apply_verdict reports (under_way k state out) 0 p j.verdict j.state
 step-is a k state out p j judges less is =
-    ap (λ (v : Judgement). apply_verdict reports (under_way k state out) 0 p v.verdict v.state) (few a state (k + 1) p.packet judges less ∙ is)
+    ap (λ (v : Judgement). apply_verdict reports (under_way k state out) 0 p v.verdict v.state) (upper_bound a state (k + 1) p.packet judges less ∙ is)
 
 -- ---- what a filter keeps
 

@@ -27,11 +27,11 @@ too-many (Filter rule count) state number p judges h = rw (nat_le-true (2 ^ 63) 
 too-many KeepAll state number p judges h = rw (nat_le-true (2 ^ 63) number h) refl
 too-many Count state number p judges h = (cc)
 
-pub few : (policy : Policy) (state : SelectorState) (number : ℕ) (p : Captured) → is_count policy ≡ false → number < 2 ^ 63 → judge policy state number p ≡ judge_by policy state number p
-few (Edit s) state number p judges h = rw (nat_le-false (2 ^ 63) number h) refl
-few (Filter rule count) state number p judges h = rw (nat_le-false (2 ^ 63) number h) refl
-few KeepAll state number p judges h = rw (nat_le-false (2 ^ 63) number h) refl
-few Count state number p judges h = (cc)
+pub upper_bound : (policy : Policy) (state : SelectorState) (number : ℕ) (p : Captured) → is_count policy ≡ false → number < 2 ^ 63 → judge policy state number p ≡ judge_by policy state number p
+upper_bound (Edit s) state number p judges h = rw (nat_le-false (2 ^ 63) number h) refl
+upper_bound (Filter rule count) state number p judges h = rw (nat_le-false (2 ^ 63) number h) refl
+upper_bound KeepAll state number p judges h = rw (nat_le-false (2 ^ 63) number h) refl
+upper_bound Count state number p judges h = (cc)
 
 -- ---- what is returned
 
@@ -51,7 +51,7 @@ pub tells-passed : (policy policy' : Policy) (state after : SelectorState) (numb
     → ReturnsVerdict (count_limit policy) (judge_by policy state number p) (Ok true) q after → policy' ≡ policy → verdict_of v q ≡ verdict_if q (is_last (count_limit policy') (after.passed + 1))
     → IsVerdict (judge policy state number p) (Ok v) q (state_of (after.passed + 1) after.window after.tally)
 tells-passed policy policy' state after number p q v judges less keeps same is =
-    rw (few policy state number p judges less) (tells-some (count_limit policy) (judge_by policy state number p) after q v keeps
+    rw (upper_bound policy state number p judges less) (tells-some (count_limit policy) (judge_by policy state number p) after q v keeps
     (is ∙ ap (λ (a : Policy). verdict_if q (is_last (count_limit a) (after.passed + 1))) same))
 
 -- a filter's answer

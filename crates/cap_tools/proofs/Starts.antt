@@ -70,10 +70,10 @@ fresh-left (o ∷ os) = let e = fresh-left os in omega (arith, e)
 
 -- so much is to be done
 pub first-left : (order : PacketOrder) (os : List FreshInput) → length os ≤ most_inputs → steps_left (fresh_inputs order os) ≤ most_steps
-first-left order os few = let a = fresh-left os in omega (arith, a, few)
+first-left order os upper_bound = let a = fresh-left os in omega (arith, a, upper_bound)
 
 pub first-less : (order : PacketOrder) (os : List FreshInput) → length os ≤ most_inputs → steps_left (fresh_inputs order os) < most_steps
-first-less order os few = let a = fresh-left os in omega (arith, a, few)
+first-less order os upper_bound = let a = fresh-left os in omega (arith, a, upper_bound)
 
 -- each input owes one step
 start-owed : (os : List FreshInput) → (reads_of (map fresh_view os) ≡ 0) × (owed_in (map fresh_view os) ≡ length (map fresh_view os))

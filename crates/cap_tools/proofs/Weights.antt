@@ -40,7 +40,7 @@ steps-small old new r steps small = by_phase old.phase steps
 pub read_input-small : (inputs inputs' : InputsView) (i : ℕ) (r : Result Bool Fault) → ReadSteps inputs i r inputs' → All IsSmall inputs.cursors → All IsSmall inputs'.cursors
 read_input-small inputs inputs' i r f all =
     let P : InputsView → Type 0 = λ v. All IsSmall v.cursors in
-    subst P (sym f.is) (All-set IsSmall inputs.cursors i (input_after f.cursor r f.source) (steps-small f.cursor.source f.source r f.steps (small-at inputs.cursors i f.cursor f.among all).0, f.few) all)
+    subst P (sym f.is) (All-set IsSmall inputs.cursors i (input_after f.cursor r f.source) (steps-small f.cursor.source f.source r f.steps (small-at inputs.cursors i f.cursor f.among all).0, f.upper_bound) all)
 
 -- ---- at first
 
@@ -63,11 +63,11 @@ names-light f (x ∷ xs) all =
     omega (arith, one, others)
 
 declared-light : (d : Declared) → SectionFits d → declared_weight d ≤ 274 * 256
-declared-light Nothing few = omega arith
-declared-light (PcapFile head) few = omega arith
-declared-light (PcapngFile first section) few =
-    let names = names-light (λ i. i.name) section.interfaces few.names in
-    let count = few.count in
+declared-light Nothing upper_bound = omega arith
+declared-light (PcapFile head) upper_bound = omega arith
+declared-light (PcapngFile first section) upper_bound =
+    let names = names-light (λ i. i.name) section.interfaces upper_bound.names in
+    let count = upper_bound.count in
     omega (arith, names, count)
 
 cursors-light : (cursors : List InputView) → All IsSmall cursors → inputs_weight cursors ≤ (most_in_unit + 256 * 280) * length cursors
@@ -80,15 +80,15 @@ cursors-light (h ∷ hs) all =
     omega (arith, block, names, others)
 
 target-light : (t : Target) → HasFewOutputInterfaces t → target_weight t ≤ 274 * 4096
-target-light (Capture sink) few =
-    let names = names-light (λ i. i.name) sink.interfaces few.names in
-    let count = few.count in
+target-light (Capture sink) upper_bound =
+    let names = names-light (λ i. i.name) sink.interfaces upper_bound.names in
+    let count = upper_bound.count in
     omega (arith, names, count)
-target-light (Text written failures room) few = omega arith
-target-light (Lines options written failures room) few = omega arith
+target-light (Text written failures room) upper_bound = omega arith
+target-light (Lines options written failures room) upper_bound = omega arith
 
 pub is-light : (m : MachineState) → IsBounded m.inputs m.output.target → HasFewMarks m.policy m.state → IsLight m
-is-light m bounded few =
+is-light m bounded upper_bound =
     let cursors = cursors-light m.inputs.cursors bounded.0 in
     let target = target-light m.output.target bounded.1 in
-    record { each = bounded; all = omega (arith, cursors, target, few) }
+    record { each = bounded; all = omega (arith, cursors, target, upper_bound) }

@@ -26,7 +26,7 @@ pub record ReadsOn (tells : Bool) (old : JobView) (input : ℕ) (answer : Result
   pub next : IsNext old.machine.inputs (next.Read input)
   pub fetches : ReadSteps old.machine.inputs input answer new.machine.inputs
   -- where the input tells its bytes: its next packet, its clean end or its fault, and no more
-  pub told : IsTrue tells → ReadsInput old.machine.inputs input answer new.machine.inputs
+  pub exact : IsTrue tells → ReadsInput old.machine.inputs input answer new.machine.inputs
   pub decided : new.machine.decided ≡ old.machine.decided
   pub output : (is_clean_end answer && asks_report old.machine.inputs.order old.machine.policy)
       ≡ false → new.machine.output ≡ old.machine.output

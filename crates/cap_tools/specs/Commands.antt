@@ -105,7 +105,7 @@ pub record KeepsFirst (old : JobView) (r : Turn) (new : JobView) : Type 0 where
   pub done : new.done ≡ done_by r
   pub status : IsStatus r
   pub turns : new.turns ≡ old.turns + 1
-  pub few : new.turns ≤ most_turns old.machine.inputs + 1
+  pub upper_bound : new.turns ≤ most_turns old.machine.inputs + 1
   pub light : IsLight new.machine
   pub sound : HavePrograms new.machine.policy new.programs
   pub inputs : new.machine.inputs ≡ old.machine.inputs
@@ -119,7 +119,7 @@ pub record StepKeeps (old : JobView) (r : Turn) (new : JobView) : Type 0 where
   pub done : new.done ≡ done_by r
   pub status : IsStatus r
   pub turns : old.done ≡ None → new.turns ≡ old.turns + 1
-  pub few : old.done ≡ None → new.turns ≤ most_turns old.machine.inputs + 1
+  pub upper_bound : old.done ≡ None → new.turns ≤ most_turns old.machine.inputs + 1
   pub light : IsLight new.machine
   pub sound : HavePrograms new.machine.policy new.programs
   pub left : r ≡ turn.More → job_left new < job_left old
@@ -165,7 +165,7 @@ pub record RunsRefused (asked : FilterAsked) (tells : Bool) (first : JobView)
   pub why : IsWhy asked.words asked.code refusal
   pub status_is : r.status ≡ refusal_status refusal
   pub same : r.output ≡ output_of first
-  pub told : IsTold tells first.err (refusal_message refusal) r.messages
+  pub exact : IsTold tells first.err (refusal_message refusal) r.messages
 
 abbrev pub RunsBy : Option Preparing → List InputPast → List ℕ → Bool → JobView → RunResult → Type 0
 RunsBy None ss before tells first r = JobRuns ss before tells first r

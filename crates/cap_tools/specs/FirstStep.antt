@@ -24,7 +24,7 @@ pub record IsFresh (j : JobView) : Type 0 where
   pub done : j.done ≡ None
   pub programs : j.programs ≡ []
   pub left : steps_left j.machine.inputs < most_steps
-  pub few : steps_owed_in_all j.machine.inputs < most_turns j.machine.inputs
+  pub upper_bound : steps_owed_in_all j.machine.inputs < most_turns j.machine.inputs
 
 abbrev pub is_text : Target → Bool
 is_text (Capture sink) = false
@@ -80,7 +80,7 @@ output_name j = name_at j.machine.output.names (length j.machine.inputs.cursors)
 pub record RefusesStart (refusal : Refusal) (tells : Bool) (old : JobView) (status : ℕ)
     (new : JobView) : Type 0 where
   pub status_is : status ≡ refusal_status refusal
-  pub told : IsTold tells old.err (refusal_message refusal) new.err
+  pub exact : IsTold tells old.err (refusal_message refusal) new.err
   pub new_is : new ≡ refusing refusal new.err old
 
 -- a listing is written, or a prefix of it where the output's device failed, and the job ended

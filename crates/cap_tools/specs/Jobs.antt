@@ -97,7 +97,7 @@ end_status end.OutputFailed = 1
 pub record EndsJob (tells : Bool) (old : JobView) (status : ℕ) (new : JobView) : Type 0 where
   pub end : JobEnd
   pub leaves : StepGives old.machine (Some end) new.machine
-  pub told : IsTold tells old.err
+  pub exact : IsTold tells old.err
       (end_message old.machine.output.names new.machine.inputs.cursors end) new.err
   -- where all went well nothing is reported
   pub quiet : status ≡ 0 → new.err ≡ old.err
@@ -156,7 +156,7 @@ pub record JobRuns (ss : List InputPast) (before : List ℕ) (tells : Bool) (fir
   pub leaves : EndLeaves progress.decided.packets end last
   pub written : r.output.written ≡ written_by last
   pub failures : r.output.failures ≡ failures_by last
-  pub told : IsTold tells first.err
+  pub exact : IsTold tells first.err
       (end_message first.machine.output.names last.inputs.cursors end) r.messages
   pub quiet : r.status ≡ 0 → r.messages ≡ first.err
   pub status_is : r.status ≡ end_status end

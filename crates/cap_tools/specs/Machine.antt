@@ -112,7 +112,7 @@ pub record Judges (p : Captured) (number : ℕ) (old : Sieve Target) (r : Result
   pub answer : code.Verdict
   -- as it passes
   pub packet : Captured
-  pub told : selecting.IsVerdict (judge old.selector.policy old.selector.state number p)
+  pub exact : selecting.IsVerdict (judge old.selector.policy old.selector.state number p)
       (Ok answer) packet new.selector.state
   pub offers : Offers answer packet old.output r new.output
 
@@ -120,7 +120,7 @@ pub record Judges (p : Captured) (number : ℕ) (old : Sieve Target) (r : Result
 pub record Rejects (p : Captured) (number : ℕ) (old : Sieve Target) (r : Result Bool Fault)
     (new : Sieve Target) : Type 0 where
   pub fault : Fault
-  pub told : selecting.IsVerdict (judge old.selector.policy old.selector.state number p)
+  pub exact : selecting.IsVerdict (judge old.selector.policy old.selector.state number p)
       (Err fault) p new.selector.state
   pub answer : r ≡ Err fault
   pub same : new.output ≡ old.output

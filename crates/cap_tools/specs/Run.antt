@@ -132,7 +132,7 @@ pub record HasLackedMemory (call : Call) (work : Work) (r : RunResult) : Type 0 
 pub record NeverBegan (call : Call) (r : RunResult) : Type 0 where
   pub status_is : r.status ≡ 1
   pub same : r.output ≡ call.output
-  pub told : IsTold call.tells call.messages no_memory_message r.messages
+  pub exact : IsTold call.tells call.messages no_memory_message r.messages
 
 -- ---- the output fails
 

@@ -12,7 +12,7 @@ use Rattle.cap_tools.specs.Bounds.{IsLight, IsPaid, StepReads, step_goes_on}
 -- device. Messages and steps are not touched.
 pub record IsStep (inputs_tell output_tells : Bool) (old : JobView) (r : Option JobEnd)
     (new : JobView) : Type 0 where
-  pub told : IsTrue inputs_tell → IsTrue output_tells → StepGives old.machine r new.machine
+  pub exact : IsTrue inputs_tell → IsTrue output_tells → StepGives old.machine r new.machine
   pub reads : StepReads inputs_tell (step_goes_on r) old new
   pub progress : r ≡ None → steps_left new.machine.inputs < steps_left old.machine.inputs
   pub paid : r ≡ None → IsPaid old.machine.inputs new.machine.inputs

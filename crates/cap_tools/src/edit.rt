@@ -108,7 +108,7 @@ fn changed<'a, A: Allocator>(edit: &Edit<A>, packet: &Packet<'a>, time: u64) -> 
 /// Whether a packet is no duplicate. Its mark enters the window in either case.
 fn is_unique<A: Allocator>(window: &mut Option<Window<A>>, packet: &Packet<'_>) -> bool
     requires { length packet.now.bytes.now ≤ most_in_unit }
-    ensures told { (n : Option ℕ) (passed : ℕ) (tally : Tally) → IsWindowFor n window.old
+    ensures exact { (n : Option ℕ) (passed : ℕ) (tally : Tally) → IsWindowFor n window.old
         → ReturnsVerdict None (unique n (state_of passed (marks_in window.old) tally) (captured
         packet.now))
         (Ok result) (captured packet.now) (state_of passed (marks_in window.new) tally) }
@@ -130,7 +130,7 @@ pub(crate) fn select<A: Allocator>(
 ) -> Result<bool, Fault>
     requires short { length packet.old.bytes.now ≤ most_in_unit }
     requires window { IsWindowFor edit.now.window window.old }
-    ensures told { (passed : ℕ) (tally : Tally)
+    ensures exact { (passed : ℕ) (tally : Tally)
         → ReturnsVerdict None (selects (edit_rule_of edit.now) (state_of passed (marks_in
         window.old) tally)
         number (captured packet.old))

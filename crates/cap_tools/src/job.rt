@@ -174,7 +174,7 @@ impl<I: Input, O: Output, E: Output, A: Allocator + Copy + Drop> Job<I, O, E, A>
     pub fn step(&mut self) -> Turn
         ensures after { (s : ℕ) → self.old.done ≡ Some s → (result ≡ Turn.Done s)
             × (self.new ≡ self.old) }
-        ensures told { IsTrue I.tells → IsTrue O.tells → self.old.done ≡ None
+        ensures exact { IsTrue I.tells → IsTrue O.tells → self.old.done ≡ None
             → GivesBy self.old.preparing E.tells self.old result self.new }
         ensures prepares { PreparesBy self.old.preparing O.tells E.tells self.old result self.new }
         ensures keeps { StepKeeps self.old result self.new }
@@ -230,13 +230,13 @@ impl<I: Input, O: Output, E: Output, A: Allocator + Copy + Drop> Job<I, O, E, A>
         requires { self.old.preparing ≡ None }
         ensures after { (s : ℕ) → self.old.done ≡ Some s → (result ≡ Turn.Done s)
             × (self.new ≡ self.old) }
-        ensures told { IsTrue I.tells → IsTrue O.tells → self.old.done ≡ None
+        ensures exact { IsTrue I.tells → IsTrue O.tells → self.old.done ≡ None
             → JobGives E.tells self.old result self.new }
         ensures prepared { self.new.preparing ≡ None }
         ensures done { self.new.done ≡ done_by result }
         ensures status { IsStatus result }
         ensures turns { self.old.done ≡ None → self.new.turns ≡ self.old.turns + 1 }
-        ensures few { self.old.done ≡ None → self.new.turns
+        ensures upper_bound { self.old.done ≡ None → self.new.turns
             ≤ most_turns self.old.machine.inputs + 1 }
         ensures reads { StepReads I.tells (turn_goes_on result) self.old
             self.new }
@@ -337,10 +337,10 @@ impl<I: Input, O: Output, E: Output, A: Allocator + Copy + Drop> Job<I, O, E, A>
     /// Reports how the job ended. A message that can't be written is lost.
     fn end(&mut self, end: JobEnd) -> Turn
         requires prepared { self.old.preparing ≡ None }
-        requires few { self.old.turns ≤ most_steps }
+        requires upper_bound { self.old.turns ≤ most_steps }
         ensures done { result ≡ Turn.Done (end_status end) }
         ensures ended { self.new ≡ ending end self.new.err self.old }
-        ensures told { IsTold E.tells self.old.err (end_message self.old.machine.output.names
+        ensures exact { IsTold E.tells self.old.err (end_message self.old.machine.output.names
             self.old.machine.inputs.cursors end) self.new.err }
         ensures quiet { end ≡ JobEnd.Complete → self.new.err ≡ self.old.err }
     {
@@ -389,7 +389,7 @@ impl<I: Input, O: Output, E: Output, A: Allocator + Copy + Drop> Job<I, O, E, A>
         requires fresh { IsFresh self.old }
         requires taken { self.old.preparing ≡ None }
         requires text { is_text self.old.machine.output.target ≡ true }
-        ensures told { IsTrue O.tells → EndsList program.now.insns E.tells self.old result
+        ensures exact { IsTrue O.tells → EndsList program.now.insns E.tells self.old result
             self.new }
         ensures prepared { self.new.preparing ≡ None }
         ensures done { self.new.done ≡ done_by result }
@@ -428,7 +428,7 @@ where
     E: Output,
     A: Allocator + Copy + Drop,
     ensures status { result.0 ≤ 2 }
-    ensures told { IsTrue I.tells → IsTrue O.tells → job.done ≡ None
+    ensures exact { IsTrue I.tells → IsTrue O.tells → job.done ≡ None
         → RunsCommand E.tells job (run_result result.0 (device_view O.Output result.1)
         (device_view E.Output result.2)) }
 {
@@ -462,7 +462,7 @@ where
     A: Allocator + Copy + Drop,
     requires proper { is_proper command (vec_len inputs) ≡ true }
     ensures status { result.0 ≤ 2 }
-    ensures told { IsTrue I.tells → IsTrue O.tells → CommandRuns (assignment command)
+    ensures exact { IsTrue I.tells → IsTrue O.tells → CommandRuns (assignment command)
         (call_of I.Input O.Output E.Output (map string_bytes names.items) inputs.items out err)
         (run_result result.0 (device_view O.Output result.1) (device_view E.Output result.2)) }
 {

@@ -64,7 +64,7 @@ impl<E: Output, A: Allocator> Messages<E, A> {
     pub fn end<I: Input>(&mut self, inputs: &Inputs<I, A>, end: JobEnd)
     where
         A: Copy + Drop,
-        ensures told { IsTold E.tells self.old.device
+        ensures exact { IsTold E.tells self.old.device
             (end_message self.old.names inputs.now.cursors end) self.new.device }
         ensures quiet { end ≡ JobEnd.Complete → self.new ≡ self.old }
         ensures names { self.new.names ≡ self.old.names }
@@ -74,7 +74,7 @@ impl<E: Output, A: Allocator> Messages<E, A> {
 
     /// Reports why an expression or a listing is refused.
     pub fn refuse(&mut self, refusal: Refusal)
-        ensures told { IsTold E.tells self.old.device (refusal_message refusal)
+        ensures exact { IsTold E.tells self.old.device (refusal_message refusal)
             self.new.device }
         ensures names { self.new.names ≡ self.old.names }
     {
@@ -98,7 +98,7 @@ fn tell<I: Input, E: Output, A: Allocator + Copy + Drop>(
     inputs: &Inputs<I, A>,
     end: JobEnd,
 ) -> Result<(), DeviceFault>
-    ensures told { IsTrue E.tells → AppendsOrStops result (E.written device.old)
+    ensures exact { IsTrue E.tells → AppendsOrStops result (E.written device.old)
         (end_message (map string_bytes names.now.items) inputs.now.cursors end)
         (E.written device.new) }
     ensures failed { E.failures device.new ≡ E.failures device.old + failures_of result }

@@ -72,9 +72,9 @@ impl<O: Output, A: Allocator> JobOutput<O, A> {
 
     /// Writes a packet, where packets are written.
     pub fn put(&mut self, packet: &Packet<'_>) -> Result<(), Fault>
-        ensures told { IsTrue O.tells
+        ensures exact { IsTrue O.tells
             → PutsIntoOutput (captured packet.now) self.old result self.new }
-        ensures few { HasFewOutputInterfaces self.old → HasFewOutputInterfaces self.new }
+        ensures upper_bound { HasFewOutputInterfaces self.old → HasFewOutputInterfaces self.new }
     {
         match &mut self.device {
             Device::Capture(sink) => sink.put(packet),
@@ -85,9 +85,9 @@ impl<O: Output, A: Allocator> JobOutput<O, A> {
 
     /// Writes the report of the input of this name, where reports are written.
     pub fn report(&mut self, name: &str, report: &Report) -> Result<(), DeviceFault>
-        ensures told { IsTrue O.tells → Reports (file_report name.now report.now.kind
+        ensures exact { IsTrue O.tells → Reports (file_report name.now report.now.kind
             report.now.size report.now.tally) self.old result self.new }
-        ensures few { HasFewOutputInterfaces self.old → HasFewOutputInterfaces self.new }
+        ensures upper_bound { HasFewOutputInterfaces self.old → HasFewOutputInterfaces self.new }
     {
         match &mut self.device {
             Device::Capture(_) => Ok(()),
@@ -98,9 +98,9 @@ impl<O: Output, A: Allocator> JobOutput<O, A> {
 
     /// Writes the listing of a program, where text is written.
     pub fn list(&mut self, program: &Program<A>) -> Result<(), Stopped>
-        ensures told { IsTrue O.tells
+        ensures exact { IsTrue O.tells
             → ListsText (listing program.now.insns) self.old result self.new }
-        ensures few { HasFewOutputInterfaces self.old → HasFewOutputInterfaces self.new }
+        ensures upper_bound { HasFewOutputInterfaces self.old → HasFewOutputInterfaces self.new }
     {
         match &mut self.device {
             Device::Capture(_) => Ok(()),
@@ -111,8 +111,8 @@ impl<O: Output, A: Allocator> JobOutput<O, A> {
 
     /// Ends what is written: a capture without packets gets its file header, with this link type.
     pub fn finish(&mut self, first: Option<u16>) -> Result<(), Fault>
-        ensures told { IsTrue O.tells → EndsOutput first self.old result self.new }
-        ensures few { HasFewOutputInterfaces self.old → HasFewOutputInterfaces self.new }
+        ensures exact { IsTrue O.tells → EndsOutput first self.old result self.new }
+        ensures upper_bound { HasFewOutputInterfaces self.old → HasFewOutputInterfaces self.new }
     {
         match &mut self.device {
             Device::Capture(sink) => sink.finish(first),
@@ -142,7 +142,7 @@ fn put_line<O: Output>(
     packet: &Packet<'_>,
     output: &mut O,
 ) -> Result<(), Fault>
-    ensures told { IsTrue O.tells → AppendsOrStops result (O.written output.old)
+    ensures exact { IsTrue O.tells → AppendsOrStops result (O.written output.old)
         (printed options (captured packet.now)) (O.written output.new) }
     ensures fault { IfErr result (λ fault. fault ≡ Fault.WriteFailed) }
     ensures failed { O.failures output.new ≡ O.failures output.old + failures_of result }

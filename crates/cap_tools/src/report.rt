@@ -27,7 +27,7 @@ pub fn write_report<O: Output>(
     name: &str,
     report: &Report,
 ) -> Result<(), DeviceFault>
-    ensures told { IsTrue O.tells → AppendsOrStops result (O.written output.old)
+    ensures exact { IsTrue O.tells → AppendsOrStops result (O.written output.old)
         (file_report name.now report.now.kind report.now.size report.now.tally)
         (O.written output.new) }
     ensures failed { O.failures output.new ≡ O.failures output.old + failures_of result }
@@ -51,7 +51,7 @@ fn kind_name(kind: Option<Kind>) -> &'static [u8]
 }
 
 fn write_name<O: Output>(output: &mut O, name: &str) -> Result<(), DeviceFault>
-    ensures told { IsTrue O.tells → AppendsOrStops result (O.written output.old)
+    ensures exact { IsTrue O.tells → AppendsOrStops result (O.written output.old)
         (lines ((codes "File", name.now) ∷ []) []) (O.written output.new) }
     ensures failed { O.failures output.new ≡ O.failures output.old + failures_of result }
     ensures room { O.room output.new ≡ O.room output.old }
@@ -62,7 +62,7 @@ fn write_name<O: Output>(output: &mut O, name: &str) -> Result<(), DeviceFault>
 
 /// Writes the lines on a file's format, its size and the sizes of its packets.
 fn write_sizes<O: Output>(output: &mut O, report: &Report) -> Result<(), DeviceFault>
-    ensures told { IsTrue O.tells → AppendsOrStops result (O.written output.old)
+    ensures exact { IsTrue O.tells → AppendsOrStops result (O.written output.old)
         (lines (size_lines report.now.kind report.now.size report.now.tally) [])
         (O.written output.new) }
     ensures failed { O.failures output.new ≡ O.failures output.old + failures_of result }
@@ -102,7 +102,7 @@ fn yes_or_no(yes: bool) -> &'static [u8]
 
 /// Writes the lines on the times of packets, and the empty line behind them.
 fn write_times<O: Output>(output: &mut O, tally: Tally) -> Result<(), DeviceFault>
-    ensures told { IsTrue O.tells → AppendsOrStops result (O.written output.old)
+    ensures exact { IsTrue O.tells → AppendsOrStops result (O.written output.old)
         (lines (time_lines tally) (10 ∷ [])) (O.written output.new) }
     ensures failed { O.failures output.new ≡ O.failures output.old + failures_of result }
     ensures room { O.room output.new ≡ O.room output.old }

@@ -108,7 +108,7 @@ impl<A: Allocator> Policy<A> {
         A: Copy + Drop,
         requires short { length packet.old.bytes.now ≤ most_in_unit }
         requires window { IsWindowFor (window_of (policy_of self.old)) window.old }
-        ensures told { (passed : ℕ) (tally : Tally) → is_count (policy_of self.old) ≡ false
+        ensures exact { (passed : ℕ) (tally : Tally) → is_count (policy_of self.old) ≡ false
             → ReturnsVerdict (count_limit (policy_of self.old)) (judge_by (policy_of self.old)
             (state_of passed (marks_in window.old) tally) number (captured packet.old))
             result (captured packet.new) (state_of passed (marks_in window.new) tally) }
@@ -212,7 +212,7 @@ impl<A: Allocator> Selector<A> {
     where
         A: Copy + Drop,
         requires { length packet.old.bytes.now ≤ most_in_unit }
-        ensures told { self.old.state.passed < number → IsWithin most_steps self.old.state.tally
+        ensures exact { self.old.state.passed < number → IsWithin most_steps self.old.state.tally
             → IsVerdict (judge self.old.policy self.old.state number (captured packet.old)) result
             (captured packet.new) self.new.state }
         ensures policy { self.new.policy ≡ self.old.policy }
@@ -222,7 +222,7 @@ impl<A: Allocator> Selector<A> {
             (captured packet.old) self.old.programs }
         ensures bounded { spent_in self.new.programs ≤ spent_in self.old.programs + most_spent
             self.old.policy }
-        ensures few { HasFewMarks self.new.policy self.new.state }
+        ensures upper_bound { HasFewMarks self.new.policy self.new.state }
     {
         if self.policy.counts() {
             self.tally = self.tally.counted(packet);
@@ -248,7 +248,7 @@ impl<A: Allocator> Selector<A> {
         ensures closes { TakesTally (is_count self.old.policy) (policy_state self.old) result
             (policy_state self.new) }
         ensures programs { self.new.programs ≡ self.old.programs }
-        ensures few { HasFewMarks self.new.policy self.new.state }
+        ensures upper_bound { HasFewMarks self.new.policy self.new.state }
     {
         if !self.policy.counts() {
             return None;

@@ -33,9 +33,9 @@ fn put<O: Output, A: Allocator>(
     packet: &Packet<'_>,
     output: &mut JobOutput<O, A>,
 ) -> Result<bool, Fault>
-    ensures told { IsTrue O.tells → Offers verdict (captured packet.now) output.old result
+    ensures exact { IsTrue O.tells → Offers verdict (captured packet.now) output.old result
         output.new }
-    ensures few { HasFewOutputInterfaces output.old → HasFewOutputInterfaces output.new }
+    ensures upper_bound { HasFewOutputInterfaces output.old → HasFewOutputInterfaces output.new }
 {
     let last = match verdict {
         Verdict::Pass => false,
@@ -56,7 +56,7 @@ pub(crate) fn decide<I: Input, O: Output, A: Allocator + Copy + Drop>(
     number: u128,
 ) -> Result<bool, Fault>
     requires { cursor.now.waiting ≡ true }
-    ensures told { IsTrue O.tells → selector.old.state.passed < number
+    ensures exact { IsTrue O.tells → selector.old.state.passed < number
         → IsWithin most_steps selector.old.state.tally
         → DecidesPacket cursor.now.source.packet number (sieve (policy_state selector.old)
         output.old)
@@ -66,7 +66,7 @@ pub(crate) fn decide<I: Input, O: Output, A: Allocator + Copy + Drop>(
     ensures passed { selector.old.state.passed ≤ number → selector.new.state.passed ≤ number }
     ensures counted { GrowsByOne selector.old.state.tally selector.new.state.tally }
     ensures marks { HasFewMarks selector.new.policy selector.new.state }
-    ensures few { HasFewOutputInterfaces output.old → HasFewOutputInterfaces output.new }
+    ensures upper_bound { HasFewOutputInterfaces output.old → HasFewOutputInterfaces output.new }
 {
     let mut packet = cursor.packet().unwrap();
     let verdict = selector.judge(number, &mut packet)?;
@@ -83,14 +83,14 @@ pub(crate) fn close<I: Input, O: Output, E: Output, A: Allocator>(
     messages: &Messages<E, A>,
 ) -> Option<JobEnd>
     requires { input < length inputs.now.cursors }
-    ensures told { IsTrue O.tells → Closes inputs.now input
+    ensures exact { IsTrue O.tells → Closes inputs.now input
         (sieve (policy_state selector.old) (output_at messages.now.names output.old)) result
         (sieve (policy_state selector.new) (output_at messages.now.names output.new)) }
     ensures programs { selector.new.programs ≡ selector.old.programs }
     ensures policy { selector.new.policy ≡ selector.old.policy }
     ensures marks { HasFewMarks selector.old.policy selector.old.state
         → HasFewMarks selector.new.policy selector.new.state }
-    ensures few { HasFewOutputInterfaces output.old → HasFewOutputInterfaces output.new }
+    ensures upper_bound { HasFewOutputInterfaces output.old → HasFewOutputInterfaces output.new }
     ensures kept { asks_report inputs.now.order selector.old.policy ≡ false
         → output.new ≡ output.old }
 {

@@ -74,9 +74,9 @@ awaiting_drop mask ms ls heads newest e two a =
 
 awaiting_keep : (k : ℕ) (mask : ℕ) (ms : List Mark) (ls : List Links) (heads : List ℕ) (newest : ℕ) (e : Mark) → k ≤ 1 → k < length ms
     → IsAwaiting mask ms ls heads newest e → IsAwaiting mask (drop k ms) (drop k ls) heads newest e
-awaiting_keep zero mask ms ls heads newest e few some a = a
-awaiting_keep (suc zero) mask ms ls heads newest e few some a = awaiting_drop mask ms ls heads newest e (omega arith) a
-awaiting_keep (suc (suc k)) mask ms ls heads newest e few some a = absurd (omega arith)
+awaiting_keep zero mask ms ls heads newest e upper_bound some a = a
+awaiting_keep (suc zero) mask ms ls heads newest e upper_bound some a = awaiting_drop mask ms ls heads newest e (omega arith) a
+awaiting_keep (suc (suc k)) mask ms ls heads newest e upper_bound some a = absurd (omega arith)
 
 hash_fits : (mask : ℕ) (e : Mark) (heads : List ℕ) → length heads ≡ mask + 1 → hash_of mask e < length heads
 hash_fits mask e heads wide = omega (arith, wide, and_le_r (from_le_bytes w32 (take 4 e.digest)) mask)
@@ -115,9 +115,9 @@ pub record IsLowered (old new : List ℕ) (less : ℕ) : Type 0 where
 -- all get numbers that are smaller by one difference
 index_lowered : (mask : ℕ) (ms : List Mark) (ls : List Links) (heads heads' : List ℕ) (newest new : ℕ) → length ms ≤ new → new ≤ newest
     → IsLowered heads heads' (newest - new) → IsIndex mask ms ls heads newest → IsIndex mask ms ls heads' new
-index_lowered mask ms ls heads heads' newest new few less l i = record {
+index_lowered mask ms ls heads heads' newest new upper_bound less l i = record {
   long = i.long;
-  counted = few;
+  counted = upper_bound;
   small = λ h lt. (let within : h < length heads = omega (arith, l.long) in
       let bound = i.small h within in
       rw (l.each h within) (omega arith));
@@ -187,7 +187,7 @@ pub sound_push : (mask : ℕ) (ms : List Mark) (most : ℕ) (ls : List Links) (l
     → IsPutOnTop (last most (ms ++ e ∷ [])) (drop (length (ls ++ l ∷ []) - link_most) (ls ++ l ∷ [])) placed (has_hash mask (hash_of mask e))
     (length (last most (ms ++ e ∷ [])) - 1))
     → IsSoundIndex mask (last most (ms ++ e ∷ [])) most placed link_most heads' new
-sound_push mask ms most ls link_most heads heads' newest e l placed new s lowered few less room long is_placed =
+sound_push mask ms most ls link_most heads heads' newest e l placed new s lowered upper_bound less room long is_placed =
     let kept = last most (ms ++ e ∷ []) in
     let inside : hash_of mask e < length heads = hash_fits mask e heads s.wide in
     let size = length-set heads (hash_of mask e) (newest + 1) in
@@ -195,10 +195,10 @@ sound_push mask ms most ls link_most heads heads' newest e l placed new s lowere
     let left : length kept ≡ length (ms ++ e ∷ []) - (length (ms ++ e ∷ []) - most) = length-drop (length (ms ++ e ∷ []) - most) (ms ++ e ∷ []) in
     let index : IsIndex mask kept placed (set heads (hash_of mask e) (newest + 1)) (newest + 1) = elim (eq-zero-or-pos (length kept)) [
       | inl none ↦ index_without mask kept placed (set heads (hash_of mask e) (newest + 1)) (newest + 1) none long (heads_small heads (hash_of mask e) newest s.index.small inside)
-      | inr some ↦ index_placed mask kept _ placed heads newest e (awaiting_push mask ms most ls link_most heads newest e l s some) s.wide long (omega (arith, few, less)) s.index.small (is_placed some)
+      | inr some ↦ index_placed mask kept _ placed heads newest e (awaiting_push mask ms most ls link_most heads newest e l s some) s.wide long (omega (arith, upper_bound, less)) s.index.small (is_placed some)
     ] in
     record {
-      index = index_lowered mask kept placed (set heads (hash_of mask e) (newest + 1)) heads' (newest + 1) new few less lowered index;
+      index = index_lowered mask kept placed (set heads (hash_of mask e) (newest + 1)) heads' (newest + 1) new upper_bound less lowered index;
       same_capacity = s.same_capacity;
       within = s.within;
       fits = omega arith;
@@ -220,10 +220,10 @@ sound_push mask ms most ls link_most heads heads' newest e l placed new s lowere
 -- a window without marks
 pub sound_new : (mask capacity : ℕ) (heads : List ℕ) → capacity + 1 < 2 ^ 32 → length heads ≡ mask + 1 → ((h : ℕ) → h < length heads → get_or heads h 0 ≡ 0)
     → IsSoundIndex mask [] capacity [] capacity heads 0
-sound_new mask capacity heads few wide zeros = record {
+sound_new mask capacity heads upper_bound wide zeros = record {
   index = index_without mask [] [] heads 0 refl refl (λ h lt. let zero_head = zeros h lt in omega arith);
   same_capacity = refl;
-  within = few;
+  within = upper_bound;
   fits = omega arith;
   wide = wide;
   room = omega arith;

@@ -169,7 +169,7 @@ moved : (ms : List Mark) (now done : List Links) (class wanted : Mark → Bool) 
     → ((m : Mark) → IsTrue (marks_with_bit class depth bit m) → IsTrue (but wanted (mark_at ms place) m) → m ≢ mark_at ms top)
     → d' ≡ min (link_by_bit (links_at now top) bit + d) (2 ^ 32 - 1)
     → IsMarkTree ms done (marks_with_bit class depth bit) (but wanted (mark_at ms place)) (depth + 1) place d'
-moved ms now done class wanted depth place top d d' bit t at few links other reach =
+moved ms now done class wanted depth place top d d' bit t at upper_bound links other reach =
     let q = but wanted (mark_at ms place) in
     let e = link_by_bit (links_at now top) bit in
     let framed : IsMarkTree ms done (marks_with_bit class depth bit) (but q (mark_at ms top)) (depth + 1) top e =
@@ -191,11 +191,11 @@ pub placing_equal : (ms : List Mark) (start now : List Links) (first : Mark → 
     → mark_at ms place ≡ mark_at ms top
     → ((bit : Bool) → link_by_bit l bit ≡ min (link_by_bit (links_at now top) bit + d) (2 ^ 32 - 1))
     → IsPutOnTop ms start (set now place l) first newest
-placing_equal ms start now first newest depth place d top l p at within few equal reach =
+placing_equal ms start now first newest depth place d top l p at within upper_bound equal reach =
     let step = step_of ms now p.class (but p.wanted (mark_at ms place)) depth place d p.tree in
     let t = top_of ms now p.class (but p.wanted (mark_at ms place)) depth place d top p.tree at in
     p.finish (set now place l) (outside_set ms now p.class place l p.belongs)
-    (λ bit. moved ms now (set now place l) p.class p.wanted depth place top d _ bit t at few
+    (λ bit. moved ms now (set now place l) p.class p.wanted depth place top d _ bit t at upper_bound
     (λ j less is. set_other now place j l (λ e. omega arith))
     (λ m is want same. not-true (is_same_mark m (mark_at ms place)) (both (p.wanted m) (not (is_same_mark m (mark_at ms place))) want).1
     ((is_same-Decides m (mark_at ms place)).1 (same ∙ sym equal)))
@@ -217,7 +217,7 @@ pub placing_next : (ms : List Mark) (start now : List Links) (first : Mark → B
     → bit ≡ is_one (mark_at ms top) depth → link_by_bit l bit ≡ d
     → link_by_bit l (not bit) ≡ min (link_by_bit (links_at now top) (not bit) + d) (2 ^ 32 - 1)
     → IsPlacing ms start (set now place l) first newest (depth + 1) top (link_by_bit (links_at now top) bit)
-placing_next ms start now first newest depth place d top bit l p at within few is_bit to other =
+placing_next ms start now first newest depth place d top bit l p at within upper_bound is_bit to other =
     let q = but p.wanted (mark_at ms place) in
     let step = step_of ms now p.class q depth place d p.tree in
     let t = top_of ms now p.class q depth place d top p.tree at in
@@ -238,7 +238,7 @@ placing_next ms start now first newest depth place d top bit l p at within few i
                 (rw (here, to) (Topped (marks_with_bit p.class depth bit) q (depth + 1) place d top at step lower
                 (λ j low high is want. t.none j low high (half-class p.class depth bit (mark_at ms j) is) want) below))
             | inr e ↦ subst (λ (b : Bool). IsMarkTree ms done (marks_with_bit p.class depth b) q (depth + 1) place (link_by_bit (links_at done place) b)) (sym e)
-                (moved ms now done p.class p.wanted depth place top d _ (not bit) t at few
+                (moved ms now done p.class p.wanted depth place top d _ (not bit) t at upper_bound
                 (λ j less is. same j (λ le half_is. not_both bit (sym (half-bit p.class depth bit (mark_at ms j) half_is) ∙ half-bit p.class depth (not bit) (mark_at ms j) is))
                 ∙ set_other now place j l (λ e'. omega arith))
                 (λ m is want equal. not_both bit (is_bit ∙ ap (λ (x : Mark). is_one x depth) (sym equal) ∙ half-bit p.class depth (not bit) m is))

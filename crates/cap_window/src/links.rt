@@ -78,7 +78,7 @@ pub fn place_newest<A: Allocator>(
     links: &mut HeapCircularBuffer<Links, A>,
     step: u32,
 )
-    requires few { length marks.now.items < 2 ^ 32 }
+    requires upper_bound { length marks.now.items < 2 ^ 32 }
     requires long { length links.old.items ≡ length marks.now.items }
     requires hung { 0 < length marks.now.items → (class : Mark → Bool)
         × IsHung marks.now.items links.old.items class (length marks.now.items - 1) step }

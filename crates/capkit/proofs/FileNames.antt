@@ -27,8 +27,8 @@ fault_is names inputs output many twice same is_many is_twice =
 
 pub used_twice : (names : List (Bor Text)) (inputs : List Text) (output : Option Text) → map text_of names ≡ inputs → length names ≤ most_inputs
     → uses_name_twice (map text_of names) output ≡ true → files_fault inputs output ≡ Some NameUsedTwice
-used_twice names inputs output same few twice = fault_is names inputs output false true same (le-ltb most_inputs (length names) few) twice
+used_twice names inputs output same upper_bound twice = fault_is names inputs output false true same (le-ltb most_inputs (length names) upper_bound) twice
 
 pub faultless : (names : List (Bor Text)) (inputs : List Text) (output : Option Text) → map text_of names ≡ inputs → length names ≤ most_inputs
     → uses_name_twice (map text_of names) output ≡ false → files_fault inputs output ≡ None
-faultless names inputs output same few once = fault_is names inputs output false false same (le-ltb most_inputs (length names) few) once
+faultless names inputs output same upper_bound once = fault_is names inputs output false false same (le-ltb most_inputs (length names) upper_bound) once

@@ -17,8 +17,8 @@ abbrev is_bad : Text → Bool
 is_bad word = is_none (range_of word)
 
 -- words that are few enough have no fault but a bad one
-few : (words : List Text) → length words ≤ most_ranges → range_fault words ≡ (if list_any is_bad words then Some BadRange else None)
-few words enough = cond-false _ (Some TooManyValues) _ (le-ltb most_ranges (length words) enough)
+upper_bound : (words : List Text) → length words ≤ most_ranges → range_fault words ≡ (if list_any is_bad words then Some BadRange else None)
+upper_bound words enough = cond-false _ (Some TooManyValues) _ (le-ltb most_ranges (length words) enough)
 
 -- words with as many ranges have none that is bad
 none_bad : (words : List Text) (ranges : List (ℕ × ℕ)) → map Some ranges ≡ map range_of words → list_any is_bad words ≡ false
@@ -39,7 +39,7 @@ pub no_range_fault : (words : List (Bor Text)) (ranges : List (ℕ × ℕ)) (i :
     → map Some ranges ≡ map range_of (map text_of (take i words)) → range_fault (map text_of words) ≡ None
 no_range_fault words ranges i enough all same =
     let whole : take i words ≡ words = take_all i words all in
-    few (map text_of words) (still_few words enough) ∙ cond-false _ (Some BadRange) None (none_bad (map text_of words) ranges
+    upper_bound (map text_of words) (still_few words enough) ∙ cond-false _ (Some BadRange) None (none_bad (map text_of words) ranges
     (same ∙ ap (λ ws. map range_of (map text_of ws)) whole))
 
 pub too_many : (words : List (Bor Text)) → most_ranges < length words → range_fault (map text_of words) ≡ Some TooManyValues
@@ -55,7 +55,7 @@ at_word words i d lt bad =
 pub bad_range : (words : List (Bor Text)) (i : ℕ) (d : Bor Text) → length words ≤ most_ranges → i < length words
     → range_of (slice_index_or words i d).now ≡ None → range_fault (map text_of words) ≡ Some BadRange
 bad_range words i d enough lt bad =
-    few (map text_of words) (still_few words enough) ∙ cond-true _ (Some BadRange) None (at_word words i d lt bad)
+    upper_bound (map text_of words) (still_few words enough) ∙ cond-true _ (Some BadRange) None (at_word words i d lt bad)
 
 -- ---- the ranges that the words name
 
@@ -88,5 +88,5 @@ pub proper_ranges : (words : List (Bor Text)) (ranges : List (ℕ × ℕ)) (i : 
     → map Some ranges ≡ map range_of (map text_of (take i words)) → has_proper_ranges ranges ≡ true
 proper_ranges words ranges i enough all same =
     let whole : map Some ranges ≡ map range_of (map text_of words) = same ∙ ap (λ ws. map range_of (map text_of ws)) (take_all i words all) in
-    let few : length ranges ≤ most_ranges = rw (as_many (map text_of words) ranges whole) (still_few words enough) in
-    and_from _ _ (le-leb (length ranges) most_ranges few) (all_ranges (map text_of words) ranges whole)
+    let upper_bound : length ranges ≤ most_ranges = rw (as_many (map text_of words) ranges whole) (still_few words enough) in
+    and_from _ _ (le-leb (length ranges) most_ranges upper_bound) (all_ranges (map text_of words) ranges whole)

@@ -74,12 +74,12 @@ stopped_front is k d written s bytes l e less size = omega (arith, ap length e, 
 pub stopped_told : (before now after : List ℕ) (is : List Insn) (k : ℕ) (d : Insn) (written s : ℕ) (bytes : List ℕ) → k < length is → bytes ≡ insn_line (get_or is k d) ++ LINE_FEED ∷ [] → s < length bytes → written ≡ length (front_of is k) → now ≡ before ++ front_of is k → after ≡ now ++ take s bytes → after ≡ before ++ take (written + s) (listing is)
 stopped_told before now after is k d written s bytes l e less size first next =
     let line = insn_line (get_or is k d) ++ LINE_FEED ∷ [] in
-    let few : s < length line = omega (arith, ap length e) in
+    let upper_bound : s < length line = omega (arith, ap length e) in
     next
     ∙ ap (λ (x : List ℕ). x ++ take s bytes) first
     ∙ append_assoc before (front_of is k) (take s bytes)
     ∙ ap (λ (x : List ℕ). before ++ (front_of is k ++ take s x)) e
-    ∙ ap (λ (x : List ℕ). before ++ x) (stopped_at is k d s l few)
+    ∙ ap (λ (x : List ℕ). before ++ x) (stopped_at is k d s l upper_bound)
     ∙ ap (λ n. before ++ take (n + s) (listing is)) (sym size)
 
 -- a whole line more

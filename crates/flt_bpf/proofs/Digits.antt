@@ -30,7 +30,7 @@ numeral_is ds n e = go (nat_lt 10 (length ds)) (not (length ds == 0) && are_digi
 -- a number is read as itself
 pub numeral_read : (ds : List ℕ) (n : ℕ) → IsNumber ds n → numeral ds ≡ Some n
 numeral_read ds n h =
-    let few = h.short in
+    let upper_bound = h.short in
     let one = h.numeral.0 in
     let short : nat_lt 10 (length ds) ≡ false = grind (arith, nat_tests) in
     let there : (length ds == 0) ≡ false = grind (arith, nat_tests) in

@@ -50,17 +50,17 @@ insns_read (line ∷ lines) at (i ∷ is) h =
 record Counted (o : Option (List ℕ)) (lines : List (List ℕ)) (is : List Insn) : Type 0 where
   n : ℕ
   numbers : o ≡ Some (n ∷ [])
-  few : n ≤ MOST_INSTRUCTIONS
+  upper_bound : n ≤ MOST_INSTRUCTIONS
   insns : read_insns n lines 2 ≡ Ok is
 
 counted : (o : Option (List ℕ)) (lines : List (List ℕ)) (is : List Insn) → read_from o lines ≡ Ok is → Counted o lines is
 counted None lines is e = cc
 counted (Some []) lines is e = cc
-counted (Some (n ∷ [])) lines is e = few (nat_lt MOST_INSTRUCTIONS n) refl e
+counted (Some (n ∷ [])) lines is e = upper_bound (nat_lt MOST_INSTRUCTIONS n) refl e
   where
-    few : (t : Bool) → nat_lt MOST_INSTRUCTIONS n ≡ t → (if t then Err 1 else read_insns n lines 2) ≡ Ok is → Counted (Some (n ∷ [])) lines is
-    few true t e = cc
-    few false t e = record { n = n; numbers = refl; few = grind (arith, nat_tests); insns = e }
+    upper_bound : (t : Bool) → nat_lt MOST_INSTRUCTIONS n ≡ t → (if t then Err 1 else read_insns n lines 2) ≡ Ok is → Counted (Some (n ∷ [])) lines is
+    upper_bound true t e = cc
+    upper_bound false t e = record { n = n; numbers = refl; upper_bound = grind (arith, nat_tests); insns = e }
 counted (Some (n ∷ m ∷ ns)) lines is e = cc
 
 lines_are : (text : List ℕ) (lines : List (List ℕ)) (is : List Insn) → lines_of text ≡ lines → length text ≤ MOST_BYTES → read_lines lines ≡ Ok is → IsListing text is
@@ -68,9 +68,9 @@ lines_are text [] is s short e = cc
 lines_are text (first ∷ others) is s short e =
     let c = counted (line_numbers first) others is e in
     let r = insns_are c.n others 2 is c.insns in
-    let few = c.few in
+    let upper_bound = c.upper_bound in
     let number : IsNumber first (length is) = subst (IsNumber first) (sym r.count) (line_numbers_are first (c.n ∷ []) c.numbers) in
-    record { short = short; few = let n = r.count in omega arith; lines = subst (λ (ls : List (List ℕ)). AreListingLines ls is) (sym s) (number, r.each) }
+    record { short = short; upper_bound = let n = r.count in omega arith; lines = subst (λ (ls : List (List ℕ)). AreListingLines ls is) (sym s) (number, r.each) }
 
 -- a text that is read is a listing of the instructions
 pub read_is : (text : List ℕ) (is : List Insn) → read text ≡ Ok is → IsListing text is
@@ -81,8 +81,8 @@ read_is text is e = short (nat_lt MOST_BYTES (length text)) refl e
     short false t e = lines_are text (lines_of text) is refl (grind (arith, nat_tests)) e
 
 lines_read : (lines : List (List ℕ)) (is : List Insn) → length is ≤ MOST_INSTRUCTIONS → AreListingLines lines is → read_lines lines ≡ Ok is
-lines_read [] is few h = absurd h
-lines_read (first ∷ others) is few h =
+lines_read [] is upper_bound h = absurd h
+lines_read (first ∷ others) is upper_bound h =
     let t : nat_lt MOST_INSTRUCTIONS (length is) ≡ false = grind (arith, nat_tests) in
     ap (λ o. read_from o others) (line_numbers_read first (length is ∷ []) h.0) ∙ ap (λ x. if x then Err 1 else read_insns (length is) others 2) t ∙ insns_read others 2 is h.1
 
@@ -91,7 +91,7 @@ pub listing_read : (text : List ℕ) (is : List Insn) → IsListing text is → 
 listing_read text is h =
     let short = h.short in
     let t : nat_lt MOST_BYTES (length text) ≡ false = grind (arith, nat_tests) in
-    ap (λ x. if x then Err 1 else read_lines (lines_of text)) t ∙ lines_read (lines_of text) is h.few h.lines
+    ap (λ x. if x then Err 1 else read_lines (lines_of text)) t ∙ lines_read (lines_of text) is h.upper_bound h.lines
 
 -- a text is a listing of one list of instructions only
 pub same_reading : (text : List ℕ) (is js : List Insn) → IsListing text is → IsListing text js → is ≡ js

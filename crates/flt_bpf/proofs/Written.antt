@@ -70,11 +70,11 @@ insns_written (i ∷ is) r =
 
 -- what is written is a listing
 pub listing_written : (is : List Insn) → length is ≤ 32768 → All InRange is → IsListing (listing is) is
-listing_written is few r =
+listing_written is upper_bound r =
     let count = length-decimal-le 10 (length is) (omega arith) (omega arith) (omega arith) in
     let lines : AreListingLines (decimal (length is) ∷ lines_of (insn_lines is)) is = (decimal_number (length is) (omega arith), insns_written is r) in
     record {
       short = omega (arith, count, lines_short is r, length-append (decimal (length is)) (LINE_FEED ∷ insn_lines is));
-      few = few;
+      upper_bound = upper_bound;
       lines = subst (λ (ls : List (List ℕ)). AreListingLines ls is) (sym (line_off (decimal (length is)) (insn_lines is) (decimal_lacks (length is) (omega arith)))) lines;
     }

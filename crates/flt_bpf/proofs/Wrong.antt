@@ -73,8 +73,8 @@ same_number digits m n a b = sym a.value ∙ b.value
 
 -- a wrong line among those behind the first is the first wrong one of all
 first_wrong : (first : List ℕ) (others : List (List ℕ)) (n k : ℕ) → IsNumber first n → n ≤ MOST_INSTRUCTIONS → WrongAfter n others k → FirstWrong (first ∷ others) (suc k)
-first_wrong first others n k number few w =
-    record { wrong = (n, record { number = number; few = few }, here w.wrong); first = λ j less h. earlier j less h }
+first_wrong first others n k number upper_bound w =
+    record { wrong = (n, record { number = number; upper_bound = upper_bound }, here w.wrong); first = λ j less h. earlier j less h }
   where
     here : ((k < n) × ((i : Insn) → ¬ HasInsn (slice_get others k) i)) ⊎ ((n ≤ k) × (k < length others)) → ((k < n) × ((i : Insn) → ¬ HasInsn (slice_get others k) i)) ⊎ ((n ≤ k) × (suc k < length (first ∷ others)))
     here (inl h) = inl h
@@ -85,7 +85,7 @@ first_wrong first others n k number few w =
     not_wrong j count same e (inr h) = let below = e.0 in let past = h.0 in omega arith
 
     earlier : (j : ℕ) → j < suc k → IsWrong (first ∷ others) j → ⊥
-    earlier zero less h = h n (record { number = number; few = few })
+    earlier zero less h = h n (record { number = number; upper_bound = upper_bound })
     earlier (suc j) less h = not_wrong j h.0 (same_number first n h.0 number h.1.number) (w.insns j (omega arith)) h.2
 
 -- the first line is wrong
@@ -104,12 +104,12 @@ refused_first lines line e h = record { k = 0; first = count_wrong lines h; numb
 from_wrong : (first : List ℕ) (others : List (List ℕ)) (line : ℕ) (o : Option (List ℕ)) → line_numbers first ≡ o → read_from o others ≡ Err line → Refused (first ∷ others) line
 from_wrong first others line None s e = refused_first (first ∷ others) line e (λ count h. let t = line_numbers_read first (count ∷ []) h.number in cc)
 from_wrong first others line (Some []) s e = refused_first (first ∷ others) line e (λ count h. let t = line_numbers_read first (count ∷ []) h.number in cc)
-from_wrong first others line (Some (n ∷ [])) s e = few (nat_lt MOST_INSTRUCTIONS n) refl e
+from_wrong first others line (Some (n ∷ [])) s e = upper_bound (nat_lt MOST_INSTRUCTIONS n) refl e
   where
-    few : (t : Bool) → nat_lt MOST_INSTRUCTIONS n ≡ t → (if t then Err 1 else read_insns n others 2) ≡ Err line → Refused (first ∷ others) line
-    few true t e =
-        refused_first (first ∷ others) line e (λ count h. let same : n ≡ count = same_number first n count (line_numbers_are first (n ∷ []) s) h.number in let f = h.few in let many : MOST_INSTRUCTIONS < n = grind (arith, nat_tests) in omega arith)
-    few false t e =
+    upper_bound : (t : Bool) → nat_lt MOST_INSTRUCTIONS n ≡ t → (if t then Err 1 else read_insns n others 2) ≡ Err line → Refused (first ∷ others) line
+    upper_bound true t e =
+        refused_first (first ∷ others) line e (λ count h. let same : n ≡ count = same_number first n count (line_numbers_are first (n ∷ []) s) h.number in let f = h.upper_bound in let many : MOST_INSTRUCTIONS < n = grind (arith, nat_tests) in omega arith)
+    upper_bound false t e =
         let w = insns_wrong n others 2 line e in
         record { k = suc w.k; first = first_wrong first others n w.k (line_numbers_are first (n ∷ []) s) (grind (arith, nat_tests)) w.after; number = let m = w.number in omega arith }
 from_wrong first others line (Some (n ∷ m ∷ ns)) s e = refused_first (first ∷ others) line e (λ count h. let t = line_numbers_read first (count ∷ []) h.number in cc)
@@ -142,9 +142,9 @@ as_many (line ∷ lines) (i ∷ is) h = let n = as_many lines is h.1 in omega ar
 
 -- no line of a listing is wrong
 none_wrong : (lines : List (List ℕ)) (is : List Insn) (k : ℕ) → length is ≤ MOST_INSTRUCTIONS → AreListingLines lines is → IsWrong lines k → ⊥
-none_wrong [] is k few h w = h
-none_wrong (first ∷ others) is zero few h w = w (length is) (record { number = h.0; few = few })
-none_wrong (first ∷ others) is (suc k) few h w = later w.0 (same_number first (length is) w.0 h.0 w.1.number) w.2
+none_wrong [] is k upper_bound h w = h
+none_wrong (first ∷ others) is zero upper_bound h w = w (length is) (record { number = h.0; upper_bound = upper_bound })
+none_wrong (first ∷ others) is (suc k) upper_bound h w = later w.0 (same_number first (length is) w.0 h.0 w.1.number) w.2
   where
     later : (count : ℕ) → length is ≡ count → ((k < count) × ((i : Insn) → ¬ HasInsn (slice_get others k) i)) ⊎ ((count ≤ k) × (suc k < length (first ∷ others))) → ⊥
     later count same (inl w) = let less = w.0 in let there = line_there others is k h.1 (omega arith) in w.1 there.0 there.1
@@ -153,7 +153,7 @@ none_wrong (first ∷ others) is (suc k) few h w = later w.0 (same_number first 
 -- a listing is refused nowhere
 pub listing_not_refused : (text : List ℕ) (is : List Insn) (line : ℕ) → IsListing text is → IsRefusedAt text line → ⊥
 listing_not_refused text is line h (inl r) = let long = r.0 in let short = h.short in omega arith
-listing_not_refused text is line h (inr r) = none_wrong (lines_of text) is r.1.0 h.few h.lines r.1.1.wrong
+listing_not_refused text is line h (inr r) = none_wrong (lines_of text) is r.1.0 h.upper_bound h.lines r.1.1.wrong
 
 -- a text is refused at one line only
 pub refused_once : (text : List ℕ) (line other : ℕ) → IsRefusedAt text line → IsRefusedAt text other → line ≡ other

@@ -82,13 +82,13 @@ AreListingLines (first ∷ others) is = IsNumber first (length is) × AllZip IsI
 -- the text is a listing of these instructions
 pub record IsListing (text : List ℕ) (is : List Insn) : Type 0 where
   pub short : length text ≤ MOST_BYTES
-  pub few : length is ≤ MOST_INSTRUCTIONS
+  pub upper_bound : length is ≤ MOST_INSTRUCTIONS
   pub lines : AreListingLines (lines_of text) is
 
 -- the first line is there and is a number of instructions that a program may have
 pub record HasCount (lines : List (List ℕ)) (count : ℕ) : Type 0 where
   pub number : IsSomeAnd (slice_get lines 0) (λ line. IsNumber line count)
-  pub few : count ≤ MOST_INSTRUCTIONS
+  pub upper_bound : count ≤ MOST_INSTRUCTIONS
 
 -- The line behind k others is wrong: the first one where it is no count; a later one where it
 -- should be an instruction and is none or is missing, or where it is one too many.

@@ -23,7 +23,7 @@ pub fn write_listing<A: Allocator, O: Output>(
     ensures front { IfErr result (λ stopped. stopped.written < length (listing program.now.insns)) }
     ensures failed { O.failures output.new ≡ O.failures output.old + failures_of result }
     ensures room { O.room output.new ≡ O.room output.old }
-    ensures told { IsTrue O.tells → WritesAll (O.written output.old)
+    ensures exact { IsTrue O.tells → WritesAll (O.written output.old)
         (listing program.now.insns) result (O.written output.new) }
 {
     write_insns(program.insns(), output)
@@ -35,7 +35,7 @@ fn write_insns<O: Output>(insns: &[Insn], output: &mut O) -> Result<(), Stopped>
     ensures front { IfErr result (λ stopped. stopped.written < length (listing insns.now)) }
     ensures failed { O.failures output.new ≡ O.failures output.old + failures_of result }
     ensures room { O.room output.new ≡ O.room output.old }
-    ensures told { IsTrue O.tells → WritesAll (O.written output.old)
+    ensures exact { IsTrue O.tells → WritesAll (O.written output.old)
         (listing insns.now) result (O.written output.new) }
 {
     let mut line = [0; MOST_LINE];

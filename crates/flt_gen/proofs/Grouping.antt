@@ -283,11 +283,11 @@ record SameQuals (q : FullQuals) (k : ValueType) (protocol : Option Protocol) (d
 
 same_quals : (q : FullQuals) (k : ValueType) (protocol : Option Protocol) (d : Direction) (bs : List ℕ) → (same_type q.value_type k && (same_protocol q.protocol protocol && (same_direction q.direction d && nat_lt (length bs) MOST_TOGETHER))) ≡ true → SameQuals q k protocol d
 same_quals q k protocol d bs g =
-    let few = nat_lt (length bs) MOST_TOGETHER in
-    let b = both_true (same_type q.value_type k) (same_protocol q.protocol protocol && (same_direction q.direction d && few)) g in
-    let c = both_true (same_protocol q.protocol protocol) (same_direction q.direction d && few) b.1 in
+    let upper_bound = nat_lt (length bs) MOST_TOGETHER in
+    let b = both_true (same_type q.value_type k) (same_protocol q.protocol protocol && (same_direction q.direction d && upper_bound)) g in
+    let c = both_true (same_protocol q.protocol protocol) (same_direction q.direction d && upper_bound) b.1 in
     let sp = protocols_are q.protocol protocol c.0 in
-    let sd = directions_are q.direction d (both_true (same_direction q.direction d) few c.1).0 in
+    let sd = directions_are q.direction d (both_true (same_direction q.direction d) upper_bound c.1).0 in
     record { types = types_are q.value_type k b.0; protocols = sp.0; directions = sd.0; common = sp.1; merged = sd.1 }
 
 -- one more of the same reads as it, or else the others

@@ -220,14 +220,14 @@ accessor_grows link Icmp w c d m g = transport_grows link w c d m g
 accessor_grows link _ w c d m g = base_grows (network link) w c d m g
 
 number_grows : (link : Link) (e : NumberTree) (slot : ℕ) (c d : List Insn) (m : ℕ) → slot + number_words e ≤ 16 → Grows c d m → Grows c (emit_number link e slot d) (m + 6 * number_size e)
-number_grows link (literal k) slot c d m few g = grows_put c d m _ _ g (literal_fine k (length d)) (omega arith)
-number_grows link (named k) slot c d m few g = grows_put c d m _ _ g (literal_fine k (length d)) (omega arith)
-number_grows link len slot c d m few g = grows_put c d m _ _ g (length_fine 0 (length d)) (omega arith)
-number_grows link (negated a) slot c d m few g =
-    grows_more c _ (m + 1 + 6 * number_size a) _ (omega arith) (number_grows link a slot c (plain Negate 0 ∷ d) (m + 1) few (grows_put c d m (m + 1) _ g (minus_fine 0 (length d)) (omega arith)))
-number_grows link (load protocol size i) slot c d m few g =
-    grows_more c _ (m + 4 + 6 * number_size i) _ (omega arith) (number_grows link i slot c (emit_accessor link protocol (width_of size) d) (m + 4) few (accessor_grows link protocol (width_of size) c d m g))
-number_grows link (applied operator l r) slot c d m few g =
+number_grows link (literal k) slot c d m upper_bound g = grows_put c d m _ _ g (literal_fine k (length d)) (omega arith)
+number_grows link (named k) slot c d m upper_bound g = grows_put c d m _ _ g (literal_fine k (length d)) (omega arith)
+number_grows link len slot c d m upper_bound g = grows_put c d m _ _ g (length_fine 0 (length d)) (omega arith)
+number_grows link (negated a) slot c d m upper_bound g =
+    grows_more c _ (m + 1 + 6 * number_size a) _ (omega arith) (number_grows link a slot c (plain Negate 0 ∷ d) (m + 1) upper_bound (grows_put c d m (m + 1) _ g (minus_fine 0 (length d)) (omega arith)))
+number_grows link (load protocol size i) slot c d m upper_bound g =
+    grows_more c _ (m + 4 + 6 * number_size i) _ (omega arith) (number_grows link i slot c (emit_accessor link protocol (width_of size) d) (m + 4) upper_bound (accessor_grows link protocol (width_of size) c d m g))
+number_grows link (applied operator l r) slot c d m upper_bound g =
     let g1 = grows_put c d m (m + 1) (plain (computation operator IndexRegister) 0) g (operator_fine operator 0 (length d)) (omega arith) in
     let g2 = grows_put c _ (m + 1) (m + 2) (plain (Load Accumulator Memory) slot) g1 (word_fine slot _ (omega arith)) (omega arith) in
     let g3 = grows_put c _ (m + 2) (m + 3) (plain CopyToIndex 0) g2 (to_x_fine 0 _) (omega arith) in
@@ -295,13 +295,13 @@ search_sits (suc k) vs hit miss c s e ph lh pm lm =
     let lu : upper.entry ≤ length lower.code = (let i = su.inside in omega (arith, sl.grows.longer)) in
     let g = branch_grows test.AtLeast Constant (get_or vs h 0) upper.entry lower.entry lower.code sl.grows.sound sl.grows.ends su.low lu sl.low sl.inside in
     by_test (λ (d : Block). Sits d c (3 + 6 * (length vs - 1))) (nat_lt (length vs) 2) _ _
-    (λ few. chain_fits vs hit miss c s e ph lh pm lm)
+    (λ upper_bound. chain_fits vs hit miss c s e ph lh pm lm)
     (λ many. let two : 2 ≤ length vs = grind (arith, nat_tests) in
     sits_on lower _ c (3 + 6 * (length (drop h vs) - 1) + (3 + 6 * (length (take h vs) - 1))) 3 _ (sits_on upper lower c _ _ _ su sl (omega arith)) (sits_top lower.code _ 3 3 (omega arith) g) (omega arith))
 
 pub emitted_sits : (link : Link) (known : Knowledge) (f : Formula) (hit miss : ℕ) (c : List Insn) → words f ≤ 16 → IsFaultless c → ends_in_return c ≡ true → 0 < hit → hit ≤ length c → 0 < miss → miss ≤ length c → Sits (emit_formula link known f hit miss c) c (6 * (tests f + nodes f))
-emitted_sits link known (Single t) hit miss c few s e ph lh pm lm = elementary_sits known t hit miss c s e ph lh pm lm
-emitted_sits link known (Compare comparison l r) hit miss c few s e ph lh pm lm =
+emitted_sits link known (Single t) hit miss c upper_bound s e ph lh pm lm = elementary_sits known t hit miss c s e ph lh pm lm
+emitted_sits link known (Compare comparison l r) hit miss c upper_bound s e ph lh pm lm =
     let g0 = comparison_grows comparison IndexRegister 0 hit miss c s e ph lh pm lm in
     let g1 = grows_put c _ 3 4 (plain (Load Accumulator Memory) 0) g0 (word_fine 0 _ (omega arith)) (omega arith) in
     let g2 = grows_put c _ 4 5 (plain CopyToIndex 0) g1 (to_x_fine 0 _) (omega arith) in
@@ -309,32 +309,32 @@ emitted_sits link known (Compare comparison l r) hit miss c few s e ph lh pm lm 
     let g4 = grows_put c _ (5 + 6 * number_size r) (6 + 6 * number_size r) (plain (Store Accumulator) 0) g3 (store_fine 0 _ (omega arith)) (omega arith) in
     let g5 = by_right (λ b. Grows c b (6 + 6 * number_size r)) (constant r) 0 _ _ (λ k is. grows_more c _ 3 _ (omega arith) (comparison_grows comparison Constant k hit miss c s e ph lh pm lm)) g4 in
     sits_top c _ (6 + 6 * number_size r + 6 * number_size l) _ (omega arith) (number_grows link l 0 c _ (6 + 6 * number_size r) (omega arith) g5)
-emitted_sits link known (Both a b) hit miss c few s e ph lh pm lm =
+emitted_sits link known (Both a b) hit miss c upper_bound s e ph lh pm lm =
     let d = emit_formula link known b hit miss c in
     let sb = emitted_sits link known b hit miss c (omega arith) s e ph lh pm lm in
     let lm' : miss ≤ length d.code = omega (arith, sb.grows.longer) in
     let sa = emitted_sits link known a d.entry miss d.code (omega arith) sb.grows.sound sb.grows.ends sb.low sb.inside pm lm' in
     record { grows = grows_more c _ (6 * (tests b + nodes b) + 6 * (tests a + nodes a)) _ (omega arith) (grows_on c d.code _ _ _ sb.grows sa.grows); low = sa.low; inside = sa.inside }
-emitted_sits link known (Either a b) hit miss c few s e ph lh pm lm =
+emitted_sits link known (Either a b) hit miss c upper_bound s e ph lh pm lm =
     let d = emit_formula link known b hit miss c in
     let sb = emitted_sits link known b hit miss c (omega arith) s e ph lh pm lm in
     let lh' : hit ≤ length d.code = omega (arith, sb.grows.longer) in
     let sa = emitted_sits link known a hit d.entry d.code (omega arith) sb.grows.sound sb.grows.ends ph lh' sb.low sb.inside in
     record { grows = grows_more c _ (6 * (tests b + nodes b) + 6 * (tests a + nodes a)) _ (omega arith) (grows_on c d.code _ _ _ sb.grows sa.grows); low = sa.low; inside = sa.inside }
-emitted_sits link known (Except a) hit miss c few s e ph lh pm lm = emitted_sits link known a miss hit c few s e pm lm ph lh
-emitted_sits link known (Guard t a) hit miss c few s e ph lh pm lm =
+emitted_sits link known (Except a) hit miss c upper_bound s e ph lh pm lm = emitted_sits link known a miss hit c upper_bound s e pm lm ph lh
+emitted_sits link known (Guard t a) hit miss c upper_bound s e ph lh pm lm =
     let d = emit_formula link (and_fact (fact t true) known) a hit miss c in
-    let sb = emitted_sits link (and_fact (fact t true) known) a hit miss c few s e ph lh pm lm in
+    let sb = emitted_sits link (and_fact (fact t true) known) a hit miss c upper_bound s e ph lh pm lm in
     let lm' : miss ≤ length d.code = omega (arith, sb.grows.longer) in
     let sa = elementary_sits known t d.entry miss d.code sb.grows.sound sb.grows.ends sb.low sb.inside pm lm' in
     sits_on d (emit_elementary known t d.entry miss d.code) c (6 * (tests a + nodes a)) 6 _ sb sa (omega arith)
-emitted_sits link known (Fork t u a) hit miss c few s e ph lh pm lm =
+emitted_sits link known (Fork t u a) hit miss c upper_bound s e ph lh pm lm =
     let d = emit_formula link (and_fork t u known) a hit miss c in
-    let sb = emitted_sits link (and_fork t u known) a hit miss c few s e ph lh pm lm in
+    let sb = emitted_sits link (and_fork t u known) a hit miss c upper_bound s e ph lh pm lm in
     let lm' : miss ≤ length d.code = omega (arith, sb.grows.longer) in
     let sa = fork_sits known t u d.entry miss d.code sb.grows.sound sb.grows.ends sb.low sb.inside pm lm' in
     sits_on d (emit_fork known t u d.entry miss d.code) c (6 * (tests a + nodes a)) 12 _ sb sa (omega arith)
-emitted_sits link known (Choose t a b) hit miss c few s e ph lh pm lm =
+emitted_sits link known (Choose t a b) hit miss c upper_bound s e ph lh pm lm =
     let d = emit_formula link (and_fact (fact t false) known) b hit miss c in
     let sb = emitted_sits link (and_fact (fact t false) known) b hit miss c (omega arith) s e ph lh pm lm in
     let lh' : hit ≤ length d.code = omega (arith, sb.grows.longer) in
@@ -344,7 +344,7 @@ emitted_sits link known (Choose t a b) hit miss c few s e ph lh pm lm =
     let ld : d.entry ≤ length f.code = (let l = sb.inside in omega (arith, sa.grows.longer)) in
     let st = elementary_sits known t f.entry d.entry f.code sa.grows.sound sa.grows.ends sa.low sa.inside sb.low ld in
     sits_on f (emit_elementary known t f.entry d.entry f.code) c (6 * (tests b + nodes b) + 6 * (tests a + nodes a)) 6 _ (sits_on d f c (6 * (tests b + nodes b)) (6 * (tests a + nodes a)) _ sb sa (omega arith)) st (omega arith)
-emitted_sits link known (Among f vs) hit miss c few s e ph lh pm lm =
+emitted_sits link known (Among f vs) hit miss c upper_bound s e ph lh pm lm =
     let h = target_inside c known f.offset always hit ph lh in
     let m = target_inside c known f.offset always miss pm lm in
     let g = search_sits LEVELS vs (target c known f.offset always hit) (target c known f.offset always miss) c s e h.0 h.1 m.0 m.1 in

@@ -11,26 +11,26 @@ use Rattle.flt_gen.specs.Primitives.{ip6_tests}
 -- each word lacks a power of 2, the whole word where it has no bit of the mask; so does the mask
 in_first : (a b c d q : ℕ) → a ≤ 2 ^ 32 → b ≡ 2 ^ 32 → c ≡ 2 ^ 32 → d ≡ 2 ^ 32 → q ≡ a * 2 ^ 96
     → number_from_digits (2 ^ 32) ((2 ^ 32 - a) ∷ (2 ^ 32 - b) ∷ (2 ^ 32 - c) ∷ (2 ^ 32 - d) ∷ []) ≡ 2 ^ 128 - q
-in_first a b c d q few second third fourth same = omega arith
+in_first a b c d q upper_bound second third fourth same = omega arith
 
 in_second : (a b c d q : ℕ) → a ≡ 1 → b ≤ 2 ^ 32 → c ≡ 2 ^ 32 → d ≡ 2 ^ 32 → q ≡ b * 2 ^ 64
     → number_from_digits (2 ^ 32) ((2 ^ 32 - a) ∷ (2 ^ 32 - b) ∷ (2 ^ 32 - c) ∷ (2 ^ 32 - d) ∷ []) ≡ 2 ^ 128 - q
-in_second a b c d q first few third fourth same = omega arith
+in_second a b c d q first upper_bound third fourth same = omega arith
 
 in_third : (a b c d q : ℕ) → a ≡ 1 → b ≡ 1 → c ≤ 2 ^ 32 → d ≡ 2 ^ 32 → q ≡ c * 2 ^ 32
     → number_from_digits (2 ^ 32) ((2 ^ 32 - a) ∷ (2 ^ 32 - b) ∷ (2 ^ 32 - c) ∷ (2 ^ 32 - d) ∷ []) ≡ 2 ^ 128 - q
-in_third a b c d q first second few fourth same = omega arith
+in_third a b c d q first second upper_bound fourth same = omega arith
 
 in_fourth : (a b c d q : ℕ) → a ≡ 1 → b ≡ 1 → c ≡ 1 → d ≤ 2 ^ 32 → q ≡ d
     → number_from_digits (2 ^ 32) ((2 ^ 32 - a) ∷ (2 ^ 32 - b) ∷ (2 ^ 32 - c) ∷ (2 ^ 32 - d) ∷ []) ≡ 2 ^ 128 - q
-in_fourth a b c d q first second third few same = omega arith
+in_fourth a b c d q first second third upper_bound same = omega arith
 
 -- powers of 2
 same : (k m : ℕ) → k ≡ m → 2 ^ k ≡ 2 ^ m
 same k m e = ap (λ n. 2 ^ n) e
 
 few_bits : (k : ℕ) → k ≤ 32 → 2 ^ k ≤ 2 ^ 32
-few_bits k few = pow_mono {i = k} {j = 32} few
+few_bits k upper_bound = pow_mono {i = k} {j = 32} upper_bound
 
 raised : (k m up : ℕ) → k ≡ m + up → 2 ^ k ≡ 2 ^ m * 2 ^ up
 raised k m up e = same k (m + up) e ∙ pow-add 2 m up

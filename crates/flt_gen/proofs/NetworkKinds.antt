@@ -108,10 +108,10 @@ at_type at kind p = rw (same_number p at) (go (nat_le (at + 2) (length p)) (nat_
 
 -- the mask leaves the version, which the first four bits are
 version_test : (v n m : ℕ) → m ≡ 16 * n → v < 2 ^ 8 → (bit_and v 0xf0 == m) ≡ (v / 16 == n)
-version_test v n m times few = go (bit_and v 0xf0 == m) (v / 16 == n) refl refl
+version_test v n m times upper_bound = go (bit_and v 0xf0 == m) (v / 16 == n) refl refl
   where
     high : bit_and v 0xf0 ≡ 16 * (v / 16)
-    high = let parts : bit_and v 240 + v % 16 ≡ v = and_high_numeral v 239 refl few in omega arith
+    high = let parts : bit_and v 240 + v % 16 ≡ v = and_high_numeral v 239 refl upper_bound in omega arith
 
     go : (a b : Bool) → (bit_and v 0xf0 == m) ≡ a → (v / 16 == n) ≡ b → a ≡ b
     go true true ta tb = refl
@@ -165,10 +165,10 @@ first_byte p bytes long = bytes 0 0 (grind (arith, nat_tests))
 -- by the version of IP n, which the mask leaves as m
 module _ (kind : NetworkKind) (n m : ℕ) (times : m ≡ 16 * n) (is : (w : ℕ) → (w == n) ≡ true ↔ (of_version w ≡ Known kind)) where
   version_there : (v : ℕ) → v < 2 ^ 8 → Agrees (reading_of (Some (bit_and v 0xf0 == m))) (of_version (v / 16)) kind true
-  version_there v few = record {
+  version_there v upper_bound = record {
     matches = (
-      λ e. (is (v / 16)).0 (sym (version_test v n m times few) ∙ is_yes (bit_and v 0xf0 == m) e),
-      λ e. ap (λ b. reading_of (Some b)) (version_test v n m times few ∙ (is (v / 16)).1 e),
+      λ e. (is (v / 16)).0 (sym (version_test v n m times upper_bound) ∙ is_yes (bit_and v 0xf0 == m) e),
+      λ e. ap (λ b. reading_of (Some b)) (version_test v n m times upper_bound ∙ (is (v / 16)).1 e),
     );
     rejects = (λ e. absurd (not_rejected (bit_and v 0xf0 == m) e), λ e. absurd (not_ip (v / 16) (λ x. x) e.0));
   }

@@ -222,8 +222,8 @@ module _ (p : List ℕ) (n : ℕ) where
 
   -- a number, a word for it, a second number, and both brought to A and X
   pub two_runs : (c' cr c : List Insn) (slot : ℕ) (s : State) (ox oy : Option ℕ) → slot < 16 → NumberRuns c' (plain (Store Accumulator) slot ∷ cr) slot s ox → ((t : State) → length t.memory ≡ 16 → NumberRuns cr (emit_operands slot c) (slot + 1) t oy) → TwoRuns c' c slot s ox oy
-  two_runs c' cr c slot s None oy few rx ry = rx
-  two_runs c' cr c slot s (Some x) oy few rx ry =
+  two_runs c' cr c slot s None oy upper_bound rx ry = rx
+  two_runs c' cr c slot s (Some x) oy upper_bound rx ry =
       second oy (ry t1 long)
     where
       t : State
@@ -272,14 +272,14 @@ module _ (p : List ℕ) (n : ℕ) where
 
   -- the code of arithmetic gives its value
   pub number_runs : (link : Link) (e : NumberTree) (slot : ℕ) (c : List Insn) (s : State) → length s.memory ≡ 16 → slot + number_words e ≤ 16 → NumberRuns (emit_number link e slot c) c slot s (number link e p n)
-  number_runs link (literal k) slot c s long few = (record s { accumulator = k }, record { long = long; kept = λ j l. refl }, refl, run_literal k c s)
-  number_runs link (named k) slot c s long few = (record s { accumulator = k }, record { long = long; kept = λ j l. refl }, refl, run_literal k c s)
-  number_runs link len slot c s long few = (record s { accumulator = n }, record { long = long; kept = λ j l. refl }, refl, run_length 0 c s)
-  number_runs link (load protocol size i) slot c s long few =
-      number_then _ (emit_accessor link protocol (width_of size) c) c slot s (number link i p n) _ (number_runs link i slot (emit_accessor link protocol (width_of size) c) s long few) (λ v t l a. accessor_runs link protocol (width_of size) c slot v t l a)
-  number_runs link (negated e) slot c s long few =
-      number_then _ (plain Negate 0 ∷ c) c slot s (number link e p n) (λ v. Some ((2 ^ 32 - v) % 2 ^ 32)) (number_runs link e slot (plain Negate 0 ∷ c) s long few) (λ v t l a. minus_runs c slot v t l a)
-  number_runs link (applied operator l r) slot c s long few =
+  number_runs link (literal k) slot c s long upper_bound = (record s { accumulator = k }, record { long = long; kept = λ j l. refl }, refl, run_literal k c s)
+  number_runs link (named k) slot c s long upper_bound = (record s { accumulator = k }, record { long = long; kept = λ j l. refl }, refl, run_literal k c s)
+  number_runs link len slot c s long upper_bound = (record s { accumulator = n }, record { long = long; kept = λ j l. refl }, refl, run_length 0 c s)
+  number_runs link (load protocol size i) slot c s long upper_bound =
+      number_then _ (emit_accessor link protocol (width_of size) c) c slot s (number link i p n) _ (number_runs link i slot (emit_accessor link protocol (width_of size) c) s long upper_bound) (λ v t l a. accessor_runs link protocol (width_of size) c slot v t l a)
+  number_runs link (negated e) slot c s long upper_bound =
+      number_then _ (plain Negate 0 ∷ c) c slot s (number link e p n) (λ v. Some ((2 ^ 32 - v) % 2 ^ 32)) (number_runs link e slot (plain Negate 0 ∷ c) s long upper_bound) (λ v t l a. minus_runs c slot v t l a)
+  number_runs link (applied operator l r) slot c s long upper_bound =
       by_right (λ d. NumberRuns (emit_number link l slot d) c slot s (number link (applied operator l r) p n)) (constant_operand operator r) slot _ _
       (λ k is. number_then _ (plain (computation operator Constant) k ∷ c) c slot s (number link l p n) (λ x. with (number link r p n) (λ y. result_of operator x y)) (number_runs link l slot _ s long (omega arith)) (λ v t l a. constant_runs operator k c slot v t l a (number link r p n) (constant_is link r k (operand_is operator r k is).is)))
       (binary_runs operator _ c slot s (number link l p n) (number link r p n) (two_runs _ (emit_number link r (slot + 1) (emit_operands slot (plain (computation operator IndexRegister) 0 ∷ c))) (plain (computation operator IndexRegister) 0 ∷ c) slot s (number link l p n) (number link r p n) (omega arith) (number_runs link l slot _ s long (omega arith)) (λ t lt. number_runs link r (slot + 1) _ t lt (omega arith))))

@@ -39,7 +39,7 @@ AllLow (Left s ∷ ns) n = (s ≤ n) × AllLow ns n
 pub record IsLow (w : Walk) : Type 0 where
   pub slot : w.slot ≤ length w.code
   pub waiting : AllLow w.numbers (length w.code)
-  pub few : length w.group.numbers ≤ MOST_TOGETHER
+  pub upper_bound : length w.group.numbers ≤ MOST_TOGETHER
 
 low_more : (ns : List Waiting) (m n : ℕ) → m ≤ n → AllLow ns m → AllLow ns n
 low_more [] m n l h = tt
@@ -54,7 +54,7 @@ pub record Grown (w v : Walk) : Type 0 where
 grown_on : (w v : Walk) → IsLow w → length w.code ≤ length v.code → v.slot ≡ w.slot → v.numbers ≡ w.numbers → length v.group.numbers ≤ MOST_TOGETHER → Grown w v
 grown_on w v h l s n f =
     record {
-      low = record { slot = let k = h.slot in omega arith; waiting = same_low v.numbers w.numbers n (low_more w.numbers (length w.code) (length v.code) l h.waiting); few = f };
+      low = record { slot = let k = h.slot in omega arith; waiting = same_low v.numbers w.numbers n (low_more w.numbers (length w.code) (length v.code) l h.waiting); upper_bound = f };
       longer = l;
     }
   where
@@ -62,25 +62,25 @@ grown_on w v h l s n f =
     same_low ns ms e a = subst (λ xs. AllLow xs (length v.code)) (sym e) a
 
 relation_grown : (link : Link) (w : Walk) → w.numbers ≡ [] → IsLow w → Grown w (finish_relation link w)
-relation_grown link w e h = grown_on w (finish_relation link w) h (accessors_extend link w.accessors (length w.code) w.to.no w.code).longer refl refl h.few
+relation_grown link w e h = grown_on w (finish_relation link w) h (accessors_extend link w.accessors (length w.code) w.to.no w.code).longer refl refl h.upper_bound
 
 number_grown : (link : Link) (ns : List Waiting) (w : Walk) → w.numbers ≡ ns → IsLow w → Grown w (finish_number link ns w)
 number_grown link [] w e h = relation_grown link w e h
 number_grown link (Index p ∷ ns) w e h =
     let v : Walk = record w { numbers = ns; accessors = p ∷ w.accessors } in
     let a : AllLow (Index p ∷ ns) (length w.code) = subst (λ xs. AllLow xs (length w.code)) e h.waiting in
-    let g = number_grown link ns v refl (record { slot = h.slot; waiting = a; few = h.few }) in
+    let g = number_grown link ns v refl (record { slot = h.slot; waiting = a; upper_bound = h.upper_bound }) in
     record { low = g.low; longer = g.longer }
 number_grown link (Left s ∷ ns) w e h =
     let a : AllLow (Left s ∷ ns) (length w.code) = subst (λ xs. AllLow xs (length w.code)) e h.waiting in
     let k = a.0 in
-    record { low = record { slot = omega arith; waiting = low_more ns (length w.code) (length (plain (Store Accumulator) s ∷ w.code)) (omega arith) a.1; few = h.few }; longer = omega arith }
+    record { low = record { slot = omega arith; waiting = low_more ns (length w.code) (length (plain (Store Accumulator) s ∷ w.code)) (omega arith) a.1; upper_bound = h.upper_bound }; longer = omega arith }
 
 -- code in front, and then a number is complete
 code_grown : (link : Link) (w : Walk) (c : List Insn) → length w.code ≤ length c → IsLow w → Grown w (finish_number link w.numbers (with_code c w))
 code_grown link w c l h =
     let v = with_code c w in
-    let a = grown_on w v h l refl refl h.few in
+    let a = grown_on w v h l refl refl h.upper_bound in
     let g = number_grown link w.numbers v refl a.low in
     record { low = g.low; longer = let m = g.longer in omega arith }
 
@@ -90,7 +90,7 @@ operands_grown w slot c s l h =
       low = record {
         slot = omega arith;
         waiting = (omega arith, low_more w.numbers (length w.code) (length (begin_operands slot c w).code) (omega arith) h.waiting);
-        few = h.few;
+        upper_bound = h.upper_bound;
       };
       longer = omega arith;
     }
@@ -99,7 +99,7 @@ grown_after : (u v w : Walk) → Grown u v → Grown v w → Grown u w
 grown_after u v w g h = record { low = h.low; longer = let l = g.longer in let m = h.longer in omega arith }
 
 formula_grown : (link : Link) (f : Formula) (w : Walk) → IsLow w → Grown w (finish_formula link f w)
-formula_grown link f w h = grown_on w (finish_formula link f w) h (emitted_extends link nothing f w.to.yes w.to.no w.code).longer refl refl h.few
+formula_grown link f w h = grown_on w (finish_formula link f w) h (emitted_extends link nothing f w.to.yes w.to.no w.code).longer refl refl h.upper_bound
 
 settled_grown : (link : Link) (w : Walk) (bs : List ℕ) → IsLow w → Grown w (flush_members link w bs)
 settled_grown link w [] h = grown_on w (flush_members link w []) h (omega arith) refl refl (omega arith)
@@ -147,10 +147,10 @@ truth_grown : (link : Link) (w : Walk) (n : Node) → is_truth_node n ≡ true �
 truth_grown link w (node.Check p) t h = formula_grown link (check_formula link p) w h
 truth_grown link w (node.Cast p c) t h = formula_grown link (cast_formula link p c) w h
 truth_grown link w (node.Sized s n) t h = formula_grown link (sized_formula s n) w h
-truth_grown link w (node.Bare v) t h = grown_on w (emit_truth_node link w (node.Bare v)) h (omega arith) refl refl h.few
-truth_grown link w (node.Valued q v) t h = grown_on w (emit_truth_node link w (node.Valued q v)) h (omega arith) refl refl h.few
+truth_grown link w (node.Bare v) t h = grown_on w (emit_truth_node link w (node.Bare v)) h (omega arith) refl refl h.upper_bound
+truth_grown link w (node.Valued q v) t h = grown_on w (emit_truth_node link w (node.Valued q v)) h (omega arith) refl refl h.upper_bound
 truth_grown link w (node.Compare c) t h = operands_grown w 0 _ (omega arith) (comparison_extends c IndexRegister 0 w.to.yes w.to.no w.code).longer h
-truth_grown link w node.Not t h = grown_on w (emit_truth_node link w node.Not) h (omega arith) refl refl h.few
+truth_grown link w node.Not t h = grown_on w (emit_truth_node link w node.Not) h (omega arith) refl refl h.upper_bound
 truth_grown link w (node.Qualified q v) t h = cc
 truth_grown link w (node.Join j) t h = cc
 truth_grown link w (node.Literal n) t h = cc
@@ -167,11 +167,11 @@ settled_truth_grown link w n t h =
     grown_after w (flush_group link w) (emit_truth_node link (flush_group link w) n) g (truth_grown link (flush_group link w) n t g.low)
 
 join_grown : (link : Link) (j : Join) (w : Walk) → IsLow w → Grown w (emit_join link j w)
-join_grown link Or w h = grown_on w (emit_join link Or w) h (omega arith) refl refl h.few
+join_grown link Or w h = grown_on w (emit_join link Or w) h (omega arith) refl refl h.upper_bound
 join_grown link And w h =
     let g = settled_grown link w w.group.numbers h in
     let l = g.low in
-    grown_after w (flush_group link w) (emit_join link And w) g (grown_on (flush_group link w) (emit_join link And w) l (omega arith) refl refl l.few)
+    grown_after w (flush_group link w) (emit_join link And w) g (grown_on (flush_group link w) (emit_join link And w) l (omega arith) refl refl l.upper_bound)
 
 node_grown : (link : Link) (w : Walk) (n : Node) → IsLow w → Grown w (emit_node link w n)
 node_grown link w (node.Check p) h = settled_truth_grown link w (node.Check p) refl h
@@ -189,8 +189,8 @@ node_grown link w node.Len h = code_grown link w (plain (Load Accumulator Length
 node_grown link w (node.Load p s) h =
     let l = (accessor_extends link p (width_of s) w.code w.code (extends_none w.code)).longer in
     let v = emit_node link w (node.Load p s) in
-    record { low = record { slot = let k = h.slot in omega arith; waiting = low_more w.numbers (length w.code) (length v.code) l h.waiting; few = h.few }; longer = l }
-node_grown link w node.Negate h = grown_on w (emit_node link w node.Negate) h (omega arith) refl refl h.few
+    record { low = record { slot = let k = h.slot in omega arith; waiting = low_more w.numbers (length w.code) (length v.code) l h.waiting; upper_bound = h.upper_bound }; longer = l }
+node_grown link w node.Negate h = grown_on w (emit_node link w node.Negate) h (omega arith) refl refl h.upper_bound
 node_grown link w (node.Apply o) h = operands_grown w w.slot _ h.slot (omega arith) h
 
 pub node_low : (link : Link) (w : Walk) (n : Node) → IsLow w → IsLow (emit_node link w n)
@@ -204,7 +204,7 @@ is_some : (u v : Walk) → Some u ≡ Some v → u ≡ v
 is_some u v e = cc
 
 only_code : (w : Walk) (c : List Insn) → length w.code ≤ length c → IsLow w → Grown w (with_code c w)
-only_code w c l h = grown_on w (with_code c w) h l refl refl h.few
+only_code w c l h = grown_on w (with_code c w) h l refl refl h.upper_bound
 
 applied_grown : (o : Operator) (k : ℕ) (w v : Walk) → IsLow w → emit_applied o k w ≡ Some v → Grown w v
 applied_grown o k w v h e = by_taken (takes o k) e

@@ -176,7 +176,7 @@ module _ (p : List ℕ) (n : ℕ) where
       let rl = search_answers k (take half vs) hit miss v w upper.code s (ascending_take half vs up) lh' lm' (same_at c upper.code hit v s lh ru.extends h) (same_at c upper.code miss w s lm ru.extends m) in
       let lu : upper.entry ≤ length lower.code = (let i = ru.inside in omega (arith, rl.extends.longer)) in
       by_test (λ (e : Block). Answers e c s (if is_one_of s.accumulator vs then v else w)) (nat_lt (length vs) 2) _ _
-      (λ few. chain_answers vs hit miss v w c s lh lm h m)
+      (λ upper_bound. chain_answers vs hit miss v w c s lh lm h m)
       (λ many. let two : 2 ≤ length vs = grind (arith, nat_tests) in
       answers_top c _ s _ (extends_on c upper.code _ ru.extends (extends_on upper.code lower.code _ rl.extends (branch_extends test.AtLeast Constant (get_or vs half 0) upper.entry lower.entry lower.code)))
       (branch_at test.AtLeast Constant (get_or vs half 0) upper.entry lower.entry _ _ lower.code s lu rl.inside (same_at upper.code lower.code upper.entry _ s ru.inside rl.extends ru.by) rl.by
@@ -421,7 +421,7 @@ module _ (p : List ℕ) (n : ℕ) where
       let upper = emit_search k (drop half (x ∷ y ∷ vs)) hit miss c in
       let lower = emit_search k (take half (x ∷ y ∷ vs)) hit miss upper.code in
       by_test (λ (e : Block). Behind e.code) (nat_lt (length (x ∷ y ∷ vs)) 2) _ _
-      (λ few. absurd (let no : length (x ∷ y ∷ vs) < 2 = grind (arith, nat_tests) in omega arith))
+      (λ upper_bound. absurd (let no : length (x ∷ y ∷ vs) < 2 = grind (arith, nat_tests) in omega arith))
       (λ many. other_behind (get_or (x ∷ y ∷ vs) half 0) upper.entry lower.entry lower.code)
 
   base_settled : (at : ℕ) (w : Width) (c : List Insn) → Calm c → Calm (emit_base at w c)
@@ -534,7 +534,7 @@ module _ (p : List ℕ) (n : ℕ) where
   search_top k (x ∷ []) hit miss c h = omega arith
   search_top k (x ∷ y ∷ vs) hit miss c h =
       by_test (λ (e : Block). 0 ≡ length e.code - e.entry) (nat_lt (length (x ∷ y ∷ vs)) 2) _ _
-      (λ few. absurd (let no : length (x ∷ y ∷ vs) < 2 = grind (arith, nat_tests) in omega arith))
+      (λ upper_bound. absurd (let no : length (x ∷ y ∷ vs) < 2 = grind (arith, nat_tests) in omega arith))
       (λ many. omega arith)
 
   -- a field that is looked for among numbers
@@ -595,8 +595,8 @@ module _ (p : List ℕ) (n : ℕ) where
       }
 
   pub emitted_works : (link : Link) (known : Knowledge) (f : Formula) (hit miss v w : ℕ) (c : List Insn) → words f ≤ 16 → Apt p f → hit ≤ length c → miss ≤ length c → Calm c → Leads p n c hit v → Leads p n c miss w → Works (emit_formula link known f hit miss c) c known (pick (reads link f p n) v w)
-  emitted_works link known (Single t) hit miss v w c few apt lh lm z h m = elementary_works known t hit miss v w c lh lm z h m
-  emitted_works link known (Compare comparison l r) hit miss v w c few apt lh lm z h m =
+  emitted_works link known (Single t) hit miss v w c upper_bound apt lh lm z h m = elementary_works known t hit miss v w c lh lm z h m
+  emitted_works link known (Compare comparison l r) hit miss v w c upper_bound apt lh lm z h m =
       record {
         inside = omega arith;
         extends = relation_extends link comparison l r hit miss c;
@@ -605,7 +605,7 @@ module _ (p : List ℕ) (n : ℕ) where
         leads = leads_top (emit_relation link comparison l r hit miss c) _ (λ s long. relation_runs link comparison l r hit miss v w c s long lh lm h m (omega arith) (omega arith));
         right = λ k. refl;
       }
-  emitted_works link known (Both a b) hit miss v w c few apt lh lm z h m =
+  emitted_works link known (Both a b) hit miss v w c upper_bound apt lh lm z h m =
       let e = emit_formula link known b hit miss c in
       let wb = emitted_works link known b hit miss v w c (omega arith) apt.1 lh lm z h m in
       let lm' : miss ≤ length e.code = omega (arith, wb.extends.longer) in
@@ -619,7 +619,7 @@ module _ (p : List ℕ) (n : ℕ) where
         leads = wa.leads;
         right = λ k. wa.right k ∙ ap (λ x. pick (reads link a p n) x w) (wb.right k) ∙ pick_both (reads link a p n) (reads link b p n) v w;
       }
-  emitted_works link known (Either a b) hit miss v w c few apt lh lm z h m =
+  emitted_works link known (Either a b) hit miss v w c upper_bound apt lh lm z h m =
       let e = emit_formula link known b hit miss c in
       let wb = emitted_works link known b hit miss v w c (omega arith) apt.1 lh lm z h m in
       let lh' : hit ≤ length e.code = omega (arith, wb.extends.longer) in
@@ -633,13 +633,13 @@ module _ (p : List ℕ) (n : ℕ) where
         leads = wa.leads;
         right = λ k. wa.right k ∙ ap (λ x. pick (reads link a p n) v x) (wb.right k) ∙ pick_either (reads link a p n) (reads link b p n) v w;
       }
-  emitted_works link known (Except a) hit miss v w c few apt lh lm z h m =
-      let wa = emitted_works link known a miss hit w v c few apt lm lh z m h in
+  emitted_works link known (Except a) hit miss v w c upper_bound apt lh lm z h m =
+      let wa = emitted_works link known a miss hit w v c upper_bound apt lm lh z m h in
       record { inside = wa.inside; extends = wa.extends; flush_group = wa.flush_group; u = wa.u; leads = wa.leads; right = λ k. wa.right k ∙ pick_negated (reads link a p n) v w }
-  emitted_works link known (Guard t a) hit miss v w c few apt lh lm z h m =
+  emitted_works link known (Guard t a) hit miss v w c upper_bound apt lh lm z h m =
       let inner = and_fact (fact t true) known in
       let e = emit_formula link inner a hit miss c in
-      let wb = emitted_works link inner a hit miss v w c few apt lh lm z h m in
+      let wb = emitted_works link inner a hit miss v w c upper_bound apt lh lm z h m in
       let lm' : miss ≤ length e.code = omega (arith, wb.extends.longer) in
       let wa = elementary_works known t e.entry miss wb.u w e.code wb.inside lm' wb.flush_group wb.leads (leads_on p n c e.code miss w lm wb.extends m) in
       let f = emit_elementary known t e.entry miss e.code in
@@ -651,11 +651,11 @@ module _ (p : List ℕ) (n : ℕ) where
         leads = wa.leads;
         right = λ k. wa.right k ∙ pick_guard (elementary_reads t p) (reads link a p n) wb.u v w (λ y. wb.right (knows (fact t true) known k y));
       }
-  emitted_works link known (Fork t u a) hit miss v w c few apt lh lm z h m =
+  emitted_works link known (Fork t u a) hit miss v w c upper_bound apt lh lm z h m =
       let inner = and_fork t u known in
       let second = and_fact (fact t false) known in
       let e = emit_formula link inner a hit miss c in
-      let wb = emitted_works link inner a hit miss v w c few apt lh lm z h m in
+      let wb = emitted_works link inner a hit miss v w c upper_bound apt lh lm z h m in
       let lm' : miss ≤ length e.code = omega (arith, wb.extends.longer) in
       let miss_leads = leads_on p n c e.code miss w lm wb.extends m in
       let d = emit_elementary second u e.entry miss e.code in
@@ -664,7 +664,7 @@ module _ (p : List ℕ) (n : ℕ) where
       let wa = elementary_works known t e.entry d.entry wb.u wu.u d.code le wu.inside wu.flush_group (leads_on p n e.code d.code e.entry wb.u wb.inside wu.extends wb.leads) wu.leads in
       let f = emit_elementary known t e.entry d.entry d.code in
       works_behind c d.code f known _ _ (extends_on c e.code d.code wb.extends wu.extends) wa (fork_right known t u (reads link a p n) wa.u wb.u wu.u v w wa.right wb.right wu.right)
-  emitted_works link known (Choose t a b) hit miss v w c few apt lh lm z h m =
+  emitted_works link known (Choose t a b) hit miss v w c upper_bound apt lh lm z h m =
       let yes = and_fact (fact t true) known in
       let no = and_fact (fact t false) known in
       let e = emit_formula link no b hit miss c in
@@ -677,4 +677,4 @@ module _ (p : List ℕ) (n : ℕ) where
       let wt = elementary_works known t d.entry e.entry wa.u wb.u d.code wa.inside le wa.flush_group wa.leads (leads_on p n e.code d.code e.entry wb.u wb.inside wa.extends wb.leads) in
       let f = emit_elementary known t d.entry e.entry d.code in
       works_behind c d.code f known _ _ (extends_on c e.code d.code wb.extends wa.extends) wt (choice_right known t (reads link a p n) (reads link b p n) wt.u wa.u wb.u v w (excluded_no p n link t b apt.0) wt.right wa.right wb.right)
-  emitted_works link known (Among f vs) hit miss v w c few apt lh lm z h m = among_works known f vs hit miss v w c apt lh lm z h m
+  emitted_works link known (Among f vs) hit miss v w c upper_bound apt lh lm z h m = among_works known f vs hit miss v w c apt lh lm z h m

@@ -15,7 +15,7 @@ search_none vs hit miss c = refl
 pub search_few : (k : ℕ) (vs : List ℕ) (hit miss : ℕ) (c : List Insn) → length vs < 2 → emit_search k vs hit miss c ≡ emit_chain vs hit miss c
 unfolding emit_search
 search_few zero vs hit miss c l = refl
-search_few (suc k) vs hit miss c l = let few : nat_lt (length vs) 2 ≡ true = grind (arith, nat_tests) in if_is _ true _ _ few
+search_few (suc k) vs hit miss c l = let upper_bound : nat_lt (length vs) 2 ≡ true = grind (arith, nat_tests) in if_is _ true _ _ upper_bound
 
 abbrev pub halved : ℕ → List ℕ → ℕ → ℕ → List Insn → Block
 halved k vs hit miss c =

@@ -42,10 +42,10 @@ one_side (Some x) a bs =
     ap (λ b. reading_of (Some b)) (one_of_inserted x a bs ∙ ap (λ b. b || is_one_of x bs) (sym (or_none (x == a)))) ∙ yes_or (x == a || false) (is_one_of x bs)
 
 -- what is read of two fields that are there
-abbrev told : Bool → Reading
-told b = reading_of (Some b)
+abbrev exact : Bool → Reading
+exact b = reading_of (Some b)
 
-both_told : (a f x y z : Bool) → (f ≡ true → x ≡ true) → either (told a) (either (told (z || y)) (told (a || x))) ≡ either (either (told a) (either (told (z || false)) (told (a || false)))) (either (told f) (either (told y) (told x)))
+both_told : (a f x y z : Bool) → (f ≡ true → x ≡ true) → either (exact a) (either (exact (z || y)) (exact (a || x))) ≡ either (either (exact a) (either (exact (z || false)) (exact (a || false)))) (either (exact f) (either (exact y) (exact x)))
 both_told true f x y z h = refl
 both_told false f x y true h = refl
 both_told false true true true false h = refl
@@ -58,12 +58,12 @@ two_sides : (os od : Option ℕ) (a f : ℕ) (bs : List ℕ) → is_one_of f bs 
 two_sides None od a f bs h = refl
 two_sides (Some x) None a f bs h = cut (x == a)
   where
-    cut : (b : Bool) → either (told b) Rejected ≡ either (either (told b) Rejected) (either (told (x == f)) Rejected)
+    cut : (b : Bool) → either (exact b) Rejected ≡ either (either (exact b) Rejected) (either (exact (x == f)) Rejected)
     cut true = refl
     cut false = refl
 two_sides (Some x) (Some y) a f bs h =
-    ap (λ b. either (told (x == a)) (either (told b) (told (is_one_of x (insert_ascending a bs))))) (one_of_inserted y a bs)
-    ∙ ap (λ b. either (told (x == a)) (either (told (y == a || is_one_of y bs)) (told b))) (one_of_inserted x a bs)
+    ap (λ b. either (exact (x == a)) (either (exact b) (exact (is_one_of x (insert_ascending a bs))))) (one_of_inserted y a bs)
+    ∙ ap (λ b. either (exact (x == a)) (either (exact (y == a || is_one_of y bs)) (exact b))) (one_of_inserted x a bs)
     ∙ both_told (x == a) (x == f) (is_one_of x bs) (is_one_of y bs) (y == a) first
   where
     first : (x == f) ≡ true → is_one_of x bs ≡ true
@@ -94,7 +94,7 @@ module _ (link : Link) (p : List ℕ) (n : ℕ) where
 
   plain_one : (o : Option ℕ) (a : ℕ) → reading_of (with o (λ x. Some (x == a))) ≡ reading_of (with o (λ x. Some (is_one_of x (a ∷ []))))
   plain_one None a = refl
-  plain_one (Some x) a = ap told (sym (or_none (x == a)))
+  plain_one (Some x) a = ap exact (sym (or_none (x == a)))
 
   again : (a b : Reading) → either a b ≡ either a (either b a)
   again Yes b = refl

@@ -90,7 +90,7 @@ stands link ns m w room within same low =
     let r = walked_longer link w (reverse (take m ns)) low in
     let q : length (emit_nodes link w (reverse (take m ns))).code ≡ length (emit_nodes link start (reverse ns)).code = ap (λ (x : Walk). length x.code) same in
     let s = low.slot in
-    record { within = within; same = same; low = low; slots = omega arith; some = low.few; code = omega arith }
+    record { within = within; same = same; low = low; slots = omega arith; some = low.upper_bound; code = omega arith }
 
 -- behind one node more
 one_stands : (link : Link) (ns : List Node) (j : ℕ) (other : Node) (w : Walk) → length (emit_nodes link start (reverse ns)).code ≤ 32768 → Stands link ns (suc j) w → both_last link ns j other w ≡ None → Stands link ns j (emit_node link w (get_or ns j other))

@@ -91,15 +91,15 @@ nodes_of_formula link a filled = (grouped_stands link a no_group kept_none fille
 
 -- how the code of an expression sits on the two returns
 sits : (link : Link) (e : Expression) → some_primitive is_unfilled e ≡ false → words_of e ≤ 16 → Sits (expression_code link e) returns_code (6 * (tests (formula_of link e) + nodes (formula_of link e)))
-sits link e filled few =
+sits link e filled upper_bound =
     let f = formula_of link e in
-    let w : words f ≤ 16 = few_words link e filled few in
+    let w : words f ≤ 16 = few_words link e filled upper_bound in
     subst (λ (x : Block). Sits x returns_code (6 * (tests f + nodes f))) (code_of link e) (emitted_sits link nothing f 2 1 returns_code w returns_sound returns_end (omega arith) (omega arith) (omega arith) (omega arith))
 
 short_code : (link : Link) (e : Expression) → some_primitive is_unfilled e ≡ false → words_of e ≤ 16 → length (from_entry (expression_code link e)) ≤ bound_of e
-short_code link empty filled few = omega arith
-short_code link (truth a) filled few =
-    let s = sits link (truth a) filled few in
+short_code link empty filled upper_bound = omega arith
+short_code link (truth a) filled upper_bound =
+    let s = sits link (truth a) filled upper_bound in
     let n = entry_length (expression_code link (truth a)) s.inside in
     omega (arith, n, s.inside, s.grows.shorter, tests_of_formula link a filled, nodes_of_formula link a filled)
 
@@ -109,9 +109,9 @@ pub record Fits (link : Link) (e : Expression) : Type 0 where
   pub inside : (expression_code link e).entry ≤ length (expression_code link e).code
 
 pub code_fits : (link : Link) (e : Expression) → some_primitive is_unfilled e ≡ false → words_of e ≤ 16 → bound_of e ≤ 32768 → Fits link e
-code_fits link empty filled few short = record { room = omega arith; inside = omega arith }
-code_fits link (truth a) filled few short =
-    let s = sits link (truth a) filled few in
+code_fits link empty filled upper_bound short = record { room = omega arith; inside = omega arith }
+code_fits link (truth a) filled upper_bound short =
+    let s = sits link (truth a) filled upper_bound in
     record { room = omega (arith, s.grows.shorter, tests_of_formula link a filled, nodes_of_formula link a filled); inside = s.inside }
 
 -- the program of an expression: its jumps go past loads of what is in A
@@ -119,23 +119,23 @@ abbrev pub final_code : Link → Expression → List Insn
 final_code link e = without_reloads (program_code link e)
 
 pub program_few : (link : Link) (e : Expression) → some_primitive is_unfilled e ≡ false → words_of e ≤ 16 → bound_of e ≤ 32768 → length (program_code link e) ≤ 32768
-program_few link e filled few short = omega (arith, short_code link e filled few)
+program_few link e filled upper_bound short = omega (arith, short_code link e filled upper_bound)
 
 final_length : (link : Link) (e : Expression) → length (final_code link e) ≡ length (program_code link e)
 final_length link e = length_flow _ (program_code link e)
 
 pub program_valid : (link : Link) (e : Expression) → some_primitive is_unfilled e ≡ false → words_of e ≤ 16 → bound_of e ≤ 32768 → IsValid (final_code link e)
-program_valid link e filled few short =
+program_valid link e filled upper_bound short =
     let x = expression_code link e in
-    let s = sits link e filled few in
+    let s = sits link e filled upper_bound in
     let n = entry_length x s.inside in
     let k : length x.code - x.entry < length x.code = omega (arith, s.low, s.inside) in
     let same = final_length link e in
-    valid_if_faultless (final_code link e) (faultless_flow _ (from_entry x) (faultless_drop x.code (length x.code - x.entry) s.grows.sound)) (omega (arith, same, n, s.low)) (omega (arith, same, short_code link e filled few)) (ends_flow _ (from_entry x) ∙ ends_drop x.code (length x.code - x.entry) k s.grows.ends)
+    valid_if_faultless (final_code link e) (faultless_flow _ (from_entry x) (faultless_drop x.code (length x.code - x.entry) s.grows.sound)) (omega (arith, same, n, s.low)) (omega (arith, same, short_code link e filled upper_bound)) (ends_flow _ (from_entry x) ∙ ends_drop x.code (length x.code - x.entry) k s.grows.ends)
 
 pub program_decides : (link : Link) (e : Expression) → some_primitive is_unfilled e ≡ false → words_of e ≤ 16 → bound_of e ≤ 32768 → IsProgramOf (final_code link e) e link
-program_decides link e filled few short =
-    record { bounded = omega (arith, final_length link e, short_code link e filled few); decides = known_outcome }
+program_decides link e filled upper_bound short =
+    record { bounded = omega (arith, final_length link e, short_code link e filled upper_bound); decides = known_outcome }
   where
     f : Formula
     f = formula_of link e
@@ -150,7 +150,7 @@ program_decides link e filled few short =
     known_outcome : (p : List ℕ) (n : ℕ) → Decides (final_code link e) e link p n
     known_outcome p n =
         let v = pick (reads link f p n) 262144 0 in
-        let w = emitted_works p n link nothing f 2 1 262144 0 returns_code (few_words link e filled few) (apt p e filled) (omega arith) (omega arith) (record { by = returns_settled }) (hit_leads p n) (miss_leads p n) in
+        let w = emitted_works p n link nothing f 2 1 262144 0 returns_code (few_words link e filled upper_bound) (apt p e filled) (omega arith) (omega arith) (record { by = returns_settled }) (hit_leads p n) (miss_leads p n) in
         let same : w.u ≡ v = w.right (record { facts = (refl, (refl, (refl, tt))); either = inl refl }) in
         let l : Leads p n x.code x.entry v = subst (λ (y : Block). Leads p n y.code y.entry v) (code_of link e) (subst (λ a. Leads p n (emit_formula link nothing f 2 1 returns_code).code (emit_formula link nothing f 2 1 returns_code).entry a) same w.leads) in
         let c = machine_answers (final_code link e) p n v (reloads_answer p n (from_entry x) start ∙ answer_drop x.code p n (length x.code - x.entry) start ∙ l.by start refl) in
@@ -158,7 +158,7 @@ program_decides link e filled few short =
           answer = v;
           count = c.met;
           answered = c.answered;
-          few = omega (arith, c.few);
+          upper_bound = omega (arith, c.upper_bound);
           right = subst (λ r. (v ≢ 0) ↔ (r ≡ Yes)) (reads_of link e filled p n) (pick_right (reads link f p n));
         }
 
@@ -207,7 +207,7 @@ replaced_decides new old e link r o =
       decides = λ p n.
           let d = o.decides p n in
           let c = r.runs p n d.answer d.count d.answered in
-          record { answer = d.answer; count = c.count; answered = c.answered; few = c.inside; right = d.right };
+          record { answer = d.answer; count = c.count; answered = c.answered; upper_bound = c.inside; right = d.right };
     }
 
 pub replaced_short : (new old : List Insn) (most : ℕ) → Replaces new old → IsShort old most → IsShort new most

@@ -15,7 +15,7 @@ pub record Decides (prog : List Insn) (e : Expression) (link : Link) (p : List �
   pub answer : ℕ
   pub count : ℕ
   pub answered : machine prog p n (length prog) ≡ Answered answer count
-  pub few : count ≤ length prog
+  pub upper_bound : count ≤ length prog
   pub right : (answer ≢ 0) ↔ (holds e link p n ≡ Yes)
 
 -- a program for an expression: it has at most as many instructions as the bound says, and decides

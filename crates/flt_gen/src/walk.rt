@@ -131,7 +131,7 @@ impl<A: Allocator> Walk<A> {
 
     /// A node of arithmetic.
     fn emit_number_node(&mut self, link: Link, node: &Node) -> Result<(), AllocError>
-        requires few { self.old.slot < 2 ^ 31 }
+        requires upper_bound { self.old.slot < 2 ^ 31 }
         requires room { length (emit_node link self.old node.now).code < 2 ^ 30 }
         requires number { is_number_node node.now ≡ true }
         ensures { OnOk result (self.new ≡ emit_node link self.old node.now) }
@@ -317,7 +317,7 @@ impl<A: Allocator> Walk<A> {
 
     /// One more node, the one before those that were emitted.
     pub fn emit_node(&mut self, link: Link, node: &Node) -> Result<(), AllocError>
-        requires few { self.old.slot < 2 ^ 31 }
+        requires upper_bound { self.old.slot < 2 ^ 31 }
         requires some { length self.old.group.numbers ≤ 4096 }
         requires before { length self.old.code < 2 ^ 30 }
         requires after { length (emit_node link self.old node.now).code < 2 ^ 30 }

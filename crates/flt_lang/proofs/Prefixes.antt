@@ -68,9 +68,9 @@ both false b h = absurd (cc)
 
 -- a run that goes on to 101 gets too long
 run_gets_long : (m run : ℕ) (ts : List Token) → 101 ≤ m + run → run ≤ 100 → Begins m ts → has_long_run run ts ≡ true
-run_gets_long zero run ts enough few b = absurd (omega arith)
-run_gets_long (suc m) run [] enough few b = absurd (omega (arith, b.long))
-run_gets_long (suc m) run (t ∷ ts) enough few b =
+run_gets_long zero run ts enough upper_bound b = absurd (omega arith)
+run_gets_long (suc m) run [] enough upper_bound b = absurd (omega (arith, b.long))
+run_gets_long (suc m) run (t ∷ ts) enough upper_bound b =
     let first = both (is_prefix t) (list_all is_prefix (take m ts)) b.all in
     rw first.0 (or_else (nat_lt 99 run) (has_long_run (run + 1) ts) (λ under.
     run_gets_long m (run + 1) ts (omega arith) (omega (arith, ltb-false 99 run under)) (record { long = omega (arith, b.long); all = first.1 })))
@@ -82,9 +82,9 @@ later_step run ts true on anew = or_else (nat_lt 99 run) (has_long_run (run + 1)
 later_step run ts false on anew = anew
 
 later_gets_long : (i run : ℕ) (ts : List Token) → run ≤ 100 → i + 101 ≤ length ts → list_all is_prefix (take 101 (drop i ts)) ≡ true → has_long_run run ts ≡ true
-later_gets_long zero run ts few long all = run_gets_long 101 run ts (omega arith) few (record { long = omega (arith, long); all = all })
-later_gets_long (suc i) run [] few long all = absurd (omega arith)
-later_gets_long (suc i) run (t ∷ ts) few long all =
+later_gets_long zero run ts upper_bound long all = run_gets_long 101 run ts (omega arith) upper_bound (record { long = omega (arith, long); all = all })
+later_gets_long (suc i) run [] upper_bound long all = absurd (omega arith)
+later_gets_long (suc i) run (t ∷ ts) upper_bound long all =
     later_step run ts (is_prefix t) (λ under. later_gets_long i (run + 1) ts (omega arith) (omega arith) all) (later_gets_long i 0 ts (omega arith) (omega arith) all)
 
 is_long_run : (ts : List Token) → HasLongPrefix ts → has_long_run 0 ts ≡ true

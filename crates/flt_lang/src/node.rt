@@ -115,7 +115,7 @@ impl Node {
     /// How many tests it counts as.
     pub(crate) fn tests(self) -> u8
         ensures count { result ≡ node_tests self }
-        ensures few { result ≤ 27 }
+        ensures upper_bound { result ≤ 27 }
     {
         match self {
             Node::Check(protocol) => check_tests(protocol),
@@ -130,7 +130,7 @@ impl Node {
     /// How many nodes of arithmetic it counts as.
     pub(crate) fn size(self) -> u8
         ensures count { result ≡ node_size self }
-        ensures few { result ≤ 2 }
+        ensures upper_bound { result ≤ 2 }
     {
         match self {
             Node::Sized(_, _) => 2,

@@ -12,7 +12,7 @@ use flt_words::{Cast, Protocol, Side, ValueType};
 fn side_tests(direction: Direction, tests: u8) -> u8
     requires { tests ≤ 4 }
     ensures count { result ≡ side_tests direction tests }
-    ensures few { result ≤ 8 }
+    ensures upper_bound { result ≤ 8 }
 {
     match direction {
         Direction::One(_) => tests,
@@ -22,7 +22,7 @@ fn side_tests(direction: Direction, tests: u8) -> u8
 
 fn proto_tests(protocol: Option<Protocol>) -> u8
     ensures count { result ≡ proto_tests protocol }
-    ensures few { result ≤ 4 }
+    ensures upper_bound { result ≤ 4 }
 {
     match protocol {
         None => 4,
@@ -32,7 +32,7 @@ fn proto_tests(protocol: Option<Protocol>) -> u8
 
 pub(crate) fn check_tests(protocol: Protocol) -> u8
     ensures count { result ≡ check_tests protocol }
-    ensures few { result ≤ 4 }
+    ensures upper_bound { result ≤ 4 }
 {
     match protocol {
         Protocol::Tcp | Protocol::Udp => proto_tests(None),
@@ -44,14 +44,14 @@ pub(crate) fn check_tests(protocol: Protocol) -> u8
 
 fn ether_tests(direction: Direction) -> u8
     ensures count { result ≡ ether_tests direction }
-    ensures few { result ≤ 9 }
+    ensures upper_bound { result ≤ 9 }
 {
     1 + side_tests(direction, 2)
 }
 
 pub(crate) fn cast_tests(cast: Cast) -> u8
     ensures count { result ≡ cast_tests cast }
-    ensures few { result ≤ 9 }
+    ensures upper_bound { result ≤ 9 }
 {
     match cast {
         Cast::Broadcast => ether_tests(Direction::One(Side::Destination)),
@@ -61,7 +61,7 @@ pub(crate) fn cast_tests(cast: Cast) -> u8
 
 fn ip4_tests(protocol: Option<Protocol>, direction: Direction) -> u8
     ensures count { result ≡ ip4_tests protocol direction }
-    ensures few { result ≤ 27 }
+    ensures upper_bound { result ≤ 27 }
 {
     let one_form = 1 + side_tests(direction, 1);
     match protocol {
@@ -72,7 +72,7 @@ fn ip4_tests(protocol: Option<Protocol>, direction: Direction) -> u8
 
 fn transport_tests(protocol: Option<Protocol>) -> u8
     ensures count { result ≡ transport_tests protocol }
-    ensures few { result ≤ 2 }
+    ensures upper_bound { result ≤ 2 }
 {
     match protocol {
         None => 2,
@@ -83,7 +83,7 @@ fn transport_tests(protocol: Option<Protocol>) -> u8
 fn port_tests(protocol: Option<Protocol>, direction: Direction, tests: u8) -> u8
     requires { tests ≤ 2 }
     ensures count { result ≡ port_tests protocol direction tests }
-    ensures few { result ≤ 23 }
+    ensures upper_bound { result ≤ 23 }
 {
     let transport = transport_tests(protocol);
     let sides = side_tests(direction, tests);
@@ -92,7 +92,7 @@ fn port_tests(protocol: Option<Protocol>, direction: Direction, tests: u8) -> u8
 
 fn address_tests(protocol: Option<Protocol>, direction: Direction, value: Value) -> u8
     ensures count { result ≡ address_tests protocol direction value }
-    ensures few { result ≤ 27 }
+    ensures upper_bound { result ≤ 27 }
 {
     match value {
         Value::Mac(_) => ether_tests(direction),
@@ -103,7 +103,7 @@ fn address_tests(protocol: Option<Protocol>, direction: Direction, value: Value)
 
 pub(crate) fn value_tests(quals: FullQuals, value: Value) -> u8
     ensures count { result ≡ value_tests quals value }
-    ensures few { result ≤ 27 }
+    ensures upper_bound { result ≤ 27 }
 {
     match quals.value_type {
         ValueType::Host | ValueType::Net => address_tests(quals.protocol, quals.direction, value),
@@ -115,7 +115,7 @@ pub(crate) fn value_tests(quals: FullQuals, value: Value) -> u8
 
 pub(crate) fn accessor_tests(protocol: Protocol) -> u8
     ensures count { result ≡ accessor_tests protocol }
-    ensures few { result ≤ 3 }
+    ensures upper_bound { result ≤ 3 }
 {
     match protocol {
         Protocol::Tcp | Protocol::Udp | Protocol::Icmp => 3,

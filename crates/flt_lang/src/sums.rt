@@ -13,7 +13,7 @@ use std::alloc::Allocator;
 
 fn sum_of_tests(nodes: &[Node]) -> u128
     ensures sum { result ≡ sum_by node_tests nodes.now }
-    ensures few { result ≤ 27 * 2 ^ 64 }
+    ensures upper_bound { result ≤ 27 * 2 ^ 64 }
 {
     // A u128, since no number of nodes makes it wrap.
     let mut sum: u128 = 0;
@@ -25,7 +25,7 @@ fn sum_of_tests(nodes: &[Node]) -> u128
 
 fn sum_of_sizes(nodes: &[Node]) -> u128
     ensures sum { result ≡ sum_by node_size nodes.now }
-    ensures few { result ≤ 2 * 2 ^ 64 }
+    ensures upper_bound { result ≤ 2 * 2 ^ 64 }
 {
     // A u128, since no number of nodes makes it wrap.
     let mut sum: u128 = 0;
@@ -66,7 +66,7 @@ fn has_divided_zero(nodes: &[Node]) -> bool
 #[tactic(auto, using(crate::proofs::Counting::tests_whole))]
 pub(crate) fn tests_in<A: Allocator>(expr: &Expr<A>) -> u128
     ensures count { result ≡ tests_of expr.now }
-    ensures few { result ≤ 27 * 2 ^ 64 }
+    ensures upper_bound { result ≤ 27 * 2 ^ 64 }
 {
     sum_of_tests(&expr.nodes)
 }
@@ -75,7 +75,7 @@ pub(crate) fn tests_in<A: Allocator>(expr: &Expr<A>) -> u128
 #[tactic(auto, using(crate::proofs::Counting::sizes_whole))]
 pub(crate) fn nodes_in<A: Allocator>(expr: &Expr<A>) -> u128
     ensures count { result ≡ nodes_of expr.now }
-    ensures few { result ≤ 2 * 2 ^ 64 }
+    ensures upper_bound { result ≤ 2 * 2 ^ 64 }
 {
     sum_of_sizes(&expr.nodes)
 }

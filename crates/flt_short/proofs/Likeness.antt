@@ -59,12 +59,12 @@ drop_at (i ∷ c) (suc k) j e = drop_at c k j e
 -- from a place on, code is as good as the old code: it has the same answer in no more instructions
 pub record AsGood (d is : List Insn) (p : List ℕ) (n far k : ℕ) (t s : State) : Type 0 where
   pub same : answer_of d p n far t ≡ answer_of is p n k s
-  pub few : steps_of d p n far t ≤ steps_of is p n k s
+  pub upper_bound : steps_of d p n far t ≤ steps_of is p n k s
 
 -- the same behind an instruction
 record Follows (d is : List Insn) (p : List ℕ) (n : ℕ) (u v : Next) : Type 0 where
   same : answer_after (answer_of d p n) u ≡ answer_after (answer_of is p n) v
-  few : steps_after (steps_of d p n) u ≤ steps_after (steps_of is p n) v
+  upper_bound : steps_after (steps_of d p n) u ≤ steps_after (steps_of is p n) v
 
 -- A and X may differ
 abbrev other : State → ℕ → ℕ → State
@@ -149,11 +149,11 @@ module _ (p : List ℕ) (n : ℕ) where
         let good = all k m e some s u v (implied_same m.accumulator a u s.accumulator i.0 h) (implied_same m.index x v s.index i.1 g) in
         let there : length c - m.place ≡ (length c - (l.place - 1)) + far = omega arith in
         let same_code : drop far behind ≡ tail c m.place = drop_drop far (length c - (l.place - 1)) c ∙ ap (λ z. drop z c) (sym there) in
-        let few = good.few in
+        let upper_bound = good.upper_bound in
         let steps : steps_of behind p n far (other s u v) ≡ steps_of (tail c m.place) p n 0 (other s u v) = sym (steps_drop behind p n far (other s u v)) ∙ ap (λ z. steps_of z p n 0 (other s u v)) same_code in
         record {
           same = sym (answer_drop behind p n far (other s u v)) ∙ ap (λ z. answer_of z p n 0 (other s u v)) same_code ∙ good.same;
-          few = omega arith;
+          upper_bound = omega arith;
         }
 
     fit : (k far : ℕ) (a x : Bool) → fits ls k far l.place a x ≡ true → (s : State) (u v : ℕ) → Same a u s.accumulator → Same x v s.index → AsGood behind is p n far k (other s u v) s
@@ -165,13 +165,13 @@ module _ (p : List ℕ) (n : ℕ) where
       t = other s a x
 
       goes : (u v : State) → AsGood behind is p n 0 0 u v → Follows behind is p n (Goes 0 u) (Goes 0 v)
-      goes u v g = record { same = g.same; few = g.few }
+      goes u v g = record { same = g.same; upper_bound = g.upper_bound }
 
       ends : (u v : ℕ) → u ≡ v → Follows behind is p n (Ends u) (Ends v)
-      ends u v e = record { same = ap Some e; few = omega arith }
+      ends u v e = record { same = ap Some e; upper_bound = omega arith }
 
       lost : Follows behind is p n Lost Lost
-      lost = record { same = refl; few = omega arith }
+      lost = record { same = refl; upper_bound = omega arith }
 
       to_a : (o : Option ℕ) → fits ls 0 0 l.place true l.index ≡ true → Follows behind is p n (into Accumulator o t) (into Accumulator o s)
       to_a None f = ends 0 0 refl
@@ -194,8 +194,8 @@ module _ (p : List ℕ) (n : ℕ) where
       stored false m f = lost
 
       way : (b : Bool) (hit miss near next : ℕ) → fits ls hit near l.place l.accumulator l.index ≡ true → fits ls miss next l.place l.accumulator l.index ≡ true → Follows behind is p n (Goes (if b then near else next) t) (Goes (if b then hit else miss) s)
-      way true hit miss near next f g = let w = fit hit near l.accumulator l.index f s a x ha hx in record { same = w.same; few = w.few }
-      way false hit miss near next f g = let w = fit miss next l.accumulator l.index g s a x ha hx in record { same = w.same; few = w.few }
+      way true hit miss near next f g = let w = fit hit near l.accumulator l.index f s a x ha hx in record { same = w.same; upper_bound = w.upper_bound }
+      way false hit miss near next f g = let w = fit miss next l.accumulator l.index g s a x ha hx in record { same = w.same; upper_bound = w.upper_bound }
 
       -- what the operation does
       op_good : (op : Operation) (j i : Insn) → i.k ≡ j.k → implied (reads_accumulator op) l.accumulator ≡ true → implied (reads_index op) l.index ≡ true → goes_on op j l i ls ≡ true → Follows behind is p n (does op j p n t) (does op i p n s)
@@ -253,10 +253,10 @@ module _ (p : List ℕ) (n : ℕ) where
       let old = knows_step i (Some op) s e in
       let steps_new = ap (steps_after (steps_of d p n)) new in
       let steps_old = ap (steps_after (steps_of is p n)) old in
-      let few = g.few in
+      let upper_bound = g.upper_bound in
       record {
         same = ap (answer_after (answer_of d p n)) new ∙ g.same ∙ sym (ap (answer_after (answer_of is p n)) old);
-        few = omega arith;
+        upper_bound = omega arith;
       }
 
   mask_is : operation_of 84 ≡ Some (Compute arithmetic.And Constant)
@@ -323,24 +323,24 @@ module _ (p : List ℕ) (n : ℕ) where
       ∙ ap (λ m. Goes (if not (bit_and m j.k == 0) then j.jt else j.jf) (other s a x)) (ha b.0)
       ∙ ap (λ m. Goes (if not (bit_and s.accumulator m == 0) then j.jt else j.jf) (other s a x)) (sym k) in
       let g = ways c is ls l u all low j s' a x hx w.0 w.1 z in
-      let few = g.few in
+      let upper_bound = g.upper_bound in
       let steps_new = ap (steps_after (steps_of d p n)) new in
       let steps_first = ap (steps_after (steps_of (u ∷ is) p n)) first in
       let steps_second = ap (steps_after (steps_of is p n)) second in
       record {
         same = ap (answer_after (answer_of d p n)) new ∙ g.same ∙ sym (ap (answer_after (answer_of (u ∷ is) p n)) first ∙ ap (answer_after (answer_of is p n)) second);
-        few = omega arith;
+        upper_bound = omega arith;
       }
     where
       ways : (c is : List Insn) (ls : List Landing) (l : Landing) (u : Insn) (all : AllLand c (u ∷ is) ls) (low : l.place ≤ length c) (j : Insn) (s : State) (a x : ℕ) → Same l.index x s.index → fits ls (1 + u.jt) j.jf l.place false l.index ≡ true → fits ls (1 + u.jf) j.jt l.place false l.index ≡ true → (z : Bool) → Follows (tail c (l.place - 1)) is p n (Goes (if not z then j.jt else j.jf) (other s a x)) (Goes (if z then u.jt else u.jf) s)
       ways c is ls l u all low j s a x hx f g true =
           let one : 1 + u.jt ≡ suc u.jt = omega arith in
           let w = subst (λ m. AsGood (tail c (l.place - 1)) (u ∷ is) p n j.jf m (other s a x) s) one (fit c (u ∷ is) ls l all low (1 + u.jt) j.jf false l.index f s a x (λ q. cc) hx) in
-          record { same = w.same; few = w.few }
+          record { same = w.same; upper_bound = w.upper_bound }
       ways c is ls l u all low j s a x hx f g false =
           let one : 1 + u.jf ≡ suc u.jf = omega arith in
           let w = subst (λ m. AsGood (tail c (l.place - 1)) (u ∷ is) p n j.jt m (other s a x) s) one (fit c (u ∷ is) ls l all low (1 + u.jf) j.jt false l.index g s a x (λ q. cc) hx) in
-          record { same = w.same; few = w.few }
+          record { same = w.same; upper_bound = w.upper_bound }
 
   -- one load for a number that goes to X by A, and a load behind X
   record Direct (old new : ℕ) : Type 0 where
@@ -376,21 +376,21 @@ module _ (p : List ℕ) (n : ℕ) where
       let third = knows_step v (Some (LoadIndirect w.width)) s'' w.indirect ∙ ap (λ m. into Accumulator (field p m w.width) s'') k in
       let new = knows_step j (Some (LoadAbsolute w.width)) (other s a x) w.absolute in
       let g = loads c is ls l u v all low s'' a x q.1 (field p j.k w.width) in
-      let few = g.few in
+      let upper_bound = g.upper_bound in
       let steps_new = ap (steps_after (steps_of d p n)) new in
       let steps_first = ap (steps_after (steps_of (u ∷ v ∷ is) p n)) first in
       let steps_second = ap (steps_after (steps_of (v ∷ is) p n)) second in
       let steps_third = ap (steps_after (steps_of is p n)) third in
       record {
         same = ap (answer_after (answer_of d p n)) new ∙ g.same ∙ sym (ap (answer_after (answer_of (u ∷ v ∷ is) p n)) first ∙ ap (answer_after (answer_of (v ∷ is) p n)) second ∙ ap (answer_after (answer_of is p n)) third);
-        few = omega arith;
+        upper_bound = omega arith;
       }
     where
       loads : (c is : List Insn) (ls : List Landing) (l : Landing) (u v : Insn) (all : AllLand c (u ∷ v ∷ is) ls) (low : l.place ≤ length c) (s : State) (a x : ℕ) → fits ls 2 0 l.place true false ≡ true → (o : Option ℕ) → Follows (tail c (l.place - 1)) is p n (into Accumulator o (other s a x)) (into Accumulator o s)
-      loads c is ls l u v all low s a x f None = record { same = refl; few = omega arith }
+      loads c is ls l u v all low s a x f None = record { same = refl; upper_bound = omega arith }
       loads c is ls l u v all low s a x f (Some y) =
           let w = fit c (u ∷ v ∷ is) ls l all low 2 0 true false f (record s { accumulator = y }) y x (λ q. refl) (λ q. cc) in
-          record { same = w.same; few = w.few }
+          record { same = w.same; upper_bound = w.upper_bound }
 
   -- the header length and a load behind it, for a number and the header length that are added in A and go to X
   record Indirect (o : Option Operation) : Type 0 where
@@ -409,10 +409,10 @@ module _ (p : List ℕ) (n : ℕ) where
     beyond = tail c (l.place - 1 - 1)
 
     loaded : (s : State) (a x : ℕ) (o : Option ℕ) → Follows beyond is p n (into Accumulator o (other s a x)) (into Accumulator o s)
-    loaded s a x None = record { same = refl; few = omega arith }
+    loaded s a x None = record { same = refl; upper_bound = omega arith }
     loaded s a x (Some y) =
         let r = fit c (t ∷ u ∷ v ∷ w ∷ is) ls (record l { place = l.place - 1 }) all (omega arith) 4 0 true false fitting (record s { accumulator = y }) y x (λ q. refl) (λ q. cc) in
-        record { same = r.same; few = r.few }
+        record { same = r.same; upper_bound = r.upper_bound }
 
     -- behind the header length
     measured : (s : State) (a h : ℕ) → s.accumulator ≡ i.k → AsGood (j ∷ beyond) (u ∷ v ∷ w ∷ is) p n 0 0 (other s a h) (record s { index = h })
@@ -426,19 +426,19 @@ module _ (p : List ℕ) (n : ℕ) where
         let third = knows_step w (Some (LoadIndirect width)) s4 w_is ∙ ap (λ z. into Accumulator (field p z width) s4) (place_is i.k h w.k j.k k) in
         let new = knows_step j (Some (LoadIndirect width)) (other s a h) j_is in
         let g = loaded s4 a h (field p ((h + j.k) % 2 ^ 32) width) in
-        let few = g.few in
+        let upper_bound = g.upper_bound in
         let steps_new = ap (steps_after (steps_of beyond p n)) new in
         let steps_first = ap (steps_after (steps_of (v ∷ w ∷ is) p n)) first in
         let steps_second = ap (steps_after (steps_of (w ∷ is) p n)) second in
         let steps_third = ap (steps_after (steps_of is p n)) third in
         record {
           same = ap (answer_after (answer_of beyond p n)) new ∙ g.same ∙ sym (ap (answer_after (answer_of (v ∷ w ∷ is) p n)) first ∙ ap (answer_after (answer_of (w ∷ is) p n)) second ∙ ap (answer_after (answer_of is p n)) third);
-          few = omega arith;
+          upper_bound = omega arith;
         }
 
     measures : (s : State) (a x : ℕ) (o : Option ℕ) → s.accumulator ≡ i.k → Follows (j ∷ beyond) (u ∷ v ∷ w ∷ is) p n (into Index o (other s a x)) (into Index o s)
-    measures s a x None number = record { same = refl; few = omega arith }
-    measures s a x (Some h) number = let r = measured s a h number in record { same = r.same; few = r.few }
+    measures s a x None number = record { same = refl; upper_bound = omega arith }
+    measures s a x (Some h) number = let r = measured s a h number in record { same = r.same; upper_bound = r.upper_bound }
 
   header_good : (c is : List Insn) (ls : List Landing) (l : Landing) (t u v w : Insn) (all : AllLand c (t ∷ u ∷ v ∷ w ∷ is) ls) (low : l.place ≤ length c) (h j i : Insn) (js : List Insn) → j ∷ js ≡ tail c (l.place - 1) → header_load (h ∷ j ∷ js) l i (t ∷ u ∷ v ∷ w ∷ is) ls ≡ true → (s : State) (a x : ℕ) → AsGood (h ∷ tail c (l.place - 1)) (i ∷ t ∷ u ∷ v ∷ w ∷ is) p n 0 0 (other s a x) s
   unfolding header_load
@@ -478,13 +478,13 @@ module _ (p : List ℕ) (n : ℕ) where
       let rest : j ∷ tail c (l.place - 1 - 1) ≡ tail c (l.place - 1) = ap (λ z. j ∷ z) (sym (tail_behind c (l.place - 1) j js some (omega arith) (sym at))) ∙ at in
       let g = measures c is ls l t u v w all low rd.1 i j load.width (ap operation_of u_code ∙ add_is) (ap operation_of v_code ∙ copy_is) load.is (ap operation_of (sym j_code) ∙ load.is) j_k s1 a x (option_map header_length (field p h.k Byte)) refl in
       let d = j ∷ tail c (l.place - 1 - 1) in
-      let few = g.few in
+      let upper_bound = g.upper_bound in
       let steps_new = ap (steps_after (steps_of d p n)) new in
       let steps_first = ap (steps_after (steps_of (t ∷ u ∷ v ∷ w ∷ is) p n)) first in
       let steps_second = ap (steps_after (steps_of (u ∷ v ∷ w ∷ is) p n)) second in
       let good : AsGood (h ∷ d) (i ∷ t ∷ u ∷ v ∷ w ∷ is) p n 0 0 (other s a x) s = record {
         same = ap (answer_after (answer_of d p n)) new ∙ g.same ∙ sym (ap (answer_after (answer_of (t ∷ u ∷ v ∷ w ∷ is) p n)) first ∙ ap (answer_after (answer_of (u ∷ v ∷ w ∷ is) p n)) second);
-        few = omega arith;
+        upper_bound = omega arith;
       } in
       subst (λ z. AsGood (h ∷ z) (i ∷ t ∷ u ∷ v ∷ w ∷ is) p n 0 0 (other s a x) s) rest good
 
@@ -538,7 +538,7 @@ module _ (p : List ℕ) (n : ℕ) where
   all_land c (i ∷ is) [] same e k l g some = cc
   all_land c (i ∷ is) (m ∷ ls) same e (suc k) l g some = λ s a x ha hx.
       let r = all_land c is ls (omega arith) (both_true (stands c m i is ls) (are_alike c is ls) e).1 k l g some s a x ha hx in
-      record { same = r.same; few = r.few }
+      record { same = r.same; upper_bound = r.upper_bound }
   all_land c (i ∷ is) (m ∷ ls) same e zero l g some =
       let q = both_true (stands c m i is ls) (are_alike c is ls) e in
       let is_l : m ≡ l = cc in
@@ -589,7 +589,7 @@ module _ (p : List ℕ) (n : ℕ) where
   pub record Shortened (new : List Insn) (answer most : ℕ) : Type 0 where
     pub met : ℕ
     pub answered : machine new p n (length new) ≡ Answered answer met
-    pub few : met ≤ most
+    pub upper_bound : met ≤ most
     pub inside : met ≤ length new
 
   -- the new code gives the old one's answer in no more instructions
@@ -610,18 +610,18 @@ module _ (p : List ℕ) (n : ℕ) where
       let c = machine_answers new p n answer a in
       let now = met_of new (length new) 0 0 start answer c.met c.answered in
       let steps_new = ap (λ z. steps_of z p n 0 start) whole in
-      let few = good.few in
+      let upper_bound = good.upper_bound in
       let old_steps = was.steps in
       let new_steps = now.steps in
-      let inside = c.few in
-      record { met = c.met; answered = c.answered; few = omega arith; inside = omega arith }
+      let inside = c.upper_bound in
+      record { met = c.met; answered = c.answered; upper_bound = omega arith; inside = omega arith }
 
 pub replaced : (new old : List Insn) (ls : List Landing) → length new ≤ length old → length ls ≡ length old → begins ls (length new) ≡ true → are_alike new old ls ≡ true → All (λ i. i.code ≢ JUMP) new → IsValid new → Replaces new old
 replaced new old ls short same b e free valid =
     record {
       shorter = short;
       valid = λ v. valid;
-      runs = λ p n answer count m. let r = shortened p n new old ls answer count same b e m in record { count = r.met; answered = r.answered; few = r.few; inside = r.inside };
+      runs = λ p n answer count m. let r = shortened p n new old ls answer count same b e m in record { count = r.met; answered = r.answered; upper_bound = r.upper_bound; inside = r.inside };
       needed = λ h. record { each = λ place jump g j. absurd (free place jump (slice_get_within new place jump g) (ap (λ i. i.code) (get_or_from_slice_get new place jump jump g) ∙ j)) };
       no_jump = λ h. free;
     }
@@ -632,7 +632,7 @@ itself old =
     record {
       shorter = omega arith;
       valid = λ v. v;
-      runs = λ p n answer count m. let k = met_of p n old (length old) 0 0 start answer count m in let steps = k.steps in let c = machine_answers old p n answer k.answer in let r = met_of p n old (length old) 0 0 start answer c.met c.answered in let again = r.steps in let few = c.few in record { count = c.met; answered = c.answered; few = omega arith; inside = omega arith };
+      runs = λ p n answer count m. let k = met_of p n old (length old) 0 0 start answer count m in let steps = k.steps in let c = machine_answers old p n answer k.answer in let r = met_of p n old (length old) 0 0 start answer c.met c.answered in let again = r.steps in let upper_bound = c.upper_bound in record { count = c.met; answered = c.answered; upper_bound = omega arith; inside = omega arith };
       needed = λ h. h;
       no_jump = λ h. h;
     }

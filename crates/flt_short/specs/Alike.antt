@@ -19,7 +19,7 @@ use Rattle.flt_short.specs.Layout.{JUMP, JumpsAreNeeded}
 pub record Comes (prog : List Insn) (p : List ℕ) (n answer most : ℕ) : Type 0 where
   pub count : ℕ
   pub answered : machine prog p n (length prog) ≡ Answered answer count
-  pub few : count ≤ most
+  pub upper_bound : count ≤ most
   pub inside : count ≤ length prog
 
 -- a program in place of an old one: it is no longer, and on each packet it gives the same answer in

@@ -117,7 +117,7 @@ fn arrive_behind(held: &mut [Held], from: usize, came: Held, insn: Insn, behind:
 
 /// The same with what A holds where a run comes to each instruction from the code in front.
 fn turn_all(held: &mut [Held], insns: &mut [Insn])
-    requires few { length insns.old < 2 ^ 31 }
+    requires upper_bound { length insns.old < 2 ^ 31 }
     requires each { length held.old ≡ length insns.old }
     ensures { insns.new ≡ flow held.old insns.old }
 {

@@ -71,7 +71,7 @@ number_between base k digits others =
 
 -- eight groups fit, with those left out between the first and the last
 pub ends_fit : (first count last last_count : ℕ) → first < 65536 ^ count → last < 65536 ^ last_count → count + last_count ≤ 7 → first * 65536 ^ (8 - count) + last < 2 ^ 128
-ends_fit first count last last_count below last_below few =
+ends_fit first count last last_count below last_below upper_bound =
     let times : (first + 1) * 65536 ^ (8 - count) ≤ 65536 ^ count * 65536 ^ (8 - count) = mul-le-mul_right (65536 ^ (8 - count)) (omega arith) in
     let whole = pow-add 65536 count (8 - count) in
     let eight : count + (8 - count) ≡ 8 = omega arith in
@@ -85,7 +85,7 @@ ends_fit first count last last_count below last_below few =
 pub ends_value : (form : Group) (first last : List (List ℕ)) → length first + length last ≤ 7
     → number_from_digits 65536 (group_values form first) * 65536 ^ (8 - length first) + number_from_digits 65536 (group_values form last)
     ≡ number_from_digits 65536 (group_values form first ++ (replicate (8 - (length first + length last)) 0 ++ group_values form last))
-ends_value form first last few =
+ends_value form first last upper_bound =
     let between = number_between 65536 (8 - (length first + length last)) (group_values form first) (group_values form last) in
     let long : length (group_values form last) ≡ length last = length-map last (group_value form) in
     let same : 8 - (length first + length last) + length (group_values form last) ≡ 8 - length first = omega arith in

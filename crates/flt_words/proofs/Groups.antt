@@ -19,9 +19,9 @@ not_small : (n : ℕ) → n < 2 ^ 32 → is_word_sized n ≡ false → ⊥
 not_small n small large = grind (arith, nat_tests)
 
 pub small_hexadecimal : (digits : List ℕ) (most : ℕ) → AllDigits 16 digits → length digits ≤ most → digits_value 16 digits < 16 ^ most
-small_hexadecimal digits most all few =
+small_hexadecimal digits most all upper_bound =
     let below = digits_value-lt 16 digits all in
-    let more : 16 ^ length digits ≤ 16 ^ most = pow-le-pow_right (lit< tt) few in
+    let more : 16 ^ length digits ≤ 16 ^ most = pow-le-pow_right (lit< tt) upper_bound in
     omega arith
 
 pub group_lacks : (form : Group) (digits : List ℕ) → IsGroup form digits → has (separator_of form) digits ≡ false
@@ -68,9 +68,9 @@ groups_are_parts {form} {text} {groups} are some = parts_of form text groups are
 -- the answer at digits of which few are read
 pub small_answer : (digits : List ℕ) (most : ℕ) (r : Result ℕ WordFault) → most ≤ 4 → length digits ≤ most → Answers (Writes 16 digits) is_word_sized r
     → MatchOption (result_ok r) (IsNumeral 16 digits × (length digits ≤ most) → ⊥) (λ n. IsNumeral 16 digits × (length digits ≤ most) × (n ≡ digits_value 16 digits))
-small_answer digits most (Ok n) low few h = (h.0.numeral, few, sym h.0.value)
-small_answer digits most (Err fault.TooLarge) low few h =
-    let below = small_hexadecimal digits most h.1.numeral.1 few in
+small_answer digits most (Ok n) low upper_bound h = (h.0.numeral, upper_bound, sym h.0.value)
+small_answer digits most (Err fault.TooLarge) low upper_bound h =
+    let below = small_hexadecimal digits most h.1.numeral.1 upper_bound in
     let more : 16 ^ most ≤ 16 ^ 4 = pow-le-pow_right (lit< tt) low in
     absurd (not_small h.0 (omega (arith, h.1.value)) h.2)
-small_answer digits most (Err fault.Unknown) low few h = λ g. h (digits_value 16 digits) (record { numeral = g.0; value = refl })
+small_answer digits most (Err fault.Unknown) low upper_bound h = λ g. h (digits_value 16 digits) (record { numeral = g.0; value = refl })

@@ -112,7 +112,7 @@ no_word inside rest m other w =
 
 few_bytes : (inside : Bool) (rest : List ℕ) (m : ℕ) → m ≤ length rest → starts_word inside (get_or rest 0 0) ≡ false → IsPiece inside (take m rest) → m ≤ 2
 few_bytes inside rest m within other (word w) = absurd (no_word inside rest m other w)
-few_bytes inside rest m within other (symbol {kind} found) = omega (arith, (symbol_piece inside (take m rest) kind found).few, length-take-le m rest within)
+few_bytes inside rest m within other (symbol {kind} found) = omega (arith, (symbol_piece inside (take m rest) kind found).upper_bound, length-take-le m rest within)
 
 some_bytes : (inside : Bool) (rest : List ℕ) (m : ℕ) → m ≤ length rest → IsPiece inside (take m rest) → 0 < m
 some_bytes inside rest m within (word w) = word_some inside rest m w
@@ -126,9 +126,9 @@ pub longest_two : {inside : Bool} {rest : List ℕ} {kind : TokenKind} → 2 ≤
 longest_two {inside} {rest} {kind} long other found = record { in_range = long; piece = symbol found; longest = λ m within piece. few_bytes inside rest m within other piece }
 
 one_or_two : (n : ℕ) → 0 < n → n ≤ 2 → (n ≡ 1) ⊎ (n ≡ 2)
-one_or_two zero some few = absurd (omega arith)
-one_or_two (suc zero) some few = inl refl
-one_or_two (suc (suc n)) some few = inr (omega arith)
+one_or_two zero some upper_bound = absurd (omega arith)
+one_or_two (suc zero) some upper_bound = inl refl
+one_or_two (suc (suc n)) some upper_bound = inr (omega arith)
 
 not_two : (inside : Bool) (rest : List ℕ) (m : ℕ) → starts_word inside (get_or rest 0 0) ≡ false → (2 ≤ length rest → symbol_of inside (take 2 rest) ≡ None) → m ≤ length rest → m ≡ 2 → IsPiece inside (take m rest) → ⊥
 not_two inside rest m other none within two piece =

@@ -34,7 +34,7 @@ now_pushed (x ∷ ys) y = ap (λ rest. x.now ∷ rest) (now_pushed ys y)
 -- a part that is no group
 pub bad_part : {form : Group} {text digits : List ℕ} (k : ℕ) → 0 < length text → (k < length (parts_of form text)) × (digits ≡ get_or (parts_of form text) k digits) → (IsGroup form digits → ⊥)
     → (groups : List (List ℕ)) → AreGroups form text groups → length groups ≤ 8 → ⊥
-bad_part {form} {text} {digits} k some at bad groups are few =
+bad_part {form} {text} {digits} k some at bad groups are upper_bound =
     let same = groups_are_parts are some in
     let each : AllByRecursion (IsGroup form) (parts_of form text) = subst (λ gs. AllByRecursion (IsGroup form) gs) same are.each in
     bad (subst (IsGroup form) (sym at.1) (each_at (IsGroup form) (parts_of form text) k digits each at.0))
@@ -42,7 +42,7 @@ bad_part {form} {text} {digits} k some at bad groups are few =
 -- a ninth part
 pub too_many : {form : Group} {text : List ℕ} (k : ℕ) → 0 < length text → k < length (parts_of form text) → k ≡ 8
     → (groups : List (List ℕ)) → AreGroups form text groups → length groups ≤ 8 → ⊥
-too_many {form} {text} k some within eight groups are few =
+too_many {form} {text} k some within eight groups are upper_bound =
     let same = ap length (groups_are_parts are some) in omega arith
 
 -- no part was left
@@ -75,9 +75,9 @@ pub step_small : (form : Group) (digits : List ℕ) (value count digit base : �
 step_small form digits value count digit base same g small = rw (same, g.1) (below_next (base_of form) count value (group_value form digits) small (group_below form digits g.0))
 
 pub step_fits : (form : Group) (digits : List ℕ) (value count digit base : ℕ) → base ≡ base_of form → IsGroup form digits × (digit ≡ group_value form digits) → value < base_of form ^ count → count < 8 → value * base + digit < 2 ^ 128
-step_fits form digits value count digit base same g small few =
+step_fits form digits value count digit base same g small upper_bound =
     let below = step_small form digits value count digit base same g small in
-    let fits = base_fits form count few in
+    let fits = base_fits form count upper_bound in
     omega arith
 
 pub step_value : (form : Group) (seen : List (List ℕ)) (digits : List ℕ) (value digit base : ℕ) → base ≡ base_of form → IsGroup form digits × (digit ≡ group_value form digits) → value ≡ number_from_digits (base_of form) (group_values form seen)
@@ -100,10 +100,10 @@ shifted_small form value count i small =
     rw pow-add (mul-lt-mul_of_pos_right small some)
 
 pub zero_fits : (form : Group) (value count i : ℕ) → value < base_of form ^ count → count + i < 8 → value * base_of form ^ i * base_of form < 2 ^ 128
-zero_fits form value count i small few =
+zero_fits form value count i small upper_bound =
     let shifted = shifted_small form value count (i + 1) small in
     let same : value * base_of form ^ i * base_of form ≡ value * base_of form ^ (i + 1) = rw next_power (mul_assoc value (base_of form ^ i) (base_of form)) in
-    let fits : base_of form ^ (count + (i + 1)) ≤ 2 ^ 128 = rw (← add_assoc) (base_fits form (count + i) few) in
+    let fits : base_of form ^ (count + (i + 1)) ≤ 2 ^ 128 = rw (← add_assoc) (base_fits form (count + i) upper_bound) in
     omega arith
 
 pub zero_value : (base start i value : ℕ) → value ≡ start * base ^ i → value * base ≡ start * base ^ (i + 1)

@@ -22,7 +22,7 @@ pub record IsSymbolPiece (inside : Bool) (piece : List ℕ) : Type 0 where
   pub starts_none : starts_word inside (get_or piece 0 0) ≡ false
   pub no_blank : is_blank (get_or piece 0 0) ≡ false
   pub some : 0 < length piece
-  pub few : length piece ≤ 2
+  pub upper_bound : length piece ≤ 2
 
 below : (m n : ℕ) → nat_lt m n ≡ true → m < n
 below m n h = grind (arith, nat_tests)
@@ -40,16 +40,16 @@ in_table inside piece kind found =
     let colon = both (not (first == 58)) (not (is_blank first) && (nat_lt 0 (length piece) && nat_lt (length piece) 3)) letter.1 in
     let blank = both (not (is_blank first)) (nat_lt 0 (length piece) && nat_lt (length piece) 3) colon.1 in
     let long = both (nat_lt 0 (length piece)) (nat_lt (length piece) 3) blank.1 in
-    let few = below (length piece) 3 long.1 in
+    let upper_bound = below (length piece) 3 long.1 in
     record {
       starts_none = starts_no_word (is_ascii_alphanumeric first) (not inside) (first == 58) (is_false (is_ascii_alphanumeric first) letter.0) (is_false (first == 58) colon.0);
       no_blank = is_false (is_blank first) blank.0;
       some = below 0 (length piece) long.0;
-      few = omega arith;
+      upper_bound = omega arith;
     }
 
 colon_piece : (inside : Bool) → inside ≡ true → IsSymbolPiece inside (codes ":")
-colon_piece inside e = record { starts_none = rw e refl; no_blank = refl; some = lit≤ tt; few = lit≤ tt }
+colon_piece inside e = record { starts_none = rw e refl; no_blank = refl; some = lit≤ tt; upper_bound = lit≤ tt }
 
 symbol_step : (inside colon : Bool) (piece : List ℕ) (kind : TokenKind) → bytes_eq piece (codes ":") ≡ colon → ◌≡◌ {A = Option TokenKind} (cond (inside && colon) (Some token.Colon) (look_up symbols piece)) (Some kind) → IsSymbolPiece inside piece
 symbol_step true true piece kind same found = subst (IsSymbolPiece true) (sym ((bytes_eq-Decides piece (codes ":")).0 same)) (colon_piece true refl)

@@ -106,7 +106,7 @@ fn groups_of(form: Group, text: &[u8]) -> Option<Joined>
 /// The number of groups with zeros behind them.
 fn before_zeros(form: Group, joined: Joined, zeros: u32) -> u128
     requires small { joined.value < base_of form ^ joined.count }
-    requires few { joined.count + zeros ≤ 8 }
+    requires upper_bound { joined.count + zeros ≤ 8 }
     ensures { result ≡ joined.value * base_of form ^ zeros }
 {
     // A product for a shift, as the definition has it.

@@ -11,9 +11,9 @@ returns-then-pass-clause-taken g c =
     let size : ℕ = 16 + c.in-Ok.found.captured in
     let hand : List ℕ = c.at_hand-hand.result.now in
     let buffer : List ℕ = c.copy_unit.new.buffer in
-    let few : 16 ≤ size = omega arith in
+    let upper_bound : 16 ≤ size = omega arith in
     let front : take 16 buffer ≡ take 16 hand =
-    sym (take-take 16 size buffer few) ∙ ap (take 16) c.copy_unit.ensures.copied ∙ take-take 16 size hand few in
+    sym (take-take 16 size buffer upper_bound) ∙ ap (take 16) c.copy_unit.ensures.copied ∙ take-take 16 size hand upper_bound in
     let F : List ℕ → Type 0 = λ l. checked (first_failing (field_checks c.args.head.now l)) (record_header_in c.args.head.now l) ≡ Ok c.in-Ok.found in
     let T : Bool → Type 0 = λ b. Passes (g.I.Input.unread c.args.input.now) size b (g.I.Input.unread c.pass.new.self) in
     record {
@@ -28,6 +28,6 @@ returns-then-pass-clause-taken g c =
       failed = search rules;
       never = search rules;
       splits = λ t.
-          taken-first (g.I.Input.unread c.args.input.now) (g.I.Input.unread c.pass.new.self) hand size (c.at_hand-hand.ensures.told t) c.if-size-hand.false (subst T c.if-pass.true (c.pass.ensures.told t))
+          taken-first (g.I.Input.unread c.args.input.now) (g.I.Input.unread c.pass.new.self) hand size (c.at_hand-hand.ensures.exact t) c.if-size-hand.false (subst T c.if-pass.true (c.pass.ensures.exact t))
           ∙ ap (λ (l : List ℕ). l ++ g.I.Input.unread c.pass.new.self) (sym c.copy_unit.ensures.copied);
     }

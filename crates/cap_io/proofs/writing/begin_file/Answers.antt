@@ -10,7 +10,7 @@ returns-in-Pcap g c = record {
       let bytes : List ℕ = c.head_bytes.result in
       let same : bytes ++ [] ≡ file_start c.args.format c.args.link =
       append-nil bytes ∙ c.head_bytes.ensures ∙ pcap-file_header c.args.format c.args.link (is-pcap c.args.format c.in-Pcap.is) in
-      appends-as c.write_parts.result _ _ _ _ same (c.write_parts.ensures.told tells);
+      appends-as c.write_parts.result _ _ _ _ same (c.write_parts.ensures.exact tells);
   failed = search rules;
   room = search rules;
 }

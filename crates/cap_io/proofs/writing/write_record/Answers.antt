@@ -19,7 +19,7 @@ returns g c =
     let same : front ++ (bytes ++ []) ≡ record_text (resolution_of c.args.format) (captured c.args.packet.now) =
     ap (λ (l : List ℕ). front ++ l) (append-nil bytes) ∙ ap (λ (l : List ℕ). l ++ bytes) c.record_bytes.ensures in
     appends-then _ _ _ _ _ _ _ c.in_ok-write_file_start.ensures (record {
-      appended = λ tells. appends-as c.write_parts.result _ _ _ _ same (c.write_parts.ensures.told tells);
+      appended = λ tells. appends-as c.write_parts.result _ _ _ _ same (c.write_parts.ensures.exact tells);
       failed = c.write_parts.ensures.failed;
       room = c.write_parts.ensures.room;
     })

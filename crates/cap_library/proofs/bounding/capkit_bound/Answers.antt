@@ -10,6 +10,6 @@ returns-in-Err c =
     has_none (record {
       failure = c.in-Err.failure;
       why = c.in-Err.ensures.failed;
-      told = c.status.ensures;
+      exact = c.status.ensures;
       where_at = c.number.ensures;
     })

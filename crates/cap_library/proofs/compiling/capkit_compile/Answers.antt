@@ -10,7 +10,7 @@ returns-in-Err c =
     fails (record {
       failure = c.in-Err.failure;
       why = c.in-Err.ensures.failed;
-      told = c.status.ensures;
+      exact = c.status.ensures;
       where_at = c.number.ensures;
       kept = c.in-Err.ensures.kept;
     })

@@ -12,10 +12,10 @@ returns-then-count-table-clause-err c =
     let e = c.in-Ok-Interface.ensures in
     let size = length-first_of c.args.count c.args.table.now c.requires.known in
     let full = c.if-count-table.true in
-    let few = c.if-count-eq-MOST_INTERFACES.false in (
+    let upper_bound = c.if-count-eq-MOST_INTERFACES.false in (
       omega (arith, size, full),
       no_room c.args.frame.now (first_of c.args.count c.args.table.now) c.args.bytes.now c.in-Ok-Interface.found c.requires.whole c.requires.shortest
-          (sym (ap parts_of c.in-Ok-Interface.field-0-is) ∙ e.parts) (subst IsDescribedIfAny c.in-Ok-Interface.field-0-is e.described) e.passes (omega (arith, size, c.requires.bounds)) (λ n. few (sym size ∙ n)),
+          (sym (ap parts_of c.in-Ok-Interface.field-0-is) ∙ e.parts) (subst IsDescribedIfAny c.in-Ok-Interface.field-0-is e.described) e.passes (omega (arith, size, c.requires.bounds)) (λ n. upper_bound (sym size ∙ n)),
     )
 
 pub enhanced_packet-requires-clause-room : goal.enhanced_packet-requires-clause-room
@@ -30,7 +30,7 @@ returns-in-Ok-clause-ok c =
       enters = enhanced_enters c.args.frame.now (first_of c.args.count c.args.table.now) c.args.bytes.now c.in-Ok-Enhanced.found (spans_of c.args.frame.now.length c.in-Ok.packet)
           c.requires.whole c.requires.shortest (sym (ap parts_of c.in-Ok-Enhanced.field-0-is) ∙ e.parts) e.passes c.in-Ok.ensures.found;
       known = c.requires.known;
-      few = c.requires.bounds;
+      upper_bound = c.requires.bounds;
       of = c.in-Ok.ensures.interface;
     }
 
@@ -42,7 +42,7 @@ returns-in-Ok-simple_packet-clause-ok c =
       enters = simple_enters c.args.frame.now (first_of c.args.count c.args.table.now) c.args.bytes.now c.in-Ok-Simple.found (spans_of c.args.frame.now.length c.in-Ok-simple_packet.packet)
           c.requires.whole c.requires.shortest (sym (ap parts_of c.in-Ok-Simple.field-0-is) ∙ e.parts) e.passes (found.0, λ order. found.1 order c.args.frame.now.length);
       known = c.requires.known;
-      few = c.requires.bounds;
+      upper_bound = c.requires.bounds;
       of = c.in-Ok-simple_packet.ensures.interface;
     }
 

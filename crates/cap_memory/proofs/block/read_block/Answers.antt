@@ -22,7 +22,7 @@ returns-in-Ok-apply_block-clause-ok c =
       stands = λ before is same. stands before c.args.section (first_of c.args.count c.args.table.now) (first_of c.in-Ok-apply_block.effect.interfaces c.apply_block.new.table) c.args.text.now c.in-Some.first.now
           c.in-Ok.found c.in-Ok-apply_block.effect.packet is same c.in-Some.ensures.cases.enough c.in-Some.ensures.cases.same c.in-Ok.ensures.answer c.in-Ok.ensures.shortest (omega (arith, there)) e.enters;
       known = e.known;
-      few = e.few;
+      upper_bound = e.upper_bound;
       of = e.of;
     }
 

@@ -21,7 +21,7 @@ returns-in-Ok-clause-ok c =
       there = u.there;
       some = u.some;
       known = e.known;
-      few = e.few;
+      upper_bound = e.upper_bound;
     })
 
 pub returns-in-Err-clause-err : goal.returns-in-Err-clause-err

@@ -9,8 +9,8 @@ loop-count-preserved g c = record {
   bounded = search rules;
   failed = search rules;
   never = c.in_ok-n.ensures.never ∙ c.loop-count.invariant.never;
-  told = λ told. Takes-again _ _ _ _ c.loop-count.count _ c.in_ok-n.n _ _ (c.loop-count.invariant.told told) (c.in_ok-n.ensures.told told) (omega arith) (omega arith);
+  exact = λ exact. Takes-again _ _ _ _ c.loop-count.count _ c.in_ok-n.n _ _ (c.loop-count.invariant.exact exact) (c.in_ok-n.ensures.exact exact) (omega arith) (omega arith);
 }
 
-pub returns-then-n-eq0-clause-told : goal.returns-then-n-eq0-clause-told
-returns-then-n-eq0-clause-told g c = λ told. Takes-nothing _ _ _ _ c.loop-count.count _ c.in_ok-n.n _ _ (c.loop-count.invariant.told told) (c.in_ok-n.ensures.told told) (omega arith) (omega arith) c.if-n-eq0.true (omega arith)
+pub returns-then-n-eq0-clause-exact : goal.returns-then-n-eq0-clause-exact
+returns-then-n-eq0-clause-exact g c = λ exact. Takes-nothing _ _ _ _ c.loop-count.count _ c.in_ok-n.n _ _ (c.loop-count.invariant.exact exact) (c.in_ok-n.ensures.exact exact) (omega arith) (omega arith) c.if-n-eq0.true (omega arith)

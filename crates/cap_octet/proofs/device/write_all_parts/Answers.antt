@@ -12,10 +12,10 @@ returns-in-Err-clause-front g c =
     let within = length-flat_map-take (λ (part : Bor (List ℕ)). part.now) c.args.parts.now c.loop-part.part-index none c.loop-part-test.true in
     omega (arith, within, c.in-Err.ensures.front, c.loop-part.invariant.before)
 
-pub returns-in-Err-clause-told : goal.returns-in-Err-clause-told
-returns-in-Err-clause-told g c = λ tells.
+pub returns-in-Err-clause-exact : goal.returns-in-Err-clause-exact
+returns-in-Err-clause-exact g c = λ tells.
     parts-stop-at (λ (part : Bor (List ℕ)). part.now) c.args.parts.now c.loop-part.part-index none _ _ _ _ c.in-Err.stopped c.loop-part-test.true
-    c.loop-part.invariant.before (c.loop-part.invariant.told tells) c.in-Err.ensures.front (c.in-Err.ensures.told tells)
+    c.loop-part.invariant.before (c.loop-part.invariant.exact tells) c.in-Err.ensures.front (c.in-Err.ensures.exact tells)
 
 pub overflow_add-result : goal.overflow_add-result
 overflow_add-result g c =

@@ -7,7 +7,7 @@ invariant-loop-part g l =
     let output = g.O.Output in
     record {
       before : l.before ≡ length (flat_map (λ part. part.now) (take l.part-index l.parts));
-      told : IsTrue output.tells → output.written l.output ≡ output.written l.fn.output ++ flat_map (λ part. part.now) (take l.part-index l.parts);
+      exact : IsTrue output.tells → output.written l.output ≡ output.written l.fn.output ++ flat_map (λ part. part.now) (take l.part-index l.parts);
       failed : output.failures l.output ≡ output.failures l.fn.output;
       room : output.room l.output ≡ output.room l.fn.output;
     }

@@ -6,7 +6,7 @@ invariant-loop-written g l = record {
   within : l.written ≤ length l.buf;
   failed : g.O.Output.failures l.output ≡ g.O.Output.failures l.initial.output;
   room : g.O.Output.room l.output ≡ g.O.Output.room l.initial.output;
-  told : IsTrue g.O.Output.tells → g.O.Output.written l.output ≡ g.O.Output.written l.initial.output ++ take l.written l.buf;
+  exact : IsTrue g.O.Output.tells → g.O.Output.written l.output ≡ g.O.Output.written l.initial.output ++ take l.written l.buf;
 }
 
 abbrev pub decreases-loop-written : goal.decreases-loop-written

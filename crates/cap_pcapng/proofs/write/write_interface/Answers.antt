@@ -23,4 +23,4 @@ pub returns : goal.returns
 returns g c =
     let written = c.write_all_parts.ensures in
     let P : List ℕ → Type 0 = λ text. WritesExactly g.O.Output c.args.output.now text c.write_all_parts.result c.write_all_parts.new.output in
-    subst P (joined g c) (record { front = written.front; failed = written.failed; room = written.room; told = written.told })
+    subst P (joined g c) (record { front = written.front; failed = written.failed; room = written.room; exact = written.exact })

@@ -11,7 +11,7 @@ returns-then-is_empty g c =
     let written = c.write_all_parts.ensures in
     let P : List ℕ → Type 0 = λ text. WritesExactly g.O.Output c.args.output.now text c.write_all_parts.result c.write_all_parts.new.output in
     subst P (plain_joined c.args.number _ p _ _ (sym c.is_empty.ensures ∙ c.if-is_empty.true) padding.short padding.padded c.packet_header-head.ensures c.packet_end-end.ensures)
-    (record { front = written.front; failed = written.failed; room = written.room; told = written.told })
+    (record { front = written.front; failed = written.failed; room = written.room; exact = written.exact })
 
 pub returns : goal.returns
 returns g c =
@@ -21,4 +21,4 @@ returns g c =
     let written = c.write_all_parts-2.ensures in
     let P : List ℕ → Type 0 = λ text. WritesExactly g.O.Output c.args.output.now text c.write_all_parts-2.result c.write_all_parts-2.new.output in
     subst P (packet_joined c.args.number (c.padding_behind-zeros.result + 4) p _ _ _ (omega (arith, c.padding_behind-zeros.ensures.short)) behind c.packet_header-head-2.ensures c.packet_end-end-2.ensures)
-    (record { front = written.front; failed = written.failed; room = written.room; told = written.told })
+    (record { front = written.front; failed = written.failed; room = written.room; exact = written.exact })

@@ -2,19 +2,19 @@ use Rattle.std.proofs.Common.{◌∙◌}
 use Rattle.cap_print.proofs.Printing.{appends-behind, printed-alone, printed-with_rows, stops-in_line}
 use Rattle.cap_print.proofs.print.print_packet.Goals as goal
 
-pub returns-in_default-clause-told : goal.returns-in_default-clause-told
-returns-in_default-clause-told g c = λ tells.
+pub returns-in_default-clause-exact : goal.returns-in_default-clause-exact
+returns-in_default-clause-exact g c = λ tells.
     let line_is = c.as_slice.ensures ∙ c.write_line.ensures.value in
-    stops-in_line c.args.options _ _ _ c.in_default.field-0 (rw line_is at c.in_default.ensures.front) (rw line_is at (c.in_default.ensures.told tells))
+    stops-in_line c.args.options _ _ _ c.in_default.field-0 (rw line_is at c.in_default.ensures.front) (rw line_is at (c.in_default.ensures.exact tells))
 
-pub returns-then-options-clause-told : goal.returns-then-options-clause-told
-returns-then-options-clause-told g c = λ tells.
+pub returns-then-options-clause-exact : goal.returns-then-options-clause-exact
+returns-then-options-clause-exact g c = λ tells.
     let line_is = c.as_slice.ensures ∙ c.write_line.ensures.value in
     rw (printed-with_rows c.args.options _ c.if-options.true, ← c.payload.ensures)
-    (appends-behind _ _ _ _ _ _ (rw line_is at (c.in-Ok.ensures.told tells)) (c.write_rows.ensures.told tells))
+    (appends-behind _ _ _ _ _ _ (rw line_is at (c.in-Ok.ensures.exact tells)) (c.write_rows.ensures.exact tells))
 
-pub returns-clause-told : goal.returns-clause-told
-returns-clause-told g c = λ tells.
+pub returns-clause-exact : goal.returns-clause-exact
+returns-clause-exact g c = λ tells.
     let line_is = c.as_slice.ensures ∙ c.write_line.ensures.value in
     rw (printed-alone c.args.options _ c.if-options.false)
-    (rw line_is at (c.in-Ok.ensures.told tells))
+    (rw line_is at (c.in-Ok.ensures.exact tells))

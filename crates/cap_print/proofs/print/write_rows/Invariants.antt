@@ -7,7 +7,7 @@ abbrev pub invariant-loop-index : goal.invariant-loop-index
 invariant-loop-index g l =
     let output = g.O.Output in
     record {
-      told : IsTrue output.tells → output.written l.output ≡ output.written l.fn.output ++ first_rows l.bytes l.index;
+      exact : IsTrue output.tells → output.written l.output ≡ output.written l.fn.output ++ first_rows l.bytes l.index;
       failed : output.failures l.output ≡ output.failures l.fn.output;
       room : output.room l.output ≡ output.room l.fn.output;
     }

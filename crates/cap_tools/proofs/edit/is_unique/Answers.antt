@@ -6,8 +6,8 @@ use Rattle.cap_tools.specs.Selector.{IsWindowFor, ReturnsVerdict, marks_in, stat
 use Rattle.cap_tools.proofs.EditRules.{unique-keeps}
 use Rattle.cap_tools.proofs.edit.is_unique.Goals as goal
 
-pub returns-in-Some-clause-told : goal.returns-in-Some-clause-told
-returns-in-Some-clause-told g c = λ n passed tally is.
+pub returns-in-Some-clause-exact : goal.returns-in-Some-clause-exact
+returns-in-Some-clause-exact g c = λ n passed tally is.
     let w : WindowView = c.in-Some.window in
     let p : Captured = captured c.args.packet.now in
     let P : Option WindowView → Type 0 = λ o. IsWindowFor n o in

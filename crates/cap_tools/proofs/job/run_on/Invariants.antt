@@ -7,7 +7,7 @@ use Rattle.cap_tools.proofs.job.run_on.Given as goal
 abbrev pub invariant-loop-status : goal.invariant-loop-status
 invariant-loop-status g l = record {
   undone : l.initial.job.done ≡ None → l.job.done ≡ None;
-  told : IsTrue g.I.Input.tells → IsTrue g.O.Output.tells → l.initial.job.done ≡ None → (ss : List InputPast) (before : List ℕ) → DecidedBy l.initial.job.preparing ss before l.initial.job → Under l.initial.job ss before l.job;
+  exact : IsTrue g.I.Input.tells → IsTrue g.O.Output.tells → l.initial.job.done ≡ None → (ss : List InputPast) (before : List ℕ) → DecidedBy l.initial.job.preparing ss before l.initial.job → Under l.initial.job ss before l.job;
 }
 
 abbrev pub decreases-loop-status : goal.decreases-loop-status

@@ -8,27 +8,27 @@ use Rattle.cap_tools.proofs.Fetches.{closes-by, counted}
 use Rattle.cap_tools.proofs.Selectors.{closes-policy}
 use Rattle.cap_tools.proofs.step.close.Goals as goal
 
-pub returns-in-Ok-clause-told : goal.returns-in-Ok-clause-told
-returns-in-Ok-clause-told g c = λ to.
+pub returns-in-Ok-clause-exact : goal.returns-in-Ok-clause-exact
+returns-in-Ok-clause-exact g c = λ to.
     let turn : is_in_turn c.args.inputs.now.order ≡ true = sym c.is_in_turn.ensures ∙ c.if-not-is_in_turn.false in
     record {
       cursor = c.cursor-cursor.result.now;
       among = c.cursor-cursor.ensures;
       by = closes-by c.args.inputs.now.order c.args.input c.cursor-cursor.result.now (policy_state c.args.selector.now) (policy_state c.close.new.self) (output_at c.args.messages.now.names c.args.output.now) (output_at c.args.messages.now.names c.report.new.self) None c.in-Some.tally
-          _ (Ok tt) turn c.in-Some.ensures.closes (ap₂ (λ k n. record { input = c.args.input; kind = k; size = n; tally = c.in-Some.tally }) c.kind.ensures c.offset.ensures) (let F : List ℕ → Type 0 = λ n. Reports (file_report n c.kind.result c.offset.result c.in-Some.tally) c.args.output.now (Ok tt) c.report.new.self in subst F c.name.ensures (c.in-Ok.ensures.told to)) refl refl;
+          _ (Ok tt) turn c.in-Some.ensures.closes (ap₂ (λ k n. record { input = c.args.input; kind = k; size = n; tally = c.in-Some.tally }) c.kind.ensures c.offset.ensures) (let F : List ℕ → Type 0 = λ n. Reports (file_report n c.kind.result c.offset.result c.in-Some.tally) c.args.output.now (Ok tt) c.report.new.self in subst F c.name.ensures (c.in-Ok.ensures.exact to)) refl refl;
     }
 
 pub returns-in-Ok-clause-policy : goal.returns-in-Ok-clause-policy
 returns-in-Ok-clause-policy g c = closes-policy (is_count c.args.selector.now.policy) (policy_state c.args.selector.now) (policy_state c.close.new.self) _ c.in-Some.ensures.closes
 
-pub returns-in-Err-clause-told : goal.returns-in-Err-clause-told
-returns-in-Err-clause-told g c = λ to.
+pub returns-in-Err-clause-exact : goal.returns-in-Err-clause-exact
+returns-in-Err-clause-exact g c = λ to.
     let turn : is_in_turn c.args.inputs.now.order ≡ true = sym c.is_in_turn.ensures ∙ c.if-not-is_in_turn.false in
     record {
       cursor = c.cursor-cursor.result.now;
       among = c.cursor-cursor.ensures;
       by = closes-by c.args.inputs.now.order c.args.input c.cursor-cursor.result.now (policy_state c.args.selector.now) (policy_state c.close.new.self) (output_at c.args.messages.now.names c.args.output.now) (output_at c.args.messages.now.names c.report.new.self) (Some end.OutputFailed) c.in-Some.tally
-          _ (Err c.in-Err.field-0) turn c.in-Some.ensures.closes (ap₂ (λ k n. record { input = c.args.input; kind = k; size = n; tally = c.in-Some.tally }) c.kind.ensures c.offset.ensures) (let F : List ℕ → Type 0 = λ n. Reports (file_report n c.kind.result c.offset.result c.in-Some.tally) c.args.output.now (Err c.in-Err.field-0) c.report.new.self in subst F c.name.ensures (c.in-Err.ensures.told to)) refl refl;
+          _ (Err c.in-Err.field-0) turn c.in-Some.ensures.closes (ap₂ (λ k n. record { input = c.args.input; kind = k; size = n; tally = c.in-Some.tally }) c.kind.ensures c.offset.ensures) (let F : List ℕ → Type 0 = λ n. Reports (file_report n c.kind.result c.offset.result c.in-Some.tally) c.args.output.now (Err c.in-Err.field-0) c.report.new.self in subst F c.name.ensures (c.in-Err.ensures.exact to)) refl refl;
     }
 
 pub returns-in-Err-clause-policy : goal.returns-in-Err-clause-policy

@@ -14,9 +14,9 @@ pub returns-in-Err-clause-front : goal.returns-in-Err-clause-front
 returns-in-Err-clause-front g c =
     stopped_front c.args.insns.now c.loop-insn.insn-index _ c.loop-insn.written c.in-Err.stopped.written _ c.loop-insn-test.true (line_bytes c.put_insn-start.new.line c.put_insn-start.result c.put_insn-start.array_long ∙ c.put_insn-start.ensures.written) c.in-Err.ensures.front c.loop-insn.invariant.size
 
-pub returns-in-Err-clause-told : goal.returns-in-Err-clause-told
-returns-in-Err-clause-told g c =
-    λ tells. stopped_told _ _ _ c.args.insns.now c.loop-insn.insn-index _ c.loop-insn.written c.in-Err.stopped.written _ c.loop-insn-test.true (line_bytes c.put_insn-start.new.line c.put_insn-start.result c.put_insn-start.array_long ∙ c.put_insn-start.ensures.written) c.in-Err.ensures.front c.loop-insn.invariant.size (c.loop-insn.invariant.told tells) (c.in-Err.ensures.told tells)
+pub returns-in-Err-clause-exact : goal.returns-in-Err-clause-exact
+returns-in-Err-clause-exact g c =
+    λ tells. stopped_told _ _ _ c.args.insns.now c.loop-insn.insn-index _ c.loop-insn.written c.in-Err.stopped.written _ c.loop-insn-test.true (line_bytes c.put_insn-start.new.line c.put_insn-start.result c.put_insn-start.array_long ∙ c.put_insn-start.ensures.written) c.in-Err.ensures.front c.loop-insn.invariant.size (c.loop-insn.invariant.exact tells) (c.in-Err.ensures.exact tells)
 
 pub loop-insn-preserved : goal.loop-insn-preserved
 loop-insn-preserved g c =
@@ -26,17 +26,17 @@ loop-insn-preserved g c =
       size = more_size c.args.insns.now c.loop-insn.insn-index _ c.loop-insn.written c.put_insn-start.result c.put_insn-start.new.line c.loop-insn-test.true c.put_insn-start.array_long bytes c.loop-insn.invariant.size;
       failed = search rules;
       room = search rules;
-      told = λ tells. more_told _ _ _ c.args.insns.now c.loop-insn.insn-index _ _ c.loop-insn-test.true bytes (c.loop-insn.invariant.told tells) (c.in_default.ensures.told tells);
+      exact = λ tells. more_told _ _ _ c.args.insns.now c.loop-insn.insn-index _ _ c.loop-insn-test.true bytes (c.loop-insn.invariant.exact tells) (c.in_default.ensures.exact tells);
     }
 
 pub returns-in_err-write_all-clause-front : goal.returns-in_err-write_all-clause-front
 returns-in_err-write_all-clause-front g c = grind (arith, common_steps)
 
-pub returns-in_err-write_all-clause-told : goal.returns-in_err-write_all-clause-told
-returns-in_err-write_all-clause-told g c = grind (arith, common_steps)
+pub returns-in_err-write_all-clause-exact : goal.returns-in_err-write_all-clause-exact
+returns-in_err-write_all-clause-exact g c = grind (arith, common_steps)
 
 pub loop-insn-init : goal.loop-insn-init
 loop-insn-init g c = grind (arith, common_steps)
 
-pub returns-clause-told : goal.returns-clause-told
-returns-clause-told g c = grind (arith, common_steps)
+pub returns-clause-exact : goal.returns-clause-exact
+returns-clause-exact g c = grind (arith, common_steps)

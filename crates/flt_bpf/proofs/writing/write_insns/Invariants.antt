@@ -9,5 +9,5 @@ invariant-loop-insn g l = record {
   size : l.written ≡ length (front_of l.insns l.insn-index);
   failed : g.O.Output.failures l.output ≡ g.O.Output.failures l.fn.output;
   room : g.O.Output.room l.output ≡ g.O.Output.room l.fn.output;
-  told : IsTrue g.O.Output.tells → g.O.Output.written l.output ≡ g.O.Output.written l.fn.output ++ front_of l.insns l.insn-index;
+  exact : IsTrue g.O.Output.tells → g.O.Output.written l.output ≡ g.O.Output.written l.fn.output ++ front_of l.insns l.insn-index;
 }

@@ -43,15 +43,15 @@ returns-clause-jumps g c =
     subst JumpsAreNeeded (sym c.in-Ok.ensures.made.0) (r.needed (subst JumpsAreNeeded (sym same) (program_layout c.args.link e.expr)))
 
 pub returns-clause-short : goal.returns-clause-short
-returns-clause-short g c = λ few.
+returns-clause-short g c = λ upper_bound.
     let e = c.args.expr.now in
     let same = c.in_ok-turned.ensures ∙ ap without_reloads (c.in_ok-insns.ensures ∙ program_is c.args.link e.expr c.nodes.result.now c.nodes.ensures) in
-    let turned = subst (λ prog. IsShort prog (short_bound_of e.expr)) (sym same) (program_short c.args.link e.expr e.resolved.is_filled few) in
+    let turned = subst (λ prog. IsShort prog (short_bound_of e.expr)) (sym same) (program_short c.args.link e.expr e.resolved.is_filled upper_bound) in
     subst (λ prog. IsShort prog (short_bound_of e.expr)) (sym c.in-Ok.ensures.made.0) (replaced_short _ _ (short_bound_of e.expr) c.in_ok-short.ensures turned)
 
 pub pass_loads-requires : goal.pass_loads-requires
 pass_loads-requires g c =
     let e = c.args.expr.now in
     let same = ap length (c.in_ok-insns.ensures ∙ program_is c.args.link e.expr c.nodes.result.now c.nodes.ensures) in
-    let few = program_few c.args.link e.expr e.resolved.is_filled e.few_words e.short in
+    let upper_bound = program_few c.args.link e.expr e.resolved.is_filled e.few_words e.short in
     omega arith

@@ -7,16 +7,16 @@ use Rattle.flt_gen.specs.Walk.{Walk, emit_node, emit_nodes, start}
 use Rattle.flt_gen.proofs.Turned.{Stands, stands, first_stands, node_stands, both_stand}
 use Rattle.flt_gen.proofs.program.program_insns.Goals as goal
 
-pub emit_node-requires-clause-few : goal.emit_node-requires-clause-few
-emit_node-requires-clause-few g c =
+pub emit_node-requires-clause-upper_bound : goal.emit_node-requires-clause-upper_bound
+emit_node-requires-clause-upper_bound g c =
     let h = stands c.args.link c.args.nodes.now c.nodes.left c.nodes.walk c.requires.room c.nodes.invariant.within c.nodes.invariant.same c.nodes.invariant.low in
-    let few = h.slots in
+    let upper_bound = h.slots in
     omega arith
 
 pub emit_node-requires-clause-some : goal.emit_node-requires-clause-some
 emit_node-requires-clause-some g c =
     let low = c.nodes.invariant.low in
-    low.few
+    low.upper_bound
 
 pub emit_node-requires-clause-before : goal.emit_node-requires-clause-before
 emit_node-requires-clause-before g c =
@@ -39,8 +39,8 @@ emit_both_nodes-requires-clause-room g c =
     let code = h.code in
     omega arith
 
-pub emit_node-requires-else-branch-clause-few : goal.emit_node-requires-else-branch-clause-few
-emit_node-requires-else-branch-clause-few g c =
+pub emit_node-requires-else-branch-clause-upper_bound : goal.emit_node-requires-else-branch-clause-upper_bound
+emit_node-requires-else-branch-clause-upper_bound g c =
     let h = stands c.args.link c.args.nodes.now c.nodes.left c.nodes.walk c.requires.room c.nodes.invariant.within c.nodes.invariant.same c.nodes.invariant.low in
     let kept : c.emit_both_nodes.new.self ≡ c.nodes.walk = c.in_ok-emit_both_nodes.ensures.same ∙ ap (λ t. if t then c.emit_both_nodes.new.self else c.nodes.walk) c.if-branch.false in
     let slots = h.slots in

@@ -6,7 +6,7 @@ abbrev pub invariant-loop-token : goal.invariant-loop-token
 invariant-loop-token l = record {
   opened : l.opened ≡ count_by is_opening (take l.token-index l.tokens);
   closed : l.closed ≡ count_by is_closing (take l.token-index l.tokens);
-  few : l.opened ≤ l.token-index;
+  upper_bound : l.opened ≤ l.token-index;
   few_closed : l.closed ≤ l.token-index;
   shallow : (n : ℕ) → n ≤ l.token-index → count_by is_opening (take n l.tokens) ≤ count_by is_closing (take n l.tokens) + 100;
 }

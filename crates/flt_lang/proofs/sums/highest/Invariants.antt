@@ -6,5 +6,5 @@ use Rattle.flt_lang.proofs.sums.highest.Given as goal
 abbrev pub invariant-loop-node : goal.invariant-loop-node
 invariant-loop-node l = record {
   so_far : fold climb (0, 1) (take l.node-index l.nodes) ≡ (l.height, l.highest);
-  few : l.height ≤ l.node-index;
+  upper_bound : l.height ≤ l.node-index;
 }

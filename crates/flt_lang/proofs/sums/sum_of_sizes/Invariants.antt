@@ -6,5 +6,5 @@ use Rattle.flt_lang.proofs.sums.sum_of_sizes.Given as goal
 abbrev pub invariant-loop-node : goal.invariant-loop-node
 invariant-loop-node l = record {
   so_far : l.sum ≡ sum_by node_size (take l.node-index l.nodes);
-  few : l.sum ≤ 2 * l.node-index;
+  upper_bound : l.sum ≤ 2 * l.node-index;
 }

@@ -49,7 +49,7 @@ loop-digits-preserved c =
     record {
       can_next = search of_calls;
       is_finite = tt;
-      few = omega arith;
+      upper_bound = omega arith;
       count = simp length-append (omega arith);
       each = rw now_pushed each;
       value = rw (now_pushed, c.from-in-loop-digits.ensures) value;

@@ -9,7 +9,7 @@ abbrev pub invariant-loop-digits : goal.invariant-loop-digits
 invariant-loop-digits l = record {
   can_next : (goal.iterator-loop-digits).can_next l.digits-iterator;
   is_finite : (goal.iterator-loop-digits).is_finite l.digits-iterator;
-  few : l.count ≤ 8;
+  upper_bound : l.count ≤ 8;
   count : l.count ≡ length l.yielded;
   each : AllByRecursion (IsGroup l.form) (map (λ x. x.now) l.yielded);
   value : l.value ≡ number_from_digits (base_of l.form) (group_values l.form (map (λ x. x.now) l.yielded));

@@ -10,8 +10,8 @@ use Rattle.cap_inputs.proofs.Leasts.{queue-read, room-for}
 use Rattle.cap_inputs.proofs.Placed.{placed-read, read-at}
 use Rattle.cap_inputs.proofs.inputs.Inputs.read_input.Goals as goal
 
-pub returns-clause-told : goal.returns-clause-told
-returns-clause-told g c = λ ti.
+pub returns-clause-exact : goal.returns-clause-exact
+returns-clause-exact g c = λ ti.
     let old : InputsView = record { order = ordering_of c.self.inside.schedule; cursors = c.self.inside.cursors.items } in
     let made : PacketOrder → InputsView = λ o. record { order = o; cursors = slice_set c.self.inside.cursors.items c.args.input c.advance-result.new.self } in
     let P : InputsView → Type 0 = λ v. ReadsInput v c.args.input c.advance-result.result (made (ordering_of c.go_on.new.schedule)) in
@@ -20,7 +20,7 @@ returns-clause-told g c = λ ti.
     subst P c.self.view_is
     (subst O (sym (ap ordering_of c.go_on.ensures.schedule ∙ schedule-order c.self.inside.schedule c.args.input c.advance-result.result))
     (fetches-by old c.args.input c.advance-result.result c.index_mut-cursor.result.now c.advance-result.new.self
-    (subst W (sym c.self.view_is) c.requires.within) c.index_mut-cursor.ensures.value (c.advance-result.ensures.told ti) c.advance-result.ensures.steps c.advance-result.ensures.is))
+    (subst W (sym c.self.view_is) c.requires.within) c.index_mut-cursor.ensures.value (c.advance-result.ensures.exact ti) c.advance-result.ensures.steps c.advance-result.ensures.is))
 
 pub returns-clause-steps : goal.returns-clause-steps
 returns-clause-steps g c =
@@ -32,7 +32,7 @@ returns-clause-steps g c =
     subst P c.self.view_is
     (subst O (sym (ap ordering_of c.go_on.ensures.schedule ∙ schedule-order c.self.inside.schedule c.args.input c.advance-result.result))
     (read_input-steps-by old c.args.input c.advance-result.result c.index_mut-cursor.result.now c.advance-result.new.self
-    (subst W (sym c.self.view_is) c.requires.within) c.index_mut-cursor.ensures.value c.advance-result.ensures.steps c.advance-result.ensures.phase c.advance-result.ensures.few c.advance-result.ensures.is))
+    (subst W (sym c.self.view_is) c.requires.within) c.index_mut-cursor.ensures.value c.advance-result.ensures.steps c.advance-result.ensures.phase c.advance-result.ensures.upper_bound c.advance-result.ensures.is))
 
 pub go_on-requires-clause-room : goal.go_on-requires-clause-room
 go_on-requires-clause-room g c =

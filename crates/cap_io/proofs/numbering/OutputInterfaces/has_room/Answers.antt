@@ -11,9 +11,9 @@ pub returns-then-len-lt-MOST_INTERFACES : goal.returns-then-len-lt-MOST_INTERFAC
 returns-then-len-lt-MOST_INTERFACES g c =
     let keys = c.self.inside.keys.keys in
     let i : Interface = interface_of (captured c.args.packet.now) in
-    let few : length (map interface_in keys) < most_output_interfaces = omega (arith, length-map keys interface_in, c.len.ensures.len) in
+    let upper_bound : length (map interface_in keys) < most_output_interfaces = omega (arith, length-map keys interface_in, c.len.ensures.len) in
     let P : List Interface → Type 0 = λ l. nat_lt c.len.result most_output_interfaces ≡ nat_le (length (l ++ new_among l i)) most_output_interfaces in
-    subst P c.self.view_is (lt-ltb c.len.result most_output_interfaces c.if-len-lt-MOST_INTERFACES.true ∙ sym (room-below (map interface_in keys) i few))
+    subst P c.self.view_is (lt-ltb c.len.result most_output_interfaces c.if-len-lt-MOST_INTERFACES.true ∙ sym (room-below (map interface_in keys) i upper_bound))
 
 pub returns-else-len-lt-MOST_INTERFACES : goal.returns-else-len-lt-MOST_INTERFACES
 returns-else-len-lt-MOST_INTERFACES g c =

@@ -27,10 +27,10 @@ pub returns-in_default-result : goal.returns-in_default-result
 returns-in_default-result g c =
     let old : SinkView = c.args.self.now in
     let p = captured c.args.packet.now in
-    let few : FitFile c.add-result.new.self.interfaces = subst FitFile (ap (λ (s : SinkView). s.interfaces) c.self-2.view_is) c.self-2.invariant in
+    let upper_bound : FitFile c.add-result.new.self.interfaces = subst FitFile (ap (λ (s : SinkView). s.interfaces) c.self-2.view_is) c.self-2.invariant in
     rw c.in_default-result.is (record {
       bytes = λ tells. put-writes-tell old.state old p (Ok tt) c.add-result.new.self (λ f e. c.in_default.not-Broken f (ap (λ (s : SinkView). s.state) c.self.view_is ∙ e)) (c.in_default-result.ensures.bytes tells);
       answer = puts-tell old.state old p (Ok tt) c.add-result.new.self (λ f e. c.in_default.not-Broken f (ap (λ (s : SinkView). s.state) c.self.view_is ∙ e))
-          (λ ps has. puts-ok ps old p c.add-result.new.self has c.in_default-result.ensures.answer few);
-      interfaces = few;
+          (λ ps has. puts-ok ps old p c.add-result.new.self has c.in_default-result.ensures.answer upper_bound);
+      interfaces = upper_bound;
     })

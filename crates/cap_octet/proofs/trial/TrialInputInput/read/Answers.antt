@@ -2,5 +2,5 @@ use Rattle.std.proofs.Common.{arith}
 use Rattle.cap_octet.proofs.Reading.{Reads-front}
 use Rattle.cap_octet.proofs.trial.TrialInputInput.read.Goals as goal
 
-pub returns-clause-told : goal.returns-clause-told
-returns-clause-told c = λ told. Reads-front _ _ _ _ _ _ (omega arith) (λ room. omega arith) c.read.ensures.within (c.read.ensures.told told)
+pub returns-clause-exact : goal.returns-clause-exact
+returns-clause-exact c = λ exact. Reads-front _ _ _ _ _ _ (omega arith) (λ room. omega arith) c.read.ensures.within (c.read.ensures.exact exact)

@@ -8,8 +8,8 @@ pub loop-option-preserved : goal.loop-option-preserved
 loop-option-preserved c =
     let item : options_left c.loop-option.option-iterator ≡ Ok (coded_value c.in_ok-option.field-0) ∷ options_left c.next.new.self =
     c.in-Some.ensures.steps ∙ ap (λ item. item_of item ∷ options_left c.next.new.self) c.in_ok-option.was in
-    let told = c.in_ok-found.ensures in
-    (tt, tt, HasRead-more _ _ _ _ _ _ _ c.loop-option.invariant.2 item told.1 told.0)
+    let exact = c.in_ok-found.ensures in
+    (tt, tt, HasRead-more _ _ _ _ _ _ _ c.loop-option.invariant.2 item exact.1 exact.0)
 
 pub returns-in_err-found : goal.returns-in_err-found
 returns-in_err-found c =

@@ -38,7 +38,7 @@ invariant_of-self g c =
     let paid = mark_decided-paid c.self.inside.inputs c.mark_decided.new.self c.args.input tells c.mark_decided.ensures in
     let was = c.self.invariant.0 in (
       omega (arith, less, was),
-      (mark_decided-small c.self.inside.inputs c.mark_decided.new.self c.args.input c.mark_decided.ensures c.self.invariant.1.0, c.decide.ensures.few c.self.invariant.1.1),
+      (mark_decided-small c.self.inside.inputs c.mark_decided.new.self c.args.input c.mark_decided.ensures c.self.invariant.1.0, c.decide.ensures.upper_bound c.self.invariant.1.1),
       c.decide.ensures.marks,
       have-decided c.cursor.result.now.source.packet c.self.inside.selector (c.self.inside.decided + 1) c.decide.new.selector c.decide.ensures.spends c.decide.ensures.policy c.self.invariant.3,
       counted-kept c.self.inside.done c.self.inside.turns _ _ (omega (arith, less)) c.self.invariant.4,
@@ -49,7 +49,7 @@ invariant_of-self g c =
 pub invariant_of-self-in-Err : goal.invariant_of-self-in-Err
 invariant_of-self-in-Err g c = (
   c.self.invariant.0,
-  (c.self.invariant.1.0, c.decide.ensures.few c.self.invariant.1.1),
+  (c.self.invariant.1.0, c.decide.ensures.upper_bound c.self.invariant.1.1),
   c.decide.ensures.marks,
   have-decided c.cursor.result.now.source.packet c.self.inside.selector (c.self.inside.decided + 1) c.decide.new.selector c.decide.ensures.spends c.decide.ensures.policy c.self.invariant.3,
   c.self.invariant.4,
@@ -70,10 +70,10 @@ returns-in-Err g c =
     let h = held c.cursor.result.now.source.packet c.self.inside.selector (c.self.inside.decided + 1) c.decide.new.selector c.decide.ensures.spends in
     let P : JobView → Type 0 = λ v. IsStep g.I.Input.tells g.O.Output.tells v (Some (end_of_failed_write c.args.input c.in-Err.fault)) new in
     rw c.unwritten.ensures (subst P c.self.view_is (record {
-      told = λ ti to ss before d.
+      exact = λ ti to ss before d.
           let K : Policy → Type 0 = λ k. EndLeaves d (end_of_failed_write c.args.input c.in-Err.fault) (left k) in
           subst K (sym c.in-Err.ensures.policy)
-          (answer-leaves ss before m.inputs.cursors m.inputs.order m.policy m.state m.output m.decided c.args.input (Err c.in-Err.fault) c.cursor.result.now (policy_state j) (output_at c.self.inside.messages.names c.decide.new.output) refl tells c.cursor.ensures c.in-Err.ensures.policy c.in-Err.ensures.passed c.in-Err.ensures.counted (let i = c.self.invariant.0 in omega (arith, i)) (c.in-Err.ensures.told to) d);
+          (answer-leaves ss before m.inputs.cursors m.inputs.order m.policy m.state m.output m.decided c.args.input (Err c.in-Err.fault) c.cursor.result.now (policy_state j) (output_at c.self.inside.messages.names c.decide.new.output) refl tells c.cursor.ensures c.in-Err.ensures.policy c.in-Err.ensures.passed c.in-Err.ensures.counted (let i = c.self.invariant.0 in omega (arith, i)) (c.in-Err.ensures.exact to) d);
       reads = leaves_one c.args.input refl (record {
         next = tells;
         packet = h.packet;
@@ -85,7 +85,7 @@ returns-in-Err g c =
       });
       progress = λ more. (cc);
       paid = λ more. (cc);
-      light = is-light (left j.policy) (c.self.invariant.1.0, c.decide.ensures.few c.self.invariant.1.1) c.decide.ensures.marks;
+      light = is-light (left j.policy) (c.self.invariant.1.0, c.decide.ensures.upper_bound c.self.invariant.1.1) c.decide.ensures.marks;
       sound = have-decided c.cursor.result.now.source.packet c.self.inside.selector (c.self.inside.decided + 1) j c.decide.ensures.spends c.decide.ensures.policy c.self.invariant.3;
       policy = c.in-Err.ensures.policy;
       names = refl;
@@ -114,11 +114,11 @@ returns-after-last g c =
     let NF : InputsView → Type 0 = λ f. AnswerLeaves d c.args.input (Ok c.in-Ok.last) (left f m.policy) failed in
     let NK : Policy → Type 0 = λ k. AnswerLeaves d c.args.input (Ok c.in-Ok.last) (left c.mark_decided.new.self k) failed in
     subst NK (sym c.in-Ok.ensures.policy) (subst NF (sym inputs)
-    (answer-leaves ss before m.inputs.cursors m.inputs.order m.policy m.state m.output m.decided c.args.input (Ok c.in-Ok.last) c.cursor.result.now (policy_state j) (output_at c.self.inside.messages.names c.decide.new.output) refl tells c.cursor.ensures c.in-Ok.ensures.policy c.in-Ok.ensures.passed c.in-Ok.ensures.counted (let i = c.self.invariant.0 in omega (arith, i)) (c.in-Ok.ensures.told to) d)) in
+    (answer-leaves ss before m.inputs.cursors m.inputs.order m.policy m.state m.output m.decided c.args.input (Ok c.in-Ok.last) c.cursor.result.now (policy_state j) (output_at c.self.inside.messages.names c.decide.new.output) refl tells c.cursor.ensures c.in-Ok.ensures.policy c.in-Ok.ensures.passed c.in-Ok.ensures.counted (let i = c.self.invariant.0 in omega (arith, i)) (c.in-Ok.ensures.exact to) d)) in
     let h = held c.cursor.result.now.source.packet c.self.inside.selector (c.self.inside.decided + 1) c.decide.new.selector c.decide.ensures.spends in
     let S : Option JobEnd → JobView → Type 0 = λ r v. IsStep g.I.Input.tells g.O.Output.tells v r new in
-    let step : (r : Option JobEnd) → (IsTrue g.O.Output.tells → StepGives m r new.machine) → S r was = λ r told. record {
-      told = λ ti to. told to;
+    let step : (r : Option JobEnd) → (IsTrue g.O.Output.tells → StepGives m r new.machine) → S r was = λ r exact. record {
+      exact = λ ti to. exact to;
       reads = decides_one c.args.input (record {
         next = tells;
         packet = h.packet;
@@ -130,7 +130,7 @@ returns-after-last g c =
       });
       progress = λ more. mark_decided-less c.self.inside.inputs c.mark_decided.new.self c.args.input tells c.mark_decided.ensures;
       paid = λ more. mark_decided-paid c.self.inside.inputs c.mark_decided.new.self c.args.input tells c.mark_decided.ensures;
-      light = is-light (left c.mark_decided.new.self j.policy) (mark_decided-small c.self.inside.inputs c.mark_decided.new.self c.args.input c.mark_decided.ensures c.self.invariant.1.0, c.decide.ensures.few c.self.invariant.1.1) c.decide.ensures.marks;
+      light = is-light (left c.mark_decided.new.self j.policy) (mark_decided-small c.self.inside.inputs c.mark_decided.new.self c.args.input c.mark_decided.ensures c.self.invariant.1.0, c.decide.ensures.upper_bound c.self.invariant.1.1) c.decide.ensures.marks;
       sound = have-decided c.cursor.result.now.source.packet c.self.inside.selector (c.self.inside.decided + 1) j c.decide.ensures.spends c.decide.ensures.policy c.self.invariant.3;
       policy = c.in-Ok.ensures.policy;
       names = refl;

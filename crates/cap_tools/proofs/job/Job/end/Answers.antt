@@ -22,10 +22,10 @@ returns-clause-ended g c =
     let P : JobView → Type 0 = λ v. with c.end.new.self.names c.status_at_end-status.result ≡ ending c.args.end c.end.new.self.device v in
     subst P c.self.view_is (ap₂ with c.end.ensures.names c.status_at_end-status.ensures)
 
-pub returns-clause-told : goal.returns-clause-told
-returns-clause-told g c =
+pub returns-clause-exact : goal.returns-clause-exact
+returns-clause-exact g c =
     let P : JobView → Type 0 = λ v. IsTold g.E.Output.tells v.err (end_message v.machine.output.names v.machine.inputs.cursors c.args.end) c.end.new.self.device in
-    subst P c.self.view_is c.end.ensures.told
+    subst P c.self.view_is c.end.ensures.exact
 
 pub returns-clause-quiet : goal.returns-clause-quiet
 returns-clause-quiet g c = λ clean.

@@ -6,6 +6,6 @@ use Rattle.cap_tools.proofs.job.Job.filter.Goals as goal
 
 pub returns-clause-light : goal.returns-clause-light
 returns-clause-light g c =
-    let few : HasFewMarks c.filtering.result.policy c.filtering.result.state = (let P : SelectorView → Type 0 = λ v. HasFewMarks v.policy v.state in subst P (sym c.filtering.ensures) (omega arith)) in
+    let upper_bound : HasFewMarks c.filtering.result.policy c.filtering.result.state = (let P : SelectorView → Type 0 = λ v. HasFewMarks v.policy v.state in subst P (sym c.filtering.ensures) (omega arith)) in
     is-light (record { inputs = c.self.inside.inputs; policy = c.filtering.result.policy; state = c.filtering.result.state; output = output_at c.self.inside.messages.names c.self.inside.output; decided = c.self.inside.decided })
-    c.self.invariant.1 few
+    c.self.invariant.1 upper_bound

@@ -29,16 +29,16 @@ returns g c =
     let tells = subst N (sym c.self.view_is) c.requires.next in
     let F : Option ℕ → Type 0 = λ o. EndsOutput o m.output.target c.finish.result left.output.target in
     let all : (ss : List InputPast) (before : List ℕ) (d : PacketsDecided ss before m) → IsTrue g.O.Output.tells → FinishLeaves d c.finish.result left = λ ss before d to.
-    finish-leaves ss before m.inputs.cursors m.inputs.order m.policy m.state m.output m.decided c.finish.result left tells refl (subst F c.first_link-first.ensures (c.finish.ensures.told to)) d in
+    finish-leaves ss before m.inputs.cursors m.inputs.order m.policy m.state m.output m.decided c.finish.result left tells refl (subst F c.first_link-first.ensures (c.finish.ensures.exact to)) d in
     let S : JobEnd → JobView → Type 0 = λ e v. IsStep g.I.Input.tells g.O.Output.tells v (Some e) new in
-    let step : (e : JobEnd) → ((ss : List InputPast) (before : List ℕ) (d : PacketsDecided ss before m) → IsTrue g.O.Output.tells → EndLeaves d e left) → S e c.args.self.now = λ e told.
+    let step : (e : JobEnd) → ((ss : List InputPast) (before : List ℕ) (d : PacketsDecided ss before m) → IsTrue g.O.Output.tells → EndLeaves d e left) → S e c.args.self.now = λ e exact.
     let Q : JobView → Type 0 = λ v. S e v in
     subst Q c.self.view_is (record {
-      told = λ ti to ss before d. told ss before d to;
+      exact = λ ti to ss before d. exact ss before d to;
       reads = reads_nothing refl (record { inputs = refl; decided = refl; programs = refl });
       progress = λ more. (cc);
       paid = λ more. (cc);
-      light = is-light left (c.self.invariant.1.0, c.finish.ensures.few c.self.invariant.1.1) c.self.invariant.2;
+      light = is-light left (c.self.invariant.1.0, c.finish.ensures.upper_bound c.self.invariant.1.1) c.self.invariant.2;
       sound = c.self.invariant.3;
       policy = refl;
       names = refl;

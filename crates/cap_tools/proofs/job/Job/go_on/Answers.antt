@@ -23,15 +23,15 @@ returns-in-None-clause-reads g c =
     let mid : JobView = c.do_next.new.self in
     subst P (sym c.self-in-None.view_is) (reads-kept g.I.Input.tells true c.args.self.now mid mid.preparing mid.err (mid.turns + 1) mid.done c.in-None.ensures.reads)
 
-pub returns-in-None-clause-told : goal.returns-in-None-clause-told
-returns-in-None-clause-told g c = λ ti to none.
+pub returns-in-None-clause-exact : goal.returns-in-None-clause-exact
+returns-in-None-clause-exact g c = λ ti to none.
     let P : JobView → Type 0 = λ v. (v.err ≡ c.args.self.now.err) × ((ss : List InputPast) (before : List ℕ) (d : Decided ss before c.args.self.now) → GoesOn d.packets v.machine × HavePrograms v.machine.policy v.programs) in
-    let stays = subst P (sym c.self-in-None.view_is) (c.in-None.ensures.err, λ ss before d. (c.in-None.ensures.told ti to ss before d.packets, c.in-None.ensures.sound)) in
+    let stays = subst P (sym c.self-in-None.view_is) (c.in-None.ensures.err, λ ss before d. (c.in-None.ensures.exact ti to ss before d.packets, c.in-None.ensures.sound)) in
     (stays.0, λ ss before d. record { goes = (stays.1 ss before d).0; programs = (stays.1 ss before d).1 })
 
-pub returns-in-Some-do_next-clause-told : goal.returns-in-Some-do_next-clause-told
-returns-in-Some-do_next-clause-told g c = λ ti to none.
-    rw c.end.ensures.done (step-ends g.I.Input.tells g.O.Output.tells g.E.Output.tells c.args.self.now c.do_next.new.self c.end.new.self c.in-Some-do_next.end ti to c.in-Some-do_next.ensures c.end.ensures.ended c.end.ensures.told c.end.ensures.quiet)
+pub returns-in-Some-do_next-clause-exact : goal.returns-in-Some-do_next-clause-exact
+returns-in-Some-do_next-clause-exact g c = λ ti to none.
+    rw c.end.ensures.done (step-ends g.I.Input.tells g.O.Output.tells g.E.Output.tells c.args.self.now c.do_next.new.self c.end.new.self c.in-Some-do_next.end ti to c.in-Some-do_next.ensures c.end.ensures.ended c.end.ensures.exact c.end.ensures.quiet)
 
 pub returns-in-Some-do_next-clause-reads : goal.returns-in-Some-do_next-clause-reads
 returns-in-Some-do_next-clause-reads g c =
@@ -39,8 +39,8 @@ returns-in-Some-do_next-clause-reads g c =
     let mid : JobView = c.do_next.new.self in
     rw c.end.ensures.done (subst P (sym c.end.ensures.ended) (reads-kept g.I.Input.tells false c.args.self.now mid mid.preparing c.end.new.self.err (mid.turns + 1) (Some (end_status c.in-Some-do_next.end)) c.in-Some-do_next.ensures.reads))
 
-pub returns-in-None-clause-few : goal.returns-in-None-clause-few
-returns-in-None-clause-few g c = grind (arith, common_steps)
+pub returns-in-None-clause-upper_bound : goal.returns-in-None-clause-upper_bound
+returns-in-None-clause-upper_bound g c = grind (arith, common_steps)
 
 pub returns-in-None-clause-left : goal.returns-in-None-clause-left
 returns-in-None-clause-left g c = grind (arith, common_steps)
@@ -48,8 +48,8 @@ returns-in-None-clause-left g c = grind (arith, common_steps)
 pub returns-in-None-clause-kept : goal.returns-in-None-clause-kept
 returns-in-None-clause-kept g c = grind (arith, common_steps)
 
-pub returns-in-Some-clause-few : goal.returns-in-Some-clause-few
-returns-in-Some-clause-few g c = grind (arith, common_steps)
+pub returns-in-Some-clause-upper_bound : goal.returns-in-Some-clause-upper_bound
+returns-in-Some-clause-upper_bound g c = grind (arith, common_steps)
 
 pub returns-in-Some-clause-left : goal.returns-in-Some-clause-left
 returns-in-Some-clause-left g c = grind (arith, common_steps)
@@ -60,11 +60,11 @@ returns-in-Some-clause-kept g c = grind (arith, common_steps)
 pub returns-in-Some-clause-reads : goal.returns-in-Some-clause-reads
 returns-in-Some-clause-reads g c = grind (arith, common_steps)
 
-pub returns-in-Some-clause-told : goal.returns-in-Some-clause-told
-returns-in-Some-clause-told g c = grind (arith, common_steps)
+pub returns-in-Some-clause-exact : goal.returns-in-Some-clause-exact
+returns-in-Some-clause-exact g c = grind (arith, common_steps)
 
-pub returns-in-Some-do_next-clause-few : goal.returns-in-Some-do_next-clause-few
-returns-in-Some-do_next-clause-few g c = grind (arith, common_steps)
+pub returns-in-Some-do_next-clause-upper_bound : goal.returns-in-Some-do_next-clause-upper_bound
+returns-in-Some-do_next-clause-upper_bound g c = grind (arith, common_steps)
 
 pub returns-in-Some-do_next-clause-left : goal.returns-in-Some-do_next-clause-left
 returns-in-Some-do_next-clause-left g c = grind (arith, common_steps)

@@ -32,7 +32,7 @@ invariant_of-result g c =
     let most : most_turns c.in-Some.inputs ≡ most_turns (fresh_inputs order call.inputs) = ap most_turns c.in-Some.ensures in
     let turns = first-few order call.inputs in
     let cursors : All IsSmall c.in-Some.inputs.cursors = (let P : InputsView → Type 0 = λ f. All IsSmall f.cursors in subst P (sym c.in-Some.ensures) (small-first call.inputs)) in
-    let few : HasFewOutputInterfaces c.new-output.result = (let P : Target → Type 0 = λ t. HasFewOutputInterfaces t in subst P (sym c.new-output.ensures) (few-first c.assignment_of-preparation.result.writing _ _ _)) in
+    let upper_bound : HasFewOutputInterfaces c.new-output.result = (let P : Target → Type 0 = λ t. HasFewOutputInterfaces t in subst P (sym c.new-output.ensures) (few-first c.assignment_of-preparation.result.writing _ _ _)) in
     let marks : HasFewMarks c.in-Ok.selector.policy c.in-Ok.selector.state = (let P : SelectorView → Type 0 = λ v. HasFewMarks v.policy v.state in subst P (sym c.in-Ok.ensures) (omega arith)) in
     let sound : HavePrograms c.in-Ok.selector.policy c.in-Ok.selector.programs = (let P : SelectorView → Type 0 = λ v. HavePrograms v.policy v.programs in subst P (sym c.in-Ok.ensures) c.assignment_of-preparation.ensures.sound) in
     let a : Assignment = record { preparing = option_map preparing_of c.assignment_of-preparation.result.preparation; policy = policy_of c.assignment_of-preparation.result.policy; order = order; writing = c.assignment_of-preparation.result.writing } in
@@ -40,7 +40,7 @@ invariant_of-result g c =
     let made = first-made c.args.command call a c.in-Some.inputs c.in-Ok.selector c.new-3.result c.new-output.result c.assignment_of-preparation.ensures.preparing c.assignment_of-preparation.ensures.order c.assignment_of-preparation.ensures.policy c.assignment_of-preparation.ensures.writing
     c.in-Some.ensures (c.in-Ok.ensures ∙ ap programs c.assignment_of-preparation.ensures.programs) c.new-3.ensures c.new-output.ensures in
     let J : JobView → Type 0 = λ j. IsReadyIf j.preparing j in
-    (omega (arith, left, bound), (cursors, few), marks, sound, omega (arith, left, bound), omega (arith, owes, most, turns), subst J (sym made) (first-ready c.args.command call within))
+    (omega (arith, left, bound), (cursors, upper_bound), marks, sound, omega (arith, left, bound), omega (arith, owes, most, turns), subst J (sym made) (first-ready c.args.command call within))
 
 pub returns-clause-decided : goal.returns-clause-decided
 returns-clause-decided g c =

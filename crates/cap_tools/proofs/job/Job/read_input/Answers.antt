@@ -46,7 +46,7 @@ invariant_of-self-in-Ok-false g c =
     let paid = read_input-paid c.self.inside.inputs c.read_input.new.self c.args.input c.read_input.result tells c.read_input.ensures.steps (subst Goes (sym c.in-Ok-false.is) tt) in
     let was = c.self.invariant.0 in (
       omega (arith, less, was),
-      (read_input-small c.self.inside.inputs c.read_input.new.self c.args.input c.read_input.result c.read_input.ensures.steps c.self.invariant.1.0, c.close.ensures.few c.self.invariant.1.1),
+      (read_input-small c.self.inside.inputs c.read_input.new.self c.args.input c.read_input.result c.read_input.ensures.steps c.self.invariant.1.0, c.close.ensures.upper_bound c.self.invariant.1.1),
       c.close.ensures.marks c.self.invariant.2,
       have-kept c.self.inside.selector c.close.new.selector c.close.ensures.programs c.close.ensures.policy c.self.invariant.3,
       counted-kept c.self.inside.done c.self.inside.turns _ _ less c.self.invariant.4,
@@ -83,11 +83,11 @@ returns-in-Ok-true g c =
     let F : Result Bool Fault → Type 0 = λ a. Follows a c.read_input.new.self c.args.input (policy_state j) m.output None (policy_state j) m.output in
     let P : JobView → Type 0 = λ v. IsStep g.I.Input.tells g.O.Output.tells v None new in
     subst P c.self.view_is (record {
-      told = λ ti to ss before d.
+      exact = λ ti to ss before d.
           let L : Result Bool Fault → Type 0 = λ a. FetchLeaves d c.args.input a None left in
           subst L found
-          (read_input-leaves ss before m.inputs.cursors m.inputs.order m.policy m.state m.output m.decided c.args.input c.read_input.result c.read_input.new.self None (policy_state j) m.output tells (c.read_input.ensures.told ti) d (subst F (sym found) (refl, refl)));
-      reads = reads_on c.args.input c.read_input.result (λ on. ap is_fault c.in-Ok-true.is) (record { next = tells; fetches = c.read_input.ensures.steps; told = c.read_input.ensures.told; decided = refl; programs = refl; output = λ on. refl });
+          (read_input-leaves ss before m.inputs.cursors m.inputs.order m.policy m.state m.output m.decided c.args.input c.read_input.result c.read_input.new.self None (policy_state j) m.output tells (c.read_input.ensures.exact ti) d (subst F (sym found) (refl, refl)));
+      reads = reads_on c.args.input c.read_input.result (λ on. ap is_fault c.in-Ok-true.is) (record { next = tells; fetches = c.read_input.ensures.steps; exact = c.read_input.ensures.exact; decided = refl; programs = refl; output = λ on. refl });
       progress = λ more. read_input-less c.self.inside.inputs c.read_input.new.self c.args.input c.read_input.result tells c.read_input.ensures.steps (subst Goes (sym c.in-Ok-true.is) tt);
       paid = λ more. read_input-paid c.self.inside.inputs c.read_input.new.self c.args.input c.read_input.result tells c.read_input.ensures.steps (subst Goes (sym c.in-Ok-true.is) tt);
       light = is-light left (read_input-small c.self.inside.inputs c.read_input.new.self c.args.input c.read_input.result c.read_input.ensures.steps c.self.invariant.1.0, c.self.invariant.1.1) c.self.invariant.2;
@@ -115,15 +115,15 @@ returns-in-Ok-false g c =
     let F : Result Bool Fault → Type 0 = λ a. Follows a c.read_input.new.self c.args.input (policy_state j) m.output c.close.result (policy_state j') (output_at c.self.inside.messages.names c.close.new.output) in
     let P : JobView → Type 0 = λ v. IsStep g.I.Input.tells g.O.Output.tells v c.close.result new in
     subst P c.self.view_is (record {
-      told = λ ti to ss before d.
+      exact = λ ti to ss before d.
           let L : Result Bool Fault → Type 0 = λ a. FetchLeaves d c.args.input a c.close.result (left m.policy) in
           let K : Policy → Type 0 = λ k. StepLeaves d c.close.result (left k) in
           subst K (sym c.close.ensures.policy) (subst L found
-          (read_input-leaves ss before m.inputs.cursors m.inputs.order m.policy m.state m.output m.decided c.args.input c.read_input.result c.read_input.new.self c.close.result (policy_state j') (output_at c.self.inside.messages.names c.close.new.output) tells (c.read_input.ensures.told ti) d (subst F (sym found) (c.close.ensures.told to))));
+          (read_input-leaves ss before m.inputs.cursors m.inputs.order m.policy m.state m.output m.decided c.args.input c.read_input.result c.read_input.new.self c.close.result (policy_state j') (output_at c.self.inside.messages.names c.close.new.output) tells (c.read_input.ensures.exact ti) d (subst F (sym found) (c.close.ensures.exact to))));
       reads = reads_on c.args.input c.read_input.result (λ on. ap is_fault c.in-Ok-false.is) (record {
         next = tells;
         fetches = c.read_input.ensures.steps;
-        told = c.read_input.ensures.told;
+        exact = c.read_input.ensures.exact;
         decided = refl;
         programs = c.close.ensures.programs;
         output = λ none.
@@ -134,7 +134,7 @@ returns-in-Ok-false g c =
       });
       progress = λ more. read_input-less c.self.inside.inputs c.read_input.new.self c.args.input c.read_input.result tells c.read_input.ensures.steps (subst Goes (sym c.in-Ok-false.is) tt);
       paid = λ more. read_input-paid c.self.inside.inputs c.read_input.new.self c.args.input c.read_input.result tells c.read_input.ensures.steps (subst Goes (sym c.in-Ok-false.is) tt);
-      light = is-light (left j'.policy) (read_input-small c.self.inside.inputs c.read_input.new.self c.args.input c.read_input.result c.read_input.ensures.steps c.self.invariant.1.0, c.close.ensures.few c.self.invariant.1.1) (c.close.ensures.marks c.self.invariant.2);
+      light = is-light (left j'.policy) (read_input-small c.self.inside.inputs c.read_input.new.self c.args.input c.read_input.result c.read_input.ensures.steps c.self.invariant.1.0, c.close.ensures.upper_bound c.self.invariant.1.1) (c.close.ensures.marks c.self.invariant.2);
       sound = have-kept j j' c.close.ensures.programs c.close.ensures.policy c.self.invariant.3;
       policy = c.close.ensures.policy;
       names = refl;
@@ -157,11 +157,11 @@ returns-in-Err g c =
     let F : Result Bool Fault → Type 0 = λ a. Follows a c.read_input.new.self c.args.input (policy_state j) m.output None (policy_state j) m.output in
     let P : JobView → Type 0 = λ v. IsStep g.I.Input.tells g.O.Output.tells v (Some (end.FaultIn c.args.input c.in-Err.fault)) new in
     subst P c.self.view_is (record {
-      told = λ ti to ss before d.
+      exact = λ ti to ss before d.
           let L : Result Bool Fault → Type 0 = λ a. FetchLeaves d c.args.input a None left in
           subst L c.in-Err.is
-          (read_input-leaves ss before m.inputs.cursors m.inputs.order m.policy m.state m.output m.decided c.args.input c.read_input.result c.read_input.new.self None (policy_state j) m.output tells (c.read_input.ensures.told ti) d (subst F (sym c.in-Err.is) (refl, refl)));
-      reads = reads_on c.args.input c.read_input.result (λ on. (cc)) (record { next = tells; fetches = c.read_input.ensures.steps; told = c.read_input.ensures.told; decided = refl; programs = refl; output = λ on. refl });
+          (read_input-leaves ss before m.inputs.cursors m.inputs.order m.policy m.state m.output m.decided c.args.input c.read_input.result c.read_input.new.self None (policy_state j) m.output tells (c.read_input.ensures.exact ti) d (subst F (sym c.in-Err.is) (refl, refl)));
+      reads = reads_on c.args.input c.read_input.result (λ on. (cc)) (record { next = tells; fetches = c.read_input.ensures.steps; exact = c.read_input.ensures.exact; decided = refl; programs = refl; output = λ on. refl });
       progress = λ more. (cc);
       paid = λ more. (cc);
       light = is-light left (read_input-small c.self.inside.inputs c.read_input.new.self c.args.input c.read_input.result c.read_input.ensures.steps c.self.invariant.1.0, c.self.invariant.1.1) c.self.invariant.2;

@@ -22,7 +22,7 @@ returns-clause-refused g c =
     } in
     let P : JobView → Type 0 = λ v. RefusesStart c.args.refusal g.E.Output.tells v (refusal_status c.args.refusal) (with preparing c.refuse.new.self.names c.status-status.result) in
     let N : Option Preparing → JobView = λ p. with p c.refuse.new.self.names c.status-status.result in
-    subst P c.self.view_is (record { status_is = refl; told = c.refuse.ensures.told; new_is = ap N none ∙ ap₂ (with None) c.refuse.ensures.names c.status-status.ensures })
+    subst P c.self.view_is (record { status_is = refl; exact = c.refuse.ensures.exact; new_is = ap N none ∙ ap₂ (with None) c.refuse.ensures.names c.status-status.ensures })
 
 pub returns-clause-light : goal.returns-clause-light
 returns-clause-light g c =

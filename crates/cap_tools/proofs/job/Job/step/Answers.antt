@@ -10,8 +10,8 @@ use Rattle.cap_tools.proofs.CommandStarts.{compile-gives}
 use Rattle.cap_tools.proofs.Preparing.{none-before}
 use Rattle.cap_tools.proofs.job.Job.step.Goals as goal
 
-pub returns-in-Some-Listing-clause-told : goal.returns-in-Some-Listing-clause-told
-returns-in-Some-Listing-clause-told g c = λ ti to none.
+pub returns-in-Some-Listing-clause-exact : goal.returns-in-Some-Listing-clause-exact
+returns-in-Some-Listing-clause-exact g c = λ ti to none.
     let preparing : Option Preparing = option_map preparing_of c.self.inside.preparation in
     let was : JobView = record { preparing = preparing; machine = machine_at c.self.inside.inputs c.self.inside.selector (output_at c.self.inside.messages.names c.self.inside.output) c.self.inside.decided; programs = c.self.inside.selector.programs; err = c.self.inside.messages.device; turns = c.self.inside.turns; done = c.self.inside.done } in
     let some = ap (option_map preparing_of) (sym c.take.ensures.value ∙ c.in-Some-Listing.is ∙ ap Some c.in-Some-Listing.field-0-is) in
@@ -34,8 +34,8 @@ returns-in-None-clause-prepares g c = grind (arith, common_steps)
 pub returns-in-None-clause-reads : goal.returns-in-None-clause-reads
 returns-in-None-clause-reads g c = grind (arith, common_steps)
 
-pub returns-in-None-clause-told : goal.returns-in-None-clause-told
-returns-in-None-clause-told g c = grind (arith, common_steps)
+pub returns-in-None-clause-exact : goal.returns-in-None-clause-exact
+returns-in-None-clause-exact g c = grind (arith, common_steps)
 
 pub returns-in-Some-Filter-clause-keeps : goal.returns-in-Some-Filter-clause-keeps
 returns-in-Some-Filter-clause-keeps g c = grind (arith, common_steps)
@@ -46,8 +46,8 @@ returns-in-Some-Filter-clause-prepares g c = grind (arith, common_steps)
 pub returns-in-Some-Filter-clause-reads : goal.returns-in-Some-Filter-clause-reads
 returns-in-Some-Filter-clause-reads g c = grind (arith, common_steps)
 
-pub returns-in-Some-Filter-clause-told : goal.returns-in-Some-Filter-clause-told
-returns-in-Some-Filter-clause-told g c = grind (arith, common_steps)
+pub returns-in-Some-Filter-clause-exact : goal.returns-in-Some-Filter-clause-exact
+returns-in-Some-Filter-clause-exact g c = grind (arith, common_steps)
 
 pub returns-in-Some-Listing-clause-keeps : goal.returns-in-Some-Listing-clause-keeps
 returns-in-Some-Listing-clause-keeps g c = grind (arith, common_steps)
@@ -70,5 +70,5 @@ returns-then-is_none-clause-keeps g c = grind (arith, common_steps)
 pub returns-then-is_none-clause-prepares : goal.returns-then-is_none-clause-prepares
 returns-then-is_none-clause-prepares g c = grind (arith, common_steps)
 
-pub returns-then-is_none-clause-told : goal.returns-then-is_none-clause-told
-returns-then-is_none-clause-told g c = grind (arith, common_steps)
+pub returns-then-is_none-clause-exact : goal.returns-then-is_none-clause-exact
+returns-then-is_none-clause-exact g c = grind (arith, common_steps)

@@ -4,7 +4,7 @@ use Rattle.cap_tools.specs.Messages.{MessagesView}
 use Rattle.cap_tools.specs.Jobs.{end_message}
 use Rattle.cap_tools.proofs.messages.Messages.end.Goals as goal
 
-pub returns-clause-told : goal.returns-clause-told
-returns-clause-told g c =
+pub returns-clause-exact : goal.returns-clause-exact
+returns-clause-exact g c =
     let P : MessagesView → Type 0 = λ v. IsTold g.E.Output.tells v.device (end_message v.names c.args.inputs.now.cursors c.args.end) (output_view (g.E.Output.written c.tell.new.device) (g.E.Output.failures c.tell.new.device)) in
-    subst P c.self.view_is (record { answer = c.tell.result; told = c.tell.ensures.told; counted = c.tell.ensures.failed })
+    subst P c.self.view_is (record { answer = c.tell.result; exact = c.tell.ensures.exact; counted = c.tell.ensures.failed })

@@ -4,7 +4,7 @@ use Rattle.cap_filter.specs.Outcome.{IsTold, output_view}
 use Rattle.cap_tools.specs.Messages.{MessagesView}
 use Rattle.cap_tools.proofs.messages.Messages.refuse.Goals as goal
 
-pub returns-clause-told : goal.returns-clause-told
-returns-clause-told g c =
+pub returns-clause-exact : goal.returns-clause-exact
+returns-clause-exact g c =
     let P : MessagesView → Type 0 = λ v. IsTold g.E.Output.tells v.device (refusal_message c.args.refusal) (output_view (g.E.Output.written c.tell_refusal.new.output) (g.E.Output.failures c.tell_refusal.new.output)) in
-    subst P c.self.view_is (record { answer = c.tell_refusal.result; told = c.tell_refusal.ensures.told; counted = c.tell_refusal.ensures.failed })
+    subst P c.self.view_is (record { answer = c.tell_refusal.result; exact = c.tell_refusal.ensures.exact; counted = c.tell_refusal.ensures.failed })

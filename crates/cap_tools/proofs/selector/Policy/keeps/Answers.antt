@@ -1,4 +1,4 @@
 use Rattle.cap_tools.proofs.selector.Policy.keeps.Goals as goal
 
-pub returns-in-Edit-clause-told : goal.returns-in-Edit-clause-told
-returns-in-Edit-clause-told g c = λ passed tally judges. rw c.in-Edit.is (c.select.ensures.told passed tally)
+pub returns-in-Edit-clause-exact : goal.returns-in-Edit-clause-exact
+returns-in-Edit-clause-exact g c = λ passed tally judges. rw c.in-Edit.is (c.select.ensures.exact passed tally)
