@@ -4,7 +4,7 @@ use Rattle.cap_octet.specs.Packet.{Captured}
 use Rattle.flt_bpf.specs.Content.{Content}
 use Rattle.flt_lang.specs.Tree.{Expression, empty, truth}
 use Rattle.flt_lang.specs.Counts.{bound_of}
-use Rattle.flt_gen.specs.declared.link.Link.{Link}
+use Rattle.cap_octet.specs.declared.link.Link.{Link}
 use Rattle.cap_filter.specs.Programs.{AreMade, IsMade, HasPrograms, steps_of_run, met_on, ran_at, spent_in}
 use Rattle.cap_filter.specs.Links.{link_types}
 use Rattle.cap_filter.specs.FilterRules.{by_reading}

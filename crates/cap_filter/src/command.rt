@@ -8,9 +8,8 @@ ghost use Rattle.cap_filter.specs.Command.{is_proper_edit, is_proper_print, has_
 ghost use Rattle.cap_filter.specs.Command.{has_one_output, has_proper_ranges};
 ghost use Rattle.cap_filter.specs.Selection.{is_named, is_kept};
 
-use cap_octet::Format;
 use cap_octet::date::TIME_END;
-use flt_gen::Link;
+use cap_octet::{Format, Link};
 use std::alloc::{Allocator, Global};
 
 /// How many ranges an edit has at most.

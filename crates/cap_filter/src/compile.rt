@@ -4,8 +4,9 @@ ghost use Rattle.cap_filter.specs.Compilation.{IsCompiled};
 ghost use Rattle.cap_filter.specs.Expressions.{IsTextFault};
 
 use crate::expression::read_expression;
+use cap_octet::Link;
 use flt_bpf::Program;
-use flt_gen::{Link, generate};
+use flt_gen::generate;
 use flt_words::ExprFault;
 use std::alloc::Allocator;
 

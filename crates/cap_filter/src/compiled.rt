@@ -7,9 +7,9 @@ ghost use Rattle.cap_filter.specs.Programs.{AreMade, met_on, ran_at};
 ghost use Rattle.cap_filter.specs.Links.{row_of_link_type};
 
 use cap_octet::assigned::{LINKTYPE_ETHERNET, LINKTYPE_LINUX_SLL, LINKTYPE_RAW};
-use cap_octet::{Fault, Packet};
+use cap_octet::{Fault, Link, Packet};
 use flt_bpf::{Program, run};
-use flt_gen::{Link, generate};
+use flt_gen::generate;
 use flt_lang::Checked;
 use std::alloc::{AllocError, Allocator};
 use std::marker::Model;

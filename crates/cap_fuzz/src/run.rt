@@ -2,9 +2,8 @@
 
 use crate::packets::{Packets, packets_of};
 use crate::random::Random;
-use cap_octet::{Format, MemInput, MemOutput};
+use cap_octet::{Format, Link, MemInput, MemOutput};
 use cap_tools::{Command, Compile, Edit, Print, Shift, run};
-use flt_gen::Link;
 use std::alloc::{AllocError, Global};
 use std::fmt::Write;
 use std::str;

@@ -4,7 +4,7 @@ use Rattle.std.specs.Str.{IsUtf8, IsValidUpTo}
 use Rattle.flt_bpf.specs.declared.insn.Insn.{Insn}
 use Rattle.flt_words.specs.declared.fault.ExprFault.TheVariants as fault
 use Rattle.flt_words.specs.Messages as messages
-use Rattle.flt_gen.specs.declared.link.Link.{Link}
+use Rattle.cap_octet.specs.declared.link.Link.{Link}
 use Rattle.cap_filter.specs.Compilation.{IsCompiled}
 use Rattle.cap_filter.specs.Expressions.{IsTextFault}
 use Rattle.cap_filter.specs.Links.{link_of}

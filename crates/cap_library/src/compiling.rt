@@ -6,9 +6,9 @@ ghost use Rattle.cap_library.specs.Compiling.{failure_number};
 ghost use Rattle.cap_library.specs.Compiling.{failure_status};
 
 use cap_filter::compile::compile_text;
+use cap_octet::Link;
 use cap_octet::assigned::{LINKTYPE_ETHERNET, LINKTYPE_LINUX_SLL, LINKTYPE_RAW};
 use flt_bpf::Insn;
-use flt_gen::Link;
 use flt_words::ExprFault;
 use std::alloc::Global;
 

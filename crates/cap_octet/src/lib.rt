@@ -12,6 +12,7 @@ mod failures;
 mod fault;
 mod format;
 pub mod laws;
+mod link;
 mod memory;
 mod network;
 mod number;
@@ -27,6 +28,7 @@ pub use device::{
 };
 pub use fault::Fault;
 pub use format::Format;
+pub use link::Link;
 pub use memory::{MemInput, MemOutput};
 pub use network::{NetworkHeader, NetworkKind, link_header_length, network_header};
 pub use number::{Order, u16_at, u32_at};

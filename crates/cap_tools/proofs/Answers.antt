@@ -20,7 +20,7 @@ use Rattle.cap_filter.specs.FilterRules.{Rule, rule_decides, read_on, decision_o
 use Rattle.flt_bpf.specs.Machine as bpf
 use Rattle.flt_bpf.specs.Machine.{machine, Answered}
 use Rattle.flt_lang.specs.Tree.{Expression, empty, truth}
-use Rattle.flt_gen.specs.declared.link.Link.{Link}
+use Rattle.cap_octet.specs.declared.link.Link.{Link}
 use Rattle.flt_gen.specs.Elementary.{Reading, Yes, No, Rejected}
 use Rattle.flt_gen.specs.Reading.{holds}
 use Rattle.cap_tools.specs.declared.selector.Verdict as code

@@ -9,7 +9,7 @@ use Rattle.cap_octet.specs.Packet.{Captured}
 use Rattle.cap_octet.specs.declared.fault.Fault.{Fault}
 use Rattle.cap_io.specs.Capture.{Placed, kind_of}
 use Rattle.cap_io.specs.Position.{IsCutShort}
-use Rattle.flt_gen.specs.declared.link.Link.{Link}
+use Rattle.cap_octet.specs.declared.link.Link.{Link}
 use Rattle.flt_words.specs.declared.fault.ExprFault.TheVariants as expression
 use Rattle.flt_bpf.specs.declared.fault.ListingFault.TheVariants as listing_fault
 use Rattle.flt_bpf.specs.Listing.{listing}

@@ -9,7 +9,7 @@ use Rattle.cap_filter.specs.Compilation.{CompileLeaves, ListingLeaves}
 use Rattle.cap_filter.specs.declared.refusal.Refusal.TheVariants.{Expression}
 use Rattle.flt_words.specs.declared.fault.ExprFault.{ExprFault}
 use Rattle.flt_words.specs.declared.fault.ExprFault.TheVariants.{Memory}
-use Rattle.flt_gen.specs.declared.link.Link.{Link}
+use Rattle.cap_octet.specs.declared.link.Link.{Link}
 use Rattle.cap_tools.specs.declared.job.Turn.TheVariants as turn
 use Rattle.cap_inputs.specs.Inputs.{InputPast}
 use Rattle.cap_tools.specs.Machine.{written_by, failures_by}

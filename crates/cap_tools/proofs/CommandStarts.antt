@@ -15,7 +15,7 @@ use Rattle.cap_filter.specs.declared.command.Command.TheVariants as command
 use Rattle.cap_filter.specs.Compilation.{IsCompiled, ListingLeaves}
 use Rattle.cap_filter.specs.Outcome.{OutputView, IsTold, Runs}
 use Rattle.flt_bpf.specs.declared.insn.Insn.{Insn}
-use Rattle.flt_gen.specs.declared.link.Link.{Link}
+use Rattle.cap_octet.specs.declared.link.Link.{Link}
 use Rattle.cap_tools.specs.declared.job.Turn.{Turn}
 use Rattle.cap_tools.specs.declared.job.Turn.TheVariants as turn
 use Rattle.cap_tools.specs.declared.output.Writing.TheVariants as writing

@@ -4,7 +4,7 @@ use Rattle.cap_octet.specs.Packet.{Captured}
 use Rattle.flt_bpf.specs.declared.insn.Insn.{Insn}
 use Rattle.flt_bpf.specs.Content.{Content}
 use Rattle.flt_lang.specs.Tree.{Expression, empty, truth}
-use Rattle.flt_gen.specs.declared.link.Link.{Link}
+use Rattle.cap_octet.specs.declared.link.Link.{Link}
 use Rattle.cap_filter.specs.Links.{link_types}
 use Rattle.cap_filter.specs.Programs.{AreMade, ran_at, ran_if}
 use Rattle.cap_filter.specs.FilterRules.{Rule, by_reading, by_answer}

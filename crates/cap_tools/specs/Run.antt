@@ -9,7 +9,7 @@ use Rattle.cap_io.specs.Capture.{Placed, Items}
 use Rattle.cap_io.specs.Position.{IsCutShort}
 use Rattle.flt_bpf.specs.Listing.{listing}
 use Rattle.flt_bpf.specs.declared.insn.Insn.{Insn}
-use Rattle.flt_gen.specs.declared.link.Link.{Link}
+use Rattle.cap_octet.specs.declared.link.Link.{Link}
 use Rattle.cap_filter.specs.declared.refusal.Refusal.{Refusal}
 use Rattle.cap_filter.specs.declared.refusal.Refusal.TheVariants as refusal
 use Rattle.cap_filter.specs.Compilation.{IsCompiled}

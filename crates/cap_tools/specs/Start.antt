@@ -2,7 +2,7 @@
 use Rattle.std.specs.Prelude.{ℕ, not, List, Option, None, Some, string_bytes}
 use Rattle.cap_octet.specs.declared.format.Format.{Format}
 use Rattle.cap_print.specs.declared.print.Options.{Options}
-use Rattle.flt_gen.specs.declared.link.Link.{Link}
+use Rattle.cap_octet.specs.declared.link.Link.{Link}
 use Rattle.cap_filter.specs.declared.command.Command.{Command}
 use Rattle.cap_filter.specs.declared.command.Print.{Print}
 use Rattle.cap_filter.specs.declared.command.Command.TheVariants as command

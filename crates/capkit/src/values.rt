@@ -7,9 +7,8 @@ ghost use Rattle.clap.specs.Words.{found_of, rows_of, first_of};
 ghost use Rattle.capkit.specs.Line.{flag_in, format_in, link_in, number_in, span_in, text_in};
 ghost use Rattle.capkit.specs.Line.{texts_in, time_in};
 
-use cap_octet::{Format, span_of, time_of};
+use cap_octet::{Format, Link, span_of, time_of};
 use clap::ArgMatches;
-use flt_gen::Link;
 
 /// Whether the flag is set.
 pub fn flag(matches: &ArgMatches<'_>, id: &str) -> bool

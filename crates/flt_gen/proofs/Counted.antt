@@ -17,8 +17,8 @@ use Rattle.flt_lang.specs.declared.value.Value.TheVariants as value
 use Rattle.flt_lang.specs.Tree.{NumberTree, literal, len, named, load, negated, applied, TruthTree, check, cast, sized, bare, valued, qualified, compared, denied, joined}
 use Rattle.flt_lang.specs.Counts as count
 use Rattle.flt_lang.specs.Resolved.{is_unfilled, any_primitive}
-use Rattle.flt_gen.specs.declared.link.Link.{Link}
-use Rattle.flt_gen.specs.declared.link.Link.TheVariants.{Ether, Raw, Cooked}
+use Rattle.cap_octet.specs.declared.link.Link.{Link}
+use Rattle.cap_octet.specs.declared.link.Link.TheVariants.{Ether, Raw, Cooked}
 use Rattle.flt_gen.specs.declared.elementary.FrameKind.{FrameKind}
 use Rattle.flt_gen.specs.declared.elementary.FrameKind.TheVariants as kind
 use Rattle.flt_gen.specs.declared.elementary.Offset.{Offset}

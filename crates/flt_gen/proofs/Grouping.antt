@@ -16,7 +16,7 @@ use Rattle.flt_lang.specs.declared.value.Value.TheVariants as value
 use Rattle.flt_lang.specs.Tree.{TruthTree, check, cast, sized, bare, valued, qualified, compared, denied, joined}
 use Rattle.flt_lang.specs.Counts as count
 use Rattle.flt_lang.specs.Resolved.{is_unfilled, any_primitive}
-use Rattle.flt_gen.specs.declared.link.Link.{Link}
+use Rattle.cap_octet.specs.declared.link.Link.{Link}
 use Rattle.flt_gen.specs.Elementary.{Reading, Yes, No, Rejected}
 use Rattle.flt_gen.specs.declared.elementary.Hosts.TheVariants as hosts
 use Rattle.flt_gen.specs.declared.elementary.Ports.TheVariants.{One, Several}

@@ -13,8 +13,8 @@ use Rattle.cap_octet.specs.declared.network.NetworkKind.TheVariants.{Ipv4, Ipv6,
 use Rattle.cap_octet.specs.declared.number.Order.TheVariants.{Big}
 use Rattle.flt_bpf.specs.declared.operation.Width.TheVariants.{HalfWord}
 use Rattle.flt_bpf.specs.Machine.{number_at}
-use Rattle.flt_gen.specs.declared.link.Link.{Link}
-use Rattle.flt_gen.specs.declared.link.Link.TheVariants.{Ether, Raw, Cooked}
+use Rattle.cap_octet.specs.declared.link.Link.{Link}
+use Rattle.cap_octet.specs.declared.link.Link.TheVariants.{Ether, Raw, Cooked}
 use Rattle.flt_gen.specs.Elementary.{Reading, Yes, No, Rejected, reading_of, with, elementary_reads, is_at, kind_test, link_type}
 use Rattle.flt_gen.specs.Laws.{frame_kind, carries}
 

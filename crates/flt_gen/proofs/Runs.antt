@@ -26,7 +26,7 @@ use Rattle.flt_bpf.specs.declared.operation.Operand.TheVariants.{Constant, Index
 use Rattle.flt_words.specs.declared.token.Comparison.{Comparison}
 use Rattle.flt_words.specs.declared.token.Comparison.TheVariants.{Equal, NotEqual, Less, AtMost, Greater, AtLeast}
 use Rattle.flt_lang.specs.Tree.{NumberTree, literal, len, named, load, negated, applied}
-use Rattle.flt_gen.specs.declared.link.Link.{Link}
+use Rattle.cap_octet.specs.declared.link.Link.{Link}
 use Rattle.flt_gen.specs.declared.elementary.Offset.{Offset}
 use Rattle.flt_gen.specs.declared.elementary.Offset.TheVariants.{Fixed, AfterHeader}
 use Rattle.flt_gen.specs.declared.elementary.FieldTest.{FieldTest}

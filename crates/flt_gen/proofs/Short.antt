@@ -13,7 +13,7 @@ use Rattle.flt_words.specs.declared.token.Comparison.TheVariants.{Equal, NotEqua
 use Rattle.flt_words.specs.declared.token.Protocol.{Protocol}
 use Rattle.flt_words.specs.declared.token.Protocol.TheVariants.{Ether, Tcp, Udp, Icmp}
 use Rattle.flt_lang.specs.Tree.{NumberTree, literal, len, named, load, negated, applied}
-use Rattle.flt_gen.specs.declared.link.Link.{Link}
+use Rattle.cap_octet.specs.declared.link.Link.{Link}
 use Rattle.flt_gen.specs.declared.elementary.Offset.{Offset}
 use Rattle.flt_gen.specs.declared.elementary.Offset.TheVariants.{Fixed, AfterHeader}
 use Rattle.flt_gen.specs.declared.elementary.Elementary.TheVariants.{Outcome, Field}

@@ -8,7 +8,7 @@ use Rattle.flt_lang.specs.Tree.{Expression}
 use Rattle.flt_lang.specs.Nodes.{expr_nodes}
 use Rattle.flt_lang.specs.Machine.{expr_onto}
 use Rattle.flt_lang.proofs.NodesBack.{expr_turned}
-use Rattle.flt_gen.specs.declared.link.Link.{Link}
+use Rattle.cap_octet.specs.declared.link.Link.{Link}
 use Rattle.flt_gen.specs.Code.{expression_code, program_code}
 use Rattle.flt_gen.specs.Walk.{Walk, emit_node, emit_both_nodes, emit_nodes, start, insns_of}
 use Rattle.flt_gen.proofs.Walking.{expression_walked}

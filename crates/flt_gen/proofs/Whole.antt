@@ -12,7 +12,7 @@ use Rattle.flt_lang.specs.Tree.{TruthTree, Expression, empty, truth}
 use Rattle.flt_lang.specs.Counts.{words_of, bound_of, truth_tests, truth_size}
 use Rattle.flt_lang.specs.Resolved.{is_unfilled, any_primitive, some_primitive}
 use Rattle.flt_short.specs.Alike.{Replaces}
-use Rattle.flt_gen.specs.declared.link.Link.{Link}
+use Rattle.cap_octet.specs.declared.link.Link.{Link}
 use Rattle.flt_gen.specs.declared.elementary.Elementary.TheVariants.{Outcome}
 use Rattle.flt_gen.specs.Elementary.{Reading, Yes, No, Rejected}
 use Rattle.flt_gen.specs.Formula.{Formula, Single, reads}

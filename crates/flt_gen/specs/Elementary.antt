@@ -8,8 +8,8 @@ use Rattle.flt_bpf.specs.declared.operation.Width.TheVariants.{HalfWord, Byte}
 use Rattle.flt_bpf.specs.Machine.{field, header_length}
 use Rattle.flt_words.specs.declared.token.Comparison.{Comparison}
 use Rattle.flt_words.specs.declared.token.Comparison.TheVariants.{Equal, NotEqual, Less, AtMost, Greater, AtLeast}
-use Rattle.flt_gen.specs.declared.link.Link.{Link}
-use Rattle.flt_gen.specs.declared.link.Link.TheVariants.{Ether, Raw, Cooked}
+use Rattle.cap_octet.specs.declared.link.Link.{Link}
+use Rattle.cap_octet.specs.declared.link.Link.TheVariants.{Ether, Raw, Cooked}
 use Rattle.flt_gen.specs.declared.elementary.FrameKind.{FrameKind}
 use Rattle.flt_gen.specs.declared.elementary.FrameKind.TheVariants.{Ethernet, Ip, Ip6, Arp, Rarp}
 use Rattle.flt_gen.specs.declared.elementary.Offset.{Offset}

@@ -12,7 +12,7 @@ use Rattle.flt_lang.specs.declared.quals.FullQuals.{FullQuals}
 use Rattle.flt_lang.specs.declared.value.Value.{Value}
 use Rattle.flt_lang.specs.declared.value.Value.TheVariants as value
 use Rattle.flt_lang.specs.Tree.{TruthTree, qualified, denied, joined}
-use Rattle.flt_gen.specs.declared.link.Link.{Link}
+use Rattle.cap_octet.specs.declared.link.Link.{Link}
 use Rattle.flt_gen.specs.declared.elementary.FrameKind.{FrameKind}
 use Rattle.flt_gen.specs.declared.elementary.FrameKind.TheVariants as kind
 use Rattle.flt_gen.specs.declared.elementary.Ports.TheVariants.{One, Several}

@@ -9,7 +9,7 @@ use Rattle.flt_words.specs.declared.token.Operator.TheVariants.{Or, And, ShiftLe
 use Rattle.flt_words.specs.declared.token.Protocol.{Protocol}
 use Rattle.flt_words.specs.declared.token.Protocol.TheVariants.{Ether, Ip, Ip6, Arp, Rarp, Tcp, Udp, Icmp, Icmp6}
 use Rattle.flt_lang.specs.Tree.{NumberTree, literal, len, named, load, negated, applied}
-use Rattle.flt_gen.specs.declared.link.Link.{Link}
+use Rattle.cap_octet.specs.declared.link.Link.{Link}
 use Rattle.flt_gen.specs.declared.elementary.FrameKind.TheVariants as kind
 use Rattle.flt_gen.specs.declared.elementary.Elementary.{Elementary}
 use Rattle.flt_gen.specs.Elementary.{with, header_at, network, kind_test, has_ip_proto, first_fragment}

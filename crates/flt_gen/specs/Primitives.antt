@@ -23,8 +23,8 @@ use Rattle.flt_lang.specs.declared.value.Value.TheVariants as value
 use Rattle.flt_lang.specs.declared.net.Ip4Net.{Ip4Net}
 use Rattle.flt_lang.specs.Nets.{first_bits, ip4_net}
 use Rattle.flt_lang.specs.Tree.{literal, len}
-use Rattle.flt_gen.specs.declared.link.Link.{Link}
-use Rattle.flt_gen.specs.declared.link.Link.TheVariants.{Cooked}
+use Rattle.cap_octet.specs.declared.link.Link.{Link}
+use Rattle.cap_octet.specs.declared.link.Link.TheVariants.{Cooked}
 use Rattle.flt_gen.specs.declared.elementary.FrameKind.{FrameKind}
 use Rattle.flt_gen.specs.declared.elementary.FrameKind.TheVariants.{Ethernet, Ip, Ip6, Arp, Rarp}
 use Rattle.flt_gen.specs.declared.elementary.Offset.{Offset}

@@ -2,7 +2,7 @@
 use Rattle.std.specs.Prelude.{ℕ, false, List, []}
 use Rattle.flt_words.specs.declared.token.Join.TheVariants.{And, Or}
 use Rattle.flt_lang.specs.Tree.{TruthTree, check, cast, sized, bare, valued, qualified, compared, denied, joined, Expression, empty, truth}
-use Rattle.flt_gen.specs.declared.link.Link.{Link}
+use Rattle.cap_octet.specs.declared.link.Link.{Link}
 use Rattle.flt_gen.specs.declared.elementary.Elementary.TheVariants.{Outcome}
 use Rattle.flt_gen.specs.Elementary.{Reading, Yes}
 use Rattle.flt_gen.specs.Numbers.{accessors}

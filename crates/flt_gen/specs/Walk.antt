@@ -11,7 +11,7 @@ use Rattle.flt_lang.specs.declared.quals.FullQuals.{FullQuals}
 use Rattle.flt_lang.specs.declared.value.Value.{Value}
 use Rattle.flt_lang.specs.declared.node.Node.{Node}
 use Rattle.flt_lang.specs.declared.node.Node.TheVariants as node
-use Rattle.flt_gen.specs.declared.link.Link.{Link}
+use Rattle.cap_octet.specs.declared.link.Link.{Link}
 use Rattle.flt_gen.specs.declared.code.Targets.{Targets}
 use Rattle.flt_gen.specs.declared.waiting.LeftTruth.{LeftTruth}
 use Rattle.flt_gen.specs.declared.waiting.Waiting.{Waiting}

@@ -6,7 +6,7 @@ ghost use Rattle.flt_gen.specs.Follow.{nothing, fact, and_fact, and_fork};
 use crate::code::Targets;
 use crate::elementary::Elementary;
 use crate::follow::Knowledge;
-use crate::link::Link;
+use cap_octet::Link;
 
 /// What code is emitted for: the link, what is known of a packet that comes to the code, and where
 /// the packet goes on.

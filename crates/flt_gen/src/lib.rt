@@ -10,7 +10,6 @@ mod emit;
 mod follow;
 mod group;
 pub mod laws;
-mod link;
 mod number;
 mod port;
 mod primitive;
@@ -20,5 +19,4 @@ mod value;
 mod waiting;
 mod walk;
 
-pub use link::Link;
 pub use program::generate;

@@ -11,8 +11,8 @@ use crate::code::Code;
 use crate::context::Context;
 use crate::elementary::{Elementary, FieldTest, FrameKind, Offset};
 use crate::emit::{emit_all, emit_elementary, emit_sides};
-use crate::link::Link;
 use crate::table::{compares_at, has_ip_proto, has_ip6_proto, is_at, kind_test, network};
+use cap_octet::Link;
 use cap_octet::assigned::{
     ETHERNET_TYPE_OFFSET, IPPROTO_ICMP, IPPROTO_ICMPV6, IPPROTO_TCP, IPPROTO_UDP,
     LINUX_SLL_TYPE_OFFSET,

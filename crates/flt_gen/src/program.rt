@@ -6,8 +6,8 @@ ghost use Rattle.flt_gen.specs.Counts.{short_bound_of};
 ghost use Rattle.flt_short.specs.Layout.{JumpsAreNeeded, IsShort};
 ghost use Rattle.flt_gen.specs.Walk.{emit_nodes, start, insns_of};
 
-use crate::link::Link;
 use crate::walk::Walk;
+use cap_octet::Link;
 use flt_bpf::insn::Insn;
 use flt_bpf::program::{Program, check};
 use flt_lang::{Checked, Node};

@@ -5,7 +5,7 @@ ghost use Rattle.flt_gen.specs.Elementary.{network, is_at, is_masked, compares_a
 ghost use Rattle.flt_gen.specs.Elementary.{first_fragment, has_ip_proto, has_ip6_proto};
 
 use crate::elementary::{Elementary, FieldTest, FrameKind, Offset};
-use crate::link::Link;
+use cap_octet::Link;
 use cap_octet::assigned::{
     ETHERNET_HEADER_LENGTH, ETHERNET_TYPE_OFFSET, ETHERTYPE_ARP, ETHERTYPE_IPV4, ETHERTYPE_IPV6,
     ETHERTYPE_RARP, LINUX_SLL_HEADER_LENGTH, LINUX_SLL_TYPE_OFFSET,

@@ -6,8 +6,9 @@ mod packets;
 mod readings;
 
 use crate::compiler::packets::Packet;
+use cap_octet::Link;
 use flt_bpf::{Program, run};
-use flt_gen::{Link, generate};
+use flt_gen::generate;
 use flt_lang::{Checked, check, parse, resolve};
 use flt_words::{ExprFault, lex};
 use std::alloc::{Allocator, Global};

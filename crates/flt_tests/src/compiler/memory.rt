@@ -1,8 +1,9 @@
 //! Growths that are refused in turn.
 
 use super::checked;
+use cap_octet::Link;
 use cap_trial::Trial;
-use flt_gen::{Link, generate};
+use flt_gen::generate;
 use flt_lang::Checked;
 use flt_words::ExprFault;
 use std::alloc::Global;

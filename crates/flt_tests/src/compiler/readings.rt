@@ -2,8 +2,8 @@
 
 use super::{compiled, matches};
 use crate::compiler::packets::{Packet, SYN, SYN_OF_IP6, fragment, tcp};
+use cap_octet::Link;
 use flt_bpf::{Program, run};
-use flt_gen::Link;
 use std::alloc::{AllocError, Global};
 use std::test::Fail;
 

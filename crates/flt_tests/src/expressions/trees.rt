@@ -1,7 +1,7 @@
 //! Which trees texts have.
 
 use crate::compiler::compiled;
-use flt_gen::Link;
+use cap_octet::Link;
 use flt_words::ExprFault;
 use std::alloc::{AllocError, Global};
 use std::test::Fail;
