@@ -4,13 +4,13 @@
 ghost use Rattle.std.specs.Prelude.{◌≡◌, ◌≤◌, Bool, IfErr, IfOk, true};
 ghost use Rattle.std.specs.Result.{ForOk};
 ghost use Rattle.capkit.specs.Line.{is_ready};
-ghost use Rattle.cap_host.specs.Status.{status_of};
+ghost use Rattle.cap_streams.specs.Status.{status_of};
 
-use cap_host::USAGE;
-use cap_host::message::tell;
-use cap_host::refusal::refuse;
 use cap_host::runner::run;
-use cap_host::words::line_of;
+use cap_streams::USAGE;
+use cap_streams::message::tell;
+use cap_streams::refusal::refuse;
+use cap_streams::words::line_of;
 use capkit::{Line, Usage};
 use std::alloc::AllocError;
 use std::env;

@@ -1,10 +1,10 @@
 //! Files that are known again under other names.
 
 use super::folder::{CAPTURE, enter, leave, line_of, words_of};
-use cap_host::files::{Identify, Identity, is_plain};
-use cap_host::held::is_waited_for;
-use cap_host::overwrites::overwrites_input;
-use cap_host::words;
+use cap_streams::files::{Identify, Identity, is_plain};
+use cap_streams::held::is_waited_for;
+use cap_streams::overwrites::overwrites_input;
+use cap_streams::words;
 use capkit::Usage;
 use std::alloc::Global;
 use std::os::unix::fs::symlink;

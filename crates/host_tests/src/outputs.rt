@@ -2,11 +2,13 @@
 ghost use Rattle.std.specs.Prelude.{◌≤◌};
 
 use super::folder::{enter, leave};
-use cap_host::held::{Held, Outlet};
-use cap_host::progress::{Counted, Progress};
-use cap_host::runner::{Stop, Target, create, finish, settle, target};
-use cap_host::streams::Created;
 use cap_octet::StdOutput;
+use cap_streams::ending::{finish, settle};
+use cap_streams::held::{Held, Outlet};
+use cap_streams::opening::{Target, create, target};
+use cap_streams::progress::{Counted, Progress};
+use cap_streams::stop::Stop;
+use cap_streams::streams::Created;
 use std::fs;
 use std::io::{self, BufWriter, Error, ErrorKind, IsTerminal, Read, Write};
 

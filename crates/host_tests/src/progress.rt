@@ -2,9 +2,9 @@
 
 use super::folder::{CAPTURE, LISTING, enter, leave, line_of, words_of};
 use super::streams::Streams;
-use cap_host::held::{Held, Outlet};
-use cap_host::progress::{Progress, can_write_over, start_of, total_size};
 use cap_host::runner::run_command;
+use cap_streams::held::{Held, Outlet};
+use cap_streams::progress::{Progress, can_write_over, start_of, total_size};
 use capkit::Line;
 use std::alloc::{AllocError, Global};
 use std::io::{IsTerminal, Write};

@@ -1,9 +1,11 @@
 //! Runs over files: what is opened, read, created and left alone.
 
 use super::folder::{CAPTURE, enter, leave, line_of, words_of};
-use cap_host::held::Held;
-use cap_host::progress::Progress;
-use cap_host::runner::{Stop, create, open, read_listing, run};
+use cap_host::runner::run;
+use cap_streams::held::Held;
+use cap_streams::opening::{create, open, read_listing};
+use cap_streams::progress::Progress;
+use cap_streams::stop::Stop;
 use std::alloc::{AllocError, Global};
 use std::{fs, io};
 

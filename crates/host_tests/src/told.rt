@@ -2,10 +2,11 @@
 
 use super::folder::words_of;
 use super::streams::Streams;
-use cap_host::message::{Shown, refusal_text};
-use cap_host::refusal::{refuse, tell_refusal};
-use cap_host::runner::{Stop, end, stopped};
-use cap_host::words::with_help_option;
+use cap_streams::ending::end;
+use cap_streams::message::{Shown, refusal_text};
+use cap_streams::refusal::{refuse, tell_refusal};
+use cap_streams::stop::{Stop, stopped};
+use cap_streams::words::with_help_option;
 use capkit::{Usage, command_of};
 use std::alloc::{AllocError, Global};
 use std::io::ErrorKind;

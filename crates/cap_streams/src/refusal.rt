@@ -1,9 +1,9 @@
 //! Words that are no command line: what is told of them, and the status.
 ghost use Rattle.std.specs.Prelude.{◌≡◌, Bool};
-ghost use Rattle.cap_host.specs.Status.{status_of};
+ghost use Rattle.cap_streams.specs.Status.{status_of};
 
 use crate::message::{refusal_text, tell};
-use crate::runner::Stop;
+use crate::stop::Stop;
 use crate::{FAULT, USAGE};
 use capkit::{STANDARD, Usage};
 use std::io::ErrorKind;

@@ -1,10 +1,10 @@
 -- What a name means: a path, or a standard stream.
 use Rattle.std.specs.Prelude.{ℕ, Bool, true, false, not, List, Option, Some, None, codes, if◌then◌else◌}
 use Rattle.capkit.specs.Names.{is_standard}
-use Rattle.cap_host.specs.declared.streams.Created.{Created}
-use Rattle.cap_host.specs.declared.streams.Created.TheVariants as created
-use Rattle.cap_host.specs.declared.streams.Opened.{Opened}
-use Rattle.cap_host.specs.declared.streams.Opened.TheVariants as opened
+use Rattle.cap_streams.specs.declared.streams.Created.{Created}
+use Rattle.cap_streams.specs.declared.streams.Created.TheVariants as created
+use Rattle.cap_streams.specs.declared.streams.Opened.{Opened}
+use Rattle.cap_streams.specs.declared.streams.Opened.TheVariants as opened
 
 -- the path of what is read under a name
 abbrev pub input_path : List ℕ → List ℕ

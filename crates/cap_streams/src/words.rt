@@ -1,7 +1,7 @@
 //! The words of the command line as the user types them.
 ghost use Rattle.std.specs.Prelude.{◌≡◌, IfOk, map, string_bytes, true};
 ghost use Rattle.capkit.specs.Line.{is_ready, SaysLine};
-ghost use Rattle.cap_host.specs.Words.{with_help_option};
+ghost use Rattle.cap_streams.specs.Words.{with_help_option};
 
 use crate::overwrites::overwrites_input;
 use capkit::{Line, Usage, command_of};

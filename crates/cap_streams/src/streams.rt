@@ -3,7 +3,7 @@ ghost use Rattle.std.specs.Prelude.{◌≡◌, ◌||◌, IfOk, OnOk, None, false
 ghost use Rattle.std.specs.Io.{WritesAtMost};
 ghost use Rattle.std.specs.Io.KnownBytes.{WriteAppends};
 ghost use Rattle.capkit.specs.Names.{is_standard};
-ghost use Rattle.cap_host.specs.Streams.{is_kept, is_standard_input, is_standard_output};
+ghost use Rattle.cap_streams.specs.Streams.{is_kept, is_standard_input, is_standard_output};
 
 use capkit::STANDARD;
 use std::fs::{self, File, OpenOptions};

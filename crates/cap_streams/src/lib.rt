@@ -1,0 +1,21 @@
+//! Files and standard streams: what names mean, what a command is run over, how its run ends, and what
+//! is told of it.
+#![tactic(auto)]
+
+pub mod ending;
+pub mod files;
+pub mod held;
+pub mod message;
+pub mod opening;
+pub mod overwrites;
+pub mod progress;
+pub mod refusal;
+pub mod stop;
+pub mod streams;
+pub mod words;
+
+/// The status of a job that a fault ended.
+pub const FAULT: u8 = 1;
+
+/// The status of words that are no command line.
+pub const USAGE: u8 = 2;

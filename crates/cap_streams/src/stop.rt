@@ -1,0 +1,50 @@
+//! Why a command was not run to its end.
+ghost use Rattle.std.specs.Prelude.{◌≡◌};
+
+use crate::FAULT;
+use crate::message::{Shown, tell};
+use std::alloc::{AllocError, AllocFailed};
+use std::fmt;
+
+/// Why a command was not run to its end.
+#[derive(Drop)]
+pub enum Stop<'a> {
+    /// The input of this name can't be opened.
+    CannotOpen(&'a str),
+    /// The output of this name can't be created.
+    CannotCreate(&'a str),
+    /// What the command wrote can't be written to the output of this name.
+    WriteFailed(&'a str),
+    NoMemory,
+}
+
+impl fmt::Display for Stop<'_> {
+    fn fmt<W: fmt::Write>(&self, f: &mut fmt::Formatter<W>) -> fmt::Result {
+        match self {
+            Stop::CannotOpen(name) => write!(f, "{}: cannot open", Shown { text: name }),
+            Stop::CannotCreate(name) => write!(f, "{}: cannot create", Shown { text: name }),
+            Stop::WriteFailed(name) => write!(f, "{}: write failed", Shown { text: name }),
+            Stop::NoMemory => write!(f, "no memory"),
+        }
+    }
+}
+
+impl From<AllocError> for Stop<'_> {
+    fn from(_error: AllocError) -> Self {
+        Stop::NoMemory
+    }
+}
+
+impl<T: Drop> From<AllocFailed<T>> for Stop<'_> {
+    fn from(_error: AllocFailed<T>) -> Self {
+        Stop::NoMemory
+    }
+}
+
+/// Reports the stop, and returns its status.
+pub fn stopped(rt: &impl Eprint, stop: Stop<'_>) -> u8
+    ensures { result ≡ 1 }
+{
+    tell(rt, stop);
+    FAULT
+}
