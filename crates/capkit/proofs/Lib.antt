@@ -1,12 +1,9 @@
 mod Enters
 mod FileNames
-mod Folds
 pub mod Getters
 mod Joining
-mod LocalOptions
 mod Numbers
 mod OptionValues
-mod Parses
 mod PrintReady
 mod RangeWords
 mod Saying

@@ -8,8 +8,8 @@ use Rattle.cap_filter.specs.Command.{most_inputs, most_ranges}
 use Rattle.capkit.specs.Line.{Asks, IsFaultOf, IsLineOf, SaysFault, SaysLine, fault_in, files_in, has_bad_time, has_exclusion, has_two_shifts, or_else, read_names, text_in, texts_in}
 use Rattle.capkit.specs.Names.{uses_name_twice}
 use Rattle.capkit.specs.Range.{range_of}
-use Rattle.capkit.specs.declared.arguments.Subcommand.{Subcommand}
-use Rattle.capkit.specs.declared.arguments.Subcommand.TheVariants as sub
+use Rattle.cap_arguments.specs.declared.arguments.Subcommand.{Subcommand}
+use Rattle.cap_arguments.specs.declared.arguments.Subcommand.TheVariants as sub
 use Rattle.capkit.specs.declared.line.Line.{Line}
 use Rattle.capkit.specs.declared.usage.Usage.{Usage}
 use Rattle.capkit.specs.declared.usage.Usage.TheVariants.{BadRange, BadTime, Memory, NameUsedTwice, OptionsExclude, Refused, TooManyValues}

@@ -1,4 +1,3 @@
-pub mod Arguments
 pub mod Line
 pub mod Names
 pub mod Range

@@ -23,11 +23,11 @@ use Rattle.clap.specs.ValueTests.{is_unsigned_in}
 use Rattle.clap.specs.Words.{Row, Text, all_of, first_of, one_of}
 use Rattle.cap_octet.specs.declared.link.Link.{Link}
 use Rattle.cap_octet.specs.declared.link.Link.TheVariants.{Ether, Raw, Cooked}
-use Rattle.capkit.specs.Arguments.{Refuses, Takes, name_of}
+use Rattle.cap_arguments.specs.Arguments.{Refuses, Takes, name_of}
 use Rattle.capkit.specs.Names.{uses_name_twice}
 use Rattle.capkit.specs.Range.{range_of}
-use Rattle.capkit.specs.declared.arguments.Subcommand.{Subcommand}
-use Rattle.capkit.specs.declared.arguments.Subcommand.TheVariants as sub
+use Rattle.cap_arguments.specs.declared.arguments.Subcommand.{Subcommand}
+use Rattle.cap_arguments.specs.declared.arguments.Subcommand.TheVariants as sub
 use Rattle.capkit.specs.declared.line.Line.{Line}
 use Rattle.capkit.specs.declared.usage.Usage.{Usage}
 use Rattle.capkit.specs.declared.usage.Usage.TheVariants.{BadRange, BadTime, Memory, NameUsedTwice, OptionsExclude, Refused, TooManyValues}

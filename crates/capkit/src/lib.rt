@@ -1,17 +1,13 @@
 //! The command line: what its words ask for, or why they are none.
 #![tactic(auto)]
 
-mod arguments;
 mod compile_line;
 mod edit_line;
-mod examples;
 mod files;
 mod infos_line;
-pub mod laws;
 mod line;
 mod merge_line;
 mod names;
-mod options;
 mod print_line;
 mod range;
 mod usage;

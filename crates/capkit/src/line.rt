@@ -4,13 +4,13 @@ ghost use Rattle.clap.specs.Words.{found_of, rows_of};
 ghost use Rattle.capkit.specs.Line.{fault_in, is_ready, with_code, IsFaultOf, IsLineOf};
 ghost use Rattle.capkit.specs.Line.{SaysLine, SaysFault};
 
-use crate::arguments::{Subcommand, matches_of, subcommand_named};
 use crate::compile_line::compile_line;
 use crate::edit_line::edit_line;
 use crate::infos_line::infos_line;
 use crate::merge_line::merge_line;
 use crate::print_line::print_line;
 use crate::usage::Usage;
+use cap_arguments::arguments::{Subcommand, matches_of, subcommand_named};
 use cap_filter::{Command, Print};
 use clap::ArgMatches;
 use std::alloc::Global;

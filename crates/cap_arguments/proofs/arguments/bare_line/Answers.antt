@@ -2,8 +2,8 @@ use Rattle.std.proofs.Common.{◌≡◌, ◌∙◌, ap, codes, true}
 use Rattle.std.proofs.lemmas.Result.{IfOk-weaker}
 use Rattle.clap.specs.Simple.{app_of_fields}
 use Rattle.clap.specs.Words.{App, app_of, new_app}
-use Rattle.capkit.specs.Arguments.{bare_line}
-use Rattle.capkit.proofs.arguments.bare_line.Goals as goal
+use Rattle.cap_arguments.specs.Arguments.{bare_line}
+use Rattle.cap_arguments.proofs.arguments.bare_line.Goals as goal
 
 abbrev versioned : App → App
 versioned a = record a { top = record a.top { has_version = true } }

@@ -1,8 +1,8 @@
 use Rattle.std.proofs.Common.{◌∙◌, ap, map}
 use Rattle.clap.specs.Words.{App, with_subcommand}
-use Rattle.capkit.specs.Arguments.{shape_by, with_shapes}
-use Rattle.capkit.proofs.Folds.{no_more, one_more}
-use Rattle.capkit.proofs.arguments.with_commands.Goals as goal
+use Rattle.cap_arguments.specs.Arguments.{shape_by, with_shapes}
+use Rattle.cap_arguments.proofs.Folds.{no_more, one_more}
+use Rattle.cap_arguments.proofs.arguments.with_commands.Goals as goal
 
 pub loop-row-init : goal.loop-row-init
 loop-row-init c = ap (λ (a : App). with_shapes a (map (shape_by c.args.choices) c.args.rows.now)) c.in_ok-command.ensures

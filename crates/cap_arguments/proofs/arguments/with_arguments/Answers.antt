@@ -1,9 +1,9 @@
 use Rattle.std.proofs.Common.{◌∙◌}
 use Rattle.clap.specs.Words.{with_rule}
-use Rattle.capkit.specs.Arguments.{rule_by}
-use Rattle.capkit.proofs.Folds.{no_more, one_more}
-use Rattle.capkit.proofs.LocalOptions.{stays}
-use Rattle.capkit.proofs.arguments.with_arguments.Goals as goal
+use Rattle.cap_arguments.specs.Arguments.{rule_by}
+use Rattle.cap_arguments.proofs.Folds.{no_more, one_more}
+use Rattle.cap_arguments.proofs.LocalOptions.{stays}
+use Rattle.cap_arguments.proofs.arguments.with_arguments.Goals as goal
 
 pub loop-argument-preserved : goal.loop-argument-preserved
 loop-argument-preserved c = (

@@ -6,7 +6,7 @@ use Rattle.clap.specs.declared.builder.value_parser.ValueParser.TheVariants as p
 use Rattle.clap.specs.declared.error.Error.{Error}
 use Rattle.clap.specs.declared.error.kind.ErrorKind.TheVariants.{OutOfMemory}
 use Rattle.clap.specs.declared.parser.matches.ArgMatches.{ArgMatches}
-use Rattle.capkit.specs.Arguments.{AreChoices, Refuses, Takes, format_names, line_app, link_names}
+use Rattle.cap_arguments.specs.Arguments.{AreChoices, Refuses, Takes, format_names, line_app, link_names}
 
 simple_line : (formats links : ValueParser) → is_simple (line_app formats links) ≡ true
 simple_line formats links = refl

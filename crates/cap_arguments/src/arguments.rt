@@ -2,9 +2,9 @@
 ghost use Rattle.std.specs.Prelude.{◌≡◌, IfOk, IfErr, map, false, string_bytes};
 ghost use Rattle.clap.specs.Words.{app_of, new_rule, rule_of, subcommand_rows_of};
 ghost use Rattle.clap.specs.declared.builder.command.Command.TheViews.{out-Command as fields_of};
-ghost use Rattle.capkit.specs.Arguments.{AreChoices, Takes, Refuses, format_names, link_names};
-ghost use Rattle.capkit.specs.Arguments.{app_by, bare_line, line_app, named, rule_by, shape_by};
-ghost use Rattle.capkit.specs.Arguments.{subcommand_named, with_rules, with_shapes};
+ghost use Rattle.cap_arguments.specs.Arguments.{AreChoices, Takes, Refuses, format_names, link_names};
+ghost use Rattle.cap_arguments.specs.Arguments.{app_by, bare_line, line_app, named, rule_by, shape_by};
+ghost use Rattle.cap_arguments.specs.Arguments.{subcommand_named, with_rules, with_shapes};
 
 use crate::examples::{LINE_HELP, VERSION};
 use crate::options::{Argument, COMMANDS, CommandRow, Name, Value};

@@ -2,8 +2,8 @@ use Rattle.std.proofs.Common.{◌≡◌, ◌∙◌, ap, map}
 use Rattle.std.proofs.lemmas.Result.{IfOk-weaker}
 use Rattle.clap.specs.Simple.{app_of_fields}
 use Rattle.clap.specs.Words.{App, app_of, new_app}
-use Rattle.capkit.specs.Arguments.{rule_by, with_rules}
-use Rattle.capkit.proofs.arguments.command_by.Goals as goal
+use Rattle.cap_arguments.specs.Arguments.{rule_by, with_rules}
+use Rattle.cap_arguments.proofs.arguments.command_by.Goals as goal
 
 pub returns-clause-shape : goal.returns-clause-shape
 returns-clause-shape c =

@@ -7,15 +7,15 @@ use Rattle.clap.specs.declared.builder.value_parser.ValueParser.{ValueParser}
 use Rattle.clap.specs.declared.builder.value_parser.ValueParser.TheVariants as parser
 use Rattle.clap.specs.declared.error.Error.{Error}
 use Rattle.clap.specs.declared.error.kind.ErrorKind.TheVariants.{OutOfMemory}
-use Rattle.capkit.specs.declared.arguments.Choices.{Choices}
-use Rattle.capkit.specs.declared.arguments.Subcommand.{Subcommand}
-use Rattle.capkit.specs.declared.arguments.Subcommand.TheVariants as sub
-use Rattle.capkit.specs.declared.options.Argument.{Argument}
-use Rattle.capkit.specs.declared.options.CommandRow.{CommandRow}
-use Rattle.capkit.specs.declared.options.Name.{Name}
-use Rattle.capkit.specs.declared.options.Name.TheVariants as name
-use Rattle.capkit.specs.declared.options.Value.{Value}
-use Rattle.capkit.specs.declared.options.Value.TheVariants as value
+use Rattle.cap_arguments.specs.declared.arguments.Choices.{Choices}
+use Rattle.cap_arguments.specs.declared.arguments.Subcommand.{Subcommand}
+use Rattle.cap_arguments.specs.declared.arguments.Subcommand.TheVariants as sub
+use Rattle.cap_arguments.specs.declared.options.Argument.{Argument}
+use Rattle.cap_arguments.specs.declared.options.CommandRow.{CommandRow}
+use Rattle.cap_arguments.specs.declared.options.Name.{Name}
+use Rattle.cap_arguments.specs.declared.options.Name.TheVariants as name
+use Rattle.cap_arguments.specs.declared.options.Value.{Value}
+use Rattle.cap_arguments.specs.declared.options.Value.TheVariants as value
 
 -- ---- arguments
 

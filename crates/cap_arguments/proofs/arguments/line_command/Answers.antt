@@ -1,7 +1,7 @@
 use Rattle.std.proofs.Common.{ap, map}
 use Rattle.std.proofs.lemmas.Result.{IfOk-weaker}
 use Rattle.clap.specs.declared.builder.value_parser.ValueParser.TheVariants.{Names}
-use Rattle.capkit.proofs.arguments.line_command.Goals as goal
+use Rattle.cap_arguments.proofs.arguments.line_command.Goals as goal
 
 pub returns : goal.returns
 returns c =

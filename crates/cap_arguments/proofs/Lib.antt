@@ -1,0 +1,3 @@
+mod Folds
+mod LocalOptions
+mod Parses
