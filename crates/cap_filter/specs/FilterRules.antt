@@ -1,6 +1,5 @@
 -- Which packets a filter keeps.
 use Rattle.std.specs.Prelude.{ℕ, ◌==◌, not, List, length, Option, None, Some}
-use Rattle.std.specs.Option.{option_map}
 use Rattle.cap_octet.specs.Packet.{Captured}
 use Rattle.cap_octet.specs.declared.fault.Fault.TheVariants.{LinkTypeNotFiltered}
 use Rattle.flt_bpf.specs.declared.insn.Insn.{Insn}
@@ -12,7 +11,6 @@ use Rattle.flt_lang.specs.Tree.{Expression, empty, truth}
 use Rattle.cap_octet.specs.declared.link.Link.{Link}
 use Rattle.flt_gen.specs.Elementary.{Reading, Yes, No, Rejected}
 use Rattle.flt_gen.specs.Reading.{holds}
-use Rattle.cap_filter.specs.declared.command.Print.{Print}
 use Rattle.cap_filter.specs.declared.refusal.Refusal.{Refusal}
 use Rattle.cap_filter.specs.declared.refusal.Refusal.TheVariants as refusal
 use Rattle.cap_filter.specs.Decisions.{Decision, Keep, Skip, Refuse, keep_if}
@@ -68,7 +66,3 @@ IsWhy words (Some text) (refusal.Expression fault) = ⊥
 IsWhy words (Some text) (refusal.Listing fault) = listing.IsReasonFor text fault
 IsWhy words (Some text) (refusal.Program fault at) =
     (prog : List Insn) × IsListing text prog × BreaksFirst prog fault at
-
--- the bytes of a listing, where there is one
-abbrev pub listing_of : {Z : Type 0} → Print Z → Option (List ℕ)
-listing_of print = option_map (λ text. text.items) print.code

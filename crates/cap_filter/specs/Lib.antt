@@ -1,5 +1,4 @@
 pub mod Decisions
-pub mod Command
 pub mod Compilation
 pub mod Programs
 pub mod Expressions
@@ -8,4 +7,3 @@ pub mod Messages
 pub mod FilterRules
 pub mod Filters
 pub mod Outcome
-pub mod Selection

@@ -4,8 +4,8 @@ use crate::captures::{Capture, damaged, make_capture};
 use crate::expressions::{self, ENOUGH, Expression, make_expression};
 use crate::packets::{Packet, Packets, packets_of};
 use crate::run::{Fuzzer, MEMORY, Outcome, Property};
+use cap_command::{Command, Merge};
 use cap_octet::{Format, Link};
-use cap_tools::{Command, Merge};
 use std::alloc::{AllocError, Global};
 use std::str;
 

@@ -2,8 +2,9 @@
 
 use crate::packets::{Packets, packets_of};
 use crate::random::Random;
+use cap_command::{Command, Compile, Edit, Print, Shift};
 use cap_octet::{Format, Link, MemInput, MemOutput};
-use cap_tools::{Command, Compile, Edit, Print, Shift, run};
+use cap_tools::run;
 use std::alloc::{AllocError, Global};
 use std::fmt::Write;
 use std::str;

@@ -1,10 +1,10 @@
 //! A command over files and standard streams.
 ghost use Rattle.std.specs.Prelude.{◌≡◌, ◌≤◌, IfOk, codes, option_map, string_bytes, true};
 ghost use Rattle.std.specs.Prelude.{unwrap_or, vec_len};
-ghost use Rattle.cap_filter.specs.Command.{is_proper};
+ghost use Rattle.cap_command.specs.Command.{is_proper};
 ghost use Rattle.capkit.specs.Line.{is_ready};
 
-use cap_filter::Command;
+use cap_command::Command;
 use cap_octet::{Input, Output, StdInput, StdOutput};
 use cap_streams::ending::finish;
 use cap_streams::held::{Held, is_waited_for};

@@ -3,9 +3,9 @@ use Rattle.std.proofs.Common.{◌≡◌, ℕ, zero, suc, Bool, true, false, ◌&
 use Rattle.std.proofs.lemmas.Bool.{lt-ltb}
 use Rattle.std.specs.Global.{Global, Vec}
 use Rattle.std.specs.Option.{option_map_or}
-use Rattle.cap_filter.specs.Command.{is_proper, has_one_filter, has_one_output, is_at_least_one}
-use Rattle.cap_filter.specs.declared.command.Command.{Command}
-use Rattle.cap_filter.specs.declared.command.Command.TheVariants as command
+use Rattle.cap_command.specs.Command.{is_proper, has_one_filter, has_one_output, is_at_least_one}
+use Rattle.cap_command.specs.declared.command.Command.{Command}
+use Rattle.cap_command.specs.declared.command.Command.TheVariants as command
 use Rattle.capkit.specs.Line.{has_expression, with_code}
 
 no-words : (a h r : Bool) (n : ℕ) → (a && (h && r)) && not (nat_lt 0 n) ≡ true → (a && ((nat_eq n 0 || false) && r)) ≡ true

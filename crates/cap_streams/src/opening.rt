@@ -3,14 +3,14 @@ ghost use Rattle.std.specs.Prelude.{◌≡◌, ◌&&◌, ◌||◌, ℕ, not, is_
 ghost use Rattle.std.specs.Prelude.{false, true, vec_len};
 ghost use Rattle.std.specs.Global.{Vec};
 ghost use Rattle.std.specs.IoError.{error_kind};
-ghost use Rattle.cap_filter.specs.Command.{is_proper};
+ghost use Rattle.cap_command.specs.Command.{is_proper};
 ghost use Rattle.capkit.specs.Line.{has_expression, with_code};
 
 use crate::held::{Buffering, Held, Outlet, buffering_of};
 use crate::progress::{Counted, Progress};
 use crate::stop::Stop;
 use crate::streams::{Created, Opened};
-use cap_filter::Command;
+use cap_command::Command;
 use cap_octet::StdInput;
 use capkit::with_code;
 use std::io::{self, BufReader, BufWriter, ErrorKind, Read};

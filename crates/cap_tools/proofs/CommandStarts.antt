@@ -9,9 +9,9 @@ use Rattle.cap_tools.specs.Reports.{name_at, nothing_counted}
 use Rattle.cap_tools.specs.Machine.{MachineState, written_by}
 use Rattle.cap_tools.specs.Messages.{MessagesView}
 use Rattle.std.proofs.lemmas.Bool.{and_parts, eqb-true, leb-true}
-use Rattle.cap_filter.specs.Command.{is_proper, is_proper_edit, is_proper_print, most_inputs}
-use Rattle.cap_filter.specs.declared.command.Command.{Command}
-use Rattle.cap_filter.specs.declared.command.Command.TheVariants as command
+use Rattle.cap_command.specs.Command.{is_proper, is_proper_edit, is_proper_print, most_inputs}
+use Rattle.cap_command.specs.declared.command.Command.{Command}
+use Rattle.cap_command.specs.declared.command.Command.TheVariants as command
 use Rattle.cap_filter.specs.Compilation.{IsCompiled, ListingLeaves}
 use Rattle.cap_filter.specs.Outcome.{OutputView, IsTold, Runs}
 use Rattle.flt_bpf.specs.declared.insn.Insn.{Insn}

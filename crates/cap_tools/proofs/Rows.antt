@@ -7,7 +7,7 @@ use Rattle.cap_io.specs.Capture.{Placed, Ending, End, FaultAt, Nothing, items_fr
 use Rattle.flt_lang.specs.Tree.{empty}
 use Rattle.cap_filter.specs.FilterRules.{by_reading}
 use Rattle.cap_inputs.specs.Sequence.{InputItems, InTurn, ByTime, sequence_of, Packet, Complete, FaultIn, whole_input}
-use Rattle.cap_filter.specs.declared.command.Shift.TheVariants as shift
+use Rattle.cap_command.specs.declared.command.Shift.TheVariants as shift
 use Rattle.cap_tools.specs.Verdict.{Edit, Filter, Count}
 use Rattle.cap_tools.specs.Outcome.{AsCapture, AsReports, Outcome, JobProgress, Work, outcome, final_progress}
 use Rattle.cap_io.specs.declared.source.Kind.TheVariants as kind

@@ -1,5 +1,5 @@
 -- A job of which nothing is done.
-use Rattle.cap_filter.specs.Command.{most_inputs}
+use Rattle.cap_command.specs.Command.{most_inputs}
 use Rattle.std.proofs.Common.{◌≡◌, ℕ, suc, ◌+◌, ◌*◌, ◌^◌, ◌<◌, ◌≤◌, List, [], ◌∷◌, map, drop, length, refl, sym, ◌∙◌, ap, arith}
 use Rattle.cap_tools.specs.declared.output.Writing.{Writing}
 use Rattle.cap_tools.specs.declared.output.Writing.TheVariants as writing

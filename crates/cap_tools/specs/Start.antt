@@ -3,10 +3,10 @@ use Rattle.std.specs.Prelude.{ℕ, not, List, Option, None, Some, string_bytes}
 use Rattle.cap_octet.specs.declared.format.Format.{Format}
 use Rattle.cap_print.specs.declared.print.Options.{Options}
 use Rattle.cap_octet.specs.declared.link.Link.{Link}
-use Rattle.cap_filter.specs.declared.command.Command.{Command}
-use Rattle.cap_filter.specs.declared.command.Print.{Print}
-use Rattle.cap_filter.specs.declared.command.Command.TheVariants as command
-use Rattle.cap_filter.specs.FilterRules.{listing_of}
+use Rattle.cap_command.specs.declared.command.Command.{Command}
+use Rattle.cap_command.specs.declared.command.Print.{Print}
+use Rattle.cap_command.specs.declared.command.Command.TheVariants as command
+use Rattle.cap_command.specs.Command.{listing_of}
 use Rattle.cap_tools.specs.declared.start.Preparation.{Preparation}
 use Rattle.cap_tools.specs.declared.start.Preparation.TheVariants as preparation
 use Rattle.cap_tools.specs.declared.output.Writing.{Writing}

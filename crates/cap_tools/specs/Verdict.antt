@@ -5,12 +5,12 @@ use Rattle.cap_octet.specs.Date.{TIME_END}
 use Rattle.cap_octet.specs.Packet.{Captured}
 use Rattle.cap_octet.specs.declared.fault.Fault.{Fault}
 use Rattle.cap_octet.specs.declared.fault.Fault.TheVariants.{TimeOutOfRange, TooManyPackets}
-use Rattle.cap_filter.specs.declared.command.Shift.{Shift}
-use Rattle.cap_filter.specs.declared.command.Shift.TheVariants as shift
+use Rattle.cap_command.specs.declared.command.Shift.{Shift}
+use Rattle.cap_command.specs.declared.command.Shift.TheVariants as shift
 use Rattle.cap_filter.specs.Decisions as chosen
 use Rattle.cap_filter.specs.Decisions.{Decision}
 use Rattle.cap_filter.specs.FilterRules.{Rule, rule_decides}
-use Rattle.cap_filter.specs.Selection.{is_kept}
+use Rattle.cap_command.specs.Selection.{is_kept}
 use Rattle.cap_tools.specs.Reports.{Tally, nothing_counted, tally_with}
 use Rattle.cap_window.specs.declared.mark.Mark.{Mark}
 use Rattle.cap_window.specs.Marks.{mark_of, has_same, last}

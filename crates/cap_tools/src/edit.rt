@@ -10,7 +10,7 @@ ghost use Rattle.cap_tools.specs.Selector.{state_of};
 ghost use Rattle.cap_tools.specs.Edits.{PassesUnique};
 ghost use Rattle.cap_tools.specs.Reports.{Tally};
 
-use cap_filter::command::{Edit, Shift};
+use cap_command::{Edit, Shift};
 use cap_octet::date::TIME_END;
 use cap_octet::{Fault, Packet};
 use cap_window::Window;

@@ -1,7 +1,7 @@
 //! Jobs: one machine for all commands, step by step.
 ghost use Rattle.std.specs.Prelude.{ℕ, ◌≡◌, ◌+◌, ◌<◌, ◌≤◌, IfErr, IfOk, IsTrue, None, Some, length};
 ghost use Rattle.std.specs.Prelude.{map, string_bytes, true, vec_len};
-ghost use Rattle.cap_filter.specs.Command.{is_proper};
+ghost use Rattle.cap_command.specs.Command.{is_proper};
 ghost use Rattle.cap_filter.specs.Outcome.{IsTold, output_view};
 ghost use Rattle.cap_tools.specs.Bounds.{IsLight, ReadsNothing, StepReads, most_turns};
 ghost use Rattle.cap_tools.specs.Call.{call_of, device_view, run_result};
@@ -17,7 +17,7 @@ use crate::output::JobOutput;
 use crate::selector::Selector;
 use crate::start::{Assignment, Preparation, assignment_of, read_filter};
 use crate::step::{JobEnd, close, decide, unwritten};
-use cap_filter::command::{Command, Compile, Print};
+use cap_command::{Command, Compile, Print};
 use cap_filter::compile::compile_text;
 use cap_filter::filter::Filter;
 use cap_filter::message::tell_no_memory;

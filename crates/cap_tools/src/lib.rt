@@ -12,5 +12,4 @@ mod start;
 mod step;
 mod tally;
 
-pub use cap_filter::{Command, Compile, Edit, Merge, Print, Shift};
 pub use job::{Job, Turn, run};

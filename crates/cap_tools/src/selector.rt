@@ -16,7 +16,7 @@ ghost use Rattle.cap_window.specs.View.{window};
 
 use crate::edit::select;
 use crate::tally::Tally;
-use cap_filter::command::Edit;
+use cap_command::Edit;
 use cap_filter::filter::Filter;
 use cap_octet::{Fault, Packet};
 use cap_window::Window;

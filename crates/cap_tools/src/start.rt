@@ -1,7 +1,8 @@
 //! What a command asks of its job, and what the job does before its first packet.
 ghost use Rattle.std.specs.Prelude.{◌≡◌, [], IfErr, IfOk, None, Some, false, string_bytes};
 ghost use Rattle.std.specs.Option.{option_map};
-ghost use Rattle.cap_filter.specs.FilterRules.{IsRule, IsWhy, listing_of};
+ghost use Rattle.cap_command.specs.Command.{listing_of};
+ghost use Rattle.cap_filter.specs.FilterRules.{IsRule, IsWhy};
 ghost use Rattle.cap_filter.specs.Filters.{AreNew, programs_of, rule_of};
 ghost use Rattle.cap_tools.specs.Selector.{HavePrograms, policy_of, programs_in};
 ghost use Rattle.cap_inputs.specs.Sequence.{order_of};
@@ -9,7 +10,7 @@ ghost use Rattle.cap_tools.specs.Start.{assignment, lines_unless, preparing_of};
 
 use crate::output::Writing;
 use crate::selector::Policy;
-use cap_filter::command::{Command, Compile, Print};
+use cap_command::{Command, Compile, Print};
 use cap_filter::filter::{Filter, read_code, read_words};
 use cap_filter::refusal::Refusal;
 use cap_print::Options;

@@ -4,7 +4,7 @@ use Rattle.std.specs.Prelude.{nat_lt, if◌then◌else◌}
 use Rattle.std.specs.Borrow.{Bor}
 use Rattle.std.proofs.lemmas.Bool.{le-ltb}
 use Rattle.std.proofs.lemmas.List.{length-map}
-use Rattle.cap_filter.specs.Command.{most_inputs}
+use Rattle.cap_command.specs.Command.{most_inputs}
 use Rattle.clap.specs.Words.{Text}
 use Rattle.capkit.specs.Line.{files_fault, or_else}
 use Rattle.capkit.specs.Names.{uses_name_twice}

@@ -9,7 +9,7 @@ use Rattle.cap_octet.specs.Date.{NANOS_PER_SECOND}
 use Rattle.cap_octet.specs.Digits.{number_of}
 use Rattle.cap_octet.specs.Seconds.{fraction_of, span_at, span_value, span_with, time_within}
 use Rattle.cap_octet.specs.Timestamp.{clock_with, date_time_value, day_with, number_at, optional_fraction, is_date_time, time_value, time_with}
-use Rattle.cap_filter.specs.Command.{is_at_least_one, is_time, is_window, most_window}
+use Rattle.cap_command.specs.Command.{is_at_least_one, is_time, is_window, most_window}
 use Rattle.clap.specs.Words.{ReadsOne, Text}
 use Rattle.clap.specs.ValueTests.{is_numeral, is_unsigned_in}
 use Rattle.clap.specs.declared.builder.value_parser.ValueParser.TheVariants as parser

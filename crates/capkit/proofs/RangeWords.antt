@@ -7,7 +7,7 @@ use Rattle.std.proofs.lemmas.Bool.{cond-false, and_from, cond-true, le-leb, le-l
 use Rattle.std.proofs.lemmas.List.Folds.{list_any_at}
 use Rattle.std.proofs.lemmas.List.{length-map, take_all}
 use Rattle.clap.proofs.WalkLemmas.{list_any-map}
-use Rattle.cap_filter.specs.Command.{has_proper_ranges, is_range, most_ranges}
+use Rattle.cap_command.specs.Command.{has_proper_ranges, is_range, most_ranges}
 use Rattle.clap.specs.Words.{Text}
 use Rattle.capkit.specs.Line.{range_fault}
 use Rattle.capkit.specs.Range.{number_of, range_between, range_of, sides_of}

@@ -4,7 +4,7 @@ use Rattle.std.specs.Prelude.{if◌then◌else◌, is_none, nat_lt}
 use Rattle.std.specs.List.{list_any}
 use Rattle.clap.specs.Words.{Row, Text, first_of}
 use Rattle.clap.specs.declared.error.Error.{Error}
-use Rattle.cap_filter.specs.Command.{most_inputs, most_ranges}
+use Rattle.cap_command.specs.Command.{most_inputs, most_ranges}
 use Rattle.capkit.specs.Line.{Asks, IsFaultOf, IsLineOf, SaysFault, SaysLine, fault_in, files_in, has_bad_time, has_exclusion, has_two_shifts, or_else, read_names, text_in, texts_in}
 use Rattle.capkit.specs.Names.{uses_name_twice}
 use Rattle.capkit.specs.Range.{range_of}

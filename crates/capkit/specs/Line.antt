@@ -10,15 +10,15 @@ use Rattle.cap_octet.specs.Seconds.{span_value}
 use Rattle.cap_octet.specs.Timestamp.{time_value}
 use Rattle.cap_octet.specs.declared.format.Format.{Format}
 use Rattle.cap_octet.specs.declared.format.Format.TheVariants.{Pcap, NsecPcap, Pcapng}
-use Rattle.cap_filter.specs.Command.{is_proper, most_inputs, most_ranges, most_window}
-use Rattle.cap_filter.specs.declared.command.Command.{Command}
-use Rattle.cap_filter.specs.declared.command.Command.TheVariants as command
-use Rattle.cap_filter.specs.declared.command.Compile.{Compile}
-use Rattle.cap_filter.specs.declared.command.Edit.{Edit}
-use Rattle.cap_filter.specs.declared.command.Merge.{Merge}
-use Rattle.cap_filter.specs.declared.command.Print.{Print}
-use Rattle.cap_filter.specs.declared.command.Shift.{Shift}
-use Rattle.cap_filter.specs.declared.command.Shift.TheVariants as shift
+use Rattle.cap_command.specs.Command.{is_proper, most_inputs, most_ranges, most_window}
+use Rattle.cap_command.specs.declared.command.Command.{Command}
+use Rattle.cap_command.specs.declared.command.Command.TheVariants as command
+use Rattle.cap_command.specs.declared.command.Compile.{Compile}
+use Rattle.cap_command.specs.declared.command.Edit.{Edit}
+use Rattle.cap_command.specs.declared.command.Merge.{Merge}
+use Rattle.cap_command.specs.declared.command.Print.{Print}
+use Rattle.cap_command.specs.declared.command.Shift.{Shift}
+use Rattle.cap_command.specs.declared.command.Shift.TheVariants as shift
 use Rattle.clap.specs.ValueTests.{is_unsigned_in}
 use Rattle.clap.specs.Words.{Row, Text, all_of, first_of, one_of}
 use Rattle.cap_octet.specs.declared.link.Link.{Link}

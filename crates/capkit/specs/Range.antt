@@ -4,7 +4,7 @@ use Rattle.std.specs.Prelude.{Option, Some, None, if◌then◌else◌}
 use Rattle.std.specs.Char.{is_ascii_digit}
 use Rattle.std.specs.List.{after_first, before_first, list_all, list_any}
 use Rattle.std.specs.Str.Parse.{IsNumeral, digits_value}
-use Rattle.cap_filter.specs.Command.{is_range}
+use Rattle.cap_command.specs.Command.{is_range}
 
 -- ---- as a relation
 

@@ -1,6 +1,6 @@
 //! The line of an edit.
 ghost use Rattle.std.specs.Prelude.{◌≡◌, ◌⊎◌, IfOk, IfErr, OnOk, Some, None, map, true};
-ghost use Rattle.cap_filter.specs.Command.{has_proper_ranges, is_proper_edit, is_proper_shift};
+ghost use Rattle.cap_command.specs.Command.{has_proper_ranges, is_proper_edit, is_proper_shift};
 ghost use Rattle.clap.specs.Words.{found_of, rows_of};
 ghost use Rattle.capkit.specs.Line.{edit_fault, has_bad_time, has_two_shifts, is_bad_span};
 ghost use Rattle.capkit.specs.Line.{is_bad_time, is_ready, option_fault, range_fault, shift_in};
@@ -13,7 +13,7 @@ use crate::names::uses_name_twice;
 use crate::range::range_in;
 use crate::usage::Usage;
 use crate::values::{flag, format, short_number, span, text, text_if, texts, time};
-use cap_filter::{Command, Edit, MOST_RANGES, MOST_WINDOW, Shift};
+use cap_command::{Command, Edit, MOST_RANGES, MOST_WINDOW, Shift};
 use clap::ArgMatches;
 use std::alloc::Global;
 

@@ -2,13 +2,13 @@
 ghost use Rattle.std.specs.Prelude.{◌≡◌, IfOk, IfErr, OnOk, None, map, option_map, string_bytes};
 ghost use Rattle.std.specs.Prelude.{length, true, vec_len};
 ghost use Rattle.clap.specs.Words.{found_of, rows_of};
-ghost use Rattle.cap_filter.specs.Command.{is_input_count};
+ghost use Rattle.cap_command.specs.Command.{is_input_count};
 ghost use Rattle.capkit.specs.Line.{files_fault, files_in, IsFaultOf};
 
 use crate::names::uses_name_twice;
 use crate::usage::Usage;
 use crate::values::{text, texts};
-use cap_filter::MOST_INPUTS;
+use cap_command::MOST_INPUTS;
 use clap::ArgMatches;
 use std::alloc::{AllocError, Global};
 

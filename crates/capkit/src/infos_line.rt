@@ -6,7 +6,7 @@ ghost use Rattle.capkit.specs.Line.{infos_fault, is_ready, IsFaultOf, IsInfosOf}
 use crate::files::input_names;
 use crate::line::Line;
 use crate::usage::Usage;
-use cap_filter::Command;
+use cap_command::Command;
 use clap::ArgMatches;
 use std::alloc::Global;
 

@@ -11,7 +11,7 @@ use crate::merge_line::merge_line;
 use crate::print_line::print_line;
 use crate::usage::Usage;
 use cap_arguments::arguments::{Subcommand, matches_of, subcommand_named};
-use cap_filter::{Command, Print};
+use cap_command::{Command, Print};
 use clap::ArgMatches;
 use std::alloc::Global;
 

@@ -2,7 +2,7 @@
 ghost use Rattle.std.specs.Prelude.{◌≡◌, ◌∷◌, ◌≤◌, IfOk, IfErr, IfSome, OnOk, Some, None};
 ghost use Rattle.std.specs.Prelude.{option_map, codes, string_bytes, true};
 ghost use Rattle.std.specs.Option.{option_map_or, option_to_list};
-ghost use Rattle.cap_filter.specs.Command.{is_at_least_one};
+ghost use Rattle.cap_command.specs.Command.{is_at_least_one};
 ghost use Rattle.clap.specs.Words.{found_of, rows_of};
 ghost use Rattle.capkit.specs.Line.{expression_in, flag_in, has_exclusion, has_idle_format};
 ghost use Rattle.capkit.specs.Line.{has_two_filters, has_two_outputs, is_ready, most_64};
@@ -14,7 +14,7 @@ use crate::line::Line;
 use crate::names::uses_name_twice;
 use crate::usage::Usage;
 use crate::values::{flag, format, number, text, text_if, texts};
-use cap_filter::{Command, Print};
+use cap_command::{Command, Print};
 use cap_octet::Format;
 use clap::ArgMatches;
 use std::alloc::{AllocError, Global};

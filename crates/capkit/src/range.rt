@@ -4,7 +4,7 @@ ghost use Rattle.std.specs.Char.{is_ascii_digit};
 ghost use Rattle.std.specs.List.{list_all};
 ghost use Rattle.capkit.specs.Range.{WritesRange, number_of, range_of, sides_of};
 
-use cap_filter::is_range;
+use cap_command::is_range;
 
 fn has_digits_alone(text: &str) -> bool
     ensures { result ≡ list_all is_ascii_digit text.now }

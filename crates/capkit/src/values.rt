@@ -2,7 +2,7 @@
 ghost use Rattle.std.specs.Prelude.{◌≡◌, ◌≤◌, ◌&&◌, IfSome, Some, None, map, nat_le, option_map};
 ghost use Rattle.std.specs.Prelude.{true, if◌then◌else◌};
 ghost use Rattle.std.specs.Option.{option_and_then, option_map_or};
-ghost use Rattle.cap_filter.specs.Command.{is_time};
+ghost use Rattle.cap_command.specs.Command.{is_time};
 ghost use Rattle.clap.specs.Words.{found_of, rows_of, first_of};
 ghost use Rattle.capkit.specs.Line.{flag_in, format_in, link_in, number_in, span_in, text_in};
 ghost use Rattle.capkit.specs.Line.{texts_in, time_in};

@@ -1,7 +1,8 @@
 //! Runs of commands in a heap of a fixed size.
 
+use cap_command::{Command, Edit, Merge, Print, Shift};
 use cap_octet::{Format, MemInput, MemOutput};
-use cap_tools::{Command, Edit, Merge, Print, Shift, run};
+use cap_tools::run;
 use linked_list_allocator::LocalHeap;
 use std::alloc::{AllocError, Global};
 use std::test::Fail;

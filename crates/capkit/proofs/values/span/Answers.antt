@@ -1,6 +1,6 @@
 use Rattle.std.proofs.Common.{◌∙◌, ap, true}
 use Rattle.std.specs.Option.{option_map_or}
-use Rattle.cap_filter.specs.Command.{is_time}
+use Rattle.cap_command.specs.Command.{is_time}
 use Rattle.capkit.proofs.OptionValues.{proper_span}
 use Rattle.capkit.proofs.values.span.Goals as goal
 

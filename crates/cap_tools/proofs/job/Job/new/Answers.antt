@@ -1,4 +1,4 @@
-use Rattle.cap_filter.specs.Command.{most_inputs}
+use Rattle.cap_command.specs.Command.{most_inputs}
 use Rattle.std.proofs.Common.{◌≡◌, ◌≤◌, List, map, length, string_bytes, sym, ap, subst, ◌∙◌, arith}
 use Rattle.std.specs.List.{All}
 use Rattle.std.specs.Option.{option_map}

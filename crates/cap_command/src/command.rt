@@ -2,11 +2,11 @@
 ghost use Rattle.std.specs.Prelude.{◌≡◌, string_bytes, true};
 ghost use Rattle.std.specs.List.{list_all};
 ghost use Rattle.std.specs.Option.{option_map_or};
-ghost use Rattle.cap_filter.specs.Command.{is_proper, is_input_count, is_range, is_time};
-ghost use Rattle.cap_filter.specs.Command.{is_at_least_one, is_window, is_proper_shift};
-ghost use Rattle.cap_filter.specs.Command.{is_proper_edit, is_proper_print, has_one_filter};
-ghost use Rattle.cap_filter.specs.Command.{has_one_output, has_proper_ranges};
-ghost use Rattle.cap_filter.specs.Selection.{is_named, is_kept};
+ghost use Rattle.cap_command.specs.Command.{is_proper, is_input_count, is_range, is_time};
+ghost use Rattle.cap_command.specs.Command.{is_at_least_one, is_window, is_proper_shift};
+ghost use Rattle.cap_command.specs.Command.{is_proper_edit, is_proper_print, has_one_filter};
+ghost use Rattle.cap_command.specs.Command.{has_one_output, has_proper_ranges};
+ghost use Rattle.cap_command.specs.Selection.{is_named, is_kept};
 
 use cap_octet::date::TIME_END;
 use cap_octet::{Format, Link};

@@ -1,14 +1,14 @@
--- Which commands may be run.
+-- Which commands may be run, and the listing of a print.
 use Rattle.std.specs.Prelude.{ℕ, ◌^◌, ◌&&◌, ◌||◌, Bool, true, not, List, length, nat_eq, nat_lt, nat_le, string_bytes, Option}
 use Rattle.std.specs.List.{list_all}
-use Rattle.std.specs.Option.{is_none, option_map_or}
+use Rattle.std.specs.Option.{is_none, option_map, option_map_or}
 use Rattle.cap_octet.specs.Date.{TIME_END}
-use Rattle.cap_filter.specs.declared.command.Command.{Command}
-use Rattle.cap_filter.specs.declared.command.Command.TheVariants as command
-use Rattle.cap_filter.specs.declared.command.Edit.{Edit}
-use Rattle.cap_filter.specs.declared.command.Print.{Print}
-use Rattle.cap_filter.specs.declared.command.Shift.{Shift}
-use Rattle.cap_filter.specs.declared.command.Shift.TheVariants as shift
+use Rattle.cap_command.specs.declared.command.Command.{Command}
+use Rattle.cap_command.specs.declared.command.Command.TheVariants as command
+use Rattle.cap_command.specs.declared.command.Edit.{Edit}
+use Rattle.cap_command.specs.declared.command.Print.{Print}
+use Rattle.cap_command.specs.declared.command.Shift.{Shift}
+use Rattle.cap_command.specs.declared.command.Shift.TheVariants as shift
 
 -- the numbers of a range: from 1 on, in order, below 2^63
 abbrev pub is_range : ℕ → ℕ → Bool
@@ -79,3 +79,7 @@ is_proper (command.Merge merge) inputs = is_input_count inputs
 is_proper command.Infos inputs = is_input_count inputs
 is_proper (command.Print print) inputs = nat_eq inputs 1 && is_proper_print print
 is_proper (command.Compile compile) inputs = nat_eq inputs 0
+
+-- the bytes of a listing, where there is one
+abbrev pub listing_of : {Z : Type 0} → Print Z → Option (List ℕ)
+listing_of print = option_map (λ text. text.items) print.code

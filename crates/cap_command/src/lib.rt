@@ -1,0 +1,8 @@
+//! Commands: what is asked for, as values.
+#![tactic(auto)]
+
+mod command;
+
+pub use command::{
+    Command, Compile, Edit, MOST_INPUTS, MOST_RANGES, MOST_WINDOW, Merge, Print, Shift, is_range,
+};
