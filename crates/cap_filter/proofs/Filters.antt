@@ -11,7 +11,7 @@ use Rattle.cap_octet.specs.Packet.{Captured}
 use Rattle.flt_bpf.specs.declared.insn.Insn.{Insn}
 use Rattle.flt_bpf.specs.Content.{Content}
 use Rattle.flt_bpf.specs.Machine.{machine, Answered}
-use Rattle.flt_lang.specs.Tree.{Expression, empty, truth}
+use Rattle.flt_tree.specs.Tree.{Expression, empty, truth}
 use Rattle.cap_octet.specs.declared.link.Link.{Link}
 use Rattle.cap_octet.specs.declared.link.Link.TheVariants.{Ether}
 use Rattle.flt_gen.specs.Correct.{IsProgramOf}

@@ -4,7 +4,7 @@ use Rattle.flt_bpf.specs.declared.insn.Insn.{Insn}
 use Rattle.flt_bpf.specs.Listing.{listing}
 use Rattle.flt_bpf.specs.Valid.{IsValid}
 use Rattle.flt_words.specs.declared.fault.ExprFault.{ExprFault}
-use Rattle.flt_lang.specs.Tree as tree
+use Rattle.flt_tree.specs.Tree as tree
 use Rattle.cap_octet.specs.declared.link.Link.{Link}
 use Rattle.flt_gen.specs.Correct.{IsProgramOf}
 use Rattle.cap_filter.specs.declared.refusal.Refusal.TheVariants.{Expression}

@@ -4,11 +4,11 @@ use Rattle.flt_words.specs.declared.fault.ExprFault.{ExprFault}
 use Rattle.flt_words.specs.declared.fault.ExprFault.TheVariants as fault
 use Rattle.flt_words.specs.declared.token.Token.{Token}
 use Rattle.flt_words.specs.Tokens.{Tokens}
-use Rattle.flt_lang.specs.Tree.{Expression}
-use Rattle.flt_lang.specs.Grammar.{Reads, kinds_of}
-use Rattle.flt_lang.specs.Nesting.{IsTooDeep}
-use Rattle.flt_lang.specs.Filled.{filled}
-use Rattle.flt_lang.specs.Resolved.{fill_fault}
+use Rattle.flt_tree.specs.Tree.{Expression}
+use Rattle.flt_tree.specs.Grammar.{Reads, kinds_of}
+use Rattle.flt_tree.specs.Nesting.{IsTooDeep}
+use Rattle.flt_tree.specs.Filled.{filled}
+use Rattle.flt_tree.specs.Resolved.{fill_fault}
 use Rattle.flt_lang.specs.Checks.{check_fault}
 
 -- the text has these tokens, and they have this tree

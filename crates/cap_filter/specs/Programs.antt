@@ -6,10 +6,10 @@ use Rattle.flt_bpf.specs.declared.insn.Insn.{Insn}
 use Rattle.flt_bpf.specs.Content.{Content}
 use Rattle.flt_bpf.specs.Machine.{machine, Progress, Answered}
 use Rattle.flt_bpf.specs.Valid.{IsValid}
-use Rattle.flt_lang.specs.Tree.{Expression, empty, truth}
-use Rattle.flt_lang.specs.declared.node.Node.{Node}
-use Rattle.flt_lang.specs.contracts.node.Node as stored
-use Rattle.flt_lang.specs.Nodes.{expr_nodes, tree_of, tree_back}
+use Rattle.flt_tree.specs.Tree.{Expression, empty, truth}
+use Rattle.flt_tree.specs.declared.node.Node.{Node}
+use Rattle.flt_tree.specs.contracts.node.Node as stored
+use Rattle.flt_tree.specs.Nodes.{expr_nodes, tree_of, tree_back}
 use Rattle.cap_octet.specs.declared.link.Link.{Link}
 use Rattle.flt_gen.specs.Correct.{IsProgramOf}
 use Rattle.cap_filter.specs.Links.{link_types}

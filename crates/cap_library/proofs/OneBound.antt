@@ -3,10 +3,10 @@ use Rattle.std.proofs.Common.{◌≡◌, ◌≤◌, ℕ, List, length, ap, sym, 
 use Rattle.flt_words.specs.declared.token.Token.{Token}
 use Rattle.flt_words.proofs.OneAnswer.{same_answer}
 use Rattle.flt_bpf.specs.declared.insn.Insn.{Insn}
-use Rattle.flt_lang.specs.Counts.{bound_of}
-use Rattle.flt_lang.specs.Filled.{filled}
-use Rattle.flt_lang.specs.Grammar.{Reads, kinds_of}
-use Rattle.flt_lang.specs.Tree.{Expression}
+use Rattle.flt_tree.specs.Counts.{bound_of}
+use Rattle.flt_tree.specs.Filled.{filled}
+use Rattle.flt_tree.specs.Grammar.{Reads, kinds_of}
+use Rattle.flt_tree.specs.Tree.{Expression}
 use Rattle.flt_lang.proofs.Complete.{complete}
 use Rattle.flt_lang.proofs.NodesBack.{same_nodes}
 use Rattle.cap_filter.specs.Expressions.{IsExpression, HasTree}

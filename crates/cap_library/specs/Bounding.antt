@@ -2,8 +2,8 @@
 use Rattle.std.specs.Prelude.{◌≡◌, ◌≤◌, ℕ, List, length}
 use Rattle.std.specs.Str.{IsUtf8, IsValidUpTo}
 use Rattle.flt_bpf.specs.declared.insn.Insn.{Insn}
-use Rattle.flt_lang.specs.Counts.{bound_of}
-use Rattle.flt_lang.specs.Tree.{Expression}
+use Rattle.flt_tree.specs.Counts.{bound_of}
+use Rattle.flt_tree.specs.Tree.{Expression}
 use Rattle.cap_filter.specs.Expressions.{IsExpression, IsTextFault}
 use Rattle.cap_library.specs.Compiling.{IsFor, failure_number, failure_status}
 use Rattle.cap_library.specs.declared.compiling.Failure.{Failure}

@@ -19,7 +19,7 @@ use Rattle.cap_filter.specs.Links.{link_of}
 use Rattle.cap_filter.specs.FilterRules.{Rule, rule_decides, read_on, decision_of, answering}
 use Rattle.flt_bpf.specs.Machine as bpf
 use Rattle.flt_bpf.specs.Machine.{machine, Answered}
-use Rattle.flt_lang.specs.Tree.{Expression, empty, truth}
+use Rattle.flt_tree.specs.Tree.{Expression, empty, truth}
 use Rattle.cap_octet.specs.declared.link.Link.{Link}
 use Rattle.flt_gen.specs.Elementary.{Reading, Yes, No, Rejected}
 use Rattle.flt_gen.specs.Reading.{holds}

@@ -3,7 +3,7 @@ use Rattle.std.proofs.Common.{◌≡◌, ℕ, zero, suc, List, [], ◌∷◌, ma
 use Rattle.cap_octet.specs.Packet.{Captured}
 use Rattle.flt_bpf.specs.declared.insn.Insn.{Insn}
 use Rattle.flt_bpf.specs.Content.{Content}
-use Rattle.flt_lang.specs.Tree.{Expression, empty, truth}
+use Rattle.flt_tree.specs.Tree.{Expression, empty, truth}
 use Rattle.cap_octet.specs.declared.link.Link.{Link}
 use Rattle.cap_filter.specs.Links.{link_types}
 use Rattle.cap_filter.specs.Programs.{AreMade, ran_at, ran_if}

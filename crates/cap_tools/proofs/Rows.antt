@@ -4,7 +4,7 @@ use Rattle.cap_octet.specs.Packet.{Captured}
 use Rattle.cap_octet.specs.declared.fault.Fault.TheVariants.{Truncated, TimeOutOfRange}
 use Rattle.cap_octet.specs.declared.format.Format.TheVariants.{Pcap}
 use Rattle.cap_io.specs.Capture.{Placed, Ending, End, FaultAt, Nothing, items_from, items_within}
-use Rattle.flt_lang.specs.Tree.{empty}
+use Rattle.flt_tree.specs.Tree.{empty}
 use Rattle.cap_filter.specs.FilterRules.{by_reading}
 use Rattle.cap_inputs.specs.Sequence.{InputItems, InTurn, ByTime, sequence_of, Packet, Complete, FaultIn, whole_input}
 use Rattle.cap_command.specs.declared.command.Shift.TheVariants as shift

@@ -6,7 +6,7 @@ use Rattle.cap_window.specs.declared.mark.Mark.{Mark}
 use Rattle.cap_window.specs.View.{WindowView}
 use Rattle.flt_bpf.specs.Content.{Content}
 use Rattle.cap_command.specs.declared.command.Edit as command_edit
-use Rattle.flt_lang.specs.Tree.{empty, truth}
+use Rattle.flt_tree.specs.Tree.{empty, truth}
 use Rattle.cap_filter.specs.FilterRules as rules
 use Rattle.cap_filter.specs.FilterRules.{by_reading, by_answer}
 use Rattle.cap_filter.specs.Links.{link_types}

@@ -10,13 +10,13 @@ use Rattle.flt_words.specs.declared.token.Cast.{Cast}
 use Rattle.flt_words.specs.declared.token.Cast.TheVariants.{Broadcast, Multicast}
 use Rattle.flt_words.specs.declared.token.ValueType.{ValueType}
 use Rattle.flt_words.specs.declared.token.ValueType.TheVariants.{Host, Net, Port, PortRange, Proto}
-use Rattle.flt_lang.specs.declared.quals.Direction.{Direction}
-use Rattle.flt_lang.specs.declared.quals.Direction.TheVariants as direction
-use Rattle.flt_lang.specs.declared.value.Value.{Value}
-use Rattle.flt_lang.specs.declared.value.Value.TheVariants as value
-use Rattle.flt_lang.specs.Tree.{NumberTree, literal, len, named, load, negated, applied, TruthTree, check, cast, sized, bare, valued, qualified, compared, denied, joined}
-use Rattle.flt_lang.specs.Counts as count
-use Rattle.flt_lang.specs.Resolved.{is_unfilled, any_primitive}
+use Rattle.flt_tree.specs.declared.quals.Direction.{Direction}
+use Rattle.flt_tree.specs.declared.quals.Direction.TheVariants as direction
+use Rattle.flt_tree.specs.declared.value.Value.{Value}
+use Rattle.flt_tree.specs.declared.value.Value.TheVariants as value
+use Rattle.flt_tree.specs.Tree.{NumberTree, literal, len, named, load, negated, applied, TruthTree, check, cast, sized, bare, valued, qualified, compared, denied, joined}
+use Rattle.flt_tree.specs.Counts as count
+use Rattle.flt_tree.specs.Resolved.{is_unfilled, any_primitive}
 use Rattle.cap_octet.specs.declared.link.Link.{Link}
 use Rattle.cap_octet.specs.declared.link.Link.TheVariants.{Ether, Raw, Cooked}
 use Rattle.flt_gen.specs.declared.elementary.FrameKind.{FrameKind}

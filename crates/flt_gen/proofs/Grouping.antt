@@ -8,14 +8,14 @@ use Rattle.flt_words.specs.declared.token.Side.TheVariants.{Source, Destination}
 use Rattle.flt_words.specs.declared.token.Join.TheVariants.{And, Or}
 use Rattle.flt_words.specs.declared.token.ValueType.{ValueType}
 use Rattle.flt_words.specs.declared.token.ValueType.TheVariants.{Host, Net, Port, PortRange, Proto}
-use Rattle.flt_lang.specs.declared.quals.Direction.{Direction}
-use Rattle.flt_lang.specs.declared.quals.Direction.TheVariants as direction
-use Rattle.flt_lang.specs.declared.quals.FullQuals.{FullQuals}
-use Rattle.flt_lang.specs.declared.value.Value.{Value}
-use Rattle.flt_lang.specs.declared.value.Value.TheVariants as value
-use Rattle.flt_lang.specs.Tree.{TruthTree, check, cast, sized, bare, valued, qualified, compared, denied, joined}
-use Rattle.flt_lang.specs.Counts as count
-use Rattle.flt_lang.specs.Resolved.{is_unfilled, any_primitive}
+use Rattle.flt_tree.specs.declared.quals.Direction.{Direction}
+use Rattle.flt_tree.specs.declared.quals.Direction.TheVariants as direction
+use Rattle.flt_tree.specs.declared.quals.FullQuals.{FullQuals}
+use Rattle.flt_tree.specs.declared.value.Value.{Value}
+use Rattle.flt_tree.specs.declared.value.Value.TheVariants as value
+use Rattle.flt_tree.specs.Tree.{TruthTree, check, cast, sized, bare, valued, qualified, compared, denied, joined}
+use Rattle.flt_tree.specs.Counts as count
+use Rattle.flt_tree.specs.Resolved.{is_unfilled, any_primitive}
 use Rattle.cap_octet.specs.declared.link.Link.{Link}
 use Rattle.flt_gen.specs.Elementary.{Reading, Yes, No, Rejected}
 use Rattle.flt_gen.specs.declared.elementary.Hosts.TheVariants as hosts

@@ -15,7 +15,7 @@ use Rattle.flt_words.specs.declared.token.Operator.{Operator}
 use Rattle.flt_words.specs.declared.token.Operator.TheVariants.{Or, And, ShiftLeft, ShiftRight, Add, Subtract, Multiply, Divide, Remainder, ExclusiveOr}
 use Rattle.flt_words.specs.declared.token.Protocol.{Protocol}
 use Rattle.flt_words.specs.declared.token.Protocol.TheVariants.{Ether, Tcp, Udp, Icmp}
-use Rattle.flt_lang.specs.Tree.{NumberTree, literal, len, named, load, negated, applied}
+use Rattle.flt_tree.specs.Tree.{NumberTree, literal, len, named, load, negated, applied}
 use Rattle.cap_octet.specs.declared.link.Link.{Link}
 use Rattle.flt_gen.specs.declared.elementary.Offset.{Offset}
 use Rattle.flt_gen.specs.declared.elementary.Offset.TheVariants.{Fixed, AfterHeader}
@@ -27,7 +27,7 @@ use Rattle.flt_bpf.specs.Check.{fault_of, unless, ends_in_return}
 use Rattle.flt_gen.specs.Elementary.{network}
 use Rattle.flt_gen.specs.Numbers.{width_of}
 use Rattle.flt_gen.specs.Formula.{Formula, Single, Compare, Both, Either, Except, Guard, Fork, Choose, Among}
-use Rattle.flt_lang.specs.Counts.{number_words, number_size}
+use Rattle.flt_tree.specs.Counts.{number_words, number_size}
 use Rattle.flt_gen.specs.Counts.{words, nodes, tests}
 use Rattle.flt_gen.specs.Code.{plain, computation, takes, constant, constant_operand, branch_insn, emit_jump, emit_branch, reach, emit_comparison, emit_field, emit_mask, emit_base, emit_transport, emit_accessor, emit_number, Block, at_top, emit_chain, emit_search, LEVELS, emit_elementary, emit_fork, emit_formula}
 use Rattle.flt_gen.specs.declared.follow.Knowledge.{Knowledge}

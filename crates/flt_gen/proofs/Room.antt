@@ -4,16 +4,16 @@ use Rattle.std.specs.Prelude.{nat_lt, ◌&&◌, if◌then◌else◌}
 use Rattle.std.proofs.lemmas.Bool.Decides.{nat_tests}
 use Rattle.flt_words.specs.declared.token.Join.{Join}
 use Rattle.flt_words.specs.declared.token.Join.TheVariants.{And, Or}
-use Rattle.flt_lang.specs.declared.quals.FullQuals.{FullQuals}
-use Rattle.flt_lang.specs.declared.value.Value.{Value}
+use Rattle.flt_tree.specs.declared.quals.FullQuals.{FullQuals}
+use Rattle.flt_tree.specs.declared.value.Value.{Value}
 use Rattle.flt_gen.specs.Formula.{Formula}
 use Rattle.flt_gen.specs.Group.{Group, MOST_TOGETHER, same_type, same_protocol, same_direction, goes_with, with_member, member_number, group_and, larger_group, group_formula}
 use Rattle.flt_gen.proofs.Ascending.{length_inserted}
 use Rattle.flt_short.proofs.Basics.{both_true}
 use Rattle.flt_bpf.specs.declared.insn.Insn.{Insn}
 use Rattle.flt_bpf.specs.declared.operation.Operand.TheVariants.{Constant, IndexRegister}
-use Rattle.flt_lang.specs.declared.node.Node.{Node}
-use Rattle.flt_lang.specs.declared.node.Node.TheVariants as node
+use Rattle.flt_tree.specs.declared.node.Node.{Node}
+use Rattle.flt_tree.specs.declared.node.Node.TheVariants as node
 use Rattle.cap_octet.specs.declared.link.Link.{Link}
 use Rattle.flt_gen.specs.declared.waiting.Waiting.{Waiting}
 use Rattle.flt_gen.specs.declared.waiting.Waiting.TheVariants.{Index, Left}

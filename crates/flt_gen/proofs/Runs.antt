@@ -25,7 +25,7 @@ use Rattle.flt_bpf.specs.declared.operation.Operand.{Operand}
 use Rattle.flt_bpf.specs.declared.operation.Operand.TheVariants.{Constant, IndexRegister}
 use Rattle.flt_words.specs.declared.token.Comparison.{Comparison}
 use Rattle.flt_words.specs.declared.token.Comparison.TheVariants.{Equal, NotEqual, Less, AtMost, Greater, AtLeast}
-use Rattle.flt_lang.specs.Tree.{NumberTree, literal, len, named, load, negated, applied}
+use Rattle.flt_tree.specs.Tree.{NumberTree, literal, len, named, load, negated, applied}
 use Rattle.cap_octet.specs.declared.link.Link.{Link}
 use Rattle.flt_gen.specs.declared.elementary.Offset.{Offset}
 use Rattle.flt_gen.specs.declared.elementary.Offset.TheVariants.{Fixed, AfterHeader}
@@ -37,7 +37,7 @@ use Rattle.flt_bpf.specs.Machine.{field, holds, value_of, into, header_length}
 use Rattle.flt_gen.specs.Elementary.{Reading, Yes, No, Rejected, reading_of, with, compares, field_at, masked, elementary_reads}
 use Rattle.flt_gen.specs.Numbers.{number}
 use Rattle.flt_gen.specs.Formula.{Formula, Single, Compare, Both, Either, Except, Guard, Fork, Choose, Among, is_one_of, among_reads, relation_reads, both, either, negated as exchanged, reads}
-use Rattle.flt_lang.specs.Counts.{number_words}
+use Rattle.flt_tree.specs.Counts.{number_words}
 use Rattle.flt_gen.specs.Counts.{words}
 use Rattle.flt_gen.specs.Code.{plain, computation, constant, constant_operand, emit_base, emit_transport, emit_accessor, emit_elementary, emit_jump, emit_branch, reach, emit_comparison, emit_field, emit_mask, emit_test, emit_operands, emit_number, emit_relation, Block, at_top, emit_chain, emit_search, LEVELS, emit_among, emit_formula}
 use Rattle.flt_bpf.proofs.Suffix.{answer_of, answer_after}

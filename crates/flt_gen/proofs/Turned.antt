@@ -3,10 +3,10 @@ use Rattle.std.proofs.Common.{◌≡◌, ℕ, ◌-◌, ◌≤◌, List, [], ◌�
 use Rattle.std.specs.Prelude.{reverse}
 use Rattle.std.proofs.Math.Seq.{take-suc}
 use Rattle.std.proofs.lemmas.List.{reverse-reverse, reverse-append}
-use Rattle.flt_lang.specs.declared.node.Node.{Node}
-use Rattle.flt_lang.specs.Tree.{Expression}
-use Rattle.flt_lang.specs.Nodes.{expr_nodes}
-use Rattle.flt_lang.specs.Machine.{expr_onto}
+use Rattle.flt_tree.specs.declared.node.Node.{Node}
+use Rattle.flt_tree.specs.Tree.{Expression}
+use Rattle.flt_tree.specs.Nodes.{expr_nodes}
+use Rattle.flt_tree.specs.Machine.{expr_onto}
 use Rattle.flt_lang.proofs.NodesBack.{expr_turned}
 use Rattle.cap_octet.specs.declared.link.Link.{Link}
 use Rattle.flt_gen.specs.Code.{expression_code, program_code}

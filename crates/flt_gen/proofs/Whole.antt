@@ -8,9 +8,9 @@ use Rattle.flt_bpf.specs.Instructions.{operation_of}
 use Rattle.flt_bpf.specs.Machine.{step, start}
 use Rattle.flt_bpf.specs.Check.{fault_of, ends_in_return}
 use Rattle.flt_bpf.specs.Valid.{IsValid}
-use Rattle.flt_lang.specs.Tree.{TruthTree, Expression, empty, truth}
-use Rattle.flt_lang.specs.Counts.{words_of, bound_of, truth_tests, truth_size}
-use Rattle.flt_lang.specs.Resolved.{is_unfilled, any_primitive, some_primitive}
+use Rattle.flt_tree.specs.Tree.{TruthTree, Expression, empty, truth}
+use Rattle.flt_tree.specs.Counts.{words_of, bound_of, truth_tests, truth_size}
+use Rattle.flt_tree.specs.Resolved.{is_unfilled, any_primitive, some_primitive}
 use Rattle.flt_short.specs.Alike.{Replaces}
 use Rattle.cap_octet.specs.declared.link.Link.{Link}
 use Rattle.flt_gen.specs.declared.elementary.Elementary.TheVariants.{Outcome}

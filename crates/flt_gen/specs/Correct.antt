@@ -2,8 +2,8 @@
 use Rattle.std.specs.Prelude.{◌≡◌, ◌≢◌, ◌↔◌, ℕ, ◌≤◌, List, length}
 use Rattle.flt_bpf.specs.declared.insn.Insn.{Insn}
 use Rattle.flt_bpf.specs.Machine.{machine, Answered}
-use Rattle.flt_lang.specs.Tree.{Expression}
-use Rattle.flt_lang.specs.Counts.{bound_of}
+use Rattle.flt_tree.specs.Tree.{Expression}
+use Rattle.flt_tree.specs.Counts.{bound_of}
 use Rattle.cap_octet.specs.declared.link.Link.{Link}
 use Rattle.flt_gen.specs.Elementary.{Yes}
 use Rattle.flt_gen.specs.Reading.{holds}

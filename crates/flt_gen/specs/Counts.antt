@@ -1,8 +1,8 @@
 -- How many tests, nodes of arithmetic and words of memory a formula has, and the bound of a program
 -- without jumps.
 use Rattle.std.specs.Prelude.{ℕ, ◌+◌, ◌*◌, max, length}
-use Rattle.flt_lang.specs.Tree.{Expression}
-use Rattle.flt_lang.specs.Counts.{number_words, number_size, tests_of, nodes_of}
+use Rattle.flt_tree.specs.Tree.{Expression}
+use Rattle.flt_tree.specs.Counts.{number_words, number_size, tests_of, nodes_of}
 use Rattle.flt_gen.specs.Formula.{Formula, Single, Compare, Both, Either, Except, Guard, Fork, Choose, Among}
 
 abbrev pub words : Formula → ℕ

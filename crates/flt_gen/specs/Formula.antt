@@ -4,9 +4,9 @@ use Rattle.flt_words.specs.declared.token.Comparison.{Comparison}
 use Rattle.flt_words.specs.declared.token.Protocol.{Protocol}
 use Rattle.flt_words.specs.declared.token.Side.TheVariants.{Source, Destination}
 use Rattle.flt_words.specs.declared.token.Join.TheVariants.{And, Or}
-use Rattle.flt_lang.specs.declared.quals.Direction.{Direction}
-use Rattle.flt_lang.specs.declared.quals.Direction.TheVariants as direction
-use Rattle.flt_lang.specs.Tree.{NumberTree}
+use Rattle.flt_tree.specs.declared.quals.Direction.{Direction}
+use Rattle.flt_tree.specs.declared.quals.Direction.TheVariants as direction
+use Rattle.flt_tree.specs.Tree.{NumberTree}
 use Rattle.cap_octet.specs.declared.link.Link.{Link}
 use Rattle.flt_gen.specs.declared.elementary.Elementary.{Elementary}
 use Rattle.flt_gen.specs.declared.elementary.MaskedField.{MaskedField}

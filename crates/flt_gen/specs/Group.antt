@@ -6,12 +6,12 @@ use Rattle.flt_words.specs.declared.token.Side.TheVariants.{Source, Destination}
 use Rattle.flt_words.specs.declared.token.Join.TheVariants.{And, Or}
 use Rattle.flt_words.specs.declared.token.ValueType.{ValueType}
 use Rattle.flt_words.specs.declared.token.ValueType.TheVariants.{Host, Port}
-use Rattle.flt_lang.specs.declared.quals.Direction.{Direction}
-use Rattle.flt_lang.specs.declared.quals.Direction.TheVariants as direction
-use Rattle.flt_lang.specs.declared.quals.FullQuals.{FullQuals}
-use Rattle.flt_lang.specs.declared.value.Value.{Value}
-use Rattle.flt_lang.specs.declared.value.Value.TheVariants as value
-use Rattle.flt_lang.specs.Tree.{TruthTree, qualified, denied, joined}
+use Rattle.flt_tree.specs.declared.quals.Direction.{Direction}
+use Rattle.flt_tree.specs.declared.quals.Direction.TheVariants as direction
+use Rattle.flt_tree.specs.declared.quals.FullQuals.{FullQuals}
+use Rattle.flt_tree.specs.declared.value.Value.{Value}
+use Rattle.flt_tree.specs.declared.value.Value.TheVariants as value
+use Rattle.flt_tree.specs.Tree.{TruthTree, qualified, denied, joined}
 use Rattle.cap_octet.specs.declared.link.Link.{Link}
 use Rattle.flt_gen.specs.declared.elementary.FrameKind.{FrameKind}
 use Rattle.flt_gen.specs.declared.elementary.FrameKind.TheVariants as kind

@@ -1,7 +1,7 @@
 -- Laws of the table of primitives.
 use Rattle.std.specs.Prelude.{◌≡◌, ◌↔◌, ℕ, ◌-◌, ◌^◌, ◌<◌, Bool, true, false, List, All, map, Option, unwrap_or}
 use Rattle.std.specs.Int.Digits.{number_from_digits}
-use Rattle.flt_lang.specs.Nets.{ip6_mask}
+use Rattle.flt_tree.specs.Nets.{ip6_mask}
 use Rattle.cap_octet.specs.NetworkHeader.{network_header}
 use Rattle.cap_octet.specs.declared.network.NetworkHeader.TheVariants.{Known, Short}
 use Rattle.cap_octet.specs.declared.network.NetworkKind.{NetworkKind}

@@ -15,14 +15,14 @@ use Rattle.flt_words.specs.declared.token.Size.{Size}
 use Rattle.flt_words.specs.declared.token.Size.TheVariants as size
 use Rattle.flt_words.specs.declared.token.Cast.{Cast}
 use Rattle.flt_words.specs.declared.token.Cast.TheVariants.{Broadcast, Multicast}
-use Rattle.flt_lang.specs.declared.quals.Direction.{Direction}
-use Rattle.flt_lang.specs.declared.quals.Direction.TheVariants as direction
-use Rattle.flt_lang.specs.declared.quals.FullQuals.{FullQuals}
-use Rattle.flt_lang.specs.declared.value.Value.{Value}
-use Rattle.flt_lang.specs.declared.value.Value.TheVariants as value
-use Rattle.flt_lang.specs.declared.net.Ip4Net.{Ip4Net}
-use Rattle.flt_lang.specs.Nets.{first_bits, ip4_net}
-use Rattle.flt_lang.specs.Tree.{literal, len}
+use Rattle.flt_tree.specs.declared.quals.Direction.{Direction}
+use Rattle.flt_tree.specs.declared.quals.Direction.TheVariants as direction
+use Rattle.flt_tree.specs.declared.quals.FullQuals.{FullQuals}
+use Rattle.flt_tree.specs.declared.value.Value.{Value}
+use Rattle.flt_tree.specs.declared.value.Value.TheVariants as value
+use Rattle.flt_tree.specs.declared.net.Ip4Net.{Ip4Net}
+use Rattle.flt_tree.specs.Nets.{first_bits, ip4_net}
+use Rattle.flt_tree.specs.Tree.{literal, len}
 use Rattle.cap_octet.specs.declared.link.Link.{Link}
 use Rattle.cap_octet.specs.declared.link.Link.TheVariants.{Cooked}
 use Rattle.flt_gen.specs.declared.elementary.FrameKind.{FrameKind}

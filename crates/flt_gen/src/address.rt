@@ -1,7 +1,7 @@
 //! The code of hosts and networks of IPv4 and IPv6.
 
 ghost use Rattle.std.specs.Prelude.{◌≡◌, ◌+◌, ◌*◌, ◌≤◌, length};
-ghost use Rattle.flt_lang.specs.Nets.{first_bits};
+ghost use Rattle.flt_tree.specs.Nets.{first_bits};
 ghost use Rattle.flt_gen.specs.Elementary.{kind_test};
 ghost use Rattle.flt_gen.specs.Emits.{HasRoom, EmitsFormula, EmitsBehind};
 ghost use Rattle.flt_gen.specs.Group.{hosts_sides, any_hosts, hosts_formula};

@@ -1,10 +1,10 @@
 -- The nodes of a tree whose values inherit, and of one that is completed.
 use Rattle.std.proofs.Common.{◌≡◌, List, [], refl, sym, ap, ◌∙◌, map}
-use Rattle.flt_lang.specs.declared.quals.Quals.{Quals}
-use Rattle.flt_lang.specs.declared.node.Node.{Node}
-use Rattle.flt_lang.specs.Tree.{NumberTree, literal, len, named, load, negated, applied, TruthTree, check, cast, sized, bare, valued, qualified, compared, denied, joined, Expression, empty, truth}
-use Rattle.flt_lang.specs.Nodes.{number_nodes, truth_nodes, expr_nodes, tree_of, tree_back, IsTree}
-use Rattle.flt_lang.specs.Filled.{latest, inherited, completed, only_host, expr_inherited, filled, inherited_nodes, completed_node}
+use Rattle.flt_tree.specs.declared.quals.Quals.{Quals}
+use Rattle.flt_tree.specs.declared.node.Node.{Node}
+use Rattle.flt_tree.specs.Tree.{NumberTree, literal, len, named, load, negated, applied, TruthTree, check, cast, sized, bare, valued, qualified, compared, denied, joined, Expression, empty, truth}
+use Rattle.flt_tree.specs.Nodes.{number_nodes, truth_nodes, expr_nodes, tree_of, tree_back, IsTree}
+use Rattle.flt_tree.specs.Filled.{latest, inherited, completed, only_host, expr_inherited, filled, inherited_nodes, completed_node}
 
 number_inherited : (a : NumberTree) (q : Quals) (rest : List Node) → inherited_nodes q (number_nodes a rest) ≡ number_nodes a (inherited_nodes q rest)
 number_inherited (literal n) q rest = refl

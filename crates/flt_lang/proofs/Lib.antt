@@ -1,14 +1,9 @@
-pub mod Fronts
-pub mod Reducing
 pub mod NodesBack
-pub mod ValuesBack
-pub mod Valued
 pub mod Bare
 pub mod Complete
 pub mod Stacked
 pub mod Begins
 pub mod Sound
-pub mod Prefixes
 pub mod Parsing
 pub mod Filling
 pub mod Primitives

@@ -1,38 +1,14 @@
--- What the loop of the parser needs of the machine.
-use Rattle.std.proofs.Common.{◌≡◌, ℕ, ◌+◌, ◌-◌, ◌<◌, List, [], ◌∷◌, length, take, drop, get_or, reverse, sym, ap, ◌∙◌, subst, arith, Option, Some, None, one-add}
-use Rattle.std.proofs.lemmas.List.{drop-map, drop-drop, take_rest}
-use Rattle.flt_words.specs.declared.token.Token.{Token}
+-- What the parser needs of the machine.
+use Rattle.std.proofs.Common.{◌≡◌, List, reverse, sym, ap, ◌∙◌, subst, Some, None}
 use Rattle.flt_words.specs.declared.token.TokenKind.{TokenKind}
-use Rattle.flt_lang.specs.declared.node.Node.{Node}
-use Rattle.flt_lang.specs.declared.reading.frame.Frame.{Frame}
-use Rattle.flt_lang.specs.declared.reading.frame.Operand.{Operand}
-use Rattle.flt_lang.specs.Tree.{Expression}
-use Rattle.flt_lang.specs.Nodes.{expr_nodes, tree_of, tree_back, IsTree}
-use Rattle.flt_lang.specs.Grammar.{Reads, kinds_of}
-use Rattle.flt_lang.specs.Machine.{State, run, all_run, after_operand, begin_at}
-use Rattle.flt_lang.proofs.Fronts.{first_and_rest}
-use Rattle.flt_lang.proofs.Valued.{run_begins, run_skip}
+use Rattle.flt_tree.specs.declared.node.Node.{Node}
+use Rattle.flt_tree.specs.Tree.{Expression}
+use Rattle.flt_tree.specs.Nodes.{expr_nodes, tree_of, tree_back, IsTree}
+use Rattle.flt_tree.specs.Grammar.{Reads}
+use Rattle.flt_tree.specs.Machine.{all_run}
 use Rattle.flt_lang.proofs.Complete.{complete}
 use Rattle.flt_lang.proofs.Sound.{sound}
 use Rattle.flt_lang.proofs.NodesBack.{expr_turned}
-
--- what comes behind an operand
-pub run_goes_on : (ts : List Token) (t : Token) (fs : List Frame) (x : Operand) (d : List Node) (k : ℕ) (s : State) → 0 < length ts → after_operand ((get_or ts 0 t).kind ∷ kinds_of (take (length ts - 1) (drop 1 ts))) fs x d ≡ Some (k, s) → run (kinds_of ts) 0 fs (Some x) d ≡ run (kinds_of (drop (1 + k) ts)) 0 s.0 s.1 s.2
-run_goes_on [] t fs x d k s h e = absurd (omega arith)
-run_goes_on (u ∷ ts) t fs x d k s h e =
-    let goes : after_operand (kinds_of (u ∷ ts)) fs x d ≡ Some (k, s) = ap (λ us. after_operand us fs x d) (sym (first_and_rest (u ∷ ts) t h)) ∙ e in
-    rw (goes, one-add, ← drop-map) (run_skip (kinds_of ts) k s.0 s.1 s.2)
-
--- where an operand begins
-pub run_begins_on : (ts : List Token) (t : Token) (fs : List Frame) (d : List Node) (k : ℕ) (s : State) → 0 < length ts → begin_at (get_or ts 0 t).kind (kinds_of ts) fs d ≡ Some (k, s) → run (kinds_of ts) 0 fs None d ≡ run (kinds_of (drop (1 + k) ts)) 0 s.0 s.1 s.2
-run_begins_on [] t fs d k s h e = absurd (omega arith)
-run_begins_on (u ∷ ts) t fs d k s h e = rw (one-add, ← drop-map) (run_begins (kinds_of (u ∷ ts)) fs d k s (omega arith) e)
-
--- a step reads what is left as it reads what the step leaves
-pub runs_on : (ts : List Token) (at used : ℕ) (fs gs : List Frame) (x y : Option Operand) (d e : List Node) (all : Option (List Node)) → run (kinds_of (take (length ts - at) (drop at ts))) 0 fs x d ≡ run (kinds_of (drop used (take (length ts - at) (drop at ts)))) 0 gs y e → run (kinds_of (drop at ts)) 0 fs x d ≡ all → run (kinds_of (drop (at + used) ts)) 0 gs y e ≡ all
-runs_on ts at used fs gs x y d e all step before =
-    let left : drop used (take (length ts - at) (drop at ts)) ≡ drop (at + used) ts = ap (drop used) (take_rest ts at) ∙ drop-drop used at ts in
-    ap (λ us. run (kinds_of us) 0 gs y e) (sym left) ∙ sym step ∙ ap (λ us. run (kinds_of us) 0 fs x d) (take_rest ts at) ∙ before
 
 -- where the machine fails there is no tree
 pub no_tree : (tokens : List TokenKind) → all_run tokens ≡ None → (tree : Expression) → Reads tokens tree → ⊥

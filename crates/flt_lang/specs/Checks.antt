@@ -4,11 +4,11 @@ use Rattle.flt_words.specs.declared.token.Operator.{Operator}
 use Rattle.flt_words.specs.declared.token.Operator.TheVariants.{Divide, Remainder}
 use Rattle.flt_words.specs.declared.fault.ExprFault.{ExprFault}
 use Rattle.flt_words.specs.declared.fault.ExprFault.TheVariants as fault
-use Rattle.flt_lang.specs.declared.node.Node.{Node}
-use Rattle.flt_lang.specs.declared.node.Node.TheVariants as node
-use Rattle.flt_lang.specs.Tree.{NumberTree, literal, len, named, load, negated, applied, TruthTree, compared, Expression}
-use Rattle.flt_lang.specs.Resolved.{some_primitive}
-use Rattle.flt_lang.specs.Counts.{words_of, bound_of}
+use Rattle.flt_tree.specs.declared.node.Node.{Node}
+use Rattle.flt_tree.specs.declared.node.Node.TheVariants as node
+use Rattle.flt_tree.specs.Tree.{NumberTree, literal, len, named, load, negated, applied, TruthTree, compared, Expression}
+use Rattle.flt_tree.specs.Resolved.{some_primitive}
+use Rattle.flt_tree.specs.Counts.{words_of, bound_of}
 
 -- the operators whose right side may not be 0
 abbrev pub is_division : Operator → Bool

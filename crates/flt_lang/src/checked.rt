@@ -1,12 +1,12 @@
 //! Expressions of which code can be made.
 
 ghost use Rattle.std.specs.Prelude.{◌≡◌, ◌≤◌, false, IfOk, IfErr, Some, None};
-ghost use Rattle.flt_lang.specs.Resolved.{IsResolved, some_primitive};
-ghost use Rattle.flt_lang.specs.Counts.{words_of, bound_of};
+ghost use Rattle.flt_tree.specs.Resolved.{IsResolved, some_primitive};
+ghost use Rattle.flt_tree.specs.Counts.{words_of, bound_of};
 ghost use Rattle.flt_lang.specs.Checks.{divides_by_zero, check_fault};
 
-use crate::expr::Expr;
 use crate::sums;
+use flt_tree::Expr;
 use flt_words::ExprFault;
 use std::alloc::Allocator;
 

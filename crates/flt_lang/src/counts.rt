@@ -1,7 +1,7 @@
 //! The counts of a checked expression.
 
 ghost use Rattle.std.specs.Prelude.{◌≡◌};
-ghost use Rattle.flt_lang.specs.Counts.{tests_of, nodes_of, words_of, bound_of};
+ghost use Rattle.flt_tree.specs.Counts.{tests_of, nodes_of, words_of, bound_of};
 
 use crate::checked::Checked;
 use crate::sums;

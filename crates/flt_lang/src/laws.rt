@@ -2,8 +2,8 @@
 
 ghost use Rattle.std.specs.Prelude.{◌≡◌, List};
 ghost use Rattle.flt_words.specs.declared.token.TokenKind.{TokenKind};
-ghost use Rattle.flt_lang.specs.Tree.{Expression};
-ghost use Rattle.flt_lang.specs.Grammar.{Reads};
+ghost use Rattle.flt_tree.specs.Tree.{Expression};
+ghost use Rattle.flt_tree.specs.Grammar.{Reads};
 
 /// No tokens have two trees.
 pub fn one_tree()

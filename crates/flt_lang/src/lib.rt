@@ -4,25 +4,13 @@
 
 mod checked;
 mod counts;
-mod expr;
-mod fits;
 pub mod laws;
-mod nesting;
-mod net;
-mod node;
-mod node_counts;
-mod quals;
-mod reading;
+mod parser;
 mod resolving;
 mod sums;
-mod value;
 
 pub use checked::{Checked, check};
 pub use counts::{bound, nodes, tests, words};
-pub use expr::Expr;
-pub use net::Ip4Net;
-pub use node::Node;
-pub use quals::{Direction, FullQuals, Quals};
-pub use reading::parse;
+pub use flt_tree::{Direction, Dotted, Expr, FullQuals, Ip4Net, NetMask, Node, Quals, Value};
+pub use parser::parse;
 pub use resolving::resolve;
-pub use value::{Dotted, NetMask, Value};

@@ -2,13 +2,11 @@
 
 ghost use Rattle.std.specs.Prelude.{◌≡◌, map, IfOk, IfErr, Some, None};
 ghost use Rattle.std.specs.List.{list_any};
-ghost use Rattle.flt_lang.specs.Filled.{filled, inherited_nodes, completed_node, only_host};
-ghost use Rattle.flt_lang.specs.Resolved.{fill_fault, nodes_fault, IsResolved, is_misfit_node};
-ghost use Rattle.flt_lang.specs.Resolved.{is_out_of_range_node, has_past_bits_node};
+ghost use Rattle.flt_tree.specs.Filled.{filled, inherited_nodes, completed_node, only_host};
+ghost use Rattle.flt_tree.specs.Resolved.{fill_fault, nodes_fault, IsResolved, is_misfit_node};
+ghost use Rattle.flt_tree.specs.Resolved.{is_out_of_range_node, has_past_bits_node};
 
-use crate::expr::Expr;
-use crate::node::Node;
-use crate::quals::Quals;
+use flt_tree::{Expr, Node, Quals};
 use flt_words::{ExprFault, ValueType};
 use std::alloc::Allocator;
 

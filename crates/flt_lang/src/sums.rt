@@ -1,14 +1,15 @@
 //! The counts of an expression, each in one pass over its nodes.
 
 ghost use Rattle.std.specs.Prelude.{◌≡◌, ◌≤◌, ◌*◌, ◌^◌, sum_by, fold, false};
-ghost use Rattle.flt_lang.specs.Counts.{tests_of, nodes_of, words_of, bound_of};
-ghost use Rattle.flt_lang.specs.Counts.{node_tests, node_size};
-ghost use Rattle.flt_lang.specs.Heights.{climb};
-ghost use Rattle.flt_lang.specs.Resolved.{some_primitive};
-ghost use Rattle.flt_lang.specs.Checks.{divides_by_zero, zero_divided};
+ghost use Rattle.flt_tree.specs.Counts.{tests_of, nodes_of, words_of, bound_of};
+ghost use Rattle.flt_tree.specs.Counts.{node_tests, node_size};
+ghost use Rattle.flt_tree.specs.Heights.{climb};
+ghost use Rattle.flt_tree.specs.Resolved.{some_primitive};
+ghost use Rattle.flt_lang.specs.Checks.{divides_by_zero, is_division_node, is_zero_node};
+ghost use Rattle.flt_lang.specs.Checks.{zero_divided};
 
-use crate::expr::Expr;
-use crate::node::Node;
+use flt_tree::{Expr, Node};
+use flt_words::Operator;
 use std::alloc::Allocator;
 
 fn sum_of_tests(nodes: &[Node]) -> u128
@@ -48,16 +49,28 @@ fn highest(nodes: &[Node]) -> usize
     highest
 }
 
+fn is_zero(node: Node) -> bool
+    ensures { result ≡ is_zero_node node }
+{
+    matches!(node, Node::Literal(0))
+}
+
+fn is_division(node: Node) -> bool
+    ensures { result ≡ is_division_node node }
+{
+    matches!(node, Node::Apply(Operator::Divide | Operator::Remainder))
+}
+
 /// Whether a division stands right behind the number 0.
 fn has_divided_zero(nodes: &[Node]) -> bool
     ensures { result ≡ zero_divided false nodes.now }
 {
     let mut zero = false;
-    for next in nodes {
-        if next.is_division() && zero {
+    for &next in nodes {
+        if is_division(next) && zero {
             return true;
         }
-        zero = next.is_zero();
+        zero = is_zero(next);
     }
     false
 }

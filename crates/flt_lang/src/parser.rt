@@ -1,0 +1,43 @@
+//! The parser.
+
+ghost use Rattle.std.specs.Prelude.{◌≡◌, ◌↔◌, ◌⊎◌, Err, IfOk, IfErr};
+ghost use Rattle.flt_tree.specs.Tree.{Expression};
+ghost use Rattle.flt_tree.specs.Grammar.{Reads, kinds_of};
+ghost use Rattle.flt_tree.specs.Machine.{IsReadFault};
+ghost use Rattle.flt_tree.specs.Nesting.{IsTooDeep};
+
+use flt_tree::{Expr, Reader, is_nested_too_deep};
+use flt_words::{ExprFault, Token};
+use std::alloc::Allocator;
+
+/// Reads the tokens of a whole expression.
+///
+/// `NestedTooDeep` is reported before anything else is looked at, `NotAnExpression` where the
+/// tokens have no tree. `Memory` comes in place of the result where the nodes, or what waits for an
+/// operand, cannot be kept.
+pub fn parse<A: Allocator + Clone>(alloc: A, tokens: &[Token]) -> Result<Expr<A>, ExprFault>
+    ensures deep { (result ≡ Err ExprFault.NestedTooDeep) ↔ IsTooDeep tokens.now }
+    ensures ok { IfOk result (λ tree. Reads (kinds_of tokens.now) tree) }
+    ensures none { result ≡ Err ExprFault.NotAnExpression
+        → (tree : Expression) → Reads (kinds_of tokens.now) tree → ⊥ }
+    ensures err { IfErr result (λ fault. (fault ≡ ExprFault.NestedTooDeep)
+        ⊎ (fault ≡ ExprFault.NotAnExpression) ⊎ (fault ≡ ExprFault.Memory)) }
+{
+    if is_nested_too_deep(tokens) {
+        return Err(ExprFault::NestedTooDeep);
+    }
+    read(alloc, tokens)
+}
+
+/// The tree of the tokens.
+#[tactic(auto, using(crate::proofs::Parsing::no_tree))]
+fn read<A: Allocator + Clone>(alloc: A, tokens: &[Token]) -> Result<Expr<A>, ExprFault>
+    ensures ok { IfOk result (λ tree. Reads (kinds_of tokens.now) tree) }
+    ensures none { result ≡ Err ExprFault.NotAnExpression
+        → (tree : Expression) → Reads (kinds_of tokens.now) tree → ⊥ }
+    ensures err { IfErr result IsReadFault }
+{
+    let mut reader = Reader::new(alloc)?;
+    reader.read(tokens)?;
+    Ok(reader.into_expr())
+}

@@ -1,0 +1,73 @@
+-- What a bare value inherits, and what is filled in where it is left out.
+use Rattle.std.specs.Prelude.{List, [], ◌∷◌, Some, None, unwrap_or}
+use Rattle.flt_words.specs.declared.token.Join.TheVariants as join
+use Rattle.flt_words.specs.declared.token.ValueType.{ValueType}
+use Rattle.flt_words.specs.declared.token.ValueType.TheVariants.{Host}
+use Rattle.flt_tree.specs.declared.quals.Direction.TheVariants as direction
+use Rattle.flt_tree.specs.declared.quals.Quals.{Quals}
+use Rattle.flt_tree.specs.declared.quals.FullQuals.{FullQuals}
+use Rattle.flt_tree.specs.declared.node.Node.{Node}
+use Rattle.flt_tree.specs.declared.node.Node.TheVariants as node
+use Rattle.flt_tree.specs.Tree.{TruthTree, bare, valued, qualified, denied, joined, Expression, empty, truth}
+
+-- the qualifiers of the last value in a tree that has some written before it, or else q
+abbrev pub latest : Quals → TruthTree → Quals
+latest q (valued p v) = p
+latest q (denied a) = latest q a
+latest q (joined j a b) = latest (latest q a) b
+latest q _ = q
+
+-- each bare value takes the qualifiers of the nearest value to its left that has some, or q where
+-- there is none
+abbrev pub inherited : Quals → TruthTree → TruthTree
+inherited q (bare v) = valued q v
+inherited q (denied a) = denied (inherited q a)
+inherited q (joined j a b) = joined j (inherited q a) (inherited (latest q a) b)
+inherited q a = a
+
+-- a type that is left out is `host`, a direction `src or dst`
+abbrev pub type_or_host : Quals → ValueType
+type_or_host q = unwrap_or q.value_type Host
+
+abbrev pub full : Quals → FullQuals
+full q =
+    record {
+      protocol = q.protocol;
+      direction = unwrap_or q.direction (direction.Both join.Or);
+      value_type = type_or_host q;
+    }
+
+abbrev pub completed : TruthTree → TruthTree
+completed (valued q v) = qualified (full q) v
+completed (denied a) = denied (completed a)
+completed (joined j a b) = joined j (completed a) (completed b)
+completed a = a
+
+-- where nothing is to the left
+abbrev pub only_host : Quals
+only_host = record { protocol = None; direction = None; value_type = Some Host }
+
+abbrev pub expr_inherited : Expression → Expression
+expr_inherited empty = empty
+expr_inherited (truth a) = truth (inherited only_host a)
+
+abbrev pub filled : Expression → Expression
+filled empty = empty
+filled (truth a) = truth (completed (inherited only_host a))
+
+-- the same over the nodes
+abbrev pub next_latest : Quals → Node → Quals
+next_latest q (node.Valued p v) = p
+next_latest q _ = q
+
+abbrev pub inherited_node : Quals → Node → Node
+inherited_node q (node.Bare v) = node.Valued q v
+inherited_node q n = n
+
+abbrev pub inherited_nodes : Quals → List Node → List Node
+inherited_nodes q [] = []
+inherited_nodes q (n ∷ rest) = inherited_node q n ∷ inherited_nodes (next_latest q n) rest
+
+abbrev pub completed_node : Node → Node
+completed_node (node.Valued q v) = node.Qualified (full q) v
+completed_node n = n
