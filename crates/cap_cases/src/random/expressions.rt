@@ -1,6 +1,6 @@
 //! Expressions that are made at random, from the primitives and operators of the filter language.
 
-use crate::random::Random;
+use crate::random::choices::Random;
 use std::alloc::{AllocError, Global};
 
 /// How many captured bytes are enough for each field that a steady expression loads.

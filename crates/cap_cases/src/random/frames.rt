@@ -1,6 +1,6 @@
 //! Captured bytes of packets, half of them real.
 
-use crate::random::Random;
+use crate::random::choices::Random;
 
 /// How many bytes a packet has at most.
 pub const MOST_BYTES: usize = 128;

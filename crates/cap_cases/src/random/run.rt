@@ -1,7 +1,7 @@
 //! Runs of commands over memory, and comparisons of what comes of them.
 
-use crate::packets::{Packets, packets_of};
-use crate::random::Random;
+use crate::random::choices::Random;
+use crate::random::packets::{Packets, packets_of};
 use cap_command::{Command, Compile, Edit, Print, Shift};
 use cap_octet::{Format, Link, MemInput, MemOutput};
 use cap_tools::run;

@@ -1,7 +1,7 @@
 //! Captures that are made at random, and damaged.
 
-use crate::frames::{COOKED, ETHERNET, Frame, RAW};
-use crate::random::Random;
+use crate::random::choices::Random;
+use crate::random::frames::{COOKED, ETHERNET, Frame, RAW};
 use cap_octet::Order;
 use std::alloc::{AllocError, Global};
 

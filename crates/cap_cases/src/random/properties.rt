@@ -1,9 +1,9 @@
 //! What is compared in a round.
 
-use crate::captures::{Capture, damaged, make_capture};
-use crate::expressions::{self, ENOUGH, Expression, make_expression};
-use crate::packets::{Packet, Packets, packets_of};
-use crate::run::{Fuzzer, MEMORY, Outcome, Property};
+use crate::random::captures::{Capture, damaged, make_capture};
+use crate::random::expressions::{self, ENOUGH, Expression, make_expression};
+use crate::random::packets::{Packet, Packets, packets_of};
+use crate::random::run::{Fuzzer, MEMORY, Outcome, Property};
 use cap_command::{Command, Merge};
 use cap_octet::{Format, Link};
 use std::alloc::{AllocError, Global};

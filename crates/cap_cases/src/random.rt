@@ -1,0 +1,34 @@
+//! Runs commands on random input, and compares what comes of them with what is simple to know.
+
+mod captures;
+mod choices;
+mod expressions;
+mod frames;
+mod packets;
+mod properties;
+mod run;
+
+use crate::random::properties::compare_round;
+use crate::random::run::{Fuzzer, NAMES};
+use std::test::Fail;
+
+/// Runs so many rounds, and tells how often each property was looked at. Whether nothing differed.
+///
+/// Each round has the seed behind that of the one before it, so that a round is run again alone by
+/// its own seed.
+pub fn run_rounds(rt: &HostRuntime, seed: u64, rounds: u64) -> Result<bool, Fail> {
+    rt.println(format_args!("seed {seed}, {rounds} rounds"))?;
+    let mut fuzzer = Fuzzer::new(rt)?;
+    for round in 0..rounds {
+        compare_round(&mut fuzzer, seed.wrapping_add(round))?;
+        if let Some(failure) = fuzzer.failure {
+            return Err(Fail::from(failure));
+        }
+    }
+    for (name, count) in NAMES.iter().zip(fuzzer.counts.iter()) {
+        rt.println(format_args!("{name}: {count}"))?;
+    }
+    let differing = fuzzer.differing;
+    rt.println(format_args!("{differing} differ"))?;
+    Ok(differing == 0)
+}
