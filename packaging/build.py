@@ -5,7 +5,8 @@ usage: build.py PROGRAM
 
 A crate is proved as soon as those that it needs are, many side by side on all processors. The one
 with the longest chain of crates above it goes first: it has as many jobs as there are processors,
-and the others run beside it by `nice`, on what it leaves idle. A run of rt keeps other runs out of
+and the others run beside it by `nice`, on what it leaves idle, with two jobs if their chain is
+nearly as long, and else with one: each job loads what the crate stands on anew. A run of rt keeps other runs out of
 the folders of its crate and of those that this one needs. So each crate is proved in a workspace of
 its own, out/crates/NAME: copies of the sources, links to the libraries that are built, and the
 crate's own out/, which is moved there and back. rt knows one crates.txt in a repository, so no
@@ -174,10 +175,9 @@ class Build:
         ready = [it for it in self.waiting if is_ready(it)]
         longest = max((it.chain for it in self.crates.values() if it not in self.proved), default=0)
         while ready and self.spare:
-            crate, jobs = ready[0], -(-self.spare // len(ready))
+            crate = ready[0]
             crate.is_urgent = crate.chain == longest
-            if crate.is_urgent:
-                jobs = min(PROCESSORS, self.spare)
+            jobs = min(self.spare, jobs_of(crate, longest))
             ready.remove(crate)
             self.waiting.remove(crate)
             self.spare -= jobs
@@ -263,6 +263,13 @@ class Build:
         for crate in self.crates.values():
             if crate.worker:
                 crate.worker.join()
+
+
+def jobs_of(crate, longest):
+    """Returns how many jobs the check of a crate has, given the longest chain that is left."""
+    if crate.is_urgent:
+        return PROCESSORS
+    return 2 if 4 * crate.chain >= 3 * longest else 1
 
 
 def most_jobs():
