@@ -15,7 +15,7 @@ use Rattle.flt_tree.specs.Tree.{Expression, empty, truth}
 use Rattle.cap_octet.specs.declared.link.Link.{Link}
 use Rattle.cap_octet.specs.declared.link.Link.TheVariants.{Ether}
 use Rattle.flt_gen.specs.Correct.{IsProgramOf}
-use Rattle.flt_gen.specs.Elementary.{Reading, Yes, No, Rejected}
+use Rattle.flt_code.specs.Elementary.{Reading, Yes, No, Rejected}
 use Rattle.flt_gen.specs.Reading.{holds}
 use Rattle.cap_filter.specs.Decisions.{ReturnsDecision}
 use Rattle.cap_filter.specs.Programs.{AreMade, IsMade, HasPrograms, steps_of_run, met_on, ran_at, ran_if, ran_on}

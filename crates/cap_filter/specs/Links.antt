@@ -4,7 +4,7 @@ use Rattle.std.specs.List.{position}
 use Rattle.std.specs.Option.{option_map}
 use Rattle.cap_octet.specs.declared.link.Link.{Link}
 use Rattle.cap_octet.specs.declared.link.Link.TheVariants.{Ether, Raw, Cooked}
-use Rattle.flt_gen.specs.Elementary.{link_type}
+use Rattle.flt_code.specs.Elementary.{link_type}
 
 -- a row for each: its number, and how its packets begin
 unfoldable pub link_types : List (ℕ × Link)

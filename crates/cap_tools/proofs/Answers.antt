@@ -21,7 +21,7 @@ use Rattle.flt_bpf.specs.Machine as bpf
 use Rattle.flt_bpf.specs.Machine.{machine, Answered}
 use Rattle.flt_tree.specs.Tree.{Expression, empty, truth}
 use Rattle.cap_octet.specs.declared.link.Link.{Link}
-use Rattle.flt_gen.specs.Elementary.{Reading, Yes, No, Rejected}
+use Rattle.flt_code.specs.Elementary.{Reading, Yes, No, Rejected}
 use Rattle.flt_gen.specs.Reading.{holds}
 use Rattle.cap_tools.specs.declared.selector.Verdict as code
 use Rattle.cap_tools.specs.declared.selector.Verdict.TheVariants as code_verdict

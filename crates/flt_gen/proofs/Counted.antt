@@ -19,23 +19,24 @@ use Rattle.flt_tree.specs.Counts as count
 use Rattle.flt_tree.specs.Resolved.{is_unfilled, any_primitive}
 use Rattle.cap_octet.specs.declared.link.Link.{Link}
 use Rattle.cap_octet.specs.declared.link.Link.TheVariants.{Ether, Raw, Cooked}
-use Rattle.flt_gen.specs.declared.elementary.FrameKind.{FrameKind}
-use Rattle.flt_gen.specs.declared.elementary.FrameKind.TheVariants as kind
-use Rattle.flt_gen.specs.declared.elementary.Offset.{Offset}
-use Rattle.flt_gen.specs.declared.elementary.Elementary.{Elementary}
-use Rattle.flt_gen.specs.declared.elementary.Ports.{Ports}
-use Rattle.flt_gen.specs.declared.elementary.Ports.TheVariants.{One, Between, Several}
+use Rattle.flt_code.specs.declared.elementary.FrameKind.{FrameKind}
+use Rattle.flt_code.specs.declared.elementary.FrameKind.TheVariants as kind
+use Rattle.flt_code.specs.declared.elementary.Offset.{Offset}
+use Rattle.flt_code.specs.declared.elementary.Elementary.{Elementary}
+use Rattle.flt_gen.specs.declared.wanted.Ports.{Ports}
+use Rattle.flt_gen.specs.declared.wanted.Ports.TheVariants.{One, Between, Several}
 use Rattle.flt_bpf.specs.declared.operation.Width.{Width}
-use Rattle.flt_gen.specs.declared.elementary.Sides.{Sides}
-use Rattle.flt_gen.specs.declared.elementary.Transport.{Transport}
-use Rattle.flt_gen.specs.Elementary.{has_ip_proto, has_ip6_proto}
-use Rattle.flt_gen.specs.Numbers.{accessors, accessor_tests}
-use Rattle.flt_gen.specs.Formula.{Formula, Single, Compare, Both, Either, Guard, Choose, Among, all_of, sides, checked_formula, guarded_formula}
-use Rattle.flt_gen.specs.Primitives.{any_proto, mac_tests, check_formula, cast_formula, proto_formula, net_of_kind, net_formula, net_test, ip6_formula, ether_host, port_formula, port_test, whole_field, any_sides, port_places, port_sides, ports_behind, ip_transport, ip6_transport, transport, value_formula}
+use Rattle.flt_code.specs.declared.elementary.Sides.{Sides}
+use Rattle.flt_gen.specs.declared.wanted.Transport.{Transport}
+use Rattle.flt_code.specs.Elementary.{has_ip_proto, has_ip6_proto}
+use Rattle.flt_code.specs.Numbers.{accessors, accessor_tests}
+use Rattle.flt_code.specs.Formula.{Formula, Single, Compare, Both, Either, Guard, Choose, Among, all_of, sides, checked_formula, guarded_formula}
+use Rattle.flt_gen.specs.Primitives.{any_proto, mac_tests, check_formula, cast_formula, proto_formula, net_of_kind, net_formula, net_test, ip6_formula, ether_host, port_formula, port_test, port_places, port_sides, ports_behind, ip_transport, ip6_transport, transport, value_formula}
+use Rattle.flt_code.specs.Formula.{whole_field, any_sides}
 use Rattle.flt_gen.specs.Reading.{formula}
 use Rattle.flt_gen.specs.Counts.{tests, nodes, words}
-use Rattle.flt_gen.specs.declared.elementary.NetTest.{NetTest}
-use Rattle.flt_gen.specs.declared.elementary.PortTest.{PortTest}
+use Rattle.flt_gen.specs.declared.wanted.NetTest.{NetTest}
+use Rattle.flt_gen.specs.declared.wanted.PortTest.{PortTest}
 use Rattle.flt_gen.proofs.Ascending.{Searchable}
 use Rattle.flt_gen.proofs.Exclusive.{Excluded, Apt, ip_no_ip6, ip_no_arp, ip_no_rarp, arp_no_rarp}
 

@@ -6,11 +6,11 @@ use Rattle.flt_bpf.specs.declared.operation.Width.TheVariants.{HalfWord, Byte}
 use Rattle.flt_bpf.specs.Machine.{field}
 use Rattle.cap_octet.specs.declared.link.Link.{Link}
 use Rattle.cap_octet.specs.declared.link.Link.TheVariants.{Ether, Raw, Cooked}
-use Rattle.flt_gen.specs.declared.elementary.FrameKind.TheVariants.{Ip, Ip6, Arp, Rarp}
-use Rattle.flt_gen.specs.declared.elementary.Elementary.{Elementary}
-use Rattle.flt_gen.specs.Elementary.{Yes, No, reading_of, with, masked, elementary_reads, kind_test}
+use Rattle.flt_code.specs.declared.elementary.FrameKind.TheVariants.{Ip, Ip6, Arp, Rarp}
+use Rattle.flt_code.specs.declared.elementary.Elementary.{Elementary}
+use Rattle.flt_code.specs.Elementary.{Yes, No, reading_of, with, masked, elementary_reads, kind_test}
 use Rattle.flt_gen.proofs.Ascending.{Searchable}
-use Rattle.flt_gen.specs.Formula.{Formula, Single, Compare, Both, Either, Except, Guard, Fork, Choose, Among, both, either, reads}
+use Rattle.flt_code.specs.Formula.{Formula, Single, Compare, Both, Either, Except, Guard, Fork, Choose, Among, both, either, reads}
 
 -- a field that is one number is no other
 other_value : (o : Option ℕ) (mask : Option ℕ) (a b : ℕ) → (a == b) ≡ false → reading_of (with o (λ v. Some (masked mask v == a))) ≡ Yes → reading_of (with o (λ v. Some (masked mask v == b))) ≡ No

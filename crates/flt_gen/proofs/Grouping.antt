@@ -17,10 +17,10 @@ use Rattle.flt_tree.specs.Tree.{TruthTree, check, cast, sized, bare, valued, qua
 use Rattle.flt_tree.specs.Counts as count
 use Rattle.flt_tree.specs.Resolved.{is_unfilled, any_primitive}
 use Rattle.cap_octet.specs.declared.link.Link.{Link}
-use Rattle.flt_gen.specs.Elementary.{Reading, Yes, No, Rejected}
-use Rattle.flt_gen.specs.declared.elementary.Hosts.TheVariants as hosts
-use Rattle.flt_gen.specs.declared.elementary.Ports.TheVariants.{One, Several}
-use Rattle.flt_gen.specs.Formula.{Formula, Both, Either, Except, is_one_of, both, either, negated, reads}
+use Rattle.flt_code.specs.Elementary.{Reading, Yes, No, Rejected}
+use Rattle.flt_gen.specs.declared.wanted.Hosts.TheVariants as hosts
+use Rattle.flt_gen.specs.declared.wanted.Ports.TheVariants.{One, Several}
+use Rattle.flt_code.specs.Formula.{Formula, Both, Either, Except, is_one_of, both, either, negated, reads}
 use Rattle.flt_gen.specs.Primitives.{net_test, net_formula, port_test, port_formula, qualified_formula, value_formula}
 use Rattle.flt_gen.specs.Reading.{formula}
 use Rattle.flt_gen.specs.Counts.{tests, nodes, words}

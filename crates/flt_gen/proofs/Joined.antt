@@ -1,4 +1,4 @@
--- The code of joined tests is that of their formula.
+-- The code of guarded formulas and of groups is that of their formula.
 use Rattle.std.proofs.Common.{◌≡◌, ℕ, List, [], ◌∷◌, length, Option, Some, None, Result, refl, sym, ap, subst, ◌∙◌, arith}
 use Rattle.std.specs.Prelude.{IfOk}
 use Rattle.std.specs.declared.alloc.AllocError.{AllocError}
@@ -8,24 +8,20 @@ use Rattle.flt_words.specs.declared.token.Protocol.TheVariants.{Ip, Arp, Rarp}
 use Rattle.flt_words.specs.declared.token.ValueType.{ValueType}
 use Rattle.flt_words.specs.declared.token.ValueType.TheVariants.{Host, Port}
 use Rattle.cap_octet.specs.declared.link.Link.{Link}
-use Rattle.flt_gen.specs.declared.elementary.Elementary.{Elementary}
-use Rattle.flt_gen.specs.declared.elementary.Hosts.{Hosts}
-use Rattle.flt_gen.specs.declared.elementary.Hosts.TheVariants as hosts
-use Rattle.flt_gen.specs.declared.elementary.NetTest.{NetTest}
-use Rattle.flt_gen.specs.declared.elementary.PortTest.{PortTest}
-use Rattle.flt_gen.specs.declared.elementary.Ports.TheVariants.{One, Several}
-use Rattle.flt_gen.specs.Numbers.{accessor_tests}
+use Rattle.flt_code.specs.declared.elementary.Elementary.{Elementary}
+use Rattle.flt_gen.specs.declared.wanted.Hosts.{Hosts}
+use Rattle.flt_gen.specs.declared.wanted.Hosts.TheVariants as hosts
+use Rattle.flt_gen.specs.declared.wanted.NetTest.{NetTest}
+use Rattle.flt_gen.specs.declared.wanted.PortTest.{PortTest}
+use Rattle.flt_gen.specs.declared.wanted.Ports.TheVariants.{One, Several}
+use Rattle.flt_code.specs.Numbers.{accessor_tests}
 use Rattle.flt_gen.specs.Primitives.{net_test, net_formula, port_test, port_formula}
 use Rattle.flt_gen.specs.Group.{Group, hosts_formula, one_formula, several_formula, formula_by, group_formula}
-use Rattle.flt_gen.specs.Formula.{Formula, all_of, guarded_formula, checked_formula}
-use Rattle.flt_gen.specs.declared.follow.Knowledge.{Knowledge}
-use Rattle.flt_gen.specs.Follow.{nothing}
-use Rattle.flt_gen.specs.Code.{Block, block, emit_elementary, emit_formula, emit_all, emit_accessors}
-
-pub all_emitted : (link : Link) (known : Knowledge) (ts : List Elementary) (hit miss : ℕ) (c : List Insn) → emit_formula link known (all_of ts) hit miss c ≡ emit_all known ts hit miss c
-all_emitted link known [] hit miss c = refl
-all_emitted link known (t ∷ []) hit miss c = refl
-all_emitted link known (t ∷ u ∷ ts) hit miss c = ap (λ (e : Block). emit_elementary known t e.entry miss e.code) (all_emitted link known (u ∷ ts) hit miss c)
+use Rattle.flt_code.specs.Formula.{Formula, guarded_formula, checked_formula}
+use Rattle.flt_code.specs.declared.follow.Knowledge.{Knowledge}
+use Rattle.flt_code.specs.Follow.{nothing}
+use Rattle.flt_code.specs.Code.{Block, block, emit_elementary, emit_formula, emit_all}
+use Rattle.flt_gen.specs.ProgramCode.{emit_accessors}
 
 guarded_emitted : (link : Link) (known : Knowledge) (ts : List Elementary) (f : Formula) (hit miss : ℕ) (c : List Insn) → emit_formula link known (guarded_formula ts f) hit miss c ≡ (let e = emit_formula link known f hit miss c in emit_all known ts e.entry miss e.code)
 guarded_emitted link known [] f hit miss c = refl

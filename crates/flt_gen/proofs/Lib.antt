@@ -1,10 +1,7 @@
-pub mod Backwards
 pub mod Joined
 pub mod Tails
-pub mod Search
 pub mod Ascending
 pub mod Onward
-pub mod Following
 pub mod Exclusive
 pub mod NetworkKinds
 pub mod Numbers

@@ -15,7 +15,7 @@ use Rattle.flt_bpf.specs.declared.operation.Width.TheVariants.{HalfWord}
 use Rattle.flt_bpf.specs.Machine.{number_at}
 use Rattle.cap_octet.specs.declared.link.Link.{Link}
 use Rattle.cap_octet.specs.declared.link.Link.TheVariants.{Ether, Raw, Cooked}
-use Rattle.flt_gen.specs.Elementary.{Reading, Yes, No, Rejected, reading_of, with, elementary_reads, is_at, kind_test, link_type}
+use Rattle.flt_code.specs.Elementary.{Reading, Yes, No, Rejected, reading_of, with, elementary_reads, is_at, kind_test, link_type}
 use Rattle.flt_gen.specs.Laws.{frame_kind, carries}
 
 -- a test reads what a packet's header is

@@ -24,10 +24,10 @@ use Rattle.flt_words.specs.declared.token.Protocol.{Protocol}
 use Rattle.flt_words.specs.declared.token.Protocol.TheVariants.{Ether, Tcp, Udp, Icmp}
 use Rattle.flt_tree.specs.Tree.{NumberTree, literal, len, named, load, negated, applied}
 use Rattle.cap_octet.specs.declared.link.Link.{Link}
-use Rattle.flt_gen.specs.Elementary.{with, network}
-use Rattle.flt_gen.specs.Numbers.{width_of, base, result_of, number}
+use Rattle.flt_code.specs.Elementary.{with, network}
+use Rattle.flt_code.specs.Numbers.{width_of, base, result_of, number}
 use Rattle.flt_tree.specs.Counts.{number_words}
-use Rattle.flt_gen.specs.Code.{plain, computation, takes, constant, constant_operand, branch_insn, emit_base, emit_transport, emit_accessor, emit_operands, emit_number}
+use Rattle.flt_code.specs.Code.{plain, computation, takes, constant, constant_operand, branch_insn, emit_base, emit_transport, emit_accessor, emit_operands, emit_number}
 use Rattle.flt_gen.proofs.Tails.{by_right}
 use Rattle.flt_bpf.proofs.Suffix.{answer_of, answer_after}
 use Rattle.flt_bpf.specs.declared.operation.Operation.TheVariants.{LoadAbsolute, LoadIndirect, Load, LoadHeaderLength, Store, Compute, Negate, Jump, CopyToIndex}

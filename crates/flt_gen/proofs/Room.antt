@@ -6,7 +6,7 @@ use Rattle.flt_words.specs.declared.token.Join.{Join}
 use Rattle.flt_words.specs.declared.token.Join.TheVariants.{And, Or}
 use Rattle.flt_tree.specs.declared.quals.FullQuals.{FullQuals}
 use Rattle.flt_tree.specs.declared.value.Value.{Value}
-use Rattle.flt_gen.specs.Formula.{Formula}
+use Rattle.flt_code.specs.Formula.{Formula}
 use Rattle.flt_gen.specs.Group.{Group, MOST_TOGETHER, same_type, same_protocol, same_direction, goes_with, with_member, member_number, group_and, larger_group, group_formula}
 use Rattle.flt_gen.proofs.Ascending.{length_inserted}
 use Rattle.flt_short.proofs.Basics.{both_true}
@@ -17,12 +17,12 @@ use Rattle.flt_tree.specs.declared.node.Node.TheVariants as node
 use Rattle.cap_octet.specs.declared.link.Link.{Link}
 use Rattle.flt_gen.specs.declared.waiting.Waiting.{Waiting}
 use Rattle.flt_gen.specs.declared.waiting.Waiting.TheVariants.{Index, Left}
-use Rattle.flt_gen.specs.Numbers.{width_of}
+use Rattle.flt_code.specs.Numbers.{width_of}
 use Rattle.flt_gen.specs.Primitives.{check_formula, cast_formula, sized_formula, qualified_formula}
-use Rattle.flt_gen.specs.Follow.{nothing}
+use Rattle.flt_code.specs.Follow.{nothing}
 use Rattle.flt_words.specs.declared.token.Operator.{Operator}
 use Rattle.flt_words.specs.declared.token.Comparison.{Comparison}
-use Rattle.flt_gen.specs.Code.{plain, computation, takes, emit_comparison}
+use Rattle.flt_code.specs.Code.{plain, computation, takes, emit_comparison}
 use Rattle.flt_gen.specs.Walk.{Walk, finish_relation, finish_number, with_code, begin_operands, finish_formula, flush_members, flush_group, finish_group, emit_value, emit_join, emit_truth_node, is_truth_node, emit_node, emit_applied, emit_compared, emit_both_nodes, or_else, emit_nodes}
 use Rattle.flt_gen.proofs.Tails.{extends_none, comparison_extends, accessor_extends, emitted_extends, accessors_extend}
 use Rattle.flt_bpf.specs.declared.operation.Operation.TheVariants.{Load, Store}

@@ -9,7 +9,7 @@ use Rattle.flt_tree.specs.Nodes.{expr_nodes}
 use Rattle.flt_tree.specs.Machine.{expr_onto}
 use Rattle.flt_lang.proofs.NodesBack.{expr_turned}
 use Rattle.cap_octet.specs.declared.link.Link.{Link}
-use Rattle.flt_gen.specs.Code.{expression_code, program_code}
+use Rattle.flt_gen.specs.ProgramCode.{expression_code, program_code}
 use Rattle.flt_gen.specs.Walk.{Walk, emit_node, emit_both_nodes, emit_nodes, start, insns_of}
 use Rattle.flt_gen.proofs.Walking.{expression_walked}
 use Rattle.flt_gen.proofs.Room.{IsLow, node_low, both_grown, walked_longer, both_walked, one_walked, last_walked}

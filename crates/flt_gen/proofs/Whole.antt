@@ -13,13 +13,14 @@ use Rattle.flt_tree.specs.Counts.{words_of, bound_of, truth_tests, truth_size}
 use Rattle.flt_tree.specs.Resolved.{is_unfilled, any_primitive, some_primitive}
 use Rattle.flt_short.specs.Alike.{Replaces}
 use Rattle.cap_octet.specs.declared.link.Link.{Link}
-use Rattle.flt_gen.specs.declared.elementary.Elementary.TheVariants.{Outcome}
-use Rattle.flt_gen.specs.Elementary.{Reading, Yes, No, Rejected}
-use Rattle.flt_gen.specs.Formula.{Formula, Single, reads}
+use Rattle.flt_code.specs.declared.elementary.Elementary.TheVariants.{Outcome}
+use Rattle.flt_code.specs.Elementary.{Reading, Yes, No, Rejected}
+use Rattle.flt_code.specs.Formula.{Formula, Single, reads}
 use Rattle.flt_gen.specs.Reading.{holds}
 use Rattle.flt_gen.specs.Counts.{words, tests, nodes, short_bound_of}
-use Rattle.flt_gen.specs.Follow.{nothing}
-use Rattle.flt_gen.specs.Code.{plain, emit_formula, Block, returns_code, expression_code, from_entry, program_code}
+use Rattle.flt_code.specs.Follow.{nothing}
+use Rattle.flt_code.specs.Code.{plain, emit_formula, Block}
+use Rattle.flt_gen.specs.ProgramCode.{returns_code, expression_code, from_entry, program_code}
 use Rattle.flt_gen.specs.Correct.{Decides, IsProgramOf}
 use Rattle.flt_short.specs.Layout.{JUMP, JumpsAreNeeded, IsShort}
 use Rattle.flt_bpf.proofs.Suffix.{IsFaultless, valid_if_faultless, faultless_drop, ends_drop, answer_drop, machine_answers}

@@ -3,7 +3,7 @@
 use Rattle.std.specs.Prelude.{ℕ, ◌+◌, ◌*◌, max, length}
 use Rattle.flt_tree.specs.Tree.{Expression}
 use Rattle.flt_tree.specs.Counts.{number_words, number_size, tests_of, nodes_of}
-use Rattle.flt_gen.specs.Formula.{Formula, Single, Compare, Both, Either, Except, Guard, Fork, Choose, Among}
+use Rattle.flt_code.specs.Formula.{Formula, Single, Compare, Both, Either, Except, Guard, Fork, Choose, Among}
 
 abbrev pub words : Formula → ℕ
 words (Single t) = 0

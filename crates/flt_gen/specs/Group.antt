@@ -13,15 +13,16 @@ use Rattle.flt_tree.specs.declared.value.Value.{Value}
 use Rattle.flt_tree.specs.declared.value.Value.TheVariants as value
 use Rattle.flt_tree.specs.Tree.{TruthTree, qualified, denied, joined}
 use Rattle.cap_octet.specs.declared.link.Link.{Link}
-use Rattle.flt_gen.specs.declared.elementary.FrameKind.{FrameKind}
-use Rattle.flt_gen.specs.declared.elementary.FrameKind.TheVariants as kind
-use Rattle.flt_gen.specs.declared.elementary.Ports.TheVariants.{One, Several}
-use Rattle.flt_gen.specs.declared.elementary.Hosts.{Hosts}
-use Rattle.flt_gen.specs.declared.elementary.Hosts.TheVariants as hosts
-use Rattle.flt_gen.specs.declared.elementary.Elementary.TheVariants.{Outcome}
-use Rattle.flt_gen.specs.Elementary.{kind_test}
-use Rattle.flt_gen.specs.Formula.{Formula, Single, Both, Either, Except, Guard, Choose}
-use Rattle.flt_gen.specs.Primitives.{address_places, net_test, net_sides, net_formula, any_sides, port_test, port_formula, qualified_formula}
+use Rattle.flt_code.specs.declared.elementary.FrameKind.{FrameKind}
+use Rattle.flt_code.specs.declared.elementary.FrameKind.TheVariants as kind
+use Rattle.flt_gen.specs.declared.wanted.Ports.TheVariants.{One, Several}
+use Rattle.flt_gen.specs.declared.wanted.Hosts.{Hosts}
+use Rattle.flt_gen.specs.declared.wanted.Hosts.TheVariants as hosts
+use Rattle.flt_code.specs.declared.elementary.Elementary.TheVariants.{Outcome}
+use Rattle.flt_code.specs.Elementary.{kind_test}
+use Rattle.flt_code.specs.Formula.{Formula, Single, Both, Either, Except, Guard, Choose}
+use Rattle.flt_gen.specs.Primitives.{address_places, net_test, net_sides, net_formula, port_test, port_formula, qualified_formula}
+use Rattle.flt_code.specs.Formula.{any_sides}
 use Rattle.flt_gen.specs.Reading.{formula}
 
 -- the type of its members, the protocol and the direction that are asked for; the address or port

@@ -1,13 +1,8 @@
-pub mod Elementary
-pub mod Formula
-pub mod Numbers
 pub mod Primitives
 pub mod Reading
 pub mod Group
-pub mod Code
+pub mod ProgramCode
 pub mod Counts
 pub mod Walk
 pub mod Correct
-pub mod Follow
-pub mod Emits
 pub mod Laws

@@ -2,13 +2,11 @@
 use Rattle.std.specs.Prelude.{ℕ, ◌+◌, ◌-◌, ◌*◌, ◌/◌, ◌%◌, ◌^◌, min, max, false, List, [], ◌∷◌, Option, Some, None}
 use Rattle.cap_octet.specs.Assigned.{IPPROTO_ICMP, IPPROTO_TCP, IPPROTO_UDP, IPPROTO_ICMPV6, ETHERNET_TYPE_OFFSET, LINUX_SLL_TYPE_OFFSET}
 use Rattle.std.specs.Option.{option_map}
-use Rattle.flt_bpf.specs.declared.operation.Width.{Width}
 use Rattle.flt_bpf.specs.declared.operation.Width.TheVariants.{Word, HalfWord, Byte}
 use Rattle.flt_words.specs.declared.token.Comparison.TheVariants.{NotEqual, AtMost, AtLeast, Equal}
 use Rattle.flt_words.specs.declared.token.Protocol.{Protocol}
 use Rattle.flt_words.specs.declared.token.Protocol.TheVariants as protocol
-use Rattle.flt_words.specs.declared.token.Side.TheVariants.{Source, Destination}
-use Rattle.flt_words.specs.declared.token.Join.TheVariants.{And, Or}
+use Rattle.flt_words.specs.declared.token.Side.TheVariants.{Destination}
 use Rattle.flt_words.specs.declared.token.ValueType.{ValueType}
 use Rattle.flt_words.specs.declared.token.ValueType.TheVariants.{Host, Net, Port, PortRange, Proto}
 use Rattle.flt_words.specs.declared.token.Size.{Size}
@@ -25,21 +23,20 @@ use Rattle.flt_tree.specs.Nets.{first_bits, ip4_net}
 use Rattle.flt_tree.specs.Tree.{literal, len}
 use Rattle.cap_octet.specs.declared.link.Link.{Link}
 use Rattle.cap_octet.specs.declared.link.Link.TheVariants.{Cooked}
-use Rattle.flt_gen.specs.declared.elementary.FrameKind.{FrameKind}
-use Rattle.flt_gen.specs.declared.elementary.FrameKind.TheVariants.{Ethernet, Ip, Ip6, Arp, Rarp}
-use Rattle.flt_gen.specs.declared.elementary.Offset.{Offset}
-use Rattle.flt_gen.specs.declared.elementary.Offset.TheVariants.{Fixed, AfterHeader}
-use Rattle.flt_gen.specs.declared.elementary.Elementary.{Elementary}
-use Rattle.flt_gen.specs.declared.elementary.Elementary.TheVariants.{Outcome, Field}
-use Rattle.flt_gen.specs.declared.elementary.MaskedField.{MaskedField}
-use Rattle.flt_gen.specs.declared.elementary.Ports.{Ports}
-use Rattle.flt_gen.specs.declared.elementary.Sides.{Sides}
-use Rattle.flt_gen.specs.declared.elementary.NetTest.{NetTest}
-use Rattle.flt_gen.specs.declared.elementary.PortTest.{PortTest}
-use Rattle.flt_gen.specs.declared.elementary.Transport.{Transport}
-use Rattle.flt_gen.specs.declared.elementary.Ports.TheVariants.{One, Between, Several}
-use Rattle.flt_gen.specs.Elementary.{is_at, compares_at, network, kind_test, first_fragment, has_ip_proto, has_ip6_proto}
-use Rattle.flt_gen.specs.Formula.{Formula, Single, Compare, Either, Guard, Fork, Choose, Among, all_of, guarded_formula, sides}
+use Rattle.flt_code.specs.declared.elementary.FrameKind.{FrameKind}
+use Rattle.flt_code.specs.declared.elementary.FrameKind.TheVariants.{Ethernet, Ip, Ip6, Arp, Rarp}
+use Rattle.flt_code.specs.declared.elementary.Offset.{Offset}
+use Rattle.flt_code.specs.declared.elementary.Offset.TheVariants.{Fixed, AfterHeader}
+use Rattle.flt_code.specs.declared.elementary.Elementary.{Elementary}
+use Rattle.flt_code.specs.declared.elementary.Elementary.TheVariants.{Outcome, Field}
+use Rattle.flt_gen.specs.declared.wanted.Ports.{Ports}
+use Rattle.flt_code.specs.declared.elementary.Sides.{Sides}
+use Rattle.flt_gen.specs.declared.wanted.NetTest.{NetTest}
+use Rattle.flt_gen.specs.declared.wanted.PortTest.{PortTest}
+use Rattle.flt_gen.specs.declared.wanted.Transport.{Transport}
+use Rattle.flt_gen.specs.declared.wanted.Ports.TheVariants.{One, Between, Several}
+use Rattle.flt_code.specs.Elementary.{is_at, compares_at, network, kind_test, first_fragment, has_ip_proto, has_ip6_proto}
+use Rattle.flt_code.specs.Formula.{Formula, Single, Compare, Guard, Fork, Choose, all_of, guarded_formula, sides, any_sides}
 
 -- protocols; of the kinds of frames at most one is yes
 
@@ -178,23 +175,6 @@ abbrev pub ip6_formula : Link → Direction → Option ℕ → ℕ → Formula
 ip6_formula link direction prefix address =
     Guard (kind_test link Ip6) (sides direction (ip6_tests prefix address (network link + 8))
     (ip6_tests prefix address (network link + 24)))
-
--- several numbers on a side, or on either. The source is compared with the first alone before the
--- destination is looked at: so a packet that ends between the two is read as by tests of one number
--- after the other
-
-abbrev pub whole_field : Offset → Width → MaskedField
-whole_field offset width = record { offset = offset; width = width; mask = None }
-
-abbrev pub any_sides : Direction → Sides → ℕ → List ℕ → Formula
-any_sides (direction.One Source) at first numbers = Among (whole_field at.source at.width) numbers
-any_sides (direction.One Destination) at first numbers =
-    Among (whole_field at.destination at.width) numbers
-any_sides (direction.Both Or) at first numbers =
-    Either (Single (compares_at at.source at.width Equal first))
-    (Either (Among (whole_field at.destination at.width) numbers)
-    (Among (whole_field at.source at.width) numbers))
-any_sides (direction.Both And) at first numbers = Single (Outcome false)
 
 -- ports
 

@@ -12,16 +12,17 @@ use Rattle.flt_tree.specs.declared.value.Value.{Value}
 use Rattle.flt_tree.specs.declared.node.Node.{Node}
 use Rattle.flt_tree.specs.declared.node.Node.TheVariants as node
 use Rattle.cap_octet.specs.declared.link.Link.{Link}
-use Rattle.flt_gen.specs.declared.code.Targets.{Targets}
+use Rattle.flt_code.specs.declared.code.Targets.{Targets}
 use Rattle.flt_gen.specs.declared.waiting.LeftTruth.{LeftTruth}
 use Rattle.flt_gen.specs.declared.waiting.Waiting.{Waiting}
 use Rattle.flt_gen.specs.declared.waiting.Waiting.TheVariants.{Index, Left}
-use Rattle.flt_gen.specs.Numbers.{width_of}
-use Rattle.flt_gen.specs.Formula.{Formula}
+use Rattle.flt_code.specs.Numbers.{width_of}
+use Rattle.flt_code.specs.Formula.{Formula}
 use Rattle.flt_gen.specs.Group.{Group, no_group, larger_group, group_formula}
 use Rattle.flt_gen.specs.Primitives.{check_formula, cast_formula, sized_formula, qualified_formula}
-use Rattle.flt_gen.specs.Follow.{nothing}
-use Rattle.flt_gen.specs.Code.{plain, emit_comparison, emit_accessor, computation, takes, emit_operands, Block, block, emit_formula, emit_accessors, returns_code}
+use Rattle.flt_code.specs.Follow.{nothing}
+use Rattle.flt_code.specs.Code.{plain, emit_comparison, emit_accessor, computation, takes, emit_operands, Block, block, emit_formula}
+use Rattle.flt_gen.specs.ProgramCode.{emit_accessors, returns_code}
 use Rattle.flt_bpf.specs.declared.operation.Operation.TheVariants.{Load, Store, Negate}
 use Rattle.flt_bpf.specs.declared.operation.Register.TheVariants.{Accumulator}
 use Rattle.flt_bpf.specs.declared.operation.Source.TheVariants.{Immediate, Length}

@@ -2,20 +2,19 @@
 
 ghost use Rattle.std.specs.Prelude.{◌≡◌, ◌+◌, ◌*◌, ◌≤◌, length};
 ghost use Rattle.flt_tree.specs.Nets.{first_bits};
-ghost use Rattle.flt_gen.specs.Elementary.{kind_test};
-ghost use Rattle.flt_gen.specs.Emits.{HasRoom, EmitsFormula, EmitsBehind};
+ghost use Rattle.flt_code.specs.Elementary.{kind_test};
+ghost use Rattle.flt_code.specs.Emits.{HasRoom, EmitsFormula, EmitsBehind};
 ghost use Rattle.flt_gen.specs.Group.{hosts_sides, any_hosts, hosts_formula};
 ghost use Rattle.flt_gen.specs.Primitives.{address_test, address_places, net_formula};
 ghost use Rattle.flt_gen.specs.Primitives.{ip6_test, ip6_tests, ip6_formula};
 
-use crate::among::emit_any_sides;
-use crate::code::Code;
-use crate::context::Context;
-use crate::elementary::{Elementary, FieldTest, FrameKind, Hosts, NetTest, Offset, Sides};
-use crate::emit::{emit_elementary, emit_sides};
-use crate::table::{kind_test, network};
+use crate::wanted::{Hosts, NetTest};
 use cap_octet::Link;
 use flt_bpf::operation::Width;
+use flt_code::{
+    Code, Context, Elementary, FieldTest, FrameKind, Offset, Sides, emit_any_sides,
+    emit_elementary, emit_sides, kind_test, network,
+};
 use flt_lang::Direction;
 use flt_words::{Comparison, Protocol};
 use std::alloc::{AllocError, Allocator};

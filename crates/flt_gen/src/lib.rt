@@ -2,21 +2,15 @@
 #![tactic(auto)]
 
 mod address;
-mod among;
-mod code;
-mod context;
-mod elementary;
-mod emit;
-mod follow;
 mod group;
 pub mod laws;
 mod number;
 mod port;
 mod primitive;
 mod program;
-mod table;
 mod value;
 mod waiting;
 mod walk;
+mod wanted;
 
 pub use program::generate;

@@ -1,21 +1,20 @@
 //! The code of arithmetic and of the tests that accessors ask for.
 
 ghost use Rattle.std.specs.Prelude.{◌≡◌, ◌^◌, ◌<◌, length, OnOk, IfOk, reverse};
-ghost use Rattle.flt_gen.specs.Code.{block, emit_base, emit_transport, emit_accessor};
-ghost use Rattle.flt_gen.specs.Code.{alu_operation, computation, takes, emit_operands};
-ghost use Rattle.flt_gen.specs.Code.{emit_all, emit_accessors};
-ghost use Rattle.flt_gen.specs.Follow.{nothing};
-ghost use Rattle.flt_gen.specs.Numbers.{accessor_tests, width_of};
-ghost use Rattle.flt_gen.specs.Emits.{HasRoom, Emits};
+ghost use Rattle.flt_code.specs.Code.{block, emit_base, emit_transport, emit_accessor};
+ghost use Rattle.flt_code.specs.Code.{alu_operation, computation, takes, emit_operands};
+ghost use Rattle.flt_code.specs.Code.{emit_all};
+ghost use Rattle.flt_gen.specs.ProgramCode.{emit_accessors};
+ghost use Rattle.flt_code.specs.Follow.{nothing};
+ghost use Rattle.flt_code.specs.Numbers.{accessor_tests, width_of};
+ghost use Rattle.flt_code.specs.Emits.{HasRoom, Emits};
 
-use crate::code::{Code, Targets};
-use crate::context::Context;
-use crate::elementary::FrameKind;
-use crate::emit::emit_all;
-use crate::table::{first_fragment, has_ip_proto, kind_test, network};
 use cap_octet::Link;
 use cap_octet::assigned::{IPPROTO_ICMP, IPPROTO_TCP, IPPROTO_UDP};
 use flt_bpf::operation::{AluOperation, Operand, Operation, Register, Source, Width};
+use flt_code::{
+    Code, Context, FrameKind, Targets, emit_all, first_fragment, has_ip_proto, kind_test, network,
+};
 use flt_words::{Operator, Protocol};
 use std::alloc::{AllocError, Allocator};
 

@@ -1,20 +1,20 @@
 //! The code of ports.
 
 ghost use Rattle.std.specs.Prelude.{◌≡◌, ◌+◌, ◌*◌, length};
-ghost use Rattle.flt_gen.specs.Emits.{HasRoom, EmitsFormula, EmitsBehind};
+ghost use Rattle.flt_code.specs.Emits.{HasRoom, EmitsFormula, EmitsBehind};
 ghost use Rattle.flt_gen.specs.Primitives.{port_is, port_between, port_places, port_sides};
 ghost use Rattle.flt_gen.specs.Primitives.{ports_behind, transport_ports, ip_transport};
 ghost use Rattle.flt_gen.specs.Primitives.{ip6_transport, port_formula};
 
-use crate::among::emit_any_sides;
-use crate::code::Code;
-use crate::context::Context;
-use crate::elementary::{Elementary, FrameKind, Offset, PortTest, Ports, Sides, Transport};
-use crate::emit::{emit_elementary, emit_fork, emit_sides};
-use crate::table::{compares_at, first_fragment, has_ip_proto, has_ip6_proto, kind_test, network};
+use crate::wanted::{PortTest, Ports, Transport};
 use cap_octet::Link;
 use cap_octet::assigned::{IPPROTO_TCP, IPPROTO_UDP};
 use flt_bpf::operation::Width;
+use flt_code::{
+    Code, Context, Elementary, FrameKind, Offset, Sides, compares_at, emit_any_sides,
+    emit_elementary, emit_fork, emit_sides, first_fragment, has_ip_proto, has_ip6_proto, kind_test,
+    network,
+};
 use flt_words::{Comparison, Protocol};
 use std::alloc::{AllocError, Allocator};
 

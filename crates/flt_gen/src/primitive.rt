@@ -1,23 +1,22 @@
 //! The code of primitives, row by row of their table.
 
 ghost use Rattle.std.specs.Prelude.{◌≡◌, ◌≤◌};
-ghost use Rattle.flt_gen.specs.Elementary.{kind_test};
-ghost use Rattle.flt_gen.specs.Formula.{Single};
-ghost use Rattle.flt_gen.specs.Emits.{HasRoom, EmitsFormula, EmitsBehind};
+ghost use Rattle.flt_code.specs.Elementary.{kind_test};
+ghost use Rattle.flt_code.specs.Formula.{Single};
+ghost use Rattle.flt_code.specs.Emits.{HasRoom, EmitsFormula, EmitsBehind};
 ghost use Rattle.flt_gen.specs.Primitives.{ether_proto, check_formula, proto_formula};
 ghost use Rattle.flt_gen.specs.Primitives.{ether_host, mac_tests, is_group_address, cast_formula};
 
-use crate::code::Code;
-use crate::context::Context;
-use crate::elementary::{Elementary, FieldTest, FrameKind, Offset};
-use crate::emit::{emit_all, emit_elementary, emit_sides};
-use crate::table::{compares_at, has_ip_proto, has_ip6_proto, is_at, kind_test, network};
 use cap_octet::Link;
 use cap_octet::assigned::{
     ETHERNET_TYPE_OFFSET, IPPROTO_ICMP, IPPROTO_ICMPV6, IPPROTO_TCP, IPPROTO_UDP,
     LINUX_SLL_TYPE_OFFSET,
 };
 use flt_bpf::operation::Width;
+use flt_code::{
+    Code, Context, Elementary, FieldTest, FrameKind, Offset, compares_at, emit_all,
+    emit_elementary, emit_sides, has_ip_proto, has_ip6_proto, is_at, kind_test, network,
+};
 use flt_lang::Direction;
 use flt_words::{Cast, Comparison, Protocol, Side};
 use std::alloc::{AllocError, Allocator};

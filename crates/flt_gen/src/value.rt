@@ -1,20 +1,18 @@
 //! The code of values with their qualifiers.
 
 ghost use Rattle.std.specs.Prelude.{◌+◌, ◌*◌, length};
-ghost use Rattle.flt_gen.specs.Emits.{HasRoom, EmitsFormula};
+ghost use Rattle.flt_code.specs.Emits.{HasRoom, EmitsFormula};
 ghost use Rattle.flt_gen.specs.Primitives.{host_formula, net_value_formula, qualified_formula};
 ghost use Rattle.flt_gen.specs.Primitives.{sized_formula};
 ghost use Rattle.flt_gen.specs.Group.{group_formula};
 
 use crate::address::{emit_hosts, emit_ip6, emit_net};
-use crate::code::Code;
-use crate::context::Context;
-use crate::elementary::{Hosts, NetTest, PortTest, Ports};
-use crate::emit::emit_comparison;
 use crate::group::Group;
 use crate::port::emit_ports;
 use crate::primitive::{emit_ether_host, emit_proto};
+use crate::wanted::{Hosts, NetTest, PortTest, Ports};
 use flt_bpf::operation::{Operand, Operation, Register, Source};
+use flt_code::{Code, Context, emit_comparison};
 use flt_lang::{Direction, FullQuals, Value};
 use flt_words::{Comparison, Protocol, Size, ValueType};
 use std::alloc::{AllocError, Allocator};

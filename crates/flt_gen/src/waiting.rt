@@ -2,7 +2,7 @@
 
 ghost use Rattle.std.specs.Prelude.{◌≡◌, List, [], ◌∷◌, OnOk, MatchOption};
 
-use crate::code::Targets;
+use flt_code::Targets;
 use flt_words::{Join, Protocol};
 use std::alloc::{AllocError, Allocator};
 use std::marker::Model;

@@ -5,17 +5,14 @@
 ghost use Rattle.std.specs.Prelude.{◌≡◌, ◌+◌, ◌^◌, ◌<◌, ◌≤◌, true, length, OnOk, IfOk};
 ghost use Rattle.std.specs.Prelude.{if◌then◌else◌};
 ghost use Rattle.flt_gen.specs.Group.{larger_group};
-ghost use Rattle.flt_gen.specs.Code.{block};
-ghost use Rattle.flt_gen.specs.Emits.{HasRoom};
+ghost use Rattle.flt_code.specs.Code.{block};
+ghost use Rattle.flt_code.specs.Emits.{HasRoom};
 ghost use Rattle.flt_gen.specs.Walk.{start, finish_truth, finish_relation, finish_number};
 ghost use Rattle.flt_gen.specs.Walk.{is_number_node, is_truth_node, begin_operands, flush_group};
 ghost use Rattle.flt_gen.specs.Walk.{finish_group, emit_value, emit_join, emit_truth_node};
 ghost use Rattle.flt_gen.specs.Walk.{emit_node, insns_of, emit_applied, emit_compared};
 ghost use Rattle.flt_gen.specs.Walk.{emit_both_nodes};
 
-use crate::code::{Code, Targets};
-use crate::context::Context;
-use crate::emit::emit_comparison;
 use crate::group::Group;
 use crate::number::{computation, emit_accessor, emit_accessors, emit_operands, takes, width_of};
 use crate::primitive::{emit_cast, emit_check};
@@ -24,6 +21,7 @@ use crate::waiting::{LeftTruth, Stack, Waiting};
 use cap_octet::Link;
 use flt_bpf::insn::Insn;
 use flt_bpf::operation::{Operand, Operation, Register, Source};
+use flt_code::{Code, Context, Targets, emit_comparison};
 use flt_lang::{FullQuals, Node, Value};
 use flt_words::{Comparison, Join, Operator, Protocol};
 use std::alloc::{AllocError, Allocator};

@@ -2,11 +2,11 @@
 use Rattle.std.proofs.Common.{◌≡◌, ◌∙◌, sym, ap, [], length, None, arith}
 use Rattle.std.proofs.lemmas.Grind.{common_steps}
 use Rattle.flt_words.specs.declared.token.ValueType.TheVariants.{Host, Port}
-use Rattle.flt_gen.specs.declared.elementary.Hosts.{Hosts}
-use Rattle.flt_gen.specs.declared.elementary.Hosts.TheVariants as hosts
-use Rattle.flt_gen.specs.declared.elementary.NetTest.{NetTest}
-use Rattle.flt_gen.specs.declared.elementary.PortTest.{PortTest}
-use Rattle.flt_gen.specs.declared.elementary.Ports.TheVariants.{One, Several}
+use Rattle.flt_gen.specs.declared.wanted.Hosts.{Hosts}
+use Rattle.flt_gen.specs.declared.wanted.Hosts.TheVariants as hosts
+use Rattle.flt_gen.specs.declared.wanted.NetTest.{NetTest}
+use Rattle.flt_gen.specs.declared.wanted.PortTest.{PortTest}
+use Rattle.flt_gen.specs.declared.wanted.Ports.TheVariants.{One, Several}
 use Rattle.flt_gen.specs.Primitives.{net_test, net_formula, port_test, port_formula}
 use Rattle.flt_gen.specs.Group.{group_formula, hosts_formula}
 use Rattle.flt_gen.proofs.Joined.{one_host, several_hosts, one_port, several_ports, equal_formula_code}

@@ -1,0 +1,4 @@
+pub mod Backwards
+pub mod Following
+pub mod Joined
+pub mod Search

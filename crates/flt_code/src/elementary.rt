@@ -1,0 +1,72 @@
+//! The tests that primitives are made of: each looks at one field of a packet.
+
+use flt_bpf::operation::Width;
+use flt_words::Comparison;
+
+/// What a frame is by its link header, or by its version where there is none.
+#[derive(Clone, Copy)]
+pub enum FrameKind {
+    Ethernet,
+    Ip,
+    Ip6,
+    Arp,
+    Rarp,
+}
+
+/// Where a field stands, in bytes.
+#[derive(Clone, Copy)]
+pub enum Offset {
+    /// So many bytes behind the start of the packet.
+    Fixed(u32),
+    /// Behind the header that begins at the first offset: the second number and the header's length
+    /// are added up, which the low half of its first byte gives in words of 4 bytes.
+    AfterHeader(u32, u32),
+}
+
+/// A field: where it stands, how wide it is, and the mask where not all of its bits count.
+#[derive(Clone, Copy)]
+pub struct MaskedField {
+    pub offset: Offset,
+    pub width: Width,
+    pub mask: Option<u32>,
+}
+
+/// A test of a field: the field, of which only the bits of the mask count, is compared with a
+/// number.
+#[derive(Clone, Copy)]
+pub struct FieldTest {
+    pub offset: Offset,
+    pub width: Width,
+    pub mask: Option<u32>,
+    pub comparison: Comparison,
+    pub value: u32,
+}
+
+/// A test that the link type alone decides, or a test of a field.
+#[derive(Clone, Copy)]
+pub enum Elementary {
+    Outcome(bool),
+    Field(FieldTest),
+}
+
+/// Where a source and a destination stand, and how wide they are.
+#[derive(Clone, Copy)]
+pub struct Sides {
+    pub width: Width,
+    pub source: Offset,
+    pub destination: Offset,
+}
+
+/// A test with its outcome, where that is known of a packet.
+#[derive(Clone, Copy)]
+pub struct Fact {
+    pub test: Elementary,
+    pub truth: bool,
+}
+
+/// Two tests of which one is yes.
+#[derive(Clone, Copy)]
+pub struct Alternatives {
+    pub first: Elementary,
+    pub second: Elementary,
+}
