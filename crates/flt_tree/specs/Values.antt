@@ -1,6 +1,6 @@
 -- What may stand before a value, and the values, in tokens: which one the tokens at the start have,
 -- and which tokens are left behind it.
-use Rattle.std.specs.Prelude.{ℕ, List, ◌∷◌, Option, Some, None, Bool, true, false, is_some, ◌||◌}
+use Rattle.std.specs.Prelude.{ℕ, List, ◌∷◌, drop, Option, Some, None, Bool, true, false, is_some, ◌||◌, if◌then◌else◌}
 use Rattle.flt_words.specs.declared.token.Protocol.{Protocol}
 use Rattle.flt_words.specs.declared.token.Side.{Side}
 use Rattle.flt_words.specs.declared.token.Side.TheVariants.{Source, Destination}
@@ -73,13 +73,23 @@ abbrev pub protocol_of : List TokenKind → Option Protocol × List TokenKind
 protocol_of (token.Protocol p ∷ ts) = (Some p, ts)
 protocol_of ts = (None, ts)
 
+abbrev pub is_opposite : Side → Side → Bool
+is_opposite Source Destination = true
+is_opposite Destination Source = true
+is_opposite _ _ = false
+
+-- the join of both sides
+abbrev pub both_of : List TokenKind → Option Join
+both_of (token.Side s ∷ token.Join j ∷ token.Side t ∷ ts) = if is_opposite s t then Some j else None
+both_of _ = None
+
+abbrev pub direction_by : Option Join → List TokenKind → Option Direction × List TokenKind
+direction_by (Some j) ts = (Some (direction.Both j), drop 3 ts)
+direction_by None (token.Side s ∷ ts) = (Some (direction.One s), ts)
+direction_by None ts = (None, ts)
+
 abbrev pub direction_of : List TokenKind → Option Direction × List TokenKind
-direction_of (token.Side Source ∷ token.Join j ∷ token.Side Destination ∷ ts) =
-    (Some (direction.Both j), ts)
-direction_of (token.Side Destination ∷ token.Join j ∷ token.Side Source ∷ ts) =
-    (Some (direction.Both j), ts)
-direction_of (token.Side s ∷ ts) = (Some (direction.One s), ts)
-direction_of ts = (None, ts)
+direction_of ts = direction_by (both_of ts) ts
 
 abbrev pub type_of : List TokenKind → Option ValueType × List TokenKind
 type_of (token.ValueType k ∷ ts) = (Some k, ts)

@@ -7,12 +7,13 @@ ghost use Rattle.flt_words.specs.declared.token.TokenKind.{TokenKind};
 ghost use Rattle.flt_tree.specs.declared.quals.Quals.{Quals};
 ghost use Rattle.flt_tree.specs.Grammar.{kinds_of};
 ghost use Rattle.flt_tree.specs.Values.{quals_of, protocol_of, direction_of, type_of};
+ghost use Rattle.flt_tree.specs.Values.{is_opposite, both_of};
 ghost use Rattle.flt_tree.specs.Values.{mask_of, prefix_of, value_of};
 ghost use Rattle.flt_tree.specs.Machine.{valued_of};
 
 use crate::quals::{Direction, Quals};
 use crate::value::{Dotted, NetMask, Value};
-use flt_words::{Operator, Protocol, Side, Token, TokenKind, ValueType};
+use flt_words::{Join, Operator, Protocol, Side, Token, TokenKind, ValueType};
 
 /// The kind of the token at an index, if there is one.
 pub fn kind_at(tokens: &[Token], index: usize) -> Option<TokenKind>
@@ -32,20 +33,38 @@ fn read_protocol(tokens: &[Token]) -> (Option<Protocol>, usize)
     }
 }
 
+fn is_opposite(first: Side, second: Side) -> bool
+    ensures { result ≡ is_opposite first second }
+{
+    matches!(
+        (first, second),
+        (Side::Source, Side::Destination) | (Side::Destination, Side::Source)
+    )
+}
+
+/// The join of both sides.
+fn read_both(tokens: &[Token]) -> Option<Join>
+    ensures value { result ≡ both_of (kinds_of tokens.now) }
+    ensures within { IfSome result (λ _. 2 < length tokens.now) }
+{
+    match (kind_at(tokens, 0), kind_at(tokens, 1), kind_at(tokens, 2)) {
+        (Some(TokenKind::Side(first)), Some(TokenKind::Join(join)), Some(TokenKind::Side(second)))
+            if is_opposite(first, second) => Some(join),
+        _ => None,
+    }
+}
+
 fn read_direction(tokens: &[Token]) -> (Option<Direction>, usize)
     ensures value { result.0 ≡ (direction_of (kinds_of tokens.now)).0 }
     ensures rest { kinds_of (drop result.1 tokens.now) ≡ (direction_of (kinds_of tokens.now)).1 }
     ensures within { result.1 ≤ length tokens.now }
 {
-    let Some(TokenKind::Side(side)) = kind_at(tokens, 0) else {
-        return (None, 0);
-    };
-    match (side, kind_at(tokens, 1), kind_at(tokens, 2)) {
-        (Side::Source, Some(TokenKind::Join(join)), Some(TokenKind::Side(Side::Destination)))
-        | (Side::Destination, Some(TokenKind::Join(join)), Some(TokenKind::Side(Side::Source))) => {
-            (Some(Direction::Both(join)), 3)
-        }
-        _ => (Some(Direction::One(side)), 1),
+    if let Some(join) = read_both(tokens) {
+        return (Some(Direction::Both(join)), 3);
+    }
+    match kind_at(tokens, 0) {
+        Some(TokenKind::Side(side)) => (Some(Direction::One(side)), 1),
+        _ => (None, 0),
     }
 }
 
