@@ -31,11 +31,12 @@ use Rattle.flt_gen.specs.declared.wanted.Transport.{Transport}
 use Rattle.flt_code.specs.Elementary.{has_ip_proto, has_ip6_proto}
 use Rattle.flt_code.specs.Numbers.{accessors, accessor_tests}
 use Rattle.flt_code.specs.Formula.{Formula, Single, Compare, Both, Either, Guard, Choose, Among, all_of, sides, checked_formula, guarded_formula}
-use Rattle.flt_gen.specs.Primitives.{any_proto, mac_tests, check_formula, cast_formula, proto_formula, net_of_kind, net_formula, net_test, ip6_formula, ether_host, port_formula, port_test, port_places, port_sides, ports_behind, ip_transport, ip6_transport, transport, value_formula}
+use Rattle.flt_gen.specs.Primitives.{any_proto, mac_tests, check_formula, cast_formula, proto_formula, hosts_of_kind, net_formula, net_test, ip6_formula, ether_host, port_formula, port_test, port_places, port_sides, ports_behind, ip_transport, ip6_transport, transport, value_formula}
 use Rattle.flt_code.specs.Formula.{whole_field, any_sides}
 use Rattle.flt_gen.specs.Reading.{formula}
 use Rattle.flt_gen.specs.Counts.{tests, nodes, words}
 use Rattle.flt_gen.specs.declared.wanted.NetTest.{NetTest}
+use Rattle.flt_gen.specs.declared.wanted.Hosts.TheVariants as hosts
 use Rattle.flt_gen.specs.declared.wanted.PortTest.{PortTest}
 use Rattle.flt_gen.proofs.Ascending.{Searchable}
 use Rattle.flt_gen.proofs.Exclusive.{Excluded, Apt, ip_no_ip6, ip_no_arp, ip_no_rarp, arp_no_rarp}
@@ -95,7 +96,7 @@ two_a_side (direction.One Destination) s s' t t' = refl
 two_a_side (direction.Both Or) s s' t t' = refl
 two_a_side (direction.Both And) s s' t t' = refl
 
-kind_tests_fit : (link : Link) (k : FrameKind) (d : Direction) (mask : Option ℕ) (a : ℕ) → tests (net_of_kind link k (net_test d mask a)) ≤ 1 + count.side_tests d 1
+kind_tests_fit : (link : Link) (k : FrameKind) (d : Direction) (mask : Option ℕ) (a : ℕ) → tests (hosts_of_kind link k (hosts.Net (net_test d mask a)) []) ≤ 1 + count.side_tests d 1
 kind_tests_fit link k (direction.One Source) mask a = omega arith
 kind_tests_fit link k (direction.One Destination) mask a = omega arith
 kind_tests_fit link k (direction.Both Or) mask a = omega arith
@@ -318,7 +319,7 @@ bare_proto_value Raw (Some protocol.Ether) n = bare_pair _ _
 bare_proto_value Cooked (Some protocol.Ether) n = bare_one _
 bare_proto_value link (Some _) n = bare_one _
 
-bare_kind : (link : Link) (k : FrameKind) (net : NetTest) → Bare (net_of_kind link k net)
+bare_kind : (link : Link) (k : FrameKind) (net : NetTest) → Bare (hosts_of_kind link k (hosts.Net net) [])
 bare_kind link k net = bare_guard _ _ (bare_sides net.direction _ _)
 
 pub bare_net : (link : Link) (p : Option Protocol) (net : NetTest) → Bare (net_formula link p net)

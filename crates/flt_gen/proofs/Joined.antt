@@ -1,10 +1,9 @@
 -- The code of guarded formulas and of groups is that of their formula.
-use Rattle.std.proofs.Common.{◌≡◌, ℕ, List, [], ◌∷◌, length, Option, Some, None, Result, refl, sym, ap, subst, ◌∙◌, arith}
+use Rattle.std.proofs.Common.{◌≡◌, ℕ, List, [], ◌∷◌, length, Option, None, Result, refl, sym, ap, subst, ◌∙◌, arith}
 use Rattle.std.specs.Prelude.{IfOk}
 use Rattle.std.specs.declared.alloc.AllocError.{AllocError}
 use Rattle.flt_bpf.specs.declared.insn.Insn.{Insn}
 use Rattle.flt_words.specs.declared.token.Protocol.{Protocol}
-use Rattle.flt_words.specs.declared.token.Protocol.TheVariants.{Ip, Arp, Rarp}
 use Rattle.flt_words.specs.declared.token.ValueType.{ValueType}
 use Rattle.flt_words.specs.declared.token.ValueType.TheVariants.{Host, Port}
 use Rattle.cap_octet.specs.declared.link.Link.{Link}
@@ -15,8 +14,8 @@ use Rattle.flt_gen.specs.declared.wanted.NetTest.{NetTest}
 use Rattle.flt_gen.specs.declared.wanted.PortTest.{PortTest}
 use Rattle.flt_gen.specs.declared.wanted.Ports.TheVariants.{One, Several}
 use Rattle.flt_code.specs.Numbers.{accessor_tests}
-use Rattle.flt_gen.specs.Primitives.{net_test, net_formula, port_test, port_formula}
-use Rattle.flt_gen.specs.Group.{Group, hosts_formula, one_formula, several_formula, formula_by, group_formula}
+use Rattle.flt_gen.specs.Primitives.{net_test, net_formula, hosts_formula, port_test, port_formula}
+use Rattle.flt_gen.specs.Group.{Group, one_formula, several_formula, formula_by, group_formula}
 use Rattle.flt_code.specs.Formula.{Formula, guarded_formula, checked_formula}
 use Rattle.flt_code.specs.declared.follow.Knowledge.{Knowledge}
 use Rattle.flt_code.specs.Follow.{nothing}
@@ -32,14 +31,6 @@ pub checked_emitted : (link : Link) (ps : List Protocol) (f : Formula) (hit miss
 checked_emitted link [] f hit miss c = refl
 checked_emitted link (p ∷ ps) f hit miss c =
     guarded_emitted link nothing (accessor_tests link p) (checked_formula link ps f) hit miss c ∙ ap (λ (e : Block). emit_all nothing (accessor_tests link p) e.entry miss e.code) (checked_emitted link ps f hit miss c)
-
--- hosts of a network are the network's
-pub net_is_hosts : (link : Link) (protocol : Option Protocol) (net : NetTest) (numbers : List ℕ) → net_formula link protocol net ≡ hosts_formula link protocol (hosts.Net net) numbers
-net_is_hosts link None net numbers = refl
-net_is_hosts link (Some Ip) net numbers = refl
-net_is_hosts link (Some Arp) net numbers = refl
-net_is_hosts link (Some Rarp) net numbers = refl
-net_is_hosts link (Some _) net numbers = refl
 
 -- the formula of a group of ports
 pub one_port : (link : Link) (group : Group) (p : PortTest) → group.value_type ≡ Port → length group.numbers ≡ 1 → p ≡ port_test group.protocol group.direction (One group.first) → group_formula link group ≡ port_formula link p []

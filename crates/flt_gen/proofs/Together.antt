@@ -22,9 +22,9 @@ use Rattle.flt_code.specs.declared.elementary.Sides.{Sides}
 use Rattle.flt_gen.specs.declared.wanted.Transport.{Transport}
 use Rattle.flt_code.specs.Elementary.{Reading, Yes, No, Rejected, reading_of, with, field_at, compares_at, kind_test, elementary_reads}
 use Rattle.flt_code.specs.Formula.{Formula, is_one_of, both, either, sides, reads}
-use Rattle.flt_gen.specs.Primitives.{address_places, net_test, net_formula, port_places, port_sides, transport, behind, transport_ports, ip_transport, ip6_transport, port_test, port_formula}
+use Rattle.flt_gen.specs.Primitives.{address_places, net_test, net_formula, hosts_formula, port_places, port_sides, transport, behind, transport_ports, ip_transport, ip6_transport, port_test, port_formula}
 use Rattle.flt_code.specs.Formula.{any_sides}
-use Rattle.flt_gen.specs.Group.{insert_ascending, hosts_formula, one_formula, several_formula}
+use Rattle.flt_gen.specs.Group.{insert_ascending, one_formula, several_formula}
 use Rattle.flt_gen.proofs.Ascending.{one_of_inserted}
 use Rattle.flt_gen.proofs.Exclusive.{ip_no_ip6, ip_no_arp, ip_no_rarp, arp_no_rarp}
 

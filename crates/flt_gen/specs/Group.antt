@@ -1,7 +1,7 @@
 -- Hosts or ports that are looked for together, since they stand one after the other between or.
 use Rattle.std.specs.Prelude.{ℕ, nat_lt, Bool, true, false, ◌&&◌, if◌then◌else◌, List, [], ◌∷◌, length, Option, Some, None}
 use Rattle.flt_words.specs.declared.token.Protocol.{Protocol}
-use Rattle.flt_words.specs.declared.token.Protocol.TheVariants.{Ip, Arp, Rarp, Tcp, Udp}
+use Rattle.flt_words.specs.declared.token.Protocol.TheVariants.{Ip, Tcp, Udp}
 use Rattle.flt_words.specs.declared.token.Side.TheVariants.{Source, Destination}
 use Rattle.flt_words.specs.declared.token.Join.TheVariants.{And, Or}
 use Rattle.flt_words.specs.declared.token.ValueType.{ValueType}
@@ -13,16 +13,11 @@ use Rattle.flt_tree.specs.declared.value.Value.{Value}
 use Rattle.flt_tree.specs.declared.value.Value.TheVariants as value
 use Rattle.flt_tree.specs.Tree.{TruthTree, qualified, denied, joined}
 use Rattle.cap_octet.specs.declared.link.Link.{Link}
-use Rattle.flt_code.specs.declared.elementary.FrameKind.{FrameKind}
-use Rattle.flt_code.specs.declared.elementary.FrameKind.TheVariants as kind
 use Rattle.flt_gen.specs.declared.wanted.Ports.TheVariants.{One, Several}
-use Rattle.flt_gen.specs.declared.wanted.Hosts.{Hosts}
 use Rattle.flt_gen.specs.declared.wanted.Hosts.TheVariants as hosts
 use Rattle.flt_code.specs.declared.elementary.Elementary.TheVariants.{Outcome}
-use Rattle.flt_code.specs.Elementary.{kind_test}
-use Rattle.flt_code.specs.Formula.{Formula, Single, Both, Either, Except, Guard, Choose}
-use Rattle.flt_gen.specs.Primitives.{address_places, net_test, net_sides, net_formula, port_test, port_formula, qualified_formula}
-use Rattle.flt_code.specs.Formula.{any_sides}
+use Rattle.flt_code.specs.Formula.{Formula, Single, Both, Either, Except}
+use Rattle.flt_gen.specs.Primitives.{net_test, net_formula, hosts_formula, port_test, port_formula, qualified_formula}
 use Rattle.flt_gen.specs.Reading.{formula}
 
 -- the type of its members, the protocol and the direction that are asked for; the address or port
@@ -101,30 +96,6 @@ group_and q group (Some a) =
 -- the group with one more in front, where the value is one that goes with it
 abbrev pub larger_group : FullQuals → Value → Group → Option Group
 larger_group q v group = group_and q group (member_number q.value_type v)
-
--- hosts of IPv4: those of a network, or several, whose addresses are passed beside
-
-abbrev pub hosts_sides : Link → FrameKind → Hosts → List ℕ → Formula
-hosts_sides link kind (hosts.Net net) numbers = net_sides link kind net
-hosts_sides link kind (hosts.Several direction first) numbers =
-    any_sides direction (address_places link kind) first numbers
-
-abbrev pub hosts_of_kind : Link → FrameKind → Hosts → List ℕ → Formula
-hosts_of_kind link kind wanted numbers =
-    Guard (kind_test link kind) (hosts_sides link kind wanted numbers)
-
-abbrev pub any_hosts : Link → Hosts → List ℕ → Formula
-any_hosts link wanted numbers =
-    Choose (kind_test link kind.Ip) (hosts_sides link kind.Ip wanted numbers)
-    (Choose (kind_test link kind.Arp) (hosts_sides link kind.Arp wanted numbers)
-    (hosts_of_kind link kind.Rarp wanted numbers))
-
-abbrev pub hosts_formula : Link → Option Protocol → Hosts → List ℕ → Formula
-hosts_formula link (Some Ip) wanted numbers = hosts_of_kind link kind.Ip wanted numbers
-hosts_formula link (Some Arp) wanted numbers = hosts_of_kind link kind.Arp wanted numbers
-hosts_formula link (Some Rarp) wanted numbers = hosts_of_kind link kind.Rarp wanted numbers
-hosts_formula link None wanted numbers = any_hosts link wanted numbers
-hosts_formula link (Some _) wanted numbers = Single (Outcome false)
 
 -- one member, and several
 abbrev pub one_formula : Link → ValueType → Option Protocol → Direction → ℕ → Formula

@@ -32,6 +32,8 @@ use Rattle.flt_code.specs.declared.elementary.Elementary.TheVariants.{Outcome, F
 use Rattle.flt_gen.specs.declared.wanted.Ports.{Ports}
 use Rattle.flt_code.specs.declared.elementary.Sides.{Sides}
 use Rattle.flt_gen.specs.declared.wanted.NetTest.{NetTest}
+use Rattle.flt_gen.specs.declared.wanted.Hosts.{Hosts}
+use Rattle.flt_gen.specs.declared.wanted.Hosts.TheVariants as hosts
 use Rattle.flt_gen.specs.declared.wanted.PortTest.{PortTest}
 use Rattle.flt_gen.specs.declared.wanted.Transport.{Transport}
 use Rattle.flt_gen.specs.declared.wanted.Ports.TheVariants.{One, Between, Several}
@@ -141,20 +143,31 @@ net_tests at net =
     sides net.direction (address_test net.mask net.address at.source ∷ [])
     (address_test net.mask net.address at.destination ∷ [])
 
-abbrev pub net_sides : Link → FrameKind → NetTest → Formula
-net_sides link kind net = net_tests (address_places link kind) net
+-- hosts: those of a network, or several, whose addresses are passed beside
+abbrev pub hosts_sides : Link → FrameKind → Hosts → List ℕ → Formula
+hosts_sides link kind (hosts.Net net) numbers = net_tests (address_places link kind) net
+hosts_sides link kind (hosts.Several direction first) numbers =
+    any_sides direction (address_places link kind) first numbers
 
-abbrev pub net_of_kind : Link → FrameKind → NetTest → Formula
-net_of_kind link kind net = Guard (kind_test link kind) (net_sides link kind net)
+abbrev pub hosts_of_kind : Link → FrameKind → Hosts → List ℕ → Formula
+hosts_of_kind link kind wanted numbers =
+    Guard (kind_test link kind) (hosts_sides link kind wanted numbers)
+
+abbrev pub any_hosts : Link → Hosts → List ℕ → Formula
+any_hosts link wanted numbers =
+    Choose (kind_test link Ip) (hosts_sides link Ip wanted numbers)
+    (Choose (kind_test link Arp) (hosts_sides link Arp wanted numbers)
+    (hosts_of_kind link Rarp wanted numbers))
+
+abbrev pub hosts_formula : Link → Option Protocol → Hosts → List ℕ → Formula
+hosts_formula link (Some protocol.Ip) wanted numbers = hosts_of_kind link Ip wanted numbers
+hosts_formula link (Some protocol.Arp) wanted numbers = hosts_of_kind link Arp wanted numbers
+hosts_formula link (Some protocol.Rarp) wanted numbers = hosts_of_kind link Rarp wanted numbers
+hosts_formula link None wanted numbers = any_hosts link wanted numbers
+hosts_formula link (Some _) wanted numbers = Single (Outcome false)
 
 abbrev pub net_formula : Link → Option Protocol → NetTest → Formula
-net_formula link (Some protocol.Ip) net = net_of_kind link Ip net
-net_formula link (Some protocol.Arp) net = net_of_kind link Arp net
-net_formula link (Some protocol.Rarp) net = net_of_kind link Rarp net
-net_formula link None net =
-    Choose (kind_test link Ip) (net_sides link Ip net)
-    (Choose (kind_test link Arp) (net_sides link Arp net) (net_of_kind link Rarp net))
-net_formula link (Some _) net = Single (Outcome false)
+net_formula link protocol net = hosts_formula link protocol (hosts.Net net) []
 
 abbrev pub net_test : Direction → Option ℕ → ℕ → NetTest
 net_test direction mask address = record { direction = direction; mask = mask; address = address }

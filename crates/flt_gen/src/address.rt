@@ -4,8 +4,8 @@ ghost use Rattle.std.specs.Prelude.{◌≡◌, ◌+◌, ◌*◌, ◌≤◌, leng
 ghost use Rattle.flt_tree.specs.Nets.{first_bits};
 ghost use Rattle.flt_code.specs.Elementary.{kind_test};
 ghost use Rattle.flt_code.specs.Emits.{HasRoom, EmitsFormula, EmitsBehind};
-ghost use Rattle.flt_gen.specs.Group.{hosts_sides, any_hosts, hosts_formula};
 ghost use Rattle.flt_gen.specs.Primitives.{address_test, address_places, net_formula};
+ghost use Rattle.flt_gen.specs.Primitives.{hosts_sides, any_hosts, hosts_formula};
 ghost use Rattle.flt_gen.specs.Primitives.{ip6_test, ip6_tests, ip6_formula};
 
 use crate::wanted::{Hosts, NetTest};
@@ -140,7 +140,6 @@ pub fn emit_hosts<A: Allocator>(
 }
 
 /// `host` and `net` of IPv4.
-#[tactic(auto, using(crate::proofs::Joined::net_is_hosts))]
 pub fn emit_net<A: Allocator>(
     code: &mut Code<A>,
     context: Context,
