@@ -99,11 +99,21 @@ fn is_listing(outcome: &Outcome, most: Option<usize>) -> bool {
     outcome.is_clean() && 1 < lines && lines <= most
 }
 
+/// Whether the outcome is the listing that the case's line writes, or another one, as it states.
+fn is_as_listed(case: &Case<'_>, outcome: &Outcome) -> bool {
+    match case.is_same {
+        Some(is_same) => {
+            !case.listing.is_empty() && (outcome.written == case.listing) == is_same
+        }
+        None => true,
+    }
+}
+
 /// Runs a line that writes a listing. What the first run writes is what the case states from then
 /// on.
 fn check_listing(alloc: Global, case: &mut Case<'_>, line: &Line) -> Result<(), Difference> {
     let outcome = run_line(alloc, line, case, for_listing(case))?;
-    if !is_listing(&outcome, case.most) {
+    if !is_listing(&outcome, case.most) || !is_as_listed(case, &outcome) {
         return Err(Difference::Outcome(outcome));
     }
     case.written = outcome.written;

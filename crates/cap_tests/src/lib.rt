@@ -9,5 +9,3 @@ mod heaps;
 mod printing;
 #[cfg(test)]
 mod streams;
-#[cfg(test)]
-mod windows;

@@ -1,16 +1,19 @@
-//! Expressions as they are written, through all the calls.
+//! How many tests, nodes and words expressions have.
 
-mod chains;
-mod trees;
-
-use crate::compiler::checked;
-use flt_lang::{bound, nodes, tests, words};
-use flt_words::ExprFault;
-use std::alloc::Global;
+use flt_lang::{Checked, bound, check, nodes, parse, resolve, tests, words};
+use flt_words::{ExprFault, lex};
+use std::alloc::{AllocError, Global};
 use std::test::Fail;
 
 /// The numbers of tests, nodes and words of a text, and the bound of its program.
 type Counts = (u32, u32, u32, u32);
+
+/// The tree of a text.
+fn checked(alloc: Global, text: &str) -> Result<Checked<Global>, ExprFault> {
+    let tokens = lex(alloc, text)?;
+    let tree = parse(alloc, &tokens)?;
+    check(resolve(tree)?)
+}
 
 /// The counts of a text.
 fn counts_of(alloc: Global, text: &str) -> Result<Counts, ExprFault> {
@@ -47,10 +50,30 @@ const COUNTS: &[(&str, Counts)] = &[
     ("udp[len - 1 : 2] = ether[0]", (5, 6, 1, 68)),
 ];
 
+/// Texts that stand so often before another one, and the counts of all.
+const CHAINS: [(&str, usize, &str, Counts); 2] = [
+    ("port 1 or ", 39, "port 2", (440, 0, 0, 2642)),
+    ("ip proto 6 or ", 29, "-len = 1", (59, 3, 1, 374)),
+];
+
+/// A text so many times, and what follows it.
+fn repeated(alloc: Global, part: &str, times: usize, end: &str) -> Result<String, AllocError> {
+    let mut text = String::new(alloc);
+    for _ in 0..times {
+        text.push_str(part)?;
+    }
+    text.push_str(end)?;
+    Ok(text)
+}
+
 #[test]
 fn counts(rt: HostRuntime) -> Result<(), Fail> {
     for (text, wanted) in COUNTS {
         assert!(rt; counts_of(rt.alloc(), text)? == *wanted, "{text}");
+    }
+    for (part, times, end, wanted) in CHAINS {
+        let text = repeated(rt.alloc(), part, times, end)?;
+        assert!(rt; counts_of(rt.alloc(), &text)? == wanted, "{part}");
     }
     Ok(())
 }

@@ -2,8 +2,6 @@
 #![tactic(auto)]
 
 #[cfg(test)]
-mod compiler;
-#[cfg(test)]
 mod expressions;
 #[cfg(test)]
 mod machine;

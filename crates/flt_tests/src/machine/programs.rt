@@ -2,8 +2,9 @@
 
 use super::{IPV4, insn, program_of};
 use flt_bpf::operation::{Operation, decode};
-use flt_bpf::{CheckFault, ListingFault, check, read_listing, run};
+use flt_bpf::{CheckFault, ListingFault, check, run};
 use std::alloc::Global;
+use std::fmt::Display;
 use std::test::Fail;
 
 #[test]
@@ -205,44 +206,6 @@ fn a_longest_program_of_jumps_ends(rt: HostRuntime) -> Result<(), Fail> {
     Ok(())
 }
 
-/// The rule that a listing's instructions break first, and where.
-fn broken_rule(alloc: Global, listing: &str) -> Result<Option<(CheckFault, usize)>, ListingFault> {
-    let insns = read_listing(alloc, listing.as_bytes())?;
-    Ok(check(insns).err())
-}
-
-/// Listings, the rule that each breaks first, and where.
-const BROKEN: &[(&str, CheckFault, usize)] = &[
-    ("0", CheckFault::Empty, 0),
-    ("3\n6 0 0 1\n180 0 0 1\n6 0 0 1", CheckFault::UnknownCode, 1),
-    ("2\n5 0 0 4294967295\n6 0 0 1", CheckFault::JumpOut, 0),
-    ("2\n5 0 0 1\n6 0 0 1", CheckFault::JumpOut, 0),
-    ("2\n21 1 0 0\n6 0 0 1", CheckFault::JumpOut, 0),
-    ("2\n21 0 1 0\n6 0 0 1", CheckFault::JumpOut, 0),
-    ("3\n6 0 0 1\n3 0 0 16\n6 0 0 1", CheckFault::NoSuchWord, 1),
-    ("2\n97 0 0 16\n6 0 0 1", CheckFault::NoSuchWord, 0),
-    ("2\n52 0 0 0\n6 0 0 1", CheckFault::DivisionByZero, 0),
-    (
-        "3\n128 0 0 0\n148 0 0 0\n22 0 0 0",
-        CheckFault::DivisionByZero,
-        1,
-    ),
-    ("2\n116 0 0 32\n6 0 0 1", CheckFault::ShiftTooFar, 0),
-    ("2\n6 0 0 1\n0 0 0 0", CheckFault::NoReturn, 0),
-    // These break several rules.
-    ("2\n2 0 0 16\n9 0 0 0", CheckFault::NoSuchWord, 0),
-    ("2\n5 0 0 0\n5 0 0 0", CheckFault::JumpOut, 1),
-];
-
-#[test]
-fn the_first_broken_rule_is_told(rt: HostRuntime) -> Result<(), Fail> {
-    for (listing, fault, index) in BROKEN {
-        let broken = broken_rule(rt.alloc(), listing)?;
-        assert!(rt; broken == Some((*fault, *index)), "{listing}");
-    }
-    Ok(())
-}
-
 #[test]
 fn a_program_may_be_too_long(rt: HostRuntime) -> Result<(), Fail> {
     let mut insns = Vec::new(rt.alloc());
@@ -253,19 +216,18 @@ fn a_program_may_be_too_long(rt: HostRuntime) -> Result<(), Fail> {
     Ok(())
 }
 
-/// The message of the rule that a listing breaks.
-fn message(alloc: Global, listing: &str) -> Result<String, Fail> {
-    let Some((fault, index)) = broken_rule(alloc, listing)? else {
-        return Err(Fail::from("accepted"));
-    };
-    Ok(format!(in alloc; "{fault} at {index}")?)
+/// Whether a fault is told so.
+fn is_told_as(alloc: Global, fault: impl Display + Drop, text: &str) -> bool {
+    matches!(format!(in alloc; "{fault}"), Ok(told) if told.as_str() == text)
 }
 
 #[test]
-fn a_broken_rule_is_named(rt: HostRuntime) -> Result<(), Fail> {
-    let listing = "4\n40 0 0 12\n21 0 2 2048\n6 0 0 262144\n6 0 0 0\n";
-    assert!(rt; message(rt.alloc(), listing)?.as_str() == "jump out at 1");
+fn faults_are_told(rt: HostRuntime) {
+    let wrong = ListingFault::NotListing(5);
+    assert!(rt; is_told_as(rt.alloc(), wrong, "not a listing at line 5"));
+    assert!(rt; is_told_as(rt.alloc(), ListingFault::Memory, "no memory"));
+    assert!(rt; is_told_as(rt.alloc(), CheckFault::JumpOut, "jump out"));
+    assert!(rt; wrong.text() == "not a listing" && wrong.line() == Some(5));
     assert!(rt; CheckFault::JumpOut.has_index() && !CheckFault::Empty.has_index());
     assert!(rt; CheckFault::NoReturn.text() == "no return at the end");
-    Ok(())
 }
