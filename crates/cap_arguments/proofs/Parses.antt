@@ -6,7 +6,7 @@ use Rattle.clap.specs.declared.builder.value_parser.ValueParser.TheVariants as p
 use Rattle.clap.specs.declared.error.Error.{Error}
 use Rattle.clap.specs.declared.error.kind.ErrorKind.TheVariants.{OutOfMemory}
 use Rattle.clap.specs.declared.parser.matches.ArgMatches.{ArgMatches}
-use Rattle.cap_arguments.specs.Arguments.{AreChoices, Refuses, Takes, format_names, line_app, link_names}
+use Rattle.cap_arguments.specs.Arguments.{AreChoices, RefusesWords, TakesWords, format_names, line_app, link_names}
 
 simple_line : (formats links : ValueParser) → is_simple (line_app formats links) ≡ true
 simple_line formats links = refl
@@ -16,7 +16,7 @@ free_line formats links = refl
 
 pub takes_words : (app : App) (formats links : ValueParser) (words : List Text) (r : Result ArgMatches Error) → app ≡ line_app formats links → AreChoices format_names formats → AreChoices link_names links
     → IfOk r (HasMatchesOf app words) → (is_simple_and_free app ≡ true → FailsBy (fault_of app words) r)
-    → IfOk r (λ matches. Takes words (subcommand_rows_of matches))
+    → IfOk r (λ matches. TakesWords words (subcommand_rows_of matches))
 takes_words app formats links words (Err error) is are named matches kinds = tt
 takes_words app formats links words (Ok found) is are named matches kinds = record {
   formats = formats;
@@ -29,7 +29,7 @@ takes_words app formats links words (Ok found) is are named matches kinds = reco
 
 pub refuses_words : (app : App) (formats links : ValueParser) (words : List Text) (r : Result ArgMatches Error) → app ≡ line_app formats links → AreChoices format_names formats → AreChoices link_names links
     → IfErr r (λ error. takes app words ≡ true → kind_of error ≡ OutOfMemory) → (is_simple_and_free app ≡ true → FailsBy (fault_of app words) r)
-    → IfErr r (Refuses words)
+    → IfErr r (RefusesWords words)
 refuses_words app formats links words (Ok found) is are named memory kinds = tt
 refuses_words app formats links words (Err error) is are named memory kinds = record {
   formats = formats;
@@ -52,7 +52,7 @@ unfolding choices
 are_links = refl
 
 -- out of memory, any words are refused
-pub no_memory : (words : List Text) (error : Error) → kind_of error ≡ OutOfMemory → Refuses words error
+pub no_memory : (words : List Text) (error : Error) → kind_of error ≡ OutOfMemory → RefusesWords words error
 no_memory words error is = record {
   formats = choices format_names;
   links = choices link_names;

@@ -28,8 +28,8 @@ abbrev pub name_rule : (id name : Text) → Rule
 name_rule id name = record (new_rule id) { long = Some name; value_names = 1 }
 
 -- the values are numbers from `least` to `most`, below 2^63, or below 2^64
-abbrev pub bounded : (least most : ℕ) → Rule → Rule
-bounded least most rule = record rule { parser = Some (parser.Signed (pos least) (pos most)) }
+abbrev pub with_bounds : (least most : ℕ) → Rule → Rule
+with_bounds least most rule = record rule { parser = Some (parser.Signed (pos least) (pos most)) }
 
 abbrev pub bounded_wide : (least most : ℕ) → Rule → Rule
 bounded_wide least most rule = record rule { parser = Some (parser.Unsigned least most) }
@@ -52,14 +52,14 @@ stop_rule = letter_rule (codes "stop") 66
 
 -- `--chop-start N` and `--chop-end N`: any number of 32 bits
 abbrev pub chop_start_rule : Rule
-chop_start_rule = bounded 0 4294967295 (name_rule (codes "chop_start") (codes "chop-start"))
+chop_start_rule = with_bounds 0 4294967295 (name_rule (codes "chop_start") (codes "chop-start"))
 
 abbrev pub chop_end_rule : Rule
-chop_end_rule = bounded 0 4294967295 (name_rule (codes "chop_end") (codes "chop-end"))
+chop_end_rule = with_bounds 0 4294967295 (name_rule (codes "chop_end") (codes "chop-end"))
 
 -- `-s N` (115): 1 or more
 abbrev pub snap_rule : Rule
-snap_rule = bounded 1 4294967295 (letter_rule (codes "snap") 115)
+snap_rule = with_bounds 1 4294967295 (letter_rule (codes "snap") 115)
 
 -- `--later S` and `--earlier S`
 abbrev pub later_rule : Rule
@@ -70,7 +70,7 @@ earlier_rule = name_rule (codes "earlier") (codes "earlier")
 
 -- `-D N` (68): 2 to 1,000,000
 abbrev pub window_rule : Rule
-window_rule = bounded 2 1000000 (letter_rule (codes "window") 68)
+window_rule = with_bounds 2 1000000 (letter_rule (codes "window") 68)
 
 -- `-c N` (99): 1 or more
 abbrev pub count_rule : Rule
@@ -199,10 +199,10 @@ LineIsFree = (formats links : ValueParser) → is_simple_and_free (line_app form
 
 -- ---- tables of arguments
 
-abbrev pub named : Name → Rule → Rule
-named name.Place rule = rule
-named (name.Letter letter) rule = record rule { short = Some letter }
-named (name.Long long) rule = record rule { long = Some long.now }
+abbrev pub with_name : Name → Rule → Rule
+with_name name.Place rule = rule
+with_name (name.Letter letter) rule = record rule { short = Some letter }
+with_name (name.Long long) rule = record rule { long = Some long.now }
 
 abbrev pub with_value : Choices → Value → Rule → Rule
 with_value choices value.Flag rule = record rule { action = Some SetTrue }
@@ -224,7 +224,7 @@ with_value choices value.Words rule =
 -- the rule of an argument's row
 abbrev pub rule_by : Choices → Argument → Rule
 rule_by choices argument =
-    with_value choices argument.value (named argument.name (new_rule argument.id.now))
+    with_value choices argument.value (with_name argument.name (new_rule argument.id.now))
 
 abbrev pub app_by : Choices → CommandRow → App
 app_by choices row = with_rules (new_app row.name.now) (map (rule_by choices) row.arguments.now)
@@ -264,7 +264,7 @@ AreChoices texts _ = ⊥
 -- ---- a parse
 
 -- clap has nothing against the words, and they enter this subcommand with these matches
-pub record Takes (words : List Text) (entered : Option (Text × List Row)) : Type 0 where
+pub record TakesWords (words : List Text) (entered : Option (Text × List Row)) : Type 0 where
   pub formats : ValueParser
   pub links : ValueParser
   pub are_formats : AreChoices format_names formats
@@ -273,7 +273,7 @@ pub record Takes (words : List Text) (entered : Option (Text × List Row)) : Typ
   pub enters : subcommand_of (line_app formats links) words ≡ entered
 
 -- clap refuses the words with this error, which is out of memory where it takes them
-pub record Refuses (words : List Text) (error : Error) : Type 0 where
+pub record RefusesWords (words : List Text) (error : Error) : Type 0 where
   pub formats : ValueParser
   pub links : ValueParser
   pub are_formats : AreChoices format_names formats

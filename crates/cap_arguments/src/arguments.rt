@@ -2,8 +2,10 @@
 ghost use Rattle.std.specs.Prelude.{◌≡◌, IfOk, IfErr, map, false, string_bytes};
 ghost use Rattle.clap.specs.Words.{app_of, new_rule, rule_of, subcommand_rows_of};
 ghost use Rattle.clap.specs.declared.builder.command.Command.TheViews.{out-Command as fields_of};
-ghost use Rattle.cap_arguments.specs.Arguments.{AreChoices, Takes, Refuses, format_names, link_names};
-ghost use Rattle.cap_arguments.specs.Arguments.{app_by, bare_line, line_app, named, rule_by, shape_by};
+ghost use Rattle.cap_arguments.specs.Arguments.{AreChoices, TakesWords, RefusesWords, format_names};
+ghost use Rattle.cap_arguments.specs.Arguments.{link_names};
+ghost use Rattle.cap_arguments.specs.Arguments.{app_by, bare_line, line_app, with_name, rule_by};
+ghost use Rattle.cap_arguments.specs.Arguments.{shape_by};
 ghost use Rattle.cap_arguments.specs.Arguments.{subcommand_named, with_rules, with_shapes};
 
 use crate::examples::{LINE_HELP, VERSION};
@@ -53,7 +55,7 @@ pub struct Choices<'a> {
 
 /// An argument of clap's with the id and the name of a row.
 fn named<'a>(alloc: Global, argument: Argument) -> Arg<'a>
-    ensures rule { rule_of result ≡ named argument.name (new_rule argument.id.now) }
+    ensures rule { rule_of result ≡ with_name argument.name (new_rule argument.id.now) }
     ensures local { result.global ≡ false }
 {
     let arg = Arg::new(alloc, argument.id).help(argument.help);
@@ -165,9 +167,9 @@ fn line_command<'a>(alloc: Global) -> Result<Command<'a>, AllocError>
 
 /// What clap makes of the words.
 pub fn matches_of<'a>(alloc: Global, words: &'a [String]) -> Result<ArgMatches<'a>, Error>
-    ensures taken { IfOk result (λ matches. Takes (map string_bytes words.entry.now)
+    ensures taken { IfOk result (λ matches. TakesWords (map string_bytes words.entry.now)
         (subcommand_rows_of matches)) }
-    ensures refused { IfErr result (Refuses (map string_bytes words.entry.now)) }
+    ensures refused { IfErr result (RefusesWords (map string_bytes words.entry.now)) }
 {
     match line_command(alloc) {
         Ok(command) => command.try_get_matches_from(words),

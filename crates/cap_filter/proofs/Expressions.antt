@@ -6,9 +6,9 @@ use Rattle.flt_words.specs.declared.fault.ExprFault.TheVariants as fault
 use Rattle.flt_words.specs.declared.token.Token.{Token}
 use Rattle.flt_words.specs.Tokens.{Tokens}
 use Rattle.flt_tree.specs.Tree.{Expression}
-use Rattle.flt_tree.specs.Grammar.{Reads, kinds_of}
+use Rattle.flt_tree.specs.Grammar.{IsReadAs, kinds_of}
 use Rattle.flt_tree.specs.Nesting.{IsTooDeep}
-use Rattle.flt_tree.specs.Filled.{filled}
+use Rattle.flt_tree.specs.Filled.{fill_expression}
 use Rattle.flt_tree.specs.Resolved.{fill_fault}
 use Rattle.flt_lang.specs.Checks.{check_fault}
 use Rattle.cap_filter.specs.Expressions.{HasTree, IsSettled, HasFault, IsExpression, IsTextRefused, by_tokens, too_deep, no_tree, by_tree, IsTextFault}
@@ -22,7 +22,7 @@ lexed-reason text fault.Memory tells = tt
 lexed-reason text refusal tells = by_tokens (tells (λ same. (cc)))
 
 pub parsed-reads : (text : List ℕ) (tokens : List Token) (r : Result Expression ExprFault) → Tokens text (Ok tokens)
-    → (r ≡ Err fault.NestedTooDeep) ↔ IsTooDeep tokens → IfOk r (λ tree. Reads (kinds_of tokens) tree) → IfOk r (λ tree. HasTree text tree)
+    → (r ≡ Err fault.NestedTooDeep) ↔ IsTooDeep tokens → IfOk r (λ tree. IsReadAs (kinds_of tokens) tree) → IfOk r (λ tree. HasTree text tree)
 parsed-reads text tokens (Ok tree) lexed deep reads = record {
   tokens = tokens;
   lexed = lexed;
@@ -33,7 +33,7 @@ parsed-reads text tokens (Err refusal) lexed deep reads = tt
 
 pub parsed-refused : (text : List ℕ) (tokens : List Token) (r : Result Expression ExprFault) → Tokens text (Ok tokens)
     → (r ≡ Err fault.NestedTooDeep) ↔ IsTooDeep tokens
-    → (r ≡ Err fault.NotAnExpression → (tree : Expression) → Reads (kinds_of tokens) tree → ⊥)
+    → (r ≡ Err fault.NotAnExpression → (tree : Expression) → IsReadAs (kinds_of tokens) tree → ⊥)
     → IfErr r (λ f. (f ≡ fault.NestedTooDeep) ⊎ (f ≡ fault.NotAnExpression) ⊎ (f ≡ fault.Memory))
     → IfErr r (IsTextFault text)
 parsed-refused text tokens (Ok tree) lexed deep none why = tt
@@ -44,12 +44,12 @@ parsed-refused text tokens (Err refusal) lexed deep none why =
       | inr (inr is) ↦ rw is tt
     ]
 
-pub settled-ok : {X : Type 0} (of : X → Expression) (tree e : Expression) (r : Result X ExprFault) → e ≡ filled tree → fill_fault tree ≡ None
+pub settled-ok : {X : Type 0} (of : X → Expression) (tree e : Expression) (r : Result X ExprFault) → e ≡ fill_expression tree → fill_fault tree ≡ None
     → IfOk r (λ x. of x ≡ e) → IfOk r (λ x. check_fault e ≡ None) → IfOk r (λ x. IsSettled tree (of x))
 settled-ok of tree e (Ok x) fills fits same sound = record { fits = fits; fills = same ∙ fills; sound = ap check_fault same ∙ sound }
 settled-ok of tree e (Err refusal) fills fits same sound = tt
 
-pub settled-refused : {X : Type 0} (tree e : Expression) (r : Result X ExprFault) → e ≡ filled tree → fill_fault tree ≡ None
+pub settled-refused : {X : Type 0} (tree e : Expression) (r : Result X ExprFault) → e ≡ fill_expression tree → fill_fault tree ≡ None
     → IfErr r (λ f. check_fault e ≡ Some f) → IfErr r (HasFault tree)
 settled-refused tree e (Ok x) fills fits why = tt
 settled-refused tree e (Err refusal) fills fits why = inr (fits, sym (ap check_fault fills) ∙ why)

@@ -5,9 +5,9 @@ use Rattle.flt_words.specs.declared.fault.ExprFault.TheVariants as fault
 use Rattle.flt_words.specs.declared.token.Token.{Token}
 use Rattle.flt_words.specs.Tokens.{Tokens}
 use Rattle.flt_tree.specs.Tree.{Expression}
-use Rattle.flt_tree.specs.Grammar.{Reads, kinds_of}
+use Rattle.flt_tree.specs.Grammar.{IsReadAs, kinds_of}
 use Rattle.flt_tree.specs.Nesting.{IsTooDeep}
-use Rattle.flt_tree.specs.Filled.{filled}
+use Rattle.flt_tree.specs.Filled.{fill_expression}
 use Rattle.flt_tree.specs.Resolved.{fill_fault}
 use Rattle.flt_lang.specs.Checks.{check_fault}
 
@@ -16,12 +16,12 @@ pub record HasTree (text : List ℕ) (tree : Expression) : Type 0 where
   pub tokens : List Token
   pub lexed : Tokens text (Ok tokens)
   pub shallow : ¬ IsTooDeep tokens
-  pub reads : Reads (kinds_of tokens) tree
+  pub reads : IsReadAs (kinds_of tokens) tree
 
 -- the tree has none of the faults of trees, and this is it with all that is left out filled in
 pub record IsSettled (tree e : Expression) : Type 0 where
   pub fits : fill_fault tree ≡ None
-  pub fills : e ≡ filled tree
+  pub fills : e ≡ fill_expression tree
   pub sound : check_fault e ≡ None
 
 -- the first fault of a tree: what doesn't fit a value (E7 to E9), else one of the whole (E10 to
@@ -29,7 +29,7 @@ pub record IsSettled (tree e : Expression) : Type 0 where
 abbrev pub HasFault : Expression → ExprFault → Type 0
 HasFault tree refusal =
     (fill_fault tree ≡ Some refusal)
-    ⊎ ((fill_fault tree ≡ None) × (check_fault (filled tree) ≡ Some refusal))
+    ⊎ ((fill_fault tree ≡ None) × (check_fault (fill_expression tree) ≡ Some refusal))
 
 -- the text is an expression, and this is its tree with all that is left out filled in
 pub record IsExpression (text : List ℕ) (e : Expression) : Type 0 where
@@ -44,7 +44,7 @@ pub data IsTextRefused (text : List ℕ) : ExprFault → Type 0 where
   too_deep : {tokens : List Token} → Tokens text (Ok tokens) → IsTooDeep tokens
       → IsTextRefused text fault.NestedTooDeep
   no_tree : {tokens : List Token} → Tokens text (Ok tokens) → ¬ IsTooDeep tokens
-      → ((tree : Expression) → Reads (kinds_of tokens) tree → ⊥)
+      → ((tree : Expression) → IsReadAs (kinds_of tokens) tree → ⊥)
       → IsTextRefused text fault.NotAnExpression
   by_tree : {tree : Expression} {refusal : ExprFault} → HasTree text tree → HasFault tree refusal
       → IsTextRefused text refusal

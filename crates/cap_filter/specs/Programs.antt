@@ -22,8 +22,9 @@ pub record CompiledView : Type 0 where
   pub programs : List Content
 
 -- an expression is stored as its nodes
-abbrev pub expression_code : Coded Expression
-expression_code = code_by (List Node) (coded_list stored.the_row.coded) expr_nodes tree_of tree_back
+abbrev pub coded_expression : Coded Expression
+coded_expression = code_by (List Node) (coded_list stored.the_row.coded)
+    expr_nodes tree_of tree_back
 
 -- the expression isn't empty
 abbrev pub IsTruth : Expression → Type 0

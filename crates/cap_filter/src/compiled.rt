@@ -31,11 +31,11 @@ pub struct Compiled<A: Allocator> {
 
 impl<A: Allocator> Model for Compiled<A> {
     ghost use Rattle.std.specs.Coded.{codes};
-    ghost use Rattle.cap_filter.specs.Programs.{CompiledView, HasPrograms, expression_code};
+    ghost use Rattle.cap_filter.specs.Programs.{CompiledView, HasPrograms, coded_expression};
 
     ghost Value = { CompiledView };
 
-    ghost coded = { Prim.hlevel (codes, expression_code) };
+    ghost coded = { Prim.hlevel (codes, coded_expression) };
 
     ghost view = { λ c. record { tree = c.tree.expr; programs = c.programs.items } };
 

@@ -14,7 +14,7 @@ use Rattle.cap_pcapng.specs.Interface.{Described}
 use Rattle.cap_pcapng.specs.Unit.{IsBlock, Section, block_size, checks_among, frame_behind, interfaces_before, order_before, packet_by, packets_in, parts_behind, section_after, section_by, unit_fault}
 use Rattle.cap_pcapng.proofs.Units.{passes, frame_checks-append, frame_in-append, unit_fault-frame, unit_fault-short, unit_fault-block, unit_fault-among, parts_in-append, block_checks-append}
 use Rattle.cap_pcapng.specs.declared.frames.Frame.{Frame}
-use Rattle.cap_io.specs.Blocks.{Enters, IsEntryFault, PacketIfAny, packet_in, section_of}
+use Rattle.cap_io.specs.Blocks.{Enters, IsEntryFault, PacketIfAny, held_packet, section_of}
 use Rattle.cap_io.specs.Reading.{RestMissing, span_bytes, most_in_unit, length_by_front, decisive_block_length}
 use Rattle.cap_io.specs.declared.file_state.PacketSpans.{PacketSpans}
 use Rattle.cap_io.proofs.OwnFaults.{entry-not_failed, frame-not_failed}
@@ -42,7 +42,7 @@ pub record BlockMissing (before : Option Section) (text unread' : List ℕ) (fau
 pub record BlockPacket (order : Order) (before : Option Section) (block : List ℕ) (spans : PacketSpans) : Type 0 where
   pub packet : Captured
   pub stands : packets_in before block ≡ packet ∷ []
-  pub is_lent : packet_in order (interfaces_before before) spans (span_bytes spans.bytes block) (span_bytes spans.options block) ≡ Some packet
+  pub is_lent : held_packet order (interfaces_before before) spans (span_bytes spans.bytes block) (span_bytes spans.options block) ≡ Some packet
 
 abbrev pub BlockPacketIfAny : Order → Option Section → List ℕ → Option PacketSpans → Type 0
 BlockPacketIfAny order before block None = packets_in before block ≡ []
@@ -203,7 +203,7 @@ packet_if_any order before interfaces block parts None same is none = ap₂ (λ 
 packet_if_any order before interfaces block parts (Some spans) same is stands = record {
   packet = stands.packet;
   stands = ap₂ (λ (i : List Described) (p : Parts). option_to_list (packet_by i p)) same is ∙ ap option_to_list stands.stands;
-  is_lent = ap (λ (i : List Described). packet_in order i spans (span_bytes spans.bytes block) (span_bytes spans.options block)) same ∙ stands.is_lent;
+  is_lent = ap (λ (i : List Described). held_packet order i spans (span_bytes spans.bytes block) (span_bytes spans.options block)) same ∙ stands.is_lent;
 }
 
 pub block_came : (before : Option Section) (section : Option Order) (interfaces interfaces' : List Described) (text unread' block buffer : List ℕ) (frame : Frame) (spans : Option PacketSpans)

@@ -10,7 +10,7 @@ use Rattle.cap_octet.proofs.Checks.{checked_ok, checked_err}
 use Rattle.cap_pcap.specs.declared.header.Head.{Head}
 use Rattle.cap_pcap.specs.declared.header.RecordHead.{RecordHead}
 use Rattle.cap_pcap.specs.Header.{form_in, header_fault, header_in}
-use Rattle.cap_pcap.specs.Record.{captured_len, field_checks, record_header_in, record_size, packet_in}
+use Rattle.cap_pcap.specs.Record.{captured_len, field_checks, record_header_in, record_size, record_packet}
 use Rattle.cap_pcap.proofs.Headers.{header_fault-few, form_in-append, header_fault-append, header_fault-no_magic, header_fault-short}
 use Rattle.cap_pcap.proofs.Records.{field_checks-append, record_header_in-append, captured_len-append, record_fault-few, record_fault-fields, record_fault-short, IsRecord-came}
 use Rattle.cap_pcapng.specs.Frame.{is_section}
@@ -218,10 +218,10 @@ record_came head unread unread1 unread2 front unit buffer found size splits uppe
     let joined : front ++ drop 16 unit ≡ unit = ap (λ (l : List ℕ). l ++ drop 16 unit) (sym same) ∙ take-append-drop 16 unit in
     let says : record_header_in head unit ≡ found = ap (record_header_in head) (sym joined) ∙ record_header_in-append head front (drop 16 unit) (omega arith) ∙ sym fields.says in
     let bytes : take found.captured (drop 16 unit) ≡ drop 16 unit = take_all found.captured (drop 16 unit) (omega (arith, length-drop 16 unit)) in
-    let packet : record { link = head.link; snap = head.snap; name = []; time = found.time; orig = found.orig; bytes = take found.captured (drop 16 unit); comment = [] } ≡ packet_in head unit =
+    let packet : record { link = head.link; snap = head.snap; name = []; time = found.time; orig = found.orig; bytes = take found.captured (drop 16 unit); comment = [] } ≡ record_packet head unit =
     ap₂ (λ (h : RecordHead) (l : List ℕ). record { link = head.link; snap = head.snap; name = []; time = h.time; orig = h.orig; bytes = l; comment = [] }) (sym says) bytes in
     record {
-      packet = packet_in head unit;
+      packet = record_packet head unit;
       is_lent = rw there (ap Some packet);
       unit = rw there (a_pcap_record head unit (IsRecord-came head unit (omega arith) (rw same fields.none) (rw same (omega arith))));
       same = refl;

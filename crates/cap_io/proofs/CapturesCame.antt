@@ -14,7 +14,7 @@ use Rattle.cap_octet.specs.declared.number.Order.TheVariants.{Little}
 use Rattle.cap_octet.specs.Number.{u32_in}
 use Rattle.cap_pcap.specs.declared.header.Head.{Head}
 use Rattle.cap_pcapng.specs.Block.{Parts, SectionParts, InterfaceParts, EnhancedParts, SimpleParts, SkippedParts, body_in, parts_in, parts_in_body}
-use Rattle.cap_pcapng.specs.Frame.{frame_in, is_section, magic_order, order_in, type_in, type_of}
+use Rattle.cap_pcapng.specs.Frame.{frame_in, is_section, magic_order, order_in, type_in, type_of_block}
 use Rattle.cap_pcapng.specs.Interface.{Described, FitSection}
 use Rattle.cap_pcapng.specs.Unit.{IsBlock, Section, frame_behind, interfaces_before, order_before, packet_by, packets_in, parts_behind, section_after, section_by, unit_fault}
 use Rattle.cap_pcapng.specs.declared.frames.BlockType.TheVariants as type
@@ -26,9 +26,9 @@ use Rattle.cap_io.specs.declared.file_state.NextUnit.TheVariants as next_unit
 use Rattle.cap_io.specs.declared.file_state.PacketSpans.{PacketSpans}
 use Rattle.cap_io.specs.declared.file_state.FileState.{FileState}
 use Rattle.cap_io.specs.declared.file_state.FileState.TheVariants as state
-use Rattle.cap_io.specs.Blocks.{Enters, KnowsIfAny, packet_in, section_of}
+use Rattle.cap_io.specs.Blocks.{Enters, KnowsIfAny, held_packet, section_of}
 use Rattle.cap_io.specs.Capture.{Declared, Nothing, PcapFile, PcapngFile, Front, IsUnit, a_pcap_header, a_first_block, a_block, file_after, first_link_after, front_of, front_of_block, is_pcapng}
-use Rattle.cap_io.specs.Reading.{BeginsBlock, FrontMissing, HasInterface, HeaderCame, IsSized, IsConsistent, PacketCame, ReadsUnit, NoUnitCame, RestMissing, UnitCame, UnitPassed, declared_by, read_failures, known_first_link, known_order, span_bytes, most_taken, packet_in_unit, decisive_length, decisive_block_length, section_before, size_of}
+use Rattle.cap_io.specs.Reading.{BeginsBlock, FrontMissing, HasInterface, HeaderCame, IsSized, IsConsistent, PacketCame, ReadsUnit, NoUnitCame, RestMissing, UnitCame, UnitPassed, declared_by, read_failures, known_first_link, known_order, span_bytes, most_taken, packet_in_unit, decisive_length, decisive_block_length, section_before, unit_size}
 use Rattle.cap_io.proofs.BlocksCame.{BlockCame, BlockMissing}
 use Rattle.cap_io.proofs.Came.{Taken-behind, most_taken-file}
 use Rattle.cap_io.proofs.Fronts.{front_of-behind, front_of-pcapng, front_of_block-none, is_pcapng-append, most_taken-block, decisive_length-pcapng, decisive_block_length-few}
@@ -133,7 +133,7 @@ block_front link section unread unread' fault m =
 section-parts : (before : Option Section) (block : List ℕ) → is_section block ≡ true → parts_behind before block ≡ SectionParts
 section-parts before block is =
     let kind : type_in (order_before before) block ≡ type.Section =
-    ap (λ (b : Bool). if b then type.Section else type_of (u32_in (order_in (order_before before) block) block 0)) is in
+    ap (λ (b : Bool). if b then type.Section else type_of_block (u32_in (order_in (order_before before) block) block 0)) is in
     ap (λ k. parts_in_body k (frame_behind before block).order (body_in (frame_behind before block) block)) kind
 
 pub first-packets : (block : List ℕ) → IsBlock None block → packets_in None block ≡ []
@@ -242,7 +242,7 @@ packet-block (state.Pcapng own link) interfaces interfaces' front unread buffer 
     let Q : List Captured → Type 0 = λ qs. IsUnit (PcapngFile link section) block qs (file_after link (Some section) block) in
     let R : Declared → Type 0 = λ d. IsUnit (PcapngFile link section) block (p.packet ∷ []) d in
     packet_at_size link section (front ++ unread) buffer spans p.packet (declared_by (state.Pcapng own link) interfaces') size unread' whole
-    (ap (λ (s : Section). packet_in s.order section.interfaces spans (span_bytes spans.bytes block) (span_bytes spans.options block)) (sym kept) ∙ p.is_lent)
+    (ap (λ (s : Section). held_packet s.order section.interfaces spans (span_bytes spans.bytes block) (span_bytes spans.options block)) (sym kept) ∙ p.is_lent)
     (subst R (declared (section_after (Some section) block) same) (subst Q p.stands (a_block link section block came.is_block)))
     (ap (λ i. PcapngFile link (section_of own i)) stays) came.splits
 
@@ -259,7 +259,7 @@ pub has-section : (file : FileState) (front block : List ℕ) (frame : Frame) (i
     → frame_in (known_order file) front ≡ frame → Enters frame interfaces block (Some spans) interfaces' → KnowsIfAny interfaces' (Some spans) → HasInterface (declared_by file interfaces') spans
 has-section state.Unknown front block frame interfaces interfaces' spans begins is enters knows =
     let kind : frame.block_type ≡ type.Section =
-    ap (λ (f : Frame). f.block_type) (sym is) ∙ ap (λ (b : Bool). if b then type.Section else type_of (u32_in (order_in None front) front 0)) begins in
+    ap (λ (f : Frame). f.block_type) (sym is) ∙ ap (λ (b : Bool). if b then type.Section else type_of_block (u32_in (order_in None front) front 0)) begins in
     let none : parts_in frame block ≡ SectionParts = ap (λ k. parts_in_body k frame.order (body_in frame block)) kind in
     let no_packet : None ≡ Some enters.packet.packet = sym (ap (packet_by interfaces) none) ∙ enters.packet.stands in absurd (cc)
 has-section (state.Pcap head) front block frame interfaces interfaces' spans begins is enters knows = absurd begins
@@ -326,7 +326,7 @@ ReadsUnit-behind device old mid front file interfaces (Ok c) new buffer spans fi
       kept = tt;
     }
   where
-    is_small : (c : NextUnit) → IsSized spans c buffer (device.given new) → 0 < size_of spans c → device.given new < 2 ^ 63
+    is_small : (c : NextUnit) → IsSized spans c buffer (device.given new) → 0 < unit_size spans c → device.given new < 2 ^ 63
     is_small (next_unit.Other size) sized some = sized.1
     is_small next_unit.Packet sized some = sized.1
     is_small next_unit.End sized some = absurd (omega arith)

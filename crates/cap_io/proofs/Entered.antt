@@ -14,8 +14,8 @@ use Rattle.cap_pcapng.specs.Block.{Parts, SectionParts, InterfaceParts, Enhanced
 use Rattle.cap_pcapng.specs.Comment.{comment_code, comment_in}
 use Rattle.cap_pcapng.specs.Interface.{Described, IsDescribed, description_of}
 use Rattle.cap_pcapng.specs.InterfaceOptions.{first_value, fitting_options}
-use Rattle.cap_pcapng.specs.Padding.{padded}
-use Rattle.cap_pcapng.specs.Time.{time_in}
+use Rattle.cap_pcapng.specs.Padding.{padded_length}
+use Rattle.cap_pcapng.specs.Time.{representable_time}
 use Rattle.cap_pcapng.specs.Unit.{checks_among, most_interfaces, packet_by, packet_of, section_by}
 use Rattle.cap_pcapng.proofs.OptionLists.{options_in-none}
 use Rattle.cap_pcapng.proofs.WholeBlocks.{block_fails, block_passes}
@@ -26,7 +26,7 @@ use Rattle.cap_pcapng.specs.declared.blocks.SimpleBlock.{SimpleBlock}
 use Rattle.cap_pcapng.specs.declared.frames.BlockType.{BlockType}
 use Rattle.cap_pcapng.specs.declared.frames.BlockType.TheVariants as type
 use Rattle.cap_pcapng.specs.declared.frames.Frame.{Frame}
-use Rattle.cap_io.specs.Blocks.{Enters, IsEntryFault, PacketFound, packet_in, section_of, fault_among}
+use Rattle.cap_io.specs.Blocks.{Enters, IsEntryFault, PacketFound, held_packet, section_of, fault_among}
 use Rattle.cap_io.specs.Reading.{span_bytes}
 use Rattle.cap_io.specs.declared.file_state.PacketSpans.{PacketSpans}
 use Rattle.cap_io.proofs.OwnFaults.{all_failing, all_of_options}
@@ -36,7 +36,7 @@ use Rattle.cap_io.proofs.OwnFaults.{all_failing, all_of_options}
 -- captured bytes lie in what is left of a body where their padding does
 captured_fits : (captured : ℕ) (rest : List ℕ) → first_failing (data_checks captured rest) ≡ None → captured ≤ length rest
 captured_fits captured rest none =
-    let room : padded captured ≤ length rest = leb-true (padded captured) (length rest) (all_met (data_checks captured rest) none).0 in
+    let room : padded_length captured ≤ length rest = leb-true (padded_length captured) (length rest) (all_met (data_checks captured rest) none).0 in
     let more : captured ≤ (captured + 3) / 4 * 4 = omega arith in
     omega (arith, room, more)
 
@@ -61,8 +61,8 @@ IsFound checks Found = (first_failing checks ≡ None) × Found
 
 pub enhanced_found : (order : Order) (interfaces : List Described) (i : Described) (number ticks captured orig time size optional : ℕ) (rest options : List ℕ)
     → slice_get interfaces number ≡ Some i → first_failing (data_checks captured rest) ≡ None
-    → Ok time ≡ ok_or (time_in ticks i.units i.offset) TimeOutOfRange → time < 2 ^ 63
-    → options ≡ drop (padded captured) rest → optional ≡ length options
+    → Ok time ≡ ok_or (representable_time ticks i.units i.offset) TimeOutOfRange → time < 2 ^ 63
+    → options ≡ drop (padded_length captured) rest → optional ≡ length options
     → IsFound (checks_among interfaces (EnhancedParts number ticks captured orig order rest)) (PacketFound order interfaces (EnhancedParts number ticks captured orig order rest) 28 size rest
     (record {
       size = size;
@@ -73,17 +73,17 @@ pub enhanced_found : (order : Order) (interfaces : List Described) (i : Describe
       orig = orig;
     }))
 enhanced_found order interfaces i number ticks captured orig time size optional rest options known upper_bound exact small behind optional_is =
-    let room : padded captured ≤ length rest = leb-true (padded captured) (length rest) (all_met (data_checks captured rest) upper_bound).0 in
-    let lies_there : take optional (drop (28 + length rest - optional - 28) rest) ≡ options = options_behind (padded captured) optional rest options room behind optional_is in
-    let left : length options ≡ length rest - padded captured = ap length behind ∙ length-drop (padded captured) rest in
+    let room : padded_length captured ≤ length rest = leb-true (padded_length captured) (length rest) (all_met (data_checks captured rest) upper_bound).0 in
+    let lies_there : take optional (drop (28 + length rest - optional - 28) rest) ≡ options = options_behind (padded_length captured) optional rest options room behind optional_is in
+    let left : length options ≡ length rest - padded_length captured = ap length behind ∙ length-drop (padded_length captured) rest in
     let fits : captured ≤ length rest = captured_fits captured rest upper_bound in
-    let at : time_in ticks i.units i.offset ≡ Some time = found_by (time_in ticks i.units i.offset) TimeOutOfRange time (sym exact) in (
+    let at : representable_time ticks i.units i.offset ≡ Some time = found_by (representable_time ticks i.units i.offset) TimeOutOfRange time (sym exact) in (
       rw (known, at) (met_front (data_checks captured rest) ((is_some (Some time), TimeOutOfRange) ∷ []) upper_bound),
       record {
         whole = refl;
         known = rw known refl;
         from = refl;
-        packet = packet_of i time orig (take captured rest) (comment_in order (drop (padded captured) rest));
+        packet = packet_of i time orig (take captured rest) (comment_in order (drop (padded_length captured) rest));
         stands = rw (known, at) refl;
         is_lent = rw (known, lies_there ∙ behind) refl;
         there = fits;
@@ -224,7 +224,7 @@ packet_enters frame interfaces block rest parts skip spans whole least is passes
       packet = record {
         packet = found.packet;
         stands = ap (packet_by interfaces) (sym is) ∙ found.stands;
-        is_lent = ap₂ (packet_in frame.order interfaces spans) lie.bytes lie.options ∙ found.is_lent;
+        is_lent = ap₂ (held_packet frame.order interfaces spans) lie.bytes lie.options ∙ found.is_lent;
       };
       fits = (found.whole, lie.bytes_within, found.time, lie.options_within);
       known = found.known;

@@ -8,7 +8,7 @@ use Rattle.cap_octet.proofs.Numbers.{number_in-append}
 use Rattle.cap_pcap.specs.declared.header.Head.{Head}
 use Rattle.cap_octet.specs.Checks.{first_failing}
 use Rattle.cap_pcap.specs.Header.{form_in, header_fault, header_in}
-use Rattle.cap_pcap.specs.Record.{field_checks, record_size, record_fault, packet_in}
+use Rattle.cap_pcap.specs.Record.{field_checks, record_size, record_fault, record_packet}
 use Rattle.cap_pcap.proofs.Records.{passes}
 use Rattle.cap_pcapng.specs.Frame.{frame_checks, is_section}
 use Rattle.cap_pcapng.specs.Unit.{Section, block_size, order_before, packets_in, unit_fault}
@@ -52,7 +52,7 @@ pub front_of-header : (text : List ℕ) → is_pcapng text ≡ false → header_
 front_of-header text other none = front_of-pcap text other ∙ ap (λ (f : Option Fault). front_of_header f text) none
 
 pub front_of-record : (head : Head) (text : List ℕ) → record_fault head text ≡ None
-    → front_of (PcapFile head) text ≡ Whole (record_size head text) (packet_in head (take (record_size head text) text) ∷ []) (PcapFile head)
+    → front_of (PcapFile head) text ≡ Whole (record_size head text) (record_packet head (take (record_size head text) text) ∷ []) (PcapFile head)
 front_of-record head [] none = absurd (let p = passes head [] none in omega (arith, p.enough))
 front_of-record head (b ∷ bytes) none = ap (λ (f : Option Fault). front_of_record f head (b ∷ bytes)) none
 

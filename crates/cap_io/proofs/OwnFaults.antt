@@ -14,7 +14,7 @@ use Rattle.cap_pcapng.specs.Frame.{frame_checks}
 use Rattle.cap_pcapng.specs.Interface.{Described}
 use Rattle.cap_pcapng.specs.InterfaceOptions.{checks_behind, first_checks, first_value, list_checks, name_checks, name_code, offset_checks, offset_code, resolution_checks, resolution_code}
 use Rattle.cap_pcapng.specs.OptionList.{CodedValue, ends_at, fits_at, option_at, option_size, options_in, options_within}
-use Rattle.cap_pcapng.specs.Padding.{padded}
+use Rattle.cap_pcapng.specs.Padding.{padded_length}
 use Rattle.cap_pcapng.specs.Unit.{checks_among}
 use Rattle.cap_pcapng.specs.declared.frames.BlockType.{BlockType}
 use Rattle.cap_pcapng.specs.declared.frames.BlockType.TheVariants as type
@@ -76,8 +76,8 @@ unfolding options_within
 items_within P bad zero order text = tt
 items_within P bad (suc most) order text =
     items_cond P (ends_at order text) [] _ tt
-    (items_cond P (fits_at order text) (Ok (option_at order text) ∷ options_within most order (drop (padded (option_size order text)) text)) _
-    (tt, items_within P bad most order (drop (padded (option_size order text)) text)) (bad, tt))
+    (items_cond P (fits_at order text) (Ok (option_at order text) ∷ options_within most order (drop (padded_length (option_size order text)) text)) _
+    (tt, items_within P bad most order (drop (padded_length (option_size order text)) text)) (bad, tt))
 
 items_in : (P : Fault → Type 0) → P BadOption → (order : Order) (text : List ℕ) → AllByRecursion (IsItemOf P) (options_in order text)
 unfolding options_in

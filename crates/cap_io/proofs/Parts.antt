@@ -14,11 +14,11 @@ use Rattle.cap_octet.specs.declared.fault.Fault.TheVariants.{WriteFailed}
 use Rattle.cap_octet.specs.declared.format.Format.{Format}
 use Rattle.cap_octet.specs.declared.format.Format.TheVariants.{Pcap, NsecPcap, Pcapng}
 use Rattle.cap_pcap.specs.Encoding.{IsPcap, file_header as pcap_header, resolution_of}
-use Rattle.cap_pcapng.specs.Encoding.{interface_text, packet_text as pcapng_packet}
+use Rattle.cap_pcapng.specs.Encoding.{interface_text, packet_block as pcapng_packet}
 use Rattle.cap_io.specs.declared.numbering.InterfaceNumber.{InterfaceNumber}
 use Rattle.cap_io.specs.declared.sink.SinkState.{SinkState}
 use Rattle.cap_io.specs.Numbering.{HasNumber}
-use Rattle.cap_io.specs.Sink.{Appends, WritesPacket, block_text, description_text, file_start_in, packet_in}
+use Rattle.cap_io.specs.Sink.{Appends, WritesPacket, packet_block_text, description_text, file_start_in, appended_packet}
 use Rattle.cap_io.specs.Text.{Interface, interface_of, is_among, number_among, descriptions, file_start, record_text}
 
 pub appends-as : {E : Type 0} (r : Result (Unit {0}) E) (written bytes bytes' written' : List ℕ) → bytes ≡ bytes' → AppendsOrStops r written bytes written' → AppendsOrStops r written bytes' written'
@@ -92,7 +92,7 @@ pcap-file_header Pcap link is = refl
 pcap-file_header NsecPcap link is = refl
 pcap-file_header Pcapng link is = absurd is
 
-pub packet-record : (format : Format) (interfaces : List Interface) (p : Captured) → IsPcap format → record_text (resolution_of format) p ≡ packet_in format interfaces p
+pub packet-record : (format : Format) (interfaces : List Interface) (p : Captured) → IsPcap format → record_text (resolution_of format) p ≡ appended_packet format interfaces p
 packet-record Pcap interfaces p is = refl
 packet-record NsecPcap interfaces p is = refl
 packet-record Pcapng interfaces p is = absurd is
@@ -101,7 +101,7 @@ described : (b : Bool) (p : Captured) → description_text (not b) p ≡ descrip
 described true p = refl
 described false p = sym (append-nil (interface_text p.link p.snap p.name))
 
-pub block-place : (old : List Interface) (p : Captured) (place : InterfaceNumber) (new : List Interface) → HasNumber old (interface_of p) place new → block_text place p ≡ packet_in Pcapng old p
+pub block-place : (old : List Interface) (p : Captured) (place : InterfaceNumber) (new : List Interface) → HasNumber old (interface_of p) place new → packet_block_text place p ≡ appended_packet Pcapng old p
 block-place old p place new has =
     ap₂ (λ (b : Bool) (n : ℕ). description_text b p ++ pcapng_packet n p) has.is_new has.number
     ∙ ap (λ (l : List ℕ). l ++ pcapng_packet (number_among old (interface_of p)) p) (described (is_among old (interface_of p)) p)
@@ -109,16 +109,16 @@ block-place old p place new has =
 -- ---- what a sink adds
 
 pub record-adds : (r : Result (Unit {0}) DeviceFault) (format : Format) (state : SinkState) (interfaces : List Interface) (p : Captured) (written written' : List ℕ) → (format ≡ Pcap) ⊎ (format ≡ NsecPcap)
-    → AppendsOrStops r written (file_start_in format state p.link ++ record_text (resolution_of format) p) written' → AppendsOrStops r written (file_start_in format state p.link ++ packet_in format interfaces p) written'
+    → AppendsOrStops r written (file_start_in format state p.link ++ record_text (resolution_of format) p) written' → AppendsOrStops r written (file_start_in format state p.link ++ appended_packet format interfaces p) written'
 record-adds r format state interfaces p written written' form appends =
     let same = ap (λ (l : List ℕ). file_start_in format state p.link ++ l) (packet-record format interfaces p (is-pcap format form)) in
     appends-as r written _ _ written' same appends
 
 pub block-adds : (r : Result (Unit {0}) DeviceFault) (format : Format) (state : SinkState) (interfaces : List Interface) (p : Captured) (place : InterfaceNumber) (new : List Interface) (written written' : List ℕ)
     → format ≡ Pcapng → HasNumber interfaces (interface_of p) place new
-    → AppendsOrStops r written (file_start_in Pcapng state p.link ++ block_text place p) written' → AppendsOrStops r written (file_start_in format state p.link ++ packet_in format interfaces p) written'
+    → AppendsOrStops r written (file_start_in Pcapng state p.link ++ packet_block_text place p) written' → AppendsOrStops r written (file_start_in format state p.link ++ appended_packet format interfaces p) written'
 block-adds r format state interfaces p place new written written' form has appends =
-    let P : Format → Type 0 = λ f. AppendsOrStops r written (file_start_in f state p.link ++ packet_in f interfaces p) written' in
+    let P : Format → Type 0 = λ f. AppendsOrStops r written (file_start_in f state p.link ++ appended_packet f interfaces p) written' in
     subst P (sym form) (appends-as r written _ _ written' (ap (λ (l : List ℕ). file_start_in Pcapng state p.link ++ l) (block-place interfaces p place new has)) appends)
 
 -- a packet that isn't refused, where the device failed

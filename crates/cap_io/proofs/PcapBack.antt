@@ -11,7 +11,7 @@ use Rattle.cap_octet.specs.declared.format.Format.TheVariants.{Pcap, NsecPcap}
 use Rattle.cap_octet.specs.declared.number.Order.TheVariants.{Little}
 use Rattle.cap_octet.proofs.Checks.{all_met, none_failing}
 use Rattle.cap_pcap.specs.Header.{IsHeader, header_checks}
-use Rattle.cap_pcap.specs.Record.{IsRecord, field_checks, most_captured, nanoseconds_of_part, packet_in, parts_of_second}
+use Rattle.cap_pcap.specs.Record.{IsRecord, field_checks, most_captured, nanoseconds_of_part, record_packet, parts_of_second}
 use Rattle.cap_pcap.specs.Encoding as pcap
 use Rattle.cap_pcap.specs.declared.header.Head.{Head}
 use Rattle.cap_pcap.specs.declared.header.Resolution.{Resolution}
@@ -56,7 +56,7 @@ record IsKept (r : Resolution) (link : ℕ) (p : Captured) : Type 0 where
 
 record ReadsRecord (r : Resolution) (link : ℕ) (p : Captured) : Type 0 where
   is_record : IsRecord (written_head r link) (record_text r p)
-  packet : packet_in (written_head r link) (record_text r p) ≡ p
+  packet : record_packet (written_head r link) (record_text r p) ≡ p
 
 record-back : (r : Resolution) (link : ℕ) (p : Captured) → IsKept r link p → ReadsRecord r link p
 unfolding written_head
@@ -110,7 +110,7 @@ records-hold r link at [] kept = holds-none (PcapFile (written_head r link)) at 
 records-hold r link at (p ∷ ps) kept =
     let back = record-back r link p kept.0 in
     let unit = a_pcap_record (written_head r link) (record_text r p) back.is_record in
-    let all : Holds (PcapFile (written_head r link)) at (record_text r p ++ flat_map (record_text r) ps) (packet_in (written_head r link) (record_text r p) ∷ ps) =
+    let all : Holds (PcapFile (written_head r link)) at (record_text r p ++ flat_map (record_text r) ps) (record_packet (written_head r link) (record_text r p) ∷ ps) =
     holds-unit unit at (flat_map (record_text r) ps) ps (records-hold r link (at + length (record_text r p)) ps kept.1) in
     rw back.packet at all
 
@@ -134,7 +134,7 @@ abbrev link_check : List Captured → Captured → List (Bool × Fault)
 link_check earlier p = (has_first_link earlier p, LinkTypesDiffer) ∷ []
 
 abbrev form_checks : List Captured → Captured → List (Bool × Fault)
-form_checks earlier p = (has_first_link earlier p, LinkTypesDiffer) ∷ pcap.fit_checks p
+form_checks earlier p = (has_first_link earlier p, LinkTypesDiffer) ∷ pcap.record_fit_checks p
 
 same-first : (first p : Captured) (rest earlier later : List Captured) → first ∷ rest ≡ earlier ++ p ∷ later → first_failing (link_check earlier p) ≡ None → p.link ≡ first.link
 same-first first p rest [] later is none = let e : first ≡ p = cc in ap (λ (q : Captured). q.link) (sym e)

@@ -57,7 +57,7 @@ first-unit after bytes ps reads =
 
 record IsKept (p : Captured) : Type 0 where
   in_range : InRange p
-  fits : first_failing (pcapng.fit_checks p) ≡ None
+  fits : first_failing (pcapng.block_fit_checks p) ≡ None
 
 -- what is held behind a place, whatever link type was declared first
 abbrev HoldsBehind : List Interface → List ℕ → List Captured → Type 0
@@ -65,12 +65,12 @@ HoldsBehind interfaces more ps = (first : Option ℕ) (at : ℕ) → Holds (Pcap
 
 -- a packet whose interface has this number
 packet-holds : (interfaces : List Interface) (number : ℕ) (p : Captured) (more : List ℕ) (ps : List Captured) → slice_get interfaces number ≡ Some (interface_of p)
-    → length interfaces ≤ most_interfaces → IsKept p → HoldsBehind interfaces more ps → HoldsBehind interfaces (pcapng.packet_text number p ++ more) (p ∷ ps)
+    → length interfaces ≤ most_interfaces → IsKept p → HoldsBehind interfaces more ps → HoldsBehind interfaces (pcapng.packet_block number p ++ more) (p ∷ ps)
 packet-holds interfaces number p more ps known upper_bound kept later first at =
     let within : number < length interfaces = slice_get_within interfaces number (interface_of p) known in
     let exact : slice_get (map described interfaces) number ≡ Some (written_interface p.link p.snap p.name) =
     slice_get-map described interfaces number ∙ ap (option_map described) known in
-    let unit = unit-of first (section_of interfaces) (section_of interfaces) (pcapng.packet_text number p) (p ∷ [])
+    let unit = unit-of first (section_of interfaces) (section_of interfaces) (pcapng.packet_block number p) (p ∷ [])
     (packet_back (map described interfaces) number p exact (omega arith) kept.in_range.time kept.in_range.orig kept.in_range.comment kept.fits) in
     holds-unit unit at more ps (later _ _)
 
@@ -90,16 +90,16 @@ described-holds : (b : Bool) (interfaces : List Interface) (number : ℕ) (p : C
     → slice_get (interfaces ++ (if b then [] else interface_of p ∷ [])) number ≡ Some (interface_of p)
     → length (interfaces ++ (if b then [] else interface_of p ∷ [])) ≤ most_interfaces → IsKept p
     → HoldsBehind (interfaces ++ (if b then [] else interface_of p ∷ [])) more ps
-    → HoldsBehind interfaces ((descriptions (if b then [] else interface_of p ∷ []) ++ pcapng.packet_text number p) ++ more) (p ∷ ps)
+    → HoldsBehind interfaces ((descriptions (if b then [] else interface_of p ∷ []) ++ pcapng.packet_block number p) ++ more) (p ∷ ps)
 described-holds true interfaces number p more ps known upper_bound kept later =
     packet-holds interfaces number p more ps (rw (append-nil interfaces) at known) (rw (append-nil interfaces) at upper_bound) kept (rw (append-nil interfaces) at later)
 described-holds false interfaces number p more ps known upper_bound kept later =
     let bytes : List ℕ = pcapng.interface_text p.link p.snap p.name in
-    let split : ((bytes ++ []) ++ pcapng.packet_text number p) ++ more ≡ bytes ++ (pcapng.packet_text number p ++ more) =
-    ap (λ (l : List ℕ). (l ++ pcapng.packet_text number p) ++ more) (append-nil bytes) ∙ append_assoc bytes (pcapng.packet_text number p) more in
+    let split : ((bytes ++ []) ++ pcapng.packet_block number p) ++ more ≡ bytes ++ (pcapng.packet_block number p ++ more) =
+    ap (λ (l : List ℕ). (l ++ pcapng.packet_block number p) ++ more) (append-nil bytes) ∙ append_assoc bytes (pcapng.packet_block number p) more in
     let H : List ℕ → Type 0 = λ l. HoldsBehind interfaces l (p ∷ ps) in
     subst H (sym split)
-    (interface-holds interfaces p (pcapng.packet_text number p ++ more) (p ∷ ps) (omega (arith, upper_bound, length-append interfaces (interface_of p ∷ []))) kept.in_range
+    (interface-holds interfaces p (pcapng.packet_block number p ++ more) (p ∷ ps) (omega (arith, upper_bound, length-append interfaces (interface_of p ∷ []))) kept.in_range
     (packet-holds (interfaces ++ interface_of p ∷ []) number p more ps known upper_bound kept later))
 
 -- ---- packets
@@ -127,7 +127,7 @@ packets-hold earlier (p ∷ ps) kept upper_bound =
     let H : List Interface → Type 0 = λ l. HoldsBehind l more ps in subst H grown (packets-hold (earlier ++ p ∷ []) ps kept.1 behind) in
     let within : length (is ++ new_among is i) ≤ most_interfaces =
     let L : List Interface → Type 0 = λ l. length l ≤ most_interfaces in subst L grown (few-front (earlier ++ p ∷ []) ps most_interfaces behind) in
-    let T : List Interface → Type 0 = λ l. HoldsBehind is ((descriptions l ++ pcapng.packet_text (number_among is i) p) ++ more) (p ∷ ps) in
+    let T : List Interface → Type 0 = λ l. HoldsBehind is ((descriptions l ++ pcapng.packet_block (number_among is i) p) ++ more) (p ∷ ps) in
     subst T (new-interfaces_of earlier i) (described-holds (is_among is i) is (number_among is i) p more ps (found is i) within kept.0 later)
 
 -- ---- a file
@@ -135,7 +135,7 @@ packets-hold earlier (p ∷ ps) kept upper_bound =
 kept-of : (earlier : List Captured) (p : Captured) → IsCarried Pcapng earlier p → IsKept p
 kept-of earlier p carried = record {
   in_range = carried.in_range;
-  fits = none_failing (pcapng.fit_checks p) ((all_met (put_checks Pcapng earlier p) carried.taken).0, tt);
+  fits = none_failing (pcapng.block_fit_checks p) ((all_met (put_checks Pcapng earlier p) carried.taken).0, tt);
 }
 
 pub pcapng-back : Back Pcapng

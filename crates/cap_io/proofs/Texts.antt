@@ -10,12 +10,12 @@ use Rattle.cap_octet.specs.declared.format.Format.{Format}
 use Rattle.cap_octet.specs.declared.format.Format.TheVariants.{Pcap, NsecPcap, Pcapng}
 use Rattle.cap_pcap.specs.Record.{most_captured}
 use Rattle.cap_pcapng.specs.Frame.{most_block}
-use Rattle.cap_pcapng.specs.Padding.{padded}
+use Rattle.cap_pcapng.specs.Padding.{padded_length}
 use Rattle.cap_pcapng.specs.Encoding as pcapng
 use Rattle.cap_io.specs.declared.sink.SinkState.{SinkState}
 use Rattle.cap_io.specs.declared.sink.SinkState.TheVariants.{Empty, Started, Broken}
 use Rattle.cap_io.specs.Text.{FitFile, Interface, interface_of, interfaces_of, number_among, descriptions, most_output_interfaces, file_start, packet_text, packets_text, text, added_text, has_first_link, put_checks, refusal_of}
-use Rattle.cap_io.specs.Sink.{SinkView, sink_at, state_after, kept_interfaces, HasPut, HasPackets, takes_memory, PutsAfter, WritesPacket, PutsPacket, PutWrites, IsPutAnswer, Finishes, FinishWrites, FinishesEmpty, link_or_ethernet, AddsPacket, checks_in, refusal_in, takes_memory_in, file_start_in, packet_in, added_in, state_after_packet, interfaces_after_packet, interfaces_after_put}
+use Rattle.cap_io.specs.Sink.{SinkView, sink_at, state_after, kept_interfaces, HasPut, HasPackets, takes_memory, PutsAfter, WritesPacket, PutsPacket, PutWrites, IsPutAnswer, Finishes, FinishWrites, FinishesEmpty, link_or_ethernet, AddsPacket, checks_in, refusal_in, takes_memory_in, file_start_in, appended_packet, added_in, state_after_packet, interfaces_after_packet, interfaces_after_put}
 use Rattle.cap_io.proofs.Interfaces.{interfaces_of-push, among-interfaces_of, new-interfaces_of}
 
 -- ---- faults that refuse no packet
@@ -66,7 +66,7 @@ refused-failure Pcap ps p fault is e =
 refused-failure NsecPcap ps p fault is e =
     record_by (has_first_link ps p) (nat_le (length p.bytes) most_captured) (nat_lt (p.time / 1000000000) (2 ^ 32)) fault is e
 refused-failure Pcapng ps p fault is e =
-    block_by (nat_le (32 + padded (length p.bytes) + length (pcapng.comment_text p.comment)) most_block) (nat_le (length (interfaces_of (ps ++ p ∷ []))) most_output_interfaces) fault is e
+    block_by (nat_le (32 + padded_length (length p.bytes) + length (pcapng.comment_text p.comment)) most_block) (nat_le (length (interfaces_of (ps ++ p ∷ []))) most_output_interfaces) fault is e
 
 pub refused-write_failed : (format : Format) (ps : List Captured) (p : Captured) → refusal_of format ps p ≡ Some WriteFailed → ⊥
 refused-write_failed format ps p e = refused-failure format ps p WriteFailed (inl refl) e
@@ -109,15 +109,15 @@ checks-after Pcap (q ∷ qs) p = refl
 checks-after NsecPcap [] p = refl
 checks-after NsecPcap (q ∷ qs) p = refl
 checks-after Pcapng ps p =
-    ap (λ (l : List Interface). pcapng.fit_checks p ++ (nat_le (length l) most_output_interfaces, TooManyOutputInterfaces) ∷ []) (interfaces-after Pcapng ps p)
+    ap (λ (l : List Interface). pcapng.block_fit_checks p ++ (nat_le (length l) most_output_interfaces, TooManyOutputInterfaces) ∷ []) (interfaces-after Pcapng ps p)
 
-packet-after : (format : Format) (ps : List Captured) (p : Captured) → packet_in format (kept_interfaces format ps) p ≡ packet_text format ps p
+packet-after : (format : Format) (ps : List Captured) (p : Captured) → appended_packet format (kept_interfaces format ps) p ≡ packet_text format ps p
 packet-after Pcap ps p = refl
 packet-after NsecPcap ps p = refl
 packet-after Pcapng ps p =
-    ap (λ (l : List Interface). descriptions l ++ pcapng.packet_text (number_among (interfaces_of ps) (interface_of p)) p) (new-interfaces_of ps (interface_of p))
+    ap (λ (l : List Interface). descriptions l ++ pcapng.packet_block (number_among (interfaces_of ps) (interface_of p)) p) (new-interfaces_of ps (interface_of p))
 
-added-after : (format : Format) (ps : List Captured) (p : Captured) → file_start_in format (state_after ps) p.link ++ packet_in format (kept_interfaces format ps) p ≡ added_text format ps p
+added-after : (format : Format) (ps : List Captured) (p : Captured) → file_start_in format (state_after ps) p.link ++ appended_packet format (kept_interfaces format ps) p ≡ added_text format ps p
 added-after format [] p = ap (λ (l : List ℕ). file_start format p.link ++ l) (packet-after format [] p)
 added-after format (q ∷ qs) p = packet-after format (q ∷ qs) p
 
@@ -128,7 +128,7 @@ refusal-put sink ps p has =
 
 pub added-put : (sink : SinkView) (ps : List Captured) (p : Captured) → HasPut sink ps → added_in sink p ≡ added_text sink.format ps p
 added-put sink ps p has =
-    ap₂ (λ (s : SinkState) (l : List Interface). file_start_in sink.format s p.link ++ packet_in sink.format l p) has.state has.interfaces
+    ap₂ (λ (s : SinkState) (l : List Interface). file_start_in sink.format s p.link ++ appended_packet sink.format l p) has.state has.interfaces
     ∙ added-after sink.format ps p
 
 takes-put : (sink : SinkView) (ps : List Captured) (p : Captured) → HasPut sink ps → takes_memory_in sink.format sink.interfaces p ≡ takes_memory sink.format ps p

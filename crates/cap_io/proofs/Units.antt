@@ -7,7 +7,7 @@ use Rattle.cap_pcap.specs.declared.header.Head.{Head}
 use Rattle.cap_pcap.specs.declared.header.Resolution.{Resolution}
 use Rattle.cap_pcap.specs.declared.header.Resolution.TheVariants.{Microseconds, Nanoseconds}
 use Rattle.cap_pcap.specs.Header.{form_in, header_checks, header_fault, header_in, magic, IsHeader}
-use Rattle.cap_pcap.specs.Record.{record_fault, record_size, packet_in, IsRecord}
+use Rattle.cap_pcap.specs.Record.{record_fault, record_size, record_packet, IsRecord}
 use Rattle.cap_pcap.proofs.Headers.{header_fault-append, header_fault-none, header_in-append}
 use Rattle.cap_pcap.proofs.Records.{passes, IsRecord-front, IsRecord-take}
 use Rattle.std.specs.Prelude.{◌==◌, nat_le}
@@ -79,7 +79,7 @@ header-front bytes more head is =
     front_of-header (bytes ++ more) (other-header (bytes ++ more) none) none
     ∙ rw (header_in-append bytes more (omega (arith, is.whole)), is.whole, is.says) refl
 
-record-front : (head : Head) (bytes more : List ℕ) → IsRecord head bytes → front_of (PcapFile head) (bytes ++ more) ≡ Whole (length bytes) (packet_in head bytes ∷ []) (PcapFile head)
+record-front : (head : Head) (bytes more : List ℕ) → IsRecord head bytes → front_of (PcapFile head) (bytes ++ more) ≡ Whole (length bytes) (record_packet head bytes ∷ []) (PcapFile head)
 record-front head bytes more is =
     let p = IsRecord-front head bytes more is in
     front_of-record head (bytes ++ more) p.0
@@ -142,9 +142,9 @@ record-is : (head : Head) (text : List ℕ) (size : ℕ) (packets : List Capture
 record-is head text size packets after None none e =
     let p = passes head text none in
     let front : List ℕ = take (record_size head text) text in
-    let is : IsFront (PcapFile head) text (record_size head text) (packet_in head front ∷ []) (PcapFile head) =
+    let is : IsFront (PcapFile head) text (record_size head text) (record_packet head front ∷ []) (PcapFile head) =
     record { unit = a_pcap_record head front (IsRecord-take head text none); there = p.whole; some = omega arith } in
-    same_front (PcapFile head) text (record_size head text) size (packet_in head front ∷ []) packets (PcapFile head) after e is
+    same_front (PcapFile head) text (record_size head text) size (record_packet head front ∷ []) packets (PcapFile head) after e is
 record-is head text size packets after (Some fault) fails e = (cc)
 
 -- the block that a text begins with, as a unit

@@ -20,9 +20,9 @@ abbrev pub section_of : Order → List Described → Section
 section_of order interfaces = record { order = order; interfaces = interfaces }
 
 -- what is held of a packet with these data and options, in this byte order
-abbrev pub packet_in : Order → List Described → PacketSpans → (bytes options : List ℕ)
+abbrev pub held_packet : Order → List Described → PacketSpans → (bytes options : List ℕ)
     → Option Captured
-packet_in order interfaces spans bytes options =
+held_packet order interfaces spans bytes options =
     option_map
     (λ (i : Described). packet_of i spans.time spans.orig bytes (comment_in order options))
     (slice_get interfaces spans.interface)
@@ -36,7 +36,7 @@ pub record PacketFound (order : Order) (interfaces : List Described) (parts : Pa
   pub from : spans.bytes.start ≡ start
   pub packet : Captured
   pub stands : packet_by interfaces parts ≡ Some packet
-  pub is_lent : packet_in order interfaces spans (take spans.bytes.length rest)
+  pub is_lent : held_packet order interfaces spans (take spans.bytes.length rest)
       (take spans.options.length (drop (spans.options.start - spans.bytes.start) rest))
       ≡ Some packet
   pub there : spans.bytes.length ≤ length rest
@@ -49,7 +49,7 @@ pub record PacketStands (order : Order) (interfaces : List Described) (parts : P
     (block : List ℕ) (spans : PacketSpans) : Type 0 where
   pub packet : Captured
   pub stands : packet_by interfaces parts ≡ Some packet
-  pub is_lent : packet_in order interfaces spans (span_bytes spans.bytes block)
+  pub is_lent : held_packet order interfaces spans (span_bytes spans.bytes block)
       (span_bytes spans.options block) ≡ Some packet
 
 abbrev pub PacketIfAny : Order → List Described → Parts → List ℕ → Option PacketSpans → Type 0

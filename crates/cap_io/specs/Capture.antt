@@ -6,7 +6,7 @@ use Rattle.std.specs.Option.{option_map, option_or}
 use Rattle.cap_octet.specs.Packet.{Captured}
 use Rattle.cap_octet.specs.declared.fault.Fault.{Fault}
 use Rattle.cap_pcap.specs.Header.{IsHeader, header_fault, header_in}
-use Rattle.cap_pcap.specs.Record.{IsRecord, record_fault, record_size, packet_in}
+use Rattle.cap_pcap.specs.Record.{IsRecord, record_fault, record_size, record_packet}
 use Rattle.cap_pcap.specs.declared.header.Head.{Head}
 use Rattle.cap_pcap.specs.declared.header.Resolution.{Resolution}
 use Rattle.cap_pcap.specs.declared.header.Resolution.TheVariants.{Microseconds, Nanoseconds}
@@ -42,7 +42,7 @@ pub data IsUnit : Declared → List ℕ → List Captured → Declared → Type 
   a_pcap_header : (bytes : List ℕ) (head : Head) → IsHeader bytes head
       → IsUnit Nothing bytes [] (PcapFile head)
   a_pcap_record : (head : Head) (bytes : List ℕ) → IsRecord head bytes
-      → IsUnit (PcapFile head) bytes (packet_in head bytes ∷ []) (PcapFile head)
+      → IsUnit (PcapFile head) bytes (record_packet head bytes ∷ []) (PcapFile head)
   -- behind nothing a block is a section header
   a_first_block : (bytes : List ℕ) → IsBlock None bytes
       → IsUnit Nothing bytes (packets_in None bytes) (file_after None None bytes)
@@ -89,7 +89,7 @@ front_of_header (Some fault) text = Stops (Some fault)
 
 abbrev pub front_of_record : Option Fault → Head → List ℕ → Front
 front_of_record None head text =
-    Whole (record_size head text) (packet_in head (take (record_size head text) text) ∷ [])
+    Whole (record_size head text) (record_packet head (take (record_size head text) text) ∷ [])
     (PcapFile head)
 front_of_record (Some fault) head text = Stops (Some fault)
 

@@ -260,10 +260,10 @@ UnitCame declared unread buffer spans next_unit.End declared' unread' =
     EndCame declared unread declared' unread'
 
 -- how many bytes it has
-abbrev pub size_of : PacketSpans → NextUnit → ℕ
-size_of spans (next_unit.Other size) = size
-size_of spans next_unit.Packet = spans.size
-size_of spans next_unit.End = 0
+abbrev pub unit_size : PacketSpans → NextUnit → ℕ
+unit_size spans (next_unit.Other size) = size
+unit_size spans next_unit.Packet = spans.size
+unit_size spans next_unit.End = 0
 
 -- what holds of it on any device
 abbrev pub IsSized : PacketSpans → NextUnit → List ℕ → ℕ → Type 0
@@ -292,7 +292,7 @@ BeginsBlock (state.Pcapng order first) front = Unit {0}
 pub record ReadsUnit {I : Type 0} (device : Ghosts I) (old : I) (front : List ℕ) (file : FileState)
     (interfaces : List Described) (r : Result NextUnit Fault) (new : I) (buffer : List ℕ)
     (spans : PacketSpans) (file' : FileState) (interfaces' : List Described) : Type 0 where
-  pub moves : Moves device old new (length front) (size_of spans) most_in_unit r
+  pub moves : Moves device old new (length front) (unit_size spans) most_in_unit r
   pub sized : IfOk r (λ came. IsSized spans came buffer (device.given new))
   pub consistent : OnOk r (IsConsistent file' interfaces')
   pub known : IfOk r (HasInterfaceIfAny (declared_by file' interfaces') spans)

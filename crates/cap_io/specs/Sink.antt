@@ -191,12 +191,12 @@ has_link Empty p = true
 has_link (Started link) p = link == p.link
 has_link (Broken fault) p = true
 
-abbrev pub record_checks : SinkState → Captured → List (Bool × Fault)
-record_checks state p = (has_link state p, LinkTypesDiffer) ∷ pcap.fit_checks p
+abbrev pub sink_record_checks : SinkState → Captured → List (Bool × Fault)
+sink_record_checks state p = (has_link state p, LinkTypesDiffer) ∷ pcap.record_fit_checks p
 
-abbrev pub block_checks : List Interface → Captured → List (Bool × Fault)
-block_checks interfaces p =
-    pcapng.fit_checks p
+abbrev pub sink_block_checks : List Interface → Captured → List (Bool × Fault)
+sink_block_checks interfaces p =
+    pcapng.block_fit_checks p
     ++ (
       nat_le
           (length
@@ -207,9 +207,9 @@ block_checks interfaces p =
     ∷ []
 
 abbrev pub checks_in : Format → SinkState → List Interface → Captured → List (Bool × Fault)
-checks_in Pcap state interfaces p = record_checks state p
-checks_in NsecPcap state interfaces p = record_checks state p
-checks_in Pcapng state interfaces p = block_checks interfaces p
+checks_in Pcap state interfaces p = sink_record_checks state p
+checks_in NsecPcap state interfaces p = sink_record_checks state p
+checks_in Pcapng state interfaces p = sink_block_checks interfaces p
 
 abbrev pub refusal_in : SinkView → Captured → Option Fault
 refusal_in sink p = first_failing (checks_in sink.format sink.state sink.interfaces p)
@@ -225,25 +225,25 @@ file_start_in format Empty link = file_start format link
 file_start_in format (Started first) link = []
 file_start_in format (Broken fault) link = []
 
-abbrev pub packet_in : Format → List Interface → Captured → List ℕ
-packet_in Pcap interfaces p = record_text Microseconds p
-packet_in NsecPcap interfaces p = record_text Nanoseconds p
-packet_in Pcapng interfaces p =
+abbrev pub appended_packet : Format → List Interface → Captured → List ℕ
+appended_packet Pcap interfaces p = record_text Microseconds p
+appended_packet NsecPcap interfaces p = record_text Nanoseconds p
+appended_packet Pcapng interfaces p =
     descriptions (new_among interfaces (interface_of p))
-    ++ pcapng.packet_text (number_among interfaces (interface_of p)) p
+    ++ pcapng.packet_block (number_among interfaces (interface_of p)) p
 
 abbrev pub added_in : SinkView → Captured → List ℕ
 added_in sink p =
-    file_start_in sink.format sink.state p.link ++ packet_in sink.format sink.interfaces p
+    file_start_in sink.format sink.state p.link ++ appended_packet sink.format sink.interfaces p
 
 -- a packet of pcapng by the number of its interface
 abbrev pub description_text : Bool → Captured → List ℕ
 description_text true p = pcapng.interface_text p.link p.snap p.name
 description_text false p = []
 
-abbrev pub block_text : InterfaceNumber → Captured → List ℕ
-block_text interface p =
-    description_text interface.is_new p ++ pcapng.packet_text interface.number p
+abbrev pub packet_block_text : InterfaceNumber → Captured → List ℕ
+packet_block_text interface p =
+    description_text interface.is_new p ++ pcapng.packet_block interface.number p
 
 -- These bytes are appended to a device; or a prefix of them, not the whole, where it failed.
 pub record Appends {Device : Type 0} (d : Ghosts Device) (old : Device) (bytes : List ℕ)

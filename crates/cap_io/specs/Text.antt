@@ -79,7 +79,7 @@ packet_text Pcap earlier p = record_text Microseconds p
 packet_text NsecPcap earlier p = record_text Nanoseconds p
 packet_text Pcapng earlier p =
     descriptions (new_among (map interface_of earlier) (interface_of p))
-    ++ pcapng.packet_text (number_among (interfaces_of earlier) (interface_of p)) p
+    ++ pcapng.packet_block (number_among (interfaces_of earlier) (interface_of p)) p
 
 -- the bytes of packets that come after these, one after another
 abbrev pub packets_text : Format → List Captured → List Captured → List ℕ
@@ -107,10 +107,11 @@ has_first_link (q ∷ qs) p = q.link == p.link
 
 -- the checks of a packet that comes after these, in order
 abbrev pub put_checks : Format → List Captured → Captured → List (Bool × Fault)
-put_checks Pcap earlier p = (has_first_link earlier p, LinkTypesDiffer) ∷ pcap.fit_checks p
-put_checks NsecPcap earlier p = (has_first_link earlier p, LinkTypesDiffer) ∷ pcap.fit_checks p
+put_checks Pcap earlier p = (has_first_link earlier p, LinkTypesDiffer) ∷ pcap.record_fit_checks p
+put_checks NsecPcap earlier p =
+    (has_first_link earlier p, LinkTypesDiffer) ∷ pcap.record_fit_checks p
 put_checks Pcapng earlier p =
-    pcapng.fit_checks p
+    pcapng.block_fit_checks p
     ++ (
       nat_le
           (length

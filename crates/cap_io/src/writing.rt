@@ -2,10 +2,10 @@
 ghost use Rattle.std.specs.Prelude.{◌≡◌, ◌++◌, None};
 ghost use Rattle.cap_octet.specs.Checks.{checked, first_failing};
 ghost use Rattle.cap_octet.specs.Packet.{captured};
-ghost use Rattle.cap_pcap.specs.Encoding.{IsPcap, fit_checks, resolution_of};
-ghost use Rattle.cap_pcapng.specs.Encoding.{fit_checks as block_fit_checks};
+ghost use Rattle.cap_pcap.specs.Encoding.{IsPcap, record_fit_checks, resolution_of};
+ghost use Rattle.cap_pcapng.specs.Encoding.{record_fit_checks as block_fit_checks};
 ghost use Rattle.cap_io.specs.Text.{record_text};
-ghost use Rattle.cap_io.specs.Sink.{Appends, block_text, checks_in, file_start_in};
+ghost use Rattle.cap_io.specs.Sink.{Appends, packet_block_text, checks_in, file_start_in};
 ghost use Rattle.cap_io.specs.declared.sink.SinkState.TheVariants as state;
 
 use crate::numbering::{InterfaceNumber, OutputInterfaces};
@@ -81,7 +81,7 @@ pub(crate) fn write_record<O: Output>(
     packet: &Packet<'_>,
 ) -> Result<(), DeviceFault>
     requires form { IsPcap format }
-    requires fits { first_failing (fit_checks (captured packet.now)) ≡ None }
+    requires fits { first_failing (record_fit_checks (captured packet.now)) ≡ None }
     ensures { Appends O.Output output.old (file_start_in format state packet.now.link
         ++ record_text (resolution_of format) (captured packet.now)) result output.new }
 {
@@ -99,7 +99,7 @@ pub(crate) fn write_block<O: Output>(
 ) -> Result<(), DeviceFault>
     requires { first_failing (block_fit_checks (captured packet.now)) ≡ None }
     ensures { Appends O.Output output.old (file_start_in Format.Pcapng state packet.now.link
-        ++ block_text interface (captured packet.now)) result output.new }
+        ++ packet_block_text interface (captured packet.now)) result output.new }
 {
     write_file_start(output, Format::Pcapng, state, packet.link)?;
     if interface.is_new {

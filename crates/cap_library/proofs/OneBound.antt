@@ -4,8 +4,8 @@ use Rattle.flt_words.specs.declared.token.Token.{Token}
 use Rattle.flt_words.proofs.OneAnswer.{same_answer}
 use Rattle.flt_bpf.specs.declared.insn.Insn.{Insn}
 use Rattle.flt_tree.specs.Counts.{bound_of}
-use Rattle.flt_tree.specs.Filled.{filled}
-use Rattle.flt_tree.specs.Grammar.{Reads, kinds_of}
+use Rattle.flt_tree.specs.Filled.{fill_expression}
+use Rattle.flt_tree.specs.Grammar.{IsReadAs, kinds_of}
 use Rattle.flt_tree.specs.Tree.{Expression}
 use Rattle.flt_lang.proofs.Complete.{complete}
 use Rattle.flt_lang.proofs.NodesBack.{same_nodes}
@@ -13,9 +13,9 @@ use Rattle.cap_filter.specs.Expressions.{IsExpression, HasTree}
 use Rattle.cap_library.specs.Bounding.{IsBound}
 use Rattle.cap_library.specs.Compiling.{IsFor}
 
-one_tree : (tokens more : List Token) (a b : Expression) → tokens ≡ more → Reads (kinds_of tokens) a → Reads (kinds_of more) b → a ≡ b
+one_tree : (tokens more : List Token) (a b : Expression) → tokens ≡ more → IsReadAs (kinds_of tokens) a → IsReadAs (kinds_of more) b → a ≡ b
 one_tree tokens more a b same reads_a reads_b =
-    let P : List Token → Type 0 = λ ts. Reads (kinds_of ts) a in
+    let P : List Token → Type 0 = λ ts. IsReadAs (kinds_of ts) a in
     let nodes = sym (complete (subst P same reads_a)) ∙ complete reads_b in
     same_nodes a b (cc)
 
@@ -26,7 +26,7 @@ one_reading text a b x y =
 
 one_expression : (text : List ℕ) (a b : Expression) → IsExpression text a → IsExpression text b → a ≡ b
 one_expression text a b x y =
-    x.settled.fills ∙ ap filled (one_reading text x.tree y.tree x.read y.read) ∙ sym y.settled.fills
+    x.settled.fills ∙ ap fill_expression (one_reading text x.tree y.tree x.read y.read) ∙ sym y.settled.fills
 
 most_of : (text : List ℕ) (e : Expression) (link_type : ℕ) (prog : List Insn) → IsExpression text e → IsFor text link_type prog → length prog ≤ bound_of e
 most_of text e link_type prog is for =

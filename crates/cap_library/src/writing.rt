@@ -3,10 +3,10 @@ ghost use Rattle.std.specs.Prelude.{◌≡◌, [], None};
 ghost use Rattle.cap_octet.specs.Checks.{first_failing};
 ghost use Rattle.cap_io.specs.Text.{record_text};
 ghost use Rattle.cap_pcap.specs.Encoding.{file_header};
-ghost use Rattle.cap_pcapng.specs.Encoding.{interface_text, packet_text, section_text};
+ghost use Rattle.cap_pcapng.specs.Encoding.{interface_text, packet_block, section_text};
 ghost use Rattle.cap_memory.specs.Layout.{resolution_by};
-ghost use Rattle.cap_memory.specs.Writing.{block_checks, interface_checks, packet_of};
-ghost use Rattle.cap_memory.specs.Writing.{record_checks};
+ghost use Rattle.cap_memory.specs.Writing.{written_block_checks, interface_checks, written_packet};
+ghost use Rattle.cap_memory.specs.Writing.{written_record_checks};
 ghost use Rattle.cap_library.specs.Writing.{WriteTells, written_length, written_number};
 
 use crate::reading::fault_number;
@@ -61,8 +61,9 @@ pub extern "C" fn capkit_write_record(
     buffer: &mut [u8],
     length: &mut usize,
 ) -> u32
-    ensures { let p = packet_of time original packet.now [] in
-        WriteTells (first_failing (record_checks p)) (record_text (resolution_by nanoseconds) p)
+    ensures { let p = written_packet time original packet.now [] in
+        WriteTells (first_failing (written_record_checks p))
+        (record_text (resolution_by nanoseconds) p)
         buffer.old buffer.new length.new result }
 {
     let written = write_record(nanoseconds, time, original, packet, buffer);
@@ -103,8 +104,9 @@ pub extern "C" fn capkit_write_packet(
     buffer: &mut [u8],
     length: &mut usize,
 ) -> u32
-    ensures { let p = packet_of time original packet.now comment.now in
-        WriteTells (first_failing (block_checks interface p)) (packet_text interface p) buffer.old
+    ensures { let p = written_packet time original packet.now comment.now in
+        WriteTells (first_failing (written_block_checks interface p))
+        (packet_block interface p) buffer.old
         buffer.new length.new result }
 {
     let written = write_packet(interface, time, original, packet, comment, buffer);

@@ -18,10 +18,10 @@ use Rattle.cap_io.specs.Blocks.{Enters, IsEntryFault, fault_among}
 use Rattle.cap_io.proofs.OwnFaults.{all_failing, all_of_options}
 use Rattle.cap_io.proofs.Entered.{interface_enters, refused_entry}
 use Rattle.cap_pcapng.proofs.WholeBlocks.{block_fails}
-use Rattle.cap_memory.specs.Layout.{described_of, first_of}
+use Rattle.cap_memory.specs.Layout.{described_of, first_interfaces}
 use Rattle.cap_memory.specs.declared.layout.Interface.{Interface}
 
-pub length-first_of : (count : ℕ) (table : List Interface) → count ≤ length table → length (first_of count table) ≡ count
+pub length-first_of : (count : ℕ) (table : List Interface) → count ≤ length table → length (first_interfaces count table) ≡ count
 length-first_of count table known = length-map (take count table) described_of ∙ length-take-le count table known
 
 -- ---- no check of a block tells that memory ran out

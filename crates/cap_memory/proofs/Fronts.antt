@@ -9,7 +9,7 @@ use Rattle.cap_octet.specs.declared.number.Order.{Order}
 use Rattle.cap_octet.proofs.Checks.{checked_ok}
 use Rattle.cap_pcap.specs.declared.header.Head.{Head}
 use Rattle.cap_pcap.specs.declared.header.RecordHead.{RecordHead}
-use Rattle.cap_pcap.specs.Record.{record_fault, record_header_in, record_size, packet_in}
+use Rattle.cap_pcap.specs.Record.{record_fault, record_header_in, record_size, record_packet}
 use Rattle.cap_pcap.proofs.Records.{passes, record_header_in-append}
 use Rattle.cap_pcapng.specs.Comment.{comment_in}
 use Rattle.cap_pcapng.specs.Frame.{is_section}
@@ -21,8 +21,8 @@ use Rattle.cap_io.proofs.CapturesCame.{first-packets, section-kept}
 use Rattle.cap_io.proofs.Fronts.{front_of-behind, front_of-pcapng, front_of-record, front_of_block-none, is_pcapng-append}
 use Rattle.cap_io.proofs.Units.{front_of-unit}
 use Rattle.cap_memory.specs.Blocks.{Behind, BlockStands, IsNoBlock, IsOfIfAny}
-use Rattle.cap_memory.specs.Layout.{declared_by}
-use Rattle.cap_memory.specs.Units.{ArePlaced, Begins, IsNoUnit, Steps}
+use Rattle.cap_memory.specs.Layout.{declared_in_form}
+use Rattle.cap_memory.specs.Units.{ArePlaced, Begins, IsNoUnit, BeginsWithUnit}
 use Rattle.cap_memory.specs.declared.block.UnitPacket.{UnitPacket}
 use Rattle.cap_memory.specs.declared.block.Refusal.{Refusal}
 use Rattle.cap_memory.specs.declared.block.Refusal.TheVariants as refusal
@@ -62,7 +62,7 @@ record_placed head found = record {
 
 pub record_stands : (head : Head) (text : List ℕ) (found : RecordHead) (known : List Described) (table : List Interface) (count : ℕ)
     → Ok found ≡ checked (record_fault head text) (record_header_in head text) → count ≤ length table → count ≤ 256
-    → Steps (form.Pcap head) known text table (record { size = 16 + found.captured; form = form.Pcap head; interfaces = count; packet = Some (record_placed head found) })
+    → BeginsWithUnit (form.Pcap head) known text table (record { size = 16 + found.captured; form = form.Pcap head; interfaces = count; packet = Some (record_placed head found) })
 record_stands head text found known table count is fits upper_bound =
     let e = checked_ok (record_fault head text) (record_header_in head text) found (sym is) in
     let size : record_size head text ≡ 16 + found.captured = ap (λ (r : RecordHead). 16 + r.captured) e.1 in
@@ -72,10 +72,10 @@ record_stands head text found known table count is fits upper_bound =
     sym (record_header_in-append head (take (record_size head text) text) (drop (record_size head text) text) (omega (arith, long, size)))
     ∙ ap (record_header_in head) (take-append-drop (record_size head text) text) ∙ e.1 in
     record {
-      packets = packet_in head (take (record_size head text) text) ∷ [];
-      front = front_of-record head text e.0 ∙ ap (λ n. Whole n (packet_in head (take (record_size head text) text) ∷ []) (PcapFile head)) size;
+      packets = record_packet head (take (record_size head text) text) ∷ [];
+      front = front_of-record head text e.0 ∙ ap (λ n. Whole n (record_packet head (take (record_size head text) text) ∷ []) (PcapFile head)) size;
       placed = (
-        packet_in head (take (record_size head text) text),
+        record_packet head (take (record_size head text) text),
         refl,
         record {
           link = refl;
@@ -156,7 +156,7 @@ pub record BlockUnit (declared : Declared) (first : Option ℕ) (text : List ℕ
 
 pub block_unit : (f : Form) (section : Option Order) (first : Option ℕ) (interfaces : List Described) (text : List ℕ) (order : Order) (size : ℕ) (interfaces' : List Described) (packet : Option UnitPacket)
     → Begins f section first interfaces text → Behind section interfaces (λ before. BlockStands before text order size interfaces' packet) → IsOfIfAny interfaces packet
-    → BlockUnit (declared_by f interfaces) first text order size interfaces' packet
+    → BlockUnit (declared_in_form f interfaces) first text order size interfaces' packet
 block_unit form.Unknown section first interfaces text order size interfaces' packet begins stands of =
     let b = stands None (sym begins.0) (sym begins.2) in
     let P : Option ℕ → Type 0 = λ link. BlockUnit Nothing link text order size interfaces' packet in

@@ -9,10 +9,10 @@ use Rattle.cap_pcapng.specs.Interface.{Described}
 use Rattle.cap_octet.specs.declared.number.Order.{Order}
 use Rattle.cap_pcapng.specs.Unit.{IsBlock, Section, checks_among, interfaces_before, order_before, packets_in, section_after, unit_fault}
 use Rattle.cap_pcapng.specs.declared.frames.Frame.{Frame}
-use Rattle.cap_io.specs.Blocks.{Enters, FitsIfAny, packet_in, section_of}
+use Rattle.cap_io.specs.Blocks.{Enters, FitsIfAny, held_packet, section_of}
 use Rattle.cap_io.specs.Reading.{span_bytes}
 use Rattle.cap_io.specs.declared.file_state.PacketSpans.{PacketSpans}
-use Rattle.cap_memory.specs.Layout.{first_of}
+use Rattle.cap_memory.specs.Layout.{first_interfaces}
 use Rattle.cap_memory.specs.declared.block.BlockRead.{BlockRead}
 use Rattle.cap_memory.specs.declared.block.BlockEffect.{BlockEffect}
 use Rattle.cap_memory.specs.declared.layout.Interface.{Interface}
@@ -21,8 +21,8 @@ use Rattle.cap_memory.specs.declared.block.Refusal.{Refusal}
 use Rattle.cap_memory.specs.declared.block.Refusal.TheVariants as refusal
 
 -- of all lists of so many interfaces
-abbrev pub holds : ℕ → (List Described → Type 0) → Type 0
-holds count P = (interfaces : List Described) → length interfaces ≡ count → P interfaces
+abbrev pub of_all_lists : ℕ → (List Described → Type 0) → Type 0
+of_all_lists count P = (interfaces : List Described) → length interfaces ≡ count → P interfaces
 
 -- what is held of a packet in a unit of so many bytes
 abbrev pub spans_of : ℕ → UnitPacket → PacketSpans
@@ -60,7 +60,7 @@ IsRefusal frame interfaces block room refusal.NoRoom =
 pub record EntersTable (frame : Frame) (interfaces : List Described) (block : List ℕ)
     (table' : List Interface) (effect : BlockEffect) : Type 0 where
   pub enters : Enters frame interfaces block (option_map (spans_of frame.length) effect.packet)
-      (first_of effect.interfaces table')
+      (first_interfaces effect.interfaces table')
   pub known : effect.interfaces ≤ length table'
   pub upper_bound : effect.interfaces ≤ 256
   pub of : IsOfIfAny interfaces effect.packet
@@ -78,7 +78,7 @@ pub record BlockPacket (order : Order) (before : Option Section) (block : List �
     (held : PacketSpans) : Type 0 where
   pub packet : Captured
   pub stands : packets_in before block ≡ packet ∷ []
-  pub lies : packet_in order (interfaces_before before) held (span_bytes held.bytes block)
+  pub lies : held_packet order (interfaces_before before) held (span_bytes held.bytes block)
       (span_bytes held.options block) ≡ Some packet
 
 abbrev pub BlockPacketIfAny : Order → Option Section → List ℕ → Option PacketSpans → Type 0
@@ -99,7 +99,7 @@ pub record BlockIs (section : Option Order) (interfaces : List Described) (text 
     (table' : List Interface) (read : BlockRead) : Type 0 where
   pub stands : Behind section interfaces
       (λ before. BlockStands before text read.order read.size
-      (first_of read.effect.interfaces table') read.effect.packet)
+      (first_interfaces read.effect.interfaces table') read.effect.packet)
   pub known : read.effect.interfaces ≤ length table'
   pub upper_bound : read.effect.interfaces ≤ 256
   pub of : IsOfIfAny interfaces read.effect.packet

@@ -22,8 +22,8 @@ abbrev pub link_by : ℕ → ℕ → Option ℕ
 link_by flag link = if flag == 0 then None else Some link
 
 -- what a reader says of the file
-abbrev pub form_of : Reader → Form
-form_of r =
+abbrev pub reader_form : Reader → Form
+reader_form r =
     if r.form == 1 then form.Pcap
     (record {
       order = order_by r.big_endian;
@@ -51,16 +51,17 @@ described_of i =
     }
 
 -- the first of a table
-abbrev pub first_of : ℕ → List Interface → List Described
-first_of count table = map described_of (take count table)
+abbrev pub first_interfaces : ℕ → List Interface → List Described
+first_interfaces count table = map described_of (take count table)
 
 -- what is declared by the form of a file and the interfaces of its section
-abbrev pub declared_by : Form → List Described → Declared
-declared_by form.Unknown interfaces = Nothing
-declared_by (form.Pcap head) interfaces = PcapFile head
-declared_by (form.Pcapng order first) interfaces =
+abbrev pub declared_in_form : Form → List Described → Declared
+declared_in_form form.Unknown interfaces = Nothing
+declared_in_form (form.Pcap head) interfaces = PcapFile head
+declared_in_form (form.Pcapng order first) interfaces =
     PcapngFile first (record { order = order; interfaces = interfaces })
 
 -- the same by a reader and its table
 abbrev pub declared_in : Reader → List Interface → Declared
-declared_in r table = declared_by (form_of r) (first_of (most_known r (length table)) table)
+declared_in r table = declared_in_form (reader_form r)
+    (first_interfaces (most_known r (length table)) table)

@@ -8,7 +8,7 @@ use Rattle.cap_pcapng.specs.Comment.{comment_in}
 use Rattle.cap_pcapng.specs.Interface.{Described}
 use Rattle.cap_pcapng.specs.Unit.{Section}
 use Rattle.cap_io.specs.Capture.{Declared, Nothing, PcapFile, PcapngFile, Whole, Stops, front_of, is_pcapng}
-use Rattle.cap_memory.specs.Layout.{declared_by, declared_in, first_of, most_known}
+use Rattle.cap_memory.specs.Layout.{declared_in_form, declared_in, first_interfaces, most_known}
 use Rattle.cap_memory.specs.declared.block.UnitPacket.{UnitPacket}
 use Rattle.cap_memory.specs.declared.block.Refusal.{Refusal}
 use Rattle.cap_memory.specs.declared.block.Refusal.TheVariants as refusal
@@ -54,13 +54,15 @@ ArePlaced declared text size (Some p) packets =
     (q : Captured) × (packets ≡ q ∷ []) × IsPlaced declared text size p q
 
 -- a text begins with a unit: what it declares, and its packet
-pub record Steps (form : Form) (interfaces : List Described) (text : List ℕ)
+pub record BeginsWithUnit (form : Form) (interfaces : List Described) (text : List ℕ)
     (table' : List Interface) (step : Step) : Type 0 where
   pub packets : List Captured
-  pub front : front_of (declared_by form interfaces) text
-      ≡ Whole step.size packets (declared_by step.form (first_of step.interfaces table'))
+  pub front : front_of (declared_in_form form interfaces) text
+      ≡ Whole step.size packets
+      (declared_in_form step.form (first_interfaces step.interfaces table'))
   pub placed : ArePlaced
-      (declared_by step.form (first_of step.interfaces table')) text step.size step.packet packets
+      (declared_in_form step.form (first_interfaces step.interfaces table'))
+      text step.size step.packet packets
   pub there : step.size ≤ length text
   pub some : 0 < step.size
   pub known : step.interfaces ≤ length table'
@@ -79,9 +81,9 @@ pub record DeclaresOne (declared : Declared) (text : List ℕ)
 -- it begins with no unit, but with a fault; or with an interface that a full table has no room for
 abbrev pub IsNoUnit : Form → List Described → List ℕ → ℕ → Refusal → Type 0
 IsNoUnit form interfaces text room (refusal.Fault fault) =
-    front_of (declared_by form interfaces) text ≡ Stops (Some fault)
+    front_of (declared_in_form form interfaces) text ≡ Stops (Some fault)
 IsNoUnit form interfaces text room refusal.NoRoom =
-    (room ≤ length interfaces) × DeclaresOne (declared_by form interfaces) text interfaces
+    (room ≤ length interfaces) × DeclaresOne (declared_in_form form interfaces) text interfaces
 
 -- a block may begin here: its section before it is this one
 abbrev pub Begins : Form → Option Order → Option ℕ → List Described → List ℕ → Type 0
@@ -106,7 +108,7 @@ IsBare (form.Pcapng order link) count = Unit {0}
 -- ---- what a call leaves
 
 -- a packet of a capture, and where its parts are
-pub record IsFound (capture : List ℕ) (declared : Declared) (p : Packet)
+pub record IsPacketFound (capture : List ℕ) (declared : Declared) (p : Packet)
     (q : Captured) : Type 0 where
   pub link : q.link ≡ p.link_type
   pub snap : q.snap ≡ p.snap
@@ -136,7 +138,7 @@ pub data NextLeaves (capture : List ℕ) (r r' : Reader) (t t' : List Interface)
   finds : (size : ℕ) (q : Captured)
       → front_of (declared_in r t) (drop r.offset capture) ≡ Whole size (q ∷ []) (declared_in r' t')
       → r'.offset ≡ r.offset + size
-      → size ≤ length (drop r.offset capture) → IsFound capture (declared_in r' t') p' q
+      → size ≤ length (drop r.offset capture) → IsPacketFound capture (declared_in r' t') p' q
       → NextLeaves capture r r' t t' p p' found.Packet
   ends : front_of (declared_in r t) (drop r.offset capture) ≡ Stops None → Stays r r' t t' p p'
       → NextLeaves capture r r' t t' p p' found.End
@@ -147,8 +149,8 @@ pub data NextLeaves (capture : List ℕ) (r r' : Reader) (t t' : List Interface)
       → NextLeaves capture r r' t t' p p' found.NoRoom
 
 -- where the parts of a packet are, given the place of its unit
-abbrev pub packet_at : ℕ → UnitPacket → Packet
-packet_at at p = record {
+abbrev pub placed_packet : ℕ → UnitPacket → Packet
+placed_packet at p = record {
   time = p.time;
   at = at + p.start;
   options_at = at + p.options_start;
@@ -167,7 +169,7 @@ Counts (form.Pcap head) r room count = count ≡ most_known r room
 Counts (form.Pcapng order link) r room count = count ≡ most_known r room
 
 -- behind a unit nothing is left
-abbrev pub IsOver : Form → List ℕ → Type 0
-IsOver form.Unknown text = ⊥
-IsOver (form.Pcap head) text = text ≡ []
-IsOver (form.Pcapng order link) text = text ≡ []
+abbrev pub IsAtEnd : Form → List ℕ → Type 0
+IsAtEnd form.Unknown text = ⊥
+IsAtEnd (form.Pcap head) text = text ≡ []
+IsAtEnd (form.Pcapng order link) text = text ≡ []

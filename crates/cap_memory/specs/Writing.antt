@@ -11,8 +11,8 @@ use Rattle.cap_memory.specs.declared.writing.Written.{Written}
 use Rattle.cap_memory.specs.declared.writing.Written.TheVariants as written
 
 -- a packet by what its record or its block says of it
-abbrev pub packet_of : (time orig : ℕ) → (bytes comment : List ℕ) → Captured
-packet_of time orig bytes comment =
+abbrev pub written_packet : (time orig : ℕ) → (bytes comment : List ℕ) → Captured
+written_packet time orig bytes comment =
     record {
       link = 0;
       snap = 0;
@@ -25,14 +25,14 @@ packet_of time orig bytes comment =
 
 -- the checks of a packet that is to be written, in order: those that every packet passes that was
 -- read, and then those of the format
-abbrev pub record_checks : Captured → List (Bool × Fault)
-record_checks p = (nat_lt p.time TIME_END, TimeOutOfRange) ∷ pcap.fit_checks p
+abbrev pub written_record_checks : Captured → List (Bool × Fault)
+written_record_checks p = (nat_lt p.time TIME_END, TimeOutOfRange) ∷ pcap.record_fit_checks p
 
-abbrev pub block_checks : (number : ℕ) → Captured → List (Bool × Fault)
-block_checks number p =
+abbrev pub written_block_checks : (number : ℕ) → Captured → List (Bool × Fault)
+written_block_checks number p =
     (nat_lt p.time TIME_END, TimeOutOfRange)
     ∷ (nat_le (length p.comment) 65535, BadOption)
-    ∷ pcapng.fit_checks p
+    ∷ pcapng.block_fit_checks p
     ++ (nat_lt number most_output_interfaces, TooManyOutputInterfaces)
     ∷ []
 

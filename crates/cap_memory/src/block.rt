@@ -10,10 +10,10 @@ ghost use Rattle.cap_pcapng.specs.Interface.{description_of};
 ghost use Rattle.cap_pcapng.specs.Unit.{Section, checks_among, interfaces_before, order_before};
 ghost use Rattle.cap_pcapng.specs.declared.blocks.Block.TheVariants as a;
 ghost use Rattle.cap_io.specs.Blocks.{Enters, PacketFound, fault_among};
-ghost use Rattle.cap_memory.specs.Layout.{described_of, first_of};
+ghost use Rattle.cap_memory.specs.Layout.{described_of, first_interfaces};
 ghost use Rattle.cap_memory.specs.Blocks.{BlockIs, EntersTable, IsNoBlock, IsOf, IsRefusal};
 ghost use Rattle.cap_memory.specs.Blocks.{spans_of};
-ghost use Rattle.cap_memory.specs.Blocks.{holds};
+ghost use Rattle.cap_memory.specs.Blocks.{of_all_lists};
 
 use crate::layout::Interface;
 use cap_octet::{Fault, Order};
@@ -64,7 +64,7 @@ pub(crate) struct BlockEffect {
 fn get(table: &[Interface], count: usize, number: u32) -> Option<&Interface>
     requires { count ≤ length table.now }
     ensures { option_map (λ i. described_of i.now) result
-        ≡ slice_get (first_of count table.now) number }
+        ≡ slice_get (first_interfaces count table.now) number }
 {
     if number as usize >= count {
         return None;
@@ -75,8 +75,8 @@ fn get(table: &[Interface], count: usize, number: u32) -> Option<&Interface>
 /// Puts an interface behind the first of a table.
 fn put(table: &mut [Interface], count: usize, interface: &ReadInterface<'_>)
     requires { count < length table.old }
-    ensures put { first_of (count + 1) table.new
-        ≡ first_of count table.old ++ description_of interface.now ∷ [] }
+    ensures put { first_interfaces (count + 1) table.new
+        ≡ first_interfaces count table.old ++ description_of interface.now ∷ [] }
     ensures same { length table.new ≡ length table.old }
 {
     table[count] = Interface::of(interface);
@@ -84,7 +84,7 @@ fn put(table: &mut [Interface], count: usize, interface: &ReadInterface<'_>)
 
 /// The fault of a block that fails by itself, behind the interfaces of a table.
 fn fault_in_full_table(count: usize, fault: Fault) -> Fault
-    ensures fault { holds count (λ interfaces. result ≡ fault_among interfaces fault) }
+    ensures fault { of_all_lists count (λ interfaces. result ≡ fault_among interfaces fault) }
     ensures never { (result ≡ Fault.NoMemory) → fault ≡ Fault.NoMemory }
 {
     match fault {
@@ -104,11 +104,12 @@ fn enhanced_packet(
 ) -> Result<UnitPacket, Fault>
     requires known { count ≤ length table.now }
     requires room { 28 + length block.now.rest.now ≤ size }
-    ensures found { ChecksGive (checks_among (first_of count table.now) (parts_of
+    ensures found { ChecksGive (checks_among (first_interfaces count table.now) (parts_of
         (a.Enhanced block.now))) result (λ packet. PacketFound block.now.order
-        (first_of count table.now) (parts_of (a.Enhanced block.now)) 28 size block.now.rest.now
+        (first_interfaces count table.now) (parts_of (a.Enhanced block.now))
+        28 size block.now.rest.now
         (spans_of size packet)) }
-    ensures interface { IfOk result (IsOf (first_of count table.now)) }
+    ensures interface { IfOk result (IsOf (first_interfaces count table.now)) }
 {
     let interface = get(table, count, block.interface).ok_or(Fault::UnknownInterface)?;
     block.data()?;
@@ -134,11 +135,12 @@ fn simple_packet(
     block: &SimpleBlock<'_>,
 ) -> Result<UnitPacket, Fault>
     requires known { count ≤ length table.now }
-    ensures found { ChecksGive (checks_among (first_of count table.now) (parts_of (a.Simple
+    ensures found { ChecksGive (checks_among (first_interfaces count table.now) (parts_of (a.Simple
         block.now)))
-        result (λ packet. (order : Order) (size : ℕ) → PacketFound order (first_of count table.now)
+        result (λ packet. (order : Order) (size : ℕ)
+        → PacketFound order (first_interfaces count table.now)
         (parts_of (a.Simple block.now)) 12 size block.now.rest.now (spans_of size packet)) }
-    ensures interface { IfOk result (IsOf (first_of count table.now)) }
+    ensures interface { IfOk result (IsOf (first_interfaces count table.now)) }
 {
     let interface = get(table, count, 0).ok_or(Fault::UnknownInterface)?;
     block.data(interface.snap)?;
@@ -167,10 +169,10 @@ fn apply_block(
     requires bounds { count ≤ 256 }
     requires whole { length bytes.now ≡ frame.now.length }
     requires shortest { 12 ≤ frame.now.length }
-    ensures ok { IfOk result (EntersTable frame.now (first_of count table.old) bytes.now
+    ensures ok { IfOk result (EntersTable frame.now (first_interfaces count table.old) bytes.now
         table.new) }
     ensures same { length table.new ≡ length table.old }
-    ensures err { IfErr result (IsRefusal frame.now (first_of count table.old) bytes.now
+    ensures err { IfErr result (IsRefusal frame.now (first_interfaces count table.old) bytes.now
         (length table.old)) }
     ensures kept { OnErr result (table.new ≡ table.old) }
 {
@@ -233,10 +235,11 @@ pub(crate) fn read_block(
 ) -> Result<BlockRead, Refusal>
     requires known { count ≤ length table.old }
     requires bounds { count ≤ 256 }
-    ensures ok { IfOk result (λ read. BlockIs section (first_of count table.old) text.now table.new
+    ensures ok { IfOk result (λ read. BlockIs section (first_interfaces count table.old) text.now
+        table.new
         read) }
     ensures same { length table.new ≡ length table.old }
-    ensures err { IfErr result (IsNoBlock section (first_of count table.old) text.now
+    ensures err { IfErr result (IsNoBlock section (first_interfaces count table.old) text.now
         (length table.old)) }
     ensures kept { OnErr result (table.new ≡ table.old) }
 {

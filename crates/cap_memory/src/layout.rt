@@ -1,7 +1,7 @@
 //! What the caller keeps of a capture, in C's layout.
 ghost use Rattle.std.specs.Prelude.{◌≡◌, ◌≤◌, length};
 ghost use Rattle.cap_pcapng.specs.Interface.{description_of};
-ghost use Rattle.cap_memory.specs.Layout.{described_of, form_of, most_known, order_by};
+ghost use Rattle.cap_memory.specs.Layout.{described_of, reader_form, most_known, order_by};
 
 use cap_octet::Order;
 use cap_pcap::{Head, Resolution};
@@ -104,7 +104,7 @@ fn order_flag(order: Order) -> u8
 impl Reader {
     /// What is declared.
     pub(crate) fn form(&self) -> Form
-        ensures { result ≡ form_of self.now }
+        ensures { result ≡ reader_form self.now }
     {
         match self.form {
             1 => Form::Pcap(Head {
@@ -142,7 +142,7 @@ impl Reader {
     pub(crate) fn at(offset: usize, form: Form, interfaces: usize) -> Self
         requires { interfaces ≤ 256 }
         ensures offset { result.offset ≡ offset }
-        ensures form { form_of result ≡ form }
+        ensures form { reader_form result ≡ form }
         ensures interfaces { result.interfaces ≡ interfaces }
     {
         let mut reader = Reader {

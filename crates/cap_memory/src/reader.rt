@@ -4,9 +4,9 @@ ghost use Rattle.std.specs.Prelude.{false, drop, length, take};
 ghost use Rattle.cap_pcapng.specs.Interface.{Described};
 ghost use Rattle.cap_io.specs.Blocks.{section_of};
 ghost use Rattle.cap_io.specs.Capture.{first_link_after, is_pcapng};
-ghost use Rattle.cap_memory.specs.Layout.{declared_in, first_of};
-ghost use Rattle.cap_memory.specs.Units.{Begins, Counts, IsBare, IsNoUnit, IsOver, IsSomeFor};
-ghost use Rattle.cap_memory.specs.Units.{NextLeaves, Steps, comment_by, packet_at};
+ghost use Rattle.cap_memory.specs.Layout.{declared_in, first_interfaces};
+ghost use Rattle.cap_memory.specs.Units.{Begins, Counts, IsBare, IsNoUnit, IsAtEnd, IsSomeFor};
+ghost use Rattle.cap_memory.specs.Units.{NextLeaves, BeginsWithUnit, comment_by, placed_packet};
 ghost use Rattle.cap_memory.specs.declared.layout.Form.TheVariants as form;
 
 use crate::block::{Refusal, UnitPacket, read_block};
@@ -63,7 +63,7 @@ fn is_pcapng(text: &[u8]) -> bool
 fn first_link_type(first: Option<u16>, table: &[Interface], count: usize) -> Option<u16>
     requires { count ≤ length table.now }
     ensures { (order : Order) → result ≡ first_link_after first
-        (section_of order (first_of count table.now)) }
+        (section_of order (first_interfaces count table.now)) }
 {
     if count == 0 {
         return first;
@@ -74,7 +74,7 @@ fn first_link_type(first: Option<u16>, table: &[Interface], count: usize) -> Opt
 /// The record that a text begins with.
 fn record_step(head: &Head, text: &[u8], interfaces: usize) -> Result<Step, Refusal>
     ensures ok { IfOk result (λ step. (known : List Described) (table : List Interface)
-        → interfaces ≤ length table → interfaces ≤ 256 → Steps (form.Pcap head.now) known
+        → interfaces ≤ length table → interfaces ≤ 256 → BeginsWithUnit (form.Pcap head.now) known
         text.now table step) }
     ensures err { IfErr result (λ why. (known : List Described) (room : ℕ) → 0 < length text.now
         → IsNoUnit (form.Pcap head.now) known text.now room why) }
@@ -111,10 +111,11 @@ fn block_step(
 ) -> Result<Step, Refusal>
     requires known { count ≤ length table.old }
     requires bounds { count ≤ 256 }
-    requires begins { Begins form section first (first_of count table.old) text.now }
-    ensures ok { IfOk result (Steps form (first_of count table.old) text.now table.new) }
+    requires begins { Begins form section first (first_interfaces count table.old) text.now }
+    ensures ok { IfOk result (BeginsWithUnit form (first_interfaces count table.old)
+        text.now table.new) }
     ensures same { length table.new ≡ length table.old }
-    ensures err { IfErr result (IsNoUnit form (first_of count table.old) text.now
+    ensures err { IfErr result (IsNoUnit form (first_interfaces count table.old) text.now
         (length table.old)) }
     ensures kept { OnErr result (table.new ≡ table.old) }
 {
@@ -143,9 +144,10 @@ fn read_unit(
     requires bounds { count ≤ 256 }
     requires some { IsSomeFor form text.now }
     requires none { IsBare form count }
-    ensures ok { IfOk result (Steps form (first_of count table.old) text.now table.new) }
+    ensures ok { IfOk result (BeginsWithUnit form (first_interfaces count table.old)
+        text.now table.new) }
     ensures same { length table.new ≡ length table.old }
-    ensures err { IfErr result (IsNoUnit form (first_of count table.old) text.now
+    ensures err { IfErr result (IsNoUnit form (first_interfaces count table.old) text.now
         (length table.old)) }
     ensures kept { OnErr result (table.new ≡ table.old) }
 {
@@ -173,7 +175,7 @@ fn read_unit(
 fn packet_at(at: usize, placed: &UnitPacket) -> Packet
     requires bytes { at + placed.now.start < 2 ^ 64 }
     requires options { at + placed.now.options_start < 2 ^ 64 }
-    ensures { result ≡ packet_at at placed.now }
+    ensures { result ≡ placed_packet at placed.now }
 {
     Packet {
         time: placed.time,
@@ -203,7 +205,7 @@ fn known_in(reader: &Reader, form: Form, room: usize) -> usize
 
 /// Whether a capture of which this is declared is over where this is left.
 fn is_over(form: Form, text: &[u8]) -> bool
-    ensures over { IsTrue result → IsOver form text.now }
+    ensures over { IsTrue result → IsAtEnd form text.now }
     ensures some { result ≡ false → IsSomeFor form text.now }
 {
     match form {

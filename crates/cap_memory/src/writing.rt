@@ -5,10 +5,11 @@ ghost use Rattle.cap_octet.specs.Checks.{first_failing};
 ghost use Rattle.cap_octet.specs.Packet.{captured};
 ghost use Rattle.cap_io.specs.Text.{record_text};
 ghost use Rattle.cap_pcap.specs.Encoding.{IsPcap, file_header, resolution_of};
-ghost use Rattle.cap_pcapng.specs.Encoding.{fit_checks, interface_text, packet_text, section_text};
+ghost use Rattle.cap_pcapng.specs.Encoding.{block_fit_checks, interface_text, packet_block};
+ghost use Rattle.cap_pcapng.specs.Encoding.{section_text};
 ghost use Rattle.cap_memory.specs.Layout.{resolution_by};
-ghost use Rattle.cap_memory.specs.Writing.{WriteLeaves, block_checks, interface_checks};
-ghost use Rattle.cap_memory.specs.Writing.{packet_of, record_checks};
+ghost use Rattle.cap_memory.specs.Writing.{WriteLeaves, written_block_checks, interface_checks};
+ghost use Rattle.cap_memory.specs.Writing.{written_packet, written_record_checks};
 
 use cap_octet::date::TIME_END;
 use cap_octet::{Fault, Format, Packet};
@@ -92,8 +93,8 @@ pub fn write_record(
     bytes: &[u8],
     buffer: &mut [u8],
 ) -> Written
-    ensures { let packet = packet_of time original bytes.now [] in
-        WriteLeaves (first_failing (record_checks packet))
+    ensures { let packet = written_packet time original bytes.now [] in
+        WriteLeaves (first_failing (written_record_checks packet))
         (record_text (resolution_by nanoseconds) packet) buffer.old buffer.new result }
 {
     if time >= TIME_END {
@@ -176,8 +177,9 @@ pub fn write_packet(
     comment: &[u8],
     buffer: &mut [u8],
 ) -> Written
-    ensures { let packet = packet_of time original bytes.now comment.now in
-        WriteLeaves (first_failing (block_checks interface packet)) (packet_text interface packet)
+    ensures { let packet = written_packet time original bytes.now comment.now in
+        WriteLeaves (first_failing (written_block_checks interface packet))
+        (packet_block interface packet)
         buffer.old buffer.new result }
 {
     if time >= TIME_END {
@@ -204,8 +206,8 @@ pub fn write_packet(
 
 /// Puts the block of a packet that fits.
 fn put_packet(number: u32, packet: &Packet<'_>, buffer: &mut [u8]) -> Written
-    requires { first_failing (fit_checks (captured packet.now)) ≡ None }
-    ensures { WriteLeaves None (packet_text number (captured packet.now)) buffer.old buffer.new
+    requires { first_failing (block_fit_checks (captured packet.now)) ≡ None }
+    ensures { WriteLeaves None (packet_block number (captured packet.now)) buffer.old buffer.new
         result }
 {
     let padding = padding_behind(packet.bytes.len());

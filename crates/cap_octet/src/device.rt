@@ -95,7 +95,8 @@ pub trait Output {
         ensures some { IfOk result (λ n. 0 < length buf.now → 0 < n) }
         ensures failed { failures self.new ≡ failures self.old + failures_of result }
         ensures room { room self.new ≡ room self.old }
-        ensures exact { IsTrue tells → Writes (written self.old) buf.now result (written self.new) };
+        ensures exact { IsTrue tells → Writes (written self.old) buf.now
+            result (written self.new) };
 
     /// A device that failed had taken as many bytes as it has room for. `Prim.search rules` proves
     /// it where the room is none.
@@ -114,7 +115,8 @@ pub fn read_full<I: Input>(input: &mut I, buf: &mut [u8]) -> Result<usize, Devic
     ensures grown { I.given input.old ≤ I.given input.new }
     ensures bounded { IfOk result (λ n. 0 < n → I.given input.new < 2 ^ 63) }
     ensures stopped { IfErr result (λ _. I.given input.new < 2 ^ 63) }
-    ensures upper_bound { IfErr result (λ _. I.given input.new < I.given input.old + length buf.old) }
+    ensures upper_bound { IfErr result (λ _. I.given input.new < I.given input.old
+        + length buf.old) }
     ensures failed { I.failures input.new ≡ I.failures input.old + failures_of result }
     ensures never { I.never_fails input.new ≡ I.never_fails input.old }
     ensures exact { IsTrue I.tells
@@ -143,7 +145,8 @@ fn read_in_turns<I: Input>(input: &mut I, buf: &mut [u8]) -> Result<usize, Devic
     ensures grown { I.given input.old ≤ I.given input.new }
     ensures bounded { IfOk result (λ n. 0 < n → I.given input.new < 2 ^ 63) }
     ensures stopped { IfErr result (λ _. I.given input.new < 2 ^ 63) }
-    ensures upper_bound { IfErr result (λ _. I.given input.new < I.given input.old + length buf.old) }
+    ensures upper_bound { IfErr result (λ _. I.given input.new < I.given input.old
+        + length buf.old) }
     ensures failed { I.failures input.new ≡ I.failures input.old + failures_of result }
     ensures never { I.never_fails input.new ≡ I.never_fails input.old }
     ensures exact { IsTrue I.tells

@@ -40,8 +40,8 @@ record_header resolution p =
     ++ little_bytes 4 (length p.bytes) ++ little_bytes 4 p.orig
 
 -- the checks of a packet that is to be written, in order
-abbrev pub fit_checks : Captured → List (Bool × Fault)
-fit_checks p =
+abbrev pub record_fit_checks : Captured → List (Bool × Fault)
+record_fit_checks p =
     (nat_le (length p.bytes) most_captured, TooLong)
     ∷ (nat_lt (p.time / NANOS_PER_SECOND) (2 ^ 32), TimeOutOfRange)
     ∷ []

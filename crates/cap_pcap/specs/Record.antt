@@ -52,8 +52,8 @@ abbrev pub record_fault : Head → List ℕ → Option Fault
 record_fault head text = first_failing (record_checks head text)
 
 -- nanoseconds since 1970
-abbrev pub time_in : Head → List ℕ → ℕ
-time_in head text =
+abbrev pub record_time : Head → List ℕ → ℕ
+record_time head text =
     u32_in head.order text 0 * NANOS_PER_SECOND
     + u32_in head.order text 4 * nanoseconds_of_part head.resolution
 
@@ -64,7 +64,7 @@ orig_in head text = u32_in head.order text 12
 -- what the 16 bytes in front of a record's data say
 abbrev pub record_header_in : Head → List ℕ → RecordHead
 record_header_in head text = record {
-  time = time_in head text;
+  time = record_time head text;
   captured = captured_len head text;
   orig = orig_in head text;
 }
@@ -75,12 +75,12 @@ pub record IsRecord (head : Head) (bytes : List ℕ) : Type 0 where
   pub whole : length bytes ≡ record_size head bytes
 
 -- the packet in a record
-abbrev pub packet_in : Head → List ℕ → Captured
-packet_in head bytes = record {
+abbrev pub record_packet : Head → List ℕ → Captured
+record_packet head bytes = record {
   link = head.link;
   snap = head.snap;
   name = [];
-  time = time_in head bytes;
+  time = record_time head bytes;
   orig = orig_in head bytes;
   bytes = drop 16 bytes;
   comment = [];

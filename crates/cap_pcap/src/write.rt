@@ -4,7 +4,7 @@ ghost use Rattle.cap_octet.specs.Checks.{checked, first_failing};
 ghost use Rattle.cap_octet.specs.Packet.{captured};
 ghost use Rattle.cap_pcap.specs.Header.{magic};
 ghost use Rattle.cap_pcap.specs.Encoding.{IsPcap, file_header, record_header, resolution_of};
-ghost use Rattle.cap_pcap.specs.Encoding.{fit_checks};
+ghost use Rattle.cap_pcap.specs.Encoding.{record_fit_checks};
 
 use crate::header::{MOST_CAPTURED, Resolution};
 use byteorder::{ByteOrder, LittleEndian};
@@ -28,7 +28,7 @@ fn written_resolution(format: Format) -> Resolution
 /// the same packets.
 pub fn fits(_format: Format, packet: &Packet<'_>) -> Result<(), Fault>
     requires { IsPcap _format }
-    ensures { result ≡ checked (first_failing (fit_checks (captured packet.now))) tt }
+    ensures { result ≡ checked (first_failing (record_fit_checks (captured packet.now))) tt }
 {
     if packet.bytes.len() > MOST_CAPTURED as usize {
         return Err(Fault::TooLong);
@@ -58,7 +58,7 @@ pub fn head_bytes(format: Format, link: u16) -> [u8; 24]
 /// `fits` that the format holds the packet.
 pub fn record_bytes(format: Format, packet: &Packet<'_>) -> [u8; 16]
     requires form { IsPcap format }
-    requires fits { first_failing (fit_checks (captured packet.now)) ≡ None }
+    requires fits { first_failing (record_fit_checks (captured packet.now)) ≡ None }
     ensures { result ≡ record_header (resolution_of format) (captured packet.now) }
 {
     let part = written_resolution(format).whole_parts(packet.time % NANOS_PER_SECOND);

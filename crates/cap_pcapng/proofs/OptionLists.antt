@@ -9,7 +9,7 @@ use Rattle.cap_octet.specs.declared.fault.Fault.TheVariants.{BadOption}
 use Rattle.cap_octet.specs.declared.number.Order.{Order}
 use Rattle.cap_pcapng.specs.InterfaceOptions.{fitting_options}
 use Rattle.cap_pcapng.specs.OptionList.{CodedValue, item_of, option_at, option_size, ends_at, fits_at, options_in, options_within}
-use Rattle.cap_pcapng.specs.Padding.{padded}
+use Rattle.cap_pcapng.specs.Padding.{padded_length}
 use Rattle.cap_pcapng.specs.declared.options.BlockOption.{BlockOption}
 
 false_first : (a b : Bool) → (a || b) ≡ false → a ≡ false
@@ -32,7 +32,7 @@ options_in-misfit order [] more misfit = (cc)
 options_in-misfit order (b ∷ bytes) more misfit = rw (more, misfit) refl
 
 -- what stands behind an option is shorter
-behind_shorter : (order : Order) (text : List ℕ) → 4 ≤ length text → length (drop (padded (option_size order text)) text) + 4 ≤ length text
+behind_shorter : (order : Order) (text : List ℕ) → 4 ≤ length text → length (drop (padded_length (option_size order text)) text) + 4 ≤ length text
 behind_shorter order text room = rw length-drop (omega arith)
 
 same_by : (ends fits : Bool) (o : CodedValue) (r s e : List (Result CodedValue Fault)) → (ends ≡ false → r ≡ s)
@@ -54,7 +54,7 @@ enough (suc n) (suc m) order text upper_bound less =
     (λ more. let shorter = behind_shorter order text (room order text more) in enough n m order _ (omega arith) (omega arith))
 
 pub options_in-more : (order : Order) (text : List ℕ) → ends_at order text ≡ false → fits_at order text ≡ true
-    → options_in order text ≡ Ok (option_at order text) ∷ options_in order (drop (padded (option_size order text)) text)
+    → options_in order text ≡ Ok (option_at order text) ∷ options_in order (drop (padded_length (option_size order text)) text)
 unfolding options_in options_within
 options_in-more order [] more fits = (cc)
 options_in-more order (b ∷ bytes) more fits =
@@ -91,14 +91,14 @@ options_in-past order text there code past =
 
 -- as the code finds the code, the value and the rest
 pub options_in-next : (order : Order) (text : List ℕ) (code len behind : ℕ) → code ≡ u16_in order text 0 → len ≡ u16_in order text 2
-    → 4 ≤ length text → code ≢ 0 → 4 + len ≤ length text → behind ≡ min (length text) (padded (4 + len))
+    → 4 ≤ length text → code ≢ 0 → 4 + len ≤ length text → behind ≡ min (length text) (padded_length (4 + len))
     → options_in order text ≡ Ok (record { code = code; value = take (4 + len - 4) (drop 4 text) })
     ∷ options_in order (take (length text - behind) (drop behind text))
 options_in-next order text code len behind code_is len_is there more within is =
     let size : 4 + len - 4 ≡ u16_in order text 2 = omega arith in
-    let rest : drop (padded (option_size order text)) text ≡ take (length text - behind) (drop behind text) =
-    sym (drop_least (padded (option_size order text)) text)
-    ∙ ap (λ n. drop n text) (sym (is ∙ ap (λ n. min (length text) (padded (4 + n))) len_is))
+    let rest : drop (padded_length (option_size order text)) text ≡ take (length text - behind) (drop behind text) =
+    sym (drop_least (padded_length (option_size order text)) text)
+    ∙ ap (λ n. drop n text) (sym (is ∙ ap (λ n. min (length text) (padded_length (4 + n))) len_is))
     ∙ sym (take_rest text behind) in
     let value : CodedValue = record { code = code; value = take (4 + len - 4) (drop 4 text) } in
     let same : option_at order text ≡ value = ap₂ (λ (c n : ℕ). record { code = c; value = take n (drop 4 text) }) (sym code_is) (sym size) in

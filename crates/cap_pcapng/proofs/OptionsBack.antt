@@ -12,12 +12,12 @@ use Rattle.cap_pcapng.specs.Interface.{described_by, described_in}
 use Rattle.cap_pcapng.specs.InterfaceOptions.{first_value, fitting_options, list_checks}
 use Rattle.cap_pcapng.specs.Laws.{written_interface}
 use Rattle.cap_pcapng.specs.OptionList.{CodedValue, option_at, option_size, options_in, options_within}
-use Rattle.cap_pcapng.specs.Padding.{padded}
+use Rattle.cap_pcapng.specs.Padding.{padded_length}
 use Rattle.cap_pcapng.specs.Encoding.{comment_text, end_text, name_text, option_text, padded_text, resolution_text}
 use Rattle.cap_pcapng.proofs.Numerals.{number_at}
 use Rattle.cap_pcapng.proofs.OptionLists.{goes_on, options_in-more, options_in-none}
 
-length-option_text : (code : ℕ) (value : List ℕ) → length (option_text code value) ≡ padded (4 + length value)
+length-option_text : (code : ℕ) (value : List ℕ) → length (option_text code value) ≡ padded_length (4 + length value)
 length-option_text code value = simp (length-append, length-replicate) (omega arith)
 
 -- an option in front of others
@@ -25,16 +25,16 @@ pub options_in-option : (code : ℕ) (value rest : List ℕ) → code < 2 ^ 16 �
     → options_in Little (option_text code value ++ rest) ≡ Ok (record { code = code; value = value }) ∷ options_in Little rest
 options_in-option code value rest upper_bound some short =
     let text : List ℕ = option_text code value ++ rest in
-    let zeros : List ℕ = replicate (padded (length value) - length value) 0 in
+    let zeros : List ℕ = replicate (padded_length (length value) - length value) 0 in
     let code_is : u16_in Little text 0 ≡ code = number_at 2 text 0 code (little_bytes 2 (length value) ++ (padded_text value ++ rest)) refl upper_bound in
     let len_is : u16_in Little text 2 ≡ length value = number_at 2 text 2 (length value) (padded_text value ++ rest) refl short in
     let size_is : option_size Little text ≡ 4 + length value = ap (λ n. 4 + n) len_is in
-    let room : length text ≡ padded (4 + length value) + length rest = length-append (option_text code value) rest ∙ ap (λ n. n + length rest) (length-option_text code value) in
+    let room : length text ≡ padded_length (4 + length value) + length rest = length-append (option_text code value) rest ∙ ap (λ n. n + length rest) (length-option_text code value) in
     let value_is : take (u16_in Little text 2) (drop 4 text) ≡ value =
     ap (λ n. take n (padded_text value ++ rest)) len_is
     ∙ ap (λ t. take (length value) t) (append_assoc value zeros rest) ∙ take_at value (zeros ++ rest) (length value) refl in
-    let rest_is : drop (padded (option_size Little text)) text ≡ rest =
-    ap (λ n. drop (padded n) text) size_is ∙ drop_at (option_text code value) rest (padded (4 + length value)) (length-option_text code value) in
+    let rest_is : drop (padded_length (option_size Little text)) text ≡ rest =
+    ap (λ n. drop (padded_length n) text) size_is ∙ drop_at (option_text code value) rest (padded_length (4 + length value)) (length-option_text code value) in
     let option_is : option_at Little text ≡ record { code = code; value = value } =
     ap₂ (λ (c : ℕ) (v : List ℕ). record { code = c; value = v }) code_is value_is in
     options_in-more Little text (goes_on Little text (omega arith) (λ none. some (sym code_is ∙ none)))

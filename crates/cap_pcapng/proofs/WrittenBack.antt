@@ -13,15 +13,15 @@ use Rattle.cap_octet.specs.declared.fault.Fault.TheVariants.{Truncated}
 use Rattle.cap_octet.specs.declared.number.Order.TheVariants.{Little}
 use Rattle.cap_pcapng.specs.Block.{EnhancedParts, InterfaceParts, Parts, block_checks, body_checks, body_in, parts_in, parts_in_body}
 use Rattle.cap_pcapng.specs.Comment.{comment_in}
-use Rattle.cap_pcapng.specs.Frame.{frame_checks, frame_in, most_block, section_type, type_of}
+use Rattle.cap_pcapng.specs.Frame.{frame_checks, frame_in, most_block, section_type, type_of_block}
 use Rattle.cap_octet.specs.Packet.{Captured}
 use Rattle.cap_pcapng.specs.Interface.{Described}
 use Rattle.cap_pcapng.specs.Laws.{InterfaceBack, PacketBack, SectionBack, ReadsAs, written_interface, written_section}
-use Rattle.cap_pcapng.specs.Padding.{padded}
+use Rattle.cap_pcapng.specs.Padding.{padded_length}
 use Rattle.cap_octet.specs.Date.{NANOS_PER_SECOND}
-use Rattle.cap_pcapng.specs.Time.{time_by, time_in}
+use Rattle.cap_pcapng.specs.Time.{time_by, representable_time}
 use Rattle.cap_pcapng.specs.Unit.{Section, checks_among, frame_behind, interfaces_before, most_interfaces, order_before, packet_by, section_by, unit_fault}
-use Rattle.cap_pcapng.specs.Encoding.{block_text, comment_text, end_text, fit_checks, interface_body, name_text, packet_body, padded_text, resolution_text}
+use Rattle.cap_pcapng.specs.Encoding.{block_text, comment_text, end_text, block_fit_checks, interface_body, name_text, packet_body, padded_text, resolution_text}
 use Rattle.cap_pcapng.proofs.Numerals.{number_at}
 use Rattle.cap_pcapng.proofs.OptionsBack.{comment_back, options_describe, options_pass}
 use Rattle.cap_pcapng.proofs.WrittenBlocks.{comment_text-whole, length-interface_body, length-packet_body}
@@ -41,7 +41,7 @@ section_back before = record {
 
 -- the frame of a block that is no section header, behind a section
 frame_told : (type size : ℕ) (text : List ℕ) → u32_in Little text 0 ≡ type → u32_in Little text 4 ≡ size → (type == section_type) ≡ false
-    → frame_in (Some Little) text ≡ record { order = Little; block_type = type_of type; length = size }
+    → frame_in (Some Little) text ≡ record { order = Little; block_type = type_of_block type; length = size }
 frame_told type size text type_is size_is other =
     let no_section : (u32_in Little text 0 == section_type) ≡ false = ap (λ n. n == section_type) type_is ∙ other in
     rw (no_section, type_is, size_is) refl
@@ -77,7 +77,7 @@ unit_passes before text frame parts frame_is parts_is size least framed blocked 
     (ap (λ (p : Parts). first_failing (checks_among (interfaces_before before) p)) (ap (λ (f : Frame). parts_in f text) frame_is ∙ parts_is) ∙ among)
 
 abbrev pub written_frame : ℕ → List ℕ → Frame
-written_frame type body = record { order = Little; block_type = type_of type; length = 12 + length body }
+written_frame type body = record { order = Little; block_type = type_of_block type; length = 12 + length body }
 
 -- what a written block of a type other than a section header is
 pub record IsWritten (type : ℕ) (body : List ℕ) : Type 0 where
@@ -107,18 +107,18 @@ block_written type body upper_bound other whole most =
 
 -- what a written block reads as, by its body
 pub block_reads : (interfaces : List Described) (type : ℕ) (body : List ℕ) → IsWritten type body
-    → first_failing (body_checks (type_of type) Little body) ≡ None
-    → first_failing (checks_among interfaces (parts_in_body (type_of type) Little body)) ≡ None
+    → first_failing (body_checks (type_of_block type) Little body) ≡ None
+    → first_failing (checks_among interfaces (parts_in_body (type_of_block type) Little body)) ≡ None
     → ReadsAs (Some (written_section interfaces)) (block_text type body)
-    (section_by (Some (written_section interfaces)) Little (parts_in_body (type_of type) Little body))
-    (option_to_list (packet_by interfaces (parts_in_body (type_of type) Little body)))
+    (section_by (Some (written_section interfaces)) Little (parts_in_body (type_of_block type) Little body))
+    (option_to_list (packet_by interfaces (parts_in_body (type_of_block type) Little body)))
 block_reads interfaces type body w passes among =
     let text : List ℕ = block_text type body in
-    let parts : Parts = parts_in_body (type_of type) Little body in
-    let parts_are : parts_in (written_frame type body) text ≡ parts = ap (λ t. parts_in_body (type_of type) Little t) w.between in
+    let parts : Parts = parts_in_body (type_of_block type) Little body in
+    let parts_are : parts_in (written_frame type body) text ≡ parts = ap (λ t. parts_in_body (type_of_block type) Little t) w.between in
     let found : parts_in (frame_in (Some Little) text) text ≡ parts = ap (λ (f : Frame). parts_in f text) w.exact ∙ parts_are in
     let blocked : first_failing (block_checks (written_frame type body) text) ≡ None =
-    rw (eq-eqb _ _ w.ends) (ap (λ t. first_failing (body_checks (type_of type) Little t)) w.between ∙ passes) in
+    rw (eq-eqb _ _ w.ends) (ap (λ t. first_failing (body_checks (type_of_block type) Little t)) w.between ∙ passes) in
     record {
       is_block = record {
         passes =
@@ -135,7 +135,7 @@ same_time : (time : ℕ) → time / 2 ^ 32 * 4294967296 + time % 2 ^ 32 ≡ time
 same_time time = omega arith
 
 pub packet_parts : (number : ℕ) (p : Captured) → number < 2 ^ 32 → p.time < 2 ^ 63 → p.orig < 2 ^ 32 → length p.bytes < 2 ^ 32
-    → parts_in_body (type_of 6) Little (packet_body number p) ≡ EnhancedParts number p.time (length p.bytes) p.orig Little (padded_text p.bytes ++ comment_text p.comment)
+    → parts_in_body (type_of_block 6) Little (packet_body number p) ≡ EnhancedParts number p.time (length p.bytes) p.orig Little (padded_text p.bytes ++ comment_text p.comment)
 packet_parts number p number_fits time_fits orig_fits upper_bound =
     let body : List ℕ = packet_body number p in
     let number_is : u32_in Little body 0 ≡ number = number_at 4 body 0 number (drop 4 body) refl number_fits in
@@ -146,48 +146,48 @@ packet_parts number p number_fits time_fits orig_fits upper_bound =
     rw (number_is, high_is, low_is, captured_is, orig_is, same_time p.time) refl
 
 -- nanoseconds are the time itself
-nanoseconds_back : (time : ℕ) → time < 2 ^ 63 → time_in time NANOS_PER_SECOND (pos 0) ≡ Some time
+nanoseconds_back : (time : ℕ) → time < 2 ^ 63 → representable_time time NANOS_PER_SECOND (pos 0) ≡ Some time
 nanoseconds_back time upper_bound =
     let same : time * NANOS_PER_SECOND / NANOS_PER_SECOND + 0 ≡ time = omega arith in
     ap (λ n. time_by (pos n)) same ∙ (rw (lt-ltb time (2 ^ 63) upper_bound) refl)
 
-padded_size : (bytes : List ℕ) → length (padded_text bytes) ≡ padded (length bytes)
+padded_size : (bytes : List ℕ) → length (padded_text bytes) ≡ padded_length (length bytes)
 padded_size bytes = simp (length-append, length-replicate) (omega arith)
 
-padded_fits : (bytes more : List ℕ) → padded (length bytes) ≤ length (padded_text bytes ++ more)
+padded_fits : (bytes more : List ℕ) → padded_length (length bytes) ≤ length (padded_text bytes ++ more)
 padded_fits bytes more = omega (arith, length-append (padded_text bytes) more, padded_size bytes)
 
 packet_among : (interfaces : List Described) (number : ℕ) (p : Captured) → slice_get interfaces number ≡ Some (written_interface p.link p.snap p.name)
     → p.time < 2 ^ 63 → first_failing (checks_among interfaces (EnhancedParts number p.time (length p.bytes) p.orig Little (padded_text p.bytes ++ comment_text p.comment))) ≡ None
 packet_among interfaces number p known upper_bound =
-    rw (known, le-leb (padded (length p.bytes)) (length (padded_text p.bytes ++ comment_text p.comment)) (padded_fits p.bytes (comment_text p.comment)), nanoseconds_back p.time upper_bound) refl
+    rw (known, le-leb (padded_length (length p.bytes)) (length (padded_text p.bytes ++ comment_text p.comment)) (padded_fits p.bytes (comment_text p.comment)), nanoseconds_back p.time upper_bound) refl
 
 -- the data and the comment of a body
 data_back : (bytes more : List ℕ) → take (length bytes) (padded_text bytes ++ more) ≡ bytes
 data_back bytes more =
-    let zeros : List ℕ = replicate (padded (length bytes) - length bytes) 0 in
+    let zeros : List ℕ = replicate (padded_length (length bytes) - length bytes) 0 in
     ap (λ t. take (length bytes) t) (append_assoc bytes zeros more) ∙ take_at bytes (zeros ++ more) (length bytes) refl
 
-comment_behind : (bytes comment : List ℕ) → length comment ≤ 65535 → comment_in Little (drop (padded (length bytes)) (padded_text bytes ++ comment_text comment)) ≡ comment
+comment_behind : (bytes comment : List ℕ) → length comment ≤ 65535 → comment_in Little (drop (padded_length (length bytes)) (padded_text bytes ++ comment_text comment)) ≡ comment
 comment_behind bytes comment short =
-    ap (λ t. comment_in Little t) (drop_at (padded_text bytes) (comment_text comment) (padded (length bytes)) (padded_size bytes)) ∙ comment_back comment short
+    ap (λ t. comment_in Little t) (drop_at (padded_text bytes) (comment_text comment) (padded_length (length bytes)) (padded_size bytes)) ∙ comment_back comment short
 
 packet_held : (interfaces : List Described) (number : ℕ) (p : Captured) → slice_get interfaces number ≡ Some (written_interface p.link p.snap p.name)
     → p.time < 2 ^ 63 → length p.comment ≤ 65535 → packet_by interfaces (EnhancedParts number p.time (length p.bytes) p.orig Little (padded_text p.bytes ++ comment_text p.comment)) ≡ Some p
 packet_held interfaces number p known upper_bound short =
     rw (known, nanoseconds_back p.time upper_bound, data_back p.bytes (comment_text p.comment), comment_behind p.bytes p.comment short) refl
 
-fits_told : (p : Captured) → first_failing (fit_checks p) ≡ None → 32 + padded (length p.bytes) + length (comment_text p.comment) ≤ most_block
-fits_told p fits = leb-true (32 + padded (length p.bytes) + length (comment_text p.comment)) most_block (all_met (fit_checks p) fits).0
+fits_told : (p : Captured) → first_failing (block_fit_checks p) ≡ None → 32 + padded_length (length p.bytes) + length (comment_text p.comment) ≤ most_block
+fits_told p fits = leb-true (32 + padded_length (length p.bytes) + length (comment_text p.comment)) most_block (all_met (block_fit_checks p) fits).0
 
 pub packet_back : PacketBack
 packet_back interfaces number p known number_fits time_fits orig_fits short fits =
-    let most : 32 + padded (length p.bytes) + length (comment_text p.comment) ≤ most_block = fits_told p fits in
+    let most : 32 + padded_length (length p.bytes) + length (comment_text p.comment) ≤ most_block = fits_told p fits in
     let whole : length (comment_text p.comment) % 4 ≡ 0 = comment_text-whole p.comment in
     let body : List ℕ = packet_body number p in
-    let size : length body ≡ 20 + padded (length p.bytes) + length (comment_text p.comment) = length-packet_body number p in
+    let size : length body ≡ 20 + padded_length (length p.bytes) + length (comment_text p.comment) = length-packet_body number p in
     let w : IsWritten 6 body = block_written 6 body (omega arith) refl (omega arith) (omega arith) in
-    let parts : parts_in_body (type_of 6) Little body ≡ EnhancedParts number p.time (length p.bytes) p.orig Little (padded_text p.bytes ++ comment_text p.comment) =
+    let parts : parts_in_body (type_of_block 6) Little body ≡ EnhancedParts number p.time (length p.bytes) p.orig Little (padded_text p.bytes ++ comment_text p.comment) =
     packet_parts number p number_fits time_fits orig_fits (omega arith) in
     let reads = block_reads interfaces 6 body w (rw (le-leb 20 (length body) (omega arith)) refl)
     (ap (λ q. first_failing (checks_among interfaces q)) parts ∙ packet_among interfaces number p known time_fits) in
@@ -200,7 +200,7 @@ packet_back interfaces number p known number_fits time_fits orig_fits short fits
 -- ---- an interface
 
 interface_parts : (link snap : ℕ) (name : List ℕ) → link < 2 ^ 16 → snap < 2 ^ 32
-    → parts_in_body (type_of 1) Little (interface_body link snap name) ≡ InterfaceParts link snap Little (name_text name ++ resolution_text ++ end_text)
+    → parts_in_body (type_of_block 1) Little (interface_body link snap name) ≡ InterfaceParts link snap Little (name_text name ++ resolution_text ++ end_text)
 interface_parts link snap name link_fits snap_fits =
     let body : List ℕ = interface_body link snap name in
     let link_is : u16_in Little body 0 ≡ link = number_at 2 body 0 link (drop 2 body) refl link_fits in
@@ -211,7 +211,7 @@ interface_size : (link snap : ℕ) (name : List ℕ) → length name ≤ 255
     → (length (interface_body link snap name) % 4 ≡ 0) × (20 ≤ length (interface_body link snap name)) × (length (interface_body link snap name) ≤ 280)
 interface_size link snap [] short = (refl, lit≤ tt, lit≤ tt)
 interface_size link snap (b ∷ bytes) short =
-    let size : length (interface_body link snap (b ∷ bytes)) ≡ 24 + padded (length (b ∷ bytes)) = length-interface_body link snap b bytes in
+    let size : length (interface_body link snap (b ∷ bytes)) ≡ 24 + padded_length (length (b ∷ bytes)) = length-interface_body link snap b bytes in
     (omega arith, omega arith, omega arith)
 
 pub interface_back : InterfaceBack
@@ -219,7 +219,7 @@ interface_back interfaces link snap name room link_fits snap_fits short =
     let body : List ℕ = interface_body link snap name in
     let size = interface_size link snap name short in
     let w : IsWritten 1 body = block_written 1 body (omega arith) refl size.0 (omega arith) in
-    let parts : parts_in_body (type_of 1) Little body ≡ InterfaceParts link snap Little (name_text name ++ resolution_text ++ end_text) =
+    let parts : parts_in_body (type_of_block 1) Little body ≡ InterfaceParts link snap Little (name_text name ++ resolution_text ++ end_text) =
     interface_parts link snap name link_fits snap_fits in
     let among : first_failing (checks_among interfaces (InterfaceParts link snap Little (name_text name ++ resolution_text ++ end_text))) ≡ None =
     rw (lt-ltb (length interfaces) most_interfaces room) (options_pass name short) in

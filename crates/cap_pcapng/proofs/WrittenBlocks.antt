@@ -5,8 +5,8 @@ use Rattle.std.proofs.lemmas.Bool.{false≢true}
 use Rattle.std.proofs.lemmas.List.{append-nil, drop_at, length-replicate, replicate-append-replicate, take_all}
 use Rattle.byteorder.specs.Endian.{little_bytes}
 use Rattle.cap_octet.specs.Packet.{Captured}
-use Rattle.cap_pcapng.specs.Padding.{padded}
-use Rattle.cap_pcapng.specs.Encoding.{comment_text, end_text, interface_body, interface_header, interface_text, name_text, packet_body, packet_header, packet_text, padded_text, resolution_text}
+use Rattle.cap_pcapng.specs.Padding.{padded_length}
+use Rattle.cap_pcapng.specs.Encoding.{comment_text, end_text, interface_body, interface_header, interface_text, name_text, packet_body, packet_header, packet_block, padded_text, resolution_text}
 
 -- the last of the zeros in front of more bytes, and these
 block_end : (k zeros n : ℕ) (more end : List ℕ) → zeros ≤ k → end ≡ replicate k 0 ++ more → n ≡ k + length more
@@ -21,43 +21,43 @@ block_end k zeros n more end upper_bound is size =
     ∙ ap (λ (l : List ℕ). take (n - (k - zeros)) l) (drop_at (replicate (k - zeros) 0) (replicate zeros 0 ++ more) (k - zeros) (length-replicate (k - zeros) 0))
     ∙ take_all (n - (k - zeros)) (replicate zeros 0 ++ more) (simp (length-append, length-replicate) (omega arith))
 
-pub length-packet_body : (number : ℕ) (p : Captured) → length (packet_body number p) ≡ 20 + padded (length p.bytes) + length (comment_text p.comment)
+pub length-packet_body : (number : ℕ) (p : Captured) → length (packet_body number p) ≡ 20 + padded_length (length p.bytes) + length (comment_text p.comment)
 length-packet_body number p =
     length-append (little_bytes 4 number ++ little_bytes 4 (p.time / 2 ^ 32) ++ little_bytes 4 (p.time % 2 ^ 32) ++ little_bytes 4 (length p.bytes) ++ little_bytes 4 p.orig ++ padded_text p.bytes) (comment_text p.comment)
     ∙ ap (λ (n : ℕ). n + length (comment_text p.comment)) (simp (length-append, length-replicate) (omega arith))
 
 -- a comment's bytes with the end of the options are whole fours
-pub length-comment_text : (comment : List ℕ) → (length comment == 0) ≡ false → length (comment_text comment) ≡ 8 + padded (length comment)
+pub length-comment_text : (comment : List ℕ) → (length comment == 0) ≡ false → length (comment_text comment) ≡ 8 + padded_length (length comment)
 length-comment_text [] some = absurd (false≢true (sym some))
 length-comment_text (b ∷ bytes) some = simp (length-append, length-replicate) (omega arith)
 
 pub comment_text-whole : (comment : List ℕ) → length (comment_text comment) % 4 ≡ 0
 comment_text-whole [] = refl
-comment_text-whole (b ∷ bytes) = let size : length (comment_text (b ∷ bytes)) ≡ 8 + padded (length (b ∷ bytes)) = length-comment_text (b ∷ bytes) (ne_eqb (length (b ∷ bytes)) 0 (λ is. absurd (omega arith))) in omega arith
+comment_text-whole (b ∷ bytes) = let size : length (comment_text (b ∷ bytes)) ≡ 8 + padded_length (length (b ∷ bytes)) = length-comment_text (b ∷ bytes) (ne_eqb (length (b ∷ bytes)) 0 (λ is. absurd (omega arith))) in omega arith
 
 -- ---- what is behind a packet's data: padding and a comment
 
-pub plain_behind : (padding : ℕ) (bytes comment : List ℕ) → (length comment == 0) ≡ true → length bytes + padding ≡ padded (length bytes)
-    → comment ++ replicate padding 0 ≡ replicate (padded (length bytes) - length bytes) 0 ++ comment_text comment
+pub plain_behind : (padding : ℕ) (bytes comment : List ℕ) → (length comment == 0) ≡ true → length bytes + padding ≡ padded_length (length bytes)
+    → comment ++ replicate padding 0 ≡ replicate (padded_length (length bytes) - length bytes) 0 ++ comment_text comment
 plain_behind padding bytes [] none padding_is =
-    let zeros : padding ≡ padded (length bytes) - length bytes = omega arith in
-    ap (λ (n : ℕ). replicate n 0) zeros ∙ sym (append-nil (replicate (padded (length bytes) - length bytes) 0))
+    let zeros : padding ≡ padded_length (length bytes) - length bytes = omega arith in
+    ap (λ (n : ℕ). replicate n 0) zeros ∙ sym (append-nil (replicate (padded_length (length bytes) - length bytes) 0))
 plain_behind padding bytes (b ∷ more) none padding_is = absurd (false≢true (sym (ne_eqb (length (b ∷ more)) 0 (λ is. absurd (omega arith))) ∙ none))
 
 commented : (zeros head comment more end : List ℕ) → (zeros ++ head) ++ (comment ++ (more ++ end)) ≡ zeros ++ (head ++ (comment ++ more) ++ end)
 commented zeros head comment more end = simp append_assoc
 
 pub comment_behind : (padding behind : ℕ) (bytes comment option : List ℕ) → (length comment == 0) ≡ false → padding < 4
-    → length bytes + padding ≡ padded (length bytes) → length comment + behind ≡ padded (length comment)
+    → length bytes + padding ≡ padded_length (length bytes) → length comment + behind ≡ padded_length (length comment)
     → option ≡ replicate 3 0 ++ (little_bytes 2 1 ++ little_bytes 2 (length comment))
     → take (7 - (3 - padding)) (drop (3 - padding) option) ++ (comment ++ replicate (behind + 4) 0)
-    ≡ replicate (padded (length bytes) - length bytes) 0 ++ comment_text comment
+    ≡ replicate (padded_length (length bytes) - length bytes) 0 ++ comment_text comment
 comment_behind padding behind bytes [] option some upper_bound padding_is behind_is option_is = absurd (false≢true (sym some))
 comment_behind padding behind bytes (b ∷ rest) option some upper_bound padding_is behind_is option_is =
     let comment : List ℕ = b ∷ rest in
     let head : List ℕ = little_bytes 2 1 ++ little_bytes 2 (length comment) in
-    let zeros : padding ≡ padded (length bytes) - length bytes = omega arith in
-    let more : behind ≡ padded (length comment) - length comment = omega arith in
+    let zeros : padding ≡ padded_length (length bytes) - length bytes = omega arith in
+    let more : behind ≡ padded_length (length comment) - length comment = omega arith in
     ap₂ (λ (o z : List ℕ). o ++ (comment ++ z)) (block_end 3 padding 7 head option (omega arith) option_is refl) (sym (replicate-append-replicate behind 4 0))
     ∙ commented (replicate padding 0) head comment (replicate behind 0) end_text
     ∙ ap₂ (λ (n m : ℕ). replicate n 0 ++ (head ++ (comment ++ replicate m 0) ++ end_text)) zeros more
@@ -68,13 +68,13 @@ pieces bytes option comment zeros size = simp (append_assoc, append-nil)
 
 -- a packet's block is its pieces, joined
 pub packet_joined : (number zeros : ℕ) (p : Captured) (head option end : List ℕ) → zeros ≤ 7
-    → option ++ (p.comment ++ replicate zeros 0) ≡ replicate (padded (length p.bytes) - length p.bytes) 0 ++ comment_text p.comment
+    → option ++ (p.comment ++ replicate zeros 0) ≡ replicate (padded_length (length p.bytes) - length p.bytes) 0 ++ comment_text p.comment
     → head ≡ packet_header (32 + length p.bytes + length option + length p.comment + zeros) number p
     → end ≡ replicate 7 0 ++ little_bytes 4 (32 + length p.bytes + length option + length p.comment + zeros)
-    → head ++ (p.bytes ++ (option ++ (p.comment ++ (take (11 - (7 - zeros)) (drop (7 - zeros) end) ++ [])))) ≡ packet_text number p
+    → head ++ (p.bytes ++ (option ++ (p.comment ++ (take (11 - (7 - zeros)) (drop (7 - zeros) end) ++ [])))) ≡ packet_block number p
 packet_joined number zeros p head option end upper_bound behind head_is end_is =
     let size : ℕ = 32 + length p.bytes + length option + length p.comment + zeros in
-    let padding : List ℕ = replicate (padded (length p.bytes) - length p.bytes) 0 in
+    let padding : List ℕ = replicate (padded_length (length p.bytes) - length p.bytes) 0 in
     let sizes = simp (length-append, length-replicate) at (ap length behind) in
     let whole : size ≡ 12 + length (packet_body number p) = omega (arith, sizes, length-packet_body number p) in
     ap₂ (λ (h t : List ℕ). h ++ (p.bytes ++ (option ++ (p.comment ++ (t ++ []))))) head_is (block_end 7 zeros 11 (little_bytes 4 size) end upper_bound end_is refl)
@@ -89,10 +89,10 @@ empty [] none = refl
 empty (b ∷ bytes) none = absurd (false≢true (sym (ne_eqb (length (b ∷ bytes)) 0 (λ is. absurd (omega arith))) ∙ none))
 
 -- the block of a packet without a comment
-pub plain_joined : (number zeros : ℕ) (p : Captured) (head end : List ℕ) → (length p.comment == 0) ≡ true → zeros < 4 → length p.bytes + zeros ≡ padded (length p.bytes)
+pub plain_joined : (number zeros : ℕ) (p : Captured) (head end : List ℕ) → (length p.comment == 0) ≡ true → zeros < 4 → length p.bytes + zeros ≡ padded_length (length p.bytes)
     → head ≡ packet_header (32 + length p.bytes + zeros) number p
     → end ≡ replicate 7 0 ++ little_bytes 4 (32 + length p.bytes + zeros)
-    → head ++ (p.bytes ++ (take (11 - (7 - zeros)) (drop (7 - zeros) end) ++ [])) ≡ packet_text number p
+    → head ++ (p.bytes ++ (take (11 - (7 - zeros)) (drop (7 - zeros) end) ++ [])) ≡ packet_block number p
 plain_joined number zeros p head end none upper_bound padding_is head_is end_is =
     let comment_is : p.comment ≡ [] = empty p.comment none in
     let size : 32 + length p.bytes + zeros ≡ 32 + length p.bytes + 0 + length p.comment + zeros = omega (arith, ap length comment_is) in
@@ -102,19 +102,19 @@ plain_joined number zeros p head end none upper_bound padding_is head_is end_is 
 
 -- ---- an interface
 
-pub length-interface_body : (link snap b : ℕ) (bytes : List ℕ) → length (interface_body link snap (b ∷ bytes)) ≡ 24 + padded (length (b ∷ bytes))
+pub length-interface_body : (link snap b : ℕ) (bytes : List ℕ) → length (interface_body link snap (b ∷ bytes)) ≡ 24 + padded_length (length (b ∷ bytes))
 length-interface_body link snap b bytes = simp (length-append, length-replicate) (omega arith)
 
-pub unnamed : (padding : ℕ) (name : List ℕ) → (length name == 0) ≡ true → length name + padding ≡ padded (length name) → name ++ replicate padding 0 ≡ name_text name
+pub unnamed : (padding : ℕ) (name : List ℕ) → (length name == 0) ≡ true → length name + padding ≡ padded_length (length name) → name ++ replicate padding 0 ≡ name_text name
 unnamed padding [] none padding_is = let zero_is : padding ≡ 0 = omega arith in ap (λ (n : ℕ). replicate n 0) zero_is
 unnamed padding (b ∷ bytes) none padding_is = absurd (false≢true (sym (ne_eqb (length (b ∷ bytes)) 0 (λ is. absurd (omega arith))) ∙ none))
 
-pub named : (padding : ℕ) (name option : List ℕ) → (length name == 0) ≡ false → length name + padding ≡ padded (length name)
+pub named : (padding : ℕ) (name option : List ℕ) → (length name == 0) ≡ false → length name + padding ≡ padded_length (length name)
     → option ≡ replicate 3 0 ++ (little_bytes 2 2 ++ little_bytes 2 (length name))
     → take (7 - 3) (drop 3 option) ++ (name ++ replicate padding 0) ≡ name_text name
 named padding [] option some padding_is option_is = absurd (false≢true (sym some))
 named padding (b ∷ bytes) option some padding_is option_is =
-    let zeros : padding ≡ padded (length (b ∷ bytes)) - length (b ∷ bytes) = omega arith in
+    let zeros : padding ≡ padded_length (length (b ∷ bytes)) - length (b ∷ bytes) = omega arith in
     ap₂ (λ (o : List ℕ) (n : ℕ). o ++ ((b ∷ bytes) ++ replicate n 0)) (block_end 3 0 7 _ option (omega arith) option_is refl) zeros
 
 regrouped : (option name zeros r e s : List ℕ)

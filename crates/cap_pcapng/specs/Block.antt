@@ -9,7 +9,7 @@ use Rattle.cap_octet.specs.declared.number.Order.{Order}
 use Rattle.cap_pcapng.specs.Interface.{IsDescribed}
 use Rattle.cap_pcapng.specs.InterfaceOptions.{list_checks}
 use Rattle.cap_pcapng.specs.OptionList.{options_in}
-use Rattle.cap_pcapng.specs.Padding.{padded}
+use Rattle.cap_pcapng.specs.Padding.{padded_length}
 use Rattle.cap_pcapng.specs.declared.blocks.Block.{Block}
 use Rattle.cap_pcapng.specs.declared.blocks.Block.TheVariants as a
 use Rattle.cap_pcapng.specs.declared.blocks.InterfaceBlock.{InterfaceBlock}
@@ -57,7 +57,7 @@ simple_captured orig snap = if snap == 0 then orig else min orig snap
 
 -- that so many captured bytes with their padding lie in what is left of a body
 abbrev pub data_checks : ℕ → List ℕ → List (Bool × Fault)
-data_checks captured rest = (nat_le (padded captured) (length rest), BadBody) ∷ []
+data_checks captured rest = (nat_le (padded_length captured) (length rest), BadBody) ∷ []
 
 -- ---- the parts
 

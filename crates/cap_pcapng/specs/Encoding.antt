@@ -7,7 +7,7 @@ use Rattle.cap_octet.specs.declared.fault.Fault.TheVariants.{TooLong}
 use Rattle.cap_pcapng.specs.Comment.{comment_code}
 use Rattle.cap_pcapng.specs.Frame.{byte_order_magic, most_block, section_type}
 use Rattle.cap_pcapng.specs.InterfaceOptions.{name_code, resolution_code}
-use Rattle.cap_pcapng.specs.Padding.{padded}
+use Rattle.cap_pcapng.specs.Padding.{padded_length}
 
 -- type, total length, body, total length
 abbrev pub block_text : (type : ℕ) → (body : List ℕ) → List ℕ
@@ -17,7 +17,7 @@ block_text type body =
 
 -- bytes, and zeros up to a multiple of four
 abbrev pub padded_text : List ℕ → List ℕ
-padded_text bytes = bytes ++ replicate (padded (length bytes) - length bytes) 0
+padded_text bytes = bytes ++ replicate (padded_length (length bytes) - length bytes) 0
 
 abbrev pub option_text : (code : ℕ) → (value : List ℕ) → List ℕ
 option_text code value = little_bytes 2 code ++ little_bytes 2 (length value) ++ padded_text value
@@ -67,8 +67,8 @@ packet_body number p =
     ++ little_bytes 4 (length p.bytes) ++ little_bytes 4 p.orig ++ padded_text p.bytes
     ++ comment_text p.comment
 
-abbrev pub packet_text : (number : ℕ) → Captured → List ℕ
-packet_text number p = block_text 6 (packet_body number p)
+abbrev pub packet_block : (number : ℕ) → Captured → List ℕ
+packet_block number p = block_text 6 (packet_body number p)
 
 -- what of it stands in front of the data, in a block of this total length
 abbrev pub packet_header : (size number : ℕ) → Captured → List ℕ
@@ -78,7 +78,10 @@ packet_header size number p =
     ++ little_bytes 4 (p.time % 2 ^ 32) ++ little_bytes 4 (length p.bytes) ++ little_bytes 4 p.orig
 
 -- the checks of a packet that is to be written: its block isn't too long to be read
-abbrev pub fit_checks : Captured → List (Bool × Fault)
-fit_checks p =
-    (nat_le (32 + padded (length p.bytes) + length (comment_text p.comment)) most_block, TooLong)
+abbrev pub block_fit_checks : Captured → List (Bool × Fault)
+block_fit_checks p = (
+  nat_le (32 + padded_length (length p.bytes) + length (comment_text p.comment))
+      most_block,
+  TooLong,
+)
     ∷ []

@@ -23,8 +23,8 @@ abbrev pub byte_order_magic : ℕ
 byte_order_magic = 0x1a2b3c4d
 
 -- the type of a block that is no section header
-abbrev pub type_of : ℕ → BlockType
-type_of number =
+abbrev pub type_of_block : ℕ → BlockType
+type_of_block number =
     if number == 1 then block.Interface
     else (if number == 2 then block.ObsoletePacket
     else (if number == 3 then block.SimplePacket
@@ -53,7 +53,7 @@ order_in section text = unwrap_or (order_told section text) Little
 
 abbrev pub type_in : Option Order → List ℕ → BlockType
 type_in section text =
-    if is_section text then block.Section else type_of (u32_in (order_in section text) text 0)
+    if is_section text then block.Section else type_of_block (u32_in (order_in section text) text 0)
 
 -- the total length
 abbrev pub length_in : Option Order → List ℕ → ℕ

@@ -57,15 +57,15 @@ IsDescribed b =
 -- ---- while they are read
 
 -- a name that was found is short enough
-abbrev pub IsShort : Found → Type 0
-IsShort found = IfSome found.name (λ name. length name.now ≤ 255)
+abbrev pub HasShortName : Found → Type 0
+HasShortName found = IfSome found.name (λ name. length name.now ≤ 255)
 
 -- what was found in these options
 pub record IsFound (order : Order) (options : List CodedValue) (found : Found) : Type 0 where
   pub name : option_copied found.name ≡ first_value name_code options
   pub units : found.units ≡ option_map units_in_value (first_value resolution_code options)
   pub offset : found.offset ≡ option_map (offset_in_value order) (first_value offset_code options)
-  pub short : IsShort found
+  pub short : HasShortName found
 
 -- what is found once this option is read behind those before it
 pub record Adds (order : Order) (before : Found) (option : CodedValue)
@@ -76,7 +76,7 @@ pub record Adds (order : Order) (before : Found) (option : CodedValue)
       ≡ option_or before.units (option_map units_in_value (value_for resolution_code option))
   pub offset : after.offset
       ≡ option_or before.offset (option_map (offset_in_value order) (value_for offset_code option))
-  pub short : IsShort before → IsShort after
+  pub short : HasShortName before → HasShortName after
 
 -- whether an option of this code was found, if it is looked at
 abbrev pub is_found : Found → ℕ → Bool

@@ -7,7 +7,7 @@ use Rattle.cap_octet.specs.Packet.{Captured}
 use Rattle.cap_octet.specs.declared.number.Order.TheVariants.{Little}
 use Rattle.cap_pcapng.specs.Interface.{Described}
 use Rattle.cap_pcapng.specs.Unit.{IsBlock, Section, most_interfaces, packets_in, section_after}
-use Rattle.cap_pcapng.specs.Encoding.{fit_checks, interface_text, packet_text, section_text}
+use Rattle.cap_pcapng.specs.Encoding.{block_fit_checks, interface_text, packet_block, section_text}
 
 -- These bytes are one block, behind which the section is this, and they hold these packets.
 pub record ReadsAs (before : Option Section) (bytes : List ℕ) (after : Section)
@@ -43,6 +43,6 @@ abbrev pub PacketBack : Type 0
 PacketBack = (interfaces : List Described) (number : ℕ) (p : Captured)
     → slice_get interfaces number ≡ Some (written_interface p.link p.snap p.name)
     → number < 2 ^ 32 → p.time < 2 ^ 63 → p.orig < 2 ^ 32 → length p.comment ≤ 65535
-    → first_failing (fit_checks p) ≡ None
-    → ReadsAs (Some (written_section interfaces)) (packet_text number p)
+    → first_failing (block_fit_checks p) ≡ None
+    → ReadsAs (Some (written_section interfaces)) (packet_block number p)
     (written_section interfaces) (p ∷ [])

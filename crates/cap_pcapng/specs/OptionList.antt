@@ -4,7 +4,7 @@ use Rattle.cap_octet.specs.Number.{u16_in}
 use Rattle.cap_octet.specs.declared.fault.Fault.{Fault}
 use Rattle.cap_octet.specs.declared.fault.Fault.TheVariants.{BadOption}
 use Rattle.cap_octet.specs.declared.number.Order.{Order}
-use Rattle.cap_pcapng.specs.Padding.{padded}
+use Rattle.cap_pcapng.specs.Padding.{padded_length}
 use Rattle.cap_pcapng.specs.declared.options.BlockOption.{BlockOption}
 use Rattle.cap_pcapng.specs.declared.options.Options.{Options}
 
@@ -39,7 +39,7 @@ options_within (suc most) order text =
     if ends_at order text then []
     else (if fits_at order text
     then Ok (option_at order text)
-    ∷ options_within most order (drop (padded (option_size order text)) text)
+    ∷ options_within most order (drop (padded_length (option_size order text)) text)
     else Err BadOption ∷ [])
 
 -- the options of a text; each has a byte at least

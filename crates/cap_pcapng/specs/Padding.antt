@@ -1,5 +1,5 @@
 -- The padding of data and of values to a multiple of four bytes.
 use Rattle.std.specs.Prelude.{ℕ, ◌+◌, ◌*◌, ◌/◌}
 
-abbrev pub padded : ℕ → ℕ
-padded n = (n + 3) / 4 * 4
+abbrev pub padded_length : ℕ → ℕ
+padded_length n = (n + 3) / 4 * 4

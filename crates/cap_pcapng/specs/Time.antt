@@ -14,8 +14,8 @@ time_by (pos n) = if nat_lt n TIME_END then Some n else None
 time_by (negsuc n) = None
 
 -- the same where it is a time: from 0 to 2^63 - 1
-abbrev pub time_in : ℕ → ℕ → ℤ → Option ℕ
-time_in ticks units offset = time_by (nanoseconds ticks units offset)
+abbrev pub representable_time : ℕ → ℕ → ℤ → Option ℕ
+representable_time ticks units offset = time_by (nanoseconds ticks units offset)
 
 -- the byte of a resolution: a negative power of ten, or with its top bit a negative power of two
 abbrev pub is_resolution : ℕ → Bool

@@ -12,8 +12,8 @@ use Rattle.cap_pcapng.specs.Block.{Parts, SectionParts, InterfaceParts, Enhanced
 use Rattle.cap_pcapng.specs.Comment.{comment_in}
 use Rattle.cap_pcapng.specs.Frame.{frame_checks, frame_in}
 use Rattle.cap_pcapng.specs.Interface.{Described, described_in}
-use Rattle.cap_pcapng.specs.Padding.{padded}
-use Rattle.cap_pcapng.specs.Time.{time_in}
+use Rattle.cap_pcapng.specs.Padding.{padded_length}
+use Rattle.cap_pcapng.specs.Time.{representable_time}
 use Rattle.cap_pcapng.specs.declared.frames.Frame.{Frame}
 
 -- how many interfaces a section may have
@@ -47,7 +47,7 @@ parts_behind before text = parts_in (frame_behind before text) text
 -- the time of so many ticks of an interface, if there is one
 abbrev pub time_of : Option Described → ℕ → Option ℕ
 time_of interface ticks =
-    option_and_then (λ (i : Described). time_in ticks i.units i.offset) interface
+    option_and_then (λ (i : Described). representable_time ticks i.units i.offset) interface
 
 -- the captured length of a simple packet of an interface
 abbrev pub captured_of : Option Described → ℕ → ℕ
@@ -129,8 +129,8 @@ packet_by interfaces SectionParts = None
 packet_by interfaces (InterfaceParts link snap order options) = None
 packet_by interfaces (EnhancedParts number ticks captured orig order rest) =
     option_map
-    (λ (i : Described). packet_of i (unwrap_or (time_in ticks i.units i.offset) 0) orig
-    (take captured rest) (comment_in order (drop (padded captured) rest)))
+    (λ (i : Described). packet_of i (unwrap_or (representable_time ticks i.units i.offset) 0) orig
+    (take captured rest) (comment_in order (drop (padded_length captured) rest)))
     (slice_get interfaces number)
 packet_by interfaces (SimpleParts orig rest) =
     option_map

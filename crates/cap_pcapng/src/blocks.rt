@@ -4,7 +4,7 @@ ghost use Rattle.cap_octet.specs.Checks.{checked, first_failing};
 ghost use Rattle.cap_pcapng.specs.Block.{body_checks, data_checks, parts_in_body, parts_of};
 ghost use Rattle.cap_pcapng.specs.Block.{simple_captured};
 ghost use Rattle.cap_pcapng.specs.Answer.{ChecksGive};
-ghost use Rattle.cap_pcapng.specs.Padding.{padded};
+ghost use Rattle.cap_pcapng.specs.Padding.{padded_length};
 ghost use Rattle.cap_pcapng.specs.declared.blocks.Block.TheVariants as a;
 ghost use Rattle.cap_pcapng.specs.declared.frames.BlockType.TheVariants as kind;
 
@@ -118,7 +118,7 @@ impl<'a> EnhancedBlock<'a> {
     /// The options behind the padded data.
     pub fn options(&self) -> Options<'a>
         ensures order { result.order ≡ self.now.order }
-        ensures rest { result.rest.now ≡ drop (padded self.now.captured) self.now.rest.now }
+        ensures rest { result.rest.now ≡ drop (padded_length self.now.captured) self.now.rest.now }
     {
         let padded = padded_length(u64::from(self.captured)) as usize;
         Options::new(self.order, &self.rest[padded.min(self.rest.len())..])

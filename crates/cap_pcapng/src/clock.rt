@@ -1,7 +1,7 @@
 //! How the ticks of an interface become times.
 ghost use Rattle.std.specs.Prelude.{◌≡◌, ◌<◌, ◌^◌, if◌then◌else◌, IfOk};
 ghost use Rattle.std.specs.Option.{ok_or};
-ghost use Rattle.cap_pcapng.specs.Time.{is_resolution, time_by, time_in, units_by};
+ghost use Rattle.cap_pcapng.specs.Time.{is_resolution, time_by, representable_time, units_by};
 
 use cap_octet::Fault;
 use cap_octet::date::{NANOS_PER_SECOND, TIME_END};
@@ -42,7 +42,7 @@ impl Clock {
     /// Nanoseconds since 1970-01-01 00:00:00 UTC at a tick, cut to whole ones, or fault 10 where
     /// they are not from 0 to 2^63 - 1.
     pub fn time(&self, ticks: u64) -> Result<u64, Fault>
-        ensures answer { result ≡ ok_or (time_in ticks self.now.units self.now.offset)
+        ensures answer { result ≡ ok_or (representable_time ticks self.now.units self.now.offset)
             Fault.TimeOutOfRange }
         ensures in_range { IfOk result (λ time. time < 2 ^ 63) }
     {

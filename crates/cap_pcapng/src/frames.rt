@@ -1,6 +1,6 @@
 //! What stands at both ends of every block: its type and its total length.
 ghost use Rattle.std.specs.Prelude.{◌≡◌};
-ghost use Rattle.cap_pcapng.specs.Frame.{magic_order, type_of};
+ghost use Rattle.cap_pcapng.specs.Frame.{magic_order, type_of_block};
 
 use cap_octet::{Order, u32_at};
 
@@ -40,7 +40,7 @@ pub struct Frame {
 impl BlockType {
     /// The type of a block that is no section header.
     pub(crate) fn of(number: u32) -> Self
-        ensures { result ≡ type_of number }
+        ensures { result ≡ type_of_block number }
     {
         match number {
             1 => BlockType::Interface,

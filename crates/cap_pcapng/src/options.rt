@@ -1,6 +1,6 @@
 //! Options: codes and values, one after another, at the end of a block's body.
 ghost use Rattle.std.specs.Prelude.{◌≡◌, ◌≤◌, ◌+◌, ◌<◌, ◌^◌, length};
-ghost use Rattle.cap_pcapng.specs.Padding.{padded};
+ghost use Rattle.cap_pcapng.specs.Padding.{padded_length};
 
 use cap_octet::{Fault, Order, u16_at};
 
@@ -32,7 +32,7 @@ pub struct BlockOption<'a> {
 /// A length with the padding to a multiple of four.
 pub(crate) fn padded_length(length: u64) -> u64
     requires { length + 3 < 2 ^ 64 }
-    ensures { result ≡ padded length }
+    ensures { result ≡ padded_length length }
 {
     (length + 3) / 4 * 4
 }

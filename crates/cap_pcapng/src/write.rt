@@ -4,9 +4,10 @@ ghost use Rattle.byteorder.specs.Endian.{little_bytes};
 ghost use Rattle.cap_octet.specs.Checks.{checked, first_failing};
 ghost use Rattle.cap_octet.specs.Writer.{WritesExactly};
 ghost use Rattle.cap_octet.specs.Packet.{captured};
-ghost use Rattle.cap_pcapng.specs.Padding.{padded};
-ghost use Rattle.cap_pcapng.specs.Encoding.{comment_text, end_text, fit_checks, interface_header};
-ghost use Rattle.cap_pcapng.specs.Encoding.{interface_text, packet_header, packet_text};
+ghost use Rattle.cap_pcapng.specs.Padding.{padded_length};
+ghost use Rattle.cap_pcapng.specs.Encoding.{comment_text, end_text, block_fit_checks};
+ghost use Rattle.cap_pcapng.specs.Encoding.{interface_header};
+ghost use Rattle.cap_pcapng.specs.Encoding.{interface_text, packet_header, packet_block};
 ghost use Rattle.cap_pcapng.specs.Encoding.{resolution_text, section_text};
 
 use crate::frames::MOST_BLOCK;
@@ -26,7 +27,7 @@ fn comment_size(comment: &[u8]) -> u64
 
 /// Whether a packet's block has at most 1,048,576 bytes, else fault 4.
 pub fn fits(packet: &Packet<'_>) -> Result<(), Fault>
-    ensures { result ≡ checked (first_failing (fit_checks (captured packet.now))) tt }
+    ensures { result ≡ checked (first_failing (block_fit_checks (captured packet.now))) tt }
 {
     let data = padded_length(packet.bytes.len() as u64);
     if 32 + data + comment_size(packet.comment) > u64::from(MOST_BLOCK) {
@@ -51,7 +52,7 @@ pub fn section_bytes() -> [u8; 28]
 
 /// How many zeros stand behind so many bytes.
 pub fn padding_behind(length: usize) -> usize
-    ensures padded { length + result ≡ padded length }
+    ensures padded { length + result ≡ padded_length length }
     ensures short { result < 4 }
 {
     (4 - length % 4) % 4
@@ -100,8 +101,8 @@ pub fn write_packet<O: Output>(
     packet: &Packet<'_>,
     output: &mut O,
 ) -> Result<(), Stopped>
-    requires { first_failing (fit_checks (captured packet.now)) ≡ None }
-    ensures { WritesExactly O.Output output.old (packet_text number (captured packet.now)) result
+    requires { first_failing (block_fit_checks (captured packet.now)) ≡ None }
+    ensures { WritesExactly O.Output output.old (packet_block number (captured packet.now)) result
         output.new }
 {
     let padding = padding_behind(packet.bytes.len());

@@ -8,22 +8,22 @@ use Rattle.cap_octet.specs.declared.device.Stopped.{Stopped}
 use Rattle.cap_octet.proofs.Writing.{stops-part}
 use Rattle.cap_print.specs.Dump.{payload, rows}
 use Rattle.cap_print.specs.Line.{line}
-use Rattle.cap_print.specs.Rendering.{printed}
+use Rattle.cap_print.specs.Rendering.{printed_text}
 use Rattle.cap_print.specs.declared.print.Options.{Options}
 
-pub printed-alone : (options : Options) (p : Captured) → options.bytes ≡ false → printed options p ≡ line options.link p
-unfolding printed
+pub printed-alone : (options : Options) (p : Captured) → options.bytes ≡ false → printed_text options p ≡ line options.link p
+unfolding printed_text
 printed-alone options p none = rw (none, append-nil (line options.link p)) refl
 
 pub printed-with_rows : (options : Options) (p : Captured) → options.bytes ≡ true
-    → printed options p ≡ line options.link p ++ rows (payload p.link p.bytes)
-unfolding printed
+    → printed_text options p ≡ line options.link p ++ rows (payload p.link p.bytes)
+unfolding printed_text
 printed-with_rows options p some = rw some refl
 
 -- where the device fails in the line, a prefix of all is written
 pub stops-in_line : (options : Options) (p : Captured) (old new : List ℕ) (stopped : Stopped)
-    → stopped.written < length (line options.link p) → WritesAll old (line options.link p) (Err stopped) new → Stops old (printed options p) new
-unfolding printed
+    → stopped.written < length (line options.link p) → WritesAll old (line options.link p) (Err stopped) new → Stops old (printed_text options p) new
+unfolding printed_text
 stops-in_line options p old new stopped less writes =
     stops-part old old new [] (line options.link p) _ stopped (sym (append-nil old)) less writes
 

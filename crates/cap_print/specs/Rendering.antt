@@ -6,6 +6,6 @@ use Rattle.cap_print.specs.Dump.{payload, rows}
 use Rattle.cap_print.specs.Line.{line}
 
 -- its line, and behind it the rows of its bytes where they are asked for
-unfoldable pub printed : Options → Captured → List ℕ
-printed options p =
+unfoldable pub printed_text : Options → Captured → List ℕ
+printed_text options p =
     line options.link p ++ (if options.bytes then rows (payload p.link p.bytes) else [])

@@ -3,7 +3,7 @@ ghost use Rattle.std.specs.Prelude.{◌≡◌, ◌+◌, IsTrue};
 ghost use Rattle.cap_octet.specs.Device.{AppendsOrStops, failures_of};
 ghost use Rattle.cap_octet.specs.Packet.{captured};
 ghost use Rattle.cap_print.specs.Dump.{rows};
-ghost use Rattle.cap_print.specs.Rendering.{printed};
+ghost use Rattle.cap_print.specs.Rendering.{printed_text};
 
 use crate::dump::{payload, row_count, write_row};
 use crate::line::write_line;
@@ -29,7 +29,7 @@ pub fn print_packet<O: Output>(
     output: &mut O,
 ) -> Result<(), DeviceFault>
     ensures exact { IsTrue O.tells
-        → AppendsOrStops result (O.written output.old) (printed options (captured packet.now))
+        → AppendsOrStops result (O.written output.old) (printed_text options (captured packet.now))
         (O.written output.new) }
     ensures failed { O.failures output.new ≡ O.failures output.old + failures_of result }
     ensures room { O.room output.new ≡ O.room output.old }

@@ -12,8 +12,8 @@ is_unread _ = false
 abbrev pub has_failed : (cause flushed : Option ErrorKind) → Bool
 has_failed cause flushed = is_some cause || is_some flushed
 
--- The status of a run that the job ended with `status`. A failed write of the job is told by it; of the last write it
--- isn't, and None says that this is still to be told, but where nobody reads.
+-- The status of a run that the job ended with `status`. A failed write of the job is told by it; of
+-- the last write it isn't, and None says that this is still to be told, but where nobody reads.
 abbrev pub status_by : (status : ℕ) → (cause flushed : Option ErrorKind) → Option ℕ
 status_by status None None = Some status
 status_by status (Some cause) flushed = Some (max status 1)

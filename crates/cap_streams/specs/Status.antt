@@ -14,6 +14,7 @@ is_request _ = false
 
 -- of a request 0 if the answer could be written, else 1; 1 if memory ran out, else 2
 abbrev pub status_of : Usage → (is_written : Bool) → ℕ
-status_of (Refused error) is_written = if is_request (kind_of error) then (if is_written then 0 else 1) else 2
+status_of (Refused error) is_written =
+    if is_request (kind_of error) then (if is_written then 0 else 1) else 2
 status_of Memory is_written = 1
 status_of _ is_written = 2

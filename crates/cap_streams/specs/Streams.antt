@@ -25,6 +25,6 @@ is_standard_output (created.File output) = false
 is_standard_output (created.Stream stream) = true
 
 -- the output is a file that may still hold what it held before it was opened
-abbrev pub is_kept : {S : Type 0} → Created S → Bool
-is_kept (created.File output) = not output.is_emptied
-is_kept (created.Stream stream) = false
+abbrev pub holds_old_bytes : {S : Type 0} → Created S → Bool
+holds_old_bytes (created.File output) = not output.is_emptied
+holds_old_bytes (created.Stream stream) = false

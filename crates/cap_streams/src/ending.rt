@@ -3,7 +3,7 @@ ghost use Rattle.std.specs.Prelude.{◌≡◌, ◌≢◌, ◌<◌, ◌≤◌, If
 ghost use Rattle.std.specs.Prelude.{List, [], ◌∷◌, ◌++◌, ℕ, OnOk, is_some, true, false};
 ghost use Rattle.std.specs.Result.{result_ok};
 ghost use Rattle.cap_streams.specs.Ending.{has_failed, is_unread, status_by};
-ghost use Rattle.cap_streams.specs.Streams.{is_kept};
+ghost use Rattle.cap_streams.specs.Streams.{holds_old_bytes};
 
 use crate::held::Outlet;
 use crate::message::Shown;
@@ -45,7 +45,7 @@ fn is_unread(cause: Option<ErrorKind>) -> bool
 /// it.
 fn leave(status: u8, output: &mut Created) -> io::Result<()>
     ensures refused { status ≡ 2 → output.new ≡ output.old }
-    ensures ran { status ≢ 2 → OnOk result (is_kept output.new ≡ false) }
+    ensures ran { status ≢ 2 → OnOk result (holds_old_bytes output.new ≡ false) }
 {
     if status == USAGE {
         return Ok(());

@@ -1,5 +1,5 @@
-//! Files and standard streams: what names mean, what a command is run over, how its run ends, and what
-//! is told of it.
+//! Files and standard streams: what names mean, what a command is run over, how its run ends, and
+//! what is told of it.
 #![tactic(auto)]
 
 pub mod ending;

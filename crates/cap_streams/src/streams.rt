@@ -3,7 +3,7 @@ ghost use Rattle.std.specs.Prelude.{◌≡◌, ◌||◌, IfOk, OnOk, None, false
 ghost use Rattle.std.specs.Io.{WritesAtMost};
 ghost use Rattle.std.specs.Io.KnownBytes.{WriteAppends};
 ghost use Rattle.capkit.specs.Names.{is_standard};
-ghost use Rattle.cap_streams.specs.Streams.{is_kept, is_standard_input, is_standard_output};
+ghost use Rattle.cap_streams.specs.Streams.{holds_old_bytes, is_standard_input, is_standard_output};
 
 use capkit::STANDARD;
 use std::fs::{self, File, OpenOptions};
@@ -57,7 +57,8 @@ impl Created {
     pub(crate) fn create(rt: &HostRuntime, name: &str) -> io::Result<Created>
         ensures standard { IfOk result (λ created. is_standard_output created
             ≡ is_standard name.now) }
-        ensures kept { IfOk result (λ created. is_kept created ≡ not (is_standard name.now)) }
+        ensures kept { IfOk result (λ created. holds_old_bytes created
+            ≡ not (is_standard name.now)) }
     {
         if name == STANDARD {
             return Ok(Created::Stream(rt.stdout()));
@@ -75,8 +76,8 @@ impl<S> Created<S> {
     ///
     /// A device and a pipe hold nothing that could be removed.
     pub(crate) fn empty(&mut self) -> io::Result<()>
-        ensures emptied { OnOk result (is_kept self.new ≡ false) }
-        ensures again { is_kept self.old ≡ false → self.new ≡ self.old }
+        ensures emptied { OnOk result (holds_old_bytes self.new ≡ false) }
+        ensures again { holds_old_bytes self.old ≡ false → self.new ≡ self.old }
         ensures failed { is_err result ≡ true → self.new ≡ self.old }
     {
         match self {
@@ -97,7 +98,7 @@ impl<S: Write> Write for Created<S> {
     fn write(&mut self, buf: &[u8]) -> io::Result<usize>
         ensures bound { WritesAtMost result buf.now }
         ensures bytes { WriteAppends None None result buf.now }
-        ensures emptied { IfOk result (λ _. is_kept self.new ≡ false) }
+        ensures emptied { IfOk result (λ _. holds_old_bytes self.new ≡ false) }
     {
         self.empty()?;
         match self {

@@ -34,7 +34,7 @@ use Rattle.cap_window.specs.Marks.{mark_of, has_same}
 use Rattle.cap_tools.specs.Verdict as judged_spec
 use Rattle.cap_tools.specs.Selector.{PolicyState, GrowsByOne, IsWithin, IsVerdict}
 use Rattle.cap_print.specs.declared.print.Options.{Options}
-use Rattle.cap_print.specs.Rendering.{printed}
+use Rattle.cap_print.specs.Rendering.{printed_text}
 use Rattle.cap_tools.specs.Outcome.{Form, AsCapture, AsLines, JobProgress, IsNextEvent, lines_text, no_progress, decide_unless, apply_verdict, apply_event, apply_events, final_progress, packet_bytes, form_refuses, end_with, final_text, first_link, output_text}
 use Rattle.cap_tools.specs.Outcome as course_spec
 use Rattle.cap_tools.specs.Output.{JobOutputView, Target, Capture, Text, Lines, HasWritten, PutsIntoOutput, form_at, form_to, output_at, written_to, failures_to}
@@ -294,7 +294,7 @@ stops-writing ss before cursors order policy state state' names sink sink' decid
 stops-line : (ss : List InputPast) (before : List ℕ) (cursors : List InputView) (order : PacketOrder) (policy : Policy) (state state' : SelectorState) (names : List (List ℕ)) (options : Options) (bytes after : List ℕ) (failures room decided : ℕ) (new : MachineState) (e : Event) (q : Captured) (o : Option SequenceEnd)
     → (d : PacketsDecided ss before (mk cursors order policy state (record { names = names; target = Lines options bytes failures room }) decided)) → Ahead ss cursors order d.events e
     → apply_event policy (AsLines options) (progress_of d) e ≡ course_spec.decide (progress_of d) state' (q ∷ []) o
-    → AnswersNext d new q → Stops bytes (printed options q) after → new.output.target ≡ Lines options after (failures + 1) room
+    → AnswersNext d new q → Stops bytes (printed_text options q) after → new.output.target ≡ Lines options after (failures + 1) room
     → StopsWriting d new
 stops-line ss before cursors order policy state state' names options bytes after failures room decided new e q o d ahead went answers stops is =
     let form : Form = AsLines options in
@@ -307,17 +307,17 @@ stops-line ss before cursors order policy state state' names options bytes after
     (progress-next policy form d.events e w w' d.progress went) in
     let closes : List ℕ = course_spec.text_at_end all.end form (first_link (wholes_of ss)) all.packets in
     let tail : List ℕ = lines_text options grows.packets in
-    let T : Target → Type 0 = λ t. Stops bytes (printed options q) (written_to t) in
+    let T : Target → Type 0 = λ t. Stops bytes (printed_text options q) (written_to t) in
     record {
       failures = ap failures_to is;
-      bytes = printed options q;
-      answer = inl (answers refl (printed options q) refl);
+      bytes = printed_text options q;
+      answer = inl (answers refl (printed_text options q) refl);
       back = tail ++ closes;
       whole =
           ap (λ (l : List Captured). lines_text options l ++ closes) grows.packets_is
           ∙ ap (λ (l : List ℕ). l ++ closes) (lines-more options packets q grows.packets)
-          ∙ append_assoc (lines_text options packets) (printed options q ++ tail) closes
-          ∙ ap (λ (l : List ℕ). lines_text options packets ++ l) (append_assoc (printed options q) tail closes);
+          ∙ append_assoc (lines_text options packets) (printed_text options q ++ tail) closes
+          ∙ ap (λ (l : List ℕ). lines_text options packets ++ l) (append_assoc (printed_text options q) tail closes);
       so_far = d.output;
       stops = subst T (sym is) stops;
     }

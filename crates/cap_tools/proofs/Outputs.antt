@@ -8,7 +8,7 @@ use Rattle.cap_octet.specs.declared.fault.Fault.TheVariants.{NoMemory, WriteFail
 use Rattle.cap_octet.specs.declared.format.Format.{Format}
 use Rattle.std.proofs.lemmas.Grind.{flat_map-append}
 use Rattle.cap_print.specs.declared.print.Options.{Options}
-use Rattle.cap_print.specs.Rendering.{printed}
+use Rattle.cap_print.specs.Rendering.{printed_text}
 use Rattle.cap_io.specs.Sink as sinks
 use Rattle.cap_io.specs.Sink.{SinkView, HasPackets, PutsAfter, IsPutAnswer, PutWrites, WritesPacket, takes_memory}
 use Rattle.cap_io.specs.Text.{added_text, refusal_of}
@@ -31,13 +31,13 @@ drained-text before names (Lines options bytes failures room) ps rs has = has
 
 -- a packet adds its line behind those before it
 pub lines-more : (options : Options) (ps : List Captured) (q : Captured) (qs : List Captured)
-    → lines_text options ((ps ++ q ∷ []) ++ qs) ≡ lines_text options ps ++ (printed options q ++ lines_text options qs)
-lines-more options ps q qs = ap (lines_text options) (append_assoc ps (q ∷ []) qs) ∙ flat_map-append (printed options) ps (q ∷ qs)
+    → lines_text options ((ps ++ q ∷ []) ++ qs) ≡ lines_text options ps ++ (printed_text options q ++ lines_text options qs)
+lines-more options ps q qs = ap (lines_text options) (append_assoc ps (q ∷ []) qs) ∙ flat_map-append (printed_text options) ps (q ∷ qs)
 
-pub lines-one : (options : Options) (ps : List Captured) (q : Captured) → lines_text options (ps ++ q ∷ []) ≡ lines_text options ps ++ printed options q
+pub lines-one : (options : Options) (ps : List Captured) (q : Captured) → lines_text options (ps ++ q ∷ []) ≡ lines_text options ps ++ printed_text options q
 lines-one options ps q =
-    flat_map-append (printed options) ps (q ∷ [])
-    ∙ ap (λ (l : List ℕ). lines_text options ps ++ l) (append-nil (printed options q))
+    flat_map-append (printed_text options) ps (q ∷ [])
+    ∙ ap (λ (l : List ℕ). lines_text options ps ++ l) (append-nil (printed_text options q))
 
 -- ---- a packet is put
 
@@ -64,8 +64,8 @@ put-ok before ps rs q names names' (Lines options bytes failures room) new same 
       none = refl;
       output =
           puts.appends
-          ∙ ap (λ (l : List ℕ). l ++ printed options q) has
-          ∙ append_assoc before (lines_text options ps) (printed options q)
+          ∙ ap (λ (l : List ℕ). l ++ printed_text options q) has
+          ∙ append_assoc before (lines_text options ps) (printed_text options q)
           ∙ ap (λ (l : List ℕ). before ++ l) (sym (lines-one options ps q));
       form = refl;
       failures = add-zero failures;

@@ -10,7 +10,7 @@ use Rattle.cap_io.specs.Capture.{Placed, Items, first_link_of}
 use Rattle.cap_io.specs.Sink.{takes_memory}
 use Rattle.cap_io.specs.Text.{added_text, file_start, text, refusal_of}
 use Rattle.cap_print.specs.declared.print.Options.{Options}
-use Rattle.cap_print.specs.Rendering.{printed}
+use Rattle.cap_print.specs.Rendering.{printed_text}
 use Rattle.cap_filter.specs.Messages.{fault_message}
 use Rattle.cap_inputs.specs.Sequence.{Event, Packet, InputEnd, SequenceEnd, Complete, FaultIn, Sequence, InputItems, PacketOrder, sequence_of, with_front}
 use Rattle.cap_tools.specs.Verdict.{Policy, Count, SelectorState, initial_state, Verdict, Pass, PassLast, Skip, Refuse, judge}
@@ -132,7 +132,7 @@ final_progress policy form s =
 
 -- what is printed of packets, one behind another
 abbrev pub lines_text : Options → List Captured → List ℕ
-lines_text options ps = flat_map (printed options) ps
+lines_text options ps = flat_map (printed_text options) ps
 
 -- the bytes for packets and reports
 abbrev pub output_text : Form → List Captured → List Report → List ℕ
@@ -144,7 +144,7 @@ output_text (AsLines options) ps rs = lines_text options ps
 abbrev pub packet_bytes : Form → List Captured → Captured → List ℕ
 packet_bytes (AsCapture format) ps p = added_text format ps p
 packet_bytes (AsReports names) ps p = []
-packet_bytes (AsLines options) ps p = printed options p
+packet_bytes (AsLines options) ps p = printed_text options p
 
 -- what a report adds
 abbrev pub report_bytes : Form → Report → List ℕ

@@ -7,7 +7,7 @@ use Rattle.cap_octet.specs.declared.device.Stopped.{Stopped}
 use Rattle.cap_octet.specs.declared.fault.Fault.{Fault}
 use Rattle.cap_octet.specs.declared.fault.Fault.TheVariants.{WriteFailed}
 use Rattle.cap_print.specs.declared.print.Options.{Options}
-use Rattle.cap_print.specs.Rendering.{printed}
+use Rattle.cap_print.specs.Rendering.{printed_text}
 use Rattle.cap_io.specs.Sink as sinks
 use Rattle.cap_io.specs.Sink.{SinkView, HasPackets, PutWrites, FinishWrites, sink_at}
 use Rattle.cap_tools.specs.declared.output.Device.{Device}
@@ -104,7 +104,7 @@ PutsIntoOutput p (Capture sink) r new = PutsInto p sink r new
 PutsIntoOutput p (Text written failures room) r new =
     (r ≡ Ok tt) × (new ≡ Text written failures room)
 PutsIntoOutput p (Lines options written failures room) r new =
-    Prints (printed options p) written failures r (λ w f. Lines options w f room) new
+    Prints (printed_text options p) written failures r (λ w f. Lines options w f room) new
 
 -- a text is appended, or the device failed
 pub record AppendsText {E : Type 0} (bytes written : List ℕ) (failures room : ℕ)

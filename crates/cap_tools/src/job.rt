@@ -57,7 +57,7 @@ impl<I: Input, O: Output, E: Output, A: Allocator> Model for Job<I, O, E, A> {
     ghost use Rattle.std.specs.Prelude.{◌+◌, ◌≤◌};
     ghost use Rattle.std.specs.Coded.{codes};
     ghost use Rattle.std.specs.Option.{option_map};
-    ghost use Rattle.cap_filter.specs.Programs.{expression_code};
+    ghost use Rattle.cap_filter.specs.Programs.{coded_expression};
     ghost use Rattle.cap_tools.specs.Bounds.{HasFewTurns, IsBounded};
     ghost use Rattle.cap_tools.specs.Commands.{IsReadyIf};
     ghost use Rattle.cap_inputs.specs.Inputs.{most_steps, steps_left};
@@ -68,7 +68,7 @@ impl<I: Input, O: Output, E: Output, A: Allocator> Model for Job<I, O, E, A> {
 
     ghost Value = { JobView };
 
-    ghost coded = { Prim.hlevel (codes, expression_code) };
+    ghost coded = { Prim.hlevel (codes, coded_expression) };
 
     ghost view = { λ j. record {
       preparing = option_map preparing_of j.preparation;

@@ -2,7 +2,7 @@
 ghost use Rattle.std.specs.Prelude.{◌≡◌, ◌+◌, IfErr, IsTrue};
 ghost use Rattle.cap_octet.specs.Device.{AppendsOrStops, failures_of};
 ghost use Rattle.cap_octet.specs.Packet.{captured};
-ghost use Rattle.cap_print.specs.Rendering.{printed};
+ghost use Rattle.cap_print.specs.Rendering.{printed_text};
 
 use crate::report::{Report, write_report};
 use cap_io::Sink;
@@ -143,7 +143,7 @@ fn put_line<O: Output>(
     output: &mut O,
 ) -> Result<(), Fault>
     ensures exact { IsTrue O.tells → AppendsOrStops result (O.written output.old)
-        (printed options (captured packet.now)) (O.written output.new) }
+        (printed_text options (captured packet.now)) (O.written output.new) }
     ensures fault { IfErr result (λ fault. fault ≡ Fault.WriteFailed) }
     ensures failed { O.failures output.new ≡ O.failures output.old + failures_of result }
     ensures room { O.room output.new ≡ O.room output.old }

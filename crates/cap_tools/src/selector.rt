@@ -58,13 +58,13 @@ pub struct Selector<A: Allocator> {
 
 impl<A: Allocator> Model for Selector<A> {
     ghost use Rattle.std.specs.Coded.{codes};
-    ghost use Rattle.cap_filter.specs.Programs.{expression_code};
+    ghost use Rattle.cap_filter.specs.Programs.{coded_expression};
     ghost use Rattle.cap_tools.specs.Selector.{IsWindowFor, SelectorView, policy_of, marks_in};
     ghost use Rattle.cap_tools.specs.Selector.{programs_in, state_of, window_of};
 
     ghost Value = { SelectorView };
 
-    ghost coded = { Prim.hlevel (codes, expression_code) };
+    ghost coded = { Prim.hlevel (codes, coded_expression) };
 
     ghost view = { λ j. record {
       policy = policy_of j.policy;

@@ -13,7 +13,7 @@ use Rattle.clap.specs.declared.parser.matches.ArgMatches.TheViews.{out-ArgMatche
 use Rattle.clap.specs.declared.parser.matches.ArgMatches.{ArgMatches}
 use Rattle.clap.specs.Words.{subcommand_name_of, subcommand_rows_of}
 use Rattle.clap.specs.declared.parser.matches.SubCommand.{SubCommand}
-use Rattle.cap_arguments.specs.Arguments.{Takes, line_app, name_of, subcommand_named}
+use Rattle.cap_arguments.specs.Arguments.{TakesWords, line_app, name_of, subcommand_named}
 use Rattle.capkit.specs.Line.{Asks}
 use Rattle.cap_arguments.specs.declared.arguments.Subcommand.{Subcommand}
 use Rattle.cap_arguments.specs.declared.arguments.Subcommand.TheVariants as sub
@@ -77,7 +77,7 @@ enters a words required no_help named none =
     entered_named a stop named (must_enter a.top (names_of a) nothing_held words (is_some (entered a stop)) (entered_fault a stop) required no_help none)
 
 -- words that clap takes ask for one of the subcommands
-pub asked_of : (words : List Text) (into : Option (Text × List Row)) → Takes words into
+pub asked_of : (words : List Text) (into : Option (Text × List Row)) → TakesWords words into
     → (asked : Subcommand) × (matches : List Row) × (into ≡ Some (name_of asked, matches))
 asked_of words into taken =
     let line = line_app taken.formats taken.links in
@@ -85,7 +85,7 @@ asked_of words into taken =
     let found = enters (built line) (argument_words line words) refl refl named taken.no_fault in
     (found.0, found.1, sym taken.enters ∙ found.2)
 
-pub always_enters : (words : List Text) (into : Option (Text × List Row)) → Takes words into → None ≡ option_map (λ p. p.1) into → ⊥
+pub always_enters : (words : List Text) (into : Option (Text × List Row)) → TakesWords words into → None ≡ option_map (λ p. p.1) into → ⊥
 always_enters words into taken none =
     let asked = asked_of words into taken in
     let bad : None ≡ Some asked.1 = none ∙ ap (option_map (λ p. p.1)) asked.2 in
@@ -99,7 +99,7 @@ named_back sub.Print = refl
 named_back sub.Compile = refl
 
 -- the subcommand of the name that a parse met, with its matches
-asks_pair : (words : List Text) (p : Text × List Row) → Takes words (Some p) → Asks words (subcommand_named p.0) p.1
+asks_pair : (words : List Text) (p : Text × List Row) → TakesWords words (Some p) → Asks words (subcommand_named p.0) p.1
 asks_pair words p taken =
     let asked = asked_of words (Some p) taken in
     let met : Some p ≡ Some (name_of asked.0, asked.1) = asked.2 in
@@ -107,9 +107,9 @@ asks_pair words p taken =
     let is : p.0 ≡ name_of asked.0 = ap (λ (q : Text × List Row). q.0) same in
     let name : p.0 ≡ name_of (subcommand_named p.0) =
     is ∙ ap name_of (sym (ap subcommand_named is ∙ named_back asked.0)) in
-    subst (Takes words) (λ i. Some (name i, p.1)) taken
+    subst (TakesWords words) (λ i. Some (name i, p.1)) taken
 
-pub asks : (words : List Text) (into : Option (Text × List Row)) (name : Text) (matches : List Row) → Takes words into
+pub asks : (words : List Text) (into : Option (Text × List Row)) (name : Text) (matches : List Row) → TakesWords words into
     → Some name ≡ option_map (λ p. p.0) into → Some matches ≡ option_map (λ p. p.1) into → Asks words (subcommand_named name) matches
 asks words None name matches taken named found = cc
 asks words (Some p) name matches taken named found =
@@ -124,7 +124,7 @@ pub names_rows : {Z : Type 0} (found : Option (Box SubCommand Z))
 names_rows None = refl
 names_rows (Some b) = refl
 
-pub asks_of : (met : ArgMatches) (words : List Text) (name : Text) (matches : List Row) (asked : Subcommand) → Takes words (subcommand_rows_of met)
+pub asks_of : (met : ArgMatches) (words : List Text) (name : Text) (matches : List Row) (asked : Subcommand) → TakesWords words (subcommand_rows_of met)
     → Some name ≡ subcommand_name_of met → Some matches ≡ option_map (λ p. p.1) (subcommand_rows_of met) → subcommand_named name ≡ asked
     → Asks words asked matches
 asks_of met words name matches asked taken named found is =

@@ -11,7 +11,7 @@ use Rattle.std.proofs.lemmas.Bool.{and_parts, cases_lt, le-ltb, lt-ltb, ltb-true
 use Rattle.std.proofs.lemmas.Bool.Decides.{nat_tests}
 use Rattle.std.proofs.lemmas.Str.Parse.{IsDigitsTest, numerals_by_value, parse_digits}
 use Rattle.std.proofs.lemmas.Str.Pattern.{IsSplitOnceResult, split_once_first}
-use Rattle.capkit.specs.Range.{is_hyphen, number_of, is_decimal}
+use Rattle.capkit.specs.Range.{is_hyphen, range_number, is_decimal}
 
 test : IsDigitsTest (λ ds. list_all is_ascii_digit ds ≡ true)
 test = search rules
@@ -23,14 +23,14 @@ digits_parse text r h digits = parse_digits (numerals_by_value _ test) 64 text r
 
 -- digits that don't parse write no number below 2^64
 pub not_parsed : {E : Type 0} (text : List ℕ) (e : E) (r : Result ℕ E) → ParsesUnsigned 64 10 text r → r ≡ Err e
-    → list_all is_ascii_digit text ≡ true → IfSome (number_of text) (λ n. 2 ^ 64 ≤ n)
+    → list_all is_ascii_digit text ≡ true → IfSome (range_number text) (λ n. 2 ^ 64 ≤ n)
 not_parsed {E} text e r h is digits = go r h is
   where
     value : (b : Bool) → (b ≡ true → 2 ^ 64 ≤ digits_value 10 text) → IfSome (if b then Some (digits_value 10 text) else None) (λ n. 2 ^ 64 ≤ n)
     value true large = large refl
     value false large = tt
 
-    go : (q : Result ℕ E) → ParsesUnsigned 64 10 text q → q ≡ Err e → IfSome (number_of text) (λ n. 2 ^ 64 ≤ n)
+    go : (q : Result ℕ E) → ParsesUnsigned 64 10 text q → q ≡ Err e → IfSome (range_number text) (λ n. 2 ^ 64 ≤ n)
     go (Ok m) p same = cc
     go (Err f) p same =
         let read : Result ℕ E = Err f in

@@ -10,7 +10,7 @@ use Rattle.clap.proofs.WalkLemmas.{list_any-map}
 use Rattle.cap_command.specs.Command.{has_proper_ranges, is_range, most_ranges}
 use Rattle.clap.specs.Words.{Text}
 use Rattle.capkit.specs.Line.{range_fault}
-use Rattle.capkit.specs.Range.{number_of, range_between, range_of, sides_of}
+use Rattle.capkit.specs.Range.{range_number, range_between, range_of, sides_of}
 use Rattle.capkit.specs.declared.usage.Usage.TheVariants.{BadRange, TooManyValues}
 
 abbrev is_bad : Text → Bool
@@ -76,7 +76,7 @@ all_ranges [] (range ∷ ranges) same = cc
 all_ranges (word ∷ words) (range ∷ ranges) same =
     let here : Some range ≡ range_of word = cc in
     let more : map Some ranges ≡ map range_of words = cc in
-    and_from _ _ (is_range_between (number_of (sides_of word).0) (number_of (sides_of word).1) range here) (all_ranges words ranges more)
+    and_from _ _ (is_range_between (range_number (sides_of word).0) (range_number (sides_of word).1) range here) (all_ranges words ranges more)
 
 -- as many as the words
 as_many : (words : List Text) (ranges : List (ℕ × ℕ)) → map Some ranges ≡ map range_of words → length ranges ≡ length words

@@ -5,7 +5,7 @@ use Rattle.std.specs.List.{list_any}
 use Rattle.clap.specs.Words.{Row, Text, first_of}
 use Rattle.clap.specs.declared.error.Error.{Error}
 use Rattle.cap_command.specs.Command.{most_inputs, most_ranges}
-use Rattle.capkit.specs.Line.{Asks, IsFaultOf, IsLineOf, SaysFault, SaysLine, fault_in, files_in, has_bad_time, has_exclusion, has_two_shifts, or_else, read_names, text_in, texts_in}
+use Rattle.capkit.specs.Line.{Asks, IsUsageOf, IsLineOf, SaysFault, SaysLine, fault_in, files_in, has_bad_time, has_exclusion, has_two_shifts, or_else, read_names, text_in, texts_in}
 use Rattle.capkit.specs.Names.{uses_name_twice}
 use Rattle.capkit.specs.Range.{range_of}
 use Rattle.cap_arguments.specs.declared.arguments.Subcommand.{Subcommand}
@@ -55,7 +55,7 @@ not_refused sub.Print matches e same =
     exclusion_or_name (has_exclusion matches) (uses_name_twice (read_names matches) (first_of (codes "OUT") matches)) e same
 not_refused sub.Compile matches e same = cc
 
-says : (words : List Text) (asked : Subcommand) (matches : List Row) (usage : Usage) → Asks words asked matches → IsFaultOf (fault_in asked matches) usage
+says : (words : List Text) (asked : Subcommand) (matches : List Row) (usage : Usage) → Asks words asked matches → IsUsageOf (fault_in asked matches) usage
     → SaysFault words usage
 says words asked matches (Refused e) asks fault = elim fault [
   | inl memory ↦ cc
@@ -69,7 +69,7 @@ says words asked matches NameUsedTwice asks fault = (asked, matches, asks, fault
 says words asked matches Memory asks fault = (asked, matches, asks, fault)
 
 pub says_fault : (words : List Text) (asked : Subcommand) (matches : List Row) (r : Result Line Usage) → Asks words asked matches
-    → IfErr r (IsFaultOf (fault_in asked matches)) → IfErr r (SaysFault words)
+    → IfErr r (IsUsageOf (fault_in asked matches)) → IfErr r (SaysFault words)
 says_fault words asked matches (Ok line) asks fault = tt
 says_fault words asked matches (Err usage) asks fault = says words asked matches usage asks fault
 
@@ -78,6 +78,6 @@ pub compile_faultless : (matches : List Row) (r : Result Line Usage) → OnOk r 
 compile_faultless matches (Ok line) = refl
 compile_faultless matches (Err usage) = tt
 
-pub memory_alone : (matches : List Row) (r : Result Line Usage) → IfErr r (λ usage. usage ≡ Memory) → IfErr r (IsFaultOf (fault_in sub.Compile matches))
+pub memory_alone : (matches : List Row) (r : Result Line Usage) → IfErr r (λ usage. usage ≡ Memory) → IfErr r (IsUsageOf (fault_in sub.Compile matches))
 memory_alone matches (Ok line) memory = tt
 memory_alone matches (Err usage) memory = inl memory

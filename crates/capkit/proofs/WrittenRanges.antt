@@ -9,7 +9,7 @@ use Rattle.std.proofs.lemmas.List.Sums.{passes_at_first, split_at_first}
 use Rattle.std.proofs.lemmas.Str.Parse.{IsDigitsTest, IsNumeralModel, not_in_digits, numerals_by_value}
 use Rattle.clap.proofs.CutLemmas.{Lacks, after_first-at, before_first-at, list_any-Lacks, list_any-at}
 use Rattle.cap_command.specs.Command.{is_range}
-use Rattle.capkit.specs.Range.{WritesNumbers, WritesRange, is_decimal, is_hyphen, number_of, one, range_between, range_of, sides_of, two}
+use Rattle.capkit.specs.Range.{WritesNumbers, WritesRange, is_decimal, is_hyphen, range_number, one, range_between, range_of, sides_of, two}
 use Rattle.capkit.proofs.Numbers.{any_by_place}
 
 -- ---- numbers
@@ -23,10 +23,10 @@ model = numerals_by_value _ test
 decimal : (digits : List ℕ) → IsNumeral 10 digits → is_decimal digits ≡ true
 decimal digits h = and_from _ _ (lt-ltb 0 (length digits) h.0) (model.from digits h.1)
 
-number_is : (digits : List ℕ) → IsNumeral 10 digits → number_of digits ≡ Some (digits_value 10 digits)
+number_is : (digits : List ℕ) → IsNumeral 10 digits → range_number digits ≡ Some (digits_value 10 digits)
 number_is digits h = cond-true _ (Some (digits_value 10 digits)) None (decimal digits h)
 
-only_number : (text : List ℕ) (n : ℕ) → number_of text ≡ Some n → IsNumeral 10 text × (digits_value 10 text ≡ n)
+only_number : (text : List ℕ) (n : ℕ) → range_number text ≡ Some n → IsNumeral 10 text × (digits_value 10 text ≡ n)
 only_number text n same = go (is_decimal text) refl same
   where
     go : (b : Bool) → is_decimal text ≡ b → (if b then Some (digits_value 10 text) else None) ≡ Some n → IsNumeral 10 text × (digits_value 10 text ≡ n)
@@ -45,7 +45,7 @@ read_between : (a b : Option ℕ) (range : ℕ × ℕ) → a ≡ Some range.0 �
 read_between a b range first last proper = rw (first, last, proper) refl
 
 sides_read : (word : List ℕ) (range : ℕ × ℕ) → WritesNumbers word range
-    → (number_of (sides_of word).0 ≡ Some range.0) × (number_of (sides_of word).1 ≡ Some range.1)
+    → (range_number (sides_of word).0 ≡ Some range.0) × (range_number (sides_of word).1 ≡ Some range.1)
 sides_read word range (one digits h) =
     let none : list_any is_hyphen digits ≡ false = list_any-Lacks 45 digits (no_hyphen digits h) in
     rw none (number_is digits h, number_is digits h)
@@ -57,7 +57,7 @@ sides_read word range (two first last h k) =
 pub written_is_read : (word : List ℕ) (range : ℕ × ℕ) → WritesRange word range → range_of word ≡ Some range
 written_is_read word range writes =
     let sides = sides_read word range writes.written in
-    read_between (number_of (sides_of word).0) (number_of (sides_of word).1) range sides.0 sides.1 writes.is_range
+    read_between (range_number (sides_of word).0) (range_number (sides_of word).1) range sides.0 sides.1 writes.is_range
 
 -- ---- what is read, a word writes
 
@@ -80,7 +80,7 @@ around word some =
     let hyphen : slice_index_or word (position_or_len is_hyphen word) 0 ≡ 45 = eqb-true _ _ (passes_at_first is_hyphen word 0 within) in
     sym (split_at_first is_hyphen word 0 within ∙ ap (λ byte. before_first is_hyphen word ++ byte ∷ after_first is_hyphen word) hyphen)
 
-writes_both : (first last word : List ℕ) (range : ℕ × ℕ) → first ++ 45 ∷ last ≡ word → number_of first ≡ Some range.0 → number_of last ≡ Some range.1
+writes_both : (first last word : List ℕ) (range : ℕ × ℕ) → first ++ 45 ∷ last ≡ word → range_number first ≡ Some range.0 → range_number last ≡ Some range.1
     → WritesNumbers word range
 writes_both first last word range joined n m =
     let low = only_number first range.0 n in
@@ -88,7 +88,7 @@ writes_both first last word range joined n m =
     let pair : (digits_value 10 first, digits_value 10 last) ≡ range = λ i. (low.1 i, high.1 i) in
     subst (λ w. WritesNumbers w range) joined (subst (WritesNumbers (first ++ 45 ∷ last)) pair (two first last low.0 high.0))
 
-writes_one : (word : List ℕ) (range : ℕ × ℕ) → number_of word ≡ Some range.0 → number_of word ≡ Some range.1 → WritesNumbers word range
+writes_one : (word : List ℕ) (range : ℕ × ℕ) → range_number word ≡ Some range.0 → range_number word ≡ Some range.1 → WritesNumbers word range
 writes_one word range n m =
     let low = only_number word range.0 n in
     let high = only_number word range.1 m in
@@ -98,18 +98,18 @@ writes_one word range n m =
 abbrev sides_if : Bool → List ℕ → List ℕ × List ℕ
 sides_if b word = if b then (before_first is_hyphen word, after_first is_hyphen word) else (word, word)
 
-sides_written : (word : List ℕ) (range : ℕ × ℕ) → number_of (sides_of word).0 ≡ Some range.0 → number_of (sides_of word).1 ≡ Some range.1
+sides_written : (word : List ℕ) (range : ℕ × ℕ) → range_number (sides_of word).0 ≡ Some range.0 → range_number (sides_of word).1 ≡ Some range.1
     → WritesNumbers word range
 sides_written word range = go (list_any is_hyphen word) refl
   where
-    go : (b : Bool) → list_any is_hyphen word ≡ b → number_of (sides_if b word).0 ≡ Some range.0 → number_of (sides_if b word).1 ≡ Some range.1
+    go : (b : Bool) → list_any is_hyphen word ≡ b → range_number (sides_if b word).0 ≡ Some range.0 → range_number (sides_if b word).1 ≡ Some range.1
         → WritesNumbers word range
     go true some n m = writes_both (before_first is_hyphen word) (after_first is_hyphen word) word range (around word some) n m
     go false none n m = writes_one word range n m
 
 pub read_is_written : (word : List ℕ) (range : ℕ × ℕ) → range_of word ≡ Some range → WritesRange word range
 read_is_written word range read =
-    let parts = between (number_of (sides_of word).0) (number_of (sides_of word).1) range read in
+    let parts = between (range_number (sides_of word).0) (range_number (sides_of word).1) range read in
     record { written = sides_written word range parts.0 parts.1; is_range = parts.2 }
 
 pub none_written : (word : List ℕ) → None ≡ range_of word → (range : ℕ × ℕ) → ¬ WritesRange word range

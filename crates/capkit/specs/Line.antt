@@ -23,7 +23,7 @@ use Rattle.clap.specs.ValueTests.{is_unsigned_in}
 use Rattle.clap.specs.Words.{Row, Text, all_of, first_of, one_of}
 use Rattle.cap_octet.specs.declared.link.Link.{Link}
 use Rattle.cap_octet.specs.declared.link.Link.TheVariants.{Ether, Raw, Cooked}
-use Rattle.cap_arguments.specs.Arguments.{Refuses, Takes, name_of}
+use Rattle.cap_arguments.specs.Arguments.{RefusesWords, TakesWords, name_of}
 use Rattle.capkit.specs.Names.{uses_name_twice}
 use Rattle.capkit.specs.Range.{range_of}
 use Rattle.cap_arguments.specs.declared.arguments.Subcommand.{Subcommand}
@@ -68,8 +68,9 @@ number_between least most text =
     else None
 
 -- the number of an argument; clap takes none that isn't between `least` and `most`
-abbrev pub number_in : (least most : ℕ) → Text → List Row → Option ℕ
-number_in least most id matches = option_and_then (number_between least most) (one_of id matches)
+abbrev pub argument_number : (least most : ℕ) → Text → List Row → Option ℕ
+argument_number least most id matches =
+    option_and_then (number_between least most) (one_of id matches)
 
 -- the greatest numbers of 32 and of 64 bits
 abbrev pub most_32 : ℕ
@@ -212,11 +213,12 @@ pub record HasOptions (matches : List Row) (edit : Edit Global) : Type 0 where
   pub keep : edit.keep ≡ flag_in (codes "keep") matches
   pub start : edit.start ≡ time_in (codes "start") matches
   pub stop : edit.stop ≡ time_in (codes "stop") matches
-  pub chop_start : edit.chop_start ≡ unwrap_or (number_in 0 most_32 (codes "chop_start") matches) 0
-  pub chop_end : edit.chop_end ≡ unwrap_or (number_in 0 most_32 (codes "chop_end") matches) 0
-  pub snap : edit.snap ≡ number_in 1 most_32 (codes "snap") matches
+  pub chop_start : edit.chop_start ≡
+      unwrap_or (argument_number 0 most_32 (codes "chop_start") matches) 0
+  pub chop_end : edit.chop_end ≡ unwrap_or (argument_number 0 most_32 (codes "chop_end") matches) 0
+  pub snap : edit.snap ≡ argument_number 1 most_32 (codes "snap") matches
   pub shift : edit.shift ≡ shift_in matches
-  pub window : edit.window ≡ number_in 2 most_window (codes "window") matches
+  pub window : edit.window ≡ argument_number 2 most_window (codes "window") matches
   pub format : edit.format ≡ format_in (codes "FORMAT") matches
 
 -- the line is the edit that the matches ask for
@@ -252,7 +254,7 @@ pub record IsPrintOf (matches : List Row) (line : Line) : Type 0 where
   pub command : line.command ≡ command.Print print
   pub expr : string_bytes print.expr ≡ expression_in matches
   pub unread : print.code ≡ None
-  pub count : print.count ≡ number_in 1 most_64 (codes "count") matches
+  pub count : print.count ≡ argument_number 1 most_64 (codes "count") matches
   pub link : print.link ≡ flag_in (codes "link") matches
   pub bytes : print.bytes ≡ flag_in (codes "bytes") matches
   pub write : print.write ≡ write_in matches
@@ -288,12 +290,12 @@ IsLineOf sub.Print matches line = IsPrintOf matches line
 IsLineOf sub.Compile matches line = IsCompileOf matches line
 
 -- a line is not read: memory ran out, or this is its first fault
-abbrev pub IsFaultOf : Option Usage → Usage → Type 0
-IsFaultOf fault usage = (usage ≡ Memory) ⊎ (fault ≡ Some usage)
+abbrev pub IsUsageOf : Option Usage → Usage → Type 0
+IsUsageOf fault usage = (usage ≡ Memory) ⊎ (fault ≡ Some usage)
 
 -- clap takes the words, and these are its matches of the subcommand
 abbrev pub Asks : List Text → Subcommand → List Row → Type 0
-Asks words asked matches = Takes words (Some (name_of asked, matches))
+Asks words asked matches = TakesWords words (Some (name_of asked, matches))
 
 abbrev pub SaysLine : List Text → Line → Type 0
 SaysLine words line =
@@ -301,10 +303,10 @@ SaysLine words line =
     × (fault_in asked matches ≡ None) × IsLineOf asked matches line
 
 abbrev pub SaysFault : List Text → Usage → Type 0
-SaysFault words (Refused error) = Refuses words error
+SaysFault words (Refused error) = RefusesWords words error
 SaysFault words usage =
     (asked : Subcommand) × (matches : List Row) × Asks words asked matches
-    × IsFaultOf (fault_in asked matches) usage
+    × IsUsageOf (fault_in asked matches) usage
 
 -- ---- what may be run
 

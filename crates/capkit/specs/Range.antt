@@ -27,8 +27,8 @@ abbrev pub is_decimal : List ℕ → Bool
 is_decimal text = nat_lt 0 (length text) && list_all is_ascii_digit text
 
 -- the number that a text writes
-abbrev pub number_of : List ℕ → Option ℕ
-number_of text = if is_decimal text then Some (digits_value 10 text) else None
+abbrev pub range_number : List ℕ → Option ℕ
+range_number text = if is_decimal text then Some (digits_value 10 text) else None
 
 abbrev pub is_hyphen : ℕ → Bool
 is_hyphen byte = byte == 45
@@ -47,4 +47,4 @@ range_between _ _ = None
 
 -- the range that a word names
 abbrev pub range_of : List ℕ → Option (ℕ × ℕ)
-range_of word = range_between (number_of (sides_of word).0) (number_of (sides_of word).1)
+range_of word = range_between (range_number (sides_of word).0) (range_number (sides_of word).1)

@@ -4,7 +4,7 @@ ghost use Rattle.cap_command.specs.Command.{has_proper_ranges, is_proper_edit, i
 ghost use Rattle.clap.specs.Words.{found_of, rows_of};
 ghost use Rattle.capkit.specs.Line.{edit_fault, has_bad_time, has_two_shifts, is_bad_span};
 ghost use Rattle.capkit.specs.Line.{is_bad_time, is_ready, option_fault, range_fault, shift_in};
-ghost use Rattle.capkit.specs.Line.{HasOptions, IsEditOf, IsFaultOf};
+ghost use Rattle.capkit.specs.Line.{HasOptions, IsEditOf, IsUsageOf};
 ghost use Rattle.capkit.specs.Range.{range_of};
 
 use crate::files::owned_texts;
@@ -23,7 +23,7 @@ fn ranges_in(alloc: Global, words: &[&str]) -> Result<Vec<(u64, u64)>, Usage>
         ≡ map range_of (map (λ word. word.now) words.now)) }
     ensures none { OnOk result (range_fault (map (λ word. word.now) words.now) ≡ None) }
     ensures proper { IfOk result (λ ranges. has_proper_ranges ranges.items ≡ true) }
-    ensures fault { IfErr result (IsFaultOf (range_fault (map (λ word. word.now) words.now))) }
+    ensures fault { IfErr result (IsUsageOf (range_fault (map (λ word. word.now) words.now))) }
 {
     if words.len() > MOST_RANGES {
         return Err(Usage::TooManyValues);
@@ -124,7 +124,7 @@ pub fn edit_line(alloc: Global, matches: &ArgMatches<'_>) -> Result<Line, Usage>
     ensures line { IfOk result (IsEditOf (rows_of (found_of matches.now))) }
     ensures faultless { OnOk result (edit_fault (rows_of (found_of matches.now)) ≡ None) }
     ensures ready { IfOk result (λ line. is_ready line ≡ true) }
-    ensures fault { IfErr result (IsFaultOf (edit_fault (rows_of (found_of matches.now)))) }
+    ensures fault { IfErr result (IsUsageOf (edit_fault (rows_of (found_of matches.now)))) }
 {
     let ranges = ranges_in(alloc, texts(matches, "RANGE"))?;
     check(matches)?;

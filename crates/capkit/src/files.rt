@@ -3,7 +3,7 @@ ghost use Rattle.std.specs.Prelude.{◌≡◌, IfOk, IfErr, OnOk, None, map, opt
 ghost use Rattle.std.specs.Prelude.{length, true, vec_len};
 ghost use Rattle.clap.specs.Words.{found_of, rows_of};
 ghost use Rattle.cap_command.specs.Command.{is_input_count};
-ghost use Rattle.capkit.specs.Line.{files_fault, files_in, IsFaultOf};
+ghost use Rattle.capkit.specs.Line.{files_fault, files_in, IsUsageOf};
 
 use crate::names::uses_name_twice;
 use crate::usage::Usage;
@@ -47,7 +47,7 @@ pub fn input_names(
     ensures count { IfOk result (λ inputs. is_input_count (vec_len inputs) ≡ true) }
     ensures faultless { OnOk result (files_fault (files_in (rows_of (found_of matches.now)))
         (option_map (λ name. name.now) output.entry) ≡ None) }
-    ensures fault { IfErr result (IsFaultOf (files_fault (files_in (rows_of (found_of matches.now)))
+    ensures fault { IfErr result (IsUsageOf (files_fault (files_in (rows_of (found_of matches.now)))
         (option_map (λ name. name.now) output.entry))) }
 {
     let names = names_in(alloc, matches)?;

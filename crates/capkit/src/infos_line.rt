@@ -1,7 +1,7 @@
 //! The line of reports.
 ghost use Rattle.std.specs.Prelude.{◌≡◌, IfOk, IfErr, OnOk, None, true};
 ghost use Rattle.clap.specs.Words.{found_of, rows_of};
-ghost use Rattle.capkit.specs.Line.{infos_fault, is_ready, IsFaultOf, IsInfosOf};
+ghost use Rattle.capkit.specs.Line.{infos_fault, is_ready, IsUsageOf, IsInfosOf};
 
 use crate::files::input_names;
 use crate::line::Line;
@@ -15,7 +15,7 @@ pub fn infos_line(alloc: Global, matches: &ArgMatches<'_>) -> Result<Line, Usage
     ensures line { IfOk result (IsInfosOf (rows_of (found_of matches.now))) }
     ensures faultless { OnOk result (infos_fault (rows_of (found_of matches.now)) ≡ None) }
     ensures ready { IfOk result (λ line. is_ready line ≡ true) }
-    ensures fault { IfErr result (IsFaultOf (infos_fault (rows_of (found_of matches.now)))) }
+    ensures fault { IfErr result (IsUsageOf (infos_fault (rows_of (found_of matches.now)))) }
 {
     Ok(Line {
         command: Command::Infos,

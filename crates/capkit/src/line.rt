@@ -1,7 +1,7 @@
 //! What the words of a command line ask for.
 ghost use Rattle.std.specs.Prelude.{◌≡◌, IfOk, IfErr, OnOk, None, map, true, string_bytes};
 ghost use Rattle.clap.specs.Words.{found_of, rows_of};
-ghost use Rattle.capkit.specs.Line.{fault_in, is_ready, with_code, IsFaultOf, IsLineOf};
+ghost use Rattle.capkit.specs.Line.{fault_in, is_ready, with_code, IsUsageOf, IsLineOf};
 ghost use Rattle.capkit.specs.Line.{SaysLine, SaysFault};
 
 use crate::compile_line::compile_line;
@@ -34,7 +34,7 @@ fn line_of(alloc: Global, asked: Subcommand, matches: &ArgMatches<'_>) -> Result
     ensures line { IfOk result (IsLineOf asked (rows_of (found_of matches.now))) }
     ensures faultless { OnOk result (fault_in asked (rows_of (found_of matches.now)) ≡ None) }
     ensures ready { IfOk result (λ line. is_ready line ≡ true) }
-    ensures fault { IfErr result (IsFaultOf (fault_in asked (rows_of (found_of matches.now)))) }
+    ensures fault { IfErr result (IsUsageOf (fault_in asked (rows_of (found_of matches.now)))) }
 {
     match asked {
         Subcommand::Edit => edit_line(alloc, matches),

@@ -1,7 +1,7 @@
 //! The line of a merge.
 ghost use Rattle.std.specs.Prelude.{◌≡◌, IfOk, IfErr, OnOk, None, true};
 ghost use Rattle.clap.specs.Words.{found_of, rows_of};
-ghost use Rattle.capkit.specs.Line.{is_ready, merge_fault, IsFaultOf, IsMergeOf};
+ghost use Rattle.capkit.specs.Line.{is_ready, merge_fault, IsUsageOf, IsMergeOf};
 
 use crate::files::input_names;
 use crate::line::Line;
@@ -16,7 +16,7 @@ pub fn merge_line(alloc: Global, matches: &ArgMatches<'_>) -> Result<Line, Usage
     ensures line { IfOk result (IsMergeOf (rows_of (found_of matches.now))) }
     ensures faultless { OnOk result (merge_fault (rows_of (found_of matches.now)) ≡ None) }
     ensures ready { IfOk result (λ line. is_ready line ≡ true) }
-    ensures fault { IfErr result (IsFaultOf (merge_fault (rows_of (found_of matches.now)))) }
+    ensures fault { IfErr result (IsUsageOf (merge_fault (rows_of (found_of matches.now)))) }
 {
     let output = text(matches, "OUT");
     let merge = Merge {

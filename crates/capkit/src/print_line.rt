@@ -6,7 +6,7 @@ ghost use Rattle.cap_command.specs.Command.{is_at_least_one};
 ghost use Rattle.clap.specs.Words.{found_of, rows_of};
 ghost use Rattle.capkit.specs.Line.{expression_in, flag_in, has_exclusion, has_idle_format};
 ghost use Rattle.capkit.specs.Line.{has_two_filters, has_two_outputs, is_ready, most_64};
-ghost use Rattle.capkit.specs.Line.{number_in, print_fault, write_in, IsFaultOf, IsPrintOf};
+ghost use Rattle.capkit.specs.Line.{argument_number, print_fault, write_in, IsUsageOf, IsPrintOf};
 ghost use Rattle.capkit.specs.Names.{uses_name_twice};
 
 use crate::files::owned_texts;
@@ -106,7 +106,8 @@ fn write(matches: &ArgMatches<'_>) -> Option<Format>
 
 /// After how many packets the print ends.
 fn count(matches: &ArgMatches<'_>) -> Option<u64>
-    ensures value { result ≡ number_in 1 most_64 (codes "count") (rows_of (found_of matches.now)) }
+    ensures value { result ≡ argument_number 1 most_64 (codes "count")
+        (rows_of (found_of matches.now)) }
     ensures bounds { IfSome result (λ n. (1 ≤ n) × (n ≤ most_64)) }
 {
     number(matches, "count", 1, u64::MAX)
@@ -117,7 +118,7 @@ fn print_of(matches: &ArgMatches<'_>, expr: String) -> Print
     ensures expr { result.expr ≡ expr }
     ensures unread { result.code ≡ None }
     ensures count { result.count
-        ≡ number_in 1 most_64 (codes "count") (rows_of (found_of matches.now)) }
+        ≡ argument_number 1 most_64 (codes "count") (rows_of (found_of matches.now)) }
     ensures proper { option_map_or is_at_least_one result.count true ≡ true }
     ensures link { result.link ≡ flag_in (codes "link") (rows_of (found_of matches.now)) }
     ensures bytes { result.bytes ≡ flag_in (codes "bytes") (rows_of (found_of matches.now)) }
@@ -138,7 +139,7 @@ pub fn print_line(alloc: Global, matches: &ArgMatches<'_>) -> Result<Line, Usage
     ensures line { IfOk result (IsPrintOf (rows_of (found_of matches.now))) }
     ensures faultless { OnOk result (print_fault (rows_of (found_of matches.now)) ≡ None) }
     ensures ready { IfOk result (λ line. is_ready line ≡ true) }
-    ensures fault { IfErr result (IsFaultOf (print_fault (rows_of (found_of matches.now)))) }
+    ensures fault { IfErr result (IsUsageOf (print_fault (rows_of (found_of matches.now)))) }
 {
     check(matches)?;
     let expr = expression(alloc, matches)?;

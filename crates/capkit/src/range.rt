@@ -2,7 +2,7 @@
 ghost use Rattle.std.specs.Prelude.{◌≡◌, ◌≤◌, ◌^◌, ℕ, IfSome, IfNone, Some};
 ghost use Rattle.std.specs.Char.{is_ascii_digit};
 ghost use Rattle.std.specs.List.{list_all};
-ghost use Rattle.capkit.specs.Range.{WritesRange, number_of, range_of, sides_of};
+ghost use Rattle.capkit.specs.Range.{WritesRange, range_number, range_of, sides_of};
 
 use cap_command::is_range;
 
@@ -14,8 +14,8 @@ fn has_digits_alone(text: &str) -> bool
 
 /// The number that a text of decimal digits alone writes, where `u64` holds it.
 fn number_in(text: &str) -> Option<u64>
-    ensures number { IfSome result (λ n. number_of text.now ≡ Some n) }
-    ensures none { IfNone result (IfSome (number_of text.now) (λ n. 2 ^ 64 ≤ n)) }
+    ensures number { IfSome result (λ n. range_number text.now ≡ Some n) }
+    ensures none { IfNone result (IfSome (range_number text.now) (λ n. 2 ^ 64 ≤ n)) }
 {
     if !has_digits_alone(text) {
         return None;

@@ -4,7 +4,7 @@ ghost use Rattle.std.specs.Prelude.{true, if◌then◌else◌};
 ghost use Rattle.std.specs.Option.{option_and_then, option_map_or};
 ghost use Rattle.cap_command.specs.Command.{is_time};
 ghost use Rattle.clap.specs.Words.{found_of, rows_of, first_of};
-ghost use Rattle.capkit.specs.Line.{flag_in, format_in, link_in, number_in, span_in, text_in};
+ghost use Rattle.capkit.specs.Line.{flag_in, format_in, link_in, argument_number, span_in, text_in};
 ghost use Rattle.capkit.specs.Line.{texts_in, time_in};
 
 use cap_octet::{Format, Link, span_of, time_of};
@@ -78,7 +78,7 @@ fn within(number: Option<u64>, least: u64, most: u64) -> Option<u64>
 
 /// The number from `least` to `most` that the argument has. clap takes no other.
 pub fn number(matches: &ArgMatches<'_>, id: &str, least: u64, most: u64) -> Option<u64>
-    ensures value { result ≡ number_in least most id.now (rows_of (found_of matches.now)) }
+    ensures value { result ≡ argument_number least most id.now (rows_of (found_of matches.now)) }
     ensures bounds { IfSome result (λ n. (least ≤ n) × (n ≤ most)) }
 {
     within(matches.get_one::<u64>(id), least, most)
@@ -86,7 +86,7 @@ pub fn number(matches: &ArgMatches<'_>, id: &str, least: u64, most: u64) -> Opti
 
 /// The same of a number of 32 bits.
 pub fn short_number(matches: &ArgMatches<'_>, id: &str, least: u32, most: u32) -> Option<u32>
-    ensures value { result ≡ number_in least most id.now (rows_of (found_of matches.now)) }
+    ensures value { result ≡ argument_number least most id.now (rows_of (found_of matches.now)) }
     ensures bounds { IfSome result (λ n. (least ≤ n) × (n ≤ most)) }
 {
     match number(matches, id, least as u64, most as u64) {

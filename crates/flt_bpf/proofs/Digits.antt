@@ -6,7 +6,7 @@ use Rattle.std.proofs.lemmas.Bool.Decides.{nat_tests}
 use Rattle.std.proofs.lemmas.Fmt.{decimal_is_IsNumeral, length-decimal-le}
 use Rattle.std.proofs.lemmas.List.Elements.{All-cons, All-nil}
 use Rattle.std.proofs.lemmas.Str.Parse.{digit_from_value}
-use Rattle.flt_bpf.specs.Listing.{IsNumber}
+use Rattle.flt_bpf.specs.Listing.{IsWrittenNumber}
 use Rattle.cap_octet.proofs.Numerals.{both, digits_from_test, digits_pass}
 use Rattle.cap_octet.specs.Digits.{are_digits}
 use Rattle.flt_bpf.specs.Reading.{numeral}
@@ -16,11 +16,11 @@ some zero e = absurd (cc)
 some (suc n) e = omega arith
 
 -- what is read as a number is one
-pub numeral_is : (ds : List ℕ) (n : ℕ) → numeral ds ≡ Some n → IsNumber ds n
+pub numeral_is : (ds : List ℕ) (n : ℕ) → numeral ds ≡ Some n → IsWrittenNumber ds n
 numeral_is ds n e = go (nat_lt 10 (length ds)) (not (length ds == 0) && are_digits 10 ds) refl refl e
   where
     go : (long digits : Bool) → nat_lt 10 (length ds) ≡ long → not (length ds == 0) && are_digits 10 ds ≡ digits
-        → (if long then None else if digits then Some (digits_value 10 ds) else None) ≡ Some n → IsNumber ds n
+        → (if long then None else if digits then Some (digits_value 10 ds) else None) ≡ Some n → IsWrittenNumber ds n
     go true digits long test e = cc
     go false false long test e = cc
     go false true long test e =
@@ -28,7 +28,7 @@ numeral_is ds n e = go (nat_lt 10 (length ds)) (not (length ds == 0) && are_digi
         record { numeral = (some (length ds) parts.0, digits_from_test 10 ds parts.1); short = grind (arith, nat_tests); value = cc }
 
 -- a number is read as itself
-pub numeral_read : (ds : List ℕ) (n : ℕ) → IsNumber ds n → numeral ds ≡ Some n
+pub numeral_read : (ds : List ℕ) (n : ℕ) → IsWrittenNumber ds n → numeral ds ≡ Some n
 numeral_read ds n h =
     let upper_bound = h.short in
     let one = h.numeral.0 in
@@ -44,11 +44,11 @@ digits_lack c (b ∷ bs) l h =
     let t : (b == c) ≡ false = grind (arith, nat_tests) in
     All-cons (λ x. (x == c) ≡ false) b bs t (digits_lack c bs l h.1)
 
-pub number_lacks : (c : ℕ) (ds : List ℕ) (n : ℕ) → c < 48 → IsNumber ds n → All (λ b. (b == c) ≡ false) ds
+pub number_lacks : (c : ℕ) (ds : List ℕ) (n : ℕ) → c < 48 → IsWrittenNumber ds n → All (λ b. (b == c) ≡ false) ds
 number_lacks c ds n l h = digits_lack c ds l h.numeral.1
 
 -- what is written of a number is a number
-pub decimal_number : (n : ℕ) → n < 2 ^ 32 → IsNumber (decimal n) n
+pub decimal_number : (n : ℕ) → n < 2 ^ 32 → IsWrittenNumber (decimal n) n
 decimal_number n l =
     let d = decimal_is_IsNumeral n (omega arith) in
     record { numeral = d.0; short = length-decimal-le 10 n (omega arith) (omega arith) (omega arith); value = d.1 }

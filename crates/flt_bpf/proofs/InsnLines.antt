@@ -3,14 +3,14 @@ use Rattle.std.proofs.Common.{◌≡◌, ℕ, ◌^◌, List, [], ◌∷◌, Bool
 use Rattle.std.specs.Prelude.{nat_lt, ◌&&◌, if◌then◌else◌}
 use Rattle.std.proofs.lemmas.Bool.Decides.{nat_tests}
 use Rattle.flt_bpf.specs.declared.insn.Insn.{Insn}
-use Rattle.flt_bpf.specs.Listing.{InRange, IsInsnLine}
+use Rattle.flt_bpf.specs.Listing.{HasFieldsInRange, IsInsnLine}
 use Rattle.flt_bpf.specs.Reading.{line_numbers, insn_from, insn_of}
 use Rattle.flt_bpf.proofs.Numbers.{line_numbers_are, line_numbers_read}
 
 -- the four numbers of an instruction
 record Four (o : Option (List ℕ)) (i : Insn) : Type 0 where
   numbers : o ≡ Some (i.code ∷ i.jt ∷ i.jf ∷ i.k ∷ [])
-  in_range : InRange i
+  in_range : HasFieldsInRange i
 
 both : (a b : Bool) (x : Insn) (i : Insn) → (if a && b then Some x else None) ≡ Some i → (a ≡ true) × (b ≡ true) × (x ≡ i)
 both true true x i e = (refl, refl, cc)
@@ -22,7 +22,7 @@ all_true true true e = (refl, refl)
 all_true true false e = cc
 all_true false b e = cc
 
-ranges : (i : Insn) → (nat_lt i.code (2 ^ 16) ≡ true) → (nat_lt i.jt (2 ^ 8) ≡ true) → (nat_lt i.jf (2 ^ 8) ≡ true) → (nat_lt i.k (2 ^ 32) ≡ true) → InRange i
+ranges : (i : Insn) → (nat_lt i.code (2 ^ 16) ≡ true) → (nat_lt i.jt (2 ^ 8) ≡ true) → (nat_lt i.jf (2 ^ 8) ≡ true) → (nat_lt i.k (2 ^ 32) ≡ true) → HasFieldsInRange i
 ranges i a b c d =
     record { code = grind (arith, nat_tests); jt = grind (arith, nat_tests); jf = grind (arith, nat_tests); k = grind (arith, nat_tests) }
 

@@ -3,7 +3,7 @@ use Rattle.std.proofs.Common.{◌≡◌, ℕ, zero, suc, ◌<◌, List, [], ◌�
 use Rattle.std.specs.Prelude.{◌==◌, replicate}
 use Rattle.std.specs.List.{slice_split, join_with_byte}
 use Rattle.std.proofs.lemmas.List.Splits.{slice_split_at, slice_split_none, length-slice_split, slice_split-cons_yes, join_with_byte-slice_split}
-use Rattle.flt_bpf.specs.Listing.{BLANK, IsNumber, AreNumbers}
+use Rattle.flt_bpf.specs.Listing.{BLANK, IsWrittenNumber, AreNumbers}
 use Rattle.flt_bpf.specs.Reading.{numeral, after, later_numbers, numbers_of, line_numbers}
 use Rattle.flt_bpf.proofs.Digits.{numeral_is, numeral_read, number_lacks}
 
@@ -79,7 +79,7 @@ record Beginning (ws : List (List ℕ)) : Type 0 where
   others : List (List ℕ)
   are : ws ≡ (b ∷ bs) ∷ others
 
-digits_begin : (digits : List ℕ) (n : ℕ) (ws others : List (List ℕ)) → IsNumber digits n → ws ≡ digits ∷ others → Beginning ws
+digits_begin : (digits : List ℕ) (n : ℕ) (ws others : List (List ℕ)) → IsWrittenNumber digits n → ws ≡ digits ∷ others → Beginning ws
 digits_begin [] n ws others h e = let some = h.numeral.0 in absurd (omega arith)
 digits_begin (b ∷ bs) n ws others h e = record { b = b; bs = bs; others = others; are = e }
 

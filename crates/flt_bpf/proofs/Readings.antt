@@ -5,7 +5,7 @@ use Rattle.std.specs.List.{AllZip}
 use Rattle.std.proofs.lemmas.Bool.Decides.{nat_tests}
 use Rattle.flt_bpf.specs.declared.insn.Insn.{Insn}
 use Rattle.flt_bpf.specs.Valid.{MOST_INSTRUCTIONS}
-use Rattle.flt_bpf.specs.Listing.{MOST_BYTES, IsNumber, IsInsnLine, lines_of, AreListingLines, IsListing}
+use Rattle.flt_bpf.specs.Listing.{MOST_BYTES, IsWrittenNumber, IsInsnLine, lines_of, AreListingLines, IsListing}
 use Rattle.flt_bpf.specs.Reading.{line_numbers, insn_of, onto, read_insn, read_insns, read_from, read_lines, read}
 use Rattle.flt_bpf.proofs.Numbers.{line_numbers_are, line_numbers_read}
 use Rattle.flt_bpf.proofs.InsnLines.{insn_is, insn_read}
@@ -69,7 +69,7 @@ lines_are text (first ∷ others) is s short e =
     let c = counted (line_numbers first) others is e in
     let r = insns_are c.n others 2 is c.insns in
     let upper_bound = c.upper_bound in
-    let number : IsNumber first (length is) = subst (IsNumber first) (sym r.count) (line_numbers_are first (c.n ∷ []) c.numbers) in
+    let number : IsWrittenNumber first (length is) = subst (IsWrittenNumber first) (sym r.count) (line_numbers_are first (c.n ∷ []) c.numbers) in
     record { short = short; upper_bound = let n = r.count in omega arith; lines = subst (λ (ls : List (List ℕ)). AreListingLines ls is) (sym s) (number, r.each) }
 
 -- a text that is read is a listing of the instructions

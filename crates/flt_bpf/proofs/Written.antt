@@ -6,7 +6,7 @@ use Rattle.std.proofs.lemmas.Fmt.{length-decimal-le}
 use Rattle.std.proofs.lemmas.List.Elements.{All-append, All-cons}
 use Rattle.std.proofs.lemmas.List.Splits.{slice_split_at, length-slice_split}
 use Rattle.flt_bpf.specs.declared.insn.Insn.{Insn}
-use Rattle.flt_bpf.specs.Listing.{BLANK, LINE_FEED, insn_line, insn_lines, listing, AreNumbers, InRange, IsInsnLine, lines_from, lines_of, AreListingLines, IsListing}
+use Rattle.flt_bpf.specs.Listing.{BLANK, LINE_FEED, insn_line, insn_lines, listing, AreNumbers, HasFieldsInRange, IsInsnLine, lines_from, lines_of, AreListingLines, IsListing}
 use Rattle.flt_bpf.proofs.Digits.{decimal_number, number_lacks}
 
 -- a number, one blank, and a rest
@@ -15,7 +15,7 @@ number_before n m ns rest l h =
     record { digits = decimal n; more_blanks = 0; rest = rest; line_is = sym (append_assoc (decimal n) (BLANK ∷ []) rest); number = decimal_number n l; rest_is = h }
 
 -- the line that is written of an instruction is one of it
-insn_written : (i : Insn) → InRange i → IsInsnLine (insn_line i) i
+insn_written : (i : Insn) → HasFieldsInRange i → IsInsnLine (insn_line i) i
 insn_written i r =
     let jf = number_before i.jf i.k [] (decimal i.k) (omega (arith, r.jf)) (decimal_number i.k r.k) in
     let jt = number_before i.jt i.jf (i.k ∷ []) (decimal i.jf ++ BLANK ∷ decimal i.k) (omega (arith, r.jt)) jf in
@@ -25,7 +25,7 @@ insn_written i r =
 decimal_lacks : (n : ℕ) → n < 2 ^ 32 → All (λ b. (b == LINE_FEED) ≡ false) (decimal n)
 decimal_lacks n l = number_lacks LINE_FEED (decimal n) n (omega arith) (decimal_number n l)
 
-line_lacks : (i : Insn) → InRange i → All (λ b. (b == LINE_FEED) ≡ false) (insn_line i)
+line_lacks : (i : Insn) → HasFieldsInRange i → All (λ b. (b == LINE_FEED) ≡ false) (insn_line i)
 line_lacks i r =
     let P : ℕ → Type 0 = λ b. (b == LINE_FEED) ≡ false in
     let code = decimal_lacks i.code (omega (arith, r.code)) in
@@ -35,7 +35,7 @@ line_lacks i r =
     All-append P (decimal i.code) _ code (All-cons P BLANK _ refl (All-append P (decimal i.jt) _ jt (All-cons P BLANK _ refl (All-append P (decimal i.jf) _ jf (All-cons P BLANK _ refl k)))))
 
 -- a line of an instruction has at most 24 bytes before its line feed
-pub line_short : (i : Insn) → InRange i → length (insn_line i) ≤ 24
+pub line_short : (i : Insn) → HasFieldsInRange i → length (insn_line i) ≤ 24
 line_short i r =
     let code = length-decimal-le 5 i.code (omega arith) (omega (arith, r.code)) (omega (arith, r.code)) in
     let jt = length-decimal-le 3 i.jt (omega arith) (omega (arith, r.jt)) (omega (arith, r.jt)) in
@@ -43,7 +43,7 @@ line_short i r =
     let k = length-decimal-le 10 i.k (omega arith) (omega (arith, r.k)) (omega (arith, r.k)) in
     omega (arith, code, jt, jf, k, length-append (decimal i.code) (BLANK ∷ (decimal i.jt ++ BLANK ∷ (decimal i.jf ++ BLANK ∷ decimal i.k))), length-append (decimal i.jt) (BLANK ∷ (decimal i.jf ++ BLANK ∷ decimal i.k)), length-append (decimal i.jf) (BLANK ∷ decimal i.k))
 
-lines_short : (is : List Insn) → All InRange is → length (insn_lines is) ≤ 25 * length is
+lines_short : (is : List Insn) → All HasFieldsInRange is → length (insn_lines is) ≤ 25 * length is
 lines_short [] r = omega arith
 lines_short (i ∷ is) r =
     let here = line_short i (r 0 i (omega arith)) in
@@ -61,7 +61,7 @@ line_off w rest h =
     let some : 0 < length (slice_split p rest) = omega (arith, length-slice_split p rest) in
     ap lines_from (slice_split_at p w LINE_FEED rest h refl) ∙ lines_more w (slice_split p rest) some
 
-insns_written : (is : List Insn) → All InRange is → AllZip IsInsnLine (lines_of (insn_lines is)) is
+insns_written : (is : List Insn) → All HasFieldsInRange is → AllZip IsInsnLine (lines_of (insn_lines is)) is
 insns_written [] r = tt
 insns_written (i ∷ is) r =
     let here = r 0 i (omega arith) in
@@ -69,7 +69,7 @@ insns_written (i ∷ is) r =
     subst (λ (ls : List (List ℕ)). AllZip IsInsnLine ls (i ∷ is)) (sym (line_off (insn_line i) (insn_lines is) (line_lacks i here))) lines
 
 -- what is written is a listing
-pub listing_written : (is : List Insn) → length is ≤ 32768 → All InRange is → IsListing (listing is) is
+pub listing_written : (is : List Insn) → length is ≤ 32768 → All HasFieldsInRange is → IsListing (listing is) is
 listing_written is upper_bound r =
     let count = length-decimal-le 10 (length is) (omega arith) (omega arith) (omega arith) in
     let lines : AreListingLines (decimal (length is) ∷ lines_of (insn_lines is)) is = (decimal_number (length is) (omega arith), insns_written is r) in

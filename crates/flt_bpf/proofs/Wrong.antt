@@ -5,7 +5,7 @@ use Rattle.std.specs.List.{AllZip}
 use Rattle.std.proofs.lemmas.Bool.Decides.{nat_tests}
 use Rattle.flt_bpf.specs.declared.insn.Insn.{Insn}
 use Rattle.flt_bpf.specs.Valid.{MOST_INSTRUCTIONS}
-use Rattle.flt_bpf.specs.Listing.{MOST_BYTES, IsNumber, IsInsnLine, lines_of, AreListingLines, IsListing, HasCount, IsWrong, FirstWrong, IsRefusedAt}
+use Rattle.flt_bpf.specs.Listing.{MOST_BYTES, IsWrittenNumber, IsInsnLine, lines_of, AreListingLines, IsListing, HasCount, IsWrong, FirstWrong, IsRefusedAt}
 use Rattle.flt_bpf.specs.Reading.{line_numbers, insn_of, onto, read_insn, read_insns, read_from, read_lines, read}
 use Rattle.flt_bpf.proofs.Numbers.{line_numbers_are, line_numbers_read}
 use Rattle.flt_bpf.proofs.InsnLines.{insn_is, insn_read}
@@ -68,11 +68,11 @@ insns_wrong (suc n) (l ∷ lines) at line e = with_first (insn_of (line_numbers 
     with_first (Some i) s e later = wrong_next n l lines at line i (insn_is l i s) (later (onto_wrong i (read_insns n lines (at + 1)) e))
 
 -- a line is a number in one way
-same_number : (digits : List ℕ) (m n : ℕ) → IsNumber digits m → IsNumber digits n → m ≡ n
+same_number : (digits : List ℕ) (m n : ℕ) → IsWrittenNumber digits m → IsWrittenNumber digits n → m ≡ n
 same_number digits m n a b = sym a.value ∙ b.value
 
 -- a wrong line among those behind the first is the first wrong one of all
-first_wrong : (first : List ℕ) (others : List (List ℕ)) (n k : ℕ) → IsNumber first n → n ≤ MOST_INSTRUCTIONS → WrongAfter n others k → FirstWrong (first ∷ others) (suc k)
+first_wrong : (first : List ℕ) (others : List (List ℕ)) (n k : ℕ) → IsWrittenNumber first n → n ≤ MOST_INSTRUCTIONS → WrongAfter n others k → FirstWrong (first ∷ others) (suc k)
 first_wrong first others n k number upper_bound w =
     record { wrong = (n, record { number = number; upper_bound = upper_bound }, here w.wrong); first = λ j less h. earlier j less h }
   where

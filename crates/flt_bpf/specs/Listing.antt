@@ -30,7 +30,7 @@ abbrev pub listing : List Insn → List ℕ
 listing is = decimal (length is) ++ LINE_FEED ∷ insn_lines is
 
 -- a number is written by 1 to 10 digits, of which the first may be zeros
-pub record IsNumber (digits : List ℕ) (n : ℕ) : Type 0 where
+pub record IsWrittenNumber (digits : List ℕ) (n : ℕ) : Type 0 where
   pub numeral : IsNumeral 10 digits
   pub short : length digits ≤ 10
   pub value : digits_value 10 digits ≡ n
@@ -41,18 +41,18 @@ pub record BeginsWith (line : List ℕ) (n : ℕ) (Rest : List ℕ → Type 0) :
   pub more_blanks : ℕ
   pub rest : List ℕ
   pub line_is : line ≡ digits ++ (BLANK ∷ replicate more_blanks BLANK) ++ rest
-  pub number : IsNumber digits n
+  pub number : IsWrittenNumber digits n
   pub rest_is : Rest rest
 
 -- a line of these numbers, with one or more blanks between each two, and none before the first or
 -- after the last
 abbrev pub AreNumbers : List ℕ → List ℕ → Type 0
 AreNumbers line [] = ⊥
-AreNumbers line (n ∷ []) = IsNumber line n
+AreNumbers line (n ∷ []) = IsWrittenNumber line n
 AreNumbers line (n ∷ m ∷ ns) = BeginsWith line n (λ rest. AreNumbers rest (m ∷ ns))
 
 -- the fields of an instruction are numbers of their types
-pub record InRange (i : Insn) : Type 0 where
+pub record HasFieldsInRange (i : Insn) : Type 0 where
   pub code : i.code < 2 ^ 16
   pub jt : i.jt < 2 ^ 8
   pub jf : i.jf < 2 ^ 8
@@ -61,7 +61,7 @@ pub record InRange (i : Insn) : Type 0 where
 -- a line with the four numbers of an instruction
 pub record IsInsnLine (line : List ℕ) (i : Insn) : Type 0 where
   pub numbers : AreNumbers line (i.code ∷ i.jt ∷ i.jf ∷ i.k ∷ [])
-  pub in_range : InRange i
+  pub in_range : HasFieldsInRange i
 
 -- the pieces between line feeds, without the last one where that is empty
 abbrev pub lines_from : List (List ℕ) → List (List ℕ)
@@ -77,7 +77,8 @@ lines_of text = lines_from (slice_split (λ b. b == LINE_FEED) text)
 -- the first line of a listing is the number of instructions, and these stand on the others
 abbrev pub AreListingLines : List (List ℕ) → List Insn → Type 0
 AreListingLines [] is = ⊥
-AreListingLines (first ∷ others) is = IsNumber first (length is) × AllZip IsInsnLine others is
+AreListingLines (first ∷ others) is =
+    IsWrittenNumber first (length is) × AllZip IsInsnLine others is
 
 -- the text is a listing of these instructions
 pub record IsListing (text : List ℕ) (is : List Insn) : Type 0 where
@@ -87,7 +88,7 @@ pub record IsListing (text : List ℕ) (is : List Insn) : Type 0 where
 
 -- the first line is there and is a number of instructions that a program may have
 pub record HasCount (lines : List (List ℕ)) (count : ℕ) : Type 0 where
-  pub number : IsSomeAnd (slice_get lines 0) (λ line. IsNumber line count)
+  pub number : IsSomeAnd (slice_get lines 0) (λ line. IsWrittenNumber line count)
   pub upper_bound : count ≤ MOST_INSTRUCTIONS
 
 -- The line behind k others is wrong: the first one where it is no count; a later one where it

@@ -4,7 +4,7 @@ ghost use Rattle.std.specs.Prelude.{◌≡◌, ℕ, ◌≤◌, List, length, All
 ghost use Rattle.flt_bpf.specs.declared.insn.Insn.{Insn};
 ghost use Rattle.flt_bpf.specs.declared.operation.Operation.{Operation};
 ghost use Rattle.flt_bpf.specs.Instructions.{code_of, operation_of};
-ghost use Rattle.flt_bpf.specs.Listing.{listing, InRange, IsListing, IsRefusedAt};
+ghost use Rattle.flt_bpf.specs.Listing.{listing, HasFieldsInRange, IsListing, IsRefusedAt};
 
 /// An operation that a code gives has this code. The other way round is in the contract of
 /// `Operation::code`.
@@ -16,11 +16,12 @@ pub fn code_back()
 /// What is written is read back: the listing of at most 32,768 instructions whose fields are in
 /// range is a listing of these instructions and of no others, and it is refused at no line.
 pub fn listing_back()
-    ensures back { (insns : List Insn) → length insns ≤ 32768 → All InRange insns
+    ensures back { (insns : List Insn) → length insns ≤ 32768 → All HasFieldsInRange insns
         → IsListing (listing insns) insns }
-    ensures alone { (insns others : List Insn) → length insns ≤ 32768 → All InRange insns
+    ensures alone { (insns others : List Insn) → length insns ≤ 32768 → All HasFieldsInRange insns
         → IsListing (listing insns) others → others ≡ insns }
-    ensures not_refused { (insns : List Insn) (line : ℕ) → length insns ≤ 32768 → All InRange insns
+    ensures not_refused { (insns : List Insn) (line : ℕ) → length insns ≤ 32768
+        → All HasFieldsInRange insns
         → ¬ IsRefusedAt (listing insns) line }
 {}
 

@@ -3,7 +3,7 @@
 ghost use Rattle.std.specs.Prelude.{◌≡◌, Some, true};
 ghost use Rattle.std.specs.Option.{is_some};
 ghost use Rattle.flt_bpf.specs.Instructions.{code_of, operation_of};
-ghost use Rattle.flt_bpf.specs.Machine.{size_of};
+ghost use Rattle.flt_bpf.specs.Machine.{load_size};
 
 /// A register of 32 bits.
 #[derive(Clone, Copy)]
@@ -26,7 +26,7 @@ impl Width {
     /// How many bytes a load takes.
     #[inline(always)]
     pub(crate) fn size(self) -> usize
-        ensures { result ≡ size_of self }
+        ensures { result ≡ load_size self }
     {
         match self {
             Width::Word => 4,

@@ -55,15 +55,15 @@ field_at (AfterHeader header k) width p =
     with (header_at p header) (λ x. field p ((x + k) % 2 ^ 32) width)
 
 -- the bits of a mask
-abbrev pub masked : Option ℕ → ℕ → ℕ
-masked None v = v
-masked (Some mask) v = bit_and v mask
+abbrev pub under_mask : Option ℕ → ℕ → ℕ
+under_mask None v = v
+under_mask (Some mask) v = bit_and v mask
 
 abbrev pub field_reads : FieldTest → List ℕ → Reading
 field_reads t p =
     reading_of
     (with (field_at t.offset t.width p)
-    (λ v. Some (compares t.comparison (masked t.mask v) t.value)))
+    (λ v. Some (compares t.comparison (under_mask t.mask v) t.value)))
 
 abbrev pub elementary_reads : Elementary → List ℕ → Reading
 elementary_reads (Outcome b) p = reading_of (Some b)

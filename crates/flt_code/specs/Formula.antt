@@ -15,7 +15,7 @@ use Rattle.flt_code.specs.declared.elementary.MaskedField.{MaskedField}
 use Rattle.flt_code.specs.declared.elementary.Offset.{Offset}
 use Rattle.flt_code.specs.declared.elementary.Sides.{Sides}
 use Rattle.flt_code.specs.declared.elementary.Elementary.TheVariants.{Outcome}
-use Rattle.flt_code.specs.Elementary.{Reading, Yes, No, Rejected, reading_of, with, compares, field_at, masked, elementary_reads, compares_at}
+use Rattle.flt_code.specs.Elementary.{Reading, Yes, No, Rejected, reading_of, with, compares, field_at, under_mask, elementary_reads, compares_at}
 use Rattle.flt_code.specs.Numbers.{number, accessor_tests}
 
 pub data Formula : Type 0 where
@@ -46,10 +46,10 @@ either No b = b
 either Rejected b = Rejected
 
 -- yes and no are exchanged
-abbrev pub negated : Reading → Reading
-negated Yes = No
-negated No = Yes
-negated Rejected = Rejected
+abbrev pub negation : Reading → Reading
+negation Yes = No
+negation No = Yes
+negation Rejected = Rejected
 
 abbrev pub relation_reads : Link → Comparison → NumberTree → NumberTree → List ℕ → ℕ → Reading
 relation_reads link c l r p n =
@@ -64,7 +64,7 @@ is_one_of x (v ∷ vs) = x == v || is_one_of x vs
 -- is rejected
 abbrev pub among_reads : MaskedField → List ℕ → List ℕ → Reading
 among_reads f vs p =
-    reading_of (with (field_at f.offset f.width p) (λ x. Some (is_one_of (masked f.mask x) vs)))
+    reading_of (with (field_at f.offset f.width p) (λ x. Some (is_one_of (under_mask f.mask x) vs)))
 
 -- the reading of a formula on a packet of original length n
 abbrev pub reads : Link → Formula → List ℕ → ℕ → Reading
@@ -72,7 +72,7 @@ reads link (Single t) p n = elementary_reads t p
 reads link (Compare c l r) p n = relation_reads link c l r p n
 reads link (Both a b) p n = both (reads link a p n) (reads link b p n)
 reads link (Either a b) p n = either (reads link a p n) (reads link b p n)
-reads link (Except a) p n = negated (reads link a p n)
+reads link (Except a) p n = negation (reads link a p n)
 reads link (Guard t a) p n = both (elementary_reads t p) (reads link a p n)
 reads link (Fork t u a) p n =
     both (either (elementary_reads t p) (elementary_reads u p)) (reads link a p n)

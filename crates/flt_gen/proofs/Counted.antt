@@ -77,7 +77,7 @@ ether_tests_are link (direction.One Destination) a = refl
 ether_tests_are link (direction.Both Or) a = refl
 ether_tests_are link (direction.Both And) a = refl
 
-ip6_tests_are : (link : Link) (d : Direction) (prefix : Option ℕ) (a : ℕ) → tests (ip6_formula link d prefix a) ≡ count.ip6_tests d
+ip6_tests_are : (link : Link) (d : Direction) (prefix : Option ℕ) (a : ℕ) → tests (ip6_formula link d prefix a) ≡ count.ip6_test_count d
 ip6_tests_are link (direction.One Source) prefix a = refl
 ip6_tests_are link (direction.One Destination) prefix a = refl
 ip6_tests_are link (direction.Both Or) prefix a = refl
@@ -187,7 +187,7 @@ value_tests_fit link PortRange p d _ = omega arith
 value_tests_fit link Proto p d (value.Number n m) = proto_tests_fit link p n
 value_tests_fit link Proto p d _ = some_proto p
 
-accessor_tests_are : (link : Link) (p : Protocol) (f : Formula) → tests (guarded_formula (accessor_tests link p) f) ≡ count.accessor_tests p + tests f
+accessor_tests_are : (link : Link) (p : Protocol) (f : Formula) → tests (guarded_formula (accessor_tests link p) f) ≡ count.accessor_test_count p + tests f
 accessor_tests_are link protocol.Ether f = refl
 accessor_tests_are link protocol.Ip f = refl
 accessor_tests_are link protocol.Ip6 f = refl

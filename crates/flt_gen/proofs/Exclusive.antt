@@ -8,16 +8,16 @@ use Rattle.cap_octet.specs.declared.link.Link.{Link}
 use Rattle.cap_octet.specs.declared.link.Link.TheVariants.{Ether, Raw, Cooked}
 use Rattle.flt_code.specs.declared.elementary.FrameKind.TheVariants.{Ip, Ip6, Arp, Rarp}
 use Rattle.flt_code.specs.declared.elementary.Elementary.{Elementary}
-use Rattle.flt_code.specs.Elementary.{Yes, No, reading_of, with, masked, elementary_reads, kind_test}
+use Rattle.flt_code.specs.Elementary.{Yes, No, reading_of, with, under_mask, elementary_reads, kind_test}
 use Rattle.flt_gen.proofs.Ascending.{Searchable}
 use Rattle.flt_code.specs.Formula.{Formula, Single, Compare, Both, Either, Except, Guard, Fork, Choose, Among, both, either, reads}
 
 -- a field that is one number is no other
-other_value : (o : Option ℕ) (mask : Option ℕ) (a b : ℕ) → (a == b) ≡ false → reading_of (with o (λ v. Some (masked mask v == a))) ≡ Yes → reading_of (with o (λ v. Some (masked mask v == b))) ≡ No
+other_value : (o : Option ℕ) (mask : Option ℕ) (a b : ℕ) → (a == b) ≡ false → reading_of (with o (λ v. Some (under_mask mask v == a))) ≡ Yes → reading_of (with o (λ v. Some (under_mask mask v == b))) ≡ No
 other_value None mask a b apart e = cc
 other_value (Some x) mask a b apart e =
-    let yes : (masked mask x == a) ≡ true = is_yes (masked mask x == a) e in
-    let same : masked mask x ≡ a = grind (arith, nat_tests) in
+    let yes : (under_mask mask x == a) ≡ true = is_yes (under_mask mask x == a) e in
+    let same : under_mask mask x ≡ a = grind (arith, nat_tests) in
     ap (λ y. reading_of (Some (y == b))) same ∙ ap (λ c. reading_of (Some c)) apart
   where
     is_yes : (c : Bool) → reading_of (Some c) ≡ Yes → c ≡ true

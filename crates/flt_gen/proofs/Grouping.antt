@@ -20,7 +20,7 @@ use Rattle.cap_octet.specs.declared.link.Link.{Link}
 use Rattle.flt_code.specs.Elementary.{Reading, Yes, No, Rejected}
 use Rattle.flt_gen.specs.declared.wanted.Hosts.TheVariants as hosts
 use Rattle.flt_gen.specs.declared.wanted.Ports.TheVariants.{One, Several}
-use Rattle.flt_code.specs.Formula.{Formula, Both, Either, Except, is_one_of, both, either, negated, reads}
+use Rattle.flt_code.specs.Formula.{Formula, Both, Either, Except, is_one_of, both, either, negation, reads}
 use Rattle.flt_gen.specs.Primitives.{net_test, net_formula, hosts_formula, port_test, port_formula, qualified_formula, value_formula}
 use Rattle.flt_gen.specs.Reading.{formula}
 use Rattle.flt_gen.specs.Counts.{tests, nodes, words}
@@ -392,7 +392,7 @@ value_stands link q v group k u (Some more) e =
 denied_stands : (link : Link) (a : TruthTree) (group : Group) → Kept group → StandsBy link (grouped_formula link no_group a) (formula link a) (count.truth_tests a) no_group → StandsBy link (or_group link (Except (grouped_formula link no_group a)) group) (Except (formula link a)) (count.truth_tests a) group
 denied_stands link a group k h =
     or_stands link (Except (grouped_formula link no_group a)) (Except (formula link a)) (count.truth_tests a) group k
-    (record { nodes_are = h.nodes_are; words_are = h.words_are; apt = h.apt; tests_fit = h.tests_fit; reads_are = λ p n. ap negated (h.reads_are p n) })
+    (record { nodes_are = h.nodes_are; words_are = h.words_are; apt = h.apt; tests_fit = h.tests_fit; reads_are = λ p n. ap negation (h.reads_are p n) })
 
 both_stands : (link : Link) (a b : TruthTree) (group : Group) → Kept group → StandsBy link (grouped_formula link no_group a) (formula link a) (count.truth_tests a) no_group → StandsBy link (grouped_formula link no_group b) (formula link b) (count.truth_tests b) no_group → StandsBy link (or_group link (Both (grouped_formula link no_group a) (grouped_formula link no_group b)) group) (Both (formula link a) (formula link b)) (count.truth_tests a + count.truth_tests b) group
 both_stands link a b group k h g =

@@ -12,7 +12,7 @@ use Rattle.cap_octet.specs.declared.network.NetworkKind.{NetworkKind}
 use Rattle.cap_octet.specs.declared.network.NetworkKind.TheVariants.{Ipv4, Ipv6, Arp, Rarp}
 use Rattle.cap_octet.specs.declared.number.Order.TheVariants.{Big}
 use Rattle.flt_bpf.specs.declared.operation.Width.TheVariants.{HalfWord}
-use Rattle.flt_bpf.specs.Machine.{number_at}
+use Rattle.flt_bpf.specs.Machine.{big_endian_at}
 use Rattle.cap_octet.specs.declared.link.Link.{Link}
 use Rattle.cap_octet.specs.declared.link.Link.TheVariants.{Ether, Raw, Cooked}
 use Rattle.flt_code.specs.Elementary.{Reading, Yes, No, Rejected, reading_of, with, elementary_reads, is_at, kind_test, link_type}
@@ -88,7 +88,7 @@ number_there v kind = record {
   rejects = (λ e. absurd (not_rejected (v == type_of kind) e), λ e. absurd (type_not_short v e.0));
 }
 
-same_number : (p : List ℕ) (at : ℕ) → u16_in Big p at ≡ number_at p at HalfWord
+same_number : (p : List ℕ) (at : ℕ) → u16_in Big p at ≡ big_endian_at p at HalfWord
 unfolding number_in
 same_number p at =
     let first : slice_index (drop at p) 0 ≡ slice_index p at = get_or-drop at p 0 0 ∙ ap (slice_index p) (let e : at + 0 ≡ at = omega arith in e) in
@@ -100,8 +100,8 @@ at_type : (at : ℕ) (kind : NetworkKind) (p : List ℕ) → Agrees (elementary_
 at_type at kind p = rw (same_number p at) (go (nat_le (at + 2) (length p)) (nat_lt (length p) (at + 2)) refl refl)
   where
     go : (long short : Bool) → nat_le (at + 2) (length p) ≡ long → nat_lt (length p) (at + 2) ≡ short
-        → Agrees (reading_of (with (if long then Some (number_at p at HalfWord) else None) (λ (x : ℕ). Some (x == type_of kind)))) (if short then Short else of_type (number_at p at HalfWord)) kind true
-    go true false long short = number_there (number_at p at HalfWord) kind
+        → Agrees (reading_of (with (if long then Some (big_endian_at p at HalfWord) else None) (λ (x : ℕ). Some (x == type_of kind)))) (if short then Short else of_type (big_endian_at p at HalfWord)) kind true
+    go true false long short = number_there (big_endian_at p at HalfWord) kind
     go false true long short = nothing_there kind
     go true true long short = absurd (grind (arith, nat_tests))
     go false false long short = absurd (grind (arith, nat_tests))

@@ -17,7 +17,7 @@ use Rattle.flt_bpf.specs.declared.operation.Test.TheVariants as test
 use Rattle.flt_bpf.specs.declared.operation.Operand.{Operand}
 use Rattle.flt_bpf.specs.declared.operation.Operand.TheVariants.{Constant, IndexRegister}
 use Rattle.flt_bpf.specs.Instructions.{operation_of}
-use Rattle.flt_bpf.specs.Machine.{Goes, Lost, step, field, holds, value_of, into, header_length}
+use Rattle.flt_bpf.specs.Machine.{Goes, Lost, step, field, test_holds, operand_value, into, header_length}
 use Rattle.flt_words.specs.declared.token.Operator.{Operator}
 use Rattle.flt_words.specs.declared.token.Operator.TheVariants.{Or, And, ShiftLeft, ShiftRight, Add, Subtract, Multiply, Divide, Remainder, ExclusiveOr}
 use Rattle.flt_words.specs.declared.token.Protocol.{Protocol}
@@ -136,7 +136,7 @@ module _ (p : List ℕ) (n : ℕ) where
   unfolding step operation_of
   run_jump k c s = refl
 
-  pub run_branch : (t : Test) (operand : Operand) (k jt jf : ℕ) (c : List Insn) (s : State) → answer_of (branch_insn t operand k jt jf ∷ c) p n 0 s ≡ answer_of c p n (if holds t s.accumulator (value_of operand k s.index) then jt else jf) s
+  pub run_branch : (t : Test) (operand : Operand) (k jt jf : ℕ) (c : List Insn) (s : State) → answer_of (branch_insn t operand k jt jf ∷ c) p n 0 s ≡ answer_of c p n (if test_holds t s.accumulator (operand_value operand k s.index) then jt else jf) s
   unfolding step operation_of
   run_branch test.Equal Constant k jt jf c s = refl
   run_branch test.Greater Constant k jt jf c s = refl

@@ -17,7 +17,7 @@ use Rattle.flt_code.specs.declared.elementary.Offset.TheVariants.{Fixed, AfterHe
 use Rattle.flt_code.specs.declared.elementary.Elementary.{Elementary}
 use Rattle.flt_code.specs.declared.elementary.Elementary.TheVariants.{Outcome, Field}
 use Rattle.flt_code.specs.declared.elementary.Fact.{Fact}
-use Rattle.flt_code.specs.Elementary.{Reading, Yes, No, Rejected, reading_of, with, compares, field_at, masked, elementary_reads}
+use Rattle.flt_code.specs.Elementary.{Reading, Yes, No, Rejected, reading_of, with, compares, field_at, under_mask, elementary_reads}
 use Rattle.flt_code.specs.declared.follow.Knowledge.{Knowledge}
 use Rattle.flt_code.specs.Follow.{load_code, same_mask, same_place, is_equal, says_value, test_says, first_of, looks_at, known_outcome, outcome_place, past_mask, past_load, onward, step_from, follow, MOST_STEPS, fact, facts_of, agreed_place, followed_place, past_index, target}
 use Rattle.flt_bpf.proofs.Suffix.{answer_of, answer_after, answer_drop}
@@ -154,9 +154,9 @@ module _ (p : List ℕ) (n : ℕ) where
     loads : load ≡ load_code width
     x : ℕ
     there : field p at width ≡ Some x
-    right : (masked mask x == k) ≡ b
+    right : (under_mask mask x == k) ≡ b
 
-  field_says : (comparison : Comparison) (place : Offset) (w : Width) (m : Option ℕ) (value : ℕ) (truth : Bool) (load at : ℕ) (mask : Option ℕ) (k : ℕ) (b : Bool) → (if (is_equal comparison && (same_place place at && (load_code w == load && same_mask m mask))) then says_value truth (value == k) else None) ≡ Some b → reading_of (with (field_at place w p) (λ v. Some (compares comparison (masked m v) value))) ≡ outcome truth → Says load at mask k b
+  field_says : (comparison : Comparison) (place : Offset) (w : Width) (m : Option ℕ) (value : ℕ) (truth : Bool) (load at : ℕ) (mask : Option ℕ) (k : ℕ) (b : Bool) → (if (is_equal comparison && (same_place place at && (load_code w == load && same_mask m mask))) then says_value truth (value == k) else None) ≡ Some b → reading_of (with (field_at place w p) (λ v. Some (compares comparison (under_mask m v) value))) ≡ outcome truth → Says load at mask k b
   field_says Equal (Fixed a) w m value truth load at mask k b e h =
       let parts = then_some (a == at && (load_code w == load && same_mask m mask)) (says_value truth (value == k)) b e in
       let q = both_true (a == at) (load_code w == load && same_mask m mask) parts.0 in
@@ -165,13 +165,13 @@ module _ (p : List ℕ) (n : ℕ) where
       let ra = r.0 in
       let place : a ≡ at = grind (arith, nat_tests) in
       let code : load ≡ load_code w = grind (arith, nat_tests) in
-      let f = found (field p a w) (λ v. masked m v == value) truth h in
+      let f = found (field p a w) (λ v. under_mask m v == value) truth h in
       record {
         width = w;
         loads = code;
         x = f.0;
         there = ap (λ z. field p z w) (sym place) ∙ f.1;
-        right = ap (λ z. masked z f.0 == k) (sym (masks_are m mask r.1)) ∙ value_says truth (masked m f.0) value k b parts.1 f.2;
+        right = ap (λ z. under_mask z f.0 == k) (sym (masks_are m mask r.1)) ∙ value_says truth (under_mask m f.0) value k b parts.1 f.2;
       }
   field_says Equal (AfterHeader header a) w m value truth load at mask k b e h = cc
   field_says NotEqual place w m value truth load at mask k b e h = cc
@@ -243,7 +243,7 @@ module _ (p : List ℕ) (n : ℕ) where
   -- the code d runs into the code e behind it, with a field in A, wherever the field is there
   abbrev RunsInto : List Insn → List Insn → ℕ → ℕ → Option ℕ → Type 0
   RunsInto d e load at mask =
-      (w : Width) (x : ℕ) (s : State) → length s.memory ≡ 16 → load ≡ load_code w → field p at w ≡ Some x → answer_of d p n 0 s ≡ answer_of e p n 0 (record s { accumulator = masked mask x })
+      (w : Width) (x : ℕ) (s : State) → length s.memory ≡ 16 → load ≡ load_code w → field p at w ≡ Some x → answer_of d p n 0 s ≡ answer_of e p n 0 (record s { accumulator = under_mask mask x })
 
   -- a test that is decided
   chosen_leads : (facts : List Fact) (load at : ℕ) (mask : Option ℕ) (j : Insn) (is d : List Insn) (u : ℕ) → Extends is d → Leads d (length d) u → (is_load load ≡ true → Settles is j.jt × Settles is j.jf) → j.code ≡ 21 → RunsInto d (j ∷ is) load at mask → (o : Option Bool) → known_outcome facts load at mask j.k ≡ o → Onward d facts u (outcome_place o (length d) (length is - j.jt) (length is - j.jf))
@@ -251,9 +251,9 @@ module _ (p : List ℕ) (n : ℕ) where
   chosen_leads facts load at mask j is d u e h settles code runs (Some b) g = by_truth b g
     where
       -- where the facts hold the whole code runs to the branch that they say
-      reached : (b : Bool) (says : Says load at mask j.k b) (s : State) → length s.memory ≡ 16 → answer_of d p n 0 s ≡ answer_of is p n (if b then j.jt else j.jf) (record s { accumulator = masked mask says.x })
+      reached : (b : Bool) (says : Says load at mask j.k b) (s : State) → length s.memory ≡ 16 → answer_of d p n 0 s ≡ answer_of is p n (if b then j.jt else j.jf) (record s { accumulator = under_mask mask says.x })
       reached b says s long =
-          runs says.width says.x s long says.loads says.there ∙ run_equals j is (record s { accumulator = masked mask says.x }) code ∙ ap (λ c. answer_of is p n (if c then j.jt else j.jf) (record s { accumulator = masked mask says.x })) says.right
+          runs says.width says.x s long says.loads says.there ∙ run_equals j is (record s { accumulator = under_mask mask says.x }) code ∙ ap (λ c. answer_of is p n (if c then j.jt else j.jf) (record s { accumulator = under_mask mask says.x })) says.right
 
       top : answer_of d p n 0 start ≡ Some u
       top = (let none : 0 ≡ length d - length d = omega arith in ap (λ k. answer_of d p n k start) none) ∙ h.by start refl
@@ -267,7 +267,7 @@ module _ (p : List ℕ) (n : ℕ) where
             v = t.v;
             leads = leads_on is d (max 1 (length is - j.jt)) t.v l e (settled_leads is j.jt t);
             inside = omega (arith, l, longer);
-            right = λ hold. let says = decided_says facts load at mask j.k true hold g in some_is t.v u (sym (t.by (record start { accumulator = masked mask says.x }) refl) ∙ sym (reached true says start refl) ∙ top);
+            right = λ hold. let says = decided_says facts load at mask j.k true hold g in some_is t.v u (sym (t.by (record start { accumulator = under_mask mask says.x }) refl) ∙ sym (reached true says start refl) ∙ top);
           }
       by_truth false g =
           let f = (settles (decided_loads facts load at mask j.k false g)).1 in
@@ -277,7 +277,7 @@ module _ (p : List ℕ) (n : ℕ) where
             v = f.v;
             leads = leads_on is d (max 1 (length is - j.jf)) f.v l e (settled_leads is j.jf f);
             inside = omega (arith, l, longer);
-            right = λ hold. let says = decided_says facts load at mask j.k false hold g in some_is f.v u (sym (f.by (record start { accumulator = masked mask says.x }) refl) ∙ sym (reached false says start refl) ∙ top);
+            right = λ hold. let says = decided_says facts load at mask j.k false hold g in some_is f.v u (sym (f.by (record start { accumulator = under_mask mask says.x }) refl) ∙ sym (reached false says start refl) ∙ top);
           }
 
   past_mask_leads : (facts : List Fact) (load at : ℕ) (mask : Option ℕ) (d e : List Insn) (u : ℕ) → Extends e d → Leads d (length d) u → (is_load load ≡ true → Branches e) → RunsInto d e load at mask → Onward d facts u (past_mask facts (length d) load at mask e)

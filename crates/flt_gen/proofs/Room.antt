@@ -23,7 +23,7 @@ use Rattle.flt_code.specs.Follow.{nothing}
 use Rattle.flt_words.specs.declared.token.Operator.{Operator}
 use Rattle.flt_words.specs.declared.token.Comparison.{Comparison}
 use Rattle.flt_code.specs.Code.{plain, computation, takes, emit_comparison}
-use Rattle.flt_gen.specs.Walk.{Walk, finish_relation, finish_number, with_code, begin_operands, finish_formula, flush_members, flush_group, finish_group, emit_value, emit_join, emit_truth_node, is_truth_node, emit_node, emit_applied, emit_compared, emit_both_nodes, or_else, emit_nodes}
+use Rattle.flt_gen.specs.Walk.{Walk, finish_relation, finish_number, with_insns, begin_operands, finish_formula, flush_members, flush_group, finish_group, emit_value, emit_join, emit_truth_node, is_truth_node, emit_node, emit_applied, emit_compared, emit_both_nodes, or_walk, emit_nodes}
 use Rattle.flt_gen.proofs.Tails.{extends_none, comparison_extends, accessor_extends, emitted_extends, accessors_extend}
 use Rattle.flt_bpf.specs.declared.operation.Operation.TheVariants.{Load, Store}
 use Rattle.flt_bpf.specs.declared.operation.Register.TheVariants.{Accumulator}
@@ -77,9 +77,9 @@ number_grown link (Left s ∷ ns) w e h =
     record { low = record { slot = omega arith; waiting = low_more ns (length w.code) (length (plain (Store Accumulator) s ∷ w.code)) (omega arith) a.1; upper_bound = h.upper_bound }; longer = omega arith }
 
 -- code in front, and then a number is complete
-code_grown : (link : Link) (w : Walk) (c : List Insn) → length w.code ≤ length c → IsLow w → Grown w (finish_number link w.numbers (with_code c w))
+code_grown : (link : Link) (w : Walk) (c : List Insn) → length w.code ≤ length c → IsLow w → Grown w (finish_number link w.numbers (with_insns c w))
 code_grown link w c l h =
-    let v = with_code c w in
+    let v = with_insns c w in
     let a = grown_on w v h l refl refl h.upper_bound in
     let g = number_grown link w.numbers v refl a.low in
     record { low = g.low; longer = let m = g.longer in omega arith }
@@ -203,8 +203,8 @@ node_longer link w n h = (node_grown link w n h).longer
 is_some : (u v : Walk) → Some u ≡ Some v → u ≡ v
 is_some u v e = cc
 
-only_code : (w : Walk) (c : List Insn) → length w.code ≤ length c → IsLow w → Grown w (with_code c w)
-only_code w c l h = grown_on w (with_code c w) h l refl refl h.upper_bound
+only_code : (w : Walk) (c : List Insn) → length w.code ≤ length c → IsLow w → Grown w (with_insns c w)
+only_code w c l h = grown_on w (with_insns c w) h l refl refl h.upper_bound
 
 applied_grown : (o : Operator) (k : ℕ) (w v : Walk) → IsLow w → emit_applied o k w ≡ Some v → Grown w v
 applied_grown o k w v h e = by_taken (takes o k) e
@@ -212,8 +212,8 @@ applied_grown o k w v h e = by_taken (takes o k) e
     c : List Insn
     c = plain (computation o Constant) k ∷ w.code
 
-    by_taken : (t : Bool) → (if t then Some (with_code c w) else None) ≡ Some v → Grown w v
-    by_taken true f = subst (λ u. Grown w u) (is_some (with_code c w) v f) (only_code w c (omega arith) h)
+    by_taken : (t : Bool) → (if t then Some (with_insns c w) else None) ≡ Some v → Grown w v
+    by_taken true f = subst (λ u. Grown w u) (is_some (with_insns c w) v f) (only_code w c (omega arith) h)
     by_taken false f = cc
 
 compared_grown : (link : Link) (c : Comparison) (k : ℕ) (w v : Walk) → IsLow w → emit_compared c k (flush_group link w) ≡ Some v → Grown w v
@@ -221,7 +221,7 @@ compared_grown link c k w v h e =
     let u = flush_group link w in
     let g = settled_grown link w w.group.numbers h in
     let d = emit_comparison c Constant k u.to.yes u.to.no u.code in
-    subst (λ x. Grown w x) (is_some (with_code d u) v e) (grown_after w u (with_code d u) g (only_code u d (comparison_extends c Constant k u.to.yes u.to.no u.code).longer g.low))
+    subst (λ x. Grown w x) (is_some (with_insns d u) v e) (grown_after w u (with_insns d u) g (only_code u d (comparison_extends c Constant k u.to.yes u.to.no u.code).longer g.low))
 
 pub both_grown : (link : Link) (w v : Walk) (n m : Node) → IsLow w → emit_both_nodes link w n m ≡ Some v → Grown w v
 both_grown link w v (node.Apply o) (node.Literal k) h e = applied_grown o k w v h e
@@ -231,11 +231,11 @@ both_grown link w v (node.Compare c) (node.Named k) h e = compared_grown link c 
 both_grown link w v _ _ h e = cc
 
 -- how a walk goes on: with two nodes at once, or with one
-or_walked : (link : Link) (w u v : Walk) (o : Option Walk) (ns : List Node) → o ≡ Some v → emit_nodes link (or_else o u) ns ≡ emit_nodes link v ns
-or_walked link w u v o ns e = ap (λ x. emit_nodes link (or_else x u) ns) e
+or_walked : (link : Link) (w u v : Walk) (o : Option Walk) (ns : List Node) → o ≡ Some v → emit_nodes link (or_walk o u) ns ≡ emit_nodes link v ns
+or_walked link w u v o ns e = ap (λ x. emit_nodes link (or_walk x u) ns) e
 
-or_none : (link : Link) (u : Walk) (o : Option Walk) (ns : List Node) → o ≡ None → emit_nodes link (or_else o u) ns ≡ emit_nodes link u ns
-or_none link u o ns e = ap (λ x. emit_nodes link (or_else x u) ns) e
+or_none : (link : Link) (u : Walk) (o : Option Walk) (ns : List Node) → o ≡ None → emit_nodes link (or_walk o u) ns ≡ emit_nodes link u ns
+or_none link u o ns e = ap (λ x. emit_nodes link (or_walk x u) ns) e
 
 pub both_walked : (link : Link) (w v : Walk) (n m : Node) (ns : List Node) → emit_both_nodes link w n m ≡ Some v → emit_nodes link w (n ∷ m ∷ ns) ≡ emit_nodes link v ns
 both_walked link w v (node.Apply o) (node.Literal k) ns e = or_walked link w _ v _ ns e

@@ -33,10 +33,10 @@ use Rattle.flt_code.specs.declared.elementary.FieldTest.{FieldTest}
 use Rattle.flt_code.specs.declared.elementary.Elementary.TheVariants.{Outcome, Field}
 use Rattle.flt_bpf.specs.declared.machine.State.{State}
 use Rattle.flt_bpf.specs.declared.operation.Register.TheVariants.{Accumulator, Index}
-use Rattle.flt_bpf.specs.Machine.{field, holds, value_of, into, header_length}
-use Rattle.flt_code.specs.Elementary.{Reading, Yes, No, Rejected, reading_of, with, compares, field_at, masked, elementary_reads}
+use Rattle.flt_bpf.specs.Machine.{field, test_holds, operand_value, into, header_length}
+use Rattle.flt_code.specs.Elementary.{Reading, Yes, No, Rejected, reading_of, with, compares, field_at, under_mask, elementary_reads}
 use Rattle.flt_code.specs.Numbers.{number}
-use Rattle.flt_code.specs.Formula.{Formula, Single, Compare, Both, Either, Except, Guard, Fork, Choose, Among, is_one_of, among_reads, relation_reads, both, either, negated as exchanged, reads}
+use Rattle.flt_code.specs.Formula.{Formula, Single, Compare, Both, Either, Except, Guard, Fork, Choose, Among, is_one_of, among_reads, relation_reads, both, either, negation as exchanged, reads}
 use Rattle.flt_tree.specs.Counts.{number_words}
 use Rattle.flt_gen.specs.Counts.{words}
 use Rattle.flt_code.specs.Code.{plain, computation, constant, constant_operand, emit_base, emit_transport, emit_accessor, emit_elementary, emit_jump, emit_branch, reach, emit_comparison, emit_field, emit_mask, emit_test, emit_operands, emit_number, emit_relation, Block, at_top, emit_chain, emit_search, LEVELS, emit_among, emit_formula}
@@ -87,7 +87,7 @@ module _ (p : List ℕ) (n : ℕ) where
   past_jump : (tested : Offset) (c : List Insn) (i : Insn) (to v : ℕ) (s : State) → length s.memory ≡ 16 → Ready p n tested s.index → to ≤ length c → LeadsReady p n tested c to v → answer_of (i ∷ c) p n (length c + 1 - to) s ≡ Some v
   past_jump tested c i to v s long ready l h = (let more : length c + 1 - to ≡ suc (length c - to) = omega arith in ap (λ k. answer_of (i ∷ c) p n k s) more) ∙ h.by s long ready
 
-  branch_runs : (tested : Offset) (t : Test) (operand : Operand) (k hit miss v w : ℕ) (c : List Insn) (s : State) → length s.memory ≡ 16 → Ready p n tested s.index → hit ≤ length c → miss ≤ length c → LeadsReady p n tested c hit v → LeadsReady p n tested c miss w → answer_of (emit_branch t operand k hit miss c) p n 0 s ≡ Some (if holds t s.accumulator (value_of operand k s.index) then v else w)
+  branch_runs : (tested : Offset) (t : Test) (operand : Operand) (k hit miss v w : ℕ) (c : List Insn) (s : State) → length s.memory ≡ 16 → Ready p n tested s.index → hit ≤ length c → miss ≤ length c → LeadsReady p n tested c hit v → LeadsReady p n tested c miss w → answer_of (emit_branch t operand k hit miss c) p n 0 s ≡ Some (if test_holds t s.accumulator (operand_value operand k s.index) then v else w)
   unfolding emit_branch
   branch_runs tested t operand k hit miss v w c s long ready lh lm h m =
       by_reach Fine (reach hit miss c) t operand k hit miss c
@@ -97,7 +97,7 @@ module _ (p : List ℕ) (n : ℕ) where
       (run_branch p n t operand k 0 1 (emit_jump hit (emit_jump miss c)) s ∙ two_ways (emit_jump hit (emit_jump miss c)) _ _ v w s truth (jump_top tested (emit_jump miss c) hit v s long ready far) (jump_top tested c miss w s long ready m))
     where
       truth : Bool
-      truth = holds t s.accumulator (value_of operand k s.index)
+      truth = test_holds t s.accumulator (operand_value operand k s.index)
 
       Fine : List Insn → Type 0
       Fine d = answer_of d p n 0 s ≡ Some (if truth then v else w)
@@ -109,7 +109,7 @@ module _ (p : List ℕ) (n : ℕ) where
   past_at : (c : List Insn) (i : Insn) (to v : ℕ) (s : State) → to ≤ length c → answer_of c p n (length c - to) s ≡ Some v → answer_of (i ∷ c) p n (length c + 1 - to) s ≡ Some v
   past_at c i to v s l h = (let more : length c + 1 - to ≡ suc (length c - to) = omega arith in ap (λ k. answer_of (i ∷ c) p n k s) more) ∙ h
 
-  branch_at : (t : Test) (operand : Operand) (k hit miss v w : ℕ) (c : List Insn) (s : State) → hit ≤ length c → miss ≤ length c → answer_of c p n (length c - hit) s ≡ Some v → answer_of c p n (length c - miss) s ≡ Some w → answer_of (emit_branch t operand k hit miss c) p n 0 s ≡ Some (if holds t s.accumulator (value_of operand k s.index) then v else w)
+  branch_at : (t : Test) (operand : Operand) (k hit miss v w : ℕ) (c : List Insn) (s : State) → hit ≤ length c → miss ≤ length c → answer_of c p n (length c - hit) s ≡ Some v → answer_of c p n (length c - miss) s ≡ Some w → answer_of (emit_branch t operand k hit miss c) p n 0 s ≡ Some (if test_holds t s.accumulator (operand_value operand k s.index) then v else w)
   unfolding emit_branch
   branch_at t operand k hit miss v w c s lh lm h m =
       by_reach Fine (reach hit miss c) t operand k hit miss c
@@ -119,7 +119,7 @@ module _ (p : List ℕ) (n : ℕ) where
       (run_branch p n t operand k 0 1 (emit_jump hit (emit_jump miss c)) s ∙ two_ways (emit_jump hit (emit_jump miss c)) _ _ v w s truth (run_jump p n (length (emit_jump miss c) - hit) (emit_jump miss c) s ∙ far) (run_jump p n (length c - miss) c s ∙ m))
     where
       truth : Bool
-      truth = holds t s.accumulator (value_of operand k s.index)
+      truth = test_holds t s.accumulator (operand_value operand k s.index)
 
       Fine : List Insn → Type 0
       Fine d = answer_of d p n 0 s ≡ Some (if truth then v else w)
@@ -193,14 +193,14 @@ module _ (p : List ℕ) (n : ℕ) where
   at_most_is : (a b : ℕ) → nat_le a b ≡ not (nat_lt b a)
   at_most_is a b = grind (arith, nat_tests)
 
-  comparison_runs : (tested : Offset) (comparison : Comparison) (operand : Operand) (k hit miss v w : ℕ) (c : List Insn) (s : State) → length s.memory ≡ 16 → Ready p n tested s.index → hit ≤ length c → miss ≤ length c → LeadsReady p n tested c hit v → LeadsReady p n tested c miss w → answer_of (emit_comparison comparison operand k hit miss c) p n 0 s ≡ Some (if compares comparison s.accumulator (value_of operand k s.index) then v else w)
+  comparison_runs : (tested : Offset) (comparison : Comparison) (operand : Operand) (k hit miss v w : ℕ) (c : List Insn) (s : State) → length s.memory ≡ 16 → Ready p n tested s.index → hit ≤ length c → miss ≤ length c → LeadsReady p n tested c hit v → LeadsReady p n tested c miss w → answer_of (emit_comparison comparison operand k hit miss c) p n 0 s ≡ Some (if compares comparison s.accumulator (operand_value operand k s.index) then v else w)
   comparison_runs tested Equal operand k hit miss v w c s long ready lh lm h m = branch_runs tested test.Equal operand k hit miss v w c s long ready lh lm h m
   comparison_runs tested NotEqual operand k hit miss v w c s long ready lh lm h m =
       branch_runs tested test.Equal operand k miss hit w v c s long ready lm lh m h ∙ ap Some (exchanged_if _ _ v w refl)
   comparison_runs tested Less operand k hit miss v w c s long ready lh lm h m =
-      branch_runs tested test.AtLeast operand k miss hit w v c s long ready lm lh m h ∙ ap Some (exchanged_if _ _ v w (less_is s.accumulator (value_of operand k s.index)))
+      branch_runs tested test.AtLeast operand k miss hit w v c s long ready lm lh m h ∙ ap Some (exchanged_if _ _ v w (less_is s.accumulator (operand_value operand k s.index)))
   comparison_runs tested AtMost operand k hit miss v w c s long ready lh lm h m =
-      branch_runs tested test.Greater operand k miss hit w v c s long ready lm lh m h ∙ ap Some (exchanged_if _ _ v w (at_most_is s.accumulator (value_of operand k s.index)))
+      branch_runs tested test.Greater operand k miss hit w v c s long ready lm lh m h ∙ ap Some (exchanged_if _ _ v w (at_most_is s.accumulator (operand_value operand k s.index)))
   comparison_runs tested Greater operand k hit miss v w c s long ready lh lm h m = branch_runs tested test.Greater operand k hit miss v w c s long ready lh lm h m
   comparison_runs tested AtLeast operand k hit miss v w c s long ready lh lm h m = branch_runs tested test.AtLeast operand k hit miss v w c s long ready lh lm h m
 
@@ -209,24 +209,24 @@ module _ (p : List ℕ) (n : ℕ) where
   reading_picks true v w = refl
   reading_picks false v w = refl
 
-  masked_runs : (tested : Offset) (k : FieldTest) (hit miss v w x : ℕ) (c : List Insn) (s : State) → length s.memory ≡ 16 → Ready p n tested s.index → hit ≤ length c → miss ≤ length c → LeadsReady p n tested c hit v → LeadsReady p n tested c miss w → (mask : Option ℕ) → s.accumulator ≡ x → answer_of (emit_mask mask (emit_comparison k.comparison Constant k.value hit miss c)) p n 0 s ≡ Some (if compares k.comparison (masked mask x) k.value then v else w)
+  masked_runs : (tested : Offset) (k : FieldTest) (hit miss v w x : ℕ) (c : List Insn) (s : State) → length s.memory ≡ 16 → Ready p n tested s.index → hit ≤ length c → miss ≤ length c → LeadsReady p n tested c hit v → LeadsReady p n tested c miss w → (mask : Option ℕ) → s.accumulator ≡ x → answer_of (emit_mask mask (emit_comparison k.comparison Constant k.value hit miss c)) p n 0 s ≡ Some (if compares k.comparison (under_mask mask x) k.value then v else w)
   masked_runs tested k hit miss v w x c s long ready lh lm h m None e =
       comparison_runs tested k.comparison Constant k.value hit miss v w c s long ready lh lm h m ∙ ap (λ y. Some (if compares k.comparison y k.value then v else w)) e
   masked_runs tested k hit miss v w x c s long ready lh lm h m (Some mask) e =
       run_mask p n mask (emit_comparison k.comparison Constant k.value hit miss c) s ∙ comparison_runs tested k.comparison Constant k.value hit miss v w c (record s { accumulator = bit_and s.accumulator mask }) long ready lh lm h m ∙ ap (λ y. Some (if compares k.comparison (bit_and y mask) k.value then v else w)) e
 
   -- what loads a field ends the run where there is none
-  loaded_runs : (tested : Offset) (k : FieldTest) (hit miss v w : ℕ) (c : List Insn) (s : State) → length s.memory ≡ 16 → Ready p n tested s.index → hit ≤ length c → miss ≤ length c → LeadsReady p n tested c hit v → LeadsReady p n tested c miss w → (o : Option ℕ) → answer_after (answer_of (emit_mask k.mask (emit_comparison k.comparison Constant k.value hit miss c)) p n) (into Accumulator o s) ≡ Some (pick (reading_of (with o (λ x. Some (compares k.comparison (masked k.mask x) k.value)))) v w)
+  loaded_runs : (tested : Offset) (k : FieldTest) (hit miss v w : ℕ) (c : List Insn) (s : State) → length s.memory ≡ 16 → Ready p n tested s.index → hit ≤ length c → miss ≤ length c → LeadsReady p n tested c hit v → LeadsReady p n tested c miss w → (o : Option ℕ) → answer_after (answer_of (emit_mask k.mask (emit_comparison k.comparison Constant k.value hit miss c)) p n) (into Accumulator o s) ≡ Some (pick (reading_of (with o (λ x. Some (compares k.comparison (under_mask k.mask x) k.value)))) v w)
   loaded_runs tested k hit miss v w c s long ready lh lm h m None = refl
   loaded_runs tested k hit miss v w c s long ready lh lm h m (Some x) =
-      masked_runs tested k hit miss v w x c (record s { accumulator = x }) long ready lh lm h m k.mask refl ∙ ap Some (reading_picks (compares k.comparison (masked k.mask x) k.value) v w)
+      masked_runs tested k hit miss v w x c (record s { accumulator = x }) long ready lh lm h m k.mask refl ∙ ap Some (reading_picks (compares k.comparison (under_mask k.mask x) k.value) v w)
 
-  past_runs : (header at : ℕ) (k : FieldTest) (hit miss v w : ℕ) (c : List Insn) (s : State) → length s.memory ≡ 16 → hit ≤ length c → miss ≤ length c → LeadsReady p n (AfterHeader header at) c hit v → LeadsReady p n (AfterHeader header at) c miss w → (o : Option ℕ) → field p header Byte ≡ o → answer_after (answer_of (plain (LoadIndirect k.width) at ∷ emit_mask k.mask (emit_comparison k.comparison Constant k.value hit miss c)) p n) (into Index (option_map header_length o) s) ≡ Some (pick (reading_of (with (with (with o (λ b. Some (header_length b))) (λ x. field p ((x + at) % 2 ^ 32) k.width)) (λ x. Some (compares k.comparison (masked k.mask x) k.value)))) v w)
+  past_runs : (header at : ℕ) (k : FieldTest) (hit miss v w : ℕ) (c : List Insn) (s : State) → length s.memory ≡ 16 → hit ≤ length c → miss ≤ length c → LeadsReady p n (AfterHeader header at) c hit v → LeadsReady p n (AfterHeader header at) c miss w → (o : Option ℕ) → field p header Byte ≡ o → answer_after (answer_of (plain (LoadIndirect k.width) at ∷ emit_mask k.mask (emit_comparison k.comparison Constant k.value hit miss c)) p n) (into Index (option_map header_length o) s) ≡ Some (pick (reading_of (with (with (with o (λ b. Some (header_length b))) (λ x. field p ((x + at) % 2 ^ 32) k.width)) (λ x. Some (compares k.comparison (under_mask k.mask x) k.value)))) v w)
   past_runs header at k hit miss v w c s long lh lm h m None e = refl
   past_runs header at k hit miss v w c s long lh lm h m (Some b) e =
       run_indirect p n k.width at _ (record s { index = header_length b }) ∙ loaded_runs (AfterHeader header at) k hit miss v w c (record s { index = header_length b }) long (ap (option_map header_length) e) lh lm h m (field p ((header_length b + at) % 2 ^ 32) k.width)
 
-  field_runs : (place : Offset) (k : FieldTest) (hit miss v w : ℕ) (c : List Insn) (s : State) → length s.memory ≡ 16 → hit ≤ length c → miss ≤ length c → LeadsReady p n place c hit v → LeadsReady p n place c miss w → answer_of (emit_field place k.width (emit_mask k.mask (emit_comparison k.comparison Constant k.value hit miss c))) p n 0 s ≡ Some (pick (reading_of (with (field_at place k.width p) (λ x. Some (compares k.comparison (masked k.mask x) k.value)))) v w)
+  field_runs : (place : Offset) (k : FieldTest) (hit miss v w : ℕ) (c : List Insn) (s : State) → length s.memory ≡ 16 → hit ≤ length c → miss ≤ length c → LeadsReady p n place c hit v → LeadsReady p n place c miss w → answer_of (emit_field place k.width (emit_mask k.mask (emit_comparison k.comparison Constant k.value hit miss c))) p n 0 s ≡ Some (pick (reading_of (with (field_at place k.width p) (λ x. Some (compares k.comparison (under_mask k.mask x) k.value)))) v w)
   field_runs (Fixed at) k hit miss v w c s long lh lm h m =
       run_load p n k.width at _ s ∙ loaded_runs (Fixed at) k hit miss v w c s long tt lh lm h m (field p at k.width)
   field_runs (AfterHeader header at) k hit miss v w c s long lh lm h m =
@@ -310,16 +310,16 @@ module _ (p : List ℕ) (n : ℕ) where
   -- what may stand behind the load of a field at a place: a test that goes on where there is an answer
   record Behind (c : List Insn) : Type 0 where
     branches : Branches p n c
-    masked : MaskedBranches p n c
+    under_mask : MaskedBranches p n c
 
   branch_behind : (t : Test) (operand : Operand) (k hit miss v w : ℕ) (c : List Insn) → hit ≤ length c → miss ≤ length c → Leads p n c hit v → Leads p n c miss w → Behind (emit_branch t operand k hit miss c)
   unfolding emit_branch
   branch_behind t operand k hit miss v w c lh lm h m =
       by_reach (λ d. Behind d) (reach hit miss c) t operand k hit miss c
-      (record { branches = λ e. (settles_at c hit v h, settles_at c miss w m); masked = λ e. absurd (test_no_mask t operand e) })
-      (record { branches = λ e. (settles_jump c hit v h, settles_past c (plain Jump (length c - hit)) miss w lm m); masked = λ e. absurd (test_no_mask t operand e) })
-      (record { branches = λ e. (settles_past c (plain Jump (length c - miss)) hit v lh h, settles_jump c miss w m); masked = λ e. absurd (test_no_mask t operand e) })
-      (record { branches = λ e. (settles_jump (emit_jump miss c) hit v far, behind); masked = λ e. absurd (test_no_mask t operand e) })
+      (record { branches = λ e. (settles_at c hit v h, settles_at c miss w m); under_mask = λ e. absurd (test_no_mask t operand e) })
+      (record { branches = λ e. (settles_jump c hit v h, settles_past c (plain Jump (length c - hit)) miss w lm m); under_mask = λ e. absurd (test_no_mask t operand e) })
+      (record { branches = λ e. (settles_past c (plain Jump (length c - miss)) hit v lh h, settles_jump c miss w m); under_mask = λ e. absurd (test_no_mask t operand e) })
+      (record { branches = λ e. (settles_jump (emit_jump miss c) hit v far, behind); under_mask = λ e. absurd (test_no_mask t operand e) })
     where
       far : Leads p n (emit_jump miss c) hit v
       far = leads_on p n c (emit_jump miss c) hit v lh (extends_put c c _ (extends_none c)) h
@@ -360,7 +360,7 @@ module _ (p : List ℕ) (n : ℕ) where
 
   mask_behind : (mask : Option ℕ) (c : List Insn) → Behind c → Behind (emit_mask mask c)
   mask_behind None c h = h
-  mask_behind (Some mask) c h = record { branches = λ e. absurd (omega arith); masked = λ e. h.branches }
+  mask_behind (Some mask) c h = record { branches = λ e. absurd (omega arith); under_mask = λ e. h.branches }
 
   comparison_settled : (comparison : Comparison) (o : Operand) (k hit miss : ℕ) (c : List Insn) → Calm c → Calm (emit_comparison comparison o k hit miss c)
   comparison_settled Equal o k hit miss c z = branch_settled test.Equal o k hit miss c z
@@ -406,10 +406,10 @@ module _ (p : List ℕ) (n : ℕ) where
   unfolding emit_branch
   other_behind k hit miss c =
       by_reach (λ d. Behind d) (reach hit miss c) test.AtLeast Constant k hit miss c
-      (record { branches = λ e. absurd (omega arith); masked = λ e. absurd (omega arith) })
-      (record { branches = λ e. absurd (omega arith); masked = λ e. absurd (omega arith) })
-      (record { branches = λ e. absurd (omega arith); masked = λ e. absurd (omega arith) })
-      (record { branches = λ e. absurd (omega arith); masked = λ e. absurd (omega arith) })
+      (record { branches = λ e. absurd (omega arith); under_mask = λ e. absurd (omega arith) })
+      (record { branches = λ e. absurd (omega arith); under_mask = λ e. absurd (omega arith) })
+      (record { branches = λ e. absurd (omega arith); under_mask = λ e. absurd (omega arith) })
+      (record { branches = λ e. absurd (omega arith); under_mask = λ e. absurd (omega arith) })
 
   -- of several numbers the first test is one of their order
   search_behind : (k : ℕ) (vs : List ℕ) (hit miss v w : ℕ) (c : List Insn) → Searchable vs → hit ≤ length c → miss ≤ length c → Leads p n c hit v → Leads p n c miss w → Behind (emit_search (suc k) vs hit miss c).code
@@ -538,11 +538,11 @@ module _ (p : List ℕ) (n : ℕ) where
       (λ many. omega arith)
 
   -- a field that is looked for among numbers
-  picks_one : (o : Option ℕ) (f : MaskedField) (vs : List ℕ) (d : List Insn) (s : State) (v w : ℕ) → ((x : ℕ) → answer_of d p n 0 (record s { accumulator = masked f.mask x }) ≡ Some (if is_one_of (masked f.mask x) vs then v else w)) → answer_after (answer_of (emit_mask f.mask d) p n) (into Accumulator o s) ≡ Some (pick (reading_of (with o (λ x. Some (is_one_of (masked f.mask x) vs)))) v w)
+  picks_one : (o : Option ℕ) (f : MaskedField) (vs : List ℕ) (d : List Insn) (s : State) (v w : ℕ) → ((x : ℕ) → answer_of d p n 0 (record s { accumulator = under_mask f.mask x }) ≡ Some (if is_one_of (under_mask f.mask x) vs then v else w)) → answer_after (answer_of (emit_mask f.mask d) p n) (into Accumulator o s) ≡ Some (pick (reading_of (with o (λ x. Some (is_one_of (under_mask f.mask x) vs)))) v w)
   picks_one None f vs d s v w h = refl
-  picks_one (Some x) f vs d s v w h = masks f.mask ∙ h x ∙ ap Some (reading_picks (is_one_of (masked f.mask x) vs) v w)
+  picks_one (Some x) f vs d s v w h = masks f.mask ∙ h x ∙ ap Some (reading_picks (is_one_of (under_mask f.mask x) vs) v w)
     where
-      masks : (mask : Option ℕ) → answer_of (emit_mask mask d) p n 0 (record s { accumulator = x }) ≡ answer_of d p n 0 (record s { accumulator = masked mask x })
+      masks : (mask : Option ℕ) → answer_of (emit_mask mask d) p n 0 (record s { accumulator = x }) ≡ answer_of d p n 0 (record s { accumulator = under_mask mask x })
       masks None = refl
       masks (Some mask) = run_mask p n mask d (record s { accumulator = x })
 
@@ -551,15 +551,15 @@ module _ (p : List ℕ) (n : ℕ) where
   Finds place vs d v w =
       (s : State) → length s.memory ≡ 16 → Ready p n place s.index → answer_of d p n 0 s ≡ Some (if is_one_of s.accumulator vs then v else w)
 
-  past_picks : (header at : ℕ) (f : MaskedField) (vs : List ℕ) (d : List Insn) (s : State) (v w : ℕ) → length s.memory ≡ 16 → Finds (AfterHeader header at) vs d v w → (o : Option ℕ) → field p header Byte ≡ o → answer_after (answer_of (plain (LoadIndirect f.width) at ∷ emit_mask f.mask d) p n) (into Index (option_map header_length o) s) ≡ Some (pick (reading_of (with (with (with o (λ b. Some (header_length b))) (λ x. field p ((x + at) % 2 ^ 32) f.width)) (λ x. Some (is_one_of (masked f.mask x) vs)))) v w)
+  past_picks : (header at : ℕ) (f : MaskedField) (vs : List ℕ) (d : List Insn) (s : State) (v w : ℕ) → length s.memory ≡ 16 → Finds (AfterHeader header at) vs d v w → (o : Option ℕ) → field p header Byte ≡ o → answer_after (answer_of (plain (LoadIndirect f.width) at ∷ emit_mask f.mask d) p n) (into Index (option_map header_length o) s) ≡ Some (pick (reading_of (with (with (with o (λ b. Some (header_length b))) (λ x. field p ((x + at) % 2 ^ 32) f.width)) (λ x. Some (is_one_of (under_mask f.mask x) vs)))) v w)
   past_picks header at f vs d s v w long h None e = refl
   past_picks header at f vs d s v w long h (Some b) e =
       run_indirect p n f.width at (emit_mask f.mask d) (record s { index = header_length b })
-      ∙ picks_one (field p ((header_length b + at) % 2 ^ 32) f.width) f vs d (record s { index = header_length b }) v w (λ x. h (record s { index = header_length b; accumulator = masked f.mask x }) long (ap (option_map header_length) e))
+      ∙ picks_one (field p ((header_length b + at) % 2 ^ 32) f.width) f vs d (record s { index = header_length b }) v w (λ x. h (record s { index = header_length b; accumulator = under_mask f.mask x }) long (ap (option_map header_length) e))
 
-  field_picks : (place : Offset) (f : MaskedField) (vs : List ℕ) (d : List Insn) (s : State) (v w : ℕ) → length s.memory ≡ 16 → Finds place vs d v w → answer_of (emit_field place f.width (emit_mask f.mask d)) p n 0 s ≡ Some (pick (reading_of (with (field_at place f.width p) (λ x. Some (is_one_of (masked f.mask x) vs)))) v w)
+  field_picks : (place : Offset) (f : MaskedField) (vs : List ℕ) (d : List Insn) (s : State) (v w : ℕ) → length s.memory ≡ 16 → Finds place vs d v w → answer_of (emit_field place f.width (emit_mask f.mask d)) p n 0 s ≡ Some (pick (reading_of (with (field_at place f.width p) (λ x. Some (is_one_of (under_mask f.mask x) vs)))) v w)
   field_picks (Fixed at) f vs d s v w long h =
-      run_load p n f.width at (emit_mask f.mask d) s ∙ picks_one (field p at f.width) f vs d s v w (λ x. h (record s { accumulator = masked f.mask x }) long tt)
+      run_load p n f.width at (emit_mask f.mask d) s ∙ picks_one (field p at f.width) f vs d s v w (λ x. h (record s { accumulator = under_mask f.mask x }) long tt)
   field_picks (AfterHeader header at) f vs d s v w long h =
       run_header p n header (plain (LoadIndirect f.width) at ∷ emit_mask f.mask d) s ∙ past_picks header at f vs d s v w long h (field p header Byte) refl
 

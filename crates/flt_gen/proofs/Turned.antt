@@ -10,7 +10,7 @@ use Rattle.flt_tree.specs.Machine.{expr_onto}
 use Rattle.flt_lang.proofs.NodesBack.{expr_turned}
 use Rattle.cap_octet.specs.declared.link.Link.{Link}
 use Rattle.flt_gen.specs.ProgramCode.{expression_code, program_code}
-use Rattle.flt_gen.specs.Walk.{Walk, emit_node, emit_both_nodes, emit_nodes, start, insns_of}
+use Rattle.flt_gen.specs.Walk.{Walk, emit_node, emit_both_nodes, emit_nodes, start_walk, insns_of}
 use Rattle.flt_gen.proofs.Walking.{expression_walked}
 use Rattle.flt_gen.proofs.Room.{IsLow, node_low, both_grown, walked_longer, both_walked, one_walked, last_walked}
 use Rattle.flt_gen.proofs.Whole.{Fits}
@@ -18,29 +18,29 @@ use Rattle.flt_gen.proofs.Whole.{Fits}
 nodes_turned : (e : Expression) (ns : List Node) → ns ≡ expr_nodes e → reverse ns ≡ expr_onto e
 nodes_turned e ns h = ap reverse (h ∙ sym (expr_turned e)) ∙ reverse-reverse (expr_onto e)
 
-pub walk_is : (link : Link) (e : Expression) (ns : List Node) → ns ≡ expr_nodes e → emit_nodes link start (reverse ns) ≡ emit_nodes link start (expr_onto e)
-walk_is link e ns h = ap (emit_nodes link start) (nodes_turned e ns h)
+pub walk_is : (link : Link) (e : Expression) (ns : List Node) → ns ≡ expr_nodes e → emit_nodes link start_walk (reverse ns) ≡ emit_nodes link start_walk (expr_onto e)
+walk_is link e ns h = ap (emit_nodes link start_walk) (nodes_turned e ns h)
 
-pub room_is : (link : Link) (e : Expression) (ns : List Node) → ns ≡ expr_nodes e → Fits link e → length (emit_nodes link start (reverse ns)).code ≤ 32768
+pub room_is : (link : Link) (e : Expression) (ns : List Node) → ns ≡ expr_nodes e → Fits link e → length (emit_nodes link start_walk (reverse ns)).code ≤ 32768
 room_is link e ns h f =
     let w = walk_is link e ns h in
     let d = (expression_walked link e).code in
-    let n : length (emit_nodes link start (reverse ns)).code ≡ length (expression_code link e).code = ap (λ (x : Walk). length x.code) w ∙ ap length d in
+    let n : length (emit_nodes link start_walk (reverse ns)).code ≡ length (expression_code link e).code = ap (λ (x : Walk). length x.code) w ∙ ap length d in
     omega (arith, f.room)
 
-pub inside_is : (link : Link) (e : Expression) (ns : List Node) → ns ≡ expr_nodes e → Fits link e → (emit_nodes link start (reverse ns)).to.yes ≤ length (emit_nodes link start (reverse ns)).code
+pub inside_is : (link : Link) (e : Expression) (ns : List Node) → ns ≡ expr_nodes e → Fits link e → (emit_nodes link start_walk (reverse ns)).to.yes ≤ length (emit_nodes link start_walk (reverse ns)).code
 inside_is link e ns h f =
     let w = walk_is link e ns h in
     let d = (expression_walked link e).code in
     let y = (expression_walked link e).entry in
-    let n : length (emit_nodes link start (reverse ns)).code ≡ length (expression_code link e).code = ap (λ (x : Walk). length x.code) w ∙ ap length d in
-    let m : (emit_nodes link start (reverse ns)).to.yes ≡ (expression_code link e).entry = ap (λ (x : Walk). x.to.yes) w ∙ y in
+    let n : length (emit_nodes link start_walk (reverse ns)).code ≡ length (expression_code link e).code = ap (λ (x : Walk). length x.code) w ∙ ap length d in
+    let m : (emit_nodes link start_walk (reverse ns)).to.yes ≡ (expression_code link e).entry = ap (λ (x : Walk). x.to.yes) w ∙ y in
     omega (arith, f.inside)
 
 -- the instructions are those of the expression's program
-pub program_is : (link : Link) (e : Expression) (ns : List Node) → ns ≡ expr_nodes e → insns_of (emit_nodes link start (reverse ns)) ≡ program_code link e
+pub program_is : (link : Link) (e : Expression) (ns : List Node) → ns ≡ expr_nodes e → insns_of (emit_nodes link start_walk (reverse ns)) ≡ program_code link e
 program_is link e ns h =
-    let x = emit_nodes link start (expr_onto e) in
+    let x = emit_nodes link start_walk (expr_onto e) in
     let c = (expression_walked link e).code in
     let y = (expression_walked link e).entry in
     ap insns_of (walk_is link e ns h)
@@ -79,39 +79,39 @@ last_node link ns (suc k) other w within e =
 -- a walk that has so many of the nodes in front of it, and room for them
 pub record Stands (link : Link) (ns : List Node) (m : ℕ) (w : Walk) : Type 0 where
   pub within : m ≤ length ns
-  pub same : emit_nodes link w (reverse (take m ns)) ≡ emit_nodes link start (reverse ns)
+  pub same : emit_nodes link w (reverse (take m ns)) ≡ emit_nodes link start_walk (reverse ns)
   pub low : IsLow w
   pub slots : w.slot ≤ 32768
   pub some : length w.group.numbers ≤ 4096
   pub code : length w.code ≤ 32768
 
-pub stands : (link : Link) (ns : List Node) (m : ℕ) (w : Walk) → length (emit_nodes link start (reverse ns)).code ≤ 32768 → m ≤ length ns → emit_nodes link w (reverse (take m ns)) ≡ emit_nodes link start (reverse ns) → IsLow w → Stands link ns m w
+pub stands : (link : Link) (ns : List Node) (m : ℕ) (w : Walk) → length (emit_nodes link start_walk (reverse ns)).code ≤ 32768 → m ≤ length ns → emit_nodes link w (reverse (take m ns)) ≡ emit_nodes link start_walk (reverse ns) → IsLow w → Stands link ns m w
 stands link ns m w room within same low =
     let r = walked_longer link w (reverse (take m ns)) low in
-    let q : length (emit_nodes link w (reverse (take m ns))).code ≡ length (emit_nodes link start (reverse ns)).code = ap (λ (x : Walk). length x.code) same in
+    let q : length (emit_nodes link w (reverse (take m ns))).code ≡ length (emit_nodes link start_walk (reverse ns)).code = ap (λ (x : Walk). length x.code) same in
     let s = low.slot in
     record { within = within; same = same; low = low; slots = omega arith; some = low.upper_bound; code = omega arith }
 
 -- behind one node more
-one_stands : (link : Link) (ns : List Node) (j : ℕ) (other : Node) (w : Walk) → length (emit_nodes link start (reverse ns)).code ≤ 32768 → Stands link ns (suc j) w → both_last link ns j other w ≡ None → Stands link ns j (emit_node link w (get_or ns j other))
+one_stands : (link : Link) (ns : List Node) (j : ℕ) (other : Node) (w : Walk) → length (emit_nodes link start_walk (reverse ns)).code ≤ 32768 → Stands link ns (suc j) w → both_last link ns j other w ≡ None → Stands link ns j (emit_node link w (get_or ns j other))
 one_stands link ns j other w room h e =
     let l = h.within in
     stands link ns j (emit_node link w (get_or ns j other)) room (omega arith) (sym (last_node link ns j other w (omega arith) e) ∙ h.same) (node_low link w (get_or ns j other) h.low)
 
-pub first_stands : (link : Link) (ns : List Node) (m : ℕ) (other : Node) (w : Walk) → length (emit_nodes link start (reverse ns)).code ≤ 32768 → Stands link ns m w → 0 < m → m - 1 ≡ 0 → Stands link ns (m - 1) (emit_node link w (get_or ns (m - 1) other))
+pub first_stands : (link : Link) (ns : List Node) (m : ℕ) (other : Node) (w : Walk) → length (emit_nodes link start_walk (reverse ns)).code ≤ 32768 → Stands link ns m w → 0 < m → m - 1 ≡ 0 → Stands link ns (m - 1) (emit_node link w (get_or ns (m - 1) other))
 first_stands link ns zero other w room h some first = absurd (omega arith)
 first_stands link ns (suc zero) other w room h some first = one_stands link ns zero other w room h refl
 first_stands link ns (suc (suc k)) other w room h some first = absurd (omega arith)
 
-pub node_stands : (link : Link) (ns : List Node) (m : ℕ) (other : Node) (w : Walk) → length (emit_nodes link start (reverse ns)).code ≤ 32768 → Stands link ns m w → 0 < m - 1 → emit_both_nodes link w (get_or ns (m - 1) other) (get_or ns (m - 1 - 1) other) ≡ None → Stands link ns (m - 1) (emit_node link w (get_or ns (m - 1) other))
+pub node_stands : (link : Link) (ns : List Node) (m : ℕ) (other : Node) (w : Walk) → length (emit_nodes link start_walk (reverse ns)).code ≤ 32768 → Stands link ns m w → 0 < m - 1 → emit_both_nodes link w (get_or ns (m - 1) other) (get_or ns (m - 1 - 1) other) ≡ None → Stands link ns (m - 1) (emit_node link w (get_or ns (m - 1) other))
 node_stands link ns m other w room h some e =
     let up : m ≡ suc (m - 1) = omega arith in
     one_stands link ns (m - 1) other w room (subst (λ j. Stands link ns j w) up h) (last_is link ns (m - 1) other w some ∙ e)
 
 -- behind two nodes more, at once
-pub both_stand : (link : Link) (ns : List Node) (m : ℕ) (other : Node) (w v : Walk) → length (emit_nodes link start (reverse ns)).code ≤ 32768 → Stands link ns m w → 0 < m - 1 → emit_both_nodes link w (get_or ns (m - 1) other) (get_or ns (m - 1 - 1) other) ≡ Some v → Stands link ns (m - 1 - 1) v
+pub both_stand : (link : Link) (ns : List Node) (m : ℕ) (other : Node) (w v : Walk) → length (emit_nodes link start_walk (reverse ns)).code ≤ 32768 → Stands link ns m w → 0 < m - 1 → emit_both_nodes link w (get_or ns (m - 1) other) (get_or ns (m - 1 - 1) other) ≡ Some v → Stands link ns (m - 1 - 1) v
 both_stand link ns m other w v room h some e =
     let up : m ≡ suc (m - 1) = omega arith in
     let l = h.within in
-    let at = subst (λ j. emit_nodes link w (reverse (take j ns)) ≡ emit_nodes link start (reverse ns)) up h.same in
+    let at = subst (λ j. emit_nodes link w (reverse (take j ns)) ≡ emit_nodes link start_walk (reverse ns)) up h.same in
     stands link ns (m - 1 - 1) v room (omega arith) (sym (last_both link ns (m - 1) other w v (omega arith) (last_is link ns (m - 1) other w some ∙ e)) ∙ at) (both_grown link w v (get_or ns (m - 1) other) (get_or ns (m - 1 - 1) other) h.low e).low

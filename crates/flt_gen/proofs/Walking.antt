@@ -24,7 +24,7 @@ use Rattle.flt_gen.specs.Reading.{formula}
 use Rattle.flt_code.specs.Follow.{nothing}
 use Rattle.flt_code.specs.Code.{plain, computation, takes, emit_comparison, emit_operands, emit_right, emit_number, Block, emit_formula}
 use Rattle.flt_gen.specs.ProgramCode.{emit_accessors, expression_code}
-use Rattle.flt_gen.specs.Walk.{Walk, targets, finish_truth, finish_number, with_code, finish_formula, flush_members, flush_group, emit_value, emit_truth_node, emit_node, or_else, start, emit_nodes}
+use Rattle.flt_gen.specs.Walk.{Walk, targets, finish_truth, finish_number, with_insns, finish_formula, flush_members, flush_group, emit_value, emit_truth_node, emit_node, or_walk, start_walk, emit_nodes}
 use Rattle.flt_gen.proofs.Joined.{checked_emitted}
 
 -- a number's code and accessors are put
@@ -32,7 +32,7 @@ abbrev with_number : Link → NumberTree → Walk → Walk
 with_number link a w = record w { code = emit_number link a w.slot w.code; accessors = accessors a w.accessors }
 
 -- an operator whose right operand is a constant, which its instruction may have or not
-constant_walked : (link : Link) (o : Operator) (k : ℕ) (a : NumberTree) (w : Walk) (d : List Node) → ((v : Walk) → emit_nodes link v (number_onto a d) ≡ emit_nodes link (finish_number link v.numbers (with_number link a v)) d) → (t : Bool) → emit_nodes link (or_else (if t then Some (with_code (plain (computation o Constant) k ∷ w.code) w) else None) (emit_node link (emit_node link w (Apply o)) (Literal k))) (number_onto a d) ≡ emit_nodes link (finish_number link w.numbers (record w { code = emit_number link a w.slot (emit_right (if t then Some k else None) w.slot (λ j. plain (computation o Constant) j ∷ w.code) (emit_number link (literal k) (w.slot + 1) (emit_operands w.slot (plain (computation o IndexRegister) 0 ∷ w.code)))); accessors = accessors a w.accessors })) d
+constant_walked : (link : Link) (o : Operator) (k : ℕ) (a : NumberTree) (w : Walk) (d : List Node) → ((v : Walk) → emit_nodes link v (number_onto a d) ≡ emit_nodes link (finish_number link v.numbers (with_number link a v)) d) → (t : Bool) → emit_nodes link (or_walk (if t then Some (with_insns (plain (computation o Constant) k ∷ w.code) w) else None) (emit_node link (emit_node link w (Apply o)) (Literal k))) (number_onto a d) ≡ emit_nodes link (finish_number link w.numbers (record w { code = emit_number link a w.slot (emit_right (if t then Some k else None) w.slot (λ j. plain (computation o Constant) j ∷ w.code) (emit_number link (literal k) (w.slot + 1) (emit_operands w.slot (plain (computation o IndexRegister) 0 ∷ w.code)))); accessors = accessors a w.accessors })) d
 constant_walked link o k a w d left true = left _
 constant_walked link o k a w d left false = left _
 
@@ -72,8 +72,8 @@ value_walked link q v c to ts group true (Some more) (inr e) = cc
 
 -- a comparison behind the group that waits: a constant that is its right operand is in the test
 abbrev comparison_walked : Link → Comparison → NumberTree → Walk → List Node → Walk
-comparison_walked link k (literal j) w d = emit_nodes link (with_code (emit_comparison k Constant j w.to.yes w.to.no w.code) w) d
-comparison_walked link k (named j) w d = emit_nodes link (with_code (emit_comparison k Constant j w.to.yes w.to.no w.code) w) d
+comparison_walked link k (literal j) w d = emit_nodes link (with_insns (emit_comparison k Constant j w.to.yes w.to.no w.code) w) d
+comparison_walked link k (named j) w d = emit_nodes link (with_insns (emit_comparison k Constant j w.to.yes w.to.no w.code) w) d
 comparison_walked link k b w d = emit_nodes link (emit_truth_node link w (Compare k)) (number_onto b d)
 
 compare_walked : (link : Link) (k : Comparison) (b : NumberTree) (w : Walk) (d : List Node) → emit_nodes link w (Compare k ∷ number_onto b d) ≡ comparison_walked link k b (flush_group link w) d
@@ -159,8 +159,8 @@ pub record Ends (w : Walk) (e : Block) : Type 0 where
   pub code : w.code ≡ e.code
   pub entry : w.to.yes ≡ e.entry
 
-pub expression_walked : (link : Link) (e : Expression) → Ends (emit_nodes link start (expr_onto e)) (expression_code link e)
+pub expression_walked : (link : Link) (e : Expression) → Ends (emit_nodes link start_walk (expr_onto e)) (expression_code link e)
 expression_walked link empty = record { code = refl; entry = refl }
 expression_walked link (truth a) =
-    let h = truth_walked link a no_group false (inl refl) start.code start.to [] [] in
+    let h = truth_walked link a no_group false (inl refl) start_walk.code start_walk.to [] [] in
     record { code = ap (λ (w : Walk). w.code) h; entry = ap (λ (w : Walk). w.to.yes) h }

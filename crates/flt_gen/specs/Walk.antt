@@ -87,8 +87,8 @@ finish_number link (Left slot ∷ ns) w = record w {
 }
 
 -- code of a number is emitted in front
-abbrev pub with_code : List Insn → Walk → Walk
-with_code c w = record w { code = c }
+abbrev pub with_insns : List Insn → Walk → Walk
+with_insns c w = record w { code = c }
 
 -- a right operand is next, and the left one waits; the code behind them finds both
 abbrev pub begin_operands : ℕ → List Insn → Walk → Walk
@@ -148,16 +148,16 @@ abbrev pub emit_node : Link → Walk → Node → Walk
 emit_node link w (node.Join join) = emit_join link join w
 emit_node link w (node.Qualified quals v) = emit_value link quals v w (larger_group quals v w.group)
 emit_node link w (node.Literal n) =
-    finish_number link w.numbers (with_code (plain (Load Accumulator Immediate) n ∷ w.code) w)
+    finish_number link w.numbers (with_insns (plain (Load Accumulator Immediate) n ∷ w.code) w)
 emit_node link w (node.Named n) =
-    finish_number link w.numbers (with_code (plain (Load Accumulator Immediate) n ∷ w.code) w)
+    finish_number link w.numbers (with_insns (plain (Load Accumulator Immediate) n ∷ w.code) w)
 emit_node link w node.Len =
-    finish_number link w.numbers (with_code (plain (Load Accumulator Length) 0 ∷ w.code) w)
+    finish_number link w.numbers (with_insns (plain (Load Accumulator Length) 0 ∷ w.code) w)
 emit_node link w (node.Load protocol size) = record w {
   code = emit_accessor link protocol (width_of size) w.code;
   numbers = Index protocol ∷ w.numbers;
 }
-emit_node link w node.Negate = with_code (plain Negate 0 ∷ w.code) w
+emit_node link w node.Negate = with_insns (plain Negate 0 ∷ w.code) w
 emit_node link w (node.Apply operator) =
     begin_operands w.slot (plain (computation operator IndexRegister) 0 ∷ w.code) w
 emit_node link w (node.Check protocol) =
@@ -177,12 +177,12 @@ emit_node link w node.Not = emit_truth_node link (flush_group link w) node.Not
 abbrev pub emit_applied : Operator → ℕ → Walk → Option Walk
 emit_applied operator k w =
     if takes operator k
-    then Some (with_code (plain (computation operator Constant) k ∷ w.code) w)
+    then Some (with_insns (plain (computation operator Constant) k ∷ w.code) w)
     else None
 
 abbrev pub emit_compared : Comparison → ℕ → Walk → Option Walk
 emit_compared comparison k w =
-    Some (with_code (emit_comparison comparison Constant k w.to.yes w.to.no w.code) w)
+    Some (with_insns (emit_comparison comparison Constant k w.to.yes w.to.no w.code) w)
 
 -- such a node and the one before it, or none where they aren't emitted at once
 abbrev pub emit_both_nodes : Link → Walk → Node → Node → Option Walk
@@ -216,8 +216,8 @@ is_truth_node node.Not = true
 is_truth_node _ = false
 
 -- the two returns are there, and nothing waits
-abbrev pub start : Walk
-start = record {
+abbrev pub start_walk : Walk
+start_walk = record {
   code = returns_code;
   to = targets 2 1;
   slot = 0;
@@ -228,14 +228,14 @@ start = record {
   chained = false;
 }
 
-abbrev pub or_else : Option Walk → Walk → Walk
-or_else (Some v) w = v
-or_else None w = w
+abbrev pub or_walk : Option Walk → Walk → Walk
+or_walk (Some v) w = v
+or_walk None w = w
 
 -- two nodes, at once or one after the other
 abbrev pub emit_pair : Link → Walk → Node → Node → Walk
 emit_pair link w n right =
-    or_else (emit_both_nodes link w n right) (emit_node link (emit_node link w n) right)
+    or_walk (emit_both_nodes link w n right) (emit_node link (emit_node link w n) right)
 
 -- the walk over nodes, the last first
 abbrev pub emit_nodes : Link → Walk → List Node → Walk

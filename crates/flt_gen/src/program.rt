@@ -4,7 +4,7 @@ ghost use Rattle.std.specs.Prelude.{◌≡◌, ◌≤◌, length, IfOk, reverse}
 ghost use Rattle.flt_gen.specs.Correct.{IsProgramOf};
 ghost use Rattle.flt_gen.specs.Counts.{short_bound_of};
 ghost use Rattle.flt_short.specs.Layout.{JumpsAreNeeded, IsShort};
-ghost use Rattle.flt_gen.specs.Walk.{emit_nodes, start, insns_of};
+ghost use Rattle.flt_gen.specs.Walk.{emit_nodes, start_walk, insns_of};
 
 use crate::walk::Walk;
 use cap_octet::Link;
@@ -20,11 +20,11 @@ fn program_insns<A: Allocator + Clone>(
     nodes: &[Node],
     link: Link,
 ) -> Result<Vec<Insn, A>, AllocError>
-    requires room { length (emit_nodes link start (reverse nodes.now)).code ≤ 32768 }
-    requires inside { (emit_nodes link start (reverse nodes.now)).to.yes
-        ≤ length (emit_nodes link start (reverse nodes.now)).code }
+    requires room { length (emit_nodes link start_walk (reverse nodes.now)).code ≤ 32768 }
+    requires inside { (emit_nodes link start_walk (reverse nodes.now)).to.yes
+        ≤ length (emit_nodes link start_walk (reverse nodes.now)).code }
     ensures { IfOk result
-        (λ insns. insns.items ≡ insns_of (emit_nodes link start (reverse nodes.now))) }
+        (λ insns. insns.items ≡ insns_of (emit_nodes link start_walk (reverse nodes.now))) }
 {
     let mut walk = Walk::new(alloc)?;
     let mut left = nodes.len();

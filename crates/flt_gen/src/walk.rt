@@ -7,7 +7,7 @@ ghost use Rattle.std.specs.Prelude.{if◌then◌else◌};
 ghost use Rattle.flt_gen.specs.Group.{larger_group};
 ghost use Rattle.flt_code.specs.Code.{block};
 ghost use Rattle.flt_code.specs.Emits.{HasRoom};
-ghost use Rattle.flt_gen.specs.Walk.{start, finish_truth, finish_relation, finish_number};
+ghost use Rattle.flt_gen.specs.Walk.{start_walk, finish_truth, finish_relation, finish_number};
 ghost use Rattle.flt_gen.specs.Walk.{is_number_node, is_truth_node, begin_operands, flush_group};
 ghost use Rattle.flt_gen.specs.Walk.{finish_group, emit_value, emit_join, emit_truth_node};
 ghost use Rattle.flt_gen.specs.Walk.{emit_node, insns_of, emit_applied, emit_compared};
@@ -359,7 +359,7 @@ impl<A: Allocator> Walk<A> {
 impl<A: Allocator + Clone> Walk<A> {
     /// The two returns: a packet is kept, or it isn't.
     pub fn new(alloc: A) -> Result<Self, AllocError>
-        ensures { IfOk result (λ walk. walk ≡ start) }
+        ensures { IfOk result (λ walk. walk ≡ start_walk) }
     {
         let truths = Stack::new(alloc.clone()?);
         let numbers = Stack::new(alloc.clone()?);

@@ -9,7 +9,7 @@ use Rattle.flt_tree.specs.declared.node.Node.{Node}
 use Rattle.flt_tree.specs.Tree.{TruthTree, check, cast, sized, bare, valued, qualified, compared, denied, joined, Expression, empty, truth}
 use Rattle.flt_tree.specs.Nodes.{tree_of, IsTree}
 use Rattle.flt_tree.specs.Fits.{fit_of, is_misfit_fit, is_proto, is_either}
-use Rattle.flt_tree.specs.Filled.{type_or_host, full, latest, inherited, completed, only_host, expr_inherited, filled, inherited_nodes}
+use Rattle.flt_tree.specs.Filled.{type_or_host, full, latest, with_inherited, complete, only_host, expr_inherited, fill_expression, inherited_nodes}
 use Rattle.flt_tree.specs.Resolved.{is_misfit, is_out_of_range, has_past_bits, is_unfilled, any_primitive, some_primitive, first_fault, fill_fault, IsResolved, nodes_fault}
 use Rattle.flt_lang.proofs.Filling.{inherited_whole}
 use Rattle.flt_lang.proofs.Primitives.{fault_is}
@@ -23,7 +23,7 @@ either_false true b h i = cc
 either_false false b h i = i
 
 -- what holds of no primitive holds of none of the completed tree
-completed_keeps : (f : TruthTree → Bool) → ((q : Quals) (v : Value) → f (valued q v) ≡ false → f (qualified (full q) v) ≡ false) → (a : TruthTree) → any_primitive f a ≡ false → any_primitive f (completed a) ≡ false
+completed_keeps : (f : TruthTree → Bool) → ((q : Quals) (v : Value) → f (valued q v) ≡ false → f (qualified (full q) v) ≡ false) → (a : TruthTree) → any_primitive f a ≡ false → any_primitive f (complete a) ≡ false
 completed_keeps f keeps (check p) h = h
 completed_keeps f keeps (cast p c) h = h
 completed_keeps f keeps (sized s n) h = h
@@ -34,11 +34,11 @@ completed_keeps f keeps (compared c a b) h = h
 completed_keeps f keeps (denied a) h = completed_keeps f keeps a h
 completed_keeps f keeps (joined j a b) h =
     let (left, right) = both_false (any_primitive f a) (any_primitive f b) h in
-    either_false (any_primitive f (completed a)) (any_primitive f (completed b)) (completed_keeps f keeps a left) (completed_keeps f keeps b right)
+    either_false (any_primitive f (complete a)) (any_primitive f (complete b)) (completed_keeps f keeps a left) (completed_keeps f keeps b right)
 
-filled_keeps : (f : TruthTree → Bool) → ((q : Quals) (v : Value) → f (valued q v) ≡ false → f (qualified (full q) v) ≡ false) → (e : Expression) → some_primitive f (expr_inherited e) ≡ false → some_primitive f (filled e) ≡ false
+filled_keeps : (f : TruthTree → Bool) → ((q : Quals) (v : Value) → f (valued q v) ≡ false → f (qualified (full q) v) ≡ false) → (e : Expression) → some_primitive f (expr_inherited e) ≡ false → some_primitive f (fill_expression e) ≡ false
 filled_keeps f keeps empty h = h
-filled_keeps f keeps (truth a) h = completed_keeps f keeps (inherited only_host a) h
+filled_keeps f keeps (truth a) h = completed_keeps f keeps (with_inherited only_host a) h
 
 -- no direction that is written is one that is filled in
 undirected : (x t : Bool) (d : Option Direction) → (x || t && is_some d) ≡ false → (x || t && not (is_either (unwrap_or d (direction.Both join.Or)))) ≡ false
@@ -48,7 +48,7 @@ undirected false true (Some d) h = cc
 undirected false false (Some d) h = refl
 
 -- no bare value is left
-none_bare : (q : Quals) (a : TruthTree) → any_primitive is_unfilled (completed (inherited q a)) ≡ false
+none_bare : (q : Quals) (a : TruthTree) → any_primitive is_unfilled (complete (with_inherited q a)) ≡ false
 none_bare q (check p) = refl
 none_bare q (cast p c) = refl
 none_bare q (sized s n) = refl
@@ -59,7 +59,7 @@ none_bare q (compared c a b) = refl
 none_bare q (denied a) = none_bare q a
 none_bare q (joined j a b) = either_false _ _ (none_bare q a) (none_bare (latest q a) b)
 
-none_bare_of : (e : Expression) → some_primitive is_unfilled (filled e) ≡ false
+none_bare_of : (e : Expression) → some_primitive is_unfilled (fill_expression e) ≡ false
 none_bare_of empty = refl
 none_bare_of (truth a) = none_bare only_host a
 
@@ -70,7 +70,7 @@ no_fault false true p h = cc
 no_fault false false true h = cc
 no_fault false false false h = (refl, refl, refl)
 
-pub filled_resolved : (e : Expression) → fill_fault e ≡ None → IsResolved (filled e)
+pub filled_resolved : (e : Expression) → fill_fault e ≡ None → IsResolved (fill_expression e)
 filled_resolved e h =
     let (m, r, p) = no_fault (some_primitive is_misfit (expr_inherited e)) (some_primitive is_out_of_range (expr_inherited e)) (some_primitive has_past_bits (expr_inherited e)) h in
     record {

@@ -4,7 +4,7 @@ use Rattle.flt_tree.specs.declared.quals.Quals.{Quals}
 use Rattle.flt_tree.specs.declared.node.Node.{Node}
 use Rattle.flt_tree.specs.Tree.{NumberTree, literal, len, named, load, negated, applied, TruthTree, check, cast, sized, bare, valued, qualified, compared, denied, joined, Expression, empty, truth}
 use Rattle.flt_tree.specs.Nodes.{number_nodes, truth_nodes, expr_nodes, tree_of, tree_back, IsTree}
-use Rattle.flt_tree.specs.Filled.{latest, inherited, completed, only_host, expr_inherited, filled, inherited_nodes, completed_node}
+use Rattle.flt_tree.specs.Filled.{latest, with_inherited, complete, only_host, expr_inherited, fill_expression, inherited_nodes, completed_node}
 
 number_inherited : (a : NumberTree) (q : Quals) (rest : List Node) → inherited_nodes q (number_nodes a rest) ≡ number_nodes a (inherited_nodes q rest)
 number_inherited (literal n) q rest = refl
@@ -14,7 +14,7 @@ number_inherited (load p s a) q rest = number_inherited a q _
 number_inherited (negated a) q rest = number_inherited a q _
 number_inherited (applied o a b) q rest = number_inherited a q _ ∙ ap (number_nodes a) (number_inherited b q _)
 
-truth_inherited : (a : TruthTree) (q : Quals) (rest : List Node) → inherited_nodes q (truth_nodes a rest) ≡ truth_nodes (inherited q a) (inherited_nodes (latest q a) rest)
+truth_inherited : (a : TruthTree) (q : Quals) (rest : List Node) → inherited_nodes q (truth_nodes a rest) ≡ truth_nodes (with_inherited q a) (inherited_nodes (latest q a) rest)
 truth_inherited (check p) q rest = refl
 truth_inherited (cast p c) q rest = refl
 truth_inherited (sized s n) q rest = refl
@@ -23,7 +23,7 @@ truth_inherited (valued p v) q rest = refl
 truth_inherited (qualified p v) q rest = refl
 truth_inherited (compared c a b) q rest = number_inherited a q _ ∙ ap (number_nodes a) (number_inherited b q _)
 truth_inherited (denied a) q rest = truth_inherited a q _
-truth_inherited (joined j a b) q rest = truth_inherited a q _ ∙ ap (truth_nodes (inherited q a)) (truth_inherited b (latest q a) _)
+truth_inherited (joined j a b) q rest = truth_inherited a q _ ∙ ap (truth_nodes (with_inherited q a)) (truth_inherited b (latest q a) _)
 
 expr_is_inherited : (e : Expression) → inherited_nodes only_host (expr_nodes e) ≡ expr_nodes (expr_inherited e)
 expr_is_inherited empty = refl
@@ -37,7 +37,7 @@ number_completed (load p s a) rest = number_completed a _
 number_completed (negated a) rest = number_completed a _
 number_completed (applied o a b) rest = number_completed a _ ∙ ap (number_nodes a) (number_completed b _)
 
-truth_completed : (a : TruthTree) (rest : List Node) → map completed_node (truth_nodes a rest) ≡ truth_nodes (completed a) (map completed_node rest)
+truth_completed : (a : TruthTree) (rest : List Node) → map completed_node (truth_nodes a rest) ≡ truth_nodes (complete a) (map completed_node rest)
 truth_completed (check p) rest = refl
 truth_completed (cast p c) rest = refl
 truth_completed (sized s n) rest = refl
@@ -46,17 +46,17 @@ truth_completed (valued q v) rest = refl
 truth_completed (qualified q v) rest = refl
 truth_completed (compared c a b) rest = number_completed a _ ∙ ap (number_nodes a) (number_completed b _)
 truth_completed (denied a) rest = truth_completed a _
-truth_completed (joined j a b) rest = truth_completed a _ ∙ ap (truth_nodes (completed a)) (truth_completed b _)
+truth_completed (joined j a b) rest = truth_completed a _ ∙ ap (truth_nodes (complete a)) (truth_completed b _)
 
-expr_completed : (e : Expression) → map completed_node (expr_nodes (expr_inherited e)) ≡ expr_nodes (filled e)
+expr_completed : (e : Expression) → map completed_node (expr_nodes (expr_inherited e)) ≡ expr_nodes (fill_expression e)
 expr_completed empty = refl
-expr_completed (truth a) = truth_completed (inherited only_host a) []
+expr_completed (truth a) = truth_completed (with_inherited only_host a) []
 
 -- of a whole tree
 pub inherited_whole : (items news : List Node) → IsTree items → news ≡ inherited_nodes only_host items → news ≡ expr_nodes (expr_inherited (tree_of items))
 inherited_whole items news whole same = same ∙ ap (inherited_nodes only_host) (sym whole) ∙ expr_is_inherited (tree_of items)
 
-pub filled_whole : (items mid news : List Node) → IsTree items → mid ≡ inherited_nodes only_host items → news ≡ map completed_node mid → news ≡ expr_nodes (filled (tree_of items))
+pub filled_whole : (items mid news : List Node) → IsTree items → mid ≡ inherited_nodes only_host items → news ≡ map completed_node mid → news ≡ expr_nodes (fill_expression (tree_of items))
 filled_whole items mid news whole inherits completes = completes ∙ ap (map completed_node) (inherited_whole items mid whole inherits) ∙ expr_completed (tree_of items)
 
 -- the nodes of a tree are that tree

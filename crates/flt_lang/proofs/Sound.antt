@@ -12,7 +12,7 @@ use Rattle.flt_tree.specs.declared.reading.frame.Operand.{Operand}
 use Rattle.flt_tree.specs.declared.reading.frame.Operand.TheVariants as operand
 use Rattle.flt_tree.specs.Tree.{literal, load, Expression, empty, truth}
 use Rattle.flt_tree.specs.Values.{no_mask, prefix, number}
-use Rattle.flt_tree.specs.Grammar.{level, Number, of_literal, enclosed, of_load, of_sized_load, single, chain, Truth, of_bare, enclosed_truth, term, Reads, no_tokens, all_tokens}
+use Rattle.flt_tree.specs.Grammar.{level, Number, of_literal, enclosed, of_load, of_sized_load, single, chain, Truth, of_bare, enclosed_truth, term, IsReadAs, no_tokens, all_tokens}
 use Rattle.flt_tree.specs.Machine.{◌>>=◌, truth_onto, expr_onto, operand_precedence, token_precedence, next_precedence, as_number, as_truth, reduce, Begun, after_token, begin, whole, finish, run, all_run, enclosed_operand, next_of, after_operand}
 use Rattle.flt_lang.proofs.Stacked.{some_first, some_then, widened, either_number, either_truth, Between, Behind, number_between, truth_between, chain_of, reduce_sound, loosened}
 use Rattle.flt_lang.proofs.Begins.{left, SoFar, After, begun, begin_sound}
@@ -89,7 +89,7 @@ go_on_sound t ts fs (operand.Either n m) d start r b h = next_sound t ts fs (ope
 
 -- the tokens are read as a tree with these nodes
 abbrev pub Found : List TokenKind → List Node → Type 0
-Found start out = (tree : Expression) × Reads start tree × (out ≡ expr_onto tree)
+Found start out = (tree : Expression) × IsReadAs start tree × (out ≡ expr_onto tree)
 
 whole_sound : (fs : List Frame) (x : Operand) (e : List Node) (start : List TokenKind) (out : List Node) → Behind 8 fs x e start [] → whole fs x e ≡ Some out → Found start out
 whole_sound [] x e start out (d, mid, (start_is, d_is), between) h =

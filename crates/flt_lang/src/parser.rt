@@ -2,7 +2,7 @@
 
 ghost use Rattle.std.specs.Prelude.{◌≡◌, ◌↔◌, ◌⊎◌, Err, IfOk, IfErr};
 ghost use Rattle.flt_tree.specs.Tree.{Expression};
-ghost use Rattle.flt_tree.specs.Grammar.{Reads, kinds_of};
+ghost use Rattle.flt_tree.specs.Grammar.{IsReadAs, kinds_of};
 ghost use Rattle.flt_tree.specs.Machine.{IsReadFault};
 ghost use Rattle.flt_tree.specs.Nesting.{IsTooDeep};
 
@@ -17,9 +17,9 @@ use std::alloc::Allocator;
 /// operand, cannot be kept.
 pub fn parse<A: Allocator + Clone>(alloc: A, tokens: &[Token]) -> Result<Expr<A>, ExprFault>
     ensures deep { (result ≡ Err ExprFault.NestedTooDeep) ↔ IsTooDeep tokens.now }
-    ensures ok { IfOk result (λ tree. Reads (kinds_of tokens.now) tree) }
+    ensures ok { IfOk result (λ tree. IsReadAs (kinds_of tokens.now) tree) }
     ensures none { result ≡ Err ExprFault.NotAnExpression
-        → (tree : Expression) → Reads (kinds_of tokens.now) tree → ⊥ }
+        → (tree : Expression) → IsReadAs (kinds_of tokens.now) tree → ⊥ }
     ensures err { IfErr result (λ fault. (fault ≡ ExprFault.NestedTooDeep)
         ⊎ (fault ≡ ExprFault.NotAnExpression) ⊎ (fault ≡ ExprFault.Memory)) }
 {
@@ -32,9 +32,9 @@ pub fn parse<A: Allocator + Clone>(alloc: A, tokens: &[Token]) -> Result<Expr<A>
 /// The tree of the tokens.
 #[tactic(auto, using(crate::proofs::Parsing::no_tree))]
 fn read<A: Allocator + Clone>(alloc: A, tokens: &[Token]) -> Result<Expr<A>, ExprFault>
-    ensures ok { IfOk result (λ tree. Reads (kinds_of tokens.now) tree) }
+    ensures ok { IfOk result (λ tree. IsReadAs (kinds_of tokens.now) tree) }
     ensures none { result ≡ Err ExprFault.NotAnExpression
-        → (tree : Expression) → Reads (kinds_of tokens.now) tree → ⊥ }
+        → (tree : Expression) → IsReadAs (kinds_of tokens.now) tree → ⊥ }
     ensures err { IfErr result IsReadFault }
 {
     let mut reader = Reader::new(alloc)?;

@@ -2,7 +2,8 @@
 
 ghost use Rattle.std.specs.Prelude.{◌≡◌, map, IfOk, IfErr, Some, None};
 ghost use Rattle.std.specs.List.{list_any};
-ghost use Rattle.flt_tree.specs.Filled.{filled, inherited_nodes, completed_node, only_host};
+ghost use Rattle.flt_tree.specs.Filled.{fill_expression, inherited_nodes, completed_node};
+ghost use Rattle.flt_tree.specs.Filled.{only_host};
 ghost use Rattle.flt_tree.specs.Resolved.{fill_fault, nodes_fault, IsResolved, is_misfit_node};
 ghost use Rattle.flt_tree.specs.Resolved.{is_out_of_range_node, has_past_bits_node};
 
@@ -18,7 +19,7 @@ use std::alloc::Allocator;
 /// `ValueOutOfRange` where a number of a value or the size of an accessor is out of range, else
 /// `BitsPastMask`.
 pub fn resolve<A: Allocator>(expr: Expr<A>) -> Result<Expr<A>, ExprFault>
-    ensures ok { IfOk result (λ tree. tree ≡ filled expr) }
+    ensures ok { IfOk result (λ tree. tree ≡ fill_expression expr) }
     ensures fits { IfOk result (λ _. fill_fault expr ≡ None) }
     ensures resolved { IfOk result (λ tree. IsResolved tree) }
     ensures err { IfErr result (λ fault. fill_fault expr ≡ Some fault) }

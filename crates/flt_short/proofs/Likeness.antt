@@ -16,11 +16,11 @@ use Rattle.flt_bpf.specs.declared.operation.AluOperation.TheVariants as arithmet
 use Rattle.flt_bpf.specs.declared.operation.Width.{Width}
 use Rattle.flt_bpf.specs.declared.operation.Width.TheVariants.{Word, HalfWord, Byte}
 use Rattle.flt_bpf.specs.Instructions.{code_of, operation_of}
-use Rattle.flt_bpf.specs.Machine.{Next, Goes, Ends, Lost, step, does, does_if_known, into, word_into, into_word, holds, field, computed, header_length, Answered, run_from, follow, step_if_there, machine, start}
+use Rattle.flt_bpf.specs.Machine.{Next, Goes, Ends, Lost, step, does, does_if_known, into, word_into, into_word, test_holds, field, compute, header_length, Answered, run_from, progress_after, step_if_there, machine, start}
 use Rattle.flt_short.specs.declared.alike.Landing.{Landing}
 use Rattle.flt_bpf.specs.Valid.{IsValid}
 use Rattle.flt_short.specs.Layout.{JUMP}
-use Rattle.flt_short.specs.Alike.{MASK, EQUAL, Replaces, reads_accumulator, reads_index, implied, fits_at, fits, goes_on, same_step, one_test, ANY_BIT, direct_code, is_number, direct_load, is_indirect, adds_header, loads_alike, header_load, code_from, stands_at, stands, are_alike, begins}
+use Rattle.flt_short.specs.Alike.{MASK, EQUAL, Replaces, reads_accumulator, reads_index, implies, landing_fits_at, landing_fits, goes_on, same_step, one_test, ANY_BIT, direct_code, is_number, direct_load, is_indirect, adds_header, loads_alike, header_load, code_from, stands_at, stands, are_alike, begins}
 use Rattle.flt_bpf.proofs.Suffix.{answer_of, answer_after, answer_drop, machine_answers}
 use Rattle.flt_short.proofs.Basics.{both_true}
 use Rattle.flt_short.proofs.Basics.{tail}
@@ -74,7 +74,7 @@ other s a x = record s { accumulator = a; index = x }
 abbrev Same : Bool → ℕ → ℕ → Type 0
 Same b u v = b ≡ true → u ≡ v
 
-implied_same : (b a : Bool) (u v : ℕ) → implied b a ≡ true → Same a u v → Same b u v
+implied_same : (b a : Bool) (u v : ℕ) → implies b a ≡ true → Same a u v → Same b u v
 implied_same true a u v e h = λ z. h e
 implied_same false a u v e h = λ z. cc
 
@@ -102,14 +102,14 @@ record Stood (c : List Insn) (place : ℕ) (j : Insn) (js : List Insn) : Type 0 
 stood : (c : List Insn) (place : ℕ) (j : Insn) (js : List Insn) → 0 < place → code_from c place ≡ j ∷ js → Stood c place j js
 stood c place j js some e =
     let q = if_cons (nat_le place (length c)) (drop (length c - place) c) j js e in
-    let fits = q.0 in
+    let landing_fits = q.0 in
     let low : place ≤ length c = grind (arith, nat_tests) in
     record { low = low; first = q.1; next = tail_behind c place j js some low q.1 }
 
-above : (o : Option Landing) (far place : ℕ) (a x : Bool) → fits_at o far place a x ≡ true → 0 < place
+above : (o : Option Landing) (far place : ℕ) (a x : Bool) → landing_fits_at o far place a x ≡ true → 0 < place
 above None far place a x e = cc
 above (Some m) far place a x e =
-    let q = both_true ((nat_lt 0 m.place && nat_lt m.place place) && place - m.place - 1 == far) (implied m.accumulator a && implied m.index x) e in
+    let q = both_true ((nat_lt 0 m.place && nat_lt m.place place) && place - m.place - 1 == far) (implies m.accumulator a && implies m.index x) e in
     let r = both_true (nat_lt 0 m.place && nat_lt m.place place) (place - m.place - 1 == far) q.0 in
     let t = both_true (nat_lt 0 m.place) (nat_lt m.place place) r.0 in
     let t1 = t.1 in
@@ -133,13 +133,13 @@ module _ (p : List ℕ) (n : ℕ) where
     abbrev behind : List Insn
     behind = tail c (l.place - 1)
 
-    fit_one : (k far : ℕ) (a x : Bool) (o : Option Landing) → slice_get ls k ≡ o → fits_at o far l.place a x ≡ true → (s : State) (u v : ℕ) → Same a u s.accumulator → Same x v s.index → AsGood behind is p n far k (other s u v) s
+    fit_one : (k far : ℕ) (a x : Bool) (o : Option Landing) → slice_get ls k ≡ o → landing_fits_at o far l.place a x ≡ true → (s : State) (u v : ℕ) → Same a u s.accumulator → Same x v s.index → AsGood behind is p n far k (other s u v) s
     fit_one k far a x None e f s u v h g = cc
     fit_one k far a x (Some m) e f s u v h g =
-        let q = both_true ((nat_lt 0 m.place && nat_lt m.place l.place) && l.place - m.place - 1 == far) (implied m.accumulator a && implied m.index x) f in
+        let q = both_true ((nat_lt 0 m.place && nat_lt m.place l.place) && l.place - m.place - 1 == far) (implies m.accumulator a && implies m.index x) f in
         let r = both_true (nat_lt 0 m.place && nat_lt m.place l.place) (l.place - m.place - 1 == far) q.0 in
         let t = both_true (nat_lt 0 m.place) (nat_lt m.place l.place) r.0 in
-        let i = both_true (implied m.accumulator a) (implied m.index x) q.1 in
+        let i = both_true (implies m.accumulator a) (implies m.index x) q.1 in
         let t0 = t.0 in
         let t1 = t.1 in
         let r1 = r.1 in
@@ -156,7 +156,7 @@ module _ (p : List ℕ) (n : ℕ) where
           upper_bound = omega arith;
         }
 
-    fit : (k far : ℕ) (a x : Bool) → fits ls k far l.place a x ≡ true → (s : State) (u v : ℕ) → Same a u s.accumulator → Same x v s.index → AsGood behind is p n far k (other s u v) s
+    fit : (k far : ℕ) (a x : Bool) → landing_fits ls k far l.place a x ≡ true → (s : State) (u v : ℕ) → Same a u s.accumulator → Same x v s.index → AsGood behind is p n far k (other s u v) s
     fit k far a x f s u v h g = fit_one k far a x (slice_get ls k) refl f s u v h g
 
     -- one instruction, with the same A and X where they are read
@@ -173,32 +173,32 @@ module _ (p : List ℕ) (n : ℕ) where
       lost : Follows behind is p n Lost Lost
       lost = record { same = refl; upper_bound = omega arith }
 
-      to_a : (o : Option ℕ) → fits ls 0 0 l.place true l.index ≡ true → Follows behind is p n (into Accumulator o t) (into Accumulator o s)
+      to_a : (o : Option ℕ) → landing_fits ls 0 0 l.place true l.index ≡ true → Follows behind is p n (into Accumulator o t) (into Accumulator o s)
       to_a None f = ends 0 0 refl
       to_a (Some v) f = goes _ _ (fit 0 0 true l.index f (record s { accumulator = v }) v x (λ z. refl) hx)
 
-      to_x : (o : Option ℕ) → fits ls 0 0 l.place l.accumulator true ≡ true → Follows behind is p n (into Index o t) (into Index o s)
+      to_x : (o : Option ℕ) → landing_fits ls 0 0 l.place l.accumulator true ≡ true → Follows behind is p n (into Index o t) (into Index o s)
       to_x None f = ends 0 0 refl
       to_x (Some v) f = goes _ _ (fit 0 0 l.accumulator true f (record s { index = v }) a v ha (λ z. refl))
 
-      word_to_a : (o : Option ℕ) → fits ls 0 0 l.place true l.index ≡ true → Follows behind is p n (word_into Accumulator o t) (word_into Accumulator o s)
+      word_to_a : (o : Option ℕ) → landing_fits ls 0 0 l.place true l.index ≡ true → Follows behind is p n (word_into Accumulator o t) (word_into Accumulator o s)
       word_to_a None f = lost
       word_to_a (Some v) f = to_a (Some v) f
 
-      word_to_x : (o : Option ℕ) → fits ls 0 0 l.place l.accumulator true ≡ true → Follows behind is p n (word_into Index o t) (word_into Index o s)
+      word_to_x : (o : Option ℕ) → landing_fits ls 0 0 l.place l.accumulator true ≡ true → Follows behind is p n (word_into Index o t) (word_into Index o s)
       word_to_x None f = lost
       word_to_x (Some v) f = to_x (Some v) f
 
-      stored : (b : Bool) (m : List ℕ) → fits ls 0 0 l.place l.accumulator l.index ≡ true → Follows behind is p n (if b then Goes 0 (record t { memory = m }) else Lost) (if b then Goes 0 (record s { memory = m }) else Lost)
+      stored : (b : Bool) (m : List ℕ) → landing_fits ls 0 0 l.place l.accumulator l.index ≡ true → Follows behind is p n (if b then Goes 0 (record t { memory = m }) else Lost) (if b then Goes 0 (record s { memory = m }) else Lost)
       stored true m f = goes _ _ (fit 0 0 l.accumulator l.index f (record s { memory = m }) a x ha hx)
       stored false m f = lost
 
-      way : (b : Bool) (hit miss near next : ℕ) → fits ls hit near l.place l.accumulator l.index ≡ true → fits ls miss next l.place l.accumulator l.index ≡ true → Follows behind is p n (Goes (if b then near else next) t) (Goes (if b then hit else miss) s)
+      way : (b : Bool) (hit miss near next : ℕ) → landing_fits ls hit near l.place l.accumulator l.index ≡ true → landing_fits ls miss next l.place l.accumulator l.index ≡ true → Follows behind is p n (Goes (if b then near else next) t) (Goes (if b then hit else miss) s)
       way true hit miss near next f g = let w = fit hit near l.accumulator l.index f s a x ha hx in record { same = w.same; upper_bound = w.upper_bound }
       way false hit miss near next f g = let w = fit miss next l.accumulator l.index g s a x ha hx in record { same = w.same; upper_bound = w.upper_bound }
 
       -- what the operation does
-      op_good : (op : Operation) (j i : Insn) → i.k ≡ j.k → implied (reads_accumulator op) l.accumulator ≡ true → implied (reads_index op) l.index ≡ true → goes_on op j l i ls ≡ true → Follows behind is p n (does op j p n t) (does op i p n s)
+      op_good : (op : Operation) (j i : Insn) → i.k ≡ j.k → implies (reads_accumulator op) l.accumulator ≡ true → implies (reads_index op) l.index ≡ true → goes_on op j l i ls ≡ true → Follows behind is p n (does op j p n t) (does op i p n s)
       op_good (LoadAbsolute w) j i k ra rx f = subst (λ m. Follows behind is p n (into Accumulator (field p m w) t) (into Accumulator (field p i.k w) s)) k (to_a (field p i.k w) f)
       op_good (LoadIndirect w) j i k ra rx f =
           let same : (s.index + i.k) % 2 ^ 32 ≡ (x + j.k) % 2 ^ 32 = ap (λ m. (s.index + m) % 2 ^ 32) k ∙ ap (λ m. (m + j.k) % 2 ^ 32) (sym (hx rx)) in
@@ -215,18 +215,18 @@ module _ (p : List ℕ) (n : ℕ) where
       op_good (Store Index) j i k ra rx f =
           subst (λ m. Follows behind is p n (into_word m x t) (into_word i.k s.index s)) k (subst (λ v. Follows behind is p n (into_word i.k v t) (into_word i.k s.index s)) (sym (hx rx)) (stored (nat_lt i.k (length s.memory)) (slice_set s.memory i.k s.index) f))
       op_good (Compute o Constant) j i k ra rx f =
-          subst (λ m. Follows behind is p n (into Accumulator (computed o a m) t) (into Accumulator (computed o s.accumulator i.k) s)) k (subst (λ v. Follows behind is p n (into Accumulator (computed o v i.k) t) (into Accumulator (computed o s.accumulator i.k) s)) (sym (ha ra)) (to_a (computed o s.accumulator i.k) f))
+          subst (λ m. Follows behind is p n (into Accumulator (compute o a m) t) (into Accumulator (compute o s.accumulator i.k) s)) k (subst (λ v. Follows behind is p n (into Accumulator (compute o v i.k) t) (into Accumulator (compute o s.accumulator i.k) s)) (sym (ha ra)) (to_a (compute o s.accumulator i.k) f))
       op_good (Compute o IndexRegister) j i k ra rx f =
-          subst (λ m. Follows behind is p n (into Accumulator (computed o a m) t) (into Accumulator (computed o s.accumulator s.index) s)) (sym (hx rx)) (subst (λ v. Follows behind is p n (into Accumulator (computed o v s.index) t) (into Accumulator (computed o s.accumulator s.index) s)) (sym (ha ra)) (to_a (computed o s.accumulator s.index) f))
+          subst (λ m. Follows behind is p n (into Accumulator (compute o a m) t) (into Accumulator (compute o s.accumulator s.index) s)) (sym (hx rx)) (subst (λ v. Follows behind is p n (into Accumulator (compute o v s.index) t) (into Accumulator (compute o s.accumulator s.index) s)) (sym (ha ra)) (to_a (compute o s.accumulator s.index) f))
       op_good Negate j i k ra rx f =
           subst (λ v. Follows behind is p n (into Accumulator (Some ((2 ^ 32 - v) % 2 ^ 32)) t) (into Accumulator (Some ((2 ^ 32 - s.accumulator) % 2 ^ 32)) s)) (sym (ha ra)) (to_a (Some ((2 ^ 32 - s.accumulator) % 2 ^ 32)) f)
       op_good Jump j i k ra rx f = cc
       op_good (JumpIf o Constant) j i k ra rx f =
-          let q = both_true (fits ls i.jt j.jt l.place l.accumulator l.index) (fits ls i.jf j.jf l.place l.accumulator l.index) f in
-          subst (λ m. Follows behind is p n (Goes (if holds o a m then j.jt else j.jf) t) (Goes (if holds o s.accumulator i.k then i.jt else i.jf) s)) k (subst (λ v. Follows behind is p n (Goes (if holds o v i.k then j.jt else j.jf) t) (Goes (if holds o s.accumulator i.k then i.jt else i.jf) s)) (sym (ha ra)) (way (holds o s.accumulator i.k) i.jt i.jf j.jt j.jf q.0 q.1))
+          let q = both_true (landing_fits ls i.jt j.jt l.place l.accumulator l.index) (landing_fits ls i.jf j.jf l.place l.accumulator l.index) f in
+          subst (λ m. Follows behind is p n (Goes (if test_holds o a m then j.jt else j.jf) t) (Goes (if test_holds o s.accumulator i.k then i.jt else i.jf) s)) k (subst (λ v. Follows behind is p n (Goes (if test_holds o v i.k then j.jt else j.jf) t) (Goes (if test_holds o s.accumulator i.k then i.jt else i.jf) s)) (sym (ha ra)) (way (test_holds o s.accumulator i.k) i.jt i.jf j.jt j.jf q.0 q.1))
       op_good (JumpIf o IndexRegister) j i k ra rx f =
-          let q = both_true (fits ls i.jt j.jt l.place l.accumulator l.index) (fits ls i.jf j.jf l.place l.accumulator l.index) f in
-          subst (λ m. Follows behind is p n (Goes (if holds o a m then j.jt else j.jf) t) (Goes (if holds o s.accumulator s.index then i.jt else i.jf) s)) (sym (hx rx)) (subst (λ v. Follows behind is p n (Goes (if holds o v s.index then j.jt else j.jf) t) (Goes (if holds o s.accumulator s.index then i.jt else i.jf) s)) (sym (ha ra)) (way (holds o s.accumulator s.index) i.jt i.jf j.jt j.jf q.0 q.1))
+          let q = both_true (landing_fits ls i.jt j.jt l.place l.accumulator l.index) (landing_fits ls i.jf j.jf l.place l.accumulator l.index) f in
+          subst (λ m. Follows behind is p n (Goes (if test_holds o a m then j.jt else j.jf) t) (Goes (if test_holds o s.accumulator s.index then i.jt else i.jf) s)) (sym (hx rx)) (subst (λ v. Follows behind is p n (Goes (if test_holds o v s.index then j.jt else j.jf) t) (Goes (if test_holds o s.accumulator s.index then i.jt else i.jf) s)) (sym (ha ra)) (way (test_holds o s.accumulator s.index) i.jt i.jf j.jt j.jf q.0 q.1))
       op_good ReturnConstant j i k ra rx f = ends j.k i.k (sym k)
       op_good ReturnAccumulator j i k ra rx f = ends a s.accumulator (ha ra)
       op_good CopyToIndex j i k ra rx f =
@@ -239,14 +239,14 @@ module _ (p : List ℕ) (n : ℕ) where
   unfolding same_step
   same_good c is ls l all low j i None e f s a x ha hx = cc
   same_good c is ls l all low j i (Some op) e f s a x ha hx =
-      let q = both_true (i.code == j.code && i.k == j.k) ((implied (reads_accumulator op) l.accumulator && implied (reads_index op) l.index) && goes_on op j l i ls) f in
+      let q = both_true (i.code == j.code && i.k == j.k) ((implies (reads_accumulator op) l.accumulator && implies (reads_index op) l.index) && goes_on op j l i ls) f in
       let r = both_true (i.code == j.code) (i.k == j.k) q.0 in
       let r0 = r.0 in
       let r1 = r.1 in
       let code : i.code ≡ j.code = grind (arith, nat_tests) in
       let k : i.k ≡ j.k = grind (arith, nat_tests) in
-      let u = both_true (implied (reads_accumulator op) l.accumulator && implied (reads_index op) l.index) (goes_on op j l i ls) q.1 in
-      let v = both_true (implied (reads_accumulator op) l.accumulator) (implied (reads_index op) l.index) u.0 in
+      let u = both_true (implies (reads_accumulator op) l.accumulator && implies (reads_index op) l.index) (goes_on op j l i ls) q.1 in
+      let v = both_true (implies (reads_accumulator op) l.accumulator) (implies (reads_index op) l.index) u.0 in
       let g = op_good c is ls l all low s a x ha hx op j i k v.0 v.1 u.1 in
       let d = tail c (l.place - 1) in
       let new = knows_step j (Some op) (other s a x) (ap operation_of (sym code) ∙ e) in
@@ -297,7 +297,7 @@ module _ (p : List ℕ) (n : ℕ) where
   one_good : (c is : List Insn) (ls : List Landing) (l : Landing) (u : Insn) (all : AllLand c (u ∷ is) ls) (low : l.place ≤ length c) (j i : Insn) → one_test j l i (u ∷ is) ls ≡ true → (s : State) (a x : ℕ) → Same l.accumulator a s.accumulator → Same l.index x s.index → AsGood (j ∷ tail c (l.place - 1)) (i ∷ u ∷ is) p n 0 0 (other s a x) s
   unfolding one_test
   one_good c is ls l u all low j i f s a x ha hx =
-      let q = both_true ((i.code == MASK && u.code == EQUAL) && (u.k == 0 && (j.code == ANY_BIT && i.k == j.k))) (l.accumulator && (fits ls (1 + u.jt) j.jf l.place false l.index && fits ls (1 + u.jf) j.jt l.place false l.index)) f in
+      let q = both_true ((i.code == MASK && u.code == EQUAL) && (u.k == 0 && (j.code == ANY_BIT && i.k == j.k))) (l.accumulator && (landing_fits ls (1 + u.jt) j.jf l.place false l.index && landing_fits ls (1 + u.jf) j.jt l.place false l.index)) f in
       let r = both_true (i.code == MASK && u.code == EQUAL) (u.k == 0 && (j.code == ANY_BIT && i.k == j.k)) q.0 in
       let ra = both_true (i.code == MASK) (u.code == EQUAL) r.0 in
       let rb = both_true (u.k == 0) (j.code == ANY_BIT && i.k == j.k) r.1 in
@@ -312,8 +312,8 @@ module _ (p : List ℕ) (n : ℕ) where
       let zero_k : u.k ≡ 0 = grind (arith, nat_tests) in
       let any : j.code ≡ 69 = grind (arith, nat_tests) in
       let k : i.k ≡ j.k = grind (arith, nat_tests) in
-      let b = both_true l.accumulator (fits ls (1 + u.jt) j.jf l.place false l.index && fits ls (1 + u.jf) j.jt l.place false l.index) q.1 in
-      let w = both_true (fits ls (1 + u.jt) j.jf l.place false l.index) (fits ls (1 + u.jf) j.jt l.place false l.index) b.1 in
+      let b = both_true l.accumulator (landing_fits ls (1 + u.jt) j.jf l.place false l.index && landing_fits ls (1 + u.jf) j.jt l.place false l.index) q.1 in
+      let w = both_true (landing_fits ls (1 + u.jt) j.jf l.place false l.index) (landing_fits ls (1 + u.jf) j.jt l.place false l.index) b.1 in
       let d = tail c (l.place - 1) in
       let s' : State = record s { accumulator = bit_and s.accumulator i.k } in
       let z = bit_and s.accumulator i.k == 0 in
@@ -332,7 +332,7 @@ module _ (p : List ℕ) (n : ℕ) where
         upper_bound = omega arith;
       }
     where
-      ways : (c is : List Insn) (ls : List Landing) (l : Landing) (u : Insn) (all : AllLand c (u ∷ is) ls) (low : l.place ≤ length c) (j : Insn) (s : State) (a x : ℕ) → Same l.index x s.index → fits ls (1 + u.jt) j.jf l.place false l.index ≡ true → fits ls (1 + u.jf) j.jt l.place false l.index ≡ true → (z : Bool) → Follows (tail c (l.place - 1)) is p n (Goes (if not z then j.jt else j.jf) (other s a x)) (Goes (if z then u.jt else u.jf) s)
+      ways : (c is : List Insn) (ls : List Landing) (l : Landing) (u : Insn) (all : AllLand c (u ∷ is) ls) (low : l.place ≤ length c) (j : Insn) (s : State) (a x : ℕ) → Same l.index x s.index → landing_fits ls (1 + u.jt) j.jf l.place false l.index ≡ true → landing_fits ls (1 + u.jf) j.jt l.place false l.index ≡ true → (z : Bool) → Follows (tail c (l.place - 1)) is p n (Goes (if not z then j.jt else j.jf) (other s a x)) (Goes (if z then u.jt else u.jf) s)
       ways c is ls l u all low j s a x hx f g true =
           let one : 1 + u.jt ≡ suc u.jt = omega arith in
           let w = subst (λ m. AsGood (tail c (l.place - 1)) (u ∷ is) p n j.jf m (other s a x) s) one (fit c (u ∷ is) ls l all low (1 + u.jt) j.jf false l.index f s a x (λ q. cc) hx) in
@@ -357,7 +357,7 @@ module _ (p : List ℕ) (n : ℕ) where
   direct_good : (c is : List Insn) (ls : List Landing) (l : Landing) (u v : Insn) (all : AllLand c (u ∷ v ∷ is) ls) (low : l.place ≤ length c) (j i : Insn) → direct_load j l i (u ∷ v ∷ is) ls ≡ true → (s : State) (a x : ℕ) → AsGood (j ∷ tail c (l.place - 1)) (i ∷ u ∷ v ∷ is) p n 0 0 (other s a x) s
   unfolding direct_load
   direct_good c is ls l u v all low j i f s a x =
-      let q = both_true ((i.code == 0 && u.code == 7) && (is_number (direct_code (operation_of v.code)) j.code && (i.k + v.k) % 2 ^ 32 == j.k)) (fits ls 2 0 l.place true false) f in
+      let q = both_true ((i.code == 0 && u.code == 7) && (is_number (direct_code (operation_of v.code)) j.code && (i.k + v.k) % 2 ^ 32 == j.k)) (landing_fits ls 2 0 l.place true false) f in
       let r = both_true (i.code == 0 && u.code == 7) (is_number (direct_code (operation_of v.code)) j.code && (i.k + v.k) % 2 ^ 32 == j.k) q.0 in
       let ra = both_true (i.code == 0) (u.code == 7) r.0 in
       let rb = both_true (is_number (direct_code (operation_of v.code)) j.code) ((i.k + v.k) % 2 ^ 32 == j.k) r.1 in
@@ -386,7 +386,7 @@ module _ (p : List ℕ) (n : ℕ) where
         upper_bound = omega arith;
       }
     where
-      loads : (c is : List Insn) (ls : List Landing) (l : Landing) (u v : Insn) (all : AllLand c (u ∷ v ∷ is) ls) (low : l.place ≤ length c) (s : State) (a x : ℕ) → fits ls 2 0 l.place true false ≡ true → (o : Option ℕ) → Follows (tail c (l.place - 1)) is p n (into Accumulator o (other s a x)) (into Accumulator o s)
+      loads : (c is : List Insn) (ls : List Landing) (l : Landing) (u v : Insn) (all : AllLand c (u ∷ v ∷ is) ls) (low : l.place ≤ length c) (s : State) (a x : ℕ) → landing_fits ls 2 0 l.place true false ≡ true → (o : Option ℕ) → Follows (tail c (l.place - 1)) is p n (into Accumulator o (other s a x)) (into Accumulator o s)
       loads c is ls l u v all low s a x f None = record { same = refl; upper_bound = omega arith }
       loads c is ls l u v all low s a x f (Some y) =
           let w = fit c (u ∷ v ∷ is) ls l all low 2 0 true false f (record s { accumulator = y }) y x (λ q. refl) (λ q. cc) in
@@ -404,7 +404,7 @@ module _ (p : List ℕ) (n : ℕ) where
   place_is : (i h w j : ℕ) → (i + w) % 2 ^ 32 ≡ j → ((i + h) % 2 ^ 32 + w) % 2 ^ 32 ≡ (h + j) % 2 ^ 32
   place_is i h w j e = omega arith
 
-  module _ (c is : List Insn) (ls : List Landing) (l : Landing) (t u v w : Insn) (all : AllLand c (t ∷ u ∷ v ∷ w ∷ is) ls) (low : l.place ≤ length c) (fitting : fits ls 4 0 (l.place - 1) true false ≡ true) (i j : Insn) (width : Width) (u_is : operation_of u.code ≡ Some (Compute arithmetic.Add IndexRegister)) (v_is : operation_of v.code ≡ Some CopyToIndex) (w_is : operation_of w.code ≡ Some (LoadIndirect width)) (j_is : operation_of j.code ≡ Some (LoadIndirect width)) (k : (i.k + w.k) % 2 ^ 32 ≡ j.k) where
+  module _ (c is : List Insn) (ls : List Landing) (l : Landing) (t u v w : Insn) (all : AllLand c (t ∷ u ∷ v ∷ w ∷ is) ls) (low : l.place ≤ length c) (fitting : landing_fits ls 4 0 (l.place - 1) true false ≡ true) (i j : Insn) (width : Width) (u_is : operation_of u.code ≡ Some (Compute arithmetic.Add IndexRegister)) (v_is : operation_of v.code ≡ Some CopyToIndex) (w_is : operation_of w.code ≡ Some (LoadIndirect width)) (j_is : operation_of j.code ≡ Some (LoadIndirect width)) (k : (i.k + w.k) % 2 ^ 32 ≡ j.k) where
     abbrev beyond : List Insn
     beyond = tail c (l.place - 1 - 1)
 
@@ -421,7 +421,7 @@ module _ (p : List ℕ) (n : ℕ) where
         let s2 : State = record s { index = h } in
         let s3 : State = record s { accumulator = m; index = h } in
         let s4 : State = record s { accumulator = m; index = m } in
-        let first = knows_step u (Some (Compute arithmetic.Add IndexRegister)) s2 u_is ∙ ap (λ z. into Accumulator (computed arithmetic.Add z h) s2) number in
+        let first = knows_step u (Some (Compute arithmetic.Add IndexRegister)) s2 u_is ∙ ap (λ z. into Accumulator (compute arithmetic.Add z h) s2) number in
         let second = knows_step v (Some CopyToIndex) s3 v_is in
         let third = knows_step w (Some (LoadIndirect width)) s4 w_is ∙ ap (λ z. into Accumulator (field p z width) s4) (place_is i.k h w.k j.k k) in
         let new = knows_step j (Some (LoadIndirect width)) (other s a h) j_is in
@@ -443,13 +443,13 @@ module _ (p : List ℕ) (n : ℕ) where
   header_good : (c is : List Insn) (ls : List Landing) (l : Landing) (t u v w : Insn) (all : AllLand c (t ∷ u ∷ v ∷ w ∷ is) ls) (low : l.place ≤ length c) (h j i : Insn) (js : List Insn) → j ∷ js ≡ tail c (l.place - 1) → header_load (h ∷ j ∷ js) l i (t ∷ u ∷ v ∷ w ∷ is) ls ≡ true → (s : State) (a x : ℕ) → AsGood (h ∷ tail c (l.place - 1)) (i ∷ t ∷ u ∷ v ∷ w ∷ is) p n 0 0 (other s a x) s
   unfolding header_load
   header_good c is ls l t u v w all low h j i js at f s a x =
-      let q = both_true (adds_header i t u v) (loads_alike t h w j && ((i.k + w.k) % 2 ^ 32 == j.k && fits ls 4 0 (l.place - 1) true false)) f in
+      let q = both_true (adds_header i t u v) (loads_alike t h w j && ((i.k + w.k) % 2 ^ 32 == j.k && landing_fits ls 4 0 (l.place - 1) true false)) f in
       let qa = both_true (i.code == 0 && t.code == 177) (u.code == 12 && v.code == 7) q.0 in
-      let qb = both_true (loads_alike t h w j) ((i.k + w.k) % 2 ^ 32 == j.k && fits ls 4 0 (l.place - 1) true false) q.1 in
+      let qb = both_true (loads_alike t h w j) ((i.k + w.k) % 2 ^ 32 == j.k && landing_fits ls 4 0 (l.place - 1) true false) q.1 in
       let ra = both_true (i.code == 0) (t.code == 177) qa.0 in
       let rb = both_true (u.code == 12) (v.code == 7) qa.1 in
       let rc = both_true (t.code == h.code && t.k == h.k) (is_indirect (operation_of w.code) && w.code == j.code) qb.0 in
-      let rd = both_true ((i.k + w.k) % 2 ^ 32 == j.k) (fits ls 4 0 (l.place - 1) true false) qb.1 in
+      let rd = both_true ((i.k + w.k) % 2 ^ 32 == j.k) (landing_fits ls 4 0 (l.place - 1) true false) qb.1 in
       let re = both_true (t.code == h.code) (t.k == h.k) rc.0 in
       let rf = both_true (is_indirect (operation_of w.code)) (w.code == j.code) rc.1 in
       let x0 = ra.0 in
@@ -551,7 +551,7 @@ module _ (p : List ℕ) (n : ℕ) where
     answer : answer_of (drop place prog) p n 0 s ≡ Some a
     steps : m ≡ count + steps_of (drop place prog) p n 0 s
 
-  met_next : (prog : List Insn) (left place count : ℕ) (s : State) (a m : ℕ) → ((k : ℕ) (u : State) → run_from prog p n left (place + 1 + k) u (count + 1) ≡ Answered a m → Met prog u (place + 1 + k) (count + 1) a m) → (i : Insn) (o : Next) → slice_get prog place ≡ Some i → step i p n s ≡ o → follow (run_from prog p n left) place count o ≡ Answered a m → Met prog s place count a m
+  met_next : (prog : List Insn) (left place count : ℕ) (s : State) (a m : ℕ) → ((k : ℕ) (u : State) → run_from prog p n left (place + 1 + k) u (count + 1) ≡ Answered a m → Met prog u (place + 1 + k) (count + 1) a m) → (i : Insn) (o : Next) → slice_get prog place ≡ Some i → step i p n s ≡ o → progress_after (run_from prog p n left) place count o ≡ Answered a m → Met prog s place count a m
   met_next prog left place count s a m later i (Goes k u) g st f =
       let r = later k u f in
       let first = drop_at prog place i g in
@@ -577,7 +577,7 @@ module _ (p : List ℕ) (n : ℕ) where
       }
   met_next prog left place count s a m later i Lost g st f = cc
 
-  met_there : (prog : List Insn) (left place count : ℕ) (s : State) (a m : ℕ) → ((k : ℕ) (u : State) → run_from prog p n left (place + 1 + k) u (count + 1) ≡ Answered a m → Met prog u (place + 1 + k) (count + 1) a m) → (o : Option Insn) → slice_get prog place ≡ o → follow (run_from prog p n left) place count (step_if_there o p n s) ≡ Answered a m → Met prog s place count a m
+  met_there : (prog : List Insn) (left place count : ℕ) (s : State) (a m : ℕ) → ((k : ℕ) (u : State) → run_from prog p n left (place + 1 + k) u (count + 1) ≡ Answered a m → Met prog u (place + 1 + k) (count + 1) a m) → (o : Option Insn) → slice_get prog place ≡ o → progress_after (run_from prog p n left) place count (step_if_there o p n s) ≡ Answered a m → Met prog s place count a m
   met_there prog left place count s a m later None g f = cc
   met_there prog left place count s a m later (Some i) g f = met_next prog left place count s a m later i (step i p n s) g refl f
 

@@ -12,7 +12,7 @@ use Rattle.flt_bpf.specs.declared.operation.Register.TheVariants.{Accumulator, I
 use Rattle.flt_bpf.specs.declared.operation.Source.TheVariants.{Immediate, Memory, Length}
 use Rattle.flt_bpf.specs.declared.operation.Width.{Width}
 use Rattle.flt_bpf.specs.Instructions.{operation_of}
-use Rattle.flt_bpf.specs.Machine.{Next, Goes, Ends, Lost, step, does, does_if_known, into, word_into, with_register, holds, value_of, field, computed, held}
+use Rattle.flt_bpf.specs.Machine.{Next, Goes, Ends, Lost, step, does, does_if_known, into, word_into, with_register, test_holds, operand_value, field, compute, held}
 use Rattle.flt_short.specs.declared.reload.Held.{Held}
 use Rattle.flt_short.specs.declared.reload.Held.TheVariants.{Unreached, Field, Unknown}
 use Rattle.flt_short.specs.Reload.{held_on_both, loads, past_load_at, offset_past_load, insn_past_loads, with_arrival, with_arrivals_by, with_arrivals, flow, without_reloads}
@@ -266,7 +266,7 @@ module _ (p : List ℕ) (n : ℕ) where
   here (Some (JumpIf t o)) h i is d hs s e x f =
       let none_yes : 0 + offset_past_load h is i.jt ≡ offset_past_load h is i.jt = omega arith in
       let none_no : 0 + offset_past_load h is i.jf ≡ offset_past_load h is i.jf = omega arith in
-      way_same d is (holds t s.accumulator (value_of o i.k s.index)) _ _ i.jt i.jf s
+      way_same d is (test_holds t s.accumulator (operand_value o i.k s.index)) _ _ i.jt i.jf s
       (f (offset_past_load h is i.jt) s (subst (λ m. HoldsAt (with_arrival (with_arrival hs (0 + offset_past_load h is i.jt) h) (0 + offset_past_load h is i.jf) h) m s) none_yes (raised_keeps _ (0 + offset_past_load h is i.jf) (0 + offset_past_load h is i.jt) h s (raised_at hs (0 + offset_past_load h is i.jt) h s x))) ∙ moved_same h is i.jt s x (slice_get is i.jt) refl)
       (f (offset_past_load h is i.jf) s (subst (λ m. HoldsAt (with_arrival (with_arrival hs (0 + offset_past_load h is i.jt) h) (0 + offset_past_load h is i.jf) h) m s) none_no (raised_at _ (0 + offset_past_load h is i.jf) h s x)) ∙ moved_same h is i.jf s x (slice_get is i.jf) refl)
   here (Some Jump) h i is d hs s e x f =
@@ -281,7 +281,7 @@ module _ (p : List ℕ) (n : ℕ) where
   here (Some (Load r Memory)) h i is d hs s e x f = word_same d is r (slice_get s.memory i.k) s (anyhow d is hs f)
   here (Some LoadHeaderLength) h i is d hs s e x f = into_same d is Index _ s (anyhow d is hs f)
   here (Some (Store r)) h i is d hs s e x f = stored_same d is _ _ (anyhow d is hs f)
-  here (Some (Compute a o)) h i is d hs s e x f = into_same d is Accumulator (computed a s.accumulator (value_of o i.k s.index)) s (anyhow d is hs f)
+  here (Some (Compute a o)) h i is d hs s e x f = into_same d is Accumulator (compute a s.accumulator (operand_value o i.k s.index)) s (anyhow d is hs f)
   here (Some Negate) h i is d hs s e x f = anyhow d is hs f _
   here (Some CopyToIndex) h i is d hs s e x f = anyhow d is hs f _
   here (Some CopyToAccumulator) h i is d hs s e x f = anyhow d is hs f _

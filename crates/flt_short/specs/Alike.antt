@@ -66,38 +66,38 @@ sets_index LoadHeaderLength = true
 sets_index CopyToIndex = true
 sets_index _ = false
 
-abbrev pub implied : Bool → Bool → Bool
-implied true b = b
-implied false b = true
+abbrev pub implies : Bool → Bool → Bool
+implies true b = b
+implies false b = true
 
 -- a landing stands so far behind the instruction at a place, and what is read there is the same in
 -- both programs: A and X are, as the two tests say
-abbrev pub fits_at : Option Landing → ℕ → ℕ → Bool → Bool → Bool
-fits_at None far place a x = false
-fits_at (Some l) far place a x =
+abbrev pub landing_fits_at : Option Landing → ℕ → ℕ → Bool → Bool → Bool
+landing_fits_at None far place a x = false
+landing_fits_at (Some l) far place a x =
     ((nat_lt 0 l.place && nat_lt l.place place) && place - l.place - 1 == far)
-    && (implied l.accumulator a && implied l.index x)
+    && (implies l.accumulator a && implies l.index x)
 
-abbrev pub fits : List Landing → ℕ → ℕ → ℕ → Bool → Bool → Bool
-fits ls k far place a x = fits_at (slice_get ls k) far place a x
+abbrev pub landing_fits : List Landing → ℕ → ℕ → ℕ → Bool → Bool → Bool
+landing_fits ls k far place a x = landing_fits_at (slice_get ls k) far place a x
 
 -- both programs go on alike behind an instruction that both have
 abbrev pub goes_on : Operation → Insn → Landing → Insn → List Landing → Bool
 goes_on Jump j l i ls = false
 goes_on (JumpIf test operand) j l i ls =
-    fits ls i.jt j.jt l.place l.accumulator l.index
-    && fits ls i.jf j.jf l.place l.accumulator l.index
+    landing_fits ls i.jt j.jt l.place l.accumulator l.index
+    && landing_fits ls i.jf j.jf l.place l.accumulator l.index
 goes_on ReturnConstant j l i ls = true
 goes_on ReturnAccumulator j l i ls = true
 goes_on op j l i ls =
-    fits ls 0 0 l.place (sets_accumulator op || l.accumulator) (sets_index op || l.index)
+    landing_fits ls 0 0 l.place (sets_accumulator op || l.accumulator) (sets_index op || l.index)
 
 -- the instruction j of the new program is the instruction i of the old one
 unfoldable pub same_step : Option Operation → Insn → Landing → Insn → List Landing → Bool
 same_step None j l i ls = false
 same_step (Some op) j l i ls =
     (i.code == j.code && i.k == j.k)
-    && ((implied (reads_accumulator op) l.accumulator && implied (reads_index op) l.index)
+    && ((implies (reads_accumulator op) l.accumulator && implies (reads_index op) l.index)
     && goes_on op j l i ls)
 
 -- the code of a mask, that of a test whether A is a number, and that of a test whether A has a bit of k
@@ -116,8 +116,8 @@ one_test j l i [] ls = false
 one_test j l i (t ∷ is) ls =
     ((i.code == MASK && t.code == EQUAL) && (t.k == 0 && (j.code == ANY_BIT && i.k == j.k)))
     && (l.accumulator
-    && (fits ls (1 + t.jt) j.jf l.place false l.index
-    && fits ls (1 + t.jf) j.jt l.place false l.index))
+    && (landing_fits ls (1 + t.jt) j.jf l.place false l.index
+    && landing_fits ls (1 + t.jf) j.jt l.place false l.index))
 
 -- the code of a load at a fixed place that is as wide as one behind X
 abbrev pub direct_code : Option Operation → Option ℕ
@@ -135,7 +135,7 @@ direct_load j l i (t ∷ []) ls = false
 direct_load j l i (t ∷ u ∷ is) ls =
     ((i.code == code_of (Load Accumulator Immediate) && t.code == code_of CopyToIndex)
     && (is_number (direct_code (operation_of u.code)) j.code && (i.k + u.k) % 2 ^ 32 == j.k))
-    && fits ls 2 0 l.place true false
+    && landing_fits ls 2 0 l.place true false
 
 -- a load behind X
 abbrev pub is_indirect : Option Operation → Bool
@@ -158,7 +158,7 @@ loads_alike t h w j =
 unfoldable pub header_load : List Insn → Landing → Insn → List Insn → List Landing → Bool
 header_load (h ∷ j ∷ js) l i (t ∷ u ∷ v ∷ w ∷ is) ls =
     adds_header i t u v && (loads_alike t h w j
-    && ((i.k + w.k) % 2 ^ 32 == j.k && fits ls 4 0 (l.place - 1) true false))
+    && ((i.k + w.k) % 2 ^ 32 == j.k && landing_fits ls 4 0 (l.place - 1) true false))
 header_load js l i is ls = false
 
 -- the code from a place on, which is named by the number of instructions from there to the end

@@ -3,7 +3,8 @@
 ghost use Rattle.std.specs.Prelude.{◌≡◌, ◌≢◌, ◌↔◌, length, IsTrue, All};
 ghost use Rattle.flt_bpf.specs.Instructions.{operation_of};
 ghost use Rattle.flt_short.specs.Alike.{Replaces, reads_accumulator, reads_index};
-ghost use Rattle.flt_short.specs.Alike.{sets_accumulator, sets_index, implied, fits, goes_on};
+ghost use Rattle.flt_short.specs.Alike.{sets_accumulator, sets_index, implies, landing_fits};
+ghost use Rattle.flt_short.specs.Alike.{goes_on};
 ghost use Rattle.flt_short.specs.Alike.{same_step, one_test, direct_code, is_number, direct_load};
 ghost use Rattle.flt_short.specs.Alike.{is_indirect, adds_header, loads_alike, header_load};
 ghost use Rattle.flt_short.specs.Alike.{stands, are_alike, begins};
@@ -78,7 +79,7 @@ pub fn sets_index(operation: Operation) -> bool
 }
 
 fn implied(one: bool, other: bool) -> bool
-    ensures { result ≡ implied one other }
+    ensures { result ≡ implies one other }
 {
     if one { other } else { true }
 }
@@ -94,7 +95,7 @@ struct Way {
 
 /// Both ways lead to one landing, and what is read there is the same in both programs.
 fn fits(behind: &[Landing], way: Way, accumulator: bool, index: bool) -> bool
-    ensures { result ≡ fits behind.now way.old way.new way.place accumulator index }
+    ensures { result ≡ landing_fits behind.now way.old way.new way.place accumulator index }
 {
     match behind.get(way.old) {
         None => false,

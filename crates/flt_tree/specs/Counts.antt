@@ -51,8 +51,8 @@ ip4_tests None d = (1 + side_tests d 1) + (1 + side_tests d 1) + (1 + side_tests
 ip4_tests (Some p) d = 1 + side_tests d 1
 
 -- an IPv6 address is tested as four words
-abbrev pub ip6_tests : Direction → ℕ
-ip6_tests d = 1 + side_tests d 4
+abbrev pub ip6_test_count : Direction → ℕ
+ip6_test_count d = 1 + side_tests d 4
 
 -- the protocol above is TCP, UDP, or either
 abbrev pub transport_tests : Option Protocol → ℕ
@@ -66,7 +66,7 @@ port_tests p d n =
 
 abbrev pub address_tests : Option Protocol → Direction → Value → ℕ
 address_tests p d (value.Mac a) = ether_tests d
-address_tests p d (value.Ip6 a n) = ip6_tests d
+address_tests p d (value.Ip6 a n) = ip6_test_count d
 address_tests p d _ = ip4_tests p d
 
 -- a value with its qualifiers
@@ -82,18 +82,18 @@ value_tests q v = typed_tests q.value_type q.protocol q.direction v
 
 -- the checks of an accessor: the protocol, and of one above IPv4 its number and that the packet is
 -- no later fragment
-abbrev pub accessor_tests : Protocol → ℕ
-accessor_tests protocol.Tcp = 1 + 1 + 1
-accessor_tests protocol.Udp = 1 + 1 + 1
-accessor_tests protocol.Icmp = 1 + 1 + 1
-accessor_tests _ = 1
+abbrev pub accessor_test_count : Protocol → ℕ
+accessor_test_count protocol.Tcp = 1 + 1 + 1
+accessor_test_count protocol.Udp = 1 + 1 + 1
+accessor_test_count protocol.Icmp = 1 + 1 + 1
+accessor_test_count _ = 1
 
 -- the checks of all accessors
 abbrev pub number_tests : NumberTree → ℕ
 number_tests (literal n) = 0
 number_tests len = 0
 number_tests (named n) = 0
-number_tests (load p s a) = number_tests a + accessor_tests p
+number_tests (load p s a) = number_tests a + accessor_test_count p
 number_tests (negated a) = number_tests a
 number_tests (applied o a b) = number_tests a + number_tests b
 
@@ -166,7 +166,7 @@ node_tests (node.Cast p c) = cast_tests c
 node_tests (node.Sized s n) = 1
 node_tests (node.Qualified q v) = value_tests q v
 node_tests (node.Compare c) = 1
-node_tests (node.Load p s) = accessor_tests p
+node_tests (node.Load p s) = accessor_test_count p
 node_tests _ = 0
 
 abbrev pub node_size : Node → ℕ

@@ -19,11 +19,11 @@ latest q _ = q
 
 -- each bare value takes the qualifiers of the nearest value to its left that has some, or q where
 -- there is none
-abbrev pub inherited : Quals → TruthTree → TruthTree
-inherited q (bare v) = valued q v
-inherited q (denied a) = denied (inherited q a)
-inherited q (joined j a b) = joined j (inherited q a) (inherited (latest q a) b)
-inherited q a = a
+abbrev pub with_inherited : Quals → TruthTree → TruthTree
+with_inherited q (bare v) = valued q v
+with_inherited q (denied a) = denied (with_inherited q a)
+with_inherited q (joined j a b) = joined j (with_inherited q a) (with_inherited (latest q a) b)
+with_inherited q a = a
 
 -- a type that is left out is `host`, a direction `src or dst`
 abbrev pub type_or_host : Quals → ValueType
@@ -37,11 +37,11 @@ full q =
       value_type = type_or_host q;
     }
 
-abbrev pub completed : TruthTree → TruthTree
-completed (valued q v) = qualified (full q) v
-completed (denied a) = denied (completed a)
-completed (joined j a b) = joined j (completed a) (completed b)
-completed a = a
+abbrev pub complete : TruthTree → TruthTree
+complete (valued q v) = qualified (full q) v
+complete (denied a) = denied (complete a)
+complete (joined j a b) = joined j (complete a) (complete b)
+complete a = a
 
 -- where nothing is to the left
 abbrev pub only_host : Quals
@@ -49,11 +49,11 @@ only_host = record { protocol = None; direction = None; value_type = Some Host }
 
 abbrev pub expr_inherited : Expression → Expression
 expr_inherited empty = empty
-expr_inherited (truth a) = truth (inherited only_host a)
+expr_inherited (truth a) = truth (with_inherited only_host a)
 
-abbrev pub filled : Expression → Expression
-filled empty = empty
-filled (truth a) = truth (completed (inherited only_host a))
+abbrev pub fill_expression : Expression → Expression
+fill_expression empty = empty
+fill_expression (truth a) = truth (complete (with_inherited only_host a))
 
 -- the same over the nodes
 abbrev pub next_latest : Quals → Node → Quals

@@ -91,9 +91,9 @@ pub data Truth : ℕ → List TokenKind → TruthTree → List TokenKind → Typ
       → Truth 1 ts a (token.Join j ∷ mid) → Truth 0 mid b rest → Truth 1 ts (joined j a b) rest
 
 -- the whole of the tokens
-pub data Reads : List TokenKind → Expression → Type 0 where
-  no_tokens : Reads [] empty
-  all_tokens : {ts : List TokenKind} {a : TruthTree} → Truth 1 ts a [] → Reads ts (truth a)
+pub data IsReadAs : List TokenKind → Expression → Type 0 where
+  no_tokens : IsReadAs [] empty
+  all_tokens : {ts : List TokenKind} {a : TruthTree} → Truth 1 ts a [] → IsReadAs ts (truth a)
 
 -- tokens without their places
 abbrev pub kinds_of : List Token → List TokenKind

@@ -26,7 +26,7 @@ use Rattle.flt_tree.specs.Values.{quals_of, value_of}
 use Rattle.flt_tree.specs.Grammar.{level, is_check, is_accessor, has_casts}
 
 -- what the parser keeps: the frames that wait and the nodes that are written
-pub record Reading : Type 0 where
+pub record ReaderState : Type 0 where
   pub frames : List Frame
   pub nodes : List Node
 
@@ -121,8 +121,8 @@ abbrev pub Read : Type 0
 Read = Operand × List Node
 
 -- a node behind its operand; the two are an operand of another sort
-abbrev pub written : Operand → Node → Option (List Node) → Option Read
-written y n o = o >>= λ e. Some (y, n ∷ e)
+abbrev pub after_node : Operand → Node → Option (List Node) → Option Read
+after_node y n o = o >>= λ e. Some (y, n ∷ e)
 
 -- of which sort the operands of a frame are
 abbrev pub sort_of : Frame → Sort
@@ -146,7 +146,7 @@ node_of (frame.Load p) = None
 
 -- what a frame makes of its operand
 abbrev pub fill : Frame → Operand → List Node → Option Read
-fill f x d = node_of f >>= λ w. written w.1 w.0 (as_sort (sort_of f) x d)
+fill f x d = node_of f >>= λ w. after_node w.1 w.0 (as_sort (sort_of f) x d)
 
 abbrev pub Reduced : Type 0
 Reduced = List Frame × Operand × List Node
@@ -190,9 +190,9 @@ after_load more size (frame.Load p ∷ fs) x d =
 after_load more size _ x d = None
 
 -- the size of an accessor behind its colon
-abbrev pub size_of : List TokenKind → Option ℕ
-size_of (token.Number n ∷ token.CloseBracket ∷ ts) = Some n
-size_of _ = None
+abbrev pub accessor_size : List TokenKind → Option ℕ
+accessor_size (token.Number n ∷ token.CloseBracket ∷ ts) = Some n
+accessor_size _ = None
 
 abbrev pub after_sized_load : Option ℕ → List Frame → Operand → List Node → Option Begun
 after_sized_load (Some n) fs x d = after_load 2 n fs x d
@@ -211,7 +211,7 @@ after_token_at (token.Comparison c) ts fs x d = after_operator (frame.Compare c)
 after_token_at (token.Join j) ts fs x d = after_operator (frame.Join j) fs x d
 after_token_at token.Close ts fs x d = after_close fs x d
 after_token_at token.CloseBracket ts fs x d = after_load 0 1 fs x d
-after_token_at token.Colon ts fs x d = after_sized_load (size_of ts) fs x d
+after_token_at token.Colon ts fs x d = after_sized_load (accessor_size ts) fs x d
 after_token_at _ ts fs x d = None
 
 abbrev pub after_token : List TokenKind → List Frame → Operand → List Node → Option Begun
@@ -265,11 +265,11 @@ protocol_begins p (opening.Cast c) ts fs d =
     if has_casts p then Some (1, (fs, Some operand.Truth, node.Cast (Some p) c ∷ d)) else None
 protocol_begins p opening.Other ts fs d = with_frames fs (primitive ts d)
 
-abbrev pub number_of : List TokenKind → List Node → Option Primitive
-number_of (token.Number n ∷ token.Mask ∷ token.Dotted a p ∷ ts) d =
+abbrev pub number_primitive : List TokenKind → List Node → Option Primitive
+number_primitive (token.Number n ∷ token.Mask ∷ token.Dotted a p ∷ ts) d =
     bare_of (token.Number n ∷ token.Mask ∷ token.Dotted a p ∷ ts) d
-number_of (token.Number n ∷ ts) d = Some (0, Some (operand.Plain n), d)
-number_of _ d = None
+number_primitive (token.Number n ∷ ts) d = Some (0, Some (operand.Plain n), d)
+number_primitive _ d = None
 
 abbrev pub sized_of : List TokenKind → List Node → Option Primitive
 sized_of (token.Size s ∷ token.Number n ∷ ts) d = Some (1, Some operand.Truth, node.Sized s n ∷ d)
@@ -282,7 +282,7 @@ begin_at (token.Side s) ts fs d = with_frames fs (primitive ts d)
 begin_at (token.ValueType k) ts fs d = with_frames fs (primitive ts d)
 begin_at (token.Cast c) ts fs d = Some (0, (fs, Some operand.Truth, node.Cast None c ∷ d))
 begin_at (token.Size s) ts fs d = with_frames fs (sized_of ts d)
-begin_at (token.Number n) ts fs d = with_frames fs (number_of ts d)
+begin_at (token.Number n) ts fs d = with_frames fs (number_primitive ts d)
 begin_at (token.Dotted a p) ts fs d = with_frames fs (bare_of ts d)
 begin_at (token.Ip6 a) ts fs d = with_frames fs (bare_of ts d)
 begin_at (token.Mac a) ts fs d = with_frames fs (bare_of ts d)
@@ -308,15 +308,15 @@ prefix_len _ _ = None
 abbrev pub next_of : List TokenKind → List Frame → Operand → List Node → Option Begun
 next_of ts fs x d = reduce (next_precedence ts) fs x d >>= λ r. after_token ts r.0 r.1 r.2
 
-abbrev pub prefixed : Option (ℕ × ℕ) → List TokenKind → List Frame → Operand → List Node
+abbrev pub with_prefix : Option (ℕ × ℕ) → List TokenKind → List Frame → Operand → List Node
     → Option Begun
-prefixed (Some p) ts fs x d =
+with_prefix (Some p) ts fs x d =
     if nat_le 1 (operand_precedence fs) then Some (1, (fs, Some (operand.Either p.0 (Some p.1)), d))
     else next_of ts fs x d
-prefixed None ts fs x d = next_of ts fs x d
+with_prefix None ts fs x d = next_of ts fs x d
 
 abbrev pub after_operand : List TokenKind → List Frame → Operand → List Node → Option Begun
-after_operand ts fs x d = prefixed (prefix_len x ts) ts fs x d
+after_operand ts fs x d = with_prefix (prefix_len x ts) ts fs x d
 
 abbrev pub whole : List Frame → Operand → List Node → Option (List Node)
 whole [] x d = as_truth x d

@@ -1,5 +1,5 @@
-//! The tree of an expression of pcap-filter(7), read from its tokens: values with what stands before
-//! them, nodes with what each one counts as, and the reader that writes them.
+//! The tree of an expression of pcap-filter(7), read from its tokens: values with what stands
+//! before them, nodes with what each one counts as, and the reader that writes them.
 #![tactic(auto)]
 
 mod expr;

@@ -2,8 +2,9 @@
 
 ghost use Rattle.std.specs.Prelude.{◌≡◌, ◌≤◌};
 ghost use Rattle.flt_tree.specs.Counts.{side_tests, proto_tests, check_tests, ether_tests};
-ghost use Rattle.flt_tree.specs.Counts.{cast_tests, ip4_tests, ip6_tests, transport_tests};
-ghost use Rattle.flt_tree.specs.Counts.{port_tests, address_tests, value_tests, accessor_tests};
+ghost use Rattle.flt_tree.specs.Counts.{cast_tests, ip4_tests, ip6_test_count, transport_tests};
+ghost use Rattle.flt_tree.specs.Counts.{port_tests, address_tests, value_tests};
+ghost use Rattle.flt_tree.specs.Counts.{accessor_test_count};
 
 use crate::quals::{Direction, FullQuals};
 use crate::value::Value;
@@ -114,7 +115,7 @@ pub(crate) fn value_tests(quals: FullQuals, value: Value) -> u8
 }
 
 pub(crate) fn accessor_tests(protocol: Protocol) -> u8
-    ensures count { result ≡ accessor_tests protocol }
+    ensures count { result ≡ accessor_test_count protocol }
     ensures upper_bound { result ≤ 3 }
 {
     match protocol {

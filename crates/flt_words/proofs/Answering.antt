@@ -3,7 +3,7 @@ use Rattle.std.proofs.Common.{◌≡◌, Bool, true, false, ◌&&◌, refl, ◌�
 use Rattle.flt_words.specs.declared.number.WordFault.{WordFault}
 use Rattle.flt_words.specs.declared.number.WordFault.TheVariants as fault
 use Rattle.flt_words.specs.declared.token.TokenKind.{TokenKind}
-use Rattle.flt_words.specs.Numbers.{Answers, both}
+use Rattle.flt_words.specs.Numbers.{Answers, both_known}
 use Rattle.flt_words.specs.Words.{Stands, fits}
 
 pub answers_along : {A : Type 0} (V W : A → Type 0) (test : A → Bool) → ((a : A) → V a → W a) → ((a : A) → W a → V a) → (r : Result A WordFault) → Answers V test r → Answers W test r
@@ -18,7 +18,7 @@ right_fails : (a b : Bool) → b ≡ false → a && b ≡ false
 right_fails true b e = e
 right_fails false b e = refl
 
-pub answers_both : {A B : Type 0} (V : A → Type 0) (W : B → Type 0) (p : A → Bool) (q : B → Bool) (r : Result A WordFault) (s : Result B WordFault) → Answers V p r → Answers W q s → Answers {A = A × B} (λ ab. V ab.0 × W ab.1) (λ ab. p ab.0 && q ab.1) (both r s)
+pub answers_both : {A B : Type 0} (V : A → Type 0) (W : B → Type 0) (p : A → Bool) (q : B → Bool) (r : Result A WordFault) (s : Result B WordFault) → Answers V p r → Answers W q s → Answers {A = A × B} (λ ab. V ab.0 × W ab.1) (λ ab. p ab.0 && q ab.1) (both_known r s)
 answers_both V W p q (Ok a) (Ok b) h k = ((h.0, k.0), rw (h.1, k.1) refl)
 answers_both V W p q (Ok a) (Err fault.TooLarge) h k = ((a, k.0), (h.0, k.1), right_fails (p a) (q k.0) k.2)
 answers_both V W p q (Ok a) (Err fault.Unknown) h k = λ ab w. k ab.1 w.1

@@ -4,12 +4,12 @@ use Rattle.std.proofs.lemmas.Bool.Decides.{nat_tests}
 use Rattle.std.specs.Str.Parse.{digits_value}
 use Rattle.cap_octet.specs.Digits.{are_digits}
 use Rattle.cap_octet.proofs.Numerals.{digits_from_test, digits_pass}
-use Rattle.flt_words.specs.Numbers.{Writes, is_word_sized}
+use Rattle.flt_words.specs.Numbers.{WritesNumber, is_word_sized}
 
-pub writes_pass : {radix n : ℕ} {ds : List ℕ} → Writes radix ds n → are_digits radix ds ≡ true
+pub writes_pass : {radix n : ℕ} {ds : List ℕ} → WritesNumber radix ds n → are_digits radix ds ≡ true
 writes_pass {radix} {n} {ds} w = digits_pass radix ds w.numeral.1
 
-pub writes_from_test : (radix : ℕ) (ds : List ℕ) → 0 < length ds → are_digits radix ds ≡ true → Writes radix ds (digits_value radix ds)
+pub writes_from_test : (radix : ℕ) (ds : List ℕ) → 0 < length ds → are_digits radix ds ≡ true → WritesNumber radix ds (digits_value radix ds)
 writes_from_test radix ds some pass = record { numeral = (some, digits_from_test radix ds pass); value = refl }
 
 pub fits : (n : ℕ) → n < 2 ^ 32 → is_word_sized n ≡ true

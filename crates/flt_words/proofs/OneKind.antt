@@ -9,7 +9,7 @@ use Rattle.flt_words.specs.declared.token.TokenKind.{TokenKind}
 use Rattle.flt_words.specs.declared.token.TokenKind.TheVariants as token
 use Rattle.flt_words.specs.Addresses.{AreGroups, AreIp6Ends, IsDotted, IsGroup, IsIp6, IsMac, IsWholeIp6, group_values}
 use Rattle.flt_words.specs.Addresses.IsIp6.{shortened, whole}
-use Rattle.flt_words.specs.Numbers.{IsNumber, IsRange, Writes}
+use Rattle.flt_words.specs.Numbers.{IsNumber, IsRange, WritesNumber}
 use Rattle.flt_words.specs.Numbers.IsRange.{joined}
 use Rattle.flt_words.specs.Numbers.IsNumber.{decimal, octal, hexadecimal, capital_hexadecimal}
 use Rattle.flt_words.specs.Spellings.{keyword_of}
@@ -58,7 +58,7 @@ six_are_no_ip6 are six (shortened {front} {back} w) = no_double_colon (length fr
 no_mac_is_ip6 : {word : List ℕ} {a b : ℕ} → IsMac word a → IsIp6 word b → ⊥
 no_mac_is_ip6 v w = six_are_no_ip6 (record { joined = v.are.joined; each = bytes_are_quads v.groups v.are.each }) v.six w
 
-decimal_first : (digits : List ℕ) {n : ℕ} → Writes 10 digits n → get_or digits 0 0 < 58
+decimal_first : (digits : List ℕ) {n : ℕ} → WritesNumber 10 digits n → get_or digits 0 0 < 58
 decimal_first [] w = absurd (omega (arith, w.numeral.0))
 decimal_first (d ∷ digits) w = let range = digit_from_value d w.numeral.1.0 in omega (arith, range)
 

@@ -84,8 +84,8 @@ pub data IsIp6 : List ℕ → ℕ → Type 0 where
 
 -- the answer of looking for an address: one of which this is so, or none where it is so of no
 -- address
-abbrev pub Finds : (ℕ → Type 0) → Option ℕ → Type 0
-Finds IsIt answer = MatchOption answer ((address : ℕ) → IsIt address → ⊥) IsIt
+abbrev pub FindsAddress : (ℕ → Type 0) → Option ℕ → Type 0
+FindsAddress IsIt answer = MatchOption answer ((address : ℕ) → IsIt address → ⊥) IsIt
 
 -- two colons stand here
 abbrev pub IsDoubleColon : List ℕ → ℕ → Type 0

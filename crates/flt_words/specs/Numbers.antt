@@ -5,21 +5,22 @@ use Rattle.flt_words.specs.declared.number.WordFault.{WordFault}
 use Rattle.flt_words.specs.declared.number.WordFault.TheVariants as fault
 
 -- the digits, one or more, write the number in this radix
-pub record Writes (radix : ℕ) (digits : List ℕ) (n : ℕ) : Type 0 where
+pub record WritesNumber (radix : ℕ) (digits : List ℕ) (n : ℕ) : Type 0 where
   pub numeral : IsNumeral radix digits
   pub value : digits_value radix digits ≡ n
 
 -- the digits write the number in decimal, without leading zeros
 pub record WritesDecimal (digits : List ℕ) (n : ℕ) : Type 0 where
-  pub writes : Writes 10 digits n
+  pub writes : WritesNumber 10 digits n
   pub no_leading_zero : slice_index digits 0 ≡ 48 → length digits ≡ 1
 
 -- the word is a number as C spells it
 pub data IsNumber : List ℕ → ℕ → Type 0 where
   decimal : {word : List ℕ} {n : ℕ} → WritesDecimal word n → IsNumber word n
-  octal : {digits : List ℕ} {n : ℕ} → Writes 8 digits n → IsNumber (codes "0" ++ digits) n
-  hexadecimal : {digits : List ℕ} {n : ℕ} → Writes 16 digits n → IsNumber (codes "0x" ++ digits) n
-  capital_hexadecimal : {digits : List ℕ} {n : ℕ} → Writes 16 digits n
+  octal : {digits : List ℕ} {n : ℕ} → WritesNumber 8 digits n → IsNumber (codes "0" ++ digits) n
+  hexadecimal : {digits : List ℕ} {n : ℕ} → WritesNumber 16 digits n
+      → IsNumber (codes "0x" ++ digits) n
+  capital_hexadecimal : {digits : List ℕ} {n : ℕ} → WritesNumber 16 digits n
       → IsNumber (codes "0X" ++ digits) n
 
 -- the word is two numbers joined by a dash
@@ -39,10 +40,10 @@ Answers {A} Stands test (Err fault.TooLarge) = (a : A) × Stands a × (test a �
 Answers {A} Stands test (Err fault.Unknown) = (a : A) → Stands a → ⊥
 
 -- both answers: unknown where either is, and else too large where either is
-abbrev pub both : {A B : Type 0} → Result A WordFault → Result B WordFault
+abbrev pub both_known : {A B : Type 0} → Result A WordFault → Result B WordFault
     → Result (A × B) WordFault
-both (Ok a) (Ok b) = Ok (a, b)
-both (Ok a) (Err e) = Err e
-both (Err fault.Unknown) r = Err fault.Unknown
-both (Err fault.TooLarge) (Ok b) = Err fault.TooLarge
-both (Err fault.TooLarge) (Err e) = Err e
+both_known (Ok a) (Ok b) = Ok (a, b)
+both_known (Ok a) (Err e) = Err e
+both_known (Err fault.Unknown) r = Err fault.Unknown
+both_known (Err fault.TooLarge) (Ok b) = Err fault.TooLarge
+both_known (Err fault.TooLarge) (Err e) = Err e

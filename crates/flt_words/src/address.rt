@@ -3,7 +3,8 @@
 ghost use Rattle.std.specs.Prelude.{◌≡◌, ◌≤◌, ◌<◌, ◌+◌, ◌*◌, ◌^◌, ℕ, MatchOption, length};
 ghost use Rattle.std.specs.Str.Parse.{IsNumeral, digits_value};
 ghost use Rattle.flt_words.specs.declared.address.Group.TheVariants.{Octet};
-ghost use Rattle.flt_words.specs.Addresses.{AreIp6Ends, Finds, IsDotted, IsDoubleColon, IsGroup};
+ghost use Rattle.flt_words.specs.Addresses.{AreIp6Ends, FindsAddress, IsDotted, IsDoubleColon};
+ghost use Rattle.flt_words.specs.Addresses.{IsGroup};
 ghost use Rattle.flt_words.specs.Addresses.{IsIp6, IsMac, IsWholeIp6, ReadsGroups, base_of};
 ghost use Rattle.flt_words.specs.Addresses.{group_value, separator_of};
 
@@ -132,7 +133,7 @@ pub(crate) fn dotted(word: &[u8]) -> Option<(u32, u8)>
 
 /// The address of six bytes.
 pub(crate) fn mac(word: &[u8]) -> Option<u64>
-    ensures { Finds (IsMac word.now) result }
+    ensures { FindsAddress (IsMac word.now) result }
 {
     let joined = groups_of(Group::Byte, word)?;
     if joined.count != 6 {
@@ -143,7 +144,7 @@ pub(crate) fn mac(word: &[u8]) -> Option<u64>
 
 /// The address of eight groups, or of fewer with one `::` for the rest.
 pub(crate) fn ip6(word: &[u8]) -> Option<u128>
-    ensures { Finds (IsIp6 word.now) result }
+    ensures { FindsAddress (IsIp6 word.now) result }
 {
     match double_colon(word) {
         Some(at) => ip6_from_ends(&word[..at], &word[at + 2..]),
@@ -152,7 +153,7 @@ pub(crate) fn ip6(word: &[u8]) -> Option<u128>
 }
 
 fn whole_ip6(word: &[u8]) -> Option<u128>
-    ensures { Finds (IsWholeIp6 word.now) result }
+    ensures { FindsAddress (IsWholeIp6 word.now) result }
 {
     let joined = groups_of(Group::Quad, word)?;
     if joined.count != 8 {
@@ -163,7 +164,7 @@ fn whole_ip6(word: &[u8]) -> Option<u128>
 
 /// The address whose groups left out between its ends are 0.
 fn ip6_from_ends(front: &[u8], back: &[u8]) -> Option<u128>
-    ensures { Finds (AreIp6Ends front.now back.now) result }
+    ensures { FindsAddress (AreIp6Ends front.now back.now) result }
 {
     let first = groups_of(Group::Quad, front)?;
     let last = groups_of(Group::Quad, back)?;

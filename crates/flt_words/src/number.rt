@@ -1,8 +1,8 @@
 //! Numbers in words, and the range of two.
 
 ghost use Rattle.std.specs.Prelude.{◌≡◌, ◌≤◌, ◌&&◌, ◌==◌, position};
-ghost use Rattle.flt_words.specs.Numbers.{Answers, IsNumber, IsRange, Writes};
-ghost use Rattle.flt_words.specs.Numbers.{WritesDecimal, both, is_word_sized};
+ghost use Rattle.flt_words.specs.Numbers.{Answers, IsNumber, IsRange, WritesNumber};
+ghost use Rattle.flt_words.specs.Numbers.{WritesDecimal, both_known, is_word_sized};
 
 use cap_octet::digits::{are_digits, digits_number};
 
@@ -19,7 +19,7 @@ pub(crate) enum WordFault {
 pub(crate) fn numeral(radix: u32, digits: &[u8]) -> Result<u32, WordFault>
     requires low { 2 ≤ radix }
     requires high { radix ≤ 16 }
-    ensures { Answers (Writes radix digits.now) is_word_sized result }
+    ensures { Answers (WritesNumber radix digits.now) is_word_sized result }
 {
     if digits.is_empty() || !are_digits(radix, digits) {
         return Err(WordFault::Unknown);
@@ -67,7 +67,7 @@ fn both(
     first: Result<u32, WordFault>,
     last: Result<u32, WordFault>,
 ) -> Result<(u32, u32), WordFault>
-    ensures { result ≡ both first last }
+    ensures { result ≡ both_known first last }
 {
     match (first, last) {
         (Ok(first), Ok(last)) => Ok((first, last)),

@@ -216,7 +216,7 @@ fn a_program_may_be_too_long(rt: HostRuntime) -> Result<(), Fail> {
     Ok(())
 }
 
-/// Whether a fault is told so.
+/// Whether a fault is reported so.
 fn is_told_as(alloc: Global, fault: impl Display + Drop, text: &str) -> bool {
     matches!(format!(in alloc; "{fault}"), Ok(told) if told.as_str() == text)
 }

@@ -5,10 +5,10 @@ ghost use Rattle.std.specs.Prelude.{◌≡◌, ◌≤◌, ◌<◌, ◌∷◌, []
 ghost use Rattle.std.specs.Prelude.{MatchOption, OnOk, length, reverse, List, Some, None, Err};
 ghost use Rattle.std.specs.Prelude.{drop};
 ghost use Rattle.flt_tree.specs.Machine.{IsLoose, precedence, operand_precedence, begin_at};
-ghost use Rattle.flt_tree.specs.Machine.{protocol_begins, opening_of, number_of, sized_of};
+ghost use Rattle.flt_tree.specs.Machine.{protocol_begins, opening_of, number_primitive, sized_of};
 ghost use Rattle.flt_tree.specs.Machine.{primitive, bare_of, one_node, with_frames, IsReadFault};
 ghost use Rattle.flt_tree.specs.Machine.{as_number, as_truth, as_sort, prefix_mask, fill, reduce};
-ghost use Rattle.flt_tree.specs.Machine.{after_operator, after_load, size_of, after_close};
+ghost use Rattle.flt_tree.specs.Machine.{after_operator, after_load, accessor_size, after_close};
 ghost use Rattle.flt_tree.specs.Machine.{after_token_at, prefix_len, after_operand, run, finish};
 ghost use Rattle.flt_tree.specs.Machine.{all_run};
 ghost use Rattle.flt_tree.specs.Nodes.{IsTree, tree_of};
@@ -38,9 +38,9 @@ pub struct Reader<A: Allocator> {
 /// Both lists are seen latest first.
 impl<A: Allocator> Model for Reader<A> {
     ghost use Rattle.std.specs.Prelude.{reverse};
-    ghost use Rattle.flt_tree.specs.Machine.{Reading};
+    ghost use Rattle.flt_tree.specs.Machine.{ReaderState};
 
-    ghost Value = { Reading };
+    ghost Value = { ReaderState };
 
     ghost view = { λ r. record {
       frames = reverse r.frames.items;
@@ -231,11 +231,12 @@ impl<A: Allocator> Reader<A> {
     /// Reads a number, or a network's number with its mask.
     fn begin_number(&mut self, tokens: &[Token]) -> Result<(usize, Option<Operand>), ExprFault>
         ensures ok { IfOk result (λ r.
-            with_frames self.old.frames (number_of (kinds_of tokens.now) self.old.nodes)
+            with_frames self.old.frames (number_primitive (kinds_of tokens.now) self.old.nodes)
             ≡ Some (r.0, (self.new.frames, r.1, self.new.nodes))) }
         ensures within { IfOk result (λ r. r.0 < length tokens.now) }
         ensures none { result ≡ Err ExprFault.NotAnExpression
-            → with_frames self.old.frames (number_of (kinds_of tokens.now) self.old.nodes) ≡ None }
+            → with_frames self.old.frames (number_primitive (kinds_of tokens.now) self.old.nodes)
+            ≡ None }
         ensures err { IfErr result IsReadFault }
     {
         match (kind_at(tokens, 0), kind_at(tokens, 1), kind_at(tokens, 2)) {
@@ -598,7 +599,7 @@ fn prefix_len(operand: Operand, first: TokenKind, rest: &[Token]) -> Option<(u32
 
 /// The size of an accessor, behind its colon.
 fn size_of(tokens: &[Token]) -> Option<u32>
-    ensures value { result ≡ size_of (kinds_of tokens.now) }
+    ensures value { result ≡ accessor_size (kinds_of tokens.now) }
     ensures within { IfSome result (λ _. 1 < length tokens.now) }
 {
     match (kind_at(tokens, 0), kind_at(tokens, 1)) {

@@ -1,6 +1,6 @@
 -- What the text begins with is what its first bytes and its block say.
 use Rattle.std.proofs.Common.{length, arith}
-use Rattle.cap_memory.specs.Layout.{first_of}
+use Rattle.cap_memory.specs.Layout.{first_interfaces}
 use Rattle.cap_memory.proofs.Stands.{block_cut, frame_fails, framed, no_block, stands}
 use Rattle.cap_memory.proofs.block.read_block.Goals as goal
 
@@ -19,7 +19,7 @@ returns-in-Ok-apply_block-clause-ok c =
     let there = c.if-text-size.false in
     let e = c.in-Ok-apply_block.ensures.ok in
     record {
-      stands = λ before is same. stands before c.args.section (first_of c.args.count c.args.table.now) (first_of c.in-Ok-apply_block.effect.interfaces c.apply_block.new.table) c.args.text.now c.in-Some.first.now
+      stands = λ before is same. stands before c.args.section (first_interfaces c.args.count c.args.table.now) (first_interfaces c.in-Ok-apply_block.effect.interfaces c.apply_block.new.table) c.args.text.now c.in-Some.first.now
           c.in-Ok.found c.in-Ok-apply_block.effect.packet is same c.in-Some.ensures.cases.enough c.in-Some.ensures.cases.same c.in-Ok.ensures.answer c.in-Ok.ensures.shortest (omega (arith, there)) e.enters;
       known = e.known;
       upper_bound = e.upper_bound;
@@ -29,5 +29,5 @@ returns-in-Ok-apply_block-clause-ok c =
 pub returns-in-Err-apply_block-clause-err : goal.returns-in-Err-apply_block-clause-err
 returns-in-Err-apply_block-clause-err c =
     let there = c.if-text-size.false in
-    no_block c.args.section (first_of c.args.count c.args.table.now) c.args.text.now c.in-Some.first.now c.in-Ok.found (length c.args.table.now) c.in-Err-apply_block.refusal c.in-Some.ensures.cases.enough c.in-Some.ensures.cases.same
+    no_block c.args.section (first_interfaces c.args.count c.args.table.now) c.args.text.now c.in-Some.first.now c.in-Ok.found (length c.args.table.now) c.in-Err-apply_block.refusal c.in-Some.ensures.cases.enough c.in-Some.ensures.cases.same
     c.in-Ok.ensures.answer c.in-Ok.ensures.shortest (omega (arith, there)) c.in-Err-apply_block.ensures.err

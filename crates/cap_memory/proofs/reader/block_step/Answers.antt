@@ -1,7 +1,7 @@
 -- The block is the unit that the text begins with.
 use Rattle.std.proofs.Common.{Option, ℕ, length, sym, subst}
-use Rattle.cap_memory.specs.Layout.{first_of}
-use Rattle.cap_memory.specs.Units.{Steps}
+use Rattle.cap_memory.specs.Layout.{first_interfaces}
+use Rattle.cap_memory.specs.Units.{BeginsWithUnit}
 use Rattle.cap_memory.specs.declared.layout.Form.TheVariants as form
 use Rattle.cap_memory.proofs.Fronts.{block_unit, no_unit}
 use Rattle.cap_memory.proofs.reader.block_step.Goals as goal
@@ -10,9 +10,9 @@ pub returns-in-Ok-clause-ok : goal.returns-in-Ok-clause-ok
 returns-in-Ok-clause-ok c =
     let e = c.in-Ok.ensures.ok in
     let r = c.in-Ok.read in
-    let u = block_unit c.args.form c.args.section c.args.first (first_of c.args.count c.args.table.now) c.args.text.now r.order r.size (first_of r.effect.interfaces c.read_block.new.table) r.effect.packet
+    let u = block_unit c.args.form c.args.section c.args.first (first_interfaces c.args.count c.args.table.now) c.args.text.now r.order r.size (first_interfaces r.effect.interfaces c.read_block.new.table) r.effect.packet
     c.requires.begins e.stands e.of in
-    let P : Option ℕ → Type 0 = λ link. Steps c.args.form (first_of c.args.count c.args.table.now) c.args.text.now c.read_block.new.table
+    let P : Option ℕ → Type 0 = λ link. BeginsWithUnit c.args.form (first_interfaces c.args.count c.args.table.now) c.args.text.now c.read_block.new.table
     (record { size = r.size; form = form.Pcapng r.order link; interfaces = r.effect.interfaces; packet = r.effect.packet }) in
     subst P (sym (c.first_link_type-link.ensures r.order)) (record {
       packets = u.packets;
@@ -26,4 +26,4 @@ returns-in-Ok-clause-ok c =
 
 pub returns-in-Err-clause-err : goal.returns-in-Err-clause-err
 returns-in-Err-clause-err c =
-    no_unit c.args.form c.args.section c.args.first (first_of c.args.count c.args.table.now) c.args.text.now (length c.args.table.now) c.in-Err.why c.requires.begins c.in-Err.ensures.err
+    no_unit c.args.form c.args.section c.args.first (first_interfaces c.args.count c.args.table.now) c.args.text.now (length c.args.table.now) c.in-Err.why c.requires.begins c.in-Err.ensures.err

@@ -1,6 +1,6 @@
 -- What is left is what reading the unit leaves.
 use Rattle.std.proofs.Common.{length, refl, subst}
-use Rattle.cap_memory.specs.Layout.{first_of}
+use Rattle.cap_memory.specs.Layout.{first_interfaces}
 use Rattle.cap_memory.specs.Units.{IsNoUnit}
 use Rattle.cap_memory.proofs.Leaves.{ended, found_packet, full, passed, refused}
 use Rattle.cap_memory.proofs.reader.next_unit.Goals as goal
@@ -23,9 +23,9 @@ returns-in-None-clause-left c =
 pub returns-in-Err-Fault-clause-left : goal.returns-in-Err-Fault-clause-left
 returns-in-Err-Fault-clause-left c =
     refused c.args.capture.now c.rest_of-text.result.now c.args.reader.now c.args.table.now c.read_unit.new.table c.args.packet.now c.form-form.result c.known_in-count.result c.in-Err-Fault.fault
-    c.form-form.ensures c.known_in-count.ensures.counts c.rest_of-text.ensures (subst (λ w. IsNoUnit c.form-form.result (first_of c.known_in-count.result c.args.table.now) c.rest_of-text.result.now (length c.args.table.now) w) c.in-Err-Fault.field-0-is c.in-Err-Fault.ensures.err) c.in-Err-Fault.ensures.kept
+    c.form-form.ensures c.known_in-count.ensures.counts c.rest_of-text.ensures (subst (λ w. IsNoUnit c.form-form.result (first_interfaces c.known_in-count.result c.args.table.now) c.rest_of-text.result.now (length c.args.table.now) w) c.in-Err-Fault.field-0-is c.in-Err-Fault.ensures.err) c.in-Err-Fault.ensures.kept
 
 pub returns-in-Err-NoRoom-clause-left : goal.returns-in-Err-NoRoom-clause-left
 returns-in-Err-NoRoom-clause-left c =
     full c.args.capture.now c.rest_of-text.result.now c.args.reader.now c.args.table.now c.read_unit.new.table c.args.packet.now c.form-form.result c.known_in-count.result
-    c.form-form.ensures c.known_in-count.ensures.counts c.rest_of-text.ensures (subst (λ w. IsNoUnit c.form-form.result (first_of c.known_in-count.result c.args.table.now) c.rest_of-text.result.now (length c.args.table.now) w) c.in-Err-NoRoom.field-0-is c.in-Err-NoRoom.ensures.err) c.in-Err-NoRoom.ensures.kept
+    c.form-form.ensures c.known_in-count.ensures.counts c.rest_of-text.ensures (subst (λ w. IsNoUnit c.form-form.result (first_interfaces c.known_in-count.result c.args.table.now) c.rest_of-text.result.now (length c.args.table.now) w) c.in-Err-NoRoom.field-0-is c.in-Err-NoRoom.ensures.err) c.in-Err-NoRoom.ensures.kept

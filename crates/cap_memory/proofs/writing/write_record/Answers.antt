@@ -5,17 +5,17 @@ use Rattle.std.proofs.lemmas.List.{append-nil}
 use Rattle.cap_octet.specs.Checks.{first_failing}
 use Rattle.cap_octet.specs.declared.fault.Fault.TheVariants.{TimeOutOfRange}
 use Rattle.cap_octet.proofs.Checks.{checked_ok, met_front}
-use Rattle.cap_pcap.specs.Encoding.{fit_checks, record_header}
-use Rattle.cap_memory.specs.Writing.{packet_of}
+use Rattle.cap_pcap.specs.Encoding.{record_fit_checks, record_header}
+use Rattle.cap_memory.specs.Writing.{written_packet}
 use Rattle.cap_memory.proofs.Writes.{unrefused}
 use Rattle.cap_memory.proofs.writing.write_record.Goals as goal
 
 pub returns-in-Ok : goal.returns-in-Ok
 returns-in-Ok c =
-    let p = packet_of c.args.time c.args.original c.args.bytes.now [] in
+    let p = written_packet c.args.time c.args.original c.args.bytes.now [] in
     let early : nat_lt c.args.time (2 ^ 63) ≡ true = search rules in
-    let fits = checked_ok (first_failing (fit_checks p)) tt tt (sym c.in-Ok.ensures) in
+    let fits = checked_ok (first_failing (record_fit_checks p)) tt tt (sym c.in-Ok.ensures) in
     unrefused _ _ _ _ _ c.put_parts.result
-    (met_front ((nat_lt c.args.time (2 ^ 63), TimeOutOfRange) ∷ []) (fit_checks p) (rw early refl) ∙ fits.0)
+    (met_front ((nat_lt c.args.time (2 ^ 63), TimeOutOfRange) ∷ []) (record_fit_checks p) (rw early refl) ∙ fits.0)
     (ap₂ (λ (h t : List ℕ). h ++ t) (c.record_bytes-head.ensures ∙ ap (λ r. record_header r p) c.format_by-format.ensures.resolution) (append-nil c.args.bytes.now))
     c.put_parts.ensures

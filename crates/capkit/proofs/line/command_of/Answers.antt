@@ -2,7 +2,7 @@ use Rattle.std.proofs.Common.{◌≡◌, sym, map, string_bytes, subst, List, St
 use Rattle.std.specs.Global.{Global}
 use Rattle.clap.specs.Words.{found_of, rows_of, subcommand_rows_of}
 use Rattle.clap.specs.declared.parser.matches.ArgMatches.{ArgMatches}
-use Rattle.cap_arguments.specs.Arguments.{Takes}
+use Rattle.cap_arguments.specs.Arguments.{TakesWords}
 use Rattle.capkit.specs.Line.{Asks}
 use Rattle.capkit.proofs.Enters.{always_enters, asks_of}
 use Rattle.capkit.proofs.Saying.{says_fault, says_line}
@@ -11,9 +11,9 @@ use Rattle.capkit.proofs.line.command_of.Goals as goal
 pub unreachable-requires : goal.unreachable-requires
 unreachable-requires c = always_enters _ (subcommand_rows_of c.in-Ok.matches) c.in-Ok.ensures.taken c.in_default.ensures.rows
 
-taken_as : (met : ArgMatches) (words given : List (String Global)) → words ≡ given → Takes (map string_bytes words) (subcommand_rows_of met)
-    → Takes (map string_bytes given) (subcommand_rows_of met)
-taken_as met words given same taken = subst (λ (ws : List (String Global)). Takes (map string_bytes ws) (subcommand_rows_of met)) same taken
+taken_as : (met : ArgMatches) (words given : List (String Global)) → words ≡ given → TakesWords (map string_bytes words) (subcommand_rows_of met)
+    → TakesWords (map string_bytes given) (subcommand_rows_of met)
+taken_as met words given same taken = subst (λ (ws : List (String Global)). TakesWords (map string_bytes ws) (subcommand_rows_of met)) same taken
 
 asks : (c : goal.After-drop-words-2) → Asks (map string_bytes c.args.words.items) c.subcommand_named.result (rows_of (found_of c.in-Some.matches.now))
 asks c =

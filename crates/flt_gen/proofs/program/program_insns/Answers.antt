@@ -3,7 +3,7 @@ use Rattle.std.proofs.Common.{◌≡◌, ◌-◌, Some, None, ◌∙◌, sym, ap
 use Rattle.std.specs.Prelude.{reverse, if◌then◌else◌}
 use Rattle.flt_words.specs.declared.token.Protocol.TheVariants.{Ether}
 use Rattle.flt_tree.specs.declared.node.Node.TheVariants.{Check}
-use Rattle.flt_gen.specs.Walk.{Walk, emit_node, emit_nodes, start}
+use Rattle.flt_gen.specs.Walk.{Walk, emit_node, emit_nodes, start_walk}
 use Rattle.flt_gen.proofs.Turned.{Stands, stands, first_stands, node_stands, both_stand}
 use Rattle.flt_gen.proofs.program.program_insns.Goals as goal
 
@@ -96,7 +96,7 @@ nodes-preserved g c =
 pub into_insns-requires : goal.into_insns-requires
 into_insns-requires g c =
     let none : c.nodes.left ≡ 0 = (let l = c.nodes-test.false in omega arith) in
-    let same : c.nodes.walk ≡ emit_nodes c.args.link start (reverse c.args.nodes.now) = ap (λ j. emit_nodes c.args.link c.nodes.walk (reverse (take j c.args.nodes.now))) (sym none) ∙ c.nodes.invariant.same in
+    let same : c.nodes.walk ≡ emit_nodes c.args.link start_walk (reverse c.args.nodes.now) = ap (λ j. emit_nodes c.args.link c.nodes.walk (reverse (take j c.args.nodes.now))) (sym none) ∙ c.nodes.invariant.same in
     let inside = c.requires.inside in
     let entry = ap (λ (w : Walk). w.to.yes) same in
     let code = ap (λ (w : Walk). length w.code) same in

@@ -1,6 +1,6 @@
 -- The machine's nodes are those of the tree.
 use Rattle.std.proofs.Common.{sym, subst}
-use Rattle.flt_tree.specs.Grammar.{Reads, kinds_of}
+use Rattle.flt_tree.specs.Grammar.{IsReadAs, kinds_of}
 use Rattle.flt_lang.proofs.Parsing.{found_is_tree, found_reads}
 use Rattle.flt_lang.proofs.parser.read.Goals as goal
 
@@ -9,4 +9,4 @@ into_expr-requires g c = found_is_tree (kinds_of c.args.tokens.now) c.read.new.s
 
 pub returns-clause-ok : goal.returns-clause-ok
 returns-clause-ok g c =
-    subst (Reads (kinds_of c.args.tokens.now)) (sym c.into_expr.ensures) (found_reads (kinds_of c.args.tokens.now) c.read.new.self.nodes c.in_ok-read.ensures.ok)
+    subst (IsReadAs (kinds_of c.args.tokens.now)) (sym c.into_expr.ensures) (found_reads (kinds_of c.args.tokens.now) c.read.new.self.nodes c.in_ok-read.ensures.ok)

@@ -1,7 +1,7 @@
 -- The nodes that are left are those of the filled tree.
 use Rattle.std.proofs.Common.{◌≡◌, ◌∙◌, sym, ap, subst, None}
 use Rattle.flt_tree.specs.Nodes.{tree_of}
-use Rattle.flt_tree.specs.Filled.{filled}
+use Rattle.flt_tree.specs.Filled.{fill_expression}
 use Rattle.flt_tree.specs.Resolved.{nodes_fault, fill_fault, IsResolved}
 use Rattle.flt_lang.proofs.Filling.{filled_whole, nodes_are_tree, tree_is}
 use Rattle.flt_lang.proofs.FilledFaults.{found_fault, filled_resolved}
@@ -13,13 +13,13 @@ pub returns-in-Some-clause-err : goal.returns-in-Some-clause-err
 returns-in-Some-clause-err g c =
     sym (found_fault c.expr.inside.nodes.items c.inherit.new.nodes.items c.args.expr c.expr.invariant c.expr.view_is c.inherit.ensures) ∙ ap nodes_fault (sym c.deref.ensures.value) ∙ sym c.fault_of.ensures ∙ c.in-Some.is
 
-tree_left : (g : given.Over) (c : After-complete g) → tree_of c.complete.new.nodes.items ≡ filled c.args.expr
+tree_left : (g : given.Over) (c : After-complete g) → tree_of c.complete.new.nodes.items ≡ fill_expression c.args.expr
 tree_left g c =
     let nodes = filled_whole c.expr.inside.nodes.items c.inherit.new.nodes.items c.complete.new.nodes.items c.expr.invariant c.inherit.ensures c.complete.ensures in
-    tree_is _ _ nodes ∙ ap filled c.expr.view_is
+    tree_is _ _ nodes ∙ ap fill_expression c.expr.view_is
 
 pub invariant_of-result : goal.invariant_of-result
-invariant_of-result g c = nodes_are_tree (filled (tree_of c.expr.inside.nodes.items)) c.complete.new.nodes.items (filled_whole c.expr.inside.nodes.items c.inherit.new.nodes.items c.complete.new.nodes.items c.expr.invariant c.inherit.ensures c.complete.ensures)
+invariant_of-result g c = nodes_are_tree (fill_expression (tree_of c.expr.inside.nodes.items)) c.complete.new.nodes.items (filled_whole c.expr.inside.nodes.items c.inherit.new.nodes.items c.complete.new.nodes.items c.expr.invariant c.inherit.ensures c.complete.ensures)
 
 pub returns : goal.returns
 returns g c =
