@@ -23,31 +23,31 @@ use Rattle.flt_tree.specs.Tree.{Expression, empty, truth}
 use Rattle.cap_octet.specs.declared.link.Link.{Link}
 use Rattle.flt_code.specs.Elementary.{Reading, Yes, No, Rejected}
 use Rattle.flt_gen.specs.Reading.{holds}
-use Rattle.cap_tools.specs.declared.selector.Verdict as code
-use Rattle.cap_tools.specs.declared.selector.Verdict.TheVariants as code_verdict
+use Rattle.cap_packets.specs.declared.selector.Verdict as code
+use Rattle.cap_packets.specs.declared.selector.Verdict.TheVariants as code_verdict
 use Rattle.cap_tools.specs.declared.step.JobEnd.TheVariants as end
 use Rattle.cap_inputs.specs.declared.inputs.Next.TheVariants as next
-use Rattle.cap_tools.specs.Reports.{Tally}
+use Rattle.cap_packets.specs.Reports.{Tally}
 use Rattle.cap_inputs.specs.Sequence.{InputItems, Event, Packet, SequenceEnd, Complete, FaultIn, Sequence, sequence_of, with_front, PacketOrder}
-use Rattle.cap_tools.specs.Verdict.{Policy, Edit, Filter, KeepAll, Count, EditRule, SelectorState, Verdict, Pass, PassLast, PassesAs, Skip, Refuse, judge}
+use Rattle.cap_packets.specs.Verdict.{Policy, Edit, Filter, KeepAll, Count, EditRule, SelectorState, Verdict, Pass, PassLast, PassesAs, Skip, Refuse, judge}
 use Rattle.cap_window.specs.Marks.{mark_of, has_same}
-use Rattle.cap_tools.specs.Verdict as judged_spec
-use Rattle.cap_tools.specs.Selector.{PolicyState, GrowsByOne, IsWithin, IsVerdict}
+use Rattle.cap_packets.specs.Verdict as judged_spec
+use Rattle.cap_packets.specs.Selector.{PolicyState, GrowsByOne, IsWithin, IsVerdict}
 use Rattle.cap_print.specs.declared.print.Options.{Options}
 use Rattle.cap_print.specs.Rendering.{printed_text}
-use Rattle.cap_tools.specs.Outcome.{Form, AsCapture, AsLines, JobProgress, IsNextEvent, lines_text, no_progress, decide_unless, apply_verdict, apply_event, apply_events, final_progress, packet_bytes, form_refuses, end_with, final_text, first_link, output_text}
-use Rattle.cap_tools.specs.Outcome as course_spec
-use Rattle.cap_tools.specs.Output.{JobOutputView, Target, Capture, Text, Lines, HasWritten, PutsIntoOutput, form_at, form_to, output_at, written_to, failures_to}
+use Rattle.cap_packets.specs.Outcome.{Form, AsCapture, AsLines, JobProgress, IsNextEvent, lines_text, no_progress, decide_unless, apply_verdict, apply_event, apply_events, final_progress, packet_bytes, form_refuses, end_with, final_text, first_link, output_text}
+use Rattle.cap_packets.specs.Outcome as course_spec
+use Rattle.cap_packets.specs.Output.{JobOutputView, Target, Capture, Text, Lines, HasWritten, PutsIntoOutput, form_at, form_to, output_at, written_to, failures_to}
 use Rattle.cap_inputs.specs.Inputs.{InputView, InputsView, Future, InputPast, AreInputsBehind, AreSettled, IsInput, input_behind, actual_future, inputs_with, items_left, inputs_left, sequence_left, most_steps}
 use Rattle.cap_inputs.specs.Inputs as input_spec
 use Rattle.cap_tools.specs.Machine.{MachineState, PacketsDecided, GoesOn, CompletesOutput, DecidesPacket, Offers, StopsWriting, NextPacket, EndLeaves, progress_at, progress_of, progress_over, output_form, wholes_of, work_of, written_by, end_of_failed_write, sieve}
 use Rattle.cap_tools.proofs.Splits.{At, stands-split, stands-join, stands-length, rests-join, finish-here, come-on}
 use Rattle.cap_tools.proofs.Coming.{carries-decided, come-first, true-wholes, true-fit, true-fits}
-use Rattle.cap_tools.proofs.Outputs.{drained-text, PutOk, put-ok, WhyUnput, lines-more, unput, closing-some}
-use Rattle.cap_tools.proofs.Growing.{Grows, course-grows}
+use Rattle.cap_packets.proofs.Outputs.{drained-text, PutOk, put-ok, WhyUnput, lines-more, unput, closing-some}
+use Rattle.cap_packets.proofs.Growing.{Grows, course-grows}
 use Rattle.cap_tools.proofs.Laws.{DecideLaws, DecideAt, decide-at}
 use Rattle.cap_tools.proofs.Once.{once-nothing, once-packet}
-use Rattle.cap_tools.proofs.Outcomes.{progress-next, course-stop}
+use Rattle.cap_packets.proofs.Outcomes.{progress-next, course-stop}
 use Rattle.cap_inputs.proofs.Cursors.{greatest-decided, greatest-here, never-at, set-here}
 use Rattle.cap_tools.proofs.Fetches.{mk, among-same, comes-broken, inputs_at}
 

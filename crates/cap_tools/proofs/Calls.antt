@@ -21,8 +21,8 @@ use Rattle.cap_filter.specs.Outcome.{OutputView, IsTold, Runs, output_view}
 use Rattle.cap_inputs.specs.Fresh.{FreshInput, fresh_view, nothing_done}
 use Rattle.cap_inputs.specs.Inputs.{InputView, InputsView, InputPast, input_after, never_failing, offset_at}
 use Rattle.cap_inputs.specs.Sequence.{InputItems, Event, Packet, InputEnd, SequenceEnd, Complete, FaultIn, PacketOrder, InTurn, ByTime, whole_input}
-use Rattle.cap_tools.specs.declared.output.Writing.{Writing}
-use Rattle.cap_tools.specs.declared.output.Writing.TheVariants as writing
+use Rattle.cap_packets.specs.declared.output.Writing.{Writing}
+use Rattle.cap_packets.specs.declared.output.Writing.TheVariants as writing
 use Rattle.cap_tools.specs.Call.{Call, RunResult}
 use Rattle.cap_tools.specs.Commands.{RunsBy}
 use Rattle.cap_tools.specs.FirstStep.{filtering, output_of, output_name}
@@ -31,19 +31,19 @@ use Rattle.cap_tools.specs.declared.step.JobEnd.{JobEnd}
 use Rattle.cap_tools.specs.declared.step.JobEnd.TheVariants as end
 use Rattle.cap_io.specs.Source.{SourceView}
 use Rattle.cap_tools.specs.Machine.{MachineState, PacketsDecided, CompletesOutput, EndLeaves, EndsByCut, NextPacket, NextReport, NextClosing, StopsWriting, WantsMemory, asks_report, failures_by, output_form, progress_of, texts, wholes_of, work_of, written_by}
-use Rattle.cap_tools.specs.Outcome.{Form, Outcome, JobProgress, Work, IsNextEvent, apply_event, apply_verdict, closing_text, end_input, cut_at, decide_unless, first_link, form_refuses, form_takes_memory, message, outcome, packet_bytes, progress_behind, report_bytes, status, text_behind, text_of_progress}
-use Rattle.cap_tools.specs.Output.{failures_to, form_to, target_at, written_to}
-use Rattle.cap_tools.specs.Reports.{name_at}
+use Rattle.cap_packets.specs.Outcome.{Form, Outcome, JobProgress, Work, IsNextEvent, apply_event, apply_verdict, closing_text, end_input, cut_at, decide_unless, first_link, form_refuses, form_takes_memory, message, outcome, packet_bytes, progress_behind, report_bytes, status, text_behind, text_of_progress}
+use Rattle.cap_packets.specs.Output.{failures_to, form_to, target_at, written_to}
+use Rattle.cap_packets.specs.Reports.{name_at}
 use Rattle.cap_tools.specs.Run.{CommandRuns, HasCutInput, HasLackedMemory, HasLeft, HasLostOutput, IsNextAnswer, IsPolicy, IsWhyRefused, IsWork, by_end, by_event, ends, form_asked, input_cut, listing_answer, listing_outcome, next_judgement, no_memory, of_listing, of_packets, of_refusal, output_failed, packets_answer, refusal_outcome, whole_inputs}
 use Rattle.cap_tools.specs.Start.{Assignment, Preparing, ReadsFilter, Compiles}
 use Rattle.cap_filter.specs.FilterRules.{Rule}
 use Rattle.flt_bpf.specs.Content.{Content}
 use Rattle.cap_io.specs.declared.source.Kind.{Kind}
-use Rattle.cap_tools.specs.Verdict.{Policy, Edit, Filter, KeepAll, Count, SelectorState, Verdict, Pass, PassLast, PassesAs, Skip, Refuse, judge}
+use Rattle.cap_packets.specs.Verdict.{Policy, Edit, Filter, KeepAll, Count, SelectorState, Verdict, Pass, PassLast, PassesAs, Skip, Refuse, judge}
 use Rattle.cap_tools.proofs.Ends.{offset-here, same-work}
 use Rattle.cap_tools.proofs.Once.{packet-more, report-more}
-use Rattle.cap_tools.proofs.Outcomes.{progress-next}
-use Rattle.cap_tools.proofs.Outputs.{drained-text}
+use Rattle.cap_packets.proofs.Outcomes.{progress-next}
+use Rattle.cap_packets.proofs.Outputs.{drained-text}
 
 -- ---- the first view, by its call
 

@@ -11,7 +11,7 @@ use Rattle.cap_io.proofs.Standing.{IsAt-items, items-begin, Advances-sound}
 use Rattle.cap_inputs.specs.Sequence.{InputItems, Event, Packet, InputEnd, FaultIn, Sequence, sequence_of, sequence_in_turn, input_sequence, with_front, whole_input, PacketOrder}
 use Rattle.cap_inputs.specs.Inputs.{InputView, InputsView, Future, InputPast, AreInputsBehind, AreFutures, AreSettled, actual_future, waiting_packets, packets_at, input_items, inputs_with, items_left, inputs_left, sequence_left, no_future, input_after, input_behind}
 use Rattle.cap_tools.specs.Machine.{wholes_of}
-use Rattle.cap_tools.specs.Outcome.{ComeFirst}
+use Rattle.cap_packets.specs.Outcome.{ComeFirst}
 use Rattle.cap_tools.proofs.Splits.{At, Fit, Carries}
 
 drop-front : (rs qs : List InputItems) (r : InputItems) (n : ℕ) → length rs ≡ n → drop n (rs ++ r ∷ qs) ≡ r ∷ qs

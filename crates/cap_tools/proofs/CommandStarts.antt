@@ -4,8 +4,8 @@ use Rattle.std.proofs.lemmas.List.{append-nil}
 use Rattle.cap_octet.specs.declared.device.Stopped.{Stopped}
 use Rattle.flt_bpf.specs.Listing.{listing}
 use Rattle.cap_filter.specs.Messages.{write_failed_message}
-use Rattle.cap_tools.specs.Output.{Target, Capture, Text, Lines, ListsText, output_at, target_at, written_to, failures_to}
-use Rattle.cap_tools.specs.Reports.{name_at, nothing_counted}
+use Rattle.cap_packets.specs.Output.{Target, Capture, Text, Lines, ListsText, output_at, target_at, written_to, failures_to}
+use Rattle.cap_packets.specs.Reports.{name_at, nothing_counted}
 use Rattle.cap_tools.specs.Machine.{MachineState, written_by}
 use Rattle.cap_tools.specs.Messages.{MessagesView}
 use Rattle.std.proofs.lemmas.Bool.{and_parts, eqb-true, leb-true}
@@ -18,9 +18,9 @@ use Rattle.flt_bpf.specs.declared.insn.Insn.{Insn}
 use Rattle.cap_octet.specs.declared.link.Link.{Link}
 use Rattle.cap_tools.specs.declared.job.Turn.{Turn}
 use Rattle.cap_tools.specs.declared.job.Turn.TheVariants as turn
-use Rattle.cap_tools.specs.declared.output.Writing.TheVariants as writing
+use Rattle.cap_packets.specs.declared.output.Writing.TheVariants as writing
 use Rattle.cap_inputs.specs.Sequence.{InTurn}
-use Rattle.cap_tools.specs.Verdict.{Count, KeepAll}
+use Rattle.cap_packets.specs.Verdict.{Count, KeepAll}
 use Rattle.cap_tools.specs.Call.{Call, RunResult}
 use Rattle.cap_tools.specs.Jobs.{JobView, first_job, machine_at, end_message}
 use Rattle.cap_inputs.specs.Fresh.{fresh_inputs, nothing_done}
@@ -30,7 +30,7 @@ use Rattle.cap_inputs.specs.Inputs.{InputsView}
 use Rattle.cap_tools.specs.FirstStep.{EndsList, is_text, output_by}
 use Rattle.cap_tools.specs.Step.{ending}
 use Rattle.cap_tools.specs.Start.{Assignment, Preparing, assignment}
-use Rattle.cap_tools.specs.Selector.{SelectorView, state_with}
+use Rattle.cap_packets.specs.Selector.{SelectorView, state_with}
 use Rattle.cap_tools.specs.Commands.{IsReadyIf, CompileGives, DecidedBy, RunsBy, RunsCommand}
 use Rattle.cap_tools.proofs.Programs.{new-for}
 use Rattle.cap_tools.proofs.Starts.{nothing-decided, first-few, first-less}

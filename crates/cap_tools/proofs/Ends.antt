@@ -5,8 +5,8 @@ use Rattle.cap_filter.specs.Outcome.{OutputView, IsTold}
 use Rattle.cap_tools.specs.declared.step.JobEnd.{JobEnd}
 use Rattle.cap_tools.specs.declared.step.JobEnd.TheVariants as end
 use Rattle.cap_inputs.specs.Sequence.{PacketOrder}
-use Rattle.cap_tools.specs.Verdict.{Policy}
-use Rattle.cap_tools.specs.Outcome.{Form}
+use Rattle.cap_packets.specs.Verdict.{Policy}
+use Rattle.cap_packets.specs.Outcome.{Form}
 use Rattle.cap_inputs.specs.Inputs.{InputView, InputPast, IsInput}
 use Rattle.cap_tools.specs.Machine.{MachineState, StepGives, output_form, work_of}
 use Rattle.cap_tools.specs.Jobs.{IsUnderWay, JobView, EndsJob, end_message, end_status}

@@ -13,23 +13,23 @@ use Rattle.cap_io.specs.Position.{IsAt}
 use Rattle.cap_io.proofs.Standing.{IsAt-found, IsAt-closed, IsAt-fault}
 use Rattle.cap_inputs.specs.declared.inputs.Next.TheVariants as next
 use Rattle.cap_tools.specs.declared.step.JobEnd.{JobEnd}
-use Rattle.cap_tools.specs.Reports.{Report, Tally}
+use Rattle.cap_packets.specs.Reports.{Report, Tally}
 use Rattle.cap_inputs.specs.Sequence.{InputItems, Event, FaultIn, PacketOrder, InTurn, ByTime, Sequence, sequence_of, with_front, whole_input}
-use Rattle.cap_tools.specs.Verdict.{Policy, Edit, Filter, KeepAll, Count, SelectorState}
-use Rattle.cap_tools.specs.Selector as selecting
-use Rattle.cap_tools.specs.Selector.{PolicyState, IsWithin, with_empty_tally, is_count}
-use Rattle.cap_tools.specs.Outcome.{Form, AsReports, JobProgress, cut_at, no_progress, apply_events, final_progress, end_with, final_text, output_text, text_at_end, first_link}
-use Rattle.cap_tools.specs.Output.{JobOutputView, Target, Capture, Text, Lines, HasWritten, Reports, form_at, written_to, failures_to}
+use Rattle.cap_packets.specs.Verdict.{Policy, Edit, Filter, KeepAll, Count, SelectorState}
+use Rattle.cap_packets.specs.Selector as selecting
+use Rattle.cap_packets.specs.Selector.{PolicyState, IsWithin, with_empty_tally, is_count}
+use Rattle.cap_packets.specs.Outcome.{Form, AsReports, JobProgress, cut_at, no_progress, apply_events, final_progress, end_with, final_text, output_text, text_at_end, first_link}
+use Rattle.cap_packets.specs.Output.{JobOutputView, Target, Capture, Text, Lines, HasWritten, Reports, form_at, written_to, failures_to}
 use Rattle.cap_inputs.specs.Inputs.{InputView, InputsView, Future, InputPast, AreInputsBehind, AreSettled, IsInput, ReadsInput, IsNext, waiting_packets, input_after, actual_future, input_items, inputs_with, inputs_left, sequence_left, is_in_turn}
-use Rattle.cap_tools.specs.Reports.{report_text, reports_text}
+use Rattle.cap_packets.specs.Reports.{report_text, reports_text}
 use Rattle.cap_tools.specs.Machine.{MachineState, AppendsOnce, PacketsDecided, GoesOn, CompletesOutput, BreaksAt, WhyBroken, StopsWriting, StepLeaves, Closes, ClosesBy, asks_report, report_at, unless_failed, progress_at, progress_of, progress_over, output_form, failures_by, written_by, wholes_of, sieve}
 use Rattle.cap_tools.proofs.Splits.{At, Fit, stands-split, stands-join, stands-length, fits-join, wholes-join, rests-join, finish-here, come-on}
 use Rattle.cap_tools.proofs.Coming.{carries-found, carries-closed, come-first, true-wholes, true-fits, finds}
-use Rattle.cap_tools.proofs.Outputs.{drained-text, ReportOk, report-ok, reports-more}
-use Rattle.cap_tools.proofs.Growing.{Grows, course-grows}
+use Rattle.cap_packets.proofs.Outputs.{drained-text, ReportOk, report-ok, reports-more}
+use Rattle.cap_packets.proofs.Growing.{Grows, course-grows}
 use Rattle.cap_tools.proofs.Laws.{ReadLaws, ReadAt, closed_in, read-at}
 use Rattle.cap_tools.proofs.Once.{once-nothing, once-report}
-use Rattle.cap_tools.proofs.Outcomes.{progress-append, course-close}
+use Rattle.cap_packets.proofs.Outcomes.{progress-append, course-close}
 use Rattle.cap_inputs.proofs.Cursors.{greatest-here, greatest-same, never-at, never-kept, set-here}
 
 abbrev pub inputs_at : PacketOrder → List InputView → InputsView

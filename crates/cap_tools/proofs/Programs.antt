@@ -9,8 +9,8 @@ use Rattle.cap_filter.specs.Links.{link_types}
 use Rattle.cap_filter.specs.Programs.{AreMade, ran_at, ran_if}
 use Rattle.cap_filter.specs.FilterRules.{Rule, by_reading, by_answer}
 use Rattle.cap_filter.specs.Filters.{AreNew, place_by, spent_on}
-use Rattle.cap_tools.specs.Verdict.{Policy, Edit, Filter, KeepAll, Count, is_too_many}
-use Rattle.cap_tools.specs.Selector.{AreFor, HavePrograms, SelectorView, spent_by, spent_by_verdict}
+use Rattle.cap_packets.specs.Verdict.{Policy, Edit, Filter, KeepAll, Count, is_too_many}
+use Rattle.cap_packets.specs.Selector.{AreFor, HavePrograms, SelectorView, spent_by, spent_by_verdict}
 use Rattle.cap_tools.specs.Machine.{Spends}
 
 -- a run leaves a program's instructions

@@ -6,14 +6,14 @@ use Rattle.cap_octet.specs.declared.fault.Fault.{Fault}
 use Rattle.cap_io.specs.Capture.{Declared, Nothing, PcapFile, PcapngFile}
 use Rattle.cap_io.specs.Reading.{most_in_unit}
 use Rattle.cap_io.specs.Source.{SourceView, Phase, Reading, Ended, Failed, SectionFits, Steps}
-use Rattle.cap_tools.specs.declared.output.Writing.{Writing}
-use Rattle.cap_tools.specs.declared.output.Writing.TheVariants as writing
-use Rattle.cap_tools.specs.Output.{Target, Capture, Text, Lines, target_at}
+use Rattle.cap_packets.specs.declared.output.Writing.{Writing}
+use Rattle.cap_packets.specs.declared.output.Writing.TheVariants as writing
+use Rattle.cap_packets.specs.Output.{HasFewOutputInterfaces, Target, Capture, Text, Lines, target_at}
 use Rattle.cap_inputs.specs.Inputs.{InputView, InputsView, IsInput, ReadSteps, MarksDecided, input_after, input_behind}
-use Rattle.cap_tools.specs.Selector.{HasFewMarks}
+use Rattle.cap_packets.specs.Selector.{HasFewMarks}
 use Rattle.cap_inputs.specs.Fresh.{FreshInput, fresh_view}
 use Rattle.cap_tools.specs.Machine.{MachineState}
-use Rattle.cap_tools.specs.Bounds.{HasFewOutputInterfaces, IsBounded, IsLight, IsSmall, declared_weight, inputs_weight, names_weight, target_weight}
+use Rattle.cap_tools.specs.Bounds.{IsBounded, IsLight, IsSmall, declared_weight, inputs_weight, names_weight, target_weight}
 
 -- ---- one input for another
 

@@ -6,14 +6,14 @@ use Rattle.cap_octet.specs.declared.fault.Fault.{Fault}
 use Rattle.cap_io.specs.Capture.{Declared, Nothing, PcapFile, PcapngFile}
 use Rattle.cap_io.specs.Reading.{most_in_unit}
 use Rattle.cap_io.specs.Source.{SectionFits, end_offset}
-use Rattle.cap_io.specs.Text.{FitFile, most_output_interfaces}
+use Rattle.cap_io.specs.Text.{most_output_interfaces}
 use Rattle.cap_tools.specs.declared.step.JobEnd.{JobEnd}
-use Rattle.cap_tools.specs.Output.{Target, Capture, Text, Lines}
+use Rattle.cap_packets.specs.Output.{Target, Capture, Text, Lines, HasFewOutputInterfaces}
 use Rattle.cap_inputs.specs.declared.inputs.Next.TheVariants as next
 use Rattle.cap_inputs.specs.Inputs.{InputView, InputsView, IsInput, IsNext, ReadsInput, ReadSteps, MarksDecided, is_clean_end, owed_by}
 use Rattle.cap_octet.specs.Packet.{Captured}
 use Rattle.cap_filter.specs.Programs.{spent_in}
-use Rattle.cap_tools.specs.Selector.{most_spent, places, spent_by_verdict, window_of}
+use Rattle.cap_packets.specs.Selector.{most_spent, places, spent_by_verdict, window_of}
 use Rattle.cap_tools.specs.Machine.{MachineState, asks_report}
 use Rattle.cap_tools.specs.Jobs.{JobView}
 
@@ -155,11 +155,6 @@ most_weight inputs marks =
 -- at most one unit is held of an input, and few interfaces
 abbrev pub IsSmall : InputView → Type 0
 IsSmall h = (length h.source.block ≤ most_in_unit) × SectionFits h.source.declared
-
-abbrev pub HasFewOutputInterfaces : Target → Type 0
-HasFewOutputInterfaces (Capture sink) = FitFile sink.interfaces
-HasFewOutputInterfaces (Text written failures room) = Unit {0}
-HasFewOutputInterfaces (Lines options written failures room) = Unit {0}
 
 abbrev pub IsBounded : InputsView → Target → Type 0
 IsBounded inputs target = All IsSmall inputs.cursors × HasFewOutputInterfaces target

@@ -9,11 +9,11 @@ use Rattle.cap_filter.specs.FilterRules.{Rule}
 use Rattle.cap_filter.specs.Outcome.{OutputView, IsTold, Runs, output_view}
 use Rattle.cap_tools.specs.declared.job.Turn.{Turn}
 use Rattle.cap_tools.specs.declared.job.Turn.TheVariants as turn
-use Rattle.cap_tools.specs.Output.{Target, Capture, Text, Lines}
-use Rattle.cap_tools.specs.Verdict.{Policy, Filter}
-use Rattle.cap_tools.specs.Selector.{state_with}
+use Rattle.cap_packets.specs.Output.{Target, Capture, Text, Lines}
+use Rattle.cap_packets.specs.Verdict.{Policy, Filter}
+use Rattle.cap_packets.specs.Selector.{state_with}
 use Rattle.cap_inputs.specs.Inputs.{steps_left, most_steps}
-use Rattle.cap_tools.specs.Reports.{name_at, nothing_counted}
+use Rattle.cap_packets.specs.Reports.{name_at, nothing_counted}
 use Rattle.cap_tools.specs.Bounds.{most_turns, steps_owed_in_all}
 use Rattle.cap_tools.specs.Machine.{MachineState, written_by, failures_by}
 use Rattle.cap_tools.specs.Jobs.{JobView}

@@ -6,10 +6,10 @@ use Rattle.cap_tools.specs.declared.step.JobEnd.{JobEnd}
 use Rattle.cap_tools.specs.declared.step.JobEnd.TheVariants as end
 use Rattle.cap_tools.specs.declared.job.Turn.{Turn}
 use Rattle.cap_tools.specs.declared.job.Turn.TheVariants as turn
-use Rattle.cap_tools.specs.Output.{JobOutputView, target_at}
+use Rattle.cap_packets.specs.Output.{JobOutputView, target_at}
 use Rattle.cap_tools.specs.Start.{Assignment, Preparing}
-use Rattle.cap_tools.specs.Selector.{HavePrograms, SelectorView, state_with}
-use Rattle.cap_tools.specs.Reports.{name_at, nothing_counted}
+use Rattle.cap_packets.specs.Selector.{HavePrograms, SelectorView, state_with}
+use Rattle.cap_packets.specs.Reports.{name_at, nothing_counted}
 use Rattle.cap_inputs.specs.Inputs.{InputView, InputsView, InputPast, most_steps, offset_at}
 use Rattle.cap_inputs.specs.Fresh.{fresh_inputs}
 use Rattle.cap_tools.specs.Call.{Call, RunResult}

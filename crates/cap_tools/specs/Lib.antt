@@ -1,17 +1,10 @@
 pub mod Bounds
 pub mod Call
 pub mod Commands
-pub mod Outcome
-pub mod Output
-pub mod Edits
 pub mod FirstStep
 pub mod Jobs
-pub mod Selector
 pub mod Run
 pub mod Start
-pub mod Lists
 pub mod Machine
 pub mod Messages
-pub mod Reports
-pub mod Verdict
 pub mod Step

@@ -10,17 +10,17 @@ use Rattle.cap_io.specs.Source.{SourceView, Advances}
 use Rattle.cap_io.specs.Position.{IsCutShort}
 use Rattle.cap_filter.specs.Programs.{spent_in}
 use Rattle.cap_inputs.specs.declared.inputs.Next.TheVariants as next
-use Rattle.cap_tools.specs.declared.selector.Verdict as code
-use Rattle.cap_tools.specs.declared.selector.Verdict.TheVariants as code_verdict
+use Rattle.cap_packets.specs.declared.selector.Verdict as code
+use Rattle.cap_packets.specs.declared.selector.Verdict.TheVariants as code_verdict
 use Rattle.cap_tools.specs.declared.step.JobEnd.{JobEnd}
 use Rattle.cap_tools.specs.declared.step.JobEnd.TheVariants as end
-use Rattle.cap_tools.specs.Reports.{Report, Tally, report_text}
-use Rattle.cap_tools.specs.Output.{JobOutputView, Target, HasWritten, PutsIntoOutput, Reports, form_at, written_to, failures_to}
+use Rattle.cap_packets.specs.Reports.{Report, Tally, report_text}
+use Rattle.cap_packets.specs.Output.{JobOutputView, Target, HasWritten, PutsIntoOutput, Reports, form_at, written_to, failures_to}
 use Rattle.cap_inputs.specs.Sequence.{Event, Packet, InputEnd, SequenceEnd, Complete, FaultIn, InputItems, PacketOrder, InTurn, ByTime, sequence_of, whole_input}
-use Rattle.cap_tools.specs.Verdict.{Policy, SelectorState, PassesAs, judge}
-use Rattle.cap_tools.specs.Selector.{PolicyState, SelectorView, IsWithin, with_empty_tally, is_count, most_spent, spent_by_verdict}
-use Rattle.cap_tools.specs.Selector as selecting
-use Rattle.cap_tools.specs.Outcome.{Form, JobProgress, Work, ComeFirst, IsNextEvent, AreAllEvents, cut_at, no_progress, apply_events, final_progress, final_text, output_text, closing_text, first_link, packet_bytes, report_bytes, form_refuses, form_takes_memory}
+use Rattle.cap_packets.specs.Verdict.{Policy, SelectorState, PassesAs, judge}
+use Rattle.cap_packets.specs.Selector.{PolicyState, SelectorView, IsWithin, with_empty_tally, is_count, most_spent, spent_by_verdict}
+use Rattle.cap_packets.specs.Selector as selecting
+use Rattle.cap_packets.specs.Outcome.{Form, JobProgress, Work, ComeFirst, IsNextEvent, AreAllEvents, cut_at, no_progress, apply_events, final_progress, final_text, output_text, closing_text, first_link, packet_bytes, report_bytes, form_refuses, form_takes_memory}
 use Rattle.cap_inputs.specs.Inputs.{InputsView, InputView, InputPast, AreInputsBehind, KnowGreatest, AreSettled, IsInput, ReadsInput, IsNext, input_after, never_failing}
 
 -- ---- the view

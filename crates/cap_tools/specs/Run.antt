@@ -19,14 +19,14 @@ use Rattle.cap_filter.specs.Messages.{fault_message, no_memory_message, refusal_
 use Rattle.cap_filter.specs.Outcome.{IsTold}
 use Rattle.cap_inputs.specs.Fresh.{FreshInput}
 use Rattle.cap_inputs.specs.Sequence.{Event, Packet, InputItems, whole_input}
-use Rattle.cap_tools.specs.declared.output.Writing.{Writing}
-use Rattle.cap_tools.specs.declared.output.Writing.TheVariants as writing
+use Rattle.cap_packets.specs.declared.output.Writing.{Writing}
+use Rattle.cap_packets.specs.declared.output.Writing.TheVariants as writing
 use Rattle.cap_tools.specs.Call.{Call, RunResult}
-use Rattle.cap_tools.specs.Outcome.{Form, AsCapture, AsReports, AsLines, Outcome, Work, IsNextEvent, AreAllEvents, closing_text, cut_at, first_link, form_refuses, form_takes_memory, outcome, progress_behind, text_behind}
-use Rattle.cap_tools.specs.Reports.{name_at}
+use Rattle.cap_packets.specs.Outcome.{Form, AsCapture, AsReports, AsLines, Outcome, Work, IsNextEvent, AreAllEvents, closing_text, cut_at, first_link, form_refuses, form_takes_memory, outcome, progress_behind, text_behind}
+use Rattle.cap_packets.specs.Reports.{name_at}
 use Rattle.cap_tools.specs.Start.{Assignment, Preparing, ReadsFilter, Compiles}
 use Rattle.cap_octet.specs.Packet.{Captured}
-use Rattle.cap_tools.specs.Verdict.{Policy, Filter, Judgement, PassesAs, judge}
+use Rattle.cap_packets.specs.Verdict.{Policy, Filter, Judgement, PassesAs, judge}
 
 -- ---- the work that a command asks
 

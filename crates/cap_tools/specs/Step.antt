@@ -3,7 +3,7 @@ use Rattle.std.specs.Prelude.{◌≡◌, ◌+◌, ◌<◌, Bool, IsTrue, Some, O
 use Rattle.cap_filter.specs.Outcome.{OutputView}
 use Rattle.cap_tools.specs.declared.step.JobEnd.{JobEnd}
 use Rattle.cap_inputs.specs.Inputs.{steps_left}
-use Rattle.cap_tools.specs.Selector.{HavePrograms}
+use Rattle.cap_packets.specs.Selector.{HavePrograms}
 use Rattle.cap_tools.specs.Machine.{StepGives}
 use Rattle.cap_tools.specs.Jobs.{JobView, end_status}
 use Rattle.cap_tools.specs.Bounds.{IsLight, IsPaid, StepReads, step_goes_on}

@@ -13,8 +13,6 @@ ghost use Rattle.cap_tools.specs.Run.{CommandRuns};
 ghost use Rattle.cap_tools.specs.Start.{assignment};
 
 use crate::messages::Messages;
-use crate::output::JobOutput;
-use crate::selector::Selector;
 use crate::start::{Assignment, Preparation, assignment_of, read_filter};
 use crate::step::{JobEnd, close, decide, unwritten};
 use cap_command::{Command, Compile, Print};
@@ -24,6 +22,7 @@ use cap_filter::message::tell_no_memory;
 use cap_filter::refusal::Refusal;
 use cap_inputs::{Inputs, Next};
 use cap_octet::{Input, Output};
+use cap_packets::{JobOutput, Selector};
 use flt_bpf::Program;
 use std::alloc::Allocator;
 use std::marker::Model;
@@ -62,8 +61,8 @@ impl<I: Input, O: Output, E: Output, A: Allocator> Model for Job<I, O, E, A> {
     ghost use Rattle.cap_tools.specs.Commands.{IsReadyIf};
     ghost use Rattle.cap_inputs.specs.Inputs.{most_steps, steps_left};
     ghost use Rattle.cap_tools.specs.Jobs.{JobView, IsCounted, machine_at};
-    ghost use Rattle.cap_tools.specs.Output.{output_at};
-    ghost use Rattle.cap_tools.specs.Selector.{HasFewMarks, HavePrograms};
+    ghost use Rattle.cap_packets.specs.Output.{output_at};
+    ghost use Rattle.cap_packets.specs.Selector.{HasFewMarks, HavePrograms};
     ghost use Rattle.cap_tools.specs.Start.{preparing_of};
 
     ghost Value = { JobView };
@@ -117,7 +116,7 @@ impl<I: Input, O: Output, E: Output, A: Allocator + Copy + Drop> Job<I, O, E, A>
     ghost use Rattle.cap_tools.specs.Jobs.{turn_goes_on};
     ghost use Rattle.cap_inputs.specs.Fresh.{nothing_done};
     ghost use Rattle.cap_tools.specs.Machine.{failures_by, written_by};
-    ghost use Rattle.cap_tools.specs.Selector.{HavePrograms};
+    ghost use Rattle.cap_packets.specs.Selector.{HavePrograms};
     ghost use Rattle.cap_tools.specs.Start.{asked_by};
     ghost use Rattle.cap_tools.specs.Step.{IsStep, ending};
 

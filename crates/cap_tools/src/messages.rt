@@ -3,7 +3,7 @@ ghost use Rattle.std.specs.Prelude.{◌≡◌, ◌+◌, IsTrue, map};
 ghost use Rattle.std.specs.String.{string_bytes};
 ghost use Rattle.cap_octet.specs.Device.{AppendsOrStops, failures_of};
 ghost use Rattle.cap_tools.specs.Jobs.{end_message};
-ghost use Rattle.cap_tools.specs.Reports.{name_at};
+ghost use Rattle.cap_packets.specs.Reports.{name_at};
 
 use crate::step::JobEnd;
 use cap_filter::message::{tell_fault, tell_refusal, tell_write_failed};
@@ -41,7 +41,7 @@ impl<E: Output, A: Allocator> Messages<E, A> {
     ghost use Rattle.cap_filter.specs.Messages.{refusal_message};
     ghost use Rattle.cap_filter.specs.Outcome.{IsTold, output_view};
     ghost use Rattle.cap_tools.specs.Jobs.{end_message};
-    ghost use Rattle.cap_tools.specs.Reports.{name_at};
+    ghost use Rattle.cap_packets.specs.Reports.{name_at};
 
     /// Messages of a job over files of these names: of the inputs, then of the output.
     pub fn new(device: E, names: Vec<String<A>, A>) -> Self

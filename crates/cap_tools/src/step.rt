@@ -1,19 +1,16 @@
 //! The parts of a step: a packet is decided, or an input that was read to its end is reported.
 ghost use Rattle.std.specs.Prelude.{◌≡◌, ◌<◌, ◌≤◌, IsTrue, false, length, true};
 ghost use Rattle.cap_octet.specs.Packet.{captured};
-ghost use Rattle.cap_tools.specs.Bounds.{HasFewOutputInterfaces};
 ghost use Rattle.cap_inputs.specs.Inputs.{most_steps};
-ghost use Rattle.cap_tools.specs.Output.{output_at};
-ghost use Rattle.cap_tools.specs.Selector.{GrowsByOne, HasFewMarks, IsWithin, policy_state};
+ghost use Rattle.cap_packets.specs.Output.{HasFewOutputInterfaces, output_at};
+ghost use Rattle.cap_packets.specs.Selector.{GrowsByOne, HasFewMarks, IsWithin, policy_state};
 ghost use Rattle.cap_tools.specs.Machine.{Closes, DecidesPacket, Offers, Spends, asks_report};
 ghost use Rattle.cap_tools.specs.Machine.{sieve, end_of_failed_write};
 
 use crate::messages::Messages;
-use crate::output::JobOutput;
-use crate::report::Report;
-use crate::selector::{Selector, Verdict};
 use cap_inputs::{InputCursor, Inputs};
 use cap_octet::{Fault, Input, Output, Packet};
+use cap_packets::{JobOutput, Report, Selector, Verdict};
 use std::alloc::Allocator;
 
 /// How a job ended.

@@ -1,11 +1,11 @@
 use Rattle.std.proofs.Common.{◌≡◌, ℕ, List, true, Ok, Err, refl, sym, ◌∙◌, ap₂, subst, None, Some}
 use Rattle.cap_tools.specs.declared.step.JobEnd.TheVariants as end
 use Rattle.cap_inputs.specs.Inputs.{is_in_turn}
-use Rattle.cap_tools.specs.Output.{Reports, output_at}
-use Rattle.cap_tools.specs.Reports.{file_report}
-use Rattle.cap_tools.specs.Selector.{is_count, policy_state}
+use Rattle.cap_packets.specs.Output.{Reports, output_at}
+use Rattle.cap_packets.specs.Reports.{file_report}
+use Rattle.cap_packets.specs.Selector.{is_count, policy_state}
 use Rattle.cap_tools.proofs.Fetches.{closes-by, counted}
-use Rattle.cap_tools.proofs.Selectors.{closes-policy}
+use Rattle.cap_packets.proofs.Selectors.{closes-policy}
 use Rattle.cap_tools.proofs.step.close.Goals as goal
 
 pub returns-in-Ok-clause-exact : goal.returns-in-Ok-clause-exact

@@ -1,13 +1,13 @@
 use Rattle.std.proofs.Common.{◌≡◌, ◌+◌, Ok, Err, IsTrue, List, ℕ, subst, sym, ◌∙◌, ap, arith, Bool, refl, Option, None, Some}
 use Rattle.cap_filter.specs.Outcome.{OutputView}
 use Rattle.cap_tools.specs.declared.step.JobEnd.{JobEnd}
-use Rattle.cap_tools.specs.Output.{output_at}
+use Rattle.cap_packets.specs.Output.{output_at}
 use Rattle.cap_inputs.specs.declared.inputs.Next.TheVariants as next
 use Rattle.cap_tools.specs.declared.step.JobEnd.TheVariants as end
 use Rattle.cap_inputs.specs.Inputs.{InputsView, InputView, InputPast, input_behind, with_cursor}
 use Rattle.cap_inputs.specs.Inputs as input_spec
-use Rattle.cap_tools.specs.Verdict.{Policy}
-use Rattle.cap_tools.specs.Selector.{SelectorView, policy_state}
+use Rattle.cap_packets.specs.Verdict.{Policy}
+use Rattle.cap_packets.specs.Selector.{SelectorView, policy_state}
 use Rattle.cap_tools.specs.Machine.{MachineState, PacketsDecided, EndLeaves, StepGives, end_of_failed_write}
 use Rattle.cap_tools.specs.Start.{Preparing, preparing_of}
 use Rattle.std.specs.Option.{option_map}

@@ -1,6 +1,6 @@
 use Rattle.std.proofs.Common.{arith, subst, sym}
-use Rattle.cap_tools.specs.Output.{output_at}
-use Rattle.cap_tools.specs.Selector.{HasFewMarks, SelectorView}
+use Rattle.cap_packets.specs.Output.{output_at}
+use Rattle.cap_packets.specs.Selector.{HasFewMarks, SelectorView}
 use Rattle.cap_tools.proofs.Weights.{is-light}
 use Rattle.cap_tools.proofs.job.Job.filter.Goals as goal
 

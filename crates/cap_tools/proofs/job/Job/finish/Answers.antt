@@ -4,7 +4,7 @@ use Rattle.cap_filter.specs.Outcome.{OutputView}
 use Rattle.cap_inputs.specs.declared.inputs.Next.TheVariants as next
 use Rattle.cap_tools.specs.declared.step.JobEnd.{JobEnd}
 use Rattle.cap_tools.specs.declared.step.JobEnd.TheVariants as end
-use Rattle.cap_tools.specs.Output.{output_at, EndsOutput}
+use Rattle.cap_packets.specs.Output.{output_at, EndsOutput}
 use Rattle.cap_inputs.specs.Inputs.{InputPast}
 use Rattle.cap_inputs.specs.Inputs as input_spec
 use Rattle.cap_tools.specs.Machine.{MachineState, PacketsDecided, EndLeaves}

@@ -3,11 +3,11 @@ use Rattle.std.proofs.Common.{◌≡◌, ◌≤◌, List, map, length, string_by
 use Rattle.std.specs.List.{All}
 use Rattle.std.specs.Option.{option_map}
 use Rattle.flt_bpf.specs.Content.{Content}
-use Rattle.cap_tools.specs.Bounds.{HasFewOutputInterfaces, IsSmall, most_turns, steps_owed_in_all}
-use Rattle.cap_tools.specs.Output.{Target}
-use Rattle.cap_tools.specs.Reports.{nothing_counted}
+use Rattle.cap_tools.specs.Bounds.{IsSmall, most_turns, steps_owed_in_all}
+use Rattle.cap_packets.specs.Output.{HasFewOutputInterfaces, Target}
+use Rattle.cap_packets.specs.Reports.{nothing_counted}
 use Rattle.cap_inputs.specs.Inputs.{InputsView, steps_left}
-use Rattle.cap_tools.specs.Selector.{HasFewMarks, HavePrograms, SelectorView, policy_of, state_with}
+use Rattle.cap_packets.specs.Selector.{HasFewMarks, HavePrograms, SelectorView, policy_of, state_with}
 use Rattle.cap_inputs.specs.Sequence.{PacketOrder, order_of}
 use Rattle.cap_tools.specs.Start.{Assignment, preparing_of}
 use Rattle.cap_tools.specs.Call.{Call, call_of}

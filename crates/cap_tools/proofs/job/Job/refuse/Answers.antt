@@ -1,7 +1,7 @@
 use Rattle.std.proofs.Common.{◌≡◌, ◌∙◌, ℕ, ◌+◌, List, Option, None, Some, refl, ap, ap₂, subst}
 use Rattle.std.specs.Option.{option_map}
 use Rattle.cap_filter.specs.Messages.{refusal_status}
-use Rattle.cap_tools.specs.Output.{output_at}
+use Rattle.cap_packets.specs.Output.{output_at}
 use Rattle.cap_tools.specs.Start.{Preparing, preparing_of}
 use Rattle.cap_tools.specs.Jobs.{JobView, machine_at}
 use Rattle.cap_tools.specs.FirstStep.{RefusesStart}

@@ -2,7 +2,7 @@
 use Rattle.std.proofs.Common.{◌≡◌, Option, None, Some, string_bytes, sym, ◌∙◌, ap, subst, arith}
 use Rattle.std.proofs.lemmas.Grind.{common_steps}
 use Rattle.std.specs.Option.{option_map}
-use Rattle.cap_tools.specs.Output.{output_at}
+use Rattle.cap_packets.specs.Output.{output_at}
 use Rattle.cap_tools.specs.Start.{Preparing, preparing_of}
 use Rattle.cap_tools.specs.Jobs.{JobView, machine_at, turn_goes_on}
 use Rattle.cap_tools.specs.Commands.{GivesBy, PreparesBy, StepReadsBy}

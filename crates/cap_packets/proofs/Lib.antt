@@ -1,0 +1,9 @@
+pub mod Outcomes
+pub mod Outputs
+pub mod Edits
+pub mod Growing
+pub mod Selectors
+pub mod Lines
+pub mod Lists
+pub mod Rows
+pub mod EditRules

@@ -1,0 +1,101 @@
+-- What a selector returns.
+use Rattle.std.proofs.Common.{◌≡◌, ℕ, ◌+◌, ◌^◌, ◌<◌, ◌≤◌, nat_le, Bool, true, false, length, if◌then◌else◌, List, Option, None, Some, Result, Ok, Err, refl, sym, ◌∙◌, ap, arith}
+use Rattle.std.proofs.lemmas.Bool.Decides.{nat_tests}
+use Rattle.cap_octet.specs.Packet.{Captured}
+use Rattle.cap_octet.specs.declared.fault.Fault.{Fault}
+use Rattle.cap_octet.specs.declared.fault.Fault.TheVariants.{TooManyPackets}
+use Rattle.cap_filter.specs.Decisions.{Decision, Keep, Refuse, ReturnsDecision}
+use Rattle.cap_filter.specs.Decisions as chosen
+use Rattle.cap_window.specs.View.{WindowView}
+use Rattle.cap_window.specs.declared.mark.Mark.{Mark}
+use Rattle.cap_packets.specs.declared.selector.Verdict as code
+use Rattle.cap_packets.specs.Verdict.{Policy, Edit, Filter, KeepAll, Count, SelectorState, Judgement, Pass, PassLast, Skip, judge, judge_by, refuses, filters, is_last}
+use Rattle.cap_packets.specs.Reports.{Tally}
+use Rattle.cap_packets.specs.Reports.{FitsTally, tally_with}
+use Rattle.cap_inputs.specs.Inputs.{most_steps}
+use Rattle.cap_packets.specs.Selector.{PolicyState, IsWithin, IsWindowFor, ReturnsVerdict, is_count, count_limit, TakesTally, marks_in, verdict_if, places, state_of, verdict_of, IsVerdict}
+
+nat_le-true : (a b : ℕ) → a ≤ b → nat_le a b ≡ true
+nat_le-true a b h = grind (arith, nat_tests, h)
+
+nat_le-false : (a b : ℕ) → b < a → nat_le a b ≡ false
+nat_le-false a b h = grind (arith, nat_tests, h)
+
+pub too-many : (policy : Policy) (state : SelectorState) (number : ℕ) (p : Captured) → is_count policy ≡ false → 2 ^ 63 ≤ number → judge policy state number p ≡ refuses state TooManyPackets
+too-many (Edit s) state number p judges h = rw (nat_le-true (2 ^ 63) number h) refl
+too-many (Filter rule count) state number p judges h = rw (nat_le-true (2 ^ 63) number h) refl
+too-many KeepAll state number p judges h = rw (nat_le-true (2 ^ 63) number h) refl
+too-many Count state number p judges h = (cc)
+
+pub upper_bound : (policy : Policy) (state : SelectorState) (number : ℕ) (p : Captured) → is_count policy ≡ false → number < 2 ^ 63 → judge policy state number p ≡ judge_by policy state number p
+upper_bound (Edit s) state number p judges h = rw (nat_le-false (2 ^ 63) number h) refl
+upper_bound (Filter rule count) state number p judges h = rw (nat_le-false (2 ^ 63) number h) refl
+upper_bound KeepAll state number p judges h = rw (nat_le-false (2 ^ 63) number h) refl
+upper_bound Count state number p judges h = (cc)
+
+-- ---- what is returned
+
+pub tells-none : (count : Option ℕ) (j : Judgement) (state : SelectorState) (p : Captured) (v : code.Verdict) → ReturnsVerdict count j (Ok false) p state → verdict_of v p ≡ Skip → IsVerdict j (Ok v) p state
+tells-none count j state p v keeps is = (is ∙ sym keeps.0, sym keeps.1)
+
+passing-as : (p : Captured) (b : Bool) → verdict_if p b ≡ (if b then PassLast p else Pass p)
+passing-as p true = refl
+passing-as p false = refl
+
+pub tells-some : (count : Option ℕ) (j : Judgement) (state : SelectorState) (p : Captured) (v : code.Verdict) → ReturnsVerdict count j (Ok true) p state
+    → verdict_of v p ≡ verdict_if p (is_last count (state.passed + 1)) → IsVerdict j (Ok v) p (state_of (state.passed + 1) state.window state.tally)
+tells-some count j state p v keeps is =
+    (is ∙ passing-as p (is_last count (state.passed + 1)) ∙ sym (ap (λ (x : Judgement). x.verdict) keeps), sym (ap (λ (x : Judgement). x.state) keeps))
+
+pub tells-passed : (policy policy' : Policy) (state after : SelectorState) (number : ℕ) (p q : Captured) (v : code.Verdict) → is_count policy ≡ false → number < 2 ^ 63
+    → ReturnsVerdict (count_limit policy) (judge_by policy state number p) (Ok true) q after → policy' ≡ policy → verdict_of v q ≡ verdict_if q (is_last (count_limit policy') (after.passed + 1))
+    → IsVerdict (judge policy state number p) (Ok v) q (state_of (after.passed + 1) after.window after.tally)
+tells-passed policy policy' state after number p q v judges less keeps same is =
+    rw (upper_bound policy state number p judges less) (tells-some (count_limit policy) (judge_by policy state number p) after q v keeps
+    (is ∙ ap (λ (a : Policy). verdict_if q (is_last (count_limit a) (after.passed + 1))) same))
+
+-- a filter's answer
+pub filters-keeps : (d : Decision) (count : Option ℕ) (state : SelectorState) (p : Captured) (passes : Bool) → ReturnsDecision d (Ok passes) → ReturnsVerdict count (filters d count state p) (Ok passes) p state
+filters-keeps Keep count state p passes answers = rw answers refl
+filters-keeps chosen.Skip count state p passes answers = rw answers (refl, refl)
+filters-keeps (Refuse fault) count state p passes answers = (cc)
+
+pub filters-refuses : (d : Decision) (count : Option ℕ) (state state' : SelectorState) (p p' : Captured) (fault : Fault) → ReturnsDecision d (Err fault) → ReturnsVerdict count (filters d count state p) (Err fault) p' state'
+filters-refuses Keep count state state' p p' fault answers = absurd answers
+filters-refuses chosen.Skip count state state' p p' fault answers = absurd answers
+filters-refuses (Refuse refusal) count state state' p p' fault answers = let e : fault ≡ refusal = (cc) in rw e refl
+
+pub filters-answers : (d : Decision) (count : Option ℕ) (state : SelectorState) (p : Captured) (r : Result Bool Fault) → ReturnsDecision d r → ReturnsVerdict count (filters d count state p) r p state
+filters-answers d count state p (Ok passes) answers = filters-keeps d count state p passes answers
+filters-answers d count state p (Err fault) answers = filters-refuses d count state state p p fault answers
+
+-- ---- the window
+
+pub window-few : (n : Option ℕ) (w : Option WindowView) → IsWindowFor n w → length (marks_in w) ≤ places n
+window-few None None is = omega arith
+window-few None (Some w) is = absurd is
+window-few (Some n) None is = absurd is
+window-few (Some n) (Some w) is = is.1
+
+-- ---- packets are counted
+
+pub tells-count : (policy : Policy) (passed : ℕ) (marks : List Mark) (tally tally' : Tally) (number : ℕ) (p : Captured) (v : code.Verdict) → is_count policy ≡ true → verdict_of v p ≡ Skip → tally' ≡ tally_with tally p
+    → IsVerdict (judge policy (state_of passed marks tally) number p) (Ok v) p (state_of passed marks tally')
+tells-count Count passed marks tally tally' number p v is skips more = (skips, ap (state_of passed marks) more)
+tells-count (Edit s) passed marks tally tally' number p v is skips more = (cc)
+tells-count (Filter rule count) passed marks tally tally' number p v is skips more = (cc)
+tells-count KeepAll passed marks tally tally' number p v is skips more = (cc)
+
+-- one packet more fits
+pub within-room : (t : Tally) → IsWithin most_steps t → FitsTally t
+within-room t within =
+    let a = within.0 in
+    let b = within.1 in
+    let c = within.2 in
+    (omega (arith, a), omega (arith, b), omega (arith, c))
+
+-- ---- what was counted is taken
+
+pub closes-policy : (b : Bool) (old new : PolicyState) (r : Option Tally) → TakesTally b old r new → new.policy ≡ old.policy
+closes-policy false old new r c = ap (λ (v : PolicyState). v.policy) c.1
+closes-policy true old new r c = ap (λ (v : PolicyState). v.policy) c.1

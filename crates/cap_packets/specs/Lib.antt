@@ -1,0 +1,7 @@
+pub mod Outcome
+pub mod Output
+pub mod Edits
+pub mod Selector
+pub mod Lists
+pub mod Reports
+pub mod Verdict
