@@ -3,7 +3,7 @@ ghost use Rattle.std.specs.Prelude.{◌≡◌, ◌++◌, None};
 ghost use Rattle.cap_octet.specs.Checks.{checked, first_failing};
 ghost use Rattle.cap_octet.specs.Packet.{captured};
 ghost use Rattle.cap_pcap.specs.Encoding.{IsPcap, record_fit_checks, resolution_of};
-ghost use Rattle.cap_pcapng.specs.Encoding.{record_fit_checks as block_fit_checks};
+ghost use Rattle.cap_pcapng.specs.Encoding.{block_fit_checks};
 ghost use Rattle.cap_io.specs.Text.{record_text};
 ghost use Rattle.cap_io.specs.Sink.{Appends, packet_block_text, checks_in, file_start_in};
 ghost use Rattle.cap_io.specs.declared.sink.SinkState.TheVariants as state;
