@@ -81,6 +81,15 @@ pub struct Expression {
     pub is_steady: bool,
 }
 
+/// The parts as one text.
+fn joined(alloc: Global, parts: &[&str]) -> Result<String, AllocError> {
+    let mut text = String::new(alloc);
+    for part in parts {
+        text.push_str(part)?;
+    }
+    Ok(text)
+}
+
 /// A number or a field of a packet, at a small place.
 fn atom(alloc: Global, random: &mut Random) -> Result<String, AllocError> {
     match random.below(4) {
@@ -104,30 +113,63 @@ fn valued(alloc: Global, random: &mut Random) -> Result<String, AllocError> {
     match random.below(7) {
         0 => {
             let host = random.word_of(&HOSTS);
-            format!(in alloc; "{network}{direction}host {host}")
+            joined(alloc, &[network, direction, "host ", host])
         }
         1 => {
             let net = random.word_of(&NETS);
-            format!(in alloc; "{network}{direction}net {net}")
+            joined(alloc, &[network, direction, "net ", net])
         }
-        2 => format!(in alloc; "{transport}{direction}port {port}"),
+        2 => joined(alloc, &[transport, direction, "port ", port]),
         3 => {
             let other = random.word_of(&PORTS);
-            format!(in alloc; "({transport}{direction}port {port} or {other})")
+            joined(
+                alloc,
+                &["(", transport, direction, "port ", port, " or ", other, ")"],
+            )
         }
         4 => {
             let range = random.word_of(&RANGES);
-            format!(in alloc; "{transport}{direction}portrange {range}")
+            joined(alloc, &[transport, direction, "portrange ", range])
         }
         5 => {
             let mac = random.word_of(&MACS);
-            format!(in alloc; "ether {direction}host {mac}")
+            joined(alloc, &["ether ", direction, "host ", mac])
         }
         _ => {
             let layer = random.word_of(&["", "ip ", "ip6 "]);
             let number = random.word_of(&["6", "17", "1", "58"]);
-            format!(in alloc; "{layer}proto {number}")
+            joined(alloc, &[layer, "proto ", number])
         }
+    }
+}
+
+/// A number that is computed from one or from two others.
+fn computed<'x>(
+    alloc: Global,
+    kind: u32,
+    (text, operator, other): (&'x str, &'x str, &'x str),
+) -> Result<String, AllocError> {
+    match kind {
+        0 | 1 => joined(alloc, &["(", text, ") ", operator, " ", other]),
+        2 | 3 => joined(alloc, &[other, " ", operator, " (", text, ")"]),
+        4 | 5 => joined(alloc, &[other, " ", operator, " ", text]),
+        _ => joined(alloc, &["- ", text]),
+    }
+}
+
+/// The contrary of an expression, or two as one.
+fn combined<'x>(
+    alloc: Global,
+    kind: u32,
+    (text, other): (&'x str, &'x str),
+) -> Result<String, AllocError> {
+    match kind {
+        0 => joined(alloc, &["not (", text, ")"]),
+        1 => joined(alloc, &["(", text, ") and ", other]),
+        2 => joined(alloc, &[other, " or (", text, ")"]),
+        3 => joined(alloc, &[text, " or ", other]),
+        4 => joined(alloc, &["(", text, ") || ! ", other]),
+        _ => joined(alloc, &[other, " && (", text, ")"]),
     }
 }
 
@@ -144,7 +186,7 @@ impl Expression {
             }
             3 => {
                 let number = random.word_of(&["0x0800", "0x86dd", "2054"]);
-                format!(in alloc; "ether proto {number}")
+                joined(alloc, &["ether proto ", number])
             }
             4 | 5 => self.relation(alloc, random),
             _ => valued(alloc, random),
@@ -165,13 +207,13 @@ impl Expression {
         for _ in 0..random.below(4) {
             let other = atom(alloc, random)?;
             let operator = random.word_of(&OPERATORS);
-            text = match random.below(8) {
-                0 | 1 => format!(in alloc; "({text}) {operator} {other}")?,
-                2 | 3 => format!(in alloc; "{other} {operator} ({text})")?,
-                4 | 5 => format!(in alloc; "{other} {operator} {text}")?,
-                6 => format!(in alloc; "- {text}")?,
-                _ => self.unsteady(alloc, random, (&text, &other))?,
+            let kind = random.below(8);
+            let made = if kind == 7 {
+                self.unsteady(alloc, random, (&text, &other))
+            } else {
+                computed(alloc, kind, (&text, operator, &other))
             };
+            text = made?;
         }
         Ok(text)
     }
@@ -202,14 +244,7 @@ pub fn make_expression(alloc: Global, random: &mut Random) -> Result<Expression,
     let mut text = expression.primitive(alloc, random)?;
     for _ in 0..random.below(5) {
         let other = expression.primitive(alloc, random)?;
-        text = match random.below(6) {
-            0 => format!(in alloc; "not ({text})")?,
-            1 => format!(in alloc; "({text}) and {other}")?,
-            2 => format!(in alloc; "{other} or ({text})")?,
-            3 => format!(in alloc; "{text} or {other}")?,
-            4 => format!(in alloc; "({text}) || ! {other}")?,
-            _ => format!(in alloc; "{other} && ({text})")?,
-        };
+        text = combined(alloc, random.below(6), (&text, &other))?;
     }
     expression.text = text;
     Ok(expression)
