@@ -383,7 +383,7 @@ module _ (p : List ℕ) (n : ℕ) where
   field_settled (Fixed a) k hit miss v w c lh lm z h m =
       let behind = mask_behind k.mask _ (comparison_behind k.comparison Constant k.value hit miss v w c lh lm (record { by = λ s long. h.by s long tt }) (record { by = λ s long. m.by s long tt })) in
       let z' = mask_settled k.mask _ (comparison_settled k.comparison Constant k.value hit miss c z) in
-      record { by = (λ e. (behind.branches, behind.masked), z'.by) }
+      record { by = (λ e. (behind.branches, behind.under_mask), z'.by) }
   field_settled (AfterHeader header a) k hit miss v w c lh lm z h m =
       settled_put _ _ refl (settled_put _ _ (indirect_no_load k.width) (mask_settled k.mask _ (comparison_settled k.comparison Constant k.value hit miss c z)))
 
@@ -567,7 +567,7 @@ module _ (p : List ℕ) (n : ℕ) where
   among_settled (Fixed a) width mask vs hit miss v w c up lh lm z h m =
       let behind = mask_behind mask _ (search_behind 15 vs hit miss v w c up lh lm (record { by = λ s long. h.by s long tt }) (record { by = λ s long. m.by s long tt })) in
       let z' = mask_settled mask _ (search_settled LEVELS vs hit miss c z) in
-      record { by = (λ e. (behind.branches, behind.masked), z'.by) }
+      record { by = (λ e. (behind.branches, behind.under_mask), z'.by) }
   among_settled (AfterHeader header a) width mask vs hit miss v w c up lh lm z h m =
       settled_put _ _ refl (settled_put _ _ (indirect_no_load width) (mask_settled mask _ (search_settled LEVELS vs hit miss c z)))
 
