@@ -107,25 +107,39 @@ fn writes_over_small_buffers_come_to_the_writer(rt: HostRuntime) -> Result<(), F
     Ok(())
 }
 
+/// Whether a write of so many bytes returns this, after so many calls in all.
+fn is_written(
+    output: &mut StdOutput<MarkedWriter<'_>>,
+    counts: &Cell<Counts>,
+    (size, result, calls): (usize, Result<usize, DeviceFault>, usize),
+) -> bool {
+    let written = output.write([0; 5].get(..size).unwrap_or_default());
+    written == result && counts.get().calls == calls
+}
+
 /// Every second call is interrupted. std's buffer makes its own writes again; a write past the
-/// buffer fails, as at any other failure.
-#[test]
-fn an_interrupted_write_fails_past_the_buffer(rt: HostRuntime) -> Result<(), Fail> {
+/// buffer fails, as at any other failure. Whether it does.
+fn is_interrupted_past_the_buffer(alloc: Global) -> Result<bool, Fail> {
     let course = Course::interrupted(4, usize::MAX, 2);
     let counts = Cell::new(Counts::new());
-    let mut output = output_of(rt.alloc(), &course, &counts)?;
-    for (size, result, calls) in [
+    let mut output = output_of(alloc, &course, &counts)?;
+    let mut holds = true;
+    for row in [
         (3, Ok(3), 0),
         (3, Ok(3), 1),
         (3, Ok(3), 3),
         (5, Err(DeviceFault), 6),
         (5, Ok(5), 7),
     ] {
-        assert!(rt; output.write(&[0; 5][..size]) == result);
-        assert!(rt; counts.get().calls == calls);
+        holds = holds && is_written(&mut output, &counts, row);
     }
     let (_, cause) = output.into_inner();
-    assert!(rt; cause == Some(ErrorKind::Interrupted) && counts.get().bytes == 14);
+    Ok(holds && cause == Some(ErrorKind::Interrupted) && counts.get().bytes == 14)
+}
+
+#[test]
+fn an_interrupted_write_fails_past_the_buffer(rt: HostRuntime) -> Result<(), Fail> {
+    assert!(rt; is_interrupted_past_the_buffer(rt.alloc())?);
     Ok(())
 }
 
