@@ -111,10 +111,10 @@ fn writes_over_small_buffers_come_to_the_writer(rt: HostRuntime) -> Result<(), F
 fn is_written(
     output: &mut StdOutput<MarkedWriter<'_>>,
     counts: &Cell<Counts>,
-    (size, result, calls): (usize, Result<usize, DeviceFault>, usize),
+    (size, answer, calls): (usize, Result<usize, DeviceFault>, usize),
 ) -> bool {
     let written = output.write([0; 5].get(..size).unwrap_or_default());
-    written == result && counts.get().calls == calls
+    written == answer && counts.get().calls == calls
 }
 
 /// Every second call is interrupted. std's buffer makes its own writes again; a write past the
