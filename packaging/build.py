@@ -6,11 +6,12 @@ usage: build.py PROGRAM
 A crate is proved as soon as those that it needs are, many side by side on all processors. The one
 with the longest chain of crates above it goes first: it has as many jobs as there are processors,
 and the others run beside it by `nice`, on what it leaves idle, with two jobs if their chain is
-nearly as long, and else with one: each job loads what the crate stands on anew. A run of rt keeps other runs out of
-the folders of its crate and of those that this one needs. So each crate is proved in a workspace of
-its own, out/crates/NAME: copies of the sources, links to the libraries that are built, and the
-crate's own out/, which is moved there and back. rt knows one crates.txt in a repository, so no
-workspace is left behind, and `rt ci` and `rt all` are refused while crates are proved here.
+nearly as long, and else with one: each job loads what the crate stands on anew. A run of rt keeps
+other runs out of the folders of its crate and of those that this one needs. So each crate is proved
+in a workspace of its own, out/crates/NAME: copies of the sources, links to the libraries that are
+built, and the crate's own out/, which is moved there and back. rt knows one crates.txt in a
+repository, so no workspace is left behind, and `rt ci` and `rt all` are refused while crates are
+proved here.
 
 The program is copied to PROGRAM in one step, so that no launch finds a part of it. The status is 1
 where a crate isn't proved or something can't be written.
@@ -224,8 +225,10 @@ class Build:
         with self.turn:
             if self.is_ending:
                 return 1
-            nice = [] if crate.is_urgent else ["nice"]
+            nice = [] if crate.is_urgent else ["nice", "-n", "19"]
             crate.process = subprocess.Popen([*nice, "rt", *words], **how)
+            if nice:
+                stand_back(crate.process)
         with crate.process:
             for line in crate.process.stdout:
                 log.write(line)
@@ -270,6 +273,13 @@ def jobs_of(crate, longest):
     if crate.is_urgent:
         return PROCESSORS
     return 2 if 4 * crate.chain >= 3 * longest else 1
+
+
+def stand_back(process):
+    """Gives the session of a process what other sessions leave idle. Linux shares its processors
+    among sessions, and `nice` alone counts within one."""
+    with contextlib.suppress(OSError):
+        pathlib.Path(f"/proc/{process.pid}/autogroup").write_text("19")
 
 
 def most_jobs():
