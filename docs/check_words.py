@@ -1,5 +1,6 @@
 #!/usr/bin/env python3
-"""Lists private words in pages, comments and identifiers, each with the word of the field that is to stand there.
+"""Lists private words in pages, comments and identifiers, each with the word of the field that is to stand there; and
+definitions that have the name of another one, or a participle for a name.
 
 usage: check_words.py [FILE..]
 
@@ -7,6 +8,7 @@ Without files it reads the pages (but the glossary), and of the crates' src/ and
 Code between backticks and in fenced blocks of pages, and texts between double quotes in code, are left out. The status
 is 1 if a word is found.
 """
+import collections
 import pathlib
 import re
 import sys
@@ -44,6 +46,23 @@ IDENTIFIERS = {
     "laid": "order",
     "fed": "sequence",
 }
+DEFINITION = re.compile(r"^(?:abbrev |unfoldable |opaque )?pub (?:record |data )?(?!mod\b)([A-Za-z_]\w*)", re.MULTILINE)
+PARTICIPLE = re.compile(r"[a-z]+(ed|en|wn)")
+# They are read as a noun and as an adjective: the captured packet, a checked value.
+PARTICIPLES = {"captured", "checked"}
+
+
+def definitions():
+    """Yields what is wrong with the names of the definitions in specs/."""
+    homes = collections.defaultdict(list)
+    for path in sorted(ROOT.glob("crates/*/specs/*.antt")):
+        for name in DEFINITION.findall(path.read_text()):
+            homes[name].append(path.relative_to(ROOT))
+    for name, paths in homes.items():
+        if len(set(paths)) > 1:
+            yield f"{paths[0]}: {name}: a name of its own, as {paths[1]} has it too"
+        elif PARTICIPLE.fullmatch(name) and name not in PARTICIPLES:
+            yield f"{paths[0]}: {name}: a noun or a verb"
 
 
 def words_of(identifier):
@@ -82,5 +101,6 @@ found += [
     for path in files for number, line in identifiers(path)
     for name in re.findall(r"[A-Za-z_]\w*", line) for word in words_of(name) if word in IDENTIFIERS
 ]
+found += definitions()
 print(*found, sep="\n", end="\n" if found else "")
 sys.exit(1 if found else 0)

@@ -43,8 +43,8 @@ fn is_all_taken(alloc: Global) -> Result<bool> {
     Ok(are_taken && is_rest_taken && is_flushed && is_written)
 }
 
-/// Whether a full writer takes a front.
-fn is_front_taken(alloc: Global) -> Result<bool> {
+/// Whether a writer with less room takes a prefix.
+fn is_prefix_taken(alloc: Global) -> Result<bool> {
     let writer = BufWriter::with_capacity(alloc, 0, Cursor::new([0; 5]))?;
     let mut output = StdOutput::new(writer);
     let mut holds = true;
@@ -53,8 +53,8 @@ fn is_front_taken(alloc: Global) -> Result<bool> {
     }
     holds = holds && output.write(b"") == Ok(0);
     let (writer, cause) = output.into_inner();
-    let is_front = *writer.get_ref().get_ref() == *b"abcab";
-    Ok(holds && cause == Some(ErrorKind::WriteZero) && is_front)
+    let is_prefix = *writer.get_ref().get_ref() == *b"abcab";
+    Ok(holds && cause == Some(ErrorKind::WriteZero) && is_prefix)
 }
 
 #[test]
@@ -62,7 +62,7 @@ fn devices_give_and_take_what_std_does(rt: HostRuntime) -> Result<()> {
     assert!(rt; is_read_to_its_end(rt.alloc())?);
     assert!(rt; do_pieces_fill(rt.alloc())?);
     assert!(rt; is_all_taken(rt.alloc())?);
-    assert!(rt; is_front_taken(rt.alloc())?);
+    assert!(rt; is_prefix_taken(rt.alloc())?);
     Ok(())
 }
 
