@@ -153,7 +153,7 @@ class Build:
     def __init__(self, crates, lock):
         self.crates, self.lock = crates, lock
         self.waiting = sorted(crates.values(), key=lambda it: -it.chain)
-        self.running, self.proved, self.spare = {}, [], most_jobs()
+        self.running, self.proved, self.spare = {}, [], jobs_beside()
         self.events, self.screen = queue.Queue(), Screen()
         self.turn, self.is_ending = threading.Lock(), False
 
@@ -171,17 +171,19 @@ class Build:
             self.stop()
 
     def begin_ready(self):
-        """Begins crates that wait for no other, and gives them the jobs that are free."""
+        """Begins crates that wait for no other: an urgent one with a job for each processor, and
+        others with the jobs that are free."""
         is_ready = lambda crate: all(self.crates[it] in self.proved for it in crate.needs)
-        ready = [it for it in self.waiting if is_ready(it)]
         longest = max((it.chain for it in self.crates.values() if it not in self.proved), default=0)
-        while ready and self.spare:
-            crate = ready[0]
+        for crate in [it for it in self.waiting if is_ready(it)]:
             crate.is_urgent = crate.chain == longest
-            jobs = min(self.spare, jobs_of(crate, longest))
-            ready.remove(crate)
+            jobs = jobs_of(crate, longest)
+            if not crate.is_urgent:
+                jobs = min(self.spare, jobs)
+                self.spare -= jobs
+            if not jobs:
+                break
             self.waiting.remove(crate)
-            self.spare -= jobs
             self.running[crate.name] = jobs, time.monotonic()
             crate.worker = threading.Thread(target=self.work, args=(crate, jobs))
             crate.worker.start()
@@ -242,7 +244,8 @@ class Build:
     def end(self, crate, status):
         """Notes that the work on a crate has ended."""
         jobs, begun = self.running.pop(crate.name)
-        self.spare += jobs
+        if not crate.is_urgent:
+            self.spare += jobs
         if status:
             raise Refused(f"{crate.name} wasn't built; the whole output is in {crate.log}", crate)
         self.proved.append(crate)
@@ -282,16 +285,17 @@ def stand_back(process):
         pathlib.Path(f"/proc/{process.pid}/autogroup").write_text("19")
 
 
-def most_jobs():
-    """Returns how many jobs the checks may have: more than there are processors, since a check
-    doesn't keep all of its jobs busy from first to last, as far as there is memory."""
+def jobs_beside():
+    """Returns how many jobs the checks beside the urgent one may have: more than there are
+    processors, since a check doesn't keep all of its jobs busy from first to last, as far as there
+    is memory."""
     jobs = PROCESSORS * 5 // 2
     try:
         free = re.search(r"MemAvailable:\s+(\d+) kB", pathlib.Path("/proc/meminfo").read_text())
         jobs = min(jobs, 1024 * int(free[1]) // MEMORY)
     except (OSError, TypeError):
         pass
-    return max(jobs, 1)
+    return max(jobs - PROCESSORS, 1)
 
 
 class Screen:
